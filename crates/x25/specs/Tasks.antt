@@ -3,17 +3,17 @@ use Rattle.std.specs.Prelude.{◌≡◌, ◌≤◌, ◌<◌, ◌-◌, ◌^◌, �
 use Rattle.std.specs.Io.KnownBytes.{Appends}
 use Rattle.x25_bits.specs.declared.role.Role.{Role}
 use Rattle.x25_bits.specs.declared.role.Role.TheVariants as role
-use Rattle.x25_bit_line.specs.Deframed.{deframed}
-use Rattle.x25_bit_line.specs.Framed.{frame_status, framed_octets}
+use Rattle.x25_bit_line.specs.Deframing.{deframed}
+use Rattle.x25_bit_line.specs.Framing.{frame_status, framed_octets}
 use Rattle.x25_bit_line.specs.code.Frames.{WritesFrames}
 use Rattle.x25_bit_line.specs.code.Reads.{WritesRead}
-use Rattle.x25_judge.specs.Judged as judge
+use Rattle.x25_judge.specs.Judge as judge
 use Rattle.x25_judge.specs.code.Stream as judging
-use Rattle.x25_pipe.specs.Piped.{piped, station_text, station_status}
+use Rattle.x25_pipe.specs.Pipe.{piped, station_text, station_status}
 use Rattle.x25_pipe.specs.code.Stream as pipe
-use Rattle.x25_decode.specs.Decoded as decode
+use Rattle.x25_decode.specs.Decoding as decode
 use Rattle.x25_decode.specs.code.Stream as decoder
-use Rattle.x25_decode.specs.Vectors.{verdicts, are_right}
+use Rattle.x25_decode.specs.TestVectors.{verdicts, are_right}
 use Rattle.x25_io.specs.code.Written.{AppendsPrefix}
 use Rattle.x25_settings.specs.declared.options.End.{End}
 use Rattle.x25_settings.specs.declared.options.End.TheVariants.{Dte, Dce}
@@ -22,8 +22,8 @@ use Rattle.x25_settings.specs.declared.options.Simulation.{Simulation}
 use Rattle.x25_settings.specs.declared.words.Task.{Task}
 use Rattle.x25_settings.specs.declared.words.Task.TheVariants.{Decode, Vectors, Sim, Station, Judge, Deframe, Frame}
 use Rattle.x25_station.specs.declared.config.Cfg.{Cfg}
-use Rattle.x25_station.specs.Settings.{settings_from}
-use Rattle.x25_sim.specs.Simulated.{simulated, sim_text, sim_status}
+use Rattle.x25_station.specs.Config.{settings_from}
+use Rattle.x25_sim.specs.Stage.{simulated, sim_text, sim_status}
 use Rattle.x25_sim.specs.code.Stream as simulator
 use Rattle.x25_sim.specs.laws.WritesRun as written
 use Rattle.x25_world.specs.laws.Claims.{IsUpOnce}

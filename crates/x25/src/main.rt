@@ -6,7 +6,7 @@
 
 ghost use Rattle.clap.specs.Values.{kind_of};
 ghost use Rattle.std.specs.Prelude.{◌≡◌, ◌≤◌, ◌⊎◌, IfOk, OnErr, map};
-ghost use Rattle.x25.specs.Shown.{IsShown};
+ghost use Rattle.x25.specs.Main.{IsShown};
 ghost use Rattle.x25.specs.Tasks.{Ends};
 ghost use Rattle.x25_settings.specs.Words.{AreInRange, Say};
 ghost use Rattle.x25_settings.specs.declared.words.Task.{Task as TaskValue};

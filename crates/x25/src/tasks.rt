@@ -3,10 +3,10 @@ ghost use Rattle.std.specs.Prelude.{◌≡◌, ◌≤◌, ◌<◌, ◌-◌, ◌^
 ghost use Rattle.std.specs.Io.KnownBytes.{Appends};
 ghost use Rattle.x25.specs.Tasks.{OfScript, WritesEnded, WritesEndedLines, WritesEndedScript, WritesScript, WritesScriptOnce, WritesScriptSetUp, cfg_in, is_plain, lines_status, lines_text, role_in, script_status, script_text, settings_in, task_status, task_text};
 ghost use Rattle.x25_io.specs.code.Written.{AppendsPrefix};
-ghost use Rattle.x25_settings.specs.Simulation as options;
+ghost use Rattle.x25_settings.specs.Options as options;
 ghost use Rattle.x25_settings.specs.Words.{AreInRange};
 ghost use Rattle.x25_world.specs.laws.Claims.{ArrivesAll, HasNoProcedureError, IsLawful, IsNamed};
-ghost use Rattle.x25_world.specs.WindowGoes.{IsInWindow};
+ghost use Rattle.x25_world.specs.laws.WindowGoes.{IsInWindow};
 ghost use Rattle.x25_world.specs.laws.SessionClaims.{SessionsKeepOrder};
 
 use std::alloc::Global;

@@ -8,18 +8,18 @@ use Rattle.std.proofs.lemmas.List.{length-replicate, take-append-drop}
 use Rattle.std.proofs.Math.ListN.{get_or-eq_default}
 use Rattle.hex.specs.Hex.{decode_of, encode_lower, encode_with, lower_digits}
 use Rattle.hex.proofs.HexLemmas.{decode_of-encode_lower}
-use Rattle.x25_bits.specs.Fcs.{bits_of, low_bits, number_of}
-use Rattle.x25_bits.specs.SpanClass.{Content, found_of, octets_by, octets_of}
-use Rattle.x25_bits.specs.Spans.{flag, between, begins_with_flag, is_flag_at, places_below}
+use Rattle.x25_bits.specs.FrameCheck.{bits_of, low_bits, number_of}
+use Rattle.x25_bits.specs.Found.{Content, found_of, octets_by, octets_of}
+use Rattle.x25_bits.specs.Deframer.{flag, between, begins_with_flag, is_flag_at, places_below}
 use Rattle.x25_bits.specs.Stuffing.{filled, framed, stuff}
 use Rattle.x25_bits.specs.declared.role.Role.{Role}
 use Rattle.x25_bits.specs.declared.role.Role.TheVariants.{Dte, Dce}
-use Rattle.x25_decode.specs.Decoded.{mark_of, octets_in, sent_in}
+use Rattle.x25_decode.specs.Decoding.{mark_of, octets_in, sent_in}
 use Rattle.x25_io.specs.Lines.{IsOpen}
-use Rattle.x25_text.specs.OctetText.{octet_text}
-use Rattle.x25_bit_line.specs.Deframed.{class_lines, deframed, trace_line}
-use Rattle.x25_bit_line.specs.Framed.{framed_bits, framed_octets, line_bits}
-use Rattle.x25_bit_line.specs.Trace.{AreContents, trace_text}
+use Rattle.x25_text.specs.Text.{octet_text}
+use Rattle.x25_bit_line.specs.Deframing.{class_lines, deframed, trace_line}
+use Rattle.x25_bit_line.specs.Framing.{framed_bits, framed_octets, line_bits}
+use Rattle.x25_bit_line.specs.laws.Trace.{AreContents, trace_text}
 use Rattle.x25_io.proofs.LineLemmas.{ends_line, open-append}
 use Rattle.x25_bit_line.proofs.FrameLineLemmas.{bits_on, no_bits, sends_frame}
 

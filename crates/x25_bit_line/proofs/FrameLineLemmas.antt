@@ -8,8 +8,8 @@ use Rattle.x25_bits.specs.Stuffing.{framed}
 use Rattle.x25_bits.specs.declared.role.Role.{Role}
 use Rattle.x25_io.specs.HeldLine.{most_line}
 use Rattle.x25_io.specs.Lines.{lines_of}
-use Rattle.x25_decode.specs.Decoded.{is_refused, sent_in}
-use Rattle.x25_bit_line.specs.Framed.{begins_by_mark, framed_bits, is_wrong, line_bits, sent_bits}
+use Rattle.x25_decode.specs.Decoding.{is_refused, sent_in}
+use Rattle.x25_bit_line.specs.Framing.{begins_by_mark, framed_bits, is_wrong, line_bits, sent_bits}
 
 -- ---- one line
 

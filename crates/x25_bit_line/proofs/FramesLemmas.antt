@@ -3,7 +3,7 @@ use Rattle.std.proofs.Common.{◌≡◌, ◌∙◌, ◌||◌, ℕ, Bool, false, 
 use Rattle.std.specs.List.{flat_map, list_any}
 use Rattle.std.proofs.lemmas.List.{append-nil}
 use Rattle.std.proofs.Math.Bool.{or_assoc, or-false}
-use Rattle.x25_bits.specs.SpanClass.{octets_by, octets_of}
+use Rattle.x25_bits.specs.Found.{octets_by, octets_of}
 use Rattle.x25_bits.specs.Stuffing.{filled}
 use Rattle.x25_io.specs.HeldLine.{HoldsLine}
 use Rattle.x25_io.specs.declared.held_line.HeldLine.{HeldLine}
@@ -12,8 +12,8 @@ use Rattle.x25_io.specs.code.LinesLead.{LinesLead}
 use Rattle.x25_io.proofs.TakerLemmas.{between}
 use Rattle.x25_io.specs.code.Written.{AppendsPrefix, Tells}
 use Rattle.x25_io.proofs.ToldLemmas.{prefix_more, none_told, told_prefix}
-use Rattle.x25_bit_line.specs.Framed.{framed_bits, framed_octets, has_wrong, is_wrong, line_bits}
-use Rattle.x25_bit_line.specs.Sending.{Sends}
+use Rattle.x25_bit_line.specs.Framing.{framed_bits, framed_octets, has_wrong, is_wrong, line_bits}
+use Rattle.x25_bit_line.specs.LineBits.{Sends}
 use Rattle.x25_bit_line.specs.code.Frames.{FramesOn, WritesLines}
 use Rattle.x25_bit_line.specs.declared.frame_sender.FrameSender.{FrameSender}
 use Rattle.x25_bit_line.specs.declared.line_bits.LineBits.{LineBits}

@@ -4,7 +4,7 @@ use Rattle.std.specs.Prelude.{slice_index_or}
 use Rattle.std.specs.Int.{from_bool}
 use Rattle.std.proofs.lemmas.List.{drop_all, get_or-drop, get_or-take, take_more}
 use Rattle.std.proofs.Math.Seq.{drop-cons}
-use Rattle.x25_bits.specs.Fcs.{number_of}
+use Rattle.x25_bits.specs.FrameCheck.{number_of}
 
 pub no_octet : (place : ℕ) (bits : List Bool) → place + 8 ≤ length bits → 0 ≡ number_of (drop 8 (take 8 (drop place bits)))
 unfolding number_of

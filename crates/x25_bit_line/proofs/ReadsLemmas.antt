@@ -3,18 +3,18 @@ use Rattle.std.proofs.Common.{◌≡◌, ◌∙◌, ◌+◌, ◌-◌, ◌*◌, �
 use Rattle.std.proofs.lemmas.List.{append-nil, take_all, drop_at, take-append-drop}
 use Rattle.std.proofs.lemmas.Grind.{flat_map-append}
 use Rattle.std.proofs.Math.Seq.{take-add}
-use Rattle.x25_bits.specs.Prefix.{IsPrefix}
+use Rattle.x25_bits.specs.code.Prefix.{IsPrefix}
 use Rattle.x25_bits.specs.laws.Cuts.{found_more}
-use Rattle.x25_bits.specs.Fcs.{bits_of, low_bits}
+use Rattle.x25_bits.specs.FrameCheck.{bits_of, low_bits}
 use Rattle.x25_bits.specs.code.Fits.{Fits}
 use Rattle.x25_bits.specs.code.Reading.{part}
-use Rattle.x25_bits.specs.SpanClass.{Class, found_of}
-use Rattle.x25_bits.specs.Spans.{between, places_below}
+use Rattle.x25_bits.specs.Found.{Class, found_of}
+use Rattle.x25_bits.specs.Deframer.{between, places_below}
 use Rattle.x25_bits.specs.declared.deframer.Deframer.{Deframer}
 use Rattle.x25_bits.specs.declared.role.Role.{Role}
 use Rattle.x25_io.specs.code.Written.{AppendsPrefix, Tells}
 use Rattle.x25_io.proofs.ToldLemmas.{prefix_more, none_told}
-use Rattle.x25_bit_line.specs.Deframed.{class_line, class_lines}
+use Rattle.x25_bit_line.specs.Deframing.{class_line, class_lines}
 use Rattle.x25_bit_line.specs.code.Reads.{Reads, ReadsOn}
 use Rattle.x25_bit_line.specs.declared.finder.Finder.{Finder}
 

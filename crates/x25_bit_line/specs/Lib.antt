@@ -1,5 +1,5 @@
-pub mod Deframed
-pub mod Framed
-pub mod Sending
-pub mod Trace
+pub mod Deframing
+pub mod Framing
+pub mod LineBits
 pub mod code
+pub mod laws

@@ -2,7 +2,7 @@
 ghost use Rattle.std.specs.Prelude.{◌≡◌, ◌<◌, ◌≤◌, ◌-◌, ◌^◌, ℕ, true, List, Some, IfOk, OnOk, OnErr, IfSome, IsErrOf, length};
 ghost use Rattle.std.specs.Io.KnownBytes.{Appends};
 ghost use Rattle.x25_io.specs.code.Written.{AppendsPrefix};
-ghost use Rattle.x25_bit_line.specs.Deframed.{deframed};
+ghost use Rattle.x25_bit_line.specs.Deframing.{deframed};
 ghost use Rattle.x25_bit_line.specs.code.Reads.{WritesRead};
 
 use crate::finder::Finder;

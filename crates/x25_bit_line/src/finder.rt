@@ -29,7 +29,7 @@ impl Finder {
 impl TextTaker for Finder {
     ghost use Rattle.std.specs.Prelude.{[]};
     ghost use Rattle.x25_bits.specs.declared.role.Role.{Role as RoleValue};
-    ghost use Rattle.x25_bit_line.specs.Deframed.{deframed};
+    ghost use Rattle.x25_bit_line.specs.Deframing.{deframed};
     ghost use Rattle.x25_bit_line.specs.code.Reads.{ReadsOn, WritesRead};
 
     // The end that sends on the line.

@@ -1,6 +1,6 @@
 //! Lines of a trace, sent as frames.
 ghost use Rattle.std.specs.Prelude.{◌≡◌};
-ghost use Rattle.x25_bit_line.specs.Framed.{begins_by_mark};
+ghost use Rattle.x25_bit_line.specs.Framing.{begins_by_mark};
 
 use crate::line_bits::LineBits;
 use std::alloc::{AllocError, Global};
@@ -30,13 +30,13 @@ pub(crate) struct FrameSender {
 impl FrameSender {
     ghost use Rattle.std.specs.Prelude.{◌≡◌, ◌≤◌, ◌||◌, not, [], true, false, ℕ, Bool, List, Option, IfOk, OnOk, IsErrOf, MatchResult, length};
     ghost use Rattle.std.specs.Io.KnownBytes.{Appends};
-    ghost use Rattle.x25_bits.specs.SpanClass.{octets_of};
+    ghost use Rattle.x25_bits.specs.Found.{octets_of};
     ghost use Rattle.x25_bits.specs.Stuffing.{filled};
     ghost use Rattle.x25_io.specs.HeldLine.{most_line};
     ghost use Rattle.x25_io.specs.code.MarksFaults.{MarksFaults};
     ghost use Rattle.x25_io.specs.code.Written.{AppendsPrefix, Tells};
-    ghost use Rattle.x25_bit_line.specs.Framed.{is_wrong, line_bits};
-    ghost use Rattle.x25_bit_line.specs.Sending.{Sends, SendsLine};
+    ghost use Rattle.x25_bit_line.specs.Framing.{is_wrong, line_bits};
+    ghost use Rattle.x25_bit_line.specs.LineBits.{Sends, SendsLine};
 
     /// Nothing was sent.
     pub(crate) fn new(alloc: Global) -> Result<FrameSender, AllocError>
@@ -114,7 +114,7 @@ impl FrameSender {
 }
 
 impl LineTaker for FrameSender {
-    ghost use Rattle.x25_bit_line.specs.Framed.{frame_status, framed_octets};
+    ghost use Rattle.x25_bit_line.specs.Framing.{frame_status, framed_octets};
     ghost use Rattle.x25_bit_line.specs.code.Frames.{FramesOn, WritesLines};
 
     ghost Setting = { Unit {0} };

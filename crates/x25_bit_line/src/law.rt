@@ -1,9 +1,9 @@
 //! `deframe` behind `frame`: a law, the contract of a function that does nothing.
 ghost use Rattle.std.specs.Prelude.{◌≡◌, ℕ, List};
 ghost use Rattle.x25_bits.specs.declared.role.Role.{Role as RoleValue};
-ghost use Rattle.x25_bit_line.specs.Deframed.{deframed};
-ghost use Rattle.x25_bit_line.specs.Framed.{framed_octets};
-ghost use Rattle.x25_bit_line.specs.Trace.{AreContents, trace_text};
+ghost use Rattle.x25_bit_line.specs.Deframing.{deframed};
+ghost use Rattle.x25_bit_line.specs.Framing.{framed_octets};
+ghost use Rattle.x25_bit_line.specs.laws.Trace.{AreContents, trace_text};
 
 use x25_bits::{flag_parts, put_is_found};
 

@@ -1,6 +1,6 @@
 //! Bits on their way to a synchronous line, each octet lowest bit first.
 ghost use Rattle.std.specs.Prelude.{◌≡◌, ◌+◌, ◌^◌, ◌<◌, ◌≤◌, false, IfOk, length, take, drop, slice_index_or};
-ghost use Rattle.x25_bits.specs.Fcs.{number_of};
+ghost use Rattle.x25_bits.specs.FrameCheck.{number_of};
 
 use std::alloc::Global;
 use x25_bits::{Bits, NoMemory, put};
@@ -48,11 +48,11 @@ pub(crate) struct LineBits {
 
 impl LineBits {
     ghost use Rattle.std.specs.Prelude.{◌≡◌, ◌++◌, [], true, OnOk, IsErrOf};
-    ghost use Rattle.x25_bits.specs.SpanClass.{octets_of};
+    ghost use Rattle.x25_bits.specs.Found.{octets_of};
     ghost use Rattle.x25_bits.specs.Stuffing.{filled, framed};
     ghost use Rattle.x25_io.specs.code.MarksFaults.{MarksFaults};
     ghost use Rattle.x25_io.specs.code.Written.{TellsMore};
-    ghost use Rattle.x25_bit_line.specs.Sending.{behind_octets};
+    ghost use Rattle.x25_bit_line.specs.LineBits.{behind_octets};
 
     /// No bits.
     pub(crate) fn new(alloc: Global) -> LineBits

@@ -1,6 +1,6 @@
 //! The lines that tell of spans.
 ghost use Rattle.std.specs.Prelude.{◌≡◌};
-ghost use Rattle.x25_decode.specs.Decoded.{mark_of};
+ghost use Rattle.x25_decode.specs.Decoding.{mark_of};
 
 use std::alloc::{AllocError, Global};
 use x25_bits::{Role, Span};
@@ -32,8 +32,8 @@ impl SpanLines {
     ghost use Rattle.std.specs.List.{flat_map};
     ghost use Rattle.x25_bits.specs.code.Plain.{plain_span};
     ghost use Rattle.x25_io.specs.code.Written.{AppendsPrefix, Tells, TellsMore};
-    ghost use Rattle.x25_text.specs.OctetText.{octet_text};
-    ghost use Rattle.x25_bit_line.specs.Deframed.{class_line, trace_line};
+    ghost use Rattle.x25_text.specs.Text.{octet_text};
+    ghost use Rattle.x25_bit_line.specs.Deframing.{class_line, trace_line};
 
     /// Nothing waits.
     pub(crate) fn new(alloc: Global, from: Role) -> Result<SpanLines, AllocError>

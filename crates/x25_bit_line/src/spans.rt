@@ -1,11 +1,11 @@
 //! Octets of a synchronous line, span by span.
 ghost use Rattle.std.specs.Prelude.{◌≡◌, ◌*◌, ◌^◌, ◌<◌, ◌≤◌, ◌++◌, true, ℕ, Bool, List, Option, IfOk, OnOk, OnErr, MatchResult, length, take, drop};
-ghost use Rattle.x25_bits.specs.Fcs.{bits_of};
+ghost use Rattle.x25_bits.specs.FrameCheck.{bits_of};
 ghost use Rattle.x25_bits.specs.code.Fits.{Fits, has_buffer};
 ghost use Rattle.x25_bits.specs.code.Reading.{part};
-ghost use Rattle.x25_bits.specs.SpanClass.{found_of};
+ghost use Rattle.x25_bits.specs.Found.{found_of};
 ghost use Rattle.x25_io.specs.code.Written.{AppendsPrefix};
-ghost use Rattle.x25_bit_line.specs.Deframed.{class_lines};
+ghost use Rattle.x25_bit_line.specs.Deframing.{class_lines};
 ghost use Rattle.x25_bit_line.specs.code.Reads.{Reads};
 
 use crate::span_lines::SpanLines;

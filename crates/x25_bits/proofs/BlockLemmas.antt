@@ -4,8 +4,8 @@ use Rattle.std.specs.Prelude.{replicate, drop, slice_index}
 use Rattle.std.proofs.lemmas.Nat.{xor_mod}
 use Rattle.std.proofs.lemmas.List.{drop-drop}
 use Rattle.byteorder.specs.Endian.{little_number}
-use Rattle.x25_bits.specs.Fcs.{low_bits, bits_of, add, divisor}
-use Rattle.x25_bits.specs.Register.{stepped, fed, words_leave}
+use Rattle.x25_bits.specs.FrameCheck.{low_bits, bits_of, add, divisor}
+use Rattle.x25_bits.specs.code.Register.{stepped, fed, words_leave}
 use Rattle.x25_bits.proofs.FcsLemmas.{fed-append, length-fed, length-low_bits, low_bits-xor}
 use Rattle.x25_bits.proofs.LinearLemmas.{IsLinear, IsAdditive, linear_same, linear_sum, linear_left, linear_right, additive_behind, agree, agree_to, same, none, length-none, none_twice, fed_add, fed_apart, fed_none}
 use Rattle.x25_bits.proofs.FoldLemmas.{fed_word, word_bits}

@@ -5,7 +5,7 @@ use Rattle.std.proofs.lemmas.Bool.{cases_lt}
 use Rattle.std.proofs.Math.Seq.{take-append_seam}
 use Rattle.std.proofs.lemmas.List.{take-append-drop, append-nil}
 use Rattle.x25_bits.proofs.SpanSteps.{closed}
-use Rattle.x25_bits.specs.SpanClass.{Class, Abort, Ragged, run_from, seven_from, class_by, class_of, reported}
+use Rattle.x25_bits.specs.Found.{Class, Abort, Ragged, run_from, seven_from, class_by, class_of, reported}
 use Rattle.x25_bits.specs.Stuffing.{unstuffed_from}
 use Rattle.x25_bits.specs.code.Held.{kept_found, Held, none_held, fresh, held_next, held_from, held_of, closing}
 use Rattle.x25_bits.proofs.RunLemmas.{ups, ups_small, ups-append, ups_bound, not_six, held-append, run_ups}

@@ -4,9 +4,9 @@ use Rattle.std.specs.Prelude.{All, nat_lt, if◌then◌else◌}
 use Rattle.std.proofs.lemmas.Bool.{eqb-true}
 use Rattle.std.proofs.lemmas.List.{append-nil, take-append-drop, length-take-le}
 use Rattle.std.proofs.lemmas.List.Elements.{All-append}
-use Rattle.x25_bits.specs.Fcs.{bits_of, low_bits, number_of}
-use Rattle.x25_bits.specs.Spans.{flag_places, spans_of, places_below, between}
-use Rattle.x25_bits.specs.SpanClass.{Content, Abort, Short, Long, Ragged, seven_from, run_from, octets_by, octets_of, class_by, class_of}
+use Rattle.x25_bits.specs.FrameCheck.{bits_of, low_bits, number_of}
+use Rattle.x25_bits.specs.Deframer.{flag_places, spans_of, places_below, between}
+use Rattle.x25_bits.specs.Found.{Content, Abort, Short, Long, Ragged, seven_from, run_from, octets_by, octets_of, class_by, class_of}
 use Rattle.x25_bits.specs.Stuffing.{stuffed_from, stuff, unstuffed_from, unstuff}
 use Rattle.x25_bits.specs.code.Held.{up}
 use Rattle.x25_bits.proofs.SpanSteps.{State, start, FitsAt, stepped, found, closed, ends_flag}

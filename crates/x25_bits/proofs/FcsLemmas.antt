@@ -5,8 +5,8 @@ use Rattle.std.proofs.lemmas.Nat.{xor_mod, xor_shr, field_of}
 use Rattle.std.proofs.Math.Pow.{mod-mod-pow}
 use Rattle.std.proofs.lemmas.Nat.Bits.{shr_and_one}
 use Rattle.std.proofs.Math.Nat.{div-one}
-use Rattle.x25_bits.specs.Fcs.{low_bits, number_of, bits_of, xor, add, divisor, divided, inverted, fcs_of}
-use Rattle.x25_bits.specs.Register.{stepped, fed}
+use Rattle.x25_bits.specs.FrameCheck.{low_bits, number_of, bits_of, xor, add, divisor, divided, inverted, fcs_of}
+use Rattle.x25_bits.specs.code.Register.{stepped, fed}
 
 pub xor_assoc : (a b c : Bool) → xor (xor a b) c ≡ xor a (xor b c)
 xor_assoc true true true = refl

@@ -2,7 +2,7 @@
 use Rattle.std.proofs.Common.{ℕ, ◌+◌, ◌<◌, ◌≡◌, ◌∙◌, Bool, false, List, [], ◌∷◌, ◌++◌, length, take, drop, refl, ap, sym, append_assoc, get_or}
 use Rattle.std.proofs.lemmas.List.{append-nil, take_more}
 use Rattle.std.proofs.Math.Seq.{drop-append_seam}
-use Rattle.x25_bits.specs.SpanClass.{found_of}
+use Rattle.x25_bits.specs.Found.{found_of}
 use Rattle.x25_bits.specs.code.Held.{Seen, seen_next, seen_found, seen_from, found_from, seen_of}
 use Rattle.x25_bits.proofs.FoundLemmas.{found_more, seen-append}
 

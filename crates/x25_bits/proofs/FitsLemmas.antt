@@ -1,8 +1,8 @@
 -- What is held bit by bit is what the whole list of bits says.
 use Rattle.std.proofs.Common.{ℕ, zero, suc, ◌+◌, ◌≤◌, ◌≡◌, ◌∙◌, inl, inr, Bool, true, false, Option, Some, None, List, [], ◌∷◌, ◌++◌, drop, take, refl, ap, sym, subst, arith}
-use Rattle.x25_bits.specs.Spans.{flag_places}
+use Rattle.x25_bits.specs.Deframer.{flag_places}
 use Rattle.x25_bits.specs.Stuffing.{unstuff}
-use Rattle.x25_bits.specs.SpanClass.{seven_from, run_from}
+use Rattle.x25_bits.specs.Found.{seven_from, run_from}
 use Rattle.x25_bits.specs.code.Held.{fresh, up, held_from, held_of, Seen, ends, seen_next, seen_from, seen_of, none_seen}
 use Rattle.x25_bits.specs.code.Fits.{Fits, HoldsOpen, ones_from, inserted_from, behind_last, open_span}
 use Rattle.x25_bits.specs.code.FitsSeen.{FitsSeen}

@@ -7,8 +7,8 @@ use Rattle.byteorder.specs.Numbers.{little_from-cons, little_from-take}
 use Rattle.std.proofs.lemmas.List.{length-take-le, take-append-drop, get_or-take, get_or-drop, drop-drop, drop_all, take_all}
 use Rattle.std.proofs.lemmas.Grind.{flat_map-append}
 use Rattle.std.proofs.lemmas.Nat.{xor_comm, xor_lt}
-use Rattle.x25_bits.specs.Fcs.{low_bits, bits_of, add, divisor}
-use Rattle.x25_bits.specs.Register.{stepped, fed}
+use Rattle.x25_bits.specs.FrameCheck.{low_bits, bits_of, add, divisor}
+use Rattle.x25_bits.specs.code.Register.{stepped, fed}
 use Rattle.x25_bits.proofs.FcsLemmas.{fed-append, length-fed, length-low_bits, low_bits-mod}
 use Rattle.x25_bits.proofs.LinearLemmas.{Linear, linear_left, linear_same, given, plus, left, right, additive_bits, additive_fed, additive_behind, agree, agree_to, same, none, length-none, fed_none, fed_apart, low_bits-left, low_bits-join}
 

@@ -2,10 +2,10 @@
 use Rattle.std.proofs.Common.{◌≡◌, ◌∙◌, Bool, true, false, not, ◌&&◌, ◌==◌, List, [], ◌∷◌, ◌++◌, refl, ap, sym, subst, append_assoc}
 use Rattle.std.proofs.lemmas.List.{append-nil}
 use Rattle.std.specs.List.{flat_map}
-use Rattle.x25_bits.specs.Spans.{flag_places, spans_of, places_below}
+use Rattle.x25_bits.specs.Deframer.{flag_places, spans_of, places_below}
 use Rattle.x25_bits.proofs.SpanSteps.{State, start, FitsAt, stepped, found, closed, ends_flag}
 use Rattle.x25_bits.proofs.SpanLemmas.{law_fits, law_spans}
-use Rattle.x25_bits.specs.SpanClass.{reported, found_of}
+use Rattle.x25_bits.specs.Found.{reported, found_of}
 use Rattle.x25_bits.specs.code.Held.{none_held, fresh, held_next, held_from, held_of, closing, Seen, none_seen, ends, seen_next, seen_found, seen_from, found_from, seen_of}
 use Rattle.x25_bits.proofs.RunLemmas.{flags_held, held-append}
 use Rattle.x25_bits.proofs.ClosingLemmas.{closes_held}

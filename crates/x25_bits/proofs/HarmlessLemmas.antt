@@ -6,13 +6,13 @@ use Rattle.std.specs.List.{flat_map, list_all}
 use Rattle.std.proofs.lemmas.List.{append-nil}
 use Rattle.std.proofs.lemmas.List.Elements.{All-cons, All-nil}
 use Rattle.std.proofs.lemmas.Grind.{flat_map-append}
-use Rattle.x25_bits.specs.Fcs.{bits_of}
-use Rattle.x25_bits.specs.Spans.{flag, places_below, between, is_flag_at, begins_with_flag, spans_of}
+use Rattle.x25_bits.specs.FrameCheck.{bits_of}
+use Rattle.x25_bits.specs.Deframer.{flag, places_below, between, is_flag_at, begins_with_flag, spans_of}
 use Rattle.x25_bits.specs.Stuffing.{stuff, unstuffed_from, framed}
-use Rattle.x25_bits.specs.SpanClass.{Class, Content, Abort, Short, Long, Ragged, seven_from, run_from, class_by, class_of, reported, found_of}
-use Rattle.x25_bits.specs.Sealed.{is_sealed}
+use Rattle.x25_bits.specs.Found.{Class, Content, Abort, Short, Long, Ragged, seven_from, run_from, class_by, class_of, reported, found_of}
+use Rattle.x25_bits.specs.FrameCheck.Sealed.{is_sealed}
 use Rattle.x25_bits.specs.code.Plain.{plain, plains}
-use Rattle.x25_bits.specs.Harmless.{between_flags, IsHarmless, IsFrame, is_sealed_content, sealed_octets, sealed_contents, first_content}
+use Rattle.x25_bits.specs.HarmlessBits.{between_flags, IsHarmless, IsFrame, is_sealed_content, sealed_octets, sealed_contents, first_content}
 use Rattle.x25_bits.specs.declared.found.Found.{Found}
 use Rattle.x25_bits.proofs.FoundLemmas.{found_more}
 use Rattle.x25_bits.proofs.FeedLemmas.{found_all}

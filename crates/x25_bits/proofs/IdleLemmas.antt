@@ -5,7 +5,7 @@ use Rattle.std.proofs.lemmas.Nat.{one_shl, pow_pos}
 use Rattle.std.proofs.lemmas.Bool.{eqb-true}
 use Rattle.std.proofs.lemmas.List.{take-append-drop, drop-drop}
 use Rattle.std.proofs.Math.Seq.{drop-append-add, drop-nil}
-use Rattle.x25_bits.specs.Fcs.{bits_of, low_bits}
+use Rattle.x25_bits.specs.FrameCheck.{bits_of, low_bits}
 use Rattle.x25_bits.specs.code.FitsSeen.{FitsSeen}
 use Rattle.x25_bits.specs.code.Held.{Seen, seen_from, found_from, closing, kept_found}
 use Rattle.x25_bits.specs.code.Reading.{part}

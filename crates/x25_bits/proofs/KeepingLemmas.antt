@@ -1,8 +1,8 @@
 -- Bits that are kept, in memory that is counted on or not.
 use Rattle.std.proofs.Common.{ℕ, ◌*◌, ◌≤◌, ◌≡◌, ◌∙◌, Bool, List, Option, Some, None, unwrap_or, length, take, refl, ap}
 use Rattle.std.proofs.Math.Seq.{take-append_seam}
-use Rattle.x25_bits.specs.Prefix.{IsPrefix}
-use Rattle.x25_bits.specs.Fcs.{bits_of}
+use Rattle.x25_bits.specs.code.Prefix.{IsPrefix}
+use Rattle.x25_bits.specs.FrameCheck.{bits_of}
 use Rattle.x25_bits.specs.code.Keeping.{Keeping, with_bits}
 use Rattle.x25_bits.proofs.PrefixLemmas.{prefix_none}
 use Rattle.x25_bits.proofs.OctetLemmas.{count_is}

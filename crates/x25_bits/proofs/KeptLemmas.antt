@@ -3,7 +3,7 @@ use Rattle.std.proofs.Common.{ℕ, ◌-◌, ◌/◌, ◌%◌, ◌<◌, ◌≤◌
 use Rattle.std.specs.Prelude.{nat_lt, if◌then◌else◌}
 use Rattle.std.proofs.lemmas.List.{length-take, take-append-le, take_all}
 use Rattle.std.proofs.lemmas.Bool.Decides.{nat_tests}
-use Rattle.x25_bits.specs.SpanClass.{Content, Short, Long, Ragged, octets_by, octets_of, class_by}
+use Rattle.x25_bits.specs.Found.{Content, Short, Long, Ragged, octets_by, octets_of, class_by}
 use Rattle.x25_bits.specs.code.Held.{kept_found}
 use Rattle.x25_bits.proofs.OctetLemmas.{octets_by-take}
 

@@ -5,12 +5,12 @@ use Rattle.std.proofs.lemmas.Bool.{cases_lt}
 use Rattle.std.proofs.Math.ListN.{get_or-eq_default}
 use Rattle.std.proofs.lemmas.List.{append-nil}
 use Rattle.std.specs.List.{flat_map}
-use Rattle.x25_bits.specs.Prefix.{IsPrefix}
+use Rattle.x25_bits.specs.code.Prefix.{IsPrefix}
 use Rattle.x25_bits.specs.laws.Cuts.{found_by_cuts}
-use Rattle.x25_bits.specs.SpanClass.{Content, found_of}
-use Rattle.x25_bits.specs.Spans.{flag, places_below, between}
+use Rattle.x25_bits.specs.Found.{Content, found_of}
+use Rattle.x25_bits.specs.Deframer.{flag, places_below, between}
 use Rattle.x25_bits.specs.Stuffing.{framed, stuff}
-use Rattle.x25_bits.specs.Fcs.{bits_of}
+use Rattle.x25_bits.specs.FrameCheck.{bits_of}
 use Rattle.x25_bits.specs.code.Held.{Seen, fresh, none_seen, ends, seen_from, found_from, seen_of}
 use Rattle.x25_bits.proofs.FoundLemmas.{found_more}
 use Rattle.x25_bits.proofs.FeedLemmas.{seen_all, found_all}

@@ -1,7 +1,7 @@
 -- What is left of the bits leads to what all of them do.
 use Rattle.std.proofs.Common.{◌≡◌, ◌∙◌, Bool, List, [], ◌∷◌, ◌++◌, ap, sym, subst, append_assoc}
 use Rattle.std.proofs.lemmas.List.{append-nil}
-use Rattle.x25_bits.specs.SpanClass.{Class}
+use Rattle.x25_bits.specs.Found.{Class}
 use Rattle.x25_bits.specs.code.Held.{Seen, seen_next, seen_found, seen_from, found_from}
 use Rattle.x25_bits.specs.code.FitsSeen.{FitsSeen}
 use Rattle.x25_bits.specs.declared.deframer.Deframer.{Deframer}

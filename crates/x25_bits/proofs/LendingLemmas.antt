@@ -9,7 +9,7 @@ use Rattle.x25_bits.specs.code.Keeping.{Keeping}
 use Rattle.x25_bits.specs.code.Plain.{listed_span}
 use Rattle.x25_bits.specs.code.Reading.{part, Closes, Lends}
 use Rattle.x25_bits.specs.code.Shows.{Shows}
-use Rattle.x25_bits.specs.SpanClass.{Class}
+use Rattle.x25_bits.specs.Found.{Class}
 use Rattle.x25_bits.specs.declared.deframer.Deframer.{Deframer}
 use Rattle.x25_bits.specs.declared.found.Span.{Span}
 use Rattle.x25_bits.specs.declared.scan.Scan.{Scan}

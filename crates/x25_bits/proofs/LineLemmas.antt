@@ -2,9 +2,9 @@
 use Rattle.std.proofs.Common.{ℕ, zero, suc, ◌+◌, ◌-◌, ◌*◌, ◌/◌, ◌%◌, ◌<◌, ◌≤◌, ◌≡◌, ◌∙◌, Bool, true, List, [], ◌∷◌, ◌++◌, length, take, drop, get_or, refl, ap, sym, arith, length-append, append_assoc}
 use Rattle.std.specs.Prelude.{replicate}
 use Rattle.std.proofs.lemmas.List.{append-nil, length-replicate, length-take-le, take-append-drop}
-use Rattle.x25_bits.specs.Fcs.{bits_of}
-use Rattle.x25_bits.specs.SpanClass.{Content, found_of, octets_of}
-use Rattle.x25_bits.specs.Spans.{flag}
+use Rattle.x25_bits.specs.FrameCheck.{bits_of}
+use Rattle.x25_bits.specs.Found.{Content, found_of, octets_of}
+use Rattle.x25_bits.specs.Deframer.{flag}
 use Rattle.x25_bits.specs.Stuffing.{framed, filled}
 use Rattle.x25_bits.specs.code.Held.{Seen, seen_next, seen_of, found_from}
 use Rattle.x25_bits.proofs.ContentLemmas.{bits_of-octets_by}

@@ -5,8 +5,8 @@ use Rattle.std.proofs.lemmas.Nat.{xor_mod, xor_shr, xor_block, xor_comm as numbe
 use Rattle.std.proofs.Math.Nat.{div-le_self, mod-lt, pow-suc, mul_assoc}
 use Rattle.std.specs.Prelude.{◌==◌}
 use lib.Bits.{xor_assoc as number_assoc, xor_shifted}
-use Rattle.x25_bits.specs.Fcs.{low_bits, xor, add, divisor}
-use Rattle.x25_bits.specs.Register.{stepped, fed}
+use Rattle.x25_bits.specs.FrameCheck.{low_bits, xor, add, divisor}
+use Rattle.x25_bits.specs.code.Register.{stepped, fed}
 use Rattle.x25_bits.proofs.FcsLemmas.{add_assoc, add_comm, add-zeros, length-add, length-stepped, low_bits-xor, length-low_bits}
 
 -- ---- the register

@@ -8,11 +8,11 @@ use Rattle.std.proofs.Math.Seq.{take-append-add, take-nil}
 use Rattle.std.proofs.lemmas.List.{drop-drop, take-append-le, get_or-append-add, take_all, length-take-le}
 use Rattle.std.proofs.lemmas.Bool.Decides.{nat_tests}
 use Rattle.std.proofs.Math.ListN.{get_or-append, set}
-use Rattle.x25_bits.specs.Fcs.{bits_of, low_bits, number_of}
+use Rattle.x25_bits.specs.FrameCheck.{bits_of, low_bits, number_of}
 use Rattle.x25_bits.proofs.FcsLemmas.{length-low_bits, low_bits-mod, and_one}
 use Rattle.x25_bits.proofs.LinearLemmas.{low_bits-join}
 use Rattle.std.proofs.Math.Seq.{drop-append-add}
-use Rattle.x25_bits.specs.SpanClass.{octets_by}
+use Rattle.x25_bits.specs.Found.{octets_by}
 
 low_bits-snoc : (k n : ℕ) (b : Bool) → n < 2 ^ k → low_bits (suc k) (n + (if b then 2 ^ k else 0)) ≡ low_bits k n ++ b ∷ []
 unfolding low_bits

@@ -4,7 +4,7 @@ use Rattle.std.specs.Prelude.{if◌then◌else◌, nat_lt, slice_index_or}
 use Rattle.std.proofs.lemmas.Bool.{eqb-true}
 use Rattle.std.specs.Bool.{beq}
 use Rattle.std.proofs.lemmas.Bool.Decides.{nat_tests}
-use Rattle.x25_bits.specs.Fcs.{low_bits}
+use Rattle.x25_bits.specs.FrameCheck.{low_bits}
 use Rattle.x25_bits.specs.code.Fits.{ones_from}
 use Rattle.x25_bits.specs.Passing.{passes, kept_from, inserted_after, Passes}
 use Rattle.x25_bits.specs.declared.passing.Passed.{Passed}

@@ -2,13 +2,13 @@
 use Rattle.std.proofs.Common.{ℕ, ◌+◌, ◌-◌, ◌*◌, ◌/◌, ◌%◌, ◌^◌, ◌<◌, ◌≤◌, ◌≡◌, ◌∙◌, Bool, true, false, not, ◌==◌, ◌&&◌, List, [], ◌∷◌, ◌++◌, length, take, drop, get_or, refl, ap, sym, subst, arith, append_assoc, length-append}
 use Rattle.std.specs.Prelude.{if◌then◌else◌, ◌||◌}
 use Rattle.std.proofs.lemmas.List.{append-nil, take_all}
-use Rattle.x25_bits.specs.Fcs.{bits_of, low_bits}
+use Rattle.x25_bits.specs.FrameCheck.{bits_of, low_bits}
 use Rattle.x25_bits.specs.code.Fits.{ones_from}
 use Rattle.x25_bits.specs.code.FitsSeen.{FitsSeen}
 use Rattle.x25_bits.specs.code.Reading.{part}
 use Rattle.x25_bits.specs.code.Held.{Seen, up, keeps, ends, seen_next, seen_found, seen_from, found_from, closing}
 use Rattle.x25_bits.specs.Passing.{passes, kept_from, inserted_after, Passes, PassesOn}
-use Rattle.x25_bits.specs.SpanClass.{Class}
+use Rattle.x25_bits.specs.Found.{Class}
 use Rattle.x25_bits.specs.declared.deframer.Deframer.{Deframer}
 use Rattle.x25_bits.specs.declared.passing.Passed.{Passed}
 use Rattle.x25_bits.proofs.FcsLemmas.{length-low_bits}

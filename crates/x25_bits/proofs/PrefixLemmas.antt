@@ -1,7 +1,7 @@
 -- A list that begins another one.
 use Rattle.std.proofs.Common.{◌∙◌, List, [], ◌++◌, ap, sym, append_assoc}
 use Rattle.std.proofs.lemmas.List.{append-nil}
-use Rattle.x25_bits.specs.Prefix.{IsPrefix}
+use Rattle.x25_bits.specs.code.Prefix.{IsPrefix}
 
 pub prefix_none : {A : Type 0} (a : List A) → IsPrefix a a
 prefix_none a = ([], sym (append-nil a))

@@ -3,10 +3,10 @@ use Rattle.std.proofs.Common.{ℕ, zero, suc, ◌+◌, ◌-◌, ◌*◌, ◌/◌
 use Rattle.std.specs.Prelude.{nat_lt}
 use Rattle.std.proofs.lemmas.List.{append-nil, take_all}
 use Rattle.std.proofs.lemmas.Bool.Decides.{nat_tests}
-use Rattle.x25_bits.specs.Spans.{places_below, between, flag}
-use Rattle.x25_bits.specs.Fcs.{bits_of, low_bits}
+use Rattle.x25_bits.specs.Deframer.{places_below, between, flag}
+use Rattle.x25_bits.specs.FrameCheck.{bits_of, low_bits}
 use Rattle.x25_bits.proofs.FcsLemmas.{and_one, low_bits-suc}
-use Rattle.x25_bits.specs.SpanClass.{Content, class_by, found_of, octets_by}
+use Rattle.x25_bits.specs.Found.{Content, class_by, found_of, octets_by}
 use Rattle.x25_bits.specs.Stuffing.{stuffed_from, framed}
 use Rattle.x25_bits.specs.code.Held.{kept_found, Seen, none_seen, closing, seen_from, found_from}
 use Rattle.x25_bits.proofs.FoundLemmas.{found_more}

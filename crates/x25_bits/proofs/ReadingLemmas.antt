@@ -2,7 +2,7 @@
 use Rattle.std.proofs.Common.{ℕ, ◌+◌, ◌-◌, ◌<◌, ◌≤◌, ◌≡◌, ◌∙◌, Bool, false, List, [], ◌∷◌, ◌++◌, length, take, drop, refl, ap, sym, arith, get_or}
 use Rattle.std.proofs.lemmas.List.{take_all, get_or-drop, drop-take, take-take, take-append-drop, length-drop, drop-drop}
 use Rattle.std.proofs.Math.Seq.{take-add}
-use Rattle.x25_bits.specs.SpanClass.{Class}
+use Rattle.x25_bits.specs.Found.{Class}
 use Rattle.x25_bits.specs.code.Held.{Seen, seen_next, seen_found, seen_from, found_from}
 use Rattle.x25_bits.specs.code.Reading.{part}
 use Rattle.x25_bits.proofs.FeedLemmas.{seen_more, found-append, found_later}

@@ -3,7 +3,7 @@ use Rattle.std.proofs.Common.{ℕ, zero, suc, ◌+◌, ◌-◌, ◌<◌, ◌≤�
 use Rattle.std.proofs.lemmas.Bool.{cases_lt}
 use Rattle.std.proofs.Math.Seq.{drop-append_seam}
 use Rattle.std.proofs.lemmas.List.{take-append-drop}
-use Rattle.x25_bits.specs.Spans.{is_flag_at}
+use Rattle.x25_bits.specs.Deframer.{is_flag_at}
 use Rattle.x25_bits.proofs.SpanSteps.{ends_flag}
 use Rattle.x25_bits.proofs.SpanLemmas.{begins_by, flag_behind, flag_short}
 use Rattle.x25_bits.specs.code.Held.{Held, none_held, up, held_next, held_from, held_of}

@@ -1,6 +1,6 @@
 -- Bits of which nothing is kept, behind seven 1 bits or up to the seventh.
 use Rattle.std.proofs.Common.{ℕ, ◌+◌, ◌/◌, ◌%◌, ◌^◌, ◌<◌, ◌≡◌, ◌∙◌, Bool, true, false, List, [], length, get_or, refl, ap, sym, subst, arith}
-use Rattle.x25_bits.specs.Fcs.{bits_of, low_bits}
+use Rattle.x25_bits.specs.FrameCheck.{bits_of, low_bits}
 use Rattle.x25_bits.specs.code.FitsSeen.{FitsSeen}
 use Rattle.x25_bits.specs.code.Held.{Seen, seen_from, found_from}
 use Rattle.x25_bits.specs.code.Reading.{part}

@@ -3,7 +3,7 @@ use Rattle.std.proofs.Common.{ℕ, zero, suc, ◌+◌, ◌-◌, ◌<◌, ◌≤�
 use Rattle.std.specs.Prelude.{if◌then◌else◌}
 use Rattle.std.proofs.lemmas.Bool.{cases_lt}
 use Rattle.std.proofs.lemmas.List.{take-append-le, append-nil, drop-drop, drop-append-le, nil_from_length}
-use Rattle.x25_bits.specs.Spans.{flag, begins_with_flag, is_flag_at, places_below, flag_places, between, spans_of}
+use Rattle.x25_bits.specs.Deframer.{flag, begins_with_flag, is_flag_at, places_below, flag_places, between, spans_of}
 use Rattle.x25_bits.proofs.SpanSteps.{State, FitsAt, stepped, found, closed, ends_flag, last_or}
 
 -- ---- flags

@@ -1,6 +1,6 @@
 -- The spans found bit by bit.
 use Rattle.std.specs.Prelude.{◌≡◌, ℕ, ◌-◌, ◌+◌, Bool, true, false, if◌then◌else◌, List, [], ◌∷◌, ◌++◌, length, take, drop}
-use Rattle.x25_bits.specs.Spans.{is_flag_at}
+use Rattle.x25_bits.specs.Deframer.{is_flag_at}
 
 -- whether a flag has come, and the bits from its last one on, or all bits
 pub record State : Type 0 where

@@ -3,7 +3,7 @@ use Rattle.std.proofs.Common.{ℕ, zero, suc, ◌+◌, ◌-◌, ◌*◌, ◌/◌
 use Rattle.std.specs.Prelude.{replicate}
 use Rattle.std.proofs.Math.Nat.{div-one}
 use Rattle.std.proofs.lemmas.List.{append-nil, drop-drop, take-append-drop}
-use Rattle.x25_bits.specs.Fcs.{bits_of, low_bits}
+use Rattle.x25_bits.specs.FrameCheck.{bits_of, low_bits}
 use Rattle.x25_bits.specs.code.Fits.{ones_from}
 use Rattle.x25_bits.specs.code.Reading.{part}
 use Rattle.x25_bits.specs.Passing.{passes, kept_from, inserted_after, Passes}

@@ -3,7 +3,7 @@ use Rattle.std.proofs.Common.{ℕ, suc, zero, ◌+◌, ◌*◌, ◌/◌, ◌%◌
 use Rattle.std.specs.Prelude.{if◌then◌else◌, nat_lt, slice_index_or, replicate}
 use Rattle.std.proofs.lemmas.Bool.{eqb-true}
 use Rattle.std.proofs.lemmas.List.{append-nil}
-use Rattle.x25_bits.specs.Fcs.{low_bits}
+use Rattle.x25_bits.specs.FrameCheck.{low_bits}
 use Rattle.x25_bits.specs.Stuffing.{stuffed_from}
 use Rattle.x25_bits.proofs.LinearLemmas.{same, same_is}
 use Rattle.x25_bits.proofs.OctetTable.{both, less}

@@ -1,6 +1,6 @@
 -- Bits in which no flag ends and no seventh 1 bit comes. Profile.
 use Rattle.std.specs.Prelude.{ℕ, ◌≡◌, ◌==◌, Bool, true, false, if◌then◌else◌, List, [], ◌∷◌}
-use Rattle.x25_bits.specs.Fcs.{low_bits}
+use Rattle.x25_bits.specs.FrameCheck.{low_bits}
 use Rattle.x25_bits.specs.code.Fits.{ones_from}
 use Rattle.x25_bits.specs.code.Held.{up, keeps}
 use Rattle.x25_bits.specs.declared.passing.Passed.{Passed}

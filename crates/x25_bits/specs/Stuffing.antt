@@ -1,7 +1,7 @@
 -- Stuffing. ITU-T X.25 (10/96), section 2.2.6 (transparency).
 use Rattle.std.specs.Prelude.{ℕ, ◌+◌, ◌-◌, ◌%◌, ◌==◌, Bool, true, false, if◌then◌else◌, List, [], ◌∷◌, ◌++◌, length, replicate}
-use Rattle.x25_bits.specs.Fcs.{bits_of}
-use Rattle.x25_bits.specs.Spans.{flag}
+use Rattle.x25_bits.specs.FrameCheck.{bits_of}
+use Rattle.x25_bits.specs.Deframer.{flag}
 
 -- the bits with a 0 put after every run of five 1 bits, counted afresh after each such 0, where `run` of them
 -- came before

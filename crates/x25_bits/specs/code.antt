@@ -8,3 +8,5 @@ pub mod Skips
 pub mod Fits
 pub mod Reading
 pub mod Calls
+pub mod Prefix
+pub mod Register

@@ -1,7 +1,7 @@
 ghost use Rattle.std.specs.Prelude.{ℕ, ◌≡◌, ◌+◌, ◌*◌, ◌/◌, ◌%◌, ◌^◌, ◌<◌, ◌≤◌, ◌++◌, ◌∷◌, [], ◌==◌, ◌↔◌, Bool, List, false, length, take, IsTrue, IfOk, OnOk, OnErr, slice_get, slice_index, slice_index_or};
-ghost use Rattle.x25_bits.specs.Prefix.{IsPrefix};
-ghost use Rattle.x25_bits.specs.Fcs.{bits_of, low_bits};
-ghost use Rattle.x25_bits.specs.SpanClass.{octets_by, octets_of};
+ghost use Rattle.x25_bits.specs.code.Prefix.{IsPrefix};
+ghost use Rattle.x25_bits.specs.FrameCheck.{bits_of, low_bits};
+ghost use Rattle.x25_bits.specs.Found.{octets_by, octets_of};
 
 use crate::no_memory::NoMemory;
 use std::alloc::Global;
@@ -16,7 +16,7 @@ pub struct Bits {
 
 impl Model for Bits {
     ghost use Rattle.std.specs.Prelude.{◌≤◌, ◌*◌, Bool, List, length, take};
-    ghost use Rattle.x25_bits.specs.Fcs.{bits_of};
+    ghost use Rattle.x25_bits.specs.FrameCheck.{bits_of};
 
     ghost Value = { List Bool };
 

@@ -1,8 +1,8 @@
 //! Whole octets of a content, one after another, up to one in which a flag ends or a seventh 1 bit comes.
 ghost use Rattle.std.specs.Prelude.{◌≡◌, ◌+◌, ◌-◌, ◌*◌, ◌<◌, ◌≤◌, ◌++◌, [], true, false, length, take, IfOk};
-ghost use Rattle.x25_bits.specs.Fcs.{bits_of};
+ghost use Rattle.x25_bits.specs.FrameCheck.{bits_of};
 ghost use Rattle.x25_bits.specs.Passing.{PassesOn, kept_from};
-ghost use Rattle.x25_bits.specs.Prefix.{IsPrefix};
+ghost use Rattle.x25_bits.specs.code.Prefix.{IsPrefix};
 ghost use Rattle.x25_bits.specs.code.Fits.{has_buffer};
 ghost use Rattle.x25_bits.specs.code.FitsSeen.{FitsSeen};
 ghost use Rattle.x25_bits.specs.code.Held.{Seen, seen_from, found_from};

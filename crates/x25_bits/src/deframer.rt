@@ -1,9 +1,9 @@
 //! The spans between flags, found in bits that come in any cut, ITU-T X.25 (10/96), section 2.2.
 ghost use Rattle.std.specs.Prelude.{ℕ, ◌≡◌, ◌<◌, ◌≤◌, ◌++◌, ◌∷◌, [], Bool, List, length, take, drop, unwrap_or, IfOk, OnOk, OnErr, true, false, if◌then◌else◌};
-ghost use Rattle.x25_bits.specs.Prefix.{IsPrefix};
-ghost use Rattle.x25_bits.specs.Fcs.{bits_of, low_bits};
+ghost use Rattle.x25_bits.specs.code.Prefix.{IsPrefix};
+ghost use Rattle.x25_bits.specs.FrameCheck.{bits_of, low_bits};
 ghost use Rattle.x25_bits.specs.laws.Cuts.{found_more};
-ghost use Rattle.x25_bits.specs.SpanClass.{found_of};
+ghost use Rattle.x25_bits.specs.Found.{found_of};
 ghost use Rattle.x25_bits.specs.code.Held.{Held, Seen, seen_next, seen_found, seen_from, found_from, ends, closing, keeps, kept_next, kept_found};
 ghost use Rattle.x25_bits.specs.code.Keeping.{with_bits};
 ghost use Rattle.x25_bits.specs.code.Plain.{plains, listed_span};

@@ -2,9 +2,9 @@
 ghost use Rattle.std.specs.Prelude.{◌≡◌, ◌+◌, ◌*◌, ◌/◌, ◌%◌, ◌^◌, ◌<◌, ◌≤◌, ◌++◌, ◌↔◌, false, length, replicate, take, drop, IsTrue, IsOk, OnOk, OnErr, vec_len, vec_capacity};
 ghost use Rattle.std.specs.Vec.{VecUnchanged};
 ghost use Rattle.byteorder.specs.Endian.{little_number};
-ghost use Rattle.x25_bits.specs.Fcs.{bits_of, fcs_of, low_bits};
-ghost use Rattle.x25_bits.specs.Register.{fed, words_leave};
-ghost use Rattle.x25_bits.specs.Sealed.{seal_of, is_sealed, IsSealed};
+ghost use Rattle.x25_bits.specs.FrameCheck.{bits_of, fcs_of, low_bits};
+ghost use Rattle.x25_bits.specs.code.Register.{fed, words_leave};
+ghost use Rattle.x25_bits.specs.FrameCheck.Sealed.{seal_of, is_sealed, IsSealed};
 
 use crate::no_memory::NoMemory;
 use byteorder::{ByteOrder, LittleEndian};

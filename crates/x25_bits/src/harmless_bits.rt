@@ -1,9 +1,9 @@
 //! Bits in the place of those between the flags of a frame, and what comes of them (profile).
 ghost use Rattle.std.specs.Prelude.{◌≡◌, ◌↔◌, IsTrue, IfOk, not};
 ghost use Rattle.std.specs.List.{list_all};
-ghost use Rattle.x25_bits.specs.Harmless.{between_flags, IsHarmless, is_sealed_content, first_content};
+ghost use Rattle.x25_bits.specs.HarmlessBits.{between_flags, IsHarmless, is_sealed_content, first_content};
 ghost use Rattle.x25_bits.specs.code.Plain.{plain, plains};
-ghost use Rattle.x25_bits.specs.SpanClass.{found_of};
+ghost use Rattle.x25_bits.specs.Found.{found_of};
 
 use crate::bits::Bits;
 use crate::deframer::Deframer;
@@ -32,7 +32,7 @@ pub fn first_content(bits: &Bits) -> Result<Vec<u8>, NoMemory>
 }
 
 /// The octets of the first content of these.
-#[tactic(auto, unfolding(crate::specs::Harmless::first_content))]
+#[tactic(auto, unfolding(crate::specs::HarmlessBits::first_content))]
 fn content_in(alloc: Global, all: Vec<Found>) -> Vec<u8>
     ensures { result.items ≡ first_content (plains all.items) }
 {

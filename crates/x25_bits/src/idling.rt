@@ -1,6 +1,6 @@
 //! An idle line: octets that leave all as it is, one after another.
 ghost use Rattle.std.specs.Prelude.{◌≡◌, ◌-◌, ◌*◌, ◌≤◌, true, false, [], min, length, IfSome, OnSome};
-ghost use Rattle.x25_bits.specs.Fcs.{bits_of, low_bits};
+ghost use Rattle.x25_bits.specs.FrameCheck.{bits_of, low_bits};
 ghost use Rattle.x25_bits.specs.code.FitsSeen.{FitsSeen};
 ghost use Rattle.x25_bits.specs.code.Held.{Seen, seen_from, found_from};
 ghost use Rattle.x25_bits.specs.code.Reading.{part};

@@ -1,8 +1,8 @@
 //! The bits that are kept between flags, in memory that grows or that was set aside for all of them.
 ghost use Rattle.std.specs.Prelude.{ℕ, ◌≡◌, ◌+◌, ◌-◌, ◌*◌, ◌<◌, ◌≤◌, ◌++◌, ◌∷◌, [], Bool, true, false, length, take, IfOk, OnOk, OnErr, slice_index_or};
-ghost use Rattle.x25_bits.specs.Fcs.{bits_of, low_bits};
+ghost use Rattle.x25_bits.specs.FrameCheck.{bits_of, low_bits};
 ghost use Rattle.x25_bits.specs.Passing.{PassesOn, kept_from};
-ghost use Rattle.x25_bits.specs.SpanClass.{octets_of};
+ghost use Rattle.x25_bits.specs.Found.{octets_of};
 ghost use Rattle.x25_bits.specs.code.Keeping.{Keeping, with_bits};
 ghost use Rattle.x25_bits.specs.code.Reading.{part};
 
@@ -27,7 +27,7 @@ pub struct Kept {
 
 impl Model for Kept {
     ghost use Rattle.std.specs.Prelude.{◌≡◌, ◌≤◌, ◌*◌, true, length, take};
-    ghost use Rattle.x25_bits.specs.Fcs.{bits_of};
+    ghost use Rattle.x25_bits.specs.FrameCheck.{bits_of};
     ghost use Rattle.x25_bits.specs.code.Keeping.{Keeping};
 
     ghost Value = { Keeping };

@@ -1,14 +1,14 @@
 //! Laws of flags, spans and stuffing, and of the frame check sequence. Each is the contract of a function that does nothing.
 ghost use Rattle.std.specs.Prelude.{ℕ, ◌≡◌, ◌<◌, ◌≤◌, ◌↔◌, ◌++◌, ◌∷◌, [], All, Bool, true, false, List, length, drop};
 ghost use Rattle.std.specs.List.{flat_map};
-ghost use Rattle.x25_bits.specs.Prefix.{IsPrefix};
+ghost use Rattle.x25_bits.specs.code.Prefix.{IsPrefix};
 ghost use Rattle.x25_bits.specs.code.Calls.{Call, ReadToEnd, after_calls};
 ghost use Rattle.x25_bits.specs.laws.Cuts.{found_by_cuts, found_more};
-ghost use Rattle.x25_bits.specs.Fcs.{bits_of};
-ghost use Rattle.x25_bits.specs.Harmless.{between_flags, IsHarmless, IsFrame, sealed_contents, first_content};
-ghost use Rattle.x25_bits.specs.Sealed.{IsSealed, is_sealed};
-ghost use Rattle.x25_bits.specs.SpanClass.{Content, class_of, found_of};
-ghost use Rattle.x25_bits.specs.Spans.{flag, spans_of};
+ghost use Rattle.x25_bits.specs.FrameCheck.{bits_of};
+ghost use Rattle.x25_bits.specs.HarmlessBits.{between_flags, IsHarmless, IsFrame, sealed_contents, first_content};
+ghost use Rattle.x25_bits.specs.FrameCheck.Sealed.{IsSealed, is_sealed};
+ghost use Rattle.x25_bits.specs.Found.{Content, class_of, found_of};
+ghost use Rattle.x25_bits.specs.Deframer.{flag, spans_of};
 ghost use Rattle.x25_bits.specs.Stuffing.{framed, stuff, unstuff};
 
 /// What is found in the bits so far stays found, and any cuts together find what their bits do as a whole.

@@ -2,13 +2,13 @@
 ghost use Rattle.std.specs.Prelude.{ℕ, ◌≡◌, ◌*◌, ◌^◌, ◌<◌, ◌≤◌, ◌++◌, ◌∷◌, [], Bool, List, length, take, true, false, IfNone, if◌then◌else◌};
 ghost use Rattle.std.specs.Borrow.{sem};
 ghost use Rattle.x25_bits.specs.laws.Cuts.{found_more};
-ghost use Rattle.x25_bits.specs.Fcs.{bits_of};
+ghost use Rattle.x25_bits.specs.FrameCheck.{bits_of};
 ghost use Rattle.x25_bits.specs.code.Fits.{Fits, has_buffer};
 ghost use Rattle.x25_bits.specs.code.FitsSeen.{FitsSeen};
 ghost use Rattle.x25_bits.specs.code.Held.{Seen, seen_next, seen_found, ends, closing, kept_next};
 ghost use Rattle.x25_bits.specs.code.Plain.{listed_span};
 ghost use Rattle.x25_bits.specs.code.Reading.{part, Lends, EndsRead};
-ghost use Rattle.x25_bits.specs.SpanClass.{Class};
+ghost use Rattle.x25_bits.specs.Found.{Class};
 
 use crate::bits::{Bits, read_bit};
 use crate::deframer::{Deframer, HELD, span_of};

@@ -1,9 +1,9 @@
 //! Frames put as octets of a synchronous line, each octet lowest bit first. Profile.
 ghost use Rattle.std.specs.Prelude.{ℕ, ◌≡◌, ◌≤◌, ◌++◌, ◌∷◌, [], Bool, true, List, length, IfOk, OnOk, OnErr};
-ghost use Rattle.x25_bits.specs.Prefix.{IsPrefix};
-ghost use Rattle.x25_bits.specs.Fcs.{bits_of};
-ghost use Rattle.x25_bits.specs.SpanClass.{Content, found_of, octets_of};
-ghost use Rattle.x25_bits.specs.Spans.{flag};
+ghost use Rattle.x25_bits.specs.code.Prefix.{IsPrefix};
+ghost use Rattle.x25_bits.specs.FrameCheck.{bits_of};
+ghost use Rattle.x25_bits.specs.Found.{Content, found_of, octets_of};
+ghost use Rattle.x25_bits.specs.Deframer.{flag};
 ghost use Rattle.x25_bits.specs.Stuffing.{framed, filled};
 
 use crate::bits::Bits;

@@ -1,7 +1,7 @@
 //! Bits in which no flag ends and no seventh 1 bit comes: what an octet's leave is looked up.
 ghost use Rattle.std.specs.Prelude.{Bool, ◌≡◌, ◌<◌, ◌≤◌, ◌^◌, ◌++◌, ◌+◌, ◌*◌, ◌/◌, ◌==◌, if◌then◌else◌, true, length, IfSome, OnOk};
-ghost use Rattle.x25_bits.specs.Prefix.{IsPrefix};
-ghost use Rattle.x25_bits.specs.Fcs.{low_bits};
+ghost use Rattle.x25_bits.specs.code.Prefix.{IsPrefix};
+ghost use Rattle.x25_bits.specs.FrameCheck.{low_bits};
 ghost use Rattle.x25_bits.specs.code.Fits.{has_buffer};
 ghost use Rattle.x25_bits.specs.Passing.{Passes};
 

@@ -1,6 +1,6 @@
 //! Some bits of one octet of which nothing is kept: a flag but its last 0 outside of a content, and seven 1 bits behind a flag.
 ghost use Rattle.std.specs.Prelude.{◌≡◌, ◌+◌, ◌*◌, ◌%◌, ◌/◌, ◌<◌, ◌≤◌, [], true, false, length, IfSome};
-ghost use Rattle.x25_bits.specs.Fcs.{bits_of};
+ghost use Rattle.x25_bits.specs.FrameCheck.{bits_of};
 ghost use Rattle.x25_bits.specs.code.Fits.{has_buffer};
 ghost use Rattle.x25_bits.specs.code.FitsSeen.{FitsSeen};
 ghost use Rattle.x25_bits.specs.code.Held.{Seen, seen_from, found_from};

@@ -1,6 +1,6 @@
 //! Some bits of one octet that are taken at once: from behind a flag to the octet's end, or up to a flag's last 0.
 ghost use Rattle.std.specs.Prelude.{◌≡◌, ◌+◌, ◌-◌, ◌*◌, ◌%◌, ◌/◌, ◌^◌, ◌<◌, ◌≤◌, true, false, length, IfSome, OnSome};
-ghost use Rattle.x25_bits.specs.Fcs.{bits_of};
+ghost use Rattle.x25_bits.specs.FrameCheck.{bits_of};
 ghost use Rattle.x25_bits.specs.Passing.{Passes};
 ghost use Rattle.x25_bits.specs.code.Reading.{part};
 

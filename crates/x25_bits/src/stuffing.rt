@@ -1,8 +1,8 @@
 //! Octets between flags, with a 0 inserted behind each five 1 bits, ITU-T X.25 (10/96), sections 2.2.2 and 2.2.6.
 ghost use Rattle.std.specs.Prelude.{ℕ, ◌≡◌, ◌<◌, ◌≤◌, ◌++◌, ◌∷◌, [], Bool, List, length, IfOk, OnOk, OnErr, slice_index};
-ghost use Rattle.x25_bits.specs.Prefix.{IsPrefix};
-ghost use Rattle.x25_bits.specs.Fcs.{bits_of, low_bits};
-ghost use Rattle.x25_bits.specs.Spans.{flag};
+ghost use Rattle.x25_bits.specs.code.Prefix.{IsPrefix};
+ghost use Rattle.x25_bits.specs.FrameCheck.{bits_of, low_bits};
+ghost use Rattle.x25_bits.specs.Deframer.{flag};
 ghost use Rattle.x25_bits.specs.Stuffing.{stuffed_from, framed};
 
 use crate::bits::Bits;

@@ -4,9 +4,9 @@ use Rattle.x25_packet.specs.declared.packet.Packet.{Packet}
 use Rattle.x25_circuit.specs.declared.circuit.Circuit as code
 use Rattle.x25_circuit.specs.declared.error.CircuitError.{CircuitError}
 use Rattle.x25_circuit.specs.Circuit.{Settings}
-use Rattle.x25_circuit.specs.Calls.{Outcome, Done, Refused}
+use Rattle.x25_circuit.specs.Calling.{Outcome, Done, Refused}
 use Rattle.x25_circuit.specs.code.FitsCircuit.{Sends}
-use Rattle.x25_circuit.specs.Requests.{AnswersRequest, with_packet}
+use Rattle.x25_circuit.specs.Request.{AnswersRequest, with_packet}
 
 -- a call with a packet to send is one that may have a packet
 pub asked : (c : Settings) (v : code.Circuit) (r : Result Packet CircuitError) (o : Outcome) → Sends c v r o → AnswersRequest c v (with_packet r) o

@@ -1,6 +1,6 @@
 -- The next data packet of a circuit.
 use Rattle.std.proofs.Common.{arith, ◌≡◌, ◌≢◌, ℕ, ◌+◌, ◌%◌, Bool, true, false, ◌&&◌, nat_lt, List, [], ◌∷◌, length, Option, Some, None, IfSome, IfNone, inl, inr, refl, sym, ap, subst, ◌∙◌}
-use Rattle.x25_packet.specs.PlainPacket.{user_data}
+use Rattle.x25_packet.specs.Packet.{user_data}
 use Rattle.x25_circuit.specs.declared.circuit.Circuit as code
 use Rattle.x25_circuit.specs.declared.state.State.{State}
 use Rattle.x25_circuit.specs.declared.state.State.TheVariants.{Free, Calling, Arriving, Collision, Open, Resetting, Clearing}
@@ -8,11 +8,11 @@ use Rattle.x25_circuit.specs.declared.terms.Terms.{Terms}
 use Rattle.x25_circuit.specs.declared.transfer.Transfer.{Transfer}
 use Rattle.x25_circuit.specs.declared.transfer.Header.{Header}
 use Rattle.x25_circuit.specs.declared.message.Message.{Message}
-use Rattle.x25_circuit.specs.Messages.{Piece, piece_of, cut_all}
+use Rattle.x25_circuit.specs.Message.{Piece, piece_of, cut_all}
 use Rattle.x25_circuit.specs.Queue.{waiting}
 use Rattle.x25_circuit.specs.Circuit.{Settings, Circuit, outgoing}
 use Rattle.x25_circuit.specs.code.Changes.{with_sent}
-use Rattle.x25_circuit.specs.Calls.{Pulled, pulled, pull_in, pull_open, pulls_nothing, data_packet}
+use Rattle.x25_circuit.specs.Calling.{Pulled, pulled, pull_in, pull_open, pulls_nothing, data_packet}
 use Rattle.x25_circuit.specs.code.Fits.{FitsTalk, IsHeld, IsSent}
 use Rattle.x25_circuit.specs.code.FitsCircuit.{FitsCircuit}
 use Rattle.x25_circuit.specs.Pulling.{packet_with}

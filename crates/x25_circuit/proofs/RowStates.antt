@@ -1,14 +1,14 @@
 -- Settings and states of the rows that were made by running another implementation.
 use Rattle.std.proofs.Common.{ℕ, zero, suc, List, [], ◌∷◌, Option, Bool, true, false}
 use Rattle.x25_bits.specs.declared.role.Role.TheVariants.{Dte, Dce}
-use Rattle.x25_packet.specs.PlainPacket.{PlainPacket}
+use Rattle.x25_packet.specs.Packet.{PlainPacket}
 use Rattle.x25_circuit.specs.declared.state.State.{State}
 use Rattle.x25_circuit.specs.declared.state.State.TheVariants.{Calling, Collision, Open}
 use Rattle.x25_circuit.specs.Params.{default_params}
-use Rattle.x25_circuit.specs.Messages.{Piece}
+use Rattle.x25_circuit.specs.Message.{Piece}
 use Rattle.x25_circuit.specs.Circuit.{Settings, Talk, silent, Circuit}
-use Rattle.x25_circuit.specs.Notices.{PlainNotice}
-use Rattle.x25_circuit.specs.Table.{Answer}
+use Rattle.x25_circuit.specs.Notice.{PlainNotice}
+use Rattle.x25_circuit.specs.Hearing.{Answer}
 
 abbrev pub dte : Settings
 dte = record { role = Dte; long_data = false }

@@ -4,19 +4,19 @@ use Rattle.std.proofs.lemmas.Bool.{le-leb, lt-ltb}
 use Rattle.x25_bits.specs.declared.role.Role.{Role}
 use Rattle.x25_bits.specs.declared.role.Role.TheVariants.{Dte, Dce}
 use Rattle.x25_packet.specs.declared.error.PacketError.{PacketError}
-use Rattle.x25_packet.specs.PacketError.{diagnostic_of}
-use Rattle.x25_packet.specs.PlainPacket.{PlainPacket, accept, clear, clear_conf}
+use Rattle.x25_packet.specs.Error.{diagnostic_of}
+use Rattle.x25_packet.specs.Packet.{PlainPacket, accept, clear, clear_conf}
 use Rattle.x25_circuit.specs.declared.state.State.{State}
 use Rattle.x25_circuit.specs.declared.state.State.TheVariants.{Free, Calling, Arriving, Collision, Open, Resetting, Clearing}
 use Rattle.x25_circuit.specs.declared.params.Params.{Params}
 use Rattle.x25_circuit.specs.Params.{default_params, may_answer, field_for, said_in}
 use Rattle.x25_circuit.specs.Circuit.{Settings, Circuit, outgoing, waits}
 use Rattle.x25_circuit.specs.code.Changes.{with_rest}
-use Rattle.x25_circuit.specs.Messages.{cut}
+use Rattle.x25_circuit.specs.Message.{cut}
 use Rattle.x25_circuit.specs.declared.error.CircuitError.TheVariants as error
-use Rattle.x25_circuit.specs.Notices.{CallRequest, cleared, collided, connected, incoming}
-use Rattle.x25_circuit.specs.Calls.{Refused, keeps_on, does, call_in, accept_in, accept_with, clear_in, ready_in, ready_open, send_in, send_open}
-use Rattle.x25_circuit.specs.Table.{goes, collides, connects, clears_for, clears_to, unexpected, cause_of, row_call, row_accept, row_clear, row_clear_conf, row_reset, row_reset_conf, row_data, row_undecoded}
+use Rattle.x25_circuit.specs.Notice.{CallRequest, cleared, collided, connected, incoming}
+use Rattle.x25_circuit.specs.Calling.{Refused, keeps_on, does, call_in, accept_in, accept_with, clear_in, ready_in, ready_open, send_in, send_open}
+use Rattle.x25_circuit.specs.Hearing.{goes, collides, connects, clears_for, clears_to, unexpected, cause_of, row_call, row_accept, row_clear, row_clear_conf, row_reset, row_reset_conf, row_data, row_undecoded}
 
 pub collides_at_dte : (r : Role) (x : Circuit) (request : CallRequest) → r ≡ Dte → collides r x request ≡ goes x Collision x.params true None []
 collides_at_dte r x request e = ap (λ (s : Role). collides s x request) e

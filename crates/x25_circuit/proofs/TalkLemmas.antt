@@ -1,15 +1,15 @@
 -- What a circuit's variables stand for after a small change.
 use Rattle.std.proofs.Common.{◌≡◌, ℕ, ◌+◌, ◌≤◌, Bool, true, false, IsTrue, if◌then◌else◌, List, [], length, refl, sym, ap, subst, ◌∙◌, ◌==◌, ◌%◌, nat_le, Option, Some, None}
-use Rattle.x25_window.specs.Modulo.{resolved}
-use Rattle.x25_window.specs.Receiving.{FitsTaken}
+use Rattle.x25_window.specs.code.Modulo.{resolved}
+use Rattle.x25_window.specs.Receiver.{FitsTaken}
 use Rattle.x25_window.specs.declared.receiver.Receiver.{Receiver}
 use Rattle.x25_packet.specs.Facilities.{IsFacilityField}
 use Rattle.x25_circuit.specs.declared.circuit.Circuit as code
 use Rattle.x25_circuit.specs.declared.transfer.Transfer.{Transfer}
-use Rattle.x25_circuit.specs.Messages.{Piece, piece_of, piece_ground, ground_of, Partial, no_part, joining, wholes}
+use Rattle.x25_circuit.specs.Message.{Piece, piece_of, piece_ground, ground_of, Partial, no_part, joining, wholes}
 use Rattle.x25_circuit.specs.code.PartialMessage.{ShownPartial}
 use Rattle.x25_circuit.specs.Queue.{waiting}
-use Rattle.x25_circuit.specs.Table.{data_ground, number_ground}
+use Rattle.x25_circuit.specs.Hearing.{data_ground, number_ground}
 use Rattle.x25_circuit.proofs.MessageLemmas.{wholes_all}
 use Rattle.x25_circuit.specs.Circuit.{Settings, Talk, Circuit, outgoing}
 use Rattle.x25_circuit.specs.code.Changes.{with_interrupt, with_peer, with_own}

@@ -5,7 +5,7 @@ use Rattle.x25_circuit.specs.declared.state.State.{State}
 use Rattle.x25_circuit.specs.declared.state.State.TheVariants.{Free, Open}
 use Rattle.x25_circuit.specs.declared.params.Params.{Params}
 use Rattle.x25_circuit.specs.Params.{Terms, default_params, called_terms, calling_terms}
-use Rattle.x25_circuit.specs.Messages.{Piece, wholes}
+use Rattle.x25_circuit.specs.Message.{Piece, wholes}
 
 -- which end this is, and whether the user data of a CALL may be long (profile)
 pub record Settings : Type 0 where

@@ -2,12 +2,12 @@
 use Rattle.std.specs.Prelude.{ℕ, ◌≤◌, ⊤, List, Option, Some, None}
 use Rattle.std.specs.Borrow.{Fml, MutBor, follows_so}
 use mathlib.Core.Option.{none}
-use Rattle.x25_packet.specs.PlainPacket.{PlainPacket, user_data}
+use Rattle.x25_packet.specs.Packet.{PlainPacket, user_data}
 use Rattle.x25_circuit.specs.declared.circuit.Circuit as code
 use Rattle.x25_circuit.specs.declared.transfer.Header.{Header}
 use Rattle.x25_circuit.specs.contracts.circuit.Circuit.{the_row}
 use Rattle.x25_circuit.specs.Circuit.{Settings, Circuit}
-use Rattle.x25_circuit.specs.Calls.{pulled}
+use Rattle.x25_circuit.specs.Calling.{pulled}
 use Rattle.x25_circuit.specs.code.FitsCircuit.{FitsCircuit, room_of}
 
 -- what the header says, with this user data

@@ -7,3 +7,4 @@ pub mod FitsNumbers
 pub mod Fits
 pub mod Replies
 pub mod FitsCircuit
+pub mod DataPacket

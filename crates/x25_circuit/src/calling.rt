@@ -1,15 +1,15 @@
 //! The user's calls that set up and clear. ITU-T X.25 (10/96), sections 4.1.2, 4.1.4 and 4.1.7.
 ghost use Rattle.std.specs.Prelude.{◌≡◌, ◌≤◌, OnErr, IfSome, IfNone, Some, None, true, false, IfOk, IfErr, length, unwrap_or};
 ghost use Rattle.std.specs.Result.{result_err};
-ghost use Rattle.x25_packet.specs.PlainPacket.{plain};
+ghost use Rattle.x25_packet.specs.Packet.{plain};
 ghost use Rattle.x25_packet.specs.Spelling.{IsInRange};
 ghost use Rattle.x25_packet.specs.Digits.{IsAddress, digits_of_text};
 ghost use Rattle.x25_circuit.specs.declared.state.State.{State};
 ghost use Rattle.x25_circuit.specs.Circuit.{Settings};
 ghost use Rattle.x25_circuit.specs.Circuit.{Circuit as Channel};
 ghost use Rattle.x25_circuit.specs.Params.{default_params, field_for, may_answer};
-ghost use Rattle.x25_circuit.specs.Calls.{outcome, Refused, Calls, Accepts, Clears, may_call, call_in, accept_in, is_address_text};
-ghost use Rattle.x25_circuit.specs.Requests.{plain_answer, refusal_of};
+ghost use Rattle.x25_circuit.specs.Calling.{outcome, Refused, Calls, Accepts, Clears, may_call, call_in, accept_in, is_address_text};
+ghost use Rattle.x25_circuit.specs.Request.{plain_answer, refusal_of};
 ghost use Rattle.x25_circuit.specs.code.FitsCircuit.{FitsCircuit, Sends, room_of};
 
 use crate::circuit::Circuit;

@@ -3,8 +3,8 @@
 ghost use Rattle.std.specs.Prelude.{◌≡◌, ◌≢◌, ℕ, suc, ◌^◌, ◌-◌, ◌<◌, ◌≤◌, None, Some, [], ◌∷◌};
 ghost use Rattle.x25_circuit.specs.Circuit.{Settings};
 ghost use Rattle.x25_circuit.specs.Circuit.{Circuit as Channel};
-ghost use Rattle.x25_circuit.specs.Notices.{reset_done};
-ghost use Rattle.x25_circuit.specs.Table.{cause_at, diagnostic_in, clears_for, resets_for, unexpected, clears_to, resets_to, row_clear, row_clear_conf, row_reset, row_reset_conf, row_undecoded, undecoded, cause_of};
+ghost use Rattle.x25_circuit.specs.Notice.{reset_done};
+ghost use Rattle.x25_circuit.specs.Hearing.{cause_at, diagnostic_in, clears_for, resets_for, unexpected, clears_to, resets_to, row_clear, row_clear_conf, row_reset, row_reset_conf, row_undecoded, undecoded, cause_of};
 ghost use Rattle.x25_circuit.specs.code.FitsCircuit.{FitsCircuit, room_of, clears_of, resets_of};
 ghost use Rattle.x25_circuit.specs.code.Replies.{Says, IsSendable, plain_owed};
 

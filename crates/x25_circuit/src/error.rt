@@ -1,5 +1,5 @@
 ghost use Rattle.std.specs.Prelude.{◌≡◌};
-ghost use Rattle.x25_circuit.specs.CircuitError.{number_of};
+ghost use Rattle.x25_circuit.specs.Error.{number_of};
 ghost use Rattle.x25_circuit.specs.declared.error.CircuitError.TheVariants as error;
 
 use std::alloc::AllocError;

@@ -1,13 +1,13 @@
 //! Packets that come. ITU-T X.25 (10/96), sections 4.3.7 and 4.4.1, and Annex C.
 ghost use Rattle.std.specs.Prelude.{min, ◌≡◌, ℕ, ◌+◌, ◌-◌, ◌^◌, ◌<◌, ◌≤◌, length, [], ◌∷◌, Some, None, true, false, option_to_list, OnOk, OnErr, IfOk, IfErr, IfNone, IsOk};
-ghost use Rattle.x25_packet.specs.PlainPacket.{plain, user_data};
+ghost use Rattle.x25_packet.specs.Packet.{plain, user_data};
 ghost use Rattle.x25_packet.specs.Spelling.{HasChannel, IsInRange};
 ghost use Rattle.x25_circuit.specs.Circuit.{Settings};
 ghost use Rattle.x25_circuit.specs.Circuit.{Circuit as Channel};
-ghost use Rattle.x25_circuit.specs.Messages.{piece_of};
-ghost use Rattle.x25_circuit.specs.Notices.{deliveries};
+ghost use Rattle.x25_circuit.specs.Message.{piece_of};
+ghost use Rattle.x25_circuit.specs.Notice.{deliveries};
 ghost use Rattle.x25_circuit.specs.code.Fits.{first_ground};
-ghost use Rattle.x25_circuit.specs.Table.{resets_for, unless, number_ground, hears_status, confirms, takes, status, row_open, row_data, answers};
+ghost use Rattle.x25_circuit.specs.Hearing.{resets_for, unless, number_ground, hears_status, confirms, takes, status, row_open, row_data, answers};
 ghost use Rattle.x25_circuit.specs.code.FitsCircuit.{FitsCircuit, room_of, user_octets, clears_of, resets_of};
 ghost use Rattle.x25_circuit.specs.code.Replies.{Says, IsSendable, packet_owed, plain_owed, plain_notices};
 

@@ -54,7 +54,7 @@ fn with_places(alloc: Global, octets: &[u8], more: usize) -> Result<Vec<u8>, All
 }
 
 impl PartialMessage {
-    ghost use Rattle.x25_circuit.specs.Messages.{no_part, ground_of, joined, completed, piece_of};
+    ghost use Rattle.x25_circuit.specs.Message.{no_part, ground_of, joined, completed, piece_of};
 
     /// No message has begun. No memory is taken.
     pub fn new(alloc: Global) -> PartialMessage

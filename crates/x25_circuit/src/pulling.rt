@@ -1,11 +1,11 @@
 //! The data packets that are sent. ITU-T X.25 (10/96), sections 4.3.4 and 4.4.1.
 ghost use Rattle.std.specs.Prelude.{◌≡◌, ◌≤◌, length, IfSome};
 ghost use Rattle.std.specs.Borrow.{sem};
-ghost use Rattle.x25_packet.specs.PlainPacket.{plain};
+ghost use Rattle.x25_packet.specs.Packet.{plain};
 ghost use Rattle.x25_circuit.specs.Circuit.{Settings};
 ghost use Rattle.x25_circuit.specs.Circuit.{Circuit as Channel};
-ghost use Rattle.x25_circuit.specs.Calls.{pulled};
-ghost use Rattle.x25_circuit.specs.DataPacket.{plain_data, plain_pulled};
+ghost use Rattle.x25_circuit.specs.Calling.{pulled};
+ghost use Rattle.x25_circuit.specs.code.DataPacket.{plain_data, plain_pulled};
 ghost use Rattle.x25_circuit.specs.code.Replies.{IsSendable};
 ghost use Rattle.x25_circuit.specs.code.FitsCircuit.{FitsCircuit, room_of};
 ghost use Rattle.x25_circuit.specs.Pulling.{packet_with, EndsPulled};

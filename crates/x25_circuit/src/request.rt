@@ -1,13 +1,13 @@
 //! What the user of a circuit asks for, as one type.
 ghost use Rattle.std.specs.Prelude.{◌≡◌, ◌≢◌, ◌≤◌, ◌<◌, Bool, false, OnErr, IfOk, IfSome, IfNone, Some, None, length};
-ghost use Rattle.x25_packet.specs.PlainPacket.{plain};
+ghost use Rattle.x25_packet.specs.Packet.{plain};
 ghost use Rattle.x25_packet.specs.Spelling.{IsInRange};
 ghost use Rattle.x25_circuit.specs.Circuit.{Settings};
 ghost use Rattle.x25_circuit.specs.Circuit.{Circuit as Channel};
-ghost use Rattle.x25_circuit.specs.Calls.{outcome, Refused, Accepts, clear_in, send_in, interrupt_in, reset_in, ready_in};
+ghost use Rattle.x25_circuit.specs.Calling.{outcome, Refused, Accepts, clear_in, send_in, interrupt_in, reset_in, ready_in};
 ghost use Rattle.x25_circuit.specs.code.FitsCircuit.{FitsCircuit, Sends, room_of};
 ghost use Rattle.x25_circuit.specs.Queue.{waiting};
-ghost use Rattle.x25_circuit.specs.Requests.{plain_answer, plain_request, refusal_of, with_packet, AnswersRequest, MayPut};
+ghost use Rattle.x25_circuit.specs.Request.{plain_answer, plain_request, refusal_of, with_packet, AnswersRequest, MayPut};
 ghost use Rattle.x25_circuit.specs.code.Replies.{IsSendable, plain_sent};
 
 use crate::circuit::Circuit;

@@ -2,10 +2,10 @@
 ghost use Rattle.std.specs.Prelude.{◌≡◌, ◌≤◌};
 ghost use Rattle.x25_circuit.specs.Circuit.{Settings};
 ghost use Rattle.x25_circuit.specs.Circuit.{Circuit as Channel};
-ghost use Rattle.x25_circuit.specs.Notices.{incoming};
+ghost use Rattle.x25_circuit.specs.Notice.{incoming};
 ghost use Rattle.x25_circuit.specs.Params.{said_in};
 ghost use Rattle.x25_circuit.specs.code.Replies.{Says, IsSendable, plain_owed, plain_notice};
-ghost use Rattle.x25_circuit.specs.Table.{collides, connects, request_in, row_call, row_accept};
+ghost use Rattle.x25_circuit.specs.Hearing.{collides, connects, request_in, row_call, row_accept};
 ghost use Rattle.x25_circuit.specs.code.FitsCircuit.{FitsCircuit, room_of};
 
 use crate::circuit::Circuit;

@@ -1,10 +1,10 @@
 //! The user's calls in data transfer. ITU-T X.25 (10/96), sections 4.3 and 4.4.
 ghost use Rattle.std.specs.Prelude.{◌≡◌, ◌≤◌, OnErr, Bool, true, false, IfOk};
-ghost use Rattle.x25_packet.specs.PlainPacket.{plain};
+ghost use Rattle.x25_packet.specs.Packet.{plain};
 ghost use Rattle.x25_packet.specs.Spelling.{IsInRange};
 ghost use Rattle.x25_circuit.specs.Circuit.{Settings};
 ghost use Rattle.x25_circuit.specs.Circuit.{Circuit as Channel};
-ghost use Rattle.x25_circuit.specs.Calls.{outcome, Sends as CallSends, Interrupts, Resets, SaysReady, SaysNotReady, ready_in};
+ghost use Rattle.x25_circuit.specs.Calling.{outcome, Sends as CallSends, Interrupts, Resets, SaysReady, SaysNotReady, ready_in};
 ghost use Rattle.x25_circuit.specs.code.FitsCircuit.{FitsCircuit, Sends, Keeps, room_of};
 
 use crate::circuit::Circuit;

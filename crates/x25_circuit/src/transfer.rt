@@ -1,7 +1,7 @@
 ghost use Rattle.std.specs.Prelude.{◌≡◌, ℕ, ◌+◌, ◌%◌, ◌<◌, ◌≤◌, ◌==◌, nat_le, nat_lt, length, ◌∷◌, [], ◌++◌, true, false, IfOk, IfErr, OnOk, OnErr, OnSome, IfSome, IfNone, Bool, option_to_list, Some, None, if◌then◌else◌};
-ghost use Rattle.x25_window.specs.Modulo.{resolved};
+ghost use Rattle.x25_window.specs.code.Modulo.{resolved};
 ghost use Rattle.x25_circuit.specs.code.FitsNumbers.{FitsNumbers};
-ghost use Rattle.x25_circuit.specs.Messages.{piece_of, no_part, joining, completed, piece_ground, ground_of, cut};
+ghost use Rattle.x25_circuit.specs.Message.{piece_of, no_part, joining, completed, piece_ground, ground_of, cut};
 ghost use Rattle.x25_circuit.specs.Circuit.{Talk, silent};
 ghost use Rattle.x25_circuit.specs.Queue.{waiting};
 ghost use Rattle.x25_circuit.specs.code.Changes.{with_acked, with_taken, with_rest, with_interrupt, with_peer, with_own, with_sent};

@@ -1,6 +1,6 @@
 //! Circuits played by tables of events.
 ghost use Rattle.std.specs.Prelude.{◌≡◌, true};
-ghost use Rattle.x25_packet.specs.PlainPacket.{plain};
+ghost use Rattle.x25_packet.specs.Packet.{plain};
 ghost use Rattle.x25_packet.specs.Spelling.{HasChannel};
 
 use std::alloc::{AllocError, Global};

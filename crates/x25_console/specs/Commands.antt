@@ -1,10 +1,10 @@
 -- What a line of a script asks of a station (profile).
 use Rattle.std.specs.Prelude.{ℕ, List, [], unwrap_or}
 use Rattle.x25_circuit.specs.Params.{default_params}
-use Rattle.x25_circuit.specs.Calls.{Accepts, Clears, Sends, Interrupts, Resets, SaysReady, SaysNotReady}
+use Rattle.x25_circuit.specs.Calling.{Accepts, Clears, Sends, Interrupts, Resets, SaysReady, SaysNotReady}
 use Rattle.x25_layer.specs.Calls.{Asks, Dials, Restarts, PullsAll}
 use Rattle.x25_station.specs.Command.{Command, Requests, Connects, Disconnects}
-use Rattle.x25_script.specs.PlainLine.{PlainCommand, call, accept, clear, send, interrupt, reset, ready, not_ready, restart, pull, connect, disconnect}
+use Rattle.x25_script.specs.ScriptLine.{PlainCommand, call, accept, clear, send, interrupt, reset, ready, not_ready, restart, pull, connect, disconnect}
 
 -- A call without packet sizes and windows proposes the default, and an acceptance without them accepts what was proposed.
 abbrev pub command_asked : PlainCommand → Command

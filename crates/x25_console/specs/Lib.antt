@@ -1,2 +1,2 @@
 pub mod Commands
-pub mod Lines
+pub mod Telling

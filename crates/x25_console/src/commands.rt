@@ -1,6 +1,6 @@
 //! Commands of a script, as a station takes them.
 ghost use Rattle.std.specs.Prelude.{◌≡◌, OnOk, OnErr};
-ghost use Rattle.x25_script.specs.PlainLine.{plain_command};
+ghost use Rattle.x25_script.specs.ScriptLine.{plain_command};
 ghost use Rattle.x25_station.specs.Command.{command_of};
 ghost use Rattle.x25_console.specs.Commands.{command_asked, user_in};
 

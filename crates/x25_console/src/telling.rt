@@ -1,6 +1,6 @@
 //! Lines that tell of frames and of refusals.
 ghost use Rattle.std.specs.Prelude.{◌≡◌, ◌++◌, [], OnOk, OnErr};
-ghost use Rattle.x25_console.specs.Lines.{frame_line, nothing_line, refusal_line};
+ghost use Rattle.x25_console.specs.Telling.{frame_line, nothing_line, refusal_line};
 ghost use Rattle.x25_io.specs.code.MarksFaults.{MarksFaults};
 ghost use Rattle.x25_io.specs.code.Written.{TellsMore};
 
@@ -9,7 +9,7 @@ use x25_io::{Fault, Output, Sink};
 use x25_station::Role;
 use x25_transcript::Line;
 
-#[tactic(auto, unfolding(crate::specs::Lines::frame_line))]
+#[tactic(auto, unfolding(crate::specs::Telling::frame_line))]
 fn push_frame(from: Role, octets: &[u8], line: &mut Line) -> Result<(), AllocError>
     ensures { OnOk result (line.new ≡ line.old ++ frame_line from octets.now) }
 {
@@ -34,7 +34,7 @@ pub fn write_frame(from: Role, octets: &[u8], line: &mut Line) -> Result<(), All
     Ok(())
 }
 
-#[tactic(auto, unfolding(crate::specs::Lines::refusal_line))]
+#[tactic(auto, unfolding(crate::specs::Telling::refusal_line))]
 fn push_refusal(number: u8, line: &mut Line) -> Result<(), AllocError>
     ensures { OnOk result (line.new ≡ line.old ++ refusal_line number) }
 {

@@ -9,7 +9,7 @@ use Rattle.hex.specs.Hex.{◌>>=◌, decode_of, decode_pairs, digit_or_error, he
 use Rattle.hex.specs.declared.error.FromHexError.{FromHexError}
 use Rattle.hex.specs.declared.error.FromHexError.TheVariants.{OddLength}
 use Rattle.x25_bits.specs.declared.role.Role.{Role}
-use Rattle.x25_decode.specs.Decoded.{octets_in, sender_of, sent_in}
+use Rattle.x25_decode.specs.Decoding.{octets_in, sender_of, sent_in}
 use Rattle.x25_decode.specs.code.Front.{StandsInFront}
 use Rattle.x25_io.specs.Lines.{IsOpen}
 

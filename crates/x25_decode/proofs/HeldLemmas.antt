@@ -4,7 +4,7 @@ use Rattle.std.specs.Prelude.{is_some}
 use Rattle.std.proofs.lemmas.Bool.Decides.{nat_tests}
 use Rattle.x25_bits.specs.declared.role.Role.{Role}
 use Rattle.x25_io.specs.HeldLine.{most_line}
-use Rattle.x25_decode.specs.Decoded.{answer_to, is_refused, sent_in, sent_text, octets_in, sender_of}
+use Rattle.x25_decode.specs.Decoding.{answer_to, is_refused, sent_in, sent_text, octets_in, sender_of}
 
 no_octets : (space : Bool) (from : Option Role)
     → (if space then option_and_then {U = Role × List ℕ} (λ from. option_map (λ octets. (from, octets)) None) from else None) ≡ None

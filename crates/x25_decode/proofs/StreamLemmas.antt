@@ -12,7 +12,7 @@ use Rattle.x25_io.specs.Lines.{IsOpen, lines_of}
 use Rattle.x25_io.specs.code.Written.{AppendsPrefix, Tells}
 use Rattle.x25_io.proofs.LineLemmas.{ends_line, open-append}
 use Rattle.x25_io.proofs.ToldLemmas.{none_told, prefix_more}
-use Rattle.x25_decode.specs.Decoded.{answer_to, is_refused, output_of, has_refused}
+use Rattle.x25_decode.specs.Decoding.{answer_to, is_refused, output_of, has_refused}
 use Rattle.x25_decode.specs.code.Stream.{Leads, WritesEnded}
 
 nil_output : (long_data : Bool) → output_of long_data [] ≡ []

@@ -6,7 +6,7 @@ use Rattle.std.specs.List.{flat_map, list_all}
 use Rattle.std.proofs.Math.Seq.{drop-cons}
 use Rattle.std.proofs.Math.Bool.{and_assoc}
 use Rattle.std.proofs.KnownBytes.{Appends-nil, Appends-trans}
-use Rattle.x25_decode.specs.Vectors.{is_right, shown, verdict, verdict_of}
+use Rattle.x25_decode.specs.TestVectors.{is_right, shown, verdict, verdict_of}
 use Rattle.x25_io.specs.code.Written.{AppendsPrefix}
 use Rattle.x25_decode.specs.declared.test_vectors.Vector.{Vector}
 

@@ -1,3 +1,3 @@
-pub mod Decoded
-pub mod Vectors
+pub mod Decoding
+pub mod TestVectors
 pub mod code

@@ -1,7 +1,7 @@
 //! What answers a line.
 ghost use Rattle.std.specs.Prelude.{◌≡◌, ◌+◌, ◌*◌, ◌≤◌, ◌++◌, ◌∷◌, Some, None, false, codes, length, take, IfSome, MatchOption};
 ghost use Rattle.x25_frame.specs.Reading.{frame_of};
-ghost use Rattle.x25_decode.specs.Decoded.{answer_to, is_refused, mark_of, n1, octets_in, sender_of, sent_in, sent_text};
+ghost use Rattle.x25_decode.specs.Decoding.{answer_to, is_refused, mark_of, n1, octets_in, sender_of, sent_in, sent_text};
 ghost use Rattle.x25_decode.specs.code.Front.{StandsInFront};
 ghost use Rattle.x25_text.specs.FrameText.{reading_text};
 
@@ -98,7 +98,7 @@ fn push_answer(long_data: bool, from: Role, octets: &[u8], text: &mut Text)
 /// Appends the line that answers a line, and says whether that line was refused. `octets` is overwritten.
 ///
 /// With `long_data` the user data of a CALL has at most 128 octets, else at most 16.
-#[tactic(auto, unfolding(crate::specs::Decoded::answer_to, crate::specs::Decoded::is_refused))]
+#[tactic(auto, unfolding(crate::specs::Decoding::answer_to, crate::specs::Decoding::is_refused))]
 pub fn answer(long_data: bool, line: &[u8], octets: &mut [u8], text: &mut Text) -> bool
     requires octets { length octets.old ≡ MOST_OCTETS }
     requires room { length text.old + MOST_ANSWER ≤ ROOM }
@@ -141,7 +141,7 @@ fn read_front(left: &[u8], octets: &mut [u8]) -> Option<(Role, usize)>
 /// answers how many characters it has before its line feed. `octets` is overwritten.
 ///
 /// With `long_data` the user data of a CALL has at most 128 octets, else at most 16.
-#[tactic(auto, unfolding(crate::specs::Decoded::answer_to, crate::specs::Decoded::is_refused))]
+#[tactic(auto, unfolding(crate::specs::Decoding::answer_to, crate::specs::Decoding::is_refused))]
 pub fn answer_front(
     long_data: bool,
     left: &[u8],

@@ -21,7 +21,7 @@ pub struct Decoder {
 impl Decoder {
     ghost use Rattle.std.specs.Prelude.{◌≡◌, ◌≤◌, ◌<◌, ◌+◌, ◌++◌, ◌∷◌, [], ℕ, Bool, true, List, Option, ◌||◌, IfOk, OnOk, OnErr, MatchOption, MatchResult, length};
     ghost use Rattle.std.specs.Io.KnownBytes.{Appends};
-    ghost use Rattle.x25_decode.specs.Decoded.{answer_to, is_refused};
+    ghost use Rattle.x25_decode.specs.Decoding.{answer_to, is_refused};
     ghost use Rattle.x25_decode.specs.code.Stream.{DecodesOn, LeadsFrom};
     ghost use Rattle.x25_io.specs.HeldLine.{HoldsLine};
     ghost use Rattle.x25_io.specs.Lines.{IsOpen};
@@ -175,7 +175,7 @@ impl Decoder {
 
 impl TextTaker for Decoder {
     ghost use Rattle.std.specs.Prelude.{Bool};
-    ghost use Rattle.x25_decode.specs.Decoded.{output_of, status_of as status_of_input};
+    ghost use Rattle.x25_decode.specs.Decoding.{output_of, status_of as status_of_input};
     ghost use Rattle.x25_decode.specs.code.Stream.{DecodesOn, WritesEnded};
 
     // Whether user data may be long.

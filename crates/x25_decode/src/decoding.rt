@@ -1,7 +1,7 @@
 //! Lines of octets answered by lines of text.
 ghost use Rattle.std.specs.Prelude.{◌≡◌, ◌<◌, ◌≤◌, ◌-◌, ◌^◌, ℕ, true, List, Some, IfOk, OnOk, OnErr, IfSome, IsErrOf, length};
 ghost use Rattle.std.specs.Io.KnownBytes.{Appends};
-ghost use Rattle.x25_decode.specs.Decoded.{output_of, status_of};
+ghost use Rattle.x25_decode.specs.Decoding.{output_of, status_of};
 ghost use Rattle.x25_decode.specs.code.Stream.{WritesEnded};
 ghost use Rattle.x25_io.specs.code.Written.{AppendsPrefix};
 

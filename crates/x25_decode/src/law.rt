@@ -1,6 +1,6 @@
 //! A law of the lines of a trace, as the contract of a function that does nothing.
 ghost use Rattle.std.specs.Prelude.{◌≡◌, ◌<◌, ℕ, List, None, length};
-ghost use Rattle.x25_decode.specs.Decoded.{sent_in};
+ghost use Rattle.x25_decode.specs.Decoding.{sent_in};
 ghost use Rattle.x25_io.specs.HeldLine.{most_line};
 
 /// A line that is longer than any that is held is none of a trace.

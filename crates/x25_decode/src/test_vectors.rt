@@ -2,7 +2,7 @@
 ghost use Rattle.std.specs.Prelude.{◌≡◌, true, if◌then◌else◌, length, map, IfOk, IsErrOf, OnErr, OnOk};
 ghost use Rattle.std.specs.Io.KnownBytes.{Appends};
 ghost use Rattle.std.specs.List.{flat_map, list_all};
-ghost use Rattle.x25_decode.specs.Vectors.{are_right, is_check_right, is_right, shown, verdict, verdict_of, verdicts};
+ghost use Rattle.x25_decode.specs.TestVectors.{are_right, is_check_right, is_right, shown, verdict, verdict_of, verdicts};
 ghost use Rattle.x25_io.specs.code.Written.{AppendsPrefix};
 
 use crate::answer::answer;

@@ -3,15 +3,15 @@ use Rattle.std.proofs.Common.{ℕ, suc, ◌+◌, ◌-◌, ◌/◌, ◌%◌, ◌<
 use Rattle.std.specs.Prelude.{if◌then◌else◌}
 use Rattle.std.proofs.lemmas.Bool.{eqb-true, eqb-false}
 use Rattle.std.proofs.Math.Seq.{take-append_seam}
-use Rattle.x25_bits.specs.Fcs.{fcs_of}
-use Rattle.x25_bits.specs.Sealed.{seal_of, IsSealed}
+use Rattle.x25_bits.specs.FrameCheck.{fcs_of}
+use Rattle.x25_bits.specs.FrameCheck.Sealed.{seal_of, IsSealed}
 use Rattle.x25_bits.specs.declared.role.Role.{Role}
 use Rattle.x25_bits.specs.declared.role.Role.TheVariants.{Dte, Dce}
 use Rattle.x25_frame.specs.declared.error.FrameError.{FrameError}
 use Rattle.x25_frame.specs.declared.error.FrameError.TheVariants.{BadAddress, Undefined, NoInfoAllowed, TooLong}
-use Rattle.x25_frame.specs.PlainFrame.{PlainFrame}
+use Rattle.x25_frame.specs.Frame.{PlainFrame}
 use Rattle.x25_frame.specs.Spelling.{address_of, is_command, control_of, information_of, body_of, MayCarry, IsWithin, Spells}
-use Rattle.x25_frame.specs.FrameError.{information_in, HasKind, IsValid, IsFirstError}
+use Rattle.x25_frame.specs.Error.{information_in, HasKind, IsValid, IsFirstError}
 use Rattle.x25_frame.specs.Reading.{kind_of, addressed_frame}
 use Rattle.x25_frame.proofs.KindLemmas.{Read, split, ok_err, err_same, as_kind, kind_of-control, HasControl, defined, as_ok, as_err, as_again, Refused}
 

@@ -4,8 +4,8 @@ use Rattle.std.specs.Prelude.{cond, nat_le, if◌then◌else◌}
 use Rattle.std.proofs.lemmas.Bool.{leb-true, le-leb, eqb-true, eq-eqb}
 use Rattle.x25_frame.specs.declared.error.FrameError.{FrameError}
 use Rattle.x25_frame.specs.declared.error.FrameError.TheVariants.{Undefined, NoInfoAllowed, TooLong}
-use Rattle.x25_frame.specs.PlainFrame.{PlainFrame, info, rr, rnr, rej, sabm, disc, ua, dm, frmr}
-use Rattle.x25_bits.specs.Bit.{bit}
+use Rattle.x25_frame.specs.Frame.{PlainFrame, info, rr, rnr, rej, sabm, disc, ua, dm, frmr}
+use Rattle.x25_bits.specs.Bits.{bit}
 use Rattle.x25_frame.specs.Spelling.{is_command, control_of, information_of, IsInRange, MayCarry, IsWithin}
 use Rattle.x25_frame.specs.Reading.{bare, unnumbered, kind_of}
 

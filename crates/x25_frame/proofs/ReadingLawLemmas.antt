@@ -4,16 +4,16 @@ use Rattle.std.specs.Prelude.{if◌then◌else◌, nat_le, nat_lt, ◌==◌, ◌
 use Rattle.std.proofs.lemmas.Bool.{le-leb, eq-eqb, le-ltb, ltb-true, ltb-false, both_ways, cases_lt}
 use Rattle.std.proofs.Math.ListN.{get_or-eq_default}
 use Rattle.std.proofs.Math.Seq.{take-append_seam, drop-append_seam}
-use Rattle.x25_bits.specs.Fcs.{fcs_of}
-use Rattle.x25_bits.specs.Sealed.{seal_of, is_sealed, IsSealed}
+use Rattle.x25_bits.specs.FrameCheck.{fcs_of}
+use Rattle.x25_bits.specs.FrameCheck.Sealed.{seal_of, is_sealed, IsSealed}
 use Rattle.x25_bits.specs.declared.role.Role.{Role}
 use Rattle.x25_frame.specs.declared.error.FrameError.{FrameError}
 use Rattle.x25_frame.specs.declared.error.FrameError.TheVariants.{Short, BadFcs}
-use Rattle.x25_frame.specs.PlainFrame.{PlainFrame}
+use Rattle.x25_frame.specs.Frame.{PlainFrame}
 use Rattle.x25_frame.specs.Spelling.{information_of, body_of, spelling_of, IsInRange, MayCarry, IsWithin, Spells}
 use Rattle.x25_frame.specs.Reading.{addressed_frame, frame_of}
 use Rattle.x25_frame.specs.laws.ReadingLaw.{ReadsSpelled}
-use Rattle.x25_frame.specs.FrameError.{IsFirstError}
+use Rattle.x25_frame.specs.Error.{IsFirstError}
 use Rattle.x25_frame.proofs.KindLemmas.{ok_err, err_same}
 use Rattle.x25_frame.proofs.FrameLemmas.{only_found, found_spells, error_is_first}
 

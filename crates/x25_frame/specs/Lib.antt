@@ -1,5 +1,5 @@
-pub mod PlainFrame
+pub mod Frame
 pub mod Spelling
-pub mod FrameError
+pub mod Error
 pub mod Reading
 pub mod laws

@@ -1,10 +1,10 @@
 -- The octets that spell a frame. ITU-T X.25 (10/96), sections 2.2.3 to 2.2.7 and 2.3.2.
 use Rattle.std.specs.Prelude.{ℕ, ◌+◌, ◌*◌, ◌<◌, ◌≤◌, ◌≡◌, Bool, true, false, List, [], ◌∷◌, ◌++◌, length}
-use Rattle.x25_bits.specs.Sealed.{seal_of}
+use Rattle.x25_bits.specs.FrameCheck.Sealed.{seal_of}
 use Rattle.x25_bits.specs.declared.role.Role.{Role}
 use Rattle.x25_bits.specs.declared.role.Role.TheVariants.{Dte, Dce}
-pub use Rattle.x25_bits.specs.Bit.{bit}
-use Rattle.x25_frame.specs.PlainFrame.{PlainFrame, info, rr, rnr, rej, sabm, disc, ua, dm, frmr}
+pub use Rattle.x25_bits.specs.Bits.{bit}
+use Rattle.x25_frame.specs.Frame.{PlainFrame, info, rr, rnr, rej, sabm, disc, ua, dm, frmr}
 
 abbrev pub is_command : PlainFrame → Bool
 is_command (info ns nr p octets) = true

@@ -1,2 +1,2 @@
--- What the laws of this crate say (src/law.rt).
+-- What the laws of this crate say (src/law.rt), and the machines that they are about.
 pub mod ReadingLaw

@@ -1,5 +1,5 @@
 ghost use Rattle.std.specs.Prelude.{◌≡◌};
-ghost use Rattle.x25_frame.specs.FrameError.{number_of};
+ghost use Rattle.x25_frame.specs.Error.{number_of};
 
 use thiserror::Error;
 

@@ -48,7 +48,7 @@ pub enum Frame<'a> {
 }
 
 impl Frame<'_> {
-    ghost use Rattle.x25_frame.specs.PlainFrame.{plain};
+    ghost use Rattle.x25_frame.specs.Frame.{plain};
     ghost use Rattle.x25_frame.specs.Spelling.{is_command, poll_or_final};
 
     /// Whether it is a command, and not a response.

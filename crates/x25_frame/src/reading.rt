@@ -1,8 +1,8 @@
 //! From octets to the frame that they spell.
 ghost use Rattle.std.specs.Prelude.{IfOk, IfErr, IsOkAnd, ◌≡◌, ◌+◌, ◌*◌, ◌/◌, ◌%◌, ◌≤◌, ℕ, length};
-ghost use Rattle.x25_frame.specs.PlainFrame.{PlainFrame, plain};
+ghost use Rattle.x25_frame.specs.Frame.{PlainFrame, plain};
 ghost use Rattle.x25_frame.specs.Spelling.{Spells};
-ghost use Rattle.x25_frame.specs.FrameError.{IsFirstError};
+ghost use Rattle.x25_frame.specs.Error.{IsFirstError};
 ghost use Rattle.x25_frame.specs.Reading.{Gives, bare, frame_of, kind_of, unnumbered, addressed_frame};
 
 use crate::address::address;

@@ -1,9 +1,9 @@
 //! From a frame to the octets that spell it.
 ghost use Rattle.std.specs.Prelude.{◌≡◌, ◌+◌, ◌*◌, ◌≤◌, [], ◌∷◌, ◌++◌, OnOk, OnErr, IsOk, length, vec_len, vec_capacity};
 ghost use Rattle.std.specs.Vec.{VecUnchanged};
-ghost use Rattle.x25_frame.specs.PlainFrame.{plain};
-ghost use Rattle.x25_bits.specs.Bit.{bit};
-ghost use Rattle.x25_bits.specs.Sealed.{seal_of};
+ghost use Rattle.x25_frame.specs.Frame.{plain};
+ghost use Rattle.x25_bits.specs.Bits.{bit};
+ghost use Rattle.x25_bits.specs.FrameCheck.Sealed.{seal_of};
 ghost use Rattle.x25_frame.specs.Spelling.{spelling_of, body_of, control_of, information_of};
 
 use crate::address::address;

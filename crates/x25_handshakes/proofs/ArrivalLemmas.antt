@@ -1,20 +1,20 @@
 -- An open stretch of both ends, with nothing on the way from one: all of it has arrived.
 use Rattle.std.proofs.Common.{◌≡◌, ℕ, List, [], ◌∷◌, ◌++◌, Some, Bool, refl, sym, ap, subst, ◌∙◌, arith}
 use Rattle.std.proofs.lemmas.Option.{same_Some, none-some}
-use Rattle.x25_circuit.specs.Messages.{Piece, More, Last, Partial, no_part, joined, joining, wholes}
+use Rattle.x25_circuit.specs.Message.{Piece, More, Last, Partial, no_part, joined, joining, wholes}
 use Rattle.x25_bits.specs.declared.role.Role.{Role}
 use Rattle.x25_bits.specs.declared.role.Role.TheVariants.{Dte, Dce}
 use Rattle.x25_circuit.specs.Params.{Terms}
-use Rattle.x25_circuit.specs.Notices.{CallRequest}
-use Rattle.x25_handshakes.specs.Handshake.{Side, Live, Left, At, state_of}
-use Rattle.x25_handshakes.specs.Stretch.{Stretch}
-use Rattle.x25_handshakes.specs.Transfer.{d1}
-use Rattle.x25_handshakes.specs.Calls.{Phase, Unused, Waiting, Offered, Crossed, Talking, Connection}
-use Rattle.x25_handshakes.specs.Channel.{live}
-use Rattle.x25_handshakes.specs.Layers.{LayerPacket, Channels, ready, Pair, turned, pair_run, pair_start}
-use Rattle.x25_handshakes.specs.Names.{Name}
-use Rattle.x25_handshakes.specs.Histories.{messages, name_at}
-use Rattle.x25_handshakes.specs.Arrivals.{open_in, open_phase, open_call, open_channel, open_at, HasArrived, AllArrives}
+use Rattle.x25_circuit.specs.Notice.{CallRequest}
+use Rattle.x25_handshakes.specs.laws.Handshake.{Side, Live, Left, At, state_of}
+use Rattle.x25_handshakes.specs.laws.Stretch.{Stretch}
+use Rattle.x25_handshakes.specs.laws.Transfer.{d1}
+use Rattle.x25_handshakes.specs.laws.Calls.{Phase, Unused, Waiting, Offered, Crossed, Talking, Connection}
+use Rattle.x25_handshakes.specs.laws.Channel.{live}
+use Rattle.x25_handshakes.specs.laws.Layers.{LayerPacket, Channels, ready, Pair, turned, pair_run, pair_start}
+use Rattle.x25_handshakes.specs.laws.Names.{Name}
+use Rattle.x25_handshakes.specs.laws.Histories.{messages, name_at}
+use Rattle.x25_handshakes.specs.laws.Arrivals.{open_in, open_phase, open_call, open_channel, open_at, HasArrived, AllArrives}
 use Rattle.x25_handshakes.proofs.TermsLemmas.{Laws}
 use Rattle.x25_handshakes.proofs.LayersRelation.{EndsRelated}
 use Rattle.x25_handshakes.proofs.StretchRelation.{FollowsFrom}

@@ -6,11 +6,11 @@ use Rattle.x25_bits.specs.declared.role.Role.{Role}
 use Rattle.x25_bits.specs.declared.role.Role.TheVariants.{Dte, Dce}
 use Rattle.x25_circuit.specs.declared.params.Params.{Params}
 use Rattle.x25_circuit.specs.Params.{may_propose, may_answer, field_for, said_in}
-use Rattle.x25_circuit.specs.Notices.{CallRequest}
-use Rattle.x25_handshakes.specs.Handshake.{Inner}
-use Rattle.x25_handshakes.specs.Stretch.{Packet, Call, Accept}
-use Rattle.x25_handshakes.specs.Calls.{Phase, Unused, Waiting, Offered, Crossed, Talking, Connection, CallStep, goes, unexpected, calling_talk, called_talk, is_answered, accepts, phase_takes, call_takes, CallAct, PlacesCall, AcceptsCall, Talks, phase_acts}
-use Rattle.x25_handshakes.specs.Histories.{calls, IsPrefix}
+use Rattle.x25_circuit.specs.Notice.{CallRequest}
+use Rattle.x25_handshakes.specs.laws.Handshake.{Inner}
+use Rattle.x25_handshakes.specs.laws.Stretch.{Packet, Call, Accept}
+use Rattle.x25_handshakes.specs.laws.Calls.{Phase, Unused, Waiting, Offered, Crossed, Talking, Connection, CallStep, goes, unexpected, calling_talk, called_talk, is_answered, accepts, phase_takes, call_takes, CallAct, PlacesCall, AcceptsCall, Talks, phase_acts}
+use Rattle.x25_handshakes.specs.laws.Histories.{calls, IsPrefix}
 use Rattle.x25_handshakes.proofs.CallsRelation.{Joint, ConnectionsRelated, GoodDte, GoodDce}
 use Rattle.x25_handshakes.proofs.ChannelRelation.{clear_mark, Seen}
 use Rattle.x25_handshakes.proofs.CallLemmas.{GoodDte-takes, GoodDce-takes}

@@ -5,11 +5,11 @@ use Rattle.std.proofs.lemmas.Bool.{cond_both}
 use Rattle.x25_bits.specs.declared.role.Role.TheVariants.{Dte, Dce}
 use Rattle.x25_circuit.specs.declared.params.Params.{Params}
 use Rattle.x25_circuit.specs.Params.{Terms, may_propose, may_answer, field_for, said_in, called_terms, calling_terms}
-use Rattle.x25_circuit.specs.Notices.{CallRequest}
-use Rattle.x25_handshakes.specs.Handshake.{At}
-use Rattle.x25_handshakes.specs.Stretch.{Packet, Call, Accept, Stretch}
-use Rattle.x25_handshakes.specs.Transfer.{fresh_transfer, transfer_takes, TransferAct, transfer_acts}
-use Rattle.x25_handshakes.specs.Calls.{Phase, Unused, Waiting, Offered, Crossed, Talking, Connection, CallStep, goes, unexpected, called_talk, calling_talk, is_answered, phase_takes, call_takes, CallAct, PlacesCall, AcceptsCall, Talks, accepts, phase_acts, call_acts, fresh_call}
+use Rattle.x25_circuit.specs.Notice.{CallRequest}
+use Rattle.x25_handshakes.specs.laws.Handshake.{At}
+use Rattle.x25_handshakes.specs.laws.Stretch.{Packet, Call, Accept, Stretch}
+use Rattle.x25_handshakes.specs.laws.Transfer.{fresh_transfer, transfer_takes, TransferAct, transfer_acts}
+use Rattle.x25_handshakes.specs.laws.Calls.{Phase, Unused, Waiting, Offered, Crossed, Talking, Connection, CallStep, goes, unexpected, called_talk, calling_talk, is_answered, phase_takes, call_takes, CallAct, PlacesCall, AcceptsCall, Talks, accepts, phase_acts, call_acts, fresh_call}
 use Rattle.x25_handshakes.proofs.TermsLemmas.{Laws, IsSound, AreSound, answer_sound, answer_read}
 use Rattle.x25_handshakes.proofs.TransferRelation.{TransfersRelated, GoodTransfer}
 use Rattle.x25_handshakes.proofs.CallsRelation.{TalksRelated, GoodTalk, Nil, OneCall, MaybeCall, Proposes, IsProposal, IsAnswer, Accepted, CallAccepted, Joint, ConnectionsRelated, GoodDte, GoodDce, IsCalled}

@@ -2,13 +2,13 @@
 use Rattle.std.proofs.Common.{◌≡◌, List, [], ◌∷◌, ◌++◌, Some, None, true, false, refl}
 use Rattle.x25_packet.specs.Facilities.{facilities_of}
 use Rattle.x25_circuit.specs.declared.params.Params.{Params}
-use Rattle.x25_circuit.specs.Notices.{CallRequest}
-use Rattle.x25_handshakes.specs.Handshake.{Side, At, state_of}
-use Rattle.x25_handshakes.specs.Transfer.{fresh_transfer}
-use Rattle.x25_handshakes.specs.Calls.{Phase, Offered, Talking, CallAct, PlacesCall, AcceptsCall}
-use Rattle.x25_handshakes.specs.Channel.{Within}
-use Rattle.x25_handshakes.specs.Layers.{Channels, OnChannel, Move, Acts, Takes, Event, pair_run, pair_start}
-use Rattle.x25_handshakes.specs.Histories.{circuit_at}
+use Rattle.x25_circuit.specs.Notice.{CallRequest}
+use Rattle.x25_handshakes.specs.laws.Handshake.{Side, At, state_of}
+use Rattle.x25_handshakes.specs.laws.Transfer.{fresh_transfer}
+use Rattle.x25_handshakes.specs.laws.Calls.{Phase, Offered, Talking, CallAct, PlacesCall, AcceptsCall}
+use Rattle.x25_handshakes.specs.laws.Channel.{Within}
+use Rattle.x25_handshakes.specs.laws.Layers.{Channels, OnChannel, Move, Acts, Takes, Event, pair_run, pair_start}
+use Rattle.x25_handshakes.specs.laws.Histories.{circuit_at}
 
 item : CallRequest
 item = record { called = 1 ∷ []; calling = 2 ∷ []; user = []; params = record { size_called = 8; size_calling = 9; win_called = 3; win_calling = 5 } }

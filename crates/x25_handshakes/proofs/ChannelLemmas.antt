@@ -2,17 +2,17 @@
 use Rattle.std.proofs.Common.{◌≡◌, ℕ, suc, ◌+◌, ◌%◌, List, [], ◌∷◌, ◌++◌, length, Option, Some, None, Bool, true, false, nat_lt, nat_le, if◌then◌else◌, refl, sym, subst, ◌∙◌}
 use Rattle.std.proofs.lemmas.List.{append-nil}
 use Rattle.std.proofs.lemmas.Bool.{cond_both}
-use Rattle.x25_handshakes.specs.Handshake.{Inner, Side, Live, Left, At}
-use Rattle.x25_circuit.specs.Messages.{Piece, cut, wholes}
+use Rattle.x25_handshakes.specs.laws.Handshake.{Inner, Side, Live, Left, At}
+use Rattle.x25_circuit.specs.Message.{Piece, cut, wholes}
 use Rattle.x25_bits.specs.declared.role.Role.{Role}
 use Rattle.x25_bits.specs.declared.role.Role.TheVariants.{Dte, Dce}
 use Rattle.x25_circuit.specs.declared.params.Params.{Params}
 use Rattle.x25_circuit.specs.Params.{Terms, may_propose, may_answer, field_for, said_in}
-use Rattle.x25_circuit.specs.Notices.{CallRequest}
-use Rattle.x25_handshakes.specs.Stretch.{Packet, Data, Rr, Rnr, Int, IntConf, Reset, ResetConf, Call, Accept, Clear, ClearConf, Stretch, StretchStep, stretch_does, stretch_fails, StretchAct, Send, Pull, Ready, NotReady, Interrupt, status, pulls, stretch_acts, ack_ground, data_ground, by_ground, takes_data, takes_status, stretch_takes}
-use Rattle.x25_handshakes.specs.Transfer.{lifted, takes_d1, takes_rst, transfer_side_takes, TransferAct, Inside, SendsReset, transfer_side_acts}
-use Rattle.x25_handshakes.specs.Calls.{Phase, Unused, Waiting, Offered, Crossed, Talking, Connection, CallStep, goes, unexpected, calling_talk, called_talk, is_answered, accepts, phase_takes, call_takes, CallAct, PlacesCall, AcceptsCall, Talks, phase_acts, call_acts, fresh_call}
-use Rattle.x25_handshakes.specs.Channel.{live, clr, lifted_call, in_p1, live_takes, clr_takes, channel_side_takes, channel_takes, ChannelAct, Within, SendsClear, clears, channel_side_acts, channel_acts, fresh_channel}
+use Rattle.x25_circuit.specs.Notice.{CallRequest}
+use Rattle.x25_handshakes.specs.laws.Stretch.{Packet, Data, Rr, Rnr, Int, IntConf, Reset, ResetConf, Call, Accept, Clear, ClearConf, Stretch, StretchStep, stretch_does, stretch_fails, StretchAct, Send, Pull, Ready, NotReady, Interrupt, status, pulls, stretch_acts, ack_ground, data_ground, by_ground, takes_data, takes_status, stretch_takes}
+use Rattle.x25_handshakes.specs.laws.Transfer.{lifted, takes_d1, takes_rst, transfer_side_takes, TransferAct, Inside, SendsReset, transfer_side_acts}
+use Rattle.x25_handshakes.specs.laws.Calls.{Phase, Unused, Waiting, Offered, Crossed, Talking, Connection, CallStep, goes, unexpected, calling_talk, called_talk, is_answered, accepts, phase_takes, call_takes, CallAct, PlacesCall, AcceptsCall, Talks, phase_acts, call_acts, fresh_call}
+use Rattle.x25_handshakes.specs.laws.Channel.{live, clr, lifted_call, in_p1, live_takes, clr_takes, channel_side_takes, channel_takes, ChannelAct, Within, SendsClear, clears, channel_side_acts, channel_acts, fresh_channel}
 use Rattle.x25_handshakes.proofs.TermsLemmas.{Laws}
 use Rattle.x25_handshakes.proofs.HandshakeRelation.{AllInner}
 use Rattle.x25_handshakes.proofs.HandshakeLemmas.{request_live, confirm_never, leave, inner_act, inner_take, drops, marker_left, hand_flip, both_fresh, inner_live, live_front, hand_map, request_gone}

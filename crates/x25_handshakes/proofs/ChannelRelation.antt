@@ -1,11 +1,11 @@
 -- What is kept of the two ends of a channel.
 use Rattle.std.proofs.Common.{◌≡◌, List, ◌++◌, None}
-use Rattle.x25_handshakes.specs.Handshake.{Mark, Inner, Request, Confirm, At}
+use Rattle.x25_handshakes.specs.laws.Handshake.{Mark, Inner, Request, Confirm, At}
 use Rattle.x25_bits.specs.declared.role.Role.{Role}
 use Rattle.x25_bits.specs.declared.role.Role.TheVariants.{Dte, Dce}
-use Rattle.x25_handshakes.specs.Stretch.{Packet, Clear, ClearConf}
-use Rattle.x25_handshakes.specs.Calls.{Connection, fresh_call}
-use Rattle.x25_handshakes.specs.Channel.{ChannelStep}
+use Rattle.x25_handshakes.specs.laws.Stretch.{Packet, Clear, ClearConf}
+use Rattle.x25_handshakes.specs.laws.Calls.{Connection, fresh_call}
+use Rattle.x25_handshakes.specs.laws.Channel.{ChannelStep}
 use Rattle.x25_handshakes.proofs.HandshakeRelation.{Level, Handshake}
 use Rattle.x25_handshakes.proofs.CallsRelation.{ConnectionsRelated, IsCalled}
 

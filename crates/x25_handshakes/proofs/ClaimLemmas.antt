@@ -1,15 +1,15 @@
 -- What follows for the user from the relation of two layers.
 use Rattle.std.proofs.Common.{◌≡◌, ℕ, List, [], ◌∷◌, refl, subst}
-use Rattle.x25_handshakes.specs.Handshake.{Live, At}
+use Rattle.x25_handshakes.specs.laws.Handshake.{Live, At}
 use Rattle.x25_bits.specs.declared.role.Role.{Role}
 use Rattle.x25_bits.specs.declared.role.Role.TheVariants.{Dte, Dce}
 use Rattle.x25_circuit.specs.Params.{Terms}
-use Rattle.x25_circuit.specs.Notices.{CallRequest}
-use Rattle.x25_handshakes.specs.Stretch.{Packet, Stretch}
-use Rattle.x25_handshakes.specs.Transfer.{d1}
-use Rattle.x25_handshakes.specs.Calls.{Phase, Waiting, Crossed, Talking, Connection}
-use Rattle.x25_handshakes.specs.Channel.{live}
-use Rattle.x25_handshakes.specs.Layers.{LayerPacket, Channels, ready}
+use Rattle.x25_circuit.specs.Notice.{CallRequest}
+use Rattle.x25_handshakes.specs.laws.Stretch.{Packet, Stretch}
+use Rattle.x25_handshakes.specs.laws.Transfer.{d1}
+use Rattle.x25_handshakes.specs.laws.Calls.{Phase, Waiting, Crossed, Talking, Connection}
+use Rattle.x25_handshakes.specs.laws.Channel.{live}
+use Rattle.x25_handshakes.specs.laws.Layers.{LayerPacket, Channels, ready}
 use Rattle.x25_handshakes.proofs.HandshakeRelation.{before}
 use Rattle.x25_handshakes.proofs.HandshakeLemmas.{both_live}
 use Rattle.x25_handshakes.proofs.StretchRelation.{StretchesRelated}

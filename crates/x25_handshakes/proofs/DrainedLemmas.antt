@@ -1,21 +1,21 @@
 -- Where nothing is on the way, a stretch that is open at one end is open at the other, and all that either told is known.
 use Rattle.std.proofs.Common.{◌≡◌, ◌⊎◌, inl, inr, ℕ, ◌+◌, ◌%◌, ◌≤◌, List, [], ◌∷◌, ◌++◌, length, Some, Bool, true, false, nat_lt, if◌then◌else◌, refl, sym, ap, subst, ◌∙◌, arith}
 use Rattle.std.proofs.lemmas.Bool.{true≢false, lt-ltb}
-use Rattle.x25_circuit.specs.Messages.{Piece}
+use Rattle.x25_circuit.specs.Message.{Piece}
 use Rattle.x25_bits.specs.declared.role.Role.{Role}
 use Rattle.x25_bits.specs.declared.role.Role.TheVariants.{Dte, Dce}
 use Rattle.x25_circuit.specs.Params.{Terms}
-use Rattle.x25_circuit.specs.Notices.{CallRequest}
-use Rattle.x25_handshakes.specs.Handshake.{Side, Live, Left, At, state_of}
-use Rattle.x25_handshakes.specs.Stretch.{Data, Stretch, StretchStep, Pull, stretch_does, pulls}
-use Rattle.x25_handshakes.specs.Transfer.{Inside, d1, lifted}
-use Rattle.x25_handshakes.specs.Calls.{Phase, Unused, Waiting, Offered, Crossed, Talking, Connection, Talks, in_transfer}
-use Rattle.x25_handshakes.specs.Channel.{Within, live, lifted_call, channel_acts}
-use Rattle.x25_handshakes.specs.Layers.{LayerPacket, Channels, addressed, ready, Pair, turned, pair_run, pair_start}
-use Rattle.x25_handshakes.specs.Names.{Name}
-use Rattle.x25_handshakes.specs.Histories.{messages, resets_in, name_at}
-use Rattle.x25_handshakes.specs.Arrivals.{open_in, open_phase, open_call, open_channel, open_at}
-use Rattle.x25_handshakes.specs.Drained.{is_up, pulled_at, IsOpenThere, AllIsKnown}
+use Rattle.x25_circuit.specs.Notice.{CallRequest}
+use Rattle.x25_handshakes.specs.laws.Handshake.{Side, Live, Left, At, state_of}
+use Rattle.x25_handshakes.specs.laws.Stretch.{Data, Stretch, StretchStep, Pull, stretch_does, pulls}
+use Rattle.x25_handshakes.specs.laws.Transfer.{Inside, d1, lifted}
+use Rattle.x25_handshakes.specs.laws.Calls.{Phase, Unused, Waiting, Offered, Crossed, Talking, Connection, Talks, in_transfer}
+use Rattle.x25_handshakes.specs.laws.Channel.{Within, live, lifted_call, channel_acts}
+use Rattle.x25_handshakes.specs.laws.Layers.{LayerPacket, Channels, addressed, ready, Pair, turned, pair_run, pair_start}
+use Rattle.x25_handshakes.specs.laws.Names.{Name}
+use Rattle.x25_handshakes.specs.laws.Histories.{messages, resets_in, name_at}
+use Rattle.x25_handshakes.specs.laws.Arrivals.{open_in, open_phase, open_call, open_channel, open_at}
+use Rattle.x25_handshakes.specs.laws.Drained.{is_up, pulled_at, IsOpenThere, AllIsKnown}
 use Rattle.x25_handshakes.proofs.TermsLemmas.{Laws}
 use Rattle.x25_handshakes.proofs.HandshakeRelation.{Level, Handshake}
 use Rattle.x25_handshakes.proofs.HandshakeLemmas.{cons≢nil}

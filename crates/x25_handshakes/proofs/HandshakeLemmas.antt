@@ -1,7 +1,7 @@
 -- Each event of a handshake keeps its relation.
 use Rattle.std.proofs.Common.{◌≡◌, inl, inr, ℕ, suc, List, [], ◌∷◌, ◌++◌, Bool, true, false, refl, sym, ap, subst}
 use Rattle.std.proofs.lemmas.Bool.{true≢false}
-use Rattle.x25_handshakes.specs.Handshake.{Mark, Inner, Request, Confirm, Side, Live, Left, has_left, state_of}
+use Rattle.x25_handshakes.specs.laws.Handshake.{Mark, Inner, Request, Confirm, Side, Live, Left, has_left, state_of}
 use Rattle.x25_handshakes.proofs.HandshakeRelation.{kept_before, before, kept_past, past, ends_at, Ends, behind_at, Behind, Extended, Level, Handshake, AllInner}
 
 -- behind the last marker of a line whose sender is in its epoch

@@ -1,6 +1,6 @@
 -- What a handshake keeps of two ends and the two lines between them, over any relation of the states within an epoch.
 use Rattle.std.proofs.Common.{◌≡◌, ◌⊎◌, ℕ, suc, List, [], ◌∷◌, Bool, true, false}
-use Rattle.x25_handshakes.specs.Handshake.{Mark, Inner, Request, Confirm, Side, Live, Left, has_left}
+use Rattle.x25_handshakes.specs.laws.Handshake.{Mark, Inner, Request, Confirm, Side, Live, Left, has_left}
 
 abbrev pub kept_before : {P : Type 0} → Mark → P → List P → List P
 kept_before Inner p rest = p ∷ rest

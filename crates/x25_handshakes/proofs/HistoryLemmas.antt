@@ -2,10 +2,10 @@
 use Rattle.std.proofs.Common.{◌≡◌, ◌⊎◌, inl, inr, ℕ, ◌<◌, List, [], ◌++◌, false, refl, sym, ap, subst, ◌∙◌, append_assoc}
 use Rattle.std.proofs.lemmas.List.{append-nil}
 use Rattle.std.proofs.lemmas.Bool.{cond_both}
-use Rattle.x25_handshakes.specs.Handshake.{At}
-use Rattle.x25_handshakes.specs.Layers.{Channels}
-use Rattle.x25_handshakes.specs.Names.{Name, same_name, IsEarlier}
-use Rattle.x25_handshakes.specs.Histories.{Lists, none, Kind, name_at, held_at, ChannelView, written, channel_view, IsPrefix, IsLawful}
+use Rattle.x25_handshakes.specs.laws.Handshake.{At}
+use Rattle.x25_handshakes.specs.laws.Layers.{Channels}
+use Rattle.x25_handshakes.specs.laws.Names.{Name, same_name, IsEarlier}
+use Rattle.x25_handshakes.specs.laws.Histories.{Lists, none, Kind, name_at, held_at, ChannelView, written, channel_view, IsPrefix, IsLawful}
 use Rattle.x25_handshakes.proofs.NameLemmas.{name_eq, same_name-refl, same_name-is, earlier-trans, earlier-differs}
 
 -- What a step does to the name and the lists of a channel. What is handed up is as before, or what Allowed says.

@@ -2,11 +2,11 @@
 use Rattle.std.proofs.Common.{ℕ, List, [], ◌∷◌, Option, Bool, true, false, if◌then◌else◌, refl, sym, subst}
 use Rattle.x25_bits.specs.declared.role.Role.{Role}
 use Rattle.x25_bits.specs.declared.role.Role.TheVariants.{Dte, Dce}
-use Rattle.x25_handshakes.specs.Handshake.{Side, Live, Left, At, state_of}
-use Rattle.x25_handshakes.specs.Calls.{call_takes}
-use Rattle.x25_handshakes.specs.Layers.{LayerPacket, On, Channels, ready, Move, Acts, Takes, LinkDown, Event, pair_moves, layer_acts, layer_takes, layer_side_takes}
-use Rattle.x25_handshakes.specs.Names.{Name}
-use Rattle.x25_handshakes.specs.Histories.{Lists, Kind, name_at, held_at, channel_view, written, IsLawful, Histories, turned_histories, histories_moves, histories_happens, histories_run, histories_start, AreInOrder}
+use Rattle.x25_handshakes.specs.laws.Handshake.{Side, Live, Left, At, state_of}
+use Rattle.x25_handshakes.specs.laws.Calls.{call_takes}
+use Rattle.x25_handshakes.specs.laws.Layers.{LayerPacket, On, Channels, ready, Move, Acts, Takes, LinkDown, Event, pair_moves, layer_acts, layer_takes, layer_side_takes}
+use Rattle.x25_handshakes.specs.laws.Names.{Name}
+use Rattle.x25_handshakes.specs.laws.Histories.{Lists, Kind, name_at, held_at, channel_view, written, IsLawful, Histories, turned_histories, histories_moves, histories_happens, histories_run, histories_start, AreInOrder}
 use Rattle.x25_handshakes.proofs.ChannelRelation.{other_role}
 use Rattle.x25_handshakes.proofs.TermsLemmas.{Laws}
 use Rattle.x25_handshakes.proofs.LayersRelation.{EndsRelated}

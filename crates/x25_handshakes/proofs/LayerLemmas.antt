@@ -2,12 +2,12 @@
 use Rattle.std.proofs.Common.{◌≡◌, ℕ, suc, List, [], ◌∷◌, ◌++◌, Option, None, Bool, true, false, if◌then◌else◌, refl, sym, ap, subst, ◌∙◌, ◌==◌, eq-eqb}
 use Rattle.std.proofs.lemmas.Bool.{eqb-true}
 use Rattle.std.proofs.lemmas.List.{append-nil}
-use Rattle.x25_handshakes.specs.Handshake.{Side, Live, Left, At}
+use Rattle.x25_handshakes.specs.laws.Handshake.{Side, Live, Left, At}
 use Rattle.x25_bits.specs.declared.role.Role.{Role}
 use Rattle.x25_bits.specs.declared.role.Role.TheVariants.{Dte, Dce}
-use Rattle.x25_handshakes.specs.Stretch.{Packet}
-use Rattle.x25_handshakes.specs.Channel.{ChannelStep, channel_takes, ChannelAct, channel_acts}
-use Rattle.x25_handshakes.specs.Layers.{LayerPacket, On, Restart, RestartConf, Channels, put, addressed, all_fresh, ready, restarting, layer_side_takes, layer_takes, LayerAct, OnChannel, SendsRestart, layer_side_acts, layer_acts, Pair, Move, Acts, Takes, LinkDown, turned, first_error, pair_moves, Event, pair_happens, pair_run, pair_start}
+use Rattle.x25_handshakes.specs.laws.Stretch.{Packet}
+use Rattle.x25_handshakes.specs.laws.Channel.{ChannelStep, channel_takes, ChannelAct, channel_acts}
+use Rattle.x25_handshakes.specs.laws.Layers.{LayerPacket, On, Restart, RestartConf, Channels, put, addressed, all_fresh, ready, restarting, layer_side_takes, layer_takes, LayerAct, OnChannel, SendsRestart, layer_side_acts, layer_acts, Pair, Move, Acts, Takes, LinkDown, turned, first_error, pair_moves, Event, pair_happens, pair_run, pair_start}
 use Rattle.x25_handshakes.proofs.TermsLemmas.{Laws}
 use Rattle.x25_handshakes.proofs.HandshakeRelation.{AllInner}
 use Rattle.x25_handshakes.proofs.HandshakeLemmas.{request_live, confirm_never, ext_act, ext_take, leave, inner_act, inner_take, drops, marker_left, hand_flip, both_requests, inner_live, live_front, hand_map}

@@ -1,9 +1,9 @@
 -- What is kept of two layers, and of two ends of which each may be out.
 use Rattle.std.proofs.Common.{◌≡◌, ℕ, List, [], ◌∷◌, ◌++◌, None, Bool, true, false, ◌==◌}
-use Rattle.x25_handshakes.specs.Handshake.{Mark, Inner, Request, Confirm, Side, At}
+use Rattle.x25_handshakes.specs.laws.Handshake.{Mark, Inner, Request, Confirm, Side, At}
 use Rattle.x25_bits.specs.declared.role.Role.{Role}
-use Rattle.x25_handshakes.specs.Stretch.{Packet}
-use Rattle.x25_handshakes.specs.Layers.{LayerPacket, On, Restart, RestartConf, Channels, all_fresh, LayerStep}
+use Rattle.x25_handshakes.specs.laws.Stretch.{Packet}
+use Rattle.x25_handshakes.specs.laws.Layers.{LayerPacket, On, Restart, RestartConf, Channels, all_fresh, LayerStep}
 use Rattle.x25_handshakes.proofs.HandshakeRelation.{Extended, Level, Handshake}
 use Rattle.x25_handshakes.proofs.ChannelRelation.{ChannelRelated}
 

@@ -2,18 +2,18 @@
 use Rattle.std.proofs.Common.{◌≡◌, inl, inr, ℕ, ◌+◌, List, [], ◌∷◌, ◌++◌, length, Option, Some, None, Bool, true, false, nat_lt, nat_le, if◌then◌else◌, refl, sym, ap, subst, ◌∙◌, arith}
 use Rattle.std.proofs.lemmas.List.{append-nil}
 use Rattle.std.proofs.lemmas.Bool.{cond_both}
-use Rattle.x25_circuit.specs.Messages.{Piece, wholes}
+use Rattle.x25_circuit.specs.Message.{Piece, wholes}
 use Rattle.x25_bits.specs.declared.role.Role.{Role}
 use Rattle.x25_bits.specs.declared.role.Role.TheVariants.{Dte, Dce}
 use Rattle.x25_circuit.specs.declared.params.Params.{Params}
 use Rattle.x25_circuit.specs.Params.{Terms, may_propose, may_answer, field_for, said_in}
-use Rattle.x25_circuit.specs.Notices.{CallRequest}
+use Rattle.x25_circuit.specs.Notice.{CallRequest}
 use Rattle.x25_handshakes.proofs.TermsLemmas.{IsSound}
-use Rattle.x25_handshakes.specs.Handshake.{Inner, Side, Live, Left, At, state_of}
-use Rattle.x25_handshakes.specs.Stretch.{Packet, Data, Rr, Rnr, Int, IntConf, Reset, ResetConf, Call, Accept, Clear, ClearConf, Stretch, fresh, StretchStep, stretch_does, stretch_fails, StretchAct, Send, Pull, Ready, NotReady, Interrupt, pulls, stretch_acts, by_ground, data_ground, ack_ground, takes_data, takes_status, stretch_takes}
-use Rattle.x25_handshakes.specs.Transfer.{d1, rst, fresh_transfer, lifted, transfer_side_takes, transfer_takes, TransferAct, Inside, SendsReset, transfer_side_acts}
-use Rattle.x25_handshakes.specs.Calls.{Phase, Unused, Waiting, Offered, Crossed, Talking, Connection, CallStep, goes, unexpected, calling_talk, called_talk, is_answered, accepts, phase_takes, call_takes, CallAct, PlacesCall, AcceptsCall, Talks, phase_acts}
-use Rattle.x25_handshakes.specs.Histories.{Lists, none, resets_in, held_in, of_stretch, messages, interrupts, IsPrefix}
+use Rattle.x25_handshakes.specs.laws.Handshake.{Inner, Side, Live, Left, At, state_of}
+use Rattle.x25_handshakes.specs.laws.Stretch.{Packet, Data, Rr, Rnr, Int, IntConf, Reset, ResetConf, Call, Accept, Clear, ClearConf, Stretch, fresh, StretchStep, stretch_does, stretch_fails, StretchAct, Send, Pull, Ready, NotReady, Interrupt, pulls, stretch_acts, by_ground, data_ground, ack_ground, takes_data, takes_status, stretch_takes}
+use Rattle.x25_handshakes.specs.laws.Transfer.{d1, rst, fresh_transfer, lifted, transfer_side_takes, transfer_takes, TransferAct, Inside, SendsReset, transfer_side_acts}
+use Rattle.x25_handshakes.specs.laws.Calls.{Phase, Unused, Waiting, Offered, Crossed, Talking, Connection, CallStep, goes, unexpected, calling_talk, called_talk, is_answered, accepts, phase_takes, call_takes, CallAct, PlacesCall, AcceptsCall, Talks, phase_acts}
+use Rattle.x25_handshakes.specs.laws.Histories.{Lists, none, resets_in, held_in, of_stretch, messages, interrupts, IsPrefix}
 use Rattle.x25_handshakes.proofs.HandshakeLemmas.{meets}
 use Rattle.x25_handshakes.proofs.StretchRelation.{InFlowControl, FollowsFrom, GoodStretch}
 use Rattle.x25_handshakes.proofs.TransferRelation.{reset_mark, stretch_level, TransfersRelated}

@@ -2,12 +2,12 @@
 use Rattle.std.proofs.Common.{◌≡◌, ℕ, ◌+◌, ◌%◌, ◌<◌, ◌≤◌, List, [], ◌∷◌, ◌++◌, length, Option, Some, None, Bool, true, false, nat_lt, nat_le, if◌then◌else◌, refl, sym, ap, subst, ◌∙◌, eq-eqb, arith, append_assoc}
 use Rattle.std.proofs.lemmas.List.{length_push, append-nil}
 use Rattle.std.proofs.lemmas.Bool.{le-leb, leb-true, ltb-true, cond_both}
-use Rattle.x25_circuit.specs.Messages.{Piece, no_part, joining, carried_from, carried, piece_ground, cut, wholes}
-use Rattle.x25_window.specs.Modulo.{resolved}
+use Rattle.x25_circuit.specs.Message.{Piece, no_part, joining, carried_from, carried, piece_ground, cut, wholes}
+use Rattle.x25_window.specs.code.Modulo.{resolved}
 use Rattle.x25_circuit.specs.Params.{Terms}
 use Rattle.x25_handshakes.proofs.TermsLemmas.{IsSound}
-use Rattle.x25_handshakes.specs.Stretch.{Packet, Data, Rr, Rnr, Int, IntConf, Reset, ResetConf, Call, Accept, Clear, ClearConf, Stretch, fresh, StretchStep, stretch_does, stretch_fails, StretchAct, Send, Pull, Ready, NotReady, Interrupt, status, sends, pulls, interrupts, stretch_acts, ack_ground, data_ground, by_ground, takes_data, takes_status, stretch_takes}
-use Rattle.x25_handshakes.specs.Layers.{ready}
+use Rattle.x25_handshakes.specs.laws.Stretch.{Packet, Data, Rr, Rnr, Int, IntConf, Reset, ResetConf, Call, Accept, Clear, ClearConf, Stretch, fresh, StretchStep, stretch_does, stretch_fails, StretchAct, Send, Pull, Ready, NotReady, Interrupt, status, sends, pulls, interrupts, stretch_acts, ack_ground, data_ground, by_ground, takes_data, takes_status, stretch_takes}
+use Rattle.x25_handshakes.specs.laws.Layers.{ready}
 use Rattle.x25_handshakes.proofs.StretchRelation.{numbering, ack_in, int_in, conf_in, InFlowControl, pieces, heard, ints, Ints, Text, Direction, DirectionsRelated, GoodDirections, Told, StretchesRelated, GoodStretch, FollowsFrom}
 use Rattle.x25_handshakes.proofs.ToldLemmas.{tells_act, tells_take}
 use Rattle.x25_handshakes.proofs.TextLemmas.{carried-append}

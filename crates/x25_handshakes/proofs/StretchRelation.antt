@@ -1,11 +1,11 @@
 -- What is kept of two circuits in d1 of one stretch, and the lines between them.
 use Rattle.std.proofs.Common.{◌≡◌, ℕ, ◌+◌, ◌%◌, ◌≤◌, List, [], ◌∷◌, ◌++◌, length, Option, Some, None, Bool, true, false}
 use Rattle.x25_circuit.specs.declared.message.Message.{Message}
-use Rattle.x25_circuit.specs.Messages.{Piece, no_part, joining, carried, AreSound}
-use Rattle.x25_window.specs.Modulo.{resolved}
+use Rattle.x25_circuit.specs.Message.{Piece, no_part, joining, carried, AreSound}
+use Rattle.x25_window.specs.code.Modulo.{resolved}
 use Rattle.x25_circuit.specs.Params.{Terms}
-use Rattle.x25_handshakes.specs.Stretch.{Packet, Data, Rr, Rnr, Int, IntConf, Stretch, StretchStep}
-use Rattle.x25_handshakes.specs.Histories.{IsPrefix}
+use Rattle.x25_handshakes.specs.laws.Stretch.{Packet, Data, Rr, Rnr, Int, IntConf, Stretch, StretchStep}
+use Rattle.x25_handshakes.specs.laws.Histories.{IsPrefix}
 
 -- a data packet's number and what it carries
 pub record Numbering : Type 0 where

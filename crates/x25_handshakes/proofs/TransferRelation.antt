@@ -1,9 +1,9 @@
 -- What is kept of two circuits in p4.
 use Rattle.std.proofs.Common.{◌≡◌, List, [], ◌∷◌, ◌++◌, None}
-use Rattle.x25_handshakes.specs.Handshake.{Mark, Inner, Request, Confirm, At}
+use Rattle.x25_handshakes.specs.laws.Handshake.{Mark, Inner, Request, Confirm, At}
 use Rattle.x25_circuit.specs.Params.{Terms}
-use Rattle.x25_handshakes.specs.Stretch.{Packet, Reset, ResetConf, Call, Accept, Clear, ClearConf, Stretch, fresh}
-use Rattle.x25_handshakes.specs.Transfer.{TransferStep}
+use Rattle.x25_handshakes.specs.laws.Stretch.{Packet, Reset, ResetConf, Call, Accept, Clear, ClearConf, Stretch, fresh}
+use Rattle.x25_handshakes.specs.laws.Transfer.{TransferStep}
 use Rattle.x25_handshakes.proofs.HandshakeRelation.{Level, Handshake}
 use Rattle.x25_handshakes.proofs.StretchRelation.{StretchesRelated}
 

@@ -1,8 +1,8 @@
 ghost use Rattle.std.specs.Prelude.{◌≡◌, List, None};
-ghost use Rattle.x25_handshakes.specs.Layers.{Event, pair_run, pair_start};
-ghost use Rattle.x25_handshakes.specs.Histories.{messages, interrupts, calls, AreInOrder};
-ghost use Rattle.x25_handshakes.specs.Arrivals.{AllArrives};
-ghost use Rattle.x25_handshakes.specs.Drained.{AllIsKnown};
+ghost use Rattle.x25_handshakes.specs.laws.Layers.{Event, pair_run, pair_start};
+ghost use Rattle.x25_handshakes.specs.laws.Histories.{messages, interrupts, calls, AreInOrder};
+ghost use Rattle.x25_handshakes.specs.laws.Arrivals.{AllArrives};
+ghost use Rattle.x25_handshakes.specs.laws.Drained.{AllIsKnown};
 
 /// Two packet layers over lines that keep order, each end out at any moment, and any calls of their users, with the packet sizes
 /// and windows that each call proposes and its acceptance answers (ITU-T X.25 (10/96), section 6.12):

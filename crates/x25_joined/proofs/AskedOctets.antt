@@ -3,13 +3,13 @@ use Rattle.std.proofs.Common.{◌≡◌, ℕ, nat_le, Bool, true, false, cond, L
 use Rattle.x25_bits.specs.declared.role.Role.{Role}
 use Rattle.x25_bits.specs.declared.role.Role.TheVariants.{Dte, Dce}
 use Rattle.x25_station.specs.laws.TimerLaw.{Event, Asks, Fires}
-use Rattle.x25_script.specs.PlainLine.{PlainCommand, call, accept, clear, send, interrupt, reset, ready, not_ready, restart, pull, connect, disconnect, PlainLine, command, t1, deliver, lose, damage, drain, heal}
+use Rattle.x25_script.specs.ScriptLine.{PlainCommand, call, accept, clear, send, interrupt, reset, ready, not_ready, restart, pull, connect, disconnect, PlainLine, command, t1, deliver, lose, damage, drain, heal}
 use Rattle.x25_script.specs.Reading.{line_in}
 use Rattle.x25_script.specs.laws.ReadingLaw.{AsksInOctets, IsInOctets, ReadsOctets}
-use Rattle.x25_decode.specs.Decoded.{sent_in}
+use Rattle.x25_decode.specs.Decoding.{sent_in}
 use Rattle.x25_console.specs.Commands.{command_asked}
 use Rattle.x25_io.specs.HeldLine.{most_line}
-use Rattle.x25_pipe.specs.Piped.{is_same, script_event, read_event, event_in}
+use Rattle.x25_pipe.specs.Pipe.{is_same, script_event, read_event, event_in}
 use Rattle.x25_world.specs.laws.Claims.{CommandsOctets}
 use Rattle.std.specs.Prelude.{option_and_then}
 

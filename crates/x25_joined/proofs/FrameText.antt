@@ -7,15 +7,15 @@ use Rattle.hex.specs.Hex.{value_at, pair_value, decode_pairs}
 use Rattle.x25_bits.specs.Role.{other}
 use Rattle.x25_bits.specs.declared.role.Role.{Role}
 use Rattle.x25_bits.specs.declared.role.Role.TheVariants.{Dte, Dce}
-use Rattle.x25_text.specs.OctetText.{octet_text}
+use Rattle.x25_text.specs.Text.{octet_text}
 use Rattle.x25_io.specs.Lines.{IsOpen}
-use Rattle.x25_decode.specs.Decoded.{mark_of, octets_in, sent_in}
+use Rattle.x25_decode.specs.Decoding.{mark_of, octets_in, sent_in}
 use Rattle.x25_station.specs.laws.ReadLaw.{AreOctets}
 use Rattle.x25_station.specs.laws.TimerLaw.{Comes}
 use Rattle.x25_io.specs.HeldLine.{most_line}
-use Rattle.x25_console.specs.Lines.{frame_line}
-use Rattle.x25_world.specs.TapOctets.{AreOfFrame}
-use Rattle.x25_pipe.specs.Piped.{saying_line, sends, read_event, event_in}
+use Rattle.x25_console.specs.Telling.{frame_line}
+use Rattle.x25_world.specs.laws.TapOctets.{AreOfFrame}
+use Rattle.x25_pipe.specs.Pipe.{saying_line, sends, read_event, event_in}
 
 abbrev digits_of : List ℕ → List ℕ
 digits_of octets = flat_map octet_text octets

@@ -6,27 +6,27 @@ use Rattle.x25_bits.specs.Role.{other}
 use Rattle.x25_bits.specs.declared.role.Role.{Role}
 use Rattle.x25_bits.specs.declared.role.Role.TheVariants.{Dte, Dce}
 use Rattle.x25_frame.specs.Spelling.{spelling_of}
-use Rattle.x25_link.specs.LinkStation.{awaits_ua}
-use Rattle.x25_line.specs.Stations.{is_visible, replaced}
+use Rattle.x25_link.specs.Station.{awaits_ua}
+use Rattle.x25_line.specs.laws.Stations.{is_visible, replaced}
 use Rattle.x25_script.specs.laws.ReadingLaw.{ReadsOctets}
 use Rattle.x25_io.specs.Lines.{IsOpen}
 use Rattle.x25_station.specs.declared.config.Cfg.{Cfg}
 use Rattle.x25_layer.specs.Calls.{PullsAll}
 use Rattle.x25_station.specs.Command.{Command, Requests}
-use Rattle.x25_station.specs.Entries.{StationEntry}
-use Rattle.x25_station.specs.Settings.{Settings, settings_from}
+use Rattle.x25_station.specs.Entry.{StationEntry}
+use Rattle.x25_station.specs.Config.{Settings, settings_from}
 use Rattle.x25_station.specs.Station.{Station}
-use Rattle.x25_station.specs.Steps.{Step, Outcome, Did, Refused, commands, fires, receives}
+use Rattle.x25_station.specs.Step.{Step, Outcome, Did, Refused, commands, fires, receives}
 use Rattle.x25_station.specs.laws.TimerLaw.{Event, Comes, Asks, Fires}
-use Rattle.x25_pipe.specs.Piped.{pulled_behind, and_pulls, with_pulls, event_in, turn, piped}
-use Rattle.x25_world.specs.SetUpFrames.{carries}
+use Rattle.x25_pipe.specs.Pipe.{pulled_behind, and_pulls, with_pulls, event_in, turn, piped}
+use Rattle.x25_world.specs.SetUp.{carries}
 use Rattle.x25_world.specs.declared.set_up.SetUpFrame.TheVariants.{Sabm, Ua}
 use Rattle.x25_world.specs.declared.error.WorldError.TheVariants as error
 use Rattle.x25_world.specs.World as world
 use Rattle.x25_world.specs.World.{OnTap, AtEnd, World, tapped, entered, after_step, WorldOutcome, Happened, Declined, of_station, delivered}
 use Rattle.x25_world.specs.laws.Claims.{ActsInOctets, entry_of_end, entries_at}
-use Rattle.x25_world.specs.TapOctets.{AreOfFrame, AreOfFrames}
-use Rattle.x25_joined.specs.Joined.{Joined, written, station_of, entries_in, frames_in, reads, takes, on_line, Act, Reads, Takes, Loses, Damages, acts, IsNoFrame, is_on_line, IsInTime, IsPossible}
+use Rattle.x25_world.specs.laws.TapOctets.{AreOfFrame, AreOfFrames}
+use Rattle.x25_joined.specs.laws.Joined.{Joined, written, station_of, entries_in, frames_in, reads, takes, on_line, Act, Reads, Takes, Loses, Damages, acts, IsNoFrame, is_on_line, IsInTime, IsPossible}
 use Rattle.x25_joined.specs.laws.JoinedClaims.{frame_of_end, put_by}
 use Rattle.x25_joined.proofs.LineText.{AreWhole, more_whole, one_more, said_more}
 use Rattle.x25_joined.proofs.FrameText.{frame_words, frame_text, frame_open, frame_comes}

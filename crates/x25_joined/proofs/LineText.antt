@@ -3,10 +3,10 @@ use Rattle.std.proofs.Common.{◌≡◌, ◌∙◌, ℕ, false, List, [], ◌∷
 use Rattle.std.proofs.Math.Seq.{drop-append_seam}
 use Rattle.x25_io.specs.Lines.{IsOpen, lines_of}
 use Rattle.x25_io.proofs.LineLemmas.{ends_line}
-use Rattle.x25_station.specs.Settings.{Settings}
+use Rattle.x25_station.specs.Config.{Settings}
 use Rattle.x25_station.specs.Station.{Station, new_station}
-use Rattle.x25_pipe.specs.Piped.{Saying, Turn, and_then, standing_turn, turn, turns, piped}
-use Rattle.x25_joined.specs.Joined.{written, written_more}
+use Rattle.x25_pipe.specs.Pipe.{Saying, Turn, and_then, standing_turn, turn, turns, piped}
+use Rattle.x25_joined.specs.laws.Joined.{written, written_more}
 
 -- ---- lines
 

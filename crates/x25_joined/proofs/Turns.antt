@@ -1,15 +1,15 @@
 -- What a program says of an event, and where it leads.
 use Rattle.std.proofs.Common.{◌≡◌, ◌∙◌, ℕ, List, [], ◌∷◌, ◌++◌, map, Option, Some, None, append-nil, ap, sym, subst, refl}
 use Rattle.x25_frame.specs.Spelling.{spelling_of}
-use Rattle.x25_station.specs.Entries.{StationEntry}
-use Rattle.x25_station.specs.Settings.{Settings}
+use Rattle.x25_station.specs.Entry.{StationEntry}
+use Rattle.x25_station.specs.Config.{Settings}
 use Rattle.x25_station.specs.Station.{Station}
-use Rattle.x25_station.specs.Steps.{Step, Outcome, Did, Refused}
+use Rattle.x25_station.specs.Step.{Step, Outcome, Did, Refused}
 use Rattle.x25_station.specs.laws.TimerLaw as timer
 use Rattle.x25_station.specs.laws.TimerLaw.{Event, Mark}
 use Rattle.x25_station.specs.declared.error.StationError.{StationError}
-use Rattle.x25_pipe.specs.Piped.{Saying, enters, sends, reads_nothing, refuses, marks, Turn, marked, standing, standing_turn, step_told, turn_of, with_pulls, event_in, event_turn, asked_turn, turn}
-use Rattle.x25_joined.specs.Joined.{entries_in, frames_in}
+use Rattle.x25_pipe.specs.Pipe.{Saying, enters, sends, reads_nothing, refuses, marks, Turn, marked, standing, standing_turn, step_told, turn_of, with_pulls, event_in, event_turn, asked_turn, turn}
+use Rattle.x25_joined.specs.laws.Joined.{entries_in, frames_in}
 
 pub entries-append : (xs ys : List Saying) → entries_in (xs ++ ys) ≡ entries_in xs ++ entries_in ys
 entries-append [] ys = refl

@@ -12,7 +12,7 @@ use Rattle.x25_io.specs.code.LinesLead.{LinesLead}
 use Rattle.x25_io.specs.code.Written.{AppendsPrefix, Tells}
 use Rattle.x25_io.proofs.TakerLemmas.{between}
 use Rattle.x25_io.proofs.ToldLemmas.{prefix_more, none_told, part_of_all, told_prefix}
-use Rattle.x25_judge.specs.Judged.{answer_to, output_of, text_of, has_fault}
+use Rattle.x25_judge.specs.Judge.{answer_to, output_of, text_of, has_fault}
 use Rattle.x25_judge.specs.code.Stream.{JudgesOn, WritesLines}
 use Rattle.x25_judge.specs.declared.answerer.Answerer.{Answerer}
 use Rattle.x25_judge.specs.declared.judge.Judge.{Judge}

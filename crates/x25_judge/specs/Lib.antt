@@ -2,5 +2,5 @@ pub mod Note
 pub mod RuleText
 pub mod Way
 pub mod Sides
-pub mod Judged
+pub mod Judge
 pub mod code

@@ -1,7 +1,7 @@
 -- Both ends of a link as what they sent shows them, and what a frame changes and breaks.
 -- ITU-T X.25 (10/96), sections 2.4.3 to 2.4.5; what is said behind a fault is profile.
 use Rattle.std.specs.Prelude.{ℕ, ◌+◌, ◌-◌, ◌==◌, nat_lt, Bool, true, false, not, ◌&&◌, ◌||◌, if◌then◌else◌, min, Option, Some, None}
-use Rattle.x25_frame.specs.PlainFrame.{PlainFrame, info, rr, rnr, rej, sabm, disc, ua, dm, frmr}
+use Rattle.x25_frame.specs.Frame.{PlainFrame, info, rr, rnr, rej, sabm, disc, ua, dm, frmr}
 use Rattle.x25_judge.specs.Note.{first_note}
 use Rattle.x25_judge.specs.Way.{fresh, lost, missed, unheard, answered, heard, rejected, sent_back, sent}
 use Rattle.x25_judge.specs.declared.note.Note.{Note}

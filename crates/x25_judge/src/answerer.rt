@@ -23,7 +23,7 @@ impl Answerer {
     ghost use Rattle.std.specs.Prelude.{◌≡◌, ◌<◌, ◌≤◌, ◌++◌, [], ℕ, List, Option, true, false, ◌||◌, IfOk, OnOk, OnErr, MatchOption, MatchResult};
     ghost use Rattle.x25_io.specs.HeldLine.{most_line};
     ghost use Rattle.x25_io.specs.code.Written.{AppendsPrefix, Tells};
-    ghost use Rattle.x25_judge.specs.Judged.{answer_to, begins};
+    ghost use Rattle.x25_judge.specs.Judge.{answer_to, begins};
 
     /// Nothing waits.
     pub(crate) fn new(alloc: Global, window: u8, long_data: bool) -> Result<Answerer, AllocError>
@@ -85,7 +85,7 @@ impl Answerer {
 }
 
 impl LineTaker for Answerer {
-    ghost use Rattle.x25_judge.specs.Judged.{output_of, status_of as status};
+    ghost use Rattle.x25_judge.specs.Judge.{output_of, status_of as status};
     ghost use Rattle.x25_judge.specs.code.Stream.{JudgesOn, WritesLines};
     ghost use Rattle.x25_judge.specs.declared.judge.Judge as judge;
 

@@ -1,10 +1,10 @@
 //! What answers a line.
 ghost use Rattle.std.specs.Prelude.{◌≡◌, ◌+◌, ◌≤◌, ◌++◌, length, codes, is_some, IfOk};
-ghost use Rattle.x25_decode.specs.Decoded.{mark_of, n1};
+ghost use Rattle.x25_decode.specs.Decoding.{mark_of, n1};
 ghost use Rattle.x25_frame.specs.Reading.{frame_of};
-ghost use Rattle.x25_frame.specs.PlainFrame.{plain};
+ghost use Rattle.x25_frame.specs.Frame.{plain};
 ghost use Rattle.x25_packet_judge.specs.Book.{misses as book_misses};
-ghost use Rattle.x25_judge.specs.Judged.{all_told, answer_to, begins, behind, read_of, noted_text, remark_of, remark_text, sides_of, told_frame};
+ghost use Rattle.x25_judge.specs.Judge.{all_told, answer_to, begins, behind, read_of, noted_text, remark_of, remark_text, sides_of, told_frame};
 ghost use Rattle.x25_judge.specs.Sides.{sees, misses};
 
 use crate::note::{MOST_NOTE, Note};
@@ -201,7 +201,7 @@ impl Judge {
     }
 
     /// Appends the line that answers a line; whether it was at fault is answered. `octets` is overwritten.
-    #[tactic(auto, unfolding(crate::specs::Judged::answer_to))]
+    #[tactic(auto, unfolding(crate::specs::Judge::answer_to))]
     pub(crate) fn answer(&mut self, line: &[u8], octets: &mut [u8], text: &mut Text) -> bool
         requires octets { length octets.old ≡ MOST_OCTETS }
         requires room { length text.old + MOST_ANSWER ≤ ROOM }

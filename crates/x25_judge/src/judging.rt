@@ -2,7 +2,7 @@
 ghost use Rattle.std.specs.Prelude.{◌≡◌, ◌<◌, ◌≤◌, ◌-◌, ◌^◌, ℕ, true, List, Some, IfOk, OnOk, OnErr, IfSome, IsErrOf, length};
 ghost use Rattle.std.specs.Io.KnownBytes.{Appends};
 ghost use Rattle.x25_io.specs.code.Written.{AppendsPrefix};
-ghost use Rattle.x25_judge.specs.Judged.{begins, output_of, status_of};
+ghost use Rattle.x25_judge.specs.Judge.{begins, output_of, status_of};
 ghost use Rattle.x25_judge.specs.code.Stream.{WritesEnded};
 
 use crate::answerer::Answerer;

@@ -1,6 +1,6 @@
 //! Both ends of a link, as what they sent shows them.
 ghost use Rattle.std.specs.Prelude.{◌≡◌};
-ghost use Rattle.x25_frame.specs.PlainFrame.{plain};
+ghost use Rattle.x25_frame.specs.Frame.{plain};
 ghost use Rattle.x25_judge.specs.Sides as definition;
 
 use crate::note::{Note, first_note};

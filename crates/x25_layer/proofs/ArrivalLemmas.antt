@@ -1,20 +1,20 @@
 -- Where the giver is idle and a stretch is open at both ends, the transcripts say that all of it has arrived.
 use Rattle.std.proofs.Common.{◌≡◌, ℕ, ◌+◌, ◌≤◌, List, [], ◌∷◌, ◌++◌, length, Some, true, false, refl, sym, ap, ◌∙◌, length-append, arith}
-use Rattle.x25_packet.specs.PlainPacket.{PlainPacket}
+use Rattle.x25_packet.specs.Packet.{PlainPacket}
 use Rattle.x25_circuit.specs.declared.message.Message.{Message}
-use Rattle.x25_circuit.specs.Messages.{wholes}
+use Rattle.x25_circuit.specs.Message.{wholes}
 use Rattle.x25_circuit.specs.Params.{Terms}
 use Rattle.x25_circuit.specs.Circuit.{Circuit, is_open, waits}
-use Rattle.x25_handshakes.specs.Handshake.{Side, Live, Left, At, state_of}
-use Rattle.x25_handshakes.specs.Stretch.{Stretch}
-use Rattle.x25_handshakes.specs.Calls.{Phase, Unused, Waiting, Offered, Crossed, Talking, Connection}
-use Rattle.x25_handshakes.specs.Layers.{Channels}
-use Rattle.x25_handshakes.specs.Names.{Name}
-use Rattle.x25_handshakes.specs.Histories.{Lists, messages, interrupts, held_in, name_at, held_at}
-use Rattle.x25_handshakes.specs.Arrivals.{open_call, open_at, HasArrived}
+use Rattle.x25_handshakes.specs.laws.Handshake.{Side, Live, Left, At, state_of}
+use Rattle.x25_handshakes.specs.laws.Stretch.{Stretch}
+use Rattle.x25_handshakes.specs.laws.Calls.{Phase, Unused, Waiting, Offered, Crossed, Talking, Connection}
+use Rattle.x25_handshakes.specs.laws.Layers.{Channels}
+use Rattle.x25_handshakes.specs.laws.Names.{Name}
+use Rattle.x25_handshakes.specs.laws.Histories.{Lists, messages, interrupts, held_in, name_at, held_at}
+use Rattle.x25_handshakes.specs.laws.Arrivals.{open_call, open_at, HasArrived}
 use Rattle.x25_layer.specs.Layer.{Layer}
-use Rattle.x25_layer.specs.Transcript.{under, messages_in, interrupts_in, name_of}
-use Rattle.x25_layer.specs.TwoLayers.{End}
+use Rattle.x25_layer.specs.laws.Transcript.{under, messages_in, interrupts_in, name_of}
+use Rattle.x25_layer.specs.laws.TwoLayers.{End}
 use Rattle.x25_layer.specs.laws.Law.{HasAllOf, IsIdleTo}
 use Rattle.x25_layer.proofs.Sees.{Agreed, view}
 use Rattle.x25_layer.proofs.LayerSees.{ShowsAt}

@@ -3,7 +3,7 @@ use Rattle.std.proofs.Common.{◌≡◌, ℕ, suc, ◌-◌, ◌<◌, ◌≤◌, 
 use Rattle.std.proofs.Math.ListN.{length-set}
 use Rattle.std.proofs.lemmas.Bool.{leb-true, and_parts}
 use Rattle.x25_packet.specs.declared.packet.Packet.{Packet}
-use Rattle.x25_packet.specs.PlainPacket.{PlainPacket}
+use Rattle.x25_packet.specs.Packet.{PlainPacket}
 use Rattle.x25_circuit.specs.declared.circuit.Circuit as circuit_code
 use Rattle.x25_circuit.specs.declared.error.CircuitError.{CircuitError}
 use Rattle.x25_circuit.specs.declared.error.CircuitError.TheVariants.{WrongState}
@@ -11,9 +11,9 @@ use Rattle.x25_circuit.specs.declared.state.State.{State}
 use Rattle.x25_circuit.specs.declared.state.State.TheVariants.{Free, Calling, Arriving, Collision, Open, Resetting, Clearing}
 use Rattle.x25_circuit.specs.Circuit.{Settings, Circuit, is_open, is_open_in}
 use Rattle.x25_circuit.specs.declared.params.Params.{Params}
-use Rattle.x25_circuit.specs.Calls.{Outcome, Done, Refused, Request, Calls, Sends, send_in, outcome}
+use Rattle.x25_circuit.specs.Calling.{Outcome, Done, Refused, Request, Calls, Sends, send_in, outcome}
 use Rattle.x25_circuit.specs.code.Replies.{plain_sent}
-use Rattle.x25_circuit.specs.Requests.{refusal_of, AnswersRequest}
+use Rattle.x25_circuit.specs.Request.{refusal_of, AnswersRequest}
 use Rattle.x25_circuit.specs.code.FitsCircuit.{FitsCircuit}
 use Rattle.x25_layer.specs.declared.layer.Layer as code
 use Rattle.x25_layer.specs.declared.error.LayerError.{LayerError}
@@ -22,7 +22,7 @@ use Rattle.x25_layer.specs.Layer.{LayerSettings, Layer, is_channel, put_at, pack
 use Rattle.x25_layer.specs.Calls.{Asks, Dials, LayerOutcome, Accepted, Declined, free_channel, puts_at_once, where_room, if_at_once, dialled, outcome_in, layer_outcome, outcome_on}
 use Rattle.x25_layer.specs.Rounds.{LinkView, Answered, Went, Refuses, went, calls}
 use Rattle.x25_layer.specs.code.FitsLayer.{FitsCircuits, FitsLayer}
-use Rattle.x25_layer.specs.OverLink.{LayerGives, LinkGives}
+use Rattle.x25_layer.specs.code.OverLink.{LayerGives, LinkGives}
 use Rattle.x25_layer.specs.Asking.{with_circuit, AsksCircuit, error_without_memory}
 use Rattle.x25_layer.proofs.FitLemmas.{read_at}
 use Rattle.x25_layer.proofs.PullLemmas.{fits_put, fits_same}

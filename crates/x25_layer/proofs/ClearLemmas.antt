@@ -2,14 +2,14 @@
 use Rattle.std.proofs.Common.{◌≡◌, ℕ, List, [], ◌∷◌, ◌++◌, Option, None, Bool, true, false, refl, sym, ap, subst, ◌∙◌}
 use Rattle.x25_bits.specs.declared.role.Role.{Role}
 use Rattle.x25_bits.specs.declared.role.Role.TheVariants.{Dte, Dce}
-use Rattle.x25_packet.specs.PlainPacket.{PlainPacket, clear}
+use Rattle.x25_packet.specs.Packet.{PlainPacket, clear}
 use Rattle.x25_circuit.specs.Circuit.{Circuit, is_free, is_free_in}
-use Rattle.x25_handshakes.specs.Handshake.{Side, Live, Left, has_left, At}
-use Rattle.x25_handshakes.specs.Stretch.{Stretch, Clear}
-use Rattle.x25_handshakes.specs.Calls.{Phase, Unused, Waiting, Offered, Crossed, Talking, Connection}
-use Rattle.x25_handshakes.specs.Channel.{in_p1, channel_takes, channel_side_takes}
-use Rattle.x25_handshakes.specs.Layers.{LayerPacket, On, Channels, LayerStep, Pair, Takes, pair_moves, pair_run, pair_start, layer_takes, layer_side_takes}
-use Rattle.x25_layer.specs.TwoLayers.{End, TwoLayers, turned, run, start}
+use Rattle.x25_handshakes.specs.laws.Handshake.{Side, Live, Left, has_left, At}
+use Rattle.x25_handshakes.specs.laws.Stretch.{Stretch, Clear}
+use Rattle.x25_handshakes.specs.laws.Calls.{Phase, Unused, Waiting, Offered, Crossed, Talking, Connection}
+use Rattle.x25_handshakes.specs.laws.Channel.{in_p1, channel_takes, channel_side_takes}
+use Rattle.x25_handshakes.specs.laws.Layers.{LayerPacket, On, Channels, LayerStep, Pair, Takes, pair_moves, pair_run, pair_start, layer_takes, layer_side_takes}
+use Rattle.x25_layer.specs.laws.TwoLayers.{End, TwoLayers, turned, run, start}
 use Rattle.x25_layer.specs.laws.Law.{Always}
 use Rattle.x25_layer.specs.laws.NameLaw.{IsNoClearInP1, FrontIsNoClearInP1, NoClearComesInP1}
 use Rattle.x25_layer.proofs.Sees.{Agreed, state_in_transfer, state_in, state_at, view}

@@ -2,20 +2,20 @@
 use Rattle.std.proofs.Common.{◌≡◌, ℕ, List, [], ◌∷◌, ◌++◌, Option, Some, None, Bool, true, false, ◌==◌, if◌then◌else◌, refl, sym, ap, subst, ◌∙◌, append_assoc, append-nil}
 use Rattle.std.proofs.lemmas.Bool.{eqb-true}
 use Rattle.x25_bits.specs.declared.role.Role.TheVariants.{Dte, Dce}
-use Rattle.x25_packet.specs.PlainPacket.{PlainPacket, clear, restart, restart_conf}
+use Rattle.x25_packet.specs.Packet.{PlainPacket, clear, restart, restart_conf}
 use Rattle.x25_packet.specs.Spelling.{channel_of}
 use Rattle.x25_circuit.specs.declared.params.Params.{Params}
 use Rattle.x25_circuit.specs.Circuit.{Circuit}
-use Rattle.x25_circuit.specs.Notices.{PlainNotice}
-use Rattle.x25_circuit.specs.Table.{Answer, answers}
-use Rattle.x25_circuit.specs.Calls.{Outcome, Done, Refused, Calls, outcome, pulled}
-use Rattle.x25_handshakes.specs.Names.{Name}
+use Rattle.x25_circuit.specs.Notice.{PlainNotice}
+use Rattle.x25_circuit.specs.Hearing.{Answer, answers}
+use Rattle.x25_circuit.specs.Calling.{Outcome, Done, Refused, Calls, outcome, pulled}
+use Rattle.x25_handshakes.specs.laws.Names.{Name}
 use Rattle.x25_layer.specs.declared.error.LayerError.{LayerError}
 use Rattle.x25_layer.specs.declared.error.LayerError.TheVariants as error
 use Rattle.x25_layer.specs.Layer.{LayerSettings, Layer, LayerNotice, LayerAnswer, is_channel, notices_on, is_ready, answers_on, drops, answers_ready, answers_restarting, answers_in, layer_answers}
 use Rattle.x25_layer.specs.Calls.{LayerRequest, Asks, Dials, Restarts, PullsAll, LayerOutcome, Accepted, Declined, free_channel, puts_at_once, where_room, if_at_once, outcome_on, dialled, outcome_ready, outcome_in, layer_outcome, layer_pulled}
-use Rattle.x25_layer.specs.Transcript.{name_of}
-use Rattle.x25_layer.specs.TwoLayers.{End, TwoLayers, Move, Requests, Pulls, HandsUp, GoesDown, requested, pulled_in, handed_up, moves_in, turned, settings_of, Event, happens, run, start}
+use Rattle.x25_layer.specs.laws.Transcript.{name_of}
+use Rattle.x25_layer.specs.laws.TwoLayers.{End, TwoLayers, Move, Requests, Pulls, HandsUp, GoesDown, requested, pulled_in, handed_up, moves_in, turned, settings_of, Event, happens, run, start}
 use Rattle.x25_layer.specs.laws.Law.{Always}
 use Rattle.x25_layer.specs.laws.NameLaw.{first_name, named_by, named_after, counted, NamesAreCounted, IsNoClearInP1, FrontIsNoClearInP1, NoClearComesInP1}
 use Rattle.x25_layer.proofs.LayerLemmas.{true≢false}

@@ -2,17 +2,17 @@
 use Rattle.std.proofs.Common.{◌≡◌, inl, inr, ℕ, List, [], ◌∷◌, ◌++◌, option_to_list, Bool, true, false, ◌==◌, if◌then◌else◌, refl, sym, ap, subst, ◌∙◌, append-nil}
 use Rattle.x25_bits.specs.declared.role.Role.{Role}
 use Rattle.x25_bits.specs.declared.role.Role.TheVariants.{Dte, Dce}
-use Rattle.x25_packet.specs.PlainPacket.{PlainPacket, restart}
+use Rattle.x25_packet.specs.Packet.{PlainPacket, restart}
 use Rattle.x25_circuit.specs.declared.state.State.{State}
 use Rattle.x25_circuit.specs.declared.state.State.TheVariants.{Free}
 use Rattle.x25_circuit.specs.Circuit.{Circuit, is_free_in}
-use Rattle.x25_circuit.specs.Calls.{Pulled, pull_in, pulled, pulls_nothing}
-use Rattle.x25_handshakes.specs.Histories.{IsPrefix}
+use Rattle.x25_circuit.specs.Calling.{Pulled, pull_in, pulled, pulls_nothing}
+use Rattle.x25_handshakes.specs.laws.Histories.{IsPrefix}
 use Rattle.x25_layer.specs.Layer.{LayerSettings, Layer, LayerNotice, restarted, is_channel, packet_on, answers_in, layer_answers, restart_cause, goes_up}
 use Rattle.x25_layer.specs.Calls.{LayerRequest, LayerOutcome, Accepted, Declined, outcome_in, layer_outcome, layer_pulled}
-use Rattle.x25_layer.specs.Quiet.{AreQuiet, AreNoFaults}
-use Rattle.x25_layer.specs.TwoLayers.{End, requested, pulled_in, moves_in, settings_of, started}
-use Rattle.x25_layer.specs.Apart.{OwnMove, Requests, Pulls, Takes, GoesDown, as_move, coming, alone, own_moves, own_run, Ends, ApartEvent, apart_happens, apart_run, apart_start, IsNext, IsInOrder, AreInOrder, as_world, AlwaysApart}
+use Rattle.x25_layer.specs.laws.Quiet.{AreQuiet, AreNoFaults}
+use Rattle.x25_layer.specs.laws.TwoLayers.{End, requested, pulled_in, moves_in, settings_of, started}
+use Rattle.x25_layer.specs.laws.Apart.{OwnMove, Requests, Pulls, Takes, GoesDown, as_move, coming, alone, own_moves, own_run, Ends, ApartEvent, apart_happens, apart_run, apart_start, IsNext, IsInOrder, AreInOrder, as_world, AlwaysApart}
 use Rattle.x25_layer.specs.laws.ApartLaw.{BeginsRestarted, IsToldFirst, RestartsFirst, BeginsAlone}
 use Rattle.x25_layer.proofs.LayerLemmas.{true≢false}
 use Rattle.x25_layer.proofs.ApartLemmas.{event}

@@ -9,8 +9,8 @@ use Rattle.x25_circuit.specs.Circuit.{Circuit, is_open, waits}
 use Rattle.x25_circuit.specs.code.FitsCircuit.{FitsCircuit}
 use Rattle.x25_layer.specs.declared.layer.Layer as code
 use Rattle.x25_layer.specs.Layer.{LayerSettings, Layer, is_channel}
-use Rattle.x25_handshakes.specs.Names.{Name}
-use Rattle.x25_layer.specs.Transcript.{name_of}
+use Rattle.x25_handshakes.specs.laws.Names.{Name}
+use Rattle.x25_layer.specs.laws.Transcript.{name_of}
 use Rattle.x25_layer.specs.code.FitsLayer.{FitsCircuits, FitsLayer, name_at, params_at, is_open_at, waits_up_to}
 
 not_false : true ≡ false → ⊥

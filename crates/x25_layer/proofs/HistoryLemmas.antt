@@ -1,14 +1,14 @@
 -- The transcript of an end is its history, of each kind: of calls, messages and interrupts.
 use Rattle.std.proofs.Common.{◌≡◌, ◌⊎◌, inl, inr, ℕ, List, [], ◌∷◌, ◌++◌, Bool, true, false, ◌==◌, if◌then◌else◌, refl, sym, ap, ◌∙◌, append_assoc}
 use Rattle.std.proofs.lemmas.Bool.{eqb-true}
-use Rattle.x25_circuit.specs.Notices.{CallRequest}
-use Rattle.x25_handshakes.specs.Handshake.{Live, At, state_of}
-use Rattle.x25_handshakes.specs.Stretch.{Stretch}
-use Rattle.x25_handshakes.specs.Calls.{Phase, Unused, Talking, Connection}
-use Rattle.x25_handshakes.specs.Layers.{Channels}
-use Rattle.x25_handshakes.specs.Names.{Name, both, same_name, IsEarlier}
-use Rattle.x25_handshakes.specs.Histories.{Lists, none, Kind, held_in, of_stretch, messages, interrupts, calls, circuit_at, name_at, held_at, written}
-use Rattle.x25_layer.specs.Transcript.{Handed, nothing_handed, added, Entry, says, under, calls_in, messages_in, interrupts_in}
+use Rattle.x25_circuit.specs.Notice.{CallRequest}
+use Rattle.x25_handshakes.specs.laws.Handshake.{Live, At, state_of}
+use Rattle.x25_handshakes.specs.laws.Stretch.{Stretch}
+use Rattle.x25_handshakes.specs.laws.Calls.{Phase, Unused, Talking, Connection}
+use Rattle.x25_handshakes.specs.laws.Layers.{Channels}
+use Rattle.x25_handshakes.specs.laws.Names.{Name, both, same_name, IsEarlier}
+use Rattle.x25_handshakes.specs.laws.Histories.{Lists, none, Kind, held_in, of_stretch, messages, interrupts, calls, circuit_at, name_at, held_at, written}
+use Rattle.x25_layer.specs.laws.Transcript.{Handed, nothing_handed, added, Entry, says, under, calls_in, messages_in, interrupts_in}
 use Rattle.x25_layer.proofs.Sees.{held_phase, held_of, Adds, AfterReset, AfterClear}
 use Rattle.x25_layer.proofs.NoteLemmas.{append_nil}
 use Rattle.x25_layer.proofs.LayerSees.{present, TurnOf, Here, Afresh, StepOf}

@@ -1,11 +1,11 @@
 -- What holds of two layers after every event, from what is known of the nested handshakes.
 use Rattle.std.proofs.Common.{◌≡◌, Bool, ℕ, sym, ap, subst, ◌∙◌}
-use Rattle.x25_handshakes.specs.Handshake.{state_of}
-use Rattle.x25_handshakes.specs.Layers.{Pair, pair_run, pair_start}
-use Rattle.x25_handshakes.specs.Names.{Name}
-use Rattle.x25_handshakes.specs.Histories.{Lists, Kind, messages, interrupts, calls, name_at, held_at, IsPrefix, IsLawful, channel_view, Histories, histories_run, histories_start}
-use Rattle.x25_layer.specs.Transcript.{Handed, under, calls_in, messages_in, interrupts_in}
-use Rattle.x25_layer.specs.TwoLayers.{TwoLayers, run, start}
+use Rattle.x25_handshakes.specs.laws.Handshake.{state_of}
+use Rattle.x25_handshakes.specs.laws.Layers.{Pair, pair_run, pair_start}
+use Rattle.x25_handshakes.specs.laws.Names.{Name}
+use Rattle.x25_handshakes.specs.laws.Histories.{Lists, Kind, messages, interrupts, calls, name_at, held_at, IsPrefix, IsLawful, channel_view, Histories, histories_run, histories_start}
+use Rattle.x25_layer.specs.laws.Transcript.{Handed, under, calls_in, messages_in, interrupts_in}
+use Rattle.x25_layer.specs.laws.TwoLayers.{TwoLayers, run, start}
 use Rattle.x25_layer.specs.laws.Law.{Always, IsQuietWorld, IsLawfulWorld, ArrivesAll, KeepsOrder}
 use Rattle.x25_layer.proofs.LayerSees.{bare_layers}
 use Rattle.x25_layer.proofs.RunLemmas.{Premises, histories_pair, AreHistories, InRun, in_run}

@@ -4,24 +4,24 @@ use Rattle.std.proofs.lemmas.Option.{same_Some}
 use Rattle.std.proofs.lemmas.Bool.{eqb-true, le-leb}
 use Rattle.x25_bits.specs.declared.role.Role.{Role}
 use Rattle.x25_bits.specs.declared.role.Role.TheVariants.{Dte, Dce}
-use Rattle.x25_packet.specs.PlainPacket.{PlainPacket, call, accept, clear, clear_conf, user_data, rr, rnr, interrupt, interrupt_conf, reset, reset_conf, restart, restart_conf}
+use Rattle.x25_packet.specs.Packet.{PlainPacket, call, accept, clear, clear_conf, user_data, rr, rnr, interrupt, interrupt_conf, reset, reset_conf, restart, restart_conf}
 use Rattle.x25_packet.specs.Spelling.{channel_of, HasChannel, moved_to}
 use Rattle.x25_circuit.specs.declared.params.Params.{Params}
 use Rattle.x25_circuit.specs.Circuit.{Circuit, begun, forgotten, is_free}
-use Rattle.x25_circuit.specs.Notices.{PlainNotice}
-use Rattle.x25_circuit.specs.Table.{Answer, answers}
-use Rattle.x25_circuit.specs.Calls.{Outcome, Done, Refused, Request, Calls, Accepts, outcome, Pulled, pulled}
-use Rattle.x25_handshakes.specs.Handshake.{Side, Live, Left, has_left, At}
-use Rattle.x25_handshakes.specs.Calls.{Connection}
-use Rattle.x25_handshakes.specs.Channel.{ChannelStep, channel_takes, channel_acts, fresh_channel}
-use Rattle.x25_handshakes.specs.Layers.{LayerPacket, On, Restart, Channels, put, addressed, on_channel, ready, restarting, all_fresh, LayerStep, layer_takes, layer_side_takes, layer_acts, layer_side_acts, OnChannel}
-use Rattle.x25_handshakes.specs.Names.{both, same_name}
+use Rattle.x25_circuit.specs.Notice.{PlainNotice}
+use Rattle.x25_circuit.specs.Hearing.{Answer, answers}
+use Rattle.x25_circuit.specs.Calling.{Outcome, Done, Refused, Request, Calls, Accepts, outcome, Pulled, pulled}
+use Rattle.x25_handshakes.specs.laws.Handshake.{Side, Live, Left, has_left, At}
+use Rattle.x25_handshakes.specs.laws.Calls.{Connection}
+use Rattle.x25_handshakes.specs.laws.Channel.{ChannelStep, channel_takes, channel_acts, fresh_channel}
+use Rattle.x25_handshakes.specs.laws.Layers.{LayerPacket, On, Restart, Channels, put, addressed, on_channel, ready, restarting, all_fresh, LayerStep, layer_takes, layer_side_takes, layer_acts, layer_side_acts, OnChannel}
+use Rattle.x25_handshakes.specs.laws.Names.{both, same_name}
 use Rattle.x25_layer.specs.Layer.{LayerSettings, Layer, LayerAnswer, is_channel, put_at, packet_on, notices_on, is_ready, answers_on, drops, answers_ready, answers_restarting, answers_in, layer_answers}
 use Rattle.x25_layer.specs.Layer as flat
 use Rattle.x25_layer.specs.Calls.{LayerRequest, Asks, Dials, Restarts, PullsAll, LayerOutcome, Accepted, Declined, first_of, lowest_free, highest_free, free_channel, puts_at_once, where_room, if_at_once, outcome_on, dialled, outcome_ready, outcome_in, layer_outcome, LayerPulled, layer_pulled}
-use Rattle.x25_layer.specs.Quiet.{IsQuiet, IsQuietAt, AreQuiet, AreNoFaults}
-use Rattle.x25_layer.specs.Transcript.{Handed, nothing_handed, added, told_by_all, asked_by, Entry, Asked, name_of}
-use Rattle.x25_layer.specs.TwoLayers.{shown, entries_asked, entry_of_request, entry_of_dial, entries_told}
+use Rattle.x25_layer.specs.laws.Quiet.{IsQuiet, IsQuietAt, AreQuiet, AreNoFaults}
+use Rattle.x25_layer.specs.laws.Transcript.{Handed, nothing_handed, added, told_by_all, asked_by, Entry, Asked, name_of}
+use Rattle.x25_layer.specs.laws.TwoLayers.{shown, entries_asked, entry_of_request, entry_of_dial, entries_told}
 use Rattle.x25_layer.proofs.Sees.{unagreed, view, Shows, ParamsLaws, bare, bare_if, IsQuietIf, TellNoFault, Follows, Does, Heeds, act_of, pull_act, Notes, NotesOutcome}
 use Rattle.x25_layer.proofs.ViewLemmas.{some_none, follows, heeds, pulls_as}
 use Rattle.x25_layer.proofs.NoteLemmas.{still, notes_taken, notes_asked, notes_pulled}

@@ -4,7 +4,7 @@ use Rattle.x25_bits.specs.declared.seq.Seq.{Seq}
 use Rattle.x25_packet.specs.declared.facilities.Directions.{Directions}
 use Rattle.x25_packet.specs.declared.packet.Packet.{Packet}
 use Rattle.x25_packet.specs.declared.packet.Packet.TheVariants as code
-use Rattle.x25_packet.specs.PlainPacket.{plain}
+use Rattle.x25_packet.specs.Packet.{plain}
 use Rattle.x25_packet.specs.Digits.{packed, IsAddress}
 use Rattle.x25_packet.specs.Facilities.{facility, IsFacilityField}
 use Rattle.x25_packet.specs.Spelling.{addresses, call_body, accept_body, body_of, IsInRange}

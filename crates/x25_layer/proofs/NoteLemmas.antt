@@ -3,25 +3,25 @@ use Rattle.std.proofs.Common.{◌≡◌, inl, inr, ℕ, ◌+◌, ◌%◌, List, 
 use Rattle.std.proofs.lemmas.Grind.{common_steps}
 use Rattle.x25_bits.specs.declared.role.Role.{Role}
 use Rattle.x25_bits.specs.declared.role.Role.TheVariants.{Dte, Dce}
-use Rattle.x25_packet.specs.PlainPacket.{PlainPacket, call, accept, clear, clear_conf, user_data, rr, rnr, interrupt, interrupt_conf, reset, reset_conf, restart, restart_conf}
+use Rattle.x25_packet.specs.Packet.{PlainPacket, call, accept, clear, clear_conf, user_data, rr, rnr, interrupt, interrupt_conf, reset, reset_conf, restart, restart_conf}
 use Rattle.x25_packet.specs.Spelling.{HasChannel}
 use Rattle.x25_circuit.specs.declared.message.Message.{Message}
-use Rattle.x25_circuit.specs.Messages.{Piece, piece_of, no_part, joining, completed, wholes}
+use Rattle.x25_circuit.specs.Message.{Piece, piece_of, no_part, joining, completed, wholes}
 use Rattle.x25_circuit.specs.declared.params.Params.{Params}
 use Rattle.x25_circuit.specs.declared.error.CircuitError.TheVariants.{BadParameter}
 use Rattle.x25_circuit.specs.declared.state.State.TheVariants.{Calling, Open}
 use Rattle.x25_circuit.specs.Params.{Terms, may_answer, field_for, said_in}
 use Rattle.x25_circuit.specs.Circuit.{Settings, Circuit}
-use Rattle.x25_circuit.specs.Notices.{CallRequest, connected, deliveries}
-use Rattle.x25_circuit.specs.Table.{answers, unless, takes, hears_status, confirms, request_in, goes, clears_for, collides}
-use Rattle.x25_circuit.specs.Calls.{Outcome, Refused, Request, Calls, Accepts, Clears, Sends, Interrupts, does, call_sent, may_call, request_of, outcome}
-use Rattle.x25_handshakes.specs.Handshake.{Side, Live, Left, At}
-use Rattle.x25_handshakes.specs.Stretch.{Data, Call, Accept, Stretch, StretchStep, stretch_does, stretch_fails, by_ground, takes_data, takes_status, data_ground, ack_ground, pulls}
-use Rattle.x25_handshakes.specs.Transfer.{d1, lifted}
-use Rattle.x25_handshakes.specs.Calls.{Phase, Unused, Waiting, Offered, Crossed, Talking, Connection, CallStep, in_transfer, call_crosses, calling_talk, called_talk}
-use Rattle.x25_handshakes.specs.Calls as nested_calls
-use Rattle.x25_handshakes.specs.Channel.{clr, lifted_call, channel_takes, channel_acts}
-use Rattle.x25_layer.specs.Transcript.{Handed, nothing_handed, added, told_by_all, asked_by}
+use Rattle.x25_circuit.specs.Notice.{CallRequest, connected, deliveries}
+use Rattle.x25_circuit.specs.Hearing.{answers, unless, takes, hears_status, confirms, request_in, goes, clears_for, collides}
+use Rattle.x25_circuit.specs.Calling.{Outcome, Refused, Request, Calls, Accepts, Clears, Sends, Interrupts, does, call_sent, may_call, request_of, outcome}
+use Rattle.x25_handshakes.specs.laws.Handshake.{Side, Live, Left, At}
+use Rattle.x25_handshakes.specs.laws.Stretch.{Data, Call, Accept, Stretch, StretchStep, stretch_does, stretch_fails, by_ground, takes_data, takes_status, data_ground, ack_ground, pulls}
+use Rattle.x25_handshakes.specs.laws.Transfer.{d1, lifted}
+use Rattle.x25_handshakes.specs.laws.Calls.{Phase, Unused, Waiting, Offered, Crossed, Talking, Connection, CallStep, in_transfer, call_crosses, calling_talk, called_talk}
+use Rattle.x25_handshakes.specs.laws.Calls as nested_calls
+use Rattle.x25_handshakes.specs.laws.Channel.{clr, lifted_call, channel_takes, channel_acts}
+use Rattle.x25_layer.specs.laws.Transcript.{Handed, nothing_handed, added, told_by_all, asked_by}
 use Rattle.x25_layer.proofs.Sees.{talk_of, Agreed, taken_on, AreAgreedIn, AreAgreed, view, bare, act_of, pull_act, held_stretch, held_of, resets_of, Notes, Adds, AfterReset, AfterClear, NotesOutcome}
 use Rattle.x25_layer.proofs.ParamsLemmas.{call_proposes}
 use Rattle.x25_layer.proofs.ViewLemmas.{some_none, channel_step, in_open, in_resetting, in_talk, in_call, on_terms}

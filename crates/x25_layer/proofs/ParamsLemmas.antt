@@ -5,7 +5,7 @@ use Rattle.x25_packet.specs.Facilities.{IsFacilityField}
 use Rattle.x25_packet.specs.Spelling.{longest_user}
 use Rattle.x25_circuit.specs.declared.params.Params.{Params}
 use Rattle.x25_circuit.specs.Params.{may_propose}
-use Rattle.x25_circuit.specs.Calls.{is_address_text, may_call}
+use Rattle.x25_circuit.specs.Calling.{is_address_text, may_call}
 
 pub no_field : IsFacilityField []
 no_field = (record { packet_size = None; window_size = None }, record { sizes = tt; windows = tt }, refl)

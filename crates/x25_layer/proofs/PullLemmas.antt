@@ -1,22 +1,22 @@
 -- Rounds of pulls, one circuit after another.
 use Rattle.std.proofs.Common.{◌≡◌, ℕ, zero, suc, ◌+◌, ◌≤◌, List, [], ◌∷◌, ◌++◌, length, Option, Some, None, Bool, true, false, nat_lt, ◌==◌, ◌&&◌, if◌then◌else◌, set, slice_get, option_to_list, refl, sym, ap, subst, ◌∙◌, ◌⊎◌, inl, inr, arith, eq-eqb, length-append, length-set}
 use Rattle.std.proofs.lemmas.Option.{none-some}
-use Rattle.x25_link.specs.Lists.{Lists, handed_down}
-use Rattle.x25_packet.specs.PlainPacket.{PlainPacket}
+use Rattle.x25_link.specs.OrderedLink.{Lists, handed_down}
+use Rattle.x25_packet.specs.Packet.{PlainPacket}
 use Rattle.x25_packet.specs.Spelling.{spelling_of, moved_to}
 use Rattle.x25_circuit.specs.declared.circuit.Circuit as circuit_code
 use Rattle.x25_circuit.specs.declared.state.State.{State}
 use Rattle.x25_circuit.specs.declared.state.State.TheVariants.{Free, Calling, Arriving, Collision, Open, Resetting, Clearing}
-use Rattle.x25_circuit.specs.Messages.{Piece}
+use Rattle.x25_circuit.specs.Message.{Piece}
 use Rattle.x25_circuit.specs.Circuit.{Settings, Talk, Circuit, outgoing}
-use Rattle.x25_circuit.specs.Calls.{Pulled, pulls_nothing, pull_open, pull_in, pulled}
+use Rattle.x25_circuit.specs.Calling.{Pulled, pulls_nothing, pull_open, pull_in, pulled}
 use Rattle.x25_circuit.specs.code.FitsCircuit.{FitsCircuit}
 use Rattle.x25_layer.specs.Layer.{LayerSettings, put_at, packet_on}
 use Rattle.x25_layer.specs.Calls.{layer_pulled}
 use Rattle.x25_layer.specs.code.FitsLayer.{FitsCircuits}
-use Rattle.x25_layer.specs.OverLink.{after_all, view_of}
+use Rattle.x25_layer.specs.code.OverLink.{after_all, view_of}
 use Rattle.x25_layer.specs.Rounds.{LinkView, Putting, with_pulled, pull_one, round}
-use Rattle.x25_layer.specs.Pulling.{IsEnough, pulled_where, Stands}
+use Rattle.x25_layer.specs.code.Pulling.{IsEnough, pulled_where, Stands}
 use Rattle.x25_layer.proofs.FitLemmas.{get_changed}
 use Rattle.x25_layer.proofs.SettleLemmas.{put_other, not_same}
 

@@ -1,12 +1,12 @@
 -- The rounds of a step are pulls of configured channels, one after another.
 use Rattle.std.proofs.Common.{◌≡◌, ℕ, zero, suc, ◌≤◌, List, [], ◌∷◌, ◌++◌, Option, Some, None, Bool, true, false, nat_lt, ◌==◌, if◌then◌else◌, option_to_list, refl, sym, ap, subst, ◌∙◌, append_assoc, arith}
-use Rattle.x25_packet.specs.PlainPacket.{PlainPacket}
+use Rattle.x25_packet.specs.Packet.{PlainPacket}
 use Rattle.x25_layer.specs.Layer.{LayerSettings, Layer, LayerAnswer, is_channel, layer_answers}
 use Rattle.x25_layer.specs.Calls.{LayerOutcome, Accepted, Declined, layer_outcome, layer_pulled}
 use Rattle.x25_layer.specs.Rounds.{LinkView, Putting, begin, with_pulled, pull_one, round, rounds_of, rounds, backlog, Answered, Went, Refuses, went, heard, answer_to}
 use Rattle.x25_layer.specs.declared.error.LayerError.{LayerError}
 use Rattle.x25_layer.specs.declared.error.LayerError.TheVariants as error
-use Rattle.x25_layer.specs.TwoLayers.{TwoLayers, Move, Requests, Pulls, HandsUp, requested, pulled_in, answered, handed_up, moves_in, moves}
+use Rattle.x25_layer.specs.laws.TwoLayers.{TwoLayers, Move, Requests, Pulls, HandsUp, requested, pulled_in, answered, handed_up, moves_in, moves}
 use Rattle.x25_layer.specs.laws.RoundLaw.{moves_all, pulls_of, AreChannels, IsRun, CallsRun, HearsRun}
 use Rattle.x25_layer.proofs.NoteLemmas.{append_nil}
 use Rattle.x25_layer.proofs.LayerLemmas.{is_between}

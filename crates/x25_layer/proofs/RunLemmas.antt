@@ -2,14 +2,14 @@
 use Rattle.std.proofs.Common.{◌≡◌, ◌⊎◌, inl, inr, ℕ, List, [], ◌∷◌, ◌++◌, None, Bool, true, false, if◌then◌else◌, refl, sym, ap, subst, ◌∙◌}
 use Rattle.x25_bits.specs.declared.role.Role.{Role}
 use Rattle.x25_bits.specs.declared.role.Role.TheVariants.{Dte, Dce}
-use Rattle.x25_handshakes.specs.Handshake.{state_of}
-use Rattle.x25_handshakes.specs.Layers.{Channels, Pair, pair_moves, pair_happens, pair_run, pair_start}
-use Rattle.x25_handshakes.specs.Layers as nested
-use Rattle.x25_handshakes.specs.Names.{Name, IsEarlier}
-use Rattle.x25_handshakes.specs.Histories.{Lists, none, Kind, messages, interrupts, calls, name_at, held_at, Histories, turned_histories, histories_moves, histories_happens, histories_run, histories_start, AreInOrder}
-use Rattle.x25_handshakes.specs.Arrivals.{AllArrives}
-use Rattle.x25_layer.specs.Transcript.{Handed, Entry, under, calls_in, messages_in, interrupts_in}
-use Rattle.x25_layer.specs.TwoLayers.{TwoLayers, Move, Event, moves, turned, happens, run, start, settings_of}
+use Rattle.x25_handshakes.specs.laws.Handshake.{state_of}
+use Rattle.x25_handshakes.specs.laws.Layers.{Channels, Pair, pair_moves, pair_happens, pair_run, pair_start}
+use Rattle.x25_handshakes.specs.laws.Layers as nested
+use Rattle.x25_handshakes.specs.laws.Names.{Name, IsEarlier}
+use Rattle.x25_handshakes.specs.laws.Histories.{Lists, none, Kind, messages, interrupts, calls, name_at, held_at, Histories, turned_histories, histories_moves, histories_happens, histories_run, histories_start, AreInOrder}
+use Rattle.x25_handshakes.specs.laws.Arrivals.{AllArrives}
+use Rattle.x25_layer.specs.laws.Transcript.{Handed, Entry, under, calls_in, messages_in, interrupts_in}
+use Rattle.x25_layer.specs.laws.TwoLayers.{TwoLayers, Move, Event, moves, turned, happens, run, start, settings_of}
 use Rattle.x25_layer.proofs.Sees.{ParamsLaws}
 use Rattle.x25_layer.proofs.LayerSees.{StepOf}
 use Rattle.x25_layer.proofs.HistoryLemmas.{IsListed, recorded, messages_listed, interrupts_listed, calls_listed}

@@ -1,26 +1,26 @@
 -- What a circuit of the table is of a channel of the nested handshakes: the lists that no row needs are forgotten, and of packet sizes
 -- and windows in force the terms of data packets alone are known there.
 use Rattle.std.proofs.Common.{◌≡◌, ◌⊎◌, ℕ, ◌<◌, List, [], ◌∷◌, Option, Some, None, Bool, true, false, if◌then◌else◌}
-use Rattle.x25_packet.specs.PlainPacket.{PlainPacket, call, accept, clear, clear_conf, user_data, rr, rnr, interrupt, interrupt_conf, reset, reset_conf, restart, restart_conf}
+use Rattle.x25_packet.specs.Packet.{PlainPacket, call, accept, clear, clear_conf, user_data, rr, rnr, interrupt, interrupt_conf, reset, reset_conf, restart, restart_conf}
 use Rattle.x25_packet.specs.Spelling.{HasChannel}
 use Rattle.x25_circuit.specs.declared.state.State.{State}
 use Rattle.x25_circuit.specs.declared.state.State.TheVariants.{Free, Calling, Arriving, Collision, Open, Resetting, Clearing}
-use Rattle.x25_circuit.specs.Messages.{piece_of}
+use Rattle.x25_circuit.specs.Message.{piece_of}
 use Rattle.x25_circuit.specs.declared.params.Params.{Params}
 use Rattle.x25_circuit.specs.Params.{Terms, default_params, may_propose, called_terms, calling_terms}
 use Rattle.x25_circuit.specs.laws.ParamsLaws.{FieldIsSaid, FieldIsAllowed, SaidIsAllowed, AnswerIsAllowed}
 use Rattle.x25_circuit.specs.Circuit.{Talk, silent, Circuit}
-use Rattle.x25_circuit.specs.Notices.{CallRequest, PlainNotice}
-use Rattle.x25_circuit.specs.Table.{Answer, request_in}
-use Rattle.x25_circuit.specs.Calls.{Outcome, Done, Refused, Request, Calls, Accepts, Clears, Sends, Interrupts, Resets, SaysReady, SaysNotReady, request_of}
-use Rattle.x25_handshakes.specs.Handshake.{Side, Live, Left, At, state_of}
-use Rattle.x25_handshakes.specs.Stretch.{Packet, Data, Rr, Rnr, Int, IntConf, Reset, ResetConf, Call, Accept, Clear, ClearConf, Stretch, Send, Pull, Ready, NotReady, Interrupt}
-use Rattle.x25_handshakes.specs.Transfer.{Inside, SendsReset}
-use Rattle.x25_handshakes.specs.Calls.{Phase, Unused, Waiting, Offered, Crossed, Talking, Connection, PlacesCall, AcceptsCall, Talks}
-use Rattle.x25_handshakes.specs.Channel.{ChannelStep, ChannelAct, Within, SendsClear}
-use Rattle.x25_handshakes.specs.Histories.{resets_in}
-use Rattle.x25_layer.specs.Quiet.{IsQuiet, IsNoFault}
-use Rattle.x25_layer.specs.Transcript.{Handed, nothing_handed, added}
+use Rattle.x25_circuit.specs.Notice.{CallRequest, PlainNotice}
+use Rattle.x25_circuit.specs.Hearing.{Answer, request_in}
+use Rattle.x25_circuit.specs.Calling.{Outcome, Done, Refused, Request, Calls, Accepts, Clears, Sends, Interrupts, Resets, SaysReady, SaysNotReady, request_of}
+use Rattle.x25_handshakes.specs.laws.Handshake.{Side, Live, Left, At, state_of}
+use Rattle.x25_handshakes.specs.laws.Stretch.{Packet, Data, Rr, Rnr, Int, IntConf, Reset, ResetConf, Call, Accept, Clear, ClearConf, Stretch, Send, Pull, Ready, NotReady, Interrupt}
+use Rattle.x25_handshakes.specs.laws.Transfer.{Inside, SendsReset}
+use Rattle.x25_handshakes.specs.laws.Calls.{Phase, Unused, Waiting, Offered, Crossed, Talking, Connection, PlacesCall, AcceptsCall, Talks}
+use Rattle.x25_handshakes.specs.laws.Channel.{ChannelStep, ChannelAct, Within, SendsClear}
+use Rattle.x25_handshakes.specs.laws.Histories.{resets_in}
+use Rattle.x25_layer.specs.laws.Quiet.{IsQuiet, IsNoFault}
+use Rattle.x25_layer.specs.laws.Transcript.{Handed, nothing_handed, added}
 
 abbrev pub talk_of : Stretch → Talk
 talk_of x = record { sent = x.sent; taken = x.taken; acked = x.acked; rest = x.rest; int_out = x.int_out; peer_ready = x.peer_ready; own_ready = x.own_ready }

@@ -2,12 +2,12 @@
 use Rattle.std.proofs.Common.{◌≡◌, ◌⊎◌, inl, inr, ℕ, zero, suc, ◌+◌, ◌<◌, ◌≤◌, ◌%◌, List, [], ◌∷◌, ◌++◌, length, Option, Some, None, Bool, true, false, nat_lt, ◌==◌, ◌&&◌, if◌then◌else◌, refl, sym, ap, ◌∙◌, eq-eqb, arith}
 use Rattle.std.proofs.lemmas.Option.{none-some}
 use Rattle.std.proofs.lemmas.Bool.{eqb-true}
-use Rattle.x25_packet.specs.PlainPacket.{PlainPacket, restart}
+use Rattle.x25_packet.specs.Packet.{PlainPacket, restart}
 use Rattle.x25_circuit.specs.declared.state.State.{State}
 use Rattle.x25_circuit.specs.declared.state.State.TheVariants.{Free, Calling, Arriving, Collision, Open, Resetting, Clearing}
-use Rattle.x25_circuit.specs.Messages.{Piece}
+use Rattle.x25_circuit.specs.Message.{Piece}
 use Rattle.x25_circuit.specs.Circuit.{Settings, Talk, Circuit, begun, forgotten, talking, outgoing}
-use Rattle.x25_circuit.specs.Calls.{Pulled, pulls_nothing, data_packet, pull_open, pull_in, pulled}
+use Rattle.x25_circuit.specs.Calling.{Pulled, pulls_nothing, data_packet, pull_open, pull_in, pulled}
 use Rattle.x25_layer.specs.declared.error.LayerError.TheVariants as error
 use Rattle.x25_layer.specs.Layer.{LayerSettings, Layer, put_at, packet_on, restarting_from, goes_up}
 use Rattle.x25_layer.specs.Calls.{Restarts, PullsAll, outcome_in, layer_outcome, layer_pulled}

@@ -2,15 +2,15 @@
 use Rattle.std.proofs.Common.{◌≡◌, ℕ, suc, List, [], ◌∷◌, ◌++◌, Bool, true, false, ◌==◌, if◌then◌else◌, refl, sym, ap, subst, ◌∙◌, arith}
 use Rattle.std.proofs.lemmas.Bool.{eqb-true}
 use Rattle.x25_circuit.specs.Circuit.{Circuit}
-use Rattle.x25_circuit.specs.Notices.{PlainNotice}
-use Rattle.x25_handshakes.specs.Handshake.{Side, At}
-use Rattle.x25_handshakes.specs.Calls.{Connection}
-use Rattle.x25_handshakes.specs.Layers.{Channels, put, ready, all_fresh}
-use Rattle.x25_handshakes.specs.Names.{Name, both, same_name}
-use Rattle.x25_handshakes.specs.Histories.{circuit_at}
+use Rattle.x25_circuit.specs.Notice.{PlainNotice}
+use Rattle.x25_handshakes.specs.laws.Handshake.{Side, At}
+use Rattle.x25_handshakes.specs.laws.Calls.{Connection}
+use Rattle.x25_handshakes.specs.laws.Layers.{Channels, put, ready, all_fresh}
+use Rattle.x25_handshakes.specs.laws.Names.{Name, both, same_name}
+use Rattle.x25_handshakes.specs.laws.Histories.{circuit_at}
 use Rattle.x25_layer.specs.Layer.{Layer, notices_on}
-use Rattle.x25_layer.specs.Transcript.{Handed, nothing_handed, added, told_by, told_by_all, Entry, under, name_of}
-use Rattle.x25_layer.specs.TwoLayers.{entries_told}
+use Rattle.x25_layer.specs.laws.Transcript.{Handed, nothing_handed, added, told_by, told_by_all, Entry, under, name_of}
+use Rattle.x25_layer.specs.laws.TwoLayers.{entries_told}
 use Rattle.x25_layer.proofs.Sees.{Notes}
 use Rattle.x25_layer.proofs.NoteLemmas.{still, append_nil}
 use Rattle.x25_layer.proofs.LayerSees.{SeesLayer, present, Here, Afresh, StepOf}

@@ -1,16 +1,16 @@
 -- Each event of two layers is an event of the nested handshakes, or changes nothing.
 use Rattle.std.proofs.Common.{◌≡◌, ◌⊎◌, inl, inr, ℕ, List, [], ◌∷◌, ◌++◌, Option, Some, None, Bool, true, false, if◌then◌else◌, option_to_list, refl, sym, ap, subst, ◌∙◌, append_assoc}
 use Rattle.x25_bits.specs.declared.role.Role.{Role}
-use Rattle.x25_packet.specs.PlainPacket.{PlainPacket}
-use Rattle.x25_handshakes.specs.Handshake.{Side, Live, Left, At, state_of}
-use Rattle.x25_handshakes.specs.Layers.{LayerPacket, Channels, LayerStep, OnChannel, Pair, Acts, Takes, LinkDown, first_error, pair_moves, layer_acts, layer_takes}
-use Rattle.x25_handshakes.specs.Layers as nested
-use Rattle.x25_handshakes.specs.Histories.{circuit_at}
+use Rattle.x25_packet.specs.Packet.{PlainPacket}
+use Rattle.x25_handshakes.specs.laws.Handshake.{Side, Live, Left, At, state_of}
+use Rattle.x25_handshakes.specs.laws.Layers.{LayerPacket, Channels, LayerStep, OnChannel, Pair, Acts, Takes, LinkDown, first_error, pair_moves, layer_acts, layer_takes}
+use Rattle.x25_handshakes.specs.laws.Layers as nested
+use Rattle.x25_handshakes.specs.laws.Histories.{circuit_at}
 use Rattle.x25_layer.specs.Layer.{LayerSettings, Layer, LayerNotice, LayerAnswer, is_channel, layer_answers, rested}
 use Rattle.x25_layer.specs.Calls.{LayerRequest, PullsAll, LayerOutcome, Accepted, Declined, outcome_in, layer_outcome, LayerPulled, layer_pulled}
-use Rattle.x25_layer.specs.Quiet.{AreQuiet, AreNoFaults}
-use Rattle.x25_layer.specs.Transcript.{Entry}
-use Rattle.x25_layer.specs.TwoLayers.{End, TwoLayers, entries_asked, entries_told, Move, Requests, Pulls, HandsUp, GoesDown, puts, requested, pulled_in, answered, handed_up, moves_in, turned, settings_of}
+use Rattle.x25_layer.specs.laws.Quiet.{AreQuiet, AreNoFaults}
+use Rattle.x25_layer.specs.laws.Transcript.{Entry}
+use Rattle.x25_layer.specs.laws.TwoLayers.{End, TwoLayers, entries_asked, entries_told, Move, Requests, Pulls, HandsUp, GoesDown, puts, requested, pulled_in, answered, handed_up, moves_in, turned, settings_of}
 use Rattle.x25_layer.specs.laws.Law.{IsQuietEnd, KeepsOrder}
 use Rattle.x25_layer.proofs.Sees.{ParamsLaws, pull_act}
 use Rattle.x25_layer.proofs.NoteLemmas.{still, append_nil}

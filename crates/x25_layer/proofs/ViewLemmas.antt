@@ -2,26 +2,26 @@
 use Rattle.std.proofs.Common.{◌≡◌, ℕ, ◌+◌, ◌%◌, List, [], ◌∷◌, ◌++◌, length, Option, Some, None, Bool, true, false, nat_lt, nat_le, ◌&&◌, if◌then◌else◌, refl, sym, ap, subst, ◌∙◌}
 use Rattle.x25_bits.specs.declared.role.Role.{Role}
 use Rattle.x25_bits.specs.declared.role.Role.TheVariants.{Dte, Dce}
-use Rattle.x25_packet.specs.PlainPacket.{PlainPacket, call, accept, clear, clear_conf, user_data, rr, rnr, interrupt, interrupt_conf, reset, reset_conf, restart, restart_conf}
+use Rattle.x25_packet.specs.Packet.{PlainPacket, call, accept, clear, clear_conf, user_data, rr, rnr, interrupt, interrupt_conf, reset, reset_conf, restart, restart_conf}
 use Rattle.x25_packet.specs.Spelling.{HasChannel}
 use Rattle.x25_packet.specs.Digits.{digits_of_text}
 use Rattle.x25_circuit.specs.declared.message.Message.{Message}
-use Rattle.x25_circuit.specs.Messages.{Piece, More, Last, piece_of, no_part, joining, completed, wholes}
+use Rattle.x25_circuit.specs.Message.{Piece, More, Last, piece_of, no_part, joining, completed, wholes}
 use Rattle.x25_circuit.specs.declared.params.Params.{Params}
 use Rattle.x25_circuit.specs.declared.error.CircuitError.TheVariants.{BadParameter}
 use Rattle.x25_circuit.specs.declared.state.State.TheVariants.{Calling, Open}
 use Rattle.x25_circuit.specs.Params.{Terms, default_params, may_propose, may_answer, field_for, said_in}
 use Rattle.x25_circuit.specs.Circuit.{Settings, silent, Circuit, entered}
-use Rattle.x25_circuit.specs.Notices.{CallRequest, connected, deliveries}
-use Rattle.x25_circuit.specs.Table.{answers, unless, takes, hears_status, confirms, status, request_in, goes, clears_for, collides}
-use Rattle.x25_circuit.specs.Calls.{Outcome, Refused, Request, Calls, Accepts, Clears, Sends, Interrupts, Resets, SaysReady, SaysNotReady, does, request_of, call_sent, may_call, outcome, Pulled, pulled, pull_open, data_packet}
-use Rattle.x25_handshakes.specs.Handshake.{Side, Live, Left, At}
-use Rattle.x25_handshakes.specs.Stretch.{Data, Call, Accept, Stretch, StretchStep, stretch_does, stretch_fails, Send, Interrupt, pulls, stretch_acts, by_ground, takes_data, takes_status, data_ground, ack_ground}
-use Rattle.x25_handshakes.specs.Stretch as nested
-use Rattle.x25_handshakes.specs.Transfer.{d1, rst, lifted}
-use Rattle.x25_handshakes.specs.Calls.{Phase, Unused, Waiting, Offered, Crossed, Talking, Connection, CallStep, in_transfer, call_crosses, calling_talk, called_talk}
-use Rattle.x25_handshakes.specs.Calls as nested_calls
-use Rattle.x25_handshakes.specs.Channel.{ChannelStep, live, clr, lifted_call, channel_takes, channel_acts}
+use Rattle.x25_circuit.specs.Notice.{CallRequest, connected, deliveries}
+use Rattle.x25_circuit.specs.Hearing.{answers, unless, takes, hears_status, confirms, status, request_in, goes, clears_for, collides}
+use Rattle.x25_circuit.specs.Calling.{Outcome, Refused, Request, Calls, Accepts, Clears, Sends, Interrupts, Resets, SaysReady, SaysNotReady, does, request_of, call_sent, may_call, outcome, Pulled, pulled, pull_open, data_packet}
+use Rattle.x25_handshakes.specs.laws.Handshake.{Side, Live, Left, At}
+use Rattle.x25_handshakes.specs.laws.Stretch.{Data, Call, Accept, Stretch, StretchStep, stretch_does, stretch_fails, Send, Interrupt, pulls, stretch_acts, by_ground, takes_data, takes_status, data_ground, ack_ground}
+use Rattle.x25_handshakes.specs.laws.Stretch as nested
+use Rattle.x25_handshakes.specs.laws.Transfer.{d1, rst, lifted}
+use Rattle.x25_handshakes.specs.laws.Calls.{Phase, Unused, Waiting, Offered, Crossed, Talking, Connection, CallStep, in_transfer, call_crosses, calling_talk, called_talk}
+use Rattle.x25_handshakes.specs.laws.Calls as nested_calls
+use Rattle.x25_handshakes.specs.laws.Channel.{ChannelStep, live, clr, lifted_call, channel_takes, channel_acts}
 use Rattle.x25_layer.proofs.Sees.{talk_of, Agreed, sent_on, taken_on, AreAgreedIn, AreAgreed, view, ParamsLaws, bare, bare_if, IsQuietIf, TellNoFault, Follows, Does, Heeds, act_of, pull_act}
 use Rattle.x25_layer.proofs.ParamsLemmas.{no_field, call_proposes}
 

@@ -3,21 +3,21 @@ use Rattle.std.proofs.Common.{◌≡◌, ◌⊎◌, inl, inr, ℕ, ◌+◌, ◌�
 use Rattle.std.proofs.lemmas.Option.{same_Some, none-some}
 use Rattle.std.proofs.lemmas.Bool.{true≢false}
 use Rattle.x25_bits.specs.declared.role.Role.TheVariants.{Dte, Dce}
-use Rattle.x25_packet.specs.PlainPacket.{PlainPacket}
-use Rattle.x25_circuit.specs.Messages.{wholes}
+use Rattle.x25_packet.specs.Packet.{PlainPacket}
+use Rattle.x25_circuit.specs.Message.{wholes}
 use Rattle.x25_circuit.specs.Params.{Terms}
 use Rattle.x25_circuit.specs.Circuit.{Circuit, is_open, waits}
-use Rattle.x25_handshakes.specs.Handshake.{Side, Live, Left, has_left, At, state_of}
-use Rattle.x25_handshakes.specs.Stretch.{Stretch}
-use Rattle.x25_handshakes.specs.Calls.{Phase, Unused, Waiting, Offered, Crossed, Talking, Connection}
-use Rattle.x25_handshakes.specs.Layers.{Channels, Pair, pair_run, pair_start}
-use Rattle.x25_handshakes.specs.Histories.{messages, name_at}
-use Rattle.x25_handshakes.specs.Arrivals.{open_in, open_phase, open_call, open_at}
-use Rattle.x25_handshakes.specs.Drained.{is_up, pulled_at, IsOpenThere, AllIsKnown}
+use Rattle.x25_handshakes.specs.laws.Handshake.{Side, Live, Left, has_left, At, state_of}
+use Rattle.x25_handshakes.specs.laws.Stretch.{Stretch}
+use Rattle.x25_handshakes.specs.laws.Calls.{Phase, Unused, Waiting, Offered, Crossed, Talking, Connection}
+use Rattle.x25_handshakes.specs.laws.Layers.{Channels, Pair, pair_run, pair_start}
+use Rattle.x25_handshakes.specs.laws.Histories.{messages, name_at}
+use Rattle.x25_handshakes.specs.laws.Arrivals.{open_in, open_phase, open_call, open_at}
+use Rattle.x25_handshakes.specs.laws.Drained.{is_up, pulled_at, IsOpenThere, AllIsKnown}
 use Rattle.x25_layer.specs.Layer.{LayerSettings, Layer, is_channel}
 use Rattle.x25_layer.specs.Calls.{layer_pulled}
-use Rattle.x25_layer.specs.Transcript.{name_of}
-use Rattle.x25_layer.specs.TwoLayers.{End, TwoLayers, settings_of, run, start}
+use Rattle.x25_layer.specs.laws.Transcript.{name_of}
+use Rattle.x25_layer.specs.laws.TwoLayers.{End, TwoLayers, settings_of, run, start}
 use Rattle.x25_layer.specs.laws.Law.{Always, HasAllOf, IsIdleTo}
 use Rattle.x25_layer.specs.laws.WaitLaw.{ClosedKeepNone, NoneOpenInRestart, IsOpenAtBoth, WaitsForUser, NotOpen, Arrived, NotReady, WaitForUsersAlone}
 use Rattle.x25_layer.proofs.Sees.{Agreed, view}

@@ -2,7 +2,7 @@
 use Rattle.std.specs.Prelude.{◌≡◌, ℕ, Option, Result, Err, IsOkAnd}
 use Rattle.x25_packet.specs.declared.packet.Packet.{Packet}
 use Rattle.x25_circuit.specs.Circuit.{Circuit}
-use Rattle.x25_circuit.specs.Calls.{Outcome, Done, Refused}
+use Rattle.x25_circuit.specs.Calling.{Outcome, Done, Refused}
 use Rattle.x25_circuit.specs.code.Replies.{plain_sent}
 use Rattle.x25_layer.specs.declared.error.LayerError.{LayerError}
 use Rattle.x25_layer.specs.declared.error.LayerError.TheVariants as error

@@ -2,10 +2,10 @@
 use Rattle.std.specs.Prelude.{ℕ, zero, suc, List, Option, Some, None, Bool, true, false, if◌then◌else◌}
 use Rattle.x25_bits.specs.declared.role.Role.{Role}
 use Rattle.x25_bits.specs.declared.role.Role.TheVariants.{Dte, Dce}
-use Rattle.x25_packet.specs.PlainPacket.{PlainPacket, restart}
+use Rattle.x25_packet.specs.Packet.{PlainPacket, restart}
 use Rattle.x25_circuit.specs.declared.params.Params.{Params}
 use Rattle.x25_circuit.specs.Circuit.{Circuit, is_free}
-use Rattle.x25_circuit.specs.Calls.{Outcome, Done, Refused, Request, Calls, Sends, outcome, Pulled, pulled}
+use Rattle.x25_circuit.specs.Calling.{Outcome, Done, Refused, Request, Calls, Sends, outcome, Pulled, pulled}
 use Rattle.x25_layer.specs.declared.error.LayerError.{LayerError}
 use Rattle.x25_layer.specs.declared.error.LayerError.TheVariants as error
 use Rattle.x25_layer.specs.Layer.{LayerSettings, Layer, is_channel, put_at, packet_on, is_ready, restarting_from}

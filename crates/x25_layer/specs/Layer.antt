@@ -3,11 +3,12 @@
 use Rattle.std.specs.Prelude.{ℕ, suc, List, [], ◌∷◌, Option, Some, None, Bool, true, false, nat_le, ◌==◌, ◌&&◌, if◌then◌else◌}
 use Rattle.x25_bits.specs.declared.role.Role.{Role}
 use Rattle.x25_packet.specs.declared.error.PacketError.{PacketError}
-use Rattle.x25_packet.specs.PlainPacket.{PlainPacket, restart, restart_conf}
+use Rattle.x25_packet.specs.Packet.{PlainPacket, restart, restart_conf}
 use Rattle.x25_packet.specs.Spelling.{channel_of, moved_to}
 use Rattle.x25_circuit.specs.Circuit.{Settings, Circuit, begun, forgotten}
-use Rattle.x25_circuit.specs.Notices.{PlainNotice}
-use Rattle.x25_circuit.specs.Table.{Answer, answers, undecoded, cause_at, by_role}
+use Rattle.x25_circuit.specs.Notice.{PlainNotice}
+use Rattle.x25_circuit.specs.Hearing.{Answer, answers, undecoded, cause_at, by_role}
+pub mod InPart
 
 -- channels 1 to the first number are configured
 pub record LayerSettings : Type 0 where

@@ -3,11 +3,11 @@ use Rattle.std.specs.Prelude.{◌≢◌, ℕ, length, Bool, true, false, Result,
 use Rattle.x25_packet.specs.declared.packet.Packet.{Packet}
 use Rattle.x25_packet.specs.declared.error.PacketError.{PacketError}
 use Rattle.x25_packet.specs.declared.error.PacketError.TheVariants as error
-use Rattle.x25_packet.specs.PlainPacket.{PlainPacket, plain}
+use Rattle.x25_packet.specs.Packet.{PlainPacket, plain}
 use Rattle.x25_packet.specs.Spelling.{HasChannel}
 use Rattle.x25_circuit.specs.Circuit.{Settings, Circuit}
 use Rattle.x25_circuit.specs.code.FitsCircuit.{user_octets}
-use Rattle.x25_circuit.specs.Table.{Answer, answers, undecoded}
+use Rattle.x25_circuit.specs.Hearing.{Answer, answers, undecoded}
 use Rattle.x25_layer.specs.Layer.{LayerSettings, Layer, LayerAnswer, is_channel, answers_on, drops}
 
 abbrev pub plain_read : Result Packet PacketError → Result PlainPacket PacketError

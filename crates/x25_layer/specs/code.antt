@@ -1,2 +1,4 @@
 -- What the code's values stand for: contracts and proofs need it, and a reader of the claims doesn't.
 pub mod FitsLayer
+pub mod OverLink
+pub mod Pulling

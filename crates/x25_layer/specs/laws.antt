@@ -1,6 +1,10 @@
--- What the laws of this crate say (src/law.rt).
+-- What the laws of this crate say (src/law.rt), and the machines that they are about.
 pub mod Law
 pub mod RoundLaw
 pub mod NameLaw
 pub mod ApartLaw
 pub mod WaitLaw
+pub mod Apart
+pub mod Quiet
+pub mod Transcript
+pub mod TwoLayers

@@ -1,14 +1,14 @@
 //! What the user asks of the circuit of a channel: the steps that all calls with a channel share.
 ghost use Rattle.std.specs.Prelude.{◌≡◌, ◌≢◌, ℕ, ◌<◌, ◌≤◌, ◌&&◌, ◌==◌, length, List, Bool, true, false, IfErr, IfOk, IfSome, OnErr};
-ghost use Rattle.x25_circuit.specs.Calls.{outcome, Sends};
+ghost use Rattle.x25_circuit.specs.Calling.{outcome, Sends};
 ghost use Rattle.x25_circuit.specs.code.Replies.{IsSendable, plain_sent};
-ghost use Rattle.x25_circuit.specs.Requests.{plain_request, MayPut};
+ghost use Rattle.x25_circuit.specs.Request.{plain_request, MayPut};
 ghost use Rattle.x25_layer.specs.Layer.{LayerSettings, is_channel};
 ghost use Rattle.x25_layer.specs.Layer.{Layer as State};
 ghost use Rattle.x25_layer.specs.Calls.{Asks, puts_at_once, outcome_on};
 ghost use Rattle.x25_layer.specs.Rounds.{Refuses, calls, went};
 ghost use Rattle.x25_layer.specs.code.FitsLayer.{FitsLayer};
-ghost use Rattle.x25_layer.specs.OverLink.{Answers, Does, view_of};
+ghost use Rattle.x25_layer.specs.code.OverLink.{Answers, Does, view_of};
 ghost use Rattle.x25_layer.specs.Asking.{AsksCircuit, error_without_memory};
 ghost use Rattle.x25_layer.specs.Room.{HaveRoom};
 

@@ -9,11 +9,11 @@
 //! link takes packets of 4,099 octets.
 ghost use Rattle.std.specs.Prelude.{◌≡◌, ◌≤◌, None, Some, IfOk};
 ghost use Rattle.x25_circuit.specs.Params.{default_params};
-ghost use Rattle.x25_circuit.specs.Calls.{Accepts, Clears, Sends, Interrupts, Resets, SaysReady, SaysNotReady};
+ghost use Rattle.x25_circuit.specs.Calling.{Accepts, Clears, Sends, Interrupts, Resets, SaysReady, SaysNotReady};
 ghost use Rattle.x25_layer.specs.Layer.{LayerSettings};
 ghost use Rattle.x25_layer.specs.Layer.{Layer as State};
 ghost use Rattle.x25_layer.specs.code.FitsLayer.{FitsLayer};
-ghost use Rattle.x25_layer.specs.OverLink.{Answers};
+ghost use Rattle.x25_layer.specs.code.OverLink.{Answers};
 ghost use Rattle.x25_layer.specs.Calls.{Asks, Dials, free_channel};
 
 use crate::error::LayerError;

@@ -1,5 +1,5 @@
 ghost use Rattle.std.specs.Prelude.{◌≡◌};
-ghost use Rattle.x25_layer.specs.LayerError.{number_of};
+ghost use Rattle.x25_layer.specs.Error.{number_of};
 
 use thiserror::Error;
 use x25_circuit::CircuitError;

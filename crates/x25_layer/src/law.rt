@@ -1,7 +1,7 @@
 ghost use Rattle.std.specs.Prelude.{Bool, ℕ};
 ghost use Rattle.x25_layer.specs.laws.Law.{Always, IsQuietWorld, IsLawfulWorld, ArrivesAll, KeepsOrder};
 ghost use Rattle.x25_layer.specs.laws.NameLaw.{NamesAreCounted, NoClearComesInP1};
-ghost use Rattle.x25_layer.specs.Apart.{AlwaysApart};
+ghost use Rattle.x25_layer.specs.laws.Apart.{AlwaysApart};
 ghost use Rattle.x25_layer.specs.laws.ApartLaw.{IsOverLinks, RestartsFirst, BeginsAlone, OwnMovesDecide, StaysDown, EventsRunOn};
 ghost use Rattle.x25_layer.specs.laws.RoundLaw.{CallsRun, HearsRun, RoundsSettle, ComesUpAlone};
 ghost use Rattle.x25_layer.specs.laws.WaitLaw.{RoundsLeaveNone, StillPullsNone, ClosedKeepNone, NoneOpenInRestart, WaitForUsersAlone};

@@ -36,7 +36,7 @@ impl Layer {
     ghost use Rattle.x25_layer.specs.Layer.{Layer as State};
     ghost use Rattle.x25_layer.specs.Room.{HasRoom};
     ghost use Rattle.x25_layer.specs.code.FitsLayer.{FitsLayer, plain_stretch, name_at, params_at, is_open_at, waits_up_to, is_full};
-    ghost use Rattle.x25_layer.specs.InPart.{joined_at};
+    ghost use Rattle.x25_layer.specs.Layer.InPart.{joined_at};
 
     /// The layer of an end whose link isn't up, with so many channels, 1 to 16. A call has at most 16 octets of user data.
     ///

@@ -3,8 +3,8 @@ ghost use Rattle.std.specs.Prelude.{◌≡◌, ℕ, ◌+◌, ◌-◌, ◌<◌, �
 ghost use Rattle.x25_layer.specs.Layer.{LayerSettings};
 ghost use Rattle.x25_layer.specs.Layer.{Layer as State};
 ghost use Rattle.x25_layer.specs.code.FitsLayer.{FitsLayer};
-ghost use Rattle.x25_layer.specs.OverLink.{LacksMemory};
-ghost use Rattle.x25_packet.specs.PlainPacket.{plain};
+ghost use Rattle.x25_layer.specs.code.OverLink.{LacksMemory};
+ghost use Rattle.x25_packet.specs.Packet.{plain};
 ghost use Rattle.x25_packet.specs.Spelling.{IsInRange, spelling_of};
 
 use crate::error::LayerError;

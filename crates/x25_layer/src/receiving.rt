@@ -9,7 +9,7 @@ ghost use Rattle.x25_circuit.specs.code.Replies.{Says, IsSendable, notices_of, p
 ghost use Rattle.x25_layer.specs.Layer.{LayerSettings, is_channel, notices_on};
 ghost use Rattle.x25_layer.specs.Layer.{Layer as State};
 ghost use Rattle.x25_layer.specs.code.FitsLayer.{FitsLayer};
-ghost use Rattle.x25_layer.specs.OverLink.{view_of, after_all};
+ghost use Rattle.x25_layer.specs.code.OverLink.{view_of, after_all};
 ghost use Rattle.x25_layer.specs.Rounds.{LinkView, answer_to, hears};
 ghost use Rattle.x25_layer.specs.Asking.{with_circuit};
 ghost use Rattle.x25_layer.specs.Room.{HasCountsLeft, HaveCountsLeft, IsNotFull, HaveRoom, HasRoom, KeepsRoom};

@@ -1,13 +1,13 @@
 //! Restart. ITU-T X.25 (10/96), section 3.3.
 ghost use Rattle.std.specs.Prelude.{◌≡◌, ℕ, suc, ◌+◌, ◌-◌, ◌^◌, ◌<◌, ◌≤◌, [], max, true, false, option_to_list, IfErr, OnOk, OnErr, IsOk};
-ghost use Rattle.x25_packet.specs.PlainPacket.{restart, restart_conf};
+ghost use Rattle.x25_packet.specs.Packet.{restart, restart_conf};
 ghost use Rattle.x25_packet.specs.Spelling.{spelling_of};
 ghost use Rattle.x25_circuit.specs.Circuit.{begun};
-ghost use Rattle.x25_circuit.specs.Table.{cause_at};
+ghost use Rattle.x25_circuit.specs.Hearing.{cause_at};
 ghost use Rattle.x25_layer.specs.Layer.{LayerSettings, restart_cause, is_ready, restarting_from, layer_answers};
 ghost use Rattle.x25_layer.specs.Layer.{Layer as State};
 ghost use Rattle.x25_layer.specs.code.FitsLayer.{FitsLayer};
-ghost use Rattle.x25_layer.specs.OverLink.{view_of, after_all, LacksMemory, Answers};
+ghost use Rattle.x25_layer.specs.code.OverLink.{view_of, after_all, LacksMemory, Answers};
 ghost use Rattle.x25_layer.specs.Calls.{Restarts};
 ghost use Rattle.x25_layer.specs.Rounds.{comes_up};
 ghost use Rattle.x25_layer.specs.Room.{HaveRoom, HasRoom};

@@ -6,10 +6,10 @@ ghost use Rattle.x25_circuit.specs.Circuit.{Circuit as Channel};
 ghost use Rattle.x25_circuit.specs.code.FitsCircuit.{FitsCircuit, room_of};
 ghost use Rattle.x25_layer.specs.Layer.{LayerSettings, packet_on};
 ghost use Rattle.x25_layer.specs.code.FitsLayer.{FitsLayer};
-ghost use Rattle.x25_layer.specs.OverLink.{view_of, after_all, Answers};
+ghost use Rattle.x25_layer.specs.code.OverLink.{view_of, after_all, Answers};
 ghost use Rattle.x25_layer.specs.Calls.{PullsAll};
 ghost use Rattle.x25_layer.specs.Rounds.{Putting, round, rounds};
-ghost use Rattle.x25_layer.specs.Pulling.{IsEnough, pulled_where, Stands};
+ghost use Rattle.x25_layer.specs.code.Pulling.{IsEnough, pulled_where, Stands};
 ghost use Rattle.x25_layer.specs.Room.{HaveRoom};
 
 use crate::error::LayerError;

@@ -1,12 +1,12 @@
 //! What a layer makes of a circuit's packet before it is put.
 ghost use Rattle.std.specs.Prelude.{◌≡◌, ℕ, ◌+◌, ◌<◌, ◌≤◌, length, true, option_to_list, IfSome};
-ghost use Rattle.x25_packet.specs.PlainPacket.{plain};
+ghost use Rattle.x25_packet.specs.Packet.{plain};
 ghost use Rattle.x25_packet.specs.Spelling.{IsChannel, IsInRange, moved_to, spelling_of};
 ghost use Rattle.x25_circuit.specs.code.Replies.{IsSendable, plain_owed, plain_sent};
 ghost use Rattle.x25_layer.specs.Layer.{LayerSettings, packet_on};
 ghost use Rattle.x25_layer.specs.Layer.{Layer as State};
 ghost use Rattle.x25_layer.specs.code.FitsLayer.{FitsLayer};
-ghost use Rattle.x25_layer.specs.OverLink.{after_all};
+ghost use Rattle.x25_layer.specs.code.OverLink.{after_all};
 
 use crate::layer::Layer;
 use x25_circuit::Owed;

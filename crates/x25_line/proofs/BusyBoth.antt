@@ -2,7 +2,7 @@
 use Rattle.std.proofs.Common.{◌≡◌, ℕ, ◌+◌, ◌%◌, ◌<◌, List, [], ◌∷◌, ◌++◌, ◌⊎◌, inl, inr, length, map, Bool, true, false, if◌then◌else◌, Option, Some, None, Result, Ok, refl, sym, ap, ◌∙◌, subst, arith, append-nil}
 use Rattle.std.specs.Prelude.{◌&&◌, not, nat_lt, option_to_list}
 use Rattle.x25_bits.specs.declared.role.Role.{Role}
-use Rattle.x25_frame.specs.PlainFrame.{PlainFrame, info, rr, rnr, rej, sabm, disc, ua, dm, frmr}
+use Rattle.x25_frame.specs.Frame.{PlainFrame, info, rr, rnr, rej, sabm, disc, ua, dm, frmr}
 use Rattle.x25_frame.specs.Spelling.{spelling_of, is_command, poll_or_final}
 use Rattle.x25_frame.specs.Reading.{frame_of}
 use Rattle.x25_frame.specs.laws.ReadingLaw.{ReadsSpelled}
@@ -13,11 +13,11 @@ use Rattle.x25_link.specs.declared.phase.Phase.{Phase}
 use Rattle.x25_link.specs.declared.phase.Phase.TheVariants.{Down, Waiting, Up, Closed}
 use Rattle.x25_link.specs.declared.phase.Reason.TheVariants.{Retries}
 use Rattle.x25_link.specs.Outgoing.{is_open}
-use Rattle.x25_link.specs.LinkStation.{Settings, LinkStation, Side, is_up, is_busy, wanted, with_near, sends, ready, may_send, owes_ready, finished, ended}
-use Rattle.x25_link.specs.MustSend.{Step, quiet, leaves, other, is_valid, acknowledged, peer_is, polls, row_of_frame}
-use Rattle.x25_link.specs.Steps.{alone, closed_by, hears, declines, asks_again, fires, take_step, timer_step, timer_runs, timer_refusal}
+use Rattle.x25_link.specs.Station.{Settings, LinkStation, Side, is_up, is_busy, wanted, with_near, sends, ready, may_send, owes_ready, finished, ended}
+use Rattle.x25_link.specs.Hearing.{Step, quiet, leaves, other, is_valid, acknowledged, peer_is, polls, row_of_frame}
+use Rattle.x25_link.specs.Link.{alone, closed_by, hears, declines, asks_again, fires, take_step, timer_step, timer_runs, timer_refusal}
 use Rattle.x25_link.proofs.EndLemmas.{calm_is, pumped_stays}
-use Rattle.x25_line.specs.Stations.{Stations, Act, Put, Deliver, T1, Connect, Disconnect, Abandon, Lose, Damage, Event, Near, Far, after_step, unless, delivered, acts, swapped, run}
+use Rattle.x25_line.specs.laws.Stations.{Stations, Act, Put, Deliver, T1, Connect, Disconnect, Abandon, Lose, Damage, Event, Near, Far, after_step, unless, delivered, acts, swapped, run}
 use Rattle.x25_line.specs.laws.StationClaims.{AreJoined, IsWhole, AreWhole}
 use Rattle.x25_line.specs.rows.HealingRows.{IsFiringOrDelivery, AreFiringsAndDeliveries, BothBusyStay}
 use Rattle.x25_line.proofs.StationSteps.{not_both}

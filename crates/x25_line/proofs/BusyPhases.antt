@@ -1,14 +1,14 @@
 -- How the near end heals after its firing, where one of the two ends may be busy: its poll is on the line, then the answer; then what isn't
 -- acknowledged goes again, or waits until the other end is heard to be busy no more.
 use Rattle.std.proofs.Common.{◌≡◌, ℕ, ◌%◌, List, [], ◌∷◌, ◌++◌, ◌⊎◌, inl, inr, length, max, Bool, true, false, refl, sym, ap, ◌∙◌, subst, arith, append_assoc}
-use Rattle.x25_frame.specs.PlainFrame.{PlainFrame, info, rr, rnr, rej, sabm, disc, ua, dm, frmr}
+use Rattle.x25_frame.specs.Frame.{PlainFrame, info, rr, rnr, rej, sabm, disc, ua, dm, frmr}
 use Rattle.x25_frame.specs.laws.ReadingLaw.{ReadsSpelled}
-use Rattle.x25_link.specs.LinkStation.{Settings, is_up, is_busy, wanted}
-use Rattle.x25_link.specs.MustSend.{Step, other, is_taken}
-use Rattle.x25_link.specs.Steps.{take_step}
+use Rattle.x25_link.specs.Station.{Settings, is_up, is_busy, wanted}
+use Rattle.x25_link.specs.Hearing.{Step, other, is_taken}
+use Rattle.x25_link.specs.Link.{take_step}
 use Rattle.x25_link.specs.laws.AnswerLaw.{says, AreNext, Outcome, heard, once_taken}
 use Rattle.x25_link.specs.laws.BusyLaw.{Says, BusyLaws}
-use Rattle.x25_line.specs.Stations.{StationEnd, Stations, Deliver, delivered, acts, swapped}
+use Rattle.x25_line.specs.laws.Stations.{StationEnd, Stations, Deliver, delivered, acts, swapped}
 use Rattle.x25_line.specs.laws.StationClaims.{AreJoined}
 use Rattle.x25_line.specs.Healing.{OneIsFree}
 use Rattle.x25_line.specs.laws.LawsBelow.{HealingLaws}

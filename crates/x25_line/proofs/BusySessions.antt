@@ -1,10 +1,10 @@
 -- One busy end, over set-up and re-set-up.
 use Rattle.std.proofs.Common.{◌≡◌, ◌<◌, inl, inr, true, sym, ap, ◌∙◌, subst}
 use Rattle.x25_frame.specs.laws.ReadingLaw.{ReadsSpelled}
-use Rattle.x25_link.specs.LinkStation.{LinkStation, is_up, is_busy}
-use Rattle.x25_link.specs.Steps.{timer_runs}
+use Rattle.x25_link.specs.Station.{LinkStation, is_up, is_busy}
+use Rattle.x25_link.specs.Link.{timer_runs}
 use Rattle.x25_link.specs.laws.BusyLaw.{BusyLaws}
-use Rattle.x25_line.specs.Sessions.{Sessions, run}
+use Rattle.x25_line.specs.laws.Sessions.{Sessions, run}
 use Rattle.x25_line.specs.Healing.{HasTries, SessionHasTries, OneIsFree, SessionsHealBusy, SessionsHealUnlessBothBusy}
 use Rattle.x25_line.specs.laws.LawsBelow.{HealingLaws}
 use Rattle.x25_line.proofs.HealingStands.{sessions_rest}

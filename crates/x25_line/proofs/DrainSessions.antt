@@ -1,10 +1,10 @@
 -- Over set-up and re-set-up, from nothing too, deliveries alone drain each line, as it does with the sessions forgotten.
 use Rattle.std.proofs.Common.{◌≡◌, ◌⊎◌, inl, inr, List, [], ◌∷◌, length, refl, sym, ap, ◌∙◌, subst, arith}
 use Rattle.x25_frame.specs.laws.ReadingLaw.{ReadsSpelled}
-use Rattle.x25_link.specs.LinkStation.{Settings}
-use Rattle.x25_line.specs.Stations.{Stations, Event, Near, Far, start}
-use Rattle.x25_line.specs.Stations as one
-use Rattle.x25_line.specs.Sessions.{Entry, Sessions, from_nothing, from_set_up, acts, swapped, run}
+use Rattle.x25_link.specs.Station.{Settings}
+use Rattle.x25_line.specs.laws.Stations.{Stations, Event, Near, Far, start}
+use Rattle.x25_line.specs.laws.Stations as one
+use Rattle.x25_line.specs.laws.Sessions.{Entry, Sessions, from_nothing, from_set_up, acts, swapped, run}
 use Rattle.x25_line.specs.laws.StationClaims.{AreJoined}
 use Rattle.x25_line.specs.laws.SessionClaims.{octets_of, AreStationsOf}
 use Rattle.x25_line.specs.Healing.{EachFinds, EachFindsIn, SessionsDrainEnd, SomeSessionsDrain}

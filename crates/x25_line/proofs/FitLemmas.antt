@@ -1,7 +1,7 @@
 -- A line that fits, after a push or a removal.
 use Rattle.std.proofs.Common.{◌≡◌, ℕ, suc, zero, List, [], ◌∷◌, ◌++◌, length, remove, arith}
 use Rattle.x25_line.specs.code.RawFitting.{FitsLine, FitsFrame}
-use Rattle.x25_window.specs.Window.{Frame}
+use Rattle.x25_window.specs.laws.Window.{Frame}
 use Rattle.x25_line.specs.declared.raw_frame.RawFrame.{RawFrame}
 
 pub FitsLine_push : (rs : List RawFrame) (fs : List (Frame ℕ)) (r : RawFrame) (f : Frame ℕ) → FitsLine rs fs → FitsFrame r f → FitsLine (rs ++ r ∷ []) (fs ++ f ∷ [])

@@ -1,12 +1,12 @@
 -- Both ends fire, at once or in turn, and everything arrives; and the laws of healing.
 use Rattle.std.proofs.Common.{◌≡◌, ℕ, ◌%◌, ◌<◌, List, [], ◌∷◌, inl, inr, length, map, Bool, true, false, refl, sym, ap, ◌∙◌, subst, arith}
-use Rattle.x25_frame.specs.PlainFrame.{PlainFrame, info, rr, rnr, rej, sabm, disc, ua, dm, frmr}
+use Rattle.x25_frame.specs.Frame.{PlainFrame, info, rr, rnr, rej, sabm, disc, ua, dm, frmr}
 use Rattle.x25_frame.specs.laws.ReadingLaw.{ReadsSpelled}
-use Rattle.x25_link.specs.LinkStation.{Settings, is_up, is_busy}
-use Rattle.x25_link.specs.MustSend.{other}
-use Rattle.x25_link.specs.Steps.{timer_runs}
+use Rattle.x25_link.specs.Station.{Settings, is_up, is_busy}
+use Rattle.x25_link.specs.Hearing.{other}
+use Rattle.x25_link.specs.Link.{timer_runs}
 use Rattle.x25_link.specs.laws.RestLaw.{IsAtRest}
-use Rattle.x25_line.specs.Stations.{StationEnd, Stations, Act, T1, Event, Near, Far, acts, swapped, run, start}
+use Rattle.x25_line.specs.laws.Stations.{StationEnd, Stations, Act, T1, Event, Near, Far, acts, swapped, run, start}
 use Rattle.x25_line.specs.laws.StationClaims.{AreJoined}
 use Rattle.x25_line.specs.Healing.{IsDrained, IsDeliver, AreDeliveries, RestShows, MayHeal, IsHealed, OneHeals, OneFiringHeals, FarFiringHeals, OneFiringEnds, TwoFiringsHeal, BothFiringsHeal}
 use Rattle.x25_line.specs.laws.LawsBelow.{HealingLaws}

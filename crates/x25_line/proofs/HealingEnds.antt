@@ -3,21 +3,21 @@ use Rattle.std.proofs.Common.{◌≡◌, List, [], ◌∷◌, ◌++◌, ◌⊎�
 use Rattle.std.specs.Prelude.{nat_lt}
 use Rattle.std.proofs.lemmas.Bool.{ltb-true}
 use Rattle.x25_bits.specs.declared.role.Role.{Role}
-use Rattle.x25_frame.specs.PlainFrame.{PlainFrame, sabm}
+use Rattle.x25_frame.specs.Frame.{PlainFrame, sabm}
 use Rattle.x25_frame.specs.Spelling.{spelling_of}
 use Rattle.x25_frame.specs.laws.ReadingLaw.{ReadsSpelled}
 use Rattle.x25_link.specs.declared.phase.Phase.{Phase}
 use Rattle.x25_link.specs.declared.phase.Phase.TheVariants.{Down, Waiting, Up, Closed}
 use Rattle.x25_link.specs.declared.phase.Reason.TheVariants.{Retries}
-use Rattle.x25_link.specs.LinkStation.{Settings, LinkStation, is_up, is_busy, awaits_ua, wanted, with_nothing}
-use Rattle.x25_link.specs.MustSend.{Step, other}
-use Rattle.x25_link.specs.Steps.{timer_step, timer_runs}
-use Rattle.x25_link.specs.SetUp.{Is}
-use Rattle.x25_link.specs.WindowMachine.{nothing}
+use Rattle.x25_link.specs.Station.{Settings, LinkStation, is_up, is_busy, awaits_ua, wanted, with_nothing}
+use Rattle.x25_link.specs.Hearing.{Step, other}
+use Rattle.x25_link.specs.Link.{timer_step, timer_runs}
+use Rattle.x25_link.specs.laws.SetUp.{Is}
+use Rattle.x25_link.specs.laws.WindowMachine.{nothing}
 use Rattle.x25_link.specs.laws.WindowLaw.{IsSound, Follows, IsOut}
 use Rattle.x25_link.specs.laws.RestLaw.{HasSaidAll, IsAtRest}
 use Rattle.x25_link.specs.laws.AnswerLaw.{says}
-use Rattle.x25_line.specs.Stations.{StationEnd, Stations, T1, Event, after_step, acts, swapped, run, start}
+use Rattle.x25_line.specs.laws.Stations.{StationEnd, Stations, T1, Event, after_step, acts, swapped, run, start}
 use Rattle.x25_line.specs.laws.StationClaims.{AreJoined, IsWhole}
 use Rattle.x25_line.specs.Healing.{IsDrained, AreDeliveries, IsQuietMoment, MayHeal, HasTries, IsAtRestOrOut, EachRestsOrIsOut, Heals}
 use Rattle.x25_line.specs.laws.LawsBelow.{HealingLaws}

@@ -1,15 +1,15 @@
 -- An end whose peer has left Up: its poll is answered by DM, and it leaves too.
 use Rattle.std.proofs.Common.{◌≡◌, ℕ, List, [], ◌∷◌, ◌++◌, ◌⊎◌, inl, inr, map, Bool, true, false, refl, sym, ap, ◌∙◌, subst}
 use Rattle.x25_bits.specs.declared.role.Role.{Role}
-use Rattle.x25_frame.specs.PlainFrame.{PlainFrame, dm}
+use Rattle.x25_frame.specs.Frame.{PlainFrame, dm}
 use Rattle.x25_frame.specs.Spelling.{spelling_of}
 use Rattle.x25_frame.specs.laws.ReadingLaw.{ReadsSpelled}
-use Rattle.x25_link.specs.LinkStation.{Settings, LinkStation, is_up}
-use Rattle.x25_link.specs.MustSend.{Step, other}
-use Rattle.x25_link.specs.Steps.{take_step}
+use Rattle.x25_link.specs.Station.{Settings, LinkStation, is_up}
+use Rattle.x25_link.specs.Hearing.{Step, other}
+use Rattle.x25_link.specs.Link.{take_step}
 use Rattle.x25_link.specs.laws.WindowLaw.{IsOut}
 use Rattle.x25_link.specs.laws.AnswerLaw.{says, asks}
-use Rattle.x25_line.specs.Stations.{StationEnd, Stations, Act, Deliver, T1, Event, Near, Far, after_step, delivered, acts, swapped, run, start}
+use Rattle.x25_line.specs.laws.Stations.{StationEnd, Stations, Act, Deliver, T1, Event, Near, Far, after_step, delivered, acts, swapped, run, start}
 use Rattle.x25_line.specs.laws.StationClaims.{AreJoined}
 use Rattle.x25_line.specs.Healing.{IsDrained, IsDeliver, AreDeliveries, GoneEnds}
 use Rattle.x25_line.specs.laws.LawsBelow.{HealingLaws}

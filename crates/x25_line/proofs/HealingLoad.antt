@@ -3,12 +3,12 @@ use Rattle.std.proofs.Common.{◌≡◌, ℕ, suc, zero, ◌+◌, ◌-◌, ◌*�
 use Rattle.std.specs.Prelude.{◌&&◌}
 use Rattle.std.proofs.lemmas.Bool.{eq-eqb}
 use Rattle.x25_bits.specs.declared.role.Role.{Role}
-use Rattle.x25_frame.specs.PlainFrame.{PlainFrame, info, rr, rnr, rej, sabm, disc, ua, dm, frmr}
+use Rattle.x25_frame.specs.Frame.{PlainFrame, info, rr, rnr, rej, sabm, disc, ua, dm, frmr}
 use Rattle.x25_frame.specs.laws.ReadingLaw.{ReadsSpelled}
-use Rattle.x25_link.specs.LinkStation.{Settings, LinkStation, is_up, is_busy, wanted}
-use Rattle.x25_link.specs.MustSend.{other, is_taken}
+use Rattle.x25_link.specs.Station.{Settings, LinkStation, is_up, is_busy, wanted}
+use Rattle.x25_link.specs.Hearing.{other, is_taken}
 use Rattle.x25_link.specs.laws.AnswerLaw.{says, AreNext, weight_of, weight_if, Outcome, heard, confirms, once_taken}
-use Rattle.x25_line.specs.Stations.{Stations, Act, Deliver, T1, Event, Near, Far, acts, swapped, run, start}
+use Rattle.x25_line.specs.laws.Stations.{Stations, Act, Deliver, T1, Event, Near, Far, acts, swapped, run, start}
 use Rattle.x25_line.specs.laws.StationClaims.{AreJoined}
 use Rattle.x25_line.specs.Healing.{IsDrained, IsDeliver, AreDeliveries, frame_load, line_load, to_send, load, EachFinds, DeliveriesEnd, SomeHeal}
 use Rattle.x25_line.specs.laws.LawsBelow.{HealingLaws}

@@ -3,21 +3,21 @@ use Rattle.std.proofs.Common.{◌≡◌, ℕ, ◌+◌, ◌%◌, ◌≤◌, List,
 use Rattle.std.specs.Prelude.{nat_le}
 use Rattle.std.proofs.lemmas.Bool.{lt-ltb, le-ltb, ltb-false}
 use Rattle.x25_bits.specs.declared.role.Role.{Role}
-use Rattle.x25_frame.specs.PlainFrame.{PlainFrame, rr}
+use Rattle.x25_frame.specs.Frame.{PlainFrame, rr}
 use Rattle.x25_frame.specs.Spelling.{spelling_of}
 use Rattle.x25_frame.specs.laws.ReadingLaw.{ReadsSpelled}
 use Rattle.x25_link.specs.declared.error.LinkError.{LinkError}
 use Rattle.x25_link.specs.Outgoing.{waits, is_open}
-use Rattle.x25_link.specs.LinkStation.{Settings, LinkStation, Side, is_up, is_busy, may_send, owes_ready, send_next}
-use Rattle.x25_link.specs.MustSend.{Step, other}
-use Rattle.x25_link.specs.Steps.{put_step, put_refusal}
+use Rattle.x25_link.specs.Station.{Settings, LinkStation, Side, is_up, is_busy, may_send, owes_ready, send_next}
+use Rattle.x25_link.specs.Hearing.{Step, other}
+use Rattle.x25_link.specs.Link.{put_step, put_refusal}
 use Rattle.x25_link.specs.laws.RestLaw.{HasSaidAll}
 use Rattle.x25_link.specs.laws.AnswerLaw.{AreNext}
 use Rattle.x25_link.proofs.EndLemmas.{open_is, closed_is, with_packet, put_once}
-use Rattle.x25_line.specs.Stations.{StationEnd, Stations, Put, Deliver, T1, Connect, Disconnect, Abandon, Lose, Damage, Event, Near, Far, after_step, acts, swapped, run, start}
+use Rattle.x25_line.specs.laws.Stations.{StationEnd, Stations, Put, Deliver, T1, Connect, Disconnect, Abandon, Lose, Damage, Event, Near, Far, after_step, acts, swapped, run, start}
 use Rattle.x25_line.specs.laws.StationClaims.{AreJoined, AreWhole}
-use Rattle.x25_line.specs.WholeNumbers.{machine_acts}
-use Rattle.x25_line.specs.HealingPuts.{AreDeliveriesAndPuts, AreFree, FreeThroughout, PutsHeal}
+use Rattle.x25_line.specs.laws.WholeNumbers.{machine_acts}
+use Rattle.x25_line.specs.laws.HealingPuts.{AreDeliveriesAndPuts, AreFree, FreeThroughout, PutsHeal}
 use Rattle.x25_line.specs.laws.LawsBelow.{HealingLaws}
 use Rattle.x25_line.proofs.StationSteps.{not_both}
 use Rattle.x25_line.proofs.StationRuns.{machine_joint, joined_swapped}

@@ -1,9 +1,9 @@
 -- Packets are put while two ends heal, over set-up and re-set-up.
 use Rattle.x25_frame.specs.laws.ReadingLaw.{ReadsSpelled}
-use Rattle.x25_line.specs.Stations.{Stations}
-use Rattle.x25_line.specs.Stations as one
-use Rattle.x25_line.specs.Sessions.{Sessions, run}
-use Rattle.x25_line.specs.HealingPuts.{PutsHealSessions}
+use Rattle.x25_line.specs.laws.Stations.{Stations}
+use Rattle.x25_line.specs.laws.Stations as one
+use Rattle.x25_line.specs.laws.Sessions.{Sessions, run}
+use Rattle.x25_line.specs.laws.HealingPuts.{PutsHealSessions}
 use Rattle.x25_line.specs.laws.LawsBelow.{HealingLaws}
 use Rattle.x25_line.proofs.HealingBoth.{fired_both}
 use Rattle.x25_line.proofs.HealingPuts.{puts_run}

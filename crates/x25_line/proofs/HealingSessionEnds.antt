@@ -1,13 +1,13 @@
 -- Over set-up and re-set-up, whatever the two ends are on a drained line: once both have fired and all has come, each is at rest or not Up.
 use Rattle.std.proofs.Common.{◌≡◌, List, [], ◌∷◌, ◌⊎◌, inl, false, refl, sym, ap, ◌∙◌, subst}
 use Rattle.x25_frame.specs.laws.ReadingLaw.{ReadsSpelled}
-use Rattle.x25_link.specs.LinkStation.{Settings, LinkStation, is_up}
+use Rattle.x25_link.specs.Station.{Settings, LinkStation, is_up}
 use Rattle.x25_link.specs.laws.RestLaw.{HasSaidAll, IsAtRest}
-use Rattle.x25_line.specs.Stations.{StationEnd, Stations, T1, Event, Near, Far}
-use Rattle.x25_line.specs.Stations as one
-use Rattle.x25_line.specs.Sessions.{SessionEnd, Sessions, from_nothing, from_set_up, AreTimely, swapped, run}
+use Rattle.x25_line.specs.laws.Stations.{StationEnd, Stations, T1, Event, Near, Far}
+use Rattle.x25_line.specs.laws.Stations as one
+use Rattle.x25_line.specs.laws.Sessions.{SessionEnd, Sessions, from_nothing, from_set_up, AreTimely, swapped, run}
 use Rattle.x25_line.specs.laws.StationClaims.{AreJoined}
-use Rattle.x25_line.specs.SessionNumbers.{Standing}
+use Rattle.x25_line.specs.laws.SessionNumbers.{Standing}
 use Rattle.x25_line.specs.laws.SessionClaims.{octets_of}
 use Rattle.x25_line.specs.Healing.{IsDrained, AreDeliveries, HasTries, SessionMayHeal, SessionHasTries, SessionsAreHealed, IsSessionAtRestOrOut, EachSessionRestsOrIsOut}
 use Rattle.x25_line.specs.laws.LawsBelow.{HealingLaws}

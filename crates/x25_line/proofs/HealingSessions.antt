@@ -2,13 +2,13 @@
 use Rattle.std.proofs.Common.{◌≡◌, ℕ, List, [], ◌⊎◌, inl, inr, true, false, refl, sym, subst, arith}
 use Rattle.x25_frame.specs.laws.ReadingLaw.{ReadsSpelled}
 use Rattle.x25_link.specs.declared.phase.Phase.TheVariants.{Down}
-use Rattle.x25_link.specs.LinkStation.{Settings, is_up, with_nothing}
-use Rattle.x25_link.specs.Steps.{timer_runs}
+use Rattle.x25_link.specs.Station.{Settings, is_up, with_nothing}
+use Rattle.x25_link.specs.Link.{timer_runs}
 use Rattle.x25_link.specs.laws.RestLaw.{HasSaidAll, IsAtRest}
-use Rattle.x25_line.specs.Stations.{StationEnd, Stations, Event, start}
+use Rattle.x25_line.specs.laws.Stations.{StationEnd, Stations, Event, start}
 use Rattle.x25_line.specs.laws.StationClaims.{AreJoined}
-use Rattle.x25_line.specs.Sessions.{Sessions, run, from_nothing, from_set_up, swapped}
-use Rattle.x25_line.specs.SessionNumbers.{Standing}
+use Rattle.x25_line.specs.laws.Sessions.{Sessions, run, from_nothing, from_set_up, swapped}
+use Rattle.x25_line.specs.laws.SessionNumbers.{Standing}
 use Rattle.x25_line.specs.laws.SessionClaims.{Throughout, IsEndOf, AreStationsOf}
 use Rattle.x25_line.specs.Healing.{EachRestShows}
 use Rattle.x25_line.specs.laws.LawsBelow.{HealingLaws}

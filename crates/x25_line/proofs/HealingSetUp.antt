@@ -3,7 +3,7 @@ use Rattle.std.proofs.Common.{◌≡◌, ℕ, ◌%◌, ◌<◌, List, [], ◌∷
 use Rattle.std.specs.Prelude.{◌&&◌, nat_lt}
 use Rattle.std.proofs.lemmas.Bool.{leb-true, le-ltb, eq-eqb, and_parts}
 use Rattle.x25_bits.specs.declared.role.Role.{Role}
-use Rattle.x25_frame.specs.PlainFrame.{PlainFrame, info, rr, rnr, rej, sabm, disc, ua, dm, frmr}
+use Rattle.x25_frame.specs.Frame.{PlainFrame, info, rr, rnr, rej, sabm, disc, ua, dm, frmr}
 use Rattle.x25_frame.specs.Spelling.{spelling_of, is_command, poll_or_final}
 use Rattle.x25_frame.specs.Reading.{frame_of}
 use Rattle.x25_frame.specs.laws.ReadingLaw.{ReadsSpelled}
@@ -11,14 +11,14 @@ use Rattle.x25_frame.specs.declared.error.FrameError.{FrameError}
 use Rattle.x25_link.specs.declared.phase.Phase.{Phase}
 use Rattle.x25_link.specs.declared.phase.Phase.TheVariants.{Down, Waiting, Up, Closed}
 use Rattle.x25_link.specs.Outgoing.{waits}
-use Rattle.x25_link.specs.LinkStation.{Settings, LinkStation, Side, is_up, is_busy, wanted, fresh, sends, ready, may_send, owes_ready, finished, ended}
-use Rattle.x25_link.specs.MustSend.{Step, quiet, other, is_valid, acknowledged, peer_is, polls, rejects, row_of_frame}
-use Rattle.x25_link.specs.Steps.{alone, hears, declines, when_down, when_waiting, take_step, timer_runs}
-use Rattle.x25_link.specs.SetUp.{Is, waiting_after, waiting_sends, reset_from}
+use Rattle.x25_link.specs.Station.{Settings, LinkStation, Side, is_up, is_busy, wanted, fresh, sends, ready, may_send, owes_ready, finished, ended}
+use Rattle.x25_link.specs.Hearing.{Step, quiet, other, is_valid, acknowledged, peer_is, polls, rejects, row_of_frame}
+use Rattle.x25_link.specs.Link.{alone, hears, declines, when_down, when_waiting, take_step, timer_runs}
+use Rattle.x25_link.specs.laws.SetUp.{Is, waiting_after, waiting_sends, reset_from}
 use Rattle.x25_link.specs.laws.RestLaw.{IsAtRest}
 use Rattle.x25_link.specs.laws.AnswerLaw.{says}
 use Rattle.x25_link.proofs.EndLemmas.{none_open, not_open, pumped_stays}
-use Rattle.x25_line.specs.Stations.{StationEnd, Stations, Act, Deliver, Event, Near, Far, after_step, delivered, acts, swapped, run}
+use Rattle.x25_line.specs.laws.Stations.{StationEnd, Stations, Act, Deliver, Event, Near, Far, after_step, delivered, acts, swapped, run}
 use Rattle.x25_line.specs.laws.StationClaims.{AreJoined}
 use Rattle.x25_line.specs.Healing.{IsDrained, IsDeliver, AreDeliveries, IsAtRestOrOut}
 use Rattle.x25_line.specs.laws.LawsBelow.{HealingLaws}

@@ -2,28 +2,28 @@
 use Rattle.std.proofs.Common.{◌≡◌, ◌<◌, ℕ, List, [], ◌∷◌, ◌++◌, ◌⊎◌, inl, inr, length, map, Bool, true, false, if◌then◌else◌, Option, Some, None, refl, sym, ap, ◌∙◌, subst, append-nil}
 use Rattle.std.specs.Prelude.{◌==◌, nat_le}
 use Rattle.x25_bits.specs.declared.role.Role.{Role}
-use Rattle.x25_frame.specs.PlainFrame.{PlainFrame}
+use Rattle.x25_frame.specs.Frame.{PlainFrame}
 use Rattle.x25_frame.specs.Spelling.{spelling_of}
 use Rattle.x25_frame.specs.laws.ReadingLaw.{ReadsSpelled}
-use Rattle.x25_window.specs.Window.{End}
+use Rattle.x25_window.specs.laws.Window.{End}
 use Rattle.x25_link.specs.declared.error.LinkError.{LinkError}
 use Rattle.x25_link.specs.declared.phase.Phase.{Phase}
 use Rattle.x25_link.specs.declared.phase.Phase.TheVariants.{Down, Waiting, Up, Closed}
-use Rattle.x25_link.specs.LinkStation.{Settings, LinkStation, is_up, is_busy}
-use Rattle.x25_link.specs.MustSend.{Step, other}
-use Rattle.x25_link.specs.Steps.{take_step, put_step, put_refusal, timer_step, timer_runs, timer_refusal}
-use Rattle.x25_link.specs.WindowMachine.{ShowAll}
+use Rattle.x25_link.specs.Station.{Settings, LinkStation, is_up, is_busy}
+use Rattle.x25_link.specs.Hearing.{Step, other}
+use Rattle.x25_link.specs.Link.{take_step, put_step, put_refusal, timer_step, timer_runs, timer_refusal}
+use Rattle.x25_link.specs.laws.WindowMachine.{ShowAll}
 use Rattle.x25_link.specs.laws.RestLaw.{HasSaidAll, IsAtRest}
-use Rattle.x25_line.specs.Line.{Line}
-use Rattle.x25_line.specs.Stations.{StationEnd, Stations, Act, Put, Deliver, T1, Connect, Disconnect, Abandon, Lose, Damage, Event, Near, Far}
-use Rattle.x25_line.specs.Stations as one
+use Rattle.x25_line.specs.laws.Line.{Line}
+use Rattle.x25_line.specs.laws.Stations.{StationEnd, Stations, Act, Put, Deliver, T1, Connect, Disconnect, Abandon, Lose, Damage, Event, Near, Far}
+use Rattle.x25_line.specs.laws.Stations as one
 use Rattle.x25_line.specs.laws.StationClaims.{AreJoined, IsSetUpOnce, numbered_on}
-use Rattle.x25_line.specs.Sessions.{Entry, SessionEnd, Sessions, extended, begun_by, after_step, unless, delivered, acts, swapped, happens, run, from_nothing, from_set_up, IsTimely, AreTimely}
-use Rattle.x25_line.specs.Sessions.{Meeting}
-use Rattle.x25_line.specs.SessionNumbers.{Standing}
+use Rattle.x25_line.specs.laws.Sessions.{Entry, SessionEnd, Sessions, extended, begun_by, after_step, unless, delivered, acts, swapped, happens, run, from_nothing, from_set_up, IsTimely, AreTimely}
+use Rattle.x25_line.specs.laws.Sessions.{Meeting}
+use Rattle.x25_line.specs.laws.SessionNumbers.{Standing}
 use Rattle.x25_line.specs.laws.SessionClaims.{octets_of, IdleHasArrived}
 use Rattle.x25_line.specs.Healing.{IsDrained, IsDeliver, AreDeliveries, MayHeal, SessionMayHeal, SessionsAreHealed, SessionsHeal}
-use Rattle.x25_line.specs.HealingPuts.{IsDeliverOrPut, IsDeliveryOrPut, AreDeliveriesAndPuts, FreeAt, FreeThroughout, SessionsFreeThroughout, SessionsHaveArrived}
+use Rattle.x25_line.specs.laws.HealingPuts.{IsDeliverOrPut, IsDeliveryOrPut, AreDeliveriesAndPuts, FreeAt, FreeThroughout, SessionsFreeThroughout, SessionsHaveArrived}
 use Rattle.x25_line.specs.laws.LawsBelow.{HealingLaws}
 use Rattle.x25_line.proofs.StationSteps.{FitsEnd, MayBeAway, NotesOnce, Joint, not_both}
 use Rattle.x25_line.proofs.StationAway.{first_false, second_false}

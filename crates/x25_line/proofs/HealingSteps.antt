@@ -3,26 +3,26 @@ use Rattle.std.proofs.Common.{◌≡◌, ℕ, ◌+◌, ◌-◌, ◌*◌, ◌%◌
 use Rattle.std.specs.Prelude.{◌||◌}
 use Rattle.std.proofs.lemmas.Bool.{ltb-false, le-ltb, le-leb}
 use Rattle.x25_bits.specs.declared.role.Role.{Role}
-use Rattle.x25_frame.specs.PlainFrame.{PlainFrame, info, rr, rnr, rej, sabm, disc, ua, dm, frmr}
+use Rattle.x25_frame.specs.Frame.{PlainFrame, info, rr, rnr, rej, sabm, disc, ua, dm, frmr}
 use Rattle.x25_frame.specs.Spelling.{spelling_of}
 use Rattle.x25_frame.specs.Reading.{frame_of}
 use Rattle.x25_frame.specs.laws.ReadingLaw.{ReadsSpelled}
 use Rattle.x25_frame.specs.declared.error.FrameError.{FrameError}
-use Rattle.x25_window.specs.Modulo.{resolved}
-use Rattle.x25_window.specs.Window.{Frame}
+use Rattle.x25_window.specs.code.Modulo.{resolved}
+use Rattle.x25_window.specs.laws.Window.{Frame}
 use Rattle.x25_link.specs.declared.phase.Notes.{Notes}
 use Rattle.x25_link.specs.declared.phase.Phase.{Phase}
 use Rattle.x25_link.specs.declared.phase.Phase.TheVariants.{Down, Waiting, Up, Closed}
-use Rattle.x25_link.specs.LinkStation.{Settings, LinkStation, is_up, is_busy, wanted}
-use Rattle.x25_link.specs.MustSend.{Step, other, is_valid, is_taken}
-use Rattle.x25_link.specs.Steps.{take_step}
-use Rattle.x25_link.specs.WindowMachine.{Window, Shows, ShowAll}
+use Rattle.x25_link.specs.Station.{Settings, LinkStation, is_up, is_busy, wanted}
+use Rattle.x25_link.specs.Hearing.{Step, other, is_valid, is_taken}
+use Rattle.x25_link.specs.Link.{take_step}
+use Rattle.x25_link.specs.laws.WindowMachine.{Window, Shows, ShowAll}
 use Rattle.x25_link.specs.laws.RestLaw.{HasSaidAll}
 use Rattle.x25_link.specs.laws.AnswerLaw.{says, AreNext, weight_of, weight_if, Outcome, Answers, heard, goes_on_from, once_taken, busy_after, passed_over}
-use Rattle.x25_line.specs.Line.{Line, swapped as line_swapped}
-use Rattle.x25_line.specs.Stations.{Stations, Act, Put, Deliver, T1, Connect, Disconnect, Abandon, Lose, Damage, after_step, delivered, acts, swapped}
+use Rattle.x25_line.specs.laws.Line.{Line, swapped as line_swapped}
+use Rattle.x25_line.specs.laws.Stations.{Stations, Act, Put, Deliver, T1, Connect, Disconnect, Abandon, Lose, Damage, after_step, delivered, acts, swapped}
 use Rattle.x25_line.specs.laws.StationClaims.{AreJoined, number_in, numbered_on, AreWhole}
-use Rattle.x25_line.specs.WholeNumbers.{machine_acts}
+use Rattle.x25_line.specs.laws.WholeNumbers.{machine_acts}
 use Rattle.x25_line.specs.Healing.{IsDeliver}
 use Rattle.x25_line.specs.laws.LawsBelow.{HealingLaws}
 use Rattle.x25_line.proofs.Kept.{Way, hears_valid, Way-acked, resolved_is}

@@ -4,11 +4,11 @@ use Rattle.std.specs.List.{slice_get}
 use Rattle.std.proofs.lemmas.Grind.{common_steps}
 use Rattle.std.proofs.lemmas.List.{take-append-drop, take_all, take_more, length_push, append-nil}
 use Rattle.std.proofs.lemmas.Option.{slice_get_within, get_or_from_slice_get}
-use Rattle.x25_window.specs.Modulo.{resolved}
-use Rattle.x25_window.specs.Window.{End, Frame, Numbered, Allows, after, numbered}
-use Rattle.x25_window.specs.Window.Step.{HandDown, Send, Hear}
-use Rattle.x25_line.specs.Line.{Line, Move, MayTake, FrontMayBeTaken, AllowsMove, AllowsAll, fresh_line, swapped, takes_item, front_arrived, moved, all_moved}
-use Rattle.x25_line.specs.Line.Move.{HandsDown, Sends, Tells, Arrives, Loses}
+use Rattle.x25_window.specs.code.Modulo.{resolved}
+use Rattle.x25_window.specs.laws.Window.{End, Frame, Numbered, Allows, after, numbered}
+use Rattle.x25_window.specs.laws.Window.Step.{HandDown, Send, Hear}
+use Rattle.x25_line.specs.laws.Line.{Line, Move, MayTake, FrontMayBeTaken, AllowsMove, AllowsAll, fresh_line, swapped, takes_item, front_arrived, moved, all_moved}
+use Rattle.x25_line.specs.laws.Line.Move.{HandsDown, Sends, Tells, Arrives, Loses}
 use Rattle.x25_line.specs.laws.InWindow.{IsSentInWindow, IsNear, AllInWindow, Rising, WayInWindow, InWindow}
 use Rattle.x25_line.proofs.Frames.{Carries, Tops, Acks, slice_get-is, Tops-le, Tops-weaken, Tops-higher, Tops-grow, Tops-push, Tops-remove, Acks-le, Acks-higher, Acks-push, Acks-remove}
 

@@ -2,16 +2,16 @@
 use Rattle.std.proofs.Common.{◌≡◌, ℕ, ◌+◌, ◌%◌, ◌<◌, ◌≤◌, ◌==◌, List, [], ◌∷◌, ◌++◌, length, remove, max, Option, Some, None, Bool, true, false, nat_le, Result, Ok, Err, OnOk, OnErr, IfErr, slice_index_or, ◌⊎◌, inl, inr, refl, ap, sym, ◌∙◌, arith, eq-eqb, le-leb}
 use Rattle.std.proofs.lemmas.Bool.{eqb-true, leb-true}
 use Rattle.std.proofs.lemmas.List.{append-nil, length_push}
-use Rattle.x25_window.specs.Modulo.{resolved}
-use Rattle.x25_window.specs.Window.{End, Frame, Numbered, after, frames_of}
-use Rattle.x25_window.specs.Window.Step.{HandDown, Send, Hear}
-use Rattle.x25_window.specs.Sending.{acknowledged}
+use Rattle.x25_window.specs.code.Modulo.{resolved}
+use Rattle.x25_window.specs.laws.Window.{End, Frame, Numbered, after, frames_of}
+use Rattle.x25_window.specs.laws.Window.Step.{HandDown, Send, Hear}
+use Rattle.x25_window.specs.Sender.{acknowledged}
 use Rattle.x25_window.specs.code.Held.{Fits}
-use Rattle.x25_line.specs.Line.{takes_item}
-use Rattle.x25_line.specs.RawMachine.{RawState, is_wanted, place_after_offer, refused_if, is_empty, refusal_of, acts}
+use Rattle.x25_line.specs.laws.Line.{takes_item}
+use Rattle.x25_line.specs.RawWorld.{RawState, is_wanted, place_after_offer, refused_if, is_empty, refusal_of, acts}
 use Rattle.x25_line.specs.code.RawShown.{ShownEnd}
 use Rattle.x25_line.specs.code.RawFitting.{FitsLine, FitsFrame, FitsCarried, FitsEnd, FitsSide, Delivered, BringsBadAck, IsDue, sending_of}
-use Rattle.x25_window.specs.Receiving.{FitsTaken}
+use Rattle.x25_window.specs.Receiver.{FitsTaken}
 use Rattle.x25_line.specs.declared.raw_frame.RawFrame.{RawFrame}
 use Rattle.x25_line.specs.declared.raw_frame.RawCarried.{RawCarried}
 use Rattle.x25_line.specs.declared.raw_error.RawError.{RawError}

@@ -3,10 +3,10 @@ use Rattle.std.proofs.Common.{◌≡◌, ℕ, ◌+◌, ◌%◌, ◌≤◌, ◌==
 use Rattle.std.proofs.lemmas.Bool.Decides.{nat_tests}
 use Rattle.std.proofs.lemmas.Bool.{eqb-true, eqb-false}
 use Rattle.std.proofs.lemmas.List.{length_push}
-use Rattle.x25_window.specs.Window.{End, Frame, Numbered}
-use Rattle.x25_line.specs.Line.{Line, MayTake, FrontMayBeTaken, AllowsAll, takes_item, front_arrived}
+use Rattle.x25_window.specs.laws.Window.{End, Frame, Numbered}
+use Rattle.x25_line.specs.laws.Line.{Line, MayTake, FrontMayBeTaken, AllowsAll, takes_item, front_arrived}
 use Rattle.x25_line.specs.laws.InWindow.{InWindow}
-use Rattle.x25_line.specs.RawMachine.{RawState, start, sides_swapped, is_wanted, front_is_wanted, moves_of, refused_if, refusal_of, refusal_as, acts, acts_as, end_of_event, act_of_event, happens, run, AllAccepted}
+use Rattle.x25_line.specs.RawWorld.{RawState, start, sides_swapped, is_wanted, front_is_wanted, moves_of, refused_if, refusal_of, refusal_as, acts, acts_as, end_of_event, act_of_event, happens, run, AllAccepted}
 use Rattle.x25_bits.specs.declared.role.Role.{Role}
 use Rattle.x25_bits.specs.declared.role.Role.TheVariants.{Dte, Dce}
 use Rattle.x25_line.specs.declared.raw_error.RawError.{RawError}

@@ -3,8 +3,8 @@ use Rattle.std.proofs.Common.{◌≡◌, ℕ, ◌-◌, List, [], ◌∷◌, ◌+
 use Rattle.std.proofs.Props.{props}
 use Rattle.std.proofs.Math.Logic.{∥∥₁_elim, ∥∥₁_map}
 use Rattle.std.proofs.lemmas.List.{take_all, length-drop}
-use Rattle.x25_window.specs.Window.{End, Frame}
-use Rattle.x25_line.specs.RawMachine.{RawState, sides_swapped, refusal_of, acts, end_of_event, act_of_event, happens, run, start, event_refusal, AllAccepted}
+use Rattle.x25_window.specs.laws.Window.{End, Frame}
+use Rattle.x25_line.specs.RawWorld.{RawState, sides_swapped, refusal_of, acts, end_of_event, act_of_event, happens, run, start, event_refusal, AllAccepted}
 use Rattle.x25_line.specs.code.RawShown.{ShownEnd, ShownWorld}
 use Rattle.x25_line.specs.code.RawFitting.{FitsEnd, FitsSide, FitsWorld, BringsBadAck, IsDue, IsRefusal, Run, run_of, RunInWindow, InOrder}
 use Rattle.x25_bits.specs.declared.role.Role.TheVariants.{Dte, Dce}

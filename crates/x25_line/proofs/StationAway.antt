@@ -1,7 +1,7 @@
 -- What a station does that is Closed, or that awaits UA, as far as the laws of a link don't say it in these words.
 use Rattle.std.proofs.Common.{◌≡◌, ℕ, zero, suc, List, Bool, true, false, if◌then◌else◌, Option, None, Result, Ok, Err, refl, sym, ap, ◌∙◌, subst}
 use Rattle.std.specs.Prelude.{◌&&◌, ◌||◌}
-use Rattle.x25_frame.specs.PlainFrame.{PlainFrame, info, rr, rnr, rej, sabm, disc, ua, dm, frmr}
+use Rattle.x25_frame.specs.Frame.{PlainFrame, info, rr, rnr, rej, sabm, disc, ua, dm, frmr}
 use Rattle.x25_frame.specs.Spelling.{is_command, poll_or_final}
 use Rattle.x25_frame.specs.Reading.{frame_of}
 use Rattle.x25_frame.specs.declared.error.FrameError.{FrameError}
@@ -10,10 +10,10 @@ use Rattle.x25_link.specs.declared.phase.Phase.TheVariants.{Down, Waiting, Up, C
 use Rattle.x25_link.specs.declared.phase.Reason.{Reason}
 use Rattle.x25_link.specs.declared.phase.Notes.{Notes}
 use Rattle.x25_link.specs.laws.NoteLaw.{IsQuiet}
-use Rattle.x25_link.specs.LinkStation.{Settings, LinkStation, Side, is_up, sends, pumped, pumped_once, ended}
-use Rattle.x25_link.specs.MustSend.{Step, quiet, other}
-use Rattle.x25_link.specs.Steps.{alone, closed_by, hears, take_step, connect_refusal}
-use Rattle.x25_link.specs.SetUp.{waiting_after, waiting_sends, waiting_up, TakesPart}
+use Rattle.x25_link.specs.Station.{Settings, LinkStation, Side, is_up, sends, pumped, pumped_once, ended}
+use Rattle.x25_link.specs.Hearing.{Step, quiet, other}
+use Rattle.x25_link.specs.Link.{alone, closed_by, hears, take_step, connect_refusal}
+use Rattle.x25_link.specs.laws.SetUp.{waiting_after, waiting_sends, waiting_up, TakesPart}
 use Rattle.x25_link.specs.laws.WindowLaw.{IsOut, StaysOut}
 use Rattle.x25_line.proofs.StationLines.{AreParting}
 use Rattle.x25_line.proofs.StationSteps.{away_is_not_up, out_is_away, not_both}

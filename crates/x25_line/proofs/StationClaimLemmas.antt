@@ -4,17 +4,17 @@ use Rattle.std.specs.Prelude.{replicate, ◌&&◌}
 use Rattle.std.proofs.lemmas.Bool.{eqb-true, and_parts}
 use Rattle.std.proofs.lemmas.List.{take-append-drop, take_all}
 use Rattle.x25_frame.specs.laws.ReadingLaw.{ReadsSpelled}
-use Rattle.x25_window.specs.Window.{End, Frame}
+use Rattle.x25_window.specs.laws.Window.{End, Frame}
 use Rattle.x25_link.specs.declared.phase.Reason.TheVariants.{Retries}
 use Rattle.x25_link.specs.Outgoing.{waits}
-use Rattle.x25_link.specs.Lists.{Lists, no_packets}
-use Rattle.x25_link.specs.LinkStation.{Settings, LinkStation, is_up, lists_of}
-use Rattle.x25_link.specs.Steps.{is_idle}
-use Rattle.x25_link.specs.WindowMachine.{Window}
+use Rattle.x25_link.specs.OrderedLink.{Lists, no_packets}
+use Rattle.x25_link.specs.Station.{Settings, LinkStation, is_up, lists_of}
+use Rattle.x25_link.specs.Link.{is_idle}
+use Rattle.x25_link.specs.laws.WindowMachine.{Window}
 use Rattle.x25_line.specs.laws.InWindow.{IsPrefix}
-use Rattle.x25_line.specs.Line.{Line}
-use Rattle.x25_line.specs.Stations.{StationEnd, Stations, Event, run, start}
-use Rattle.x25_line.specs.WholeNumbers.{machine_run, machine_at_start, MachineGoesAlong}
+use Rattle.x25_line.specs.laws.Line.{Line}
+use Rattle.x25_line.specs.laws.Stations.{StationEnd, Stations, Event, run, start}
+use Rattle.x25_line.specs.laws.WholeNumbers.{machine_run, machine_at_start, MachineGoesAlong}
 use Rattle.x25_line.specs.laws.StationClaims.{AreJoined, IsSetUpOnce, Always, InOrder, BothInOrder, HasItsLists, BothHaveTheirLists, NotesItsEnd, BothNoteTheirEnds, OneLinkUnlessConnected, IsBehind, AreInWindow, NoFrmrSent, AreWhole, AllSentAreWhole}
 use Rattle.x25_line.specs.laws.LawsBelow.{Laws}
 use Rattle.x25_line.proofs.Kept.{Way, Way-acked, InWindow-from_Kept}

@@ -3,19 +3,19 @@ use Rattle.std.proofs.Common.{◌≡◌, ℕ, zero, suc, ◌%◌, List, [], ◌�
 use Rattle.std.specs.Prelude.{◌||◌, nat_lt, option_to_list}
 use Rattle.std.specs.List.{Contains}
 use Rattle.std.proofs.lemmas.List.Elements.{Contains-append_left, Contains-append_right, Contains-append_cases}
-use Rattle.x25_bits.specs.Sealed.{is_sealed}
+use Rattle.x25_bits.specs.FrameCheck.Sealed.{is_sealed}
 use Rattle.x25_bits.specs.declared.role.Role.{Role}
-use Rattle.x25_frame.specs.PlainFrame.{PlainFrame, info, rr, rnr, rej, sabm, disc, ua, dm, frmr}
+use Rattle.x25_frame.specs.Frame.{PlainFrame, info, rr, rnr, rej, sabm, disc, ua, dm, frmr}
 use Rattle.x25_frame.specs.Spelling.{spelling_of, information_of, IsInRange, MayCarry, IsWithin}
 use Rattle.x25_frame.specs.Reading.{frame_of, addressed_frame}
 use Rattle.x25_frame.specs.declared.error.FrameError.{FrameError}
 use Rattle.x25_frame.specs.declared.error.FrameError.TheVariants.{Short, BadFcs, BadAddress, Undefined, NoInfoAllowed, TooLong}
-use Rattle.x25_window.specs.Window.{Numbered, Frame}
+use Rattle.x25_window.specs.laws.Window.{Numbered, Frame}
 use Rattle.x25_frame.specs.laws.ReadingLaw.{ReadsSpelled}
-use Rattle.x25_link.specs.WindowMachine.{ShowsItem, Shows, ShowAll}
-use Rattle.x25_line.specs.Stations.{replaced, is_visible}
+use Rattle.x25_link.specs.laws.WindowMachine.{ShowsItem, Shows, ShowAll}
+use Rattle.x25_line.specs.laws.Stations.{replaced, is_visible}
 use Rattle.x25_line.specs.laws.StationClaims.{number_in, numbered_on, NoFrmr, IsHandedDown, AreWhole}
-use Rattle.x25_line.specs.WholeNumbers.{first_of, one_more, behind, place_of, taken_out}
+use Rattle.x25_line.specs.laws.WholeNumbers.{first_of, one_more, behind, place_of, taken_out}
 
 -- ---- frames by frames
 

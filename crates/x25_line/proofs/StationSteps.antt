@@ -4,30 +4,30 @@ use Rattle.std.specs.Prelude.{◌≤◌, option_to_list, replicate, drop, ◌||�
 use Rattle.std.proofs.lemmas.Bool.{le-leb}
 use Rattle.std.proofs.lemmas.List.{replicate_more}
 use Rattle.x25_bits.specs.declared.role.Role.{Role}
-use Rattle.x25_frame.specs.PlainFrame.{PlainFrame, info, rr, rnr, rej, sabm, disc, ua, dm, frmr}
+use Rattle.x25_frame.specs.Frame.{PlainFrame, info, rr, rnr, rej, sabm, disc, ua, dm, frmr}
 use Rattle.x25_frame.specs.Spelling.{spelling_of}
 use Rattle.x25_frame.specs.laws.ReadingLaw.{ReadsSpelled}
 use Rattle.x25_frame.specs.declared.error.FrameError.{FrameError}
 use Rattle.x25_frame.specs.declared.error.FrameError.TheVariants.{Short, BadFcs, BadAddress, Undefined, NoInfoAllowed, TooLong}
-use Rattle.x25_window.specs.Window.{End, Numbered, Frame, after}
-use Rattle.x25_window.specs.Window.Step.{Hear, Take}
+use Rattle.x25_window.specs.laws.Window.{End, Numbered, Frame, after}
+use Rattle.x25_window.specs.laws.Window.Step.{Hear, Take}
 use Rattle.x25_link.specs.declared.phase.Phase.{Phase}
 use Rattle.x25_link.specs.declared.phase.Phase.TheVariants.{Down, Waiting, Up, Closed}
 use Rattle.x25_link.specs.declared.phase.Reason.{Reason}
 use Rattle.x25_link.specs.declared.phase.Reason.TheVariants.{Retries, Disc, Dm, FrmrSent, FrmrGot, Reset, Local, Counts}
 use Rattle.x25_link.specs.declared.phase.Notes.{Notes}
-use Rattle.x25_link.specs.Lists.{no_packets}
+use Rattle.x25_link.specs.OrderedLink.{no_packets}
 use Rattle.x25_link.specs.laws.NoteLaw.{IsQuiet, Tells}
 use Rattle.x25_link.specs.Outgoing.{Outgoing, no_packet}
-use Rattle.x25_link.specs.LinkStation.{Settings, LinkStation, is_up, lists_of}
-use Rattle.x25_link.specs.MustSend.{Step, other}
-use Rattle.x25_link.specs.WindowMachine.{Window, Input, receives, nothing, Shows, ShowAll}
+use Rattle.x25_link.specs.Station.{Settings, LinkStation, is_up, lists_of}
+use Rattle.x25_link.specs.Hearing.{Step, other}
+use Rattle.x25_link.specs.laws.WindowMachine.{Window, Input, receives, nothing, Shows, ShowAll}
 use Rattle.x25_link.specs.laws.WindowLaw.{IsSound, window_of, brought_by, after_input, MayHandUp, if_valid, ending_of, ends_in, AreLast, Stays, Ends, Follows, IsOut, AreDeclining}
-use Rattle.x25_line.specs.Line.{Line, MayTake, FrontMayBeTaken, arrived, front_arrived, takes_item}
-use Rattle.x25_line.specs.Line.Move.{Arrives, Loses}
-use Rattle.x25_line.specs.Stations.{StationEnd, Stations, after_step}
+use Rattle.x25_line.specs.laws.Line.{Line, MayTake, FrontMayBeTaken, arrived, front_arrived, takes_item}
+use Rattle.x25_line.specs.laws.Line.Move.{Arrives, Loses}
+use Rattle.x25_line.specs.laws.Stations.{StationEnd, Stations, after_step}
 use Rattle.x25_line.specs.laws.StationClaims.{AreJoined, IsReached, near_moves, number_in, numbered_on, NoFrmr, AreWhole}
-use Rattle.x25_line.specs.WholeNumbers.{given, first_of, taken_out, counted}
+use Rattle.x25_line.specs.laws.WholeNumbers.{given, first_of, taken_out, counted}
 use Rattle.x25_line.proofs.Kept.{Kept, Way, Kept-moved, hears_valid}
 use Rattle.x25_line.proofs.StationLines.{shows_append, Front, front_of, carried_of, IsOrderly, AreOrderly, consed, numbered_append, orderly_append, AllGood, AreParting, no_frmr_append, good_no_frmr, parting_no_frmr, good_numbered, good_orderly, parting_numbered, parting_orderly, AllHandedDown, whole_more, whole_append, good_whole, parting_whole, first_more}
 use Rattle.x25_line.proofs.StationSends.{AllWithin, Sent, sent_given, runs_sent}

@@ -2,17 +2,17 @@
 -- and then all that is on the line comes, in any order of the two directions, while nothing is lost.
 use Rattle.std.specs.Prelude.{◌≡◌, ℕ, ◌+◌, ◌-◌, ◌*◌, ◌<◌, ◌≤◌, ◌⊎◌, Bool, false, true, List, [], ◌∷◌, length, Result, Ok, Err}
 use Rattle.x25_bits.specs.declared.role.Role.{Role}
-use Rattle.x25_frame.specs.PlainFrame.{PlainFrame, info, rr, rnr, rej}
+use Rattle.x25_frame.specs.Frame.{PlainFrame, info, rr, rnr, rej}
 use Rattle.x25_frame.specs.Reading.{frame_of}
 use Rattle.x25_frame.specs.declared.error.FrameError.{FrameError}
-use Rattle.x25_link.specs.MustSend.{other}
-use Rattle.x25_link.specs.LinkStation.{Settings, LinkStation, is_up, is_busy}
-use Rattle.x25_link.specs.Steps.{timer_runs}
+use Rattle.x25_link.specs.Hearing.{other}
+use Rattle.x25_link.specs.Station.{Settings, LinkStation, is_up, is_busy}
+use Rattle.x25_link.specs.Link.{timer_runs}
 use Rattle.x25_link.specs.laws.WindowLaw.{IsOut}
 use Rattle.x25_link.specs.laws.RestLaw.{IsAtRest}
-use Rattle.x25_line.specs.Stations.{StationEnd, Stations, Act, Put, Deliver, T1, Lose, Event, Near, Far, swapped, happens, run, start}
+use Rattle.x25_line.specs.laws.Stations.{StationEnd, Stations, Act, Put, Deliver, T1, Lose, Event, Near, Far, swapped, happens, run, start}
 use Rattle.x25_line.specs.laws.StationClaims.{AreJoined, IsSetUpOnce}
-use Rattle.x25_line.specs.Sessions.{SessionEnd, Sessions, Meeting, from_nothing, from_set_up, AreTimely, happens as happens_in_sessions, run as run_sessions}
+use Rattle.x25_line.specs.laws.Sessions.{SessionEnd, Sessions, Meeting, from_nothing, from_set_up, AreTimely, happens as happens_in_sessions, run as run_sessions}
 use Rattle.x25_line.specs.laws.SessionClaims.{SomeMet}
 use Rattle.x25_line.specs.rows.StationRows.{dte, dce}
 

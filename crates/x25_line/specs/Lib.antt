@@ -1,12 +1,5 @@
-pub mod Line
-pub mod Stations
-pub mod WholeNumbers
 pub mod Healing
-pub mod HealingPuts
-pub mod Sessions
-pub mod SessionNumbers
-pub mod SessionEvents
-pub mod RawMachine
+pub mod RawWorld
 pub mod code
 pub mod laws
 pub mod rows

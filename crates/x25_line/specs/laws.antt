@@ -1,5 +1,12 @@
--- What the laws of this crate say (src/law.rt).
+-- What the laws of this crate say (src/law.rt), and the machines that they are about.
 pub mod InWindow
 pub mod LawsBelow
 pub mod StationClaims
 pub mod SessionClaims
+pub mod HealingPuts
+pub mod Line
+pub mod SessionEvents
+pub mod SessionNumbers
+pub mod Sessions
+pub mod Stations
+pub mod WholeNumbers

@@ -3,7 +3,7 @@
 ghost use Rattle.x25_line.specs.Healing.{RestShows, EachRestShows, OneFiringHeals, FarFiringHeals, OneFiringEnds, GoneEnds};
 ghost use Rattle.x25_line.specs.Healing.{BothFiringsHeal, TwoFiringsHeal, EachRestsOrIsOut, Heals, SessionsHeal, EachSessionRestsOrIsOut, DeliveriesEnd, SomeHeal, BothLostMayHeal};
 ghost use Rattle.x25_line.specs.Healing.{DrainsEnd, SomeDrain, SessionsDrainEnd, SomeSessionsDrain, OneBusyHeals, SomeBusyHeal, SessionsHealBusy, HealsUnlessBothBusy, SessionsHealUnlessBothBusy};
-ghost use Rattle.x25_line.specs.HealingPuts.{PutsHeal, PutsHealSessions, OnePutArrives};
+ghost use Rattle.x25_line.specs.laws.HealingPuts.{PutsHeal, PutsHealSessions, OnePutArrives};
 ghost use Rattle.x25_line.specs.rows.HealingRows.{NoFiringIsTooFew, OneFiringIsTooFew, NoTriesAreLeft, FiringsAloneEnd, PutToGoneStays, BothBusyStay, BothBusyIsReached, OneBusyIsReached};
 ghost use Rattle.x25_line.specs.laws.SessionClaims.{Throughout};
 

@@ -4,10 +4,10 @@ ghost use Rattle.x25_link.specs.laws.NoteLaw.{TakeHandsUp};
 ghost use Rattle.x25_link.specs.laws.BusyLaw.{BusyLaws};
 ghost use Rattle.x25_line.specs.laws.LawsBelow.{HealingLaws};
 ghost use Rattle.x25_line.specs.laws.StationClaims.{Always, BothInOrder, BothHaveTheirLists, BothNoteTheirEnds, NoFrmrSent, AllSentAreWhole, OneLinkUnlessConnected, EachEventHandsOne};
-ghost use Rattle.x25_line.specs.WholeNumbers.{MachineGoesAlong, OnceStaysOnce};
+ghost use Rattle.x25_line.specs.laws.WholeNumbers.{MachineGoesAlong, OnceStaysOnce};
 ghost use Rattle.x25_line.specs.laws.SessionClaims.{Throughout, MeetInStep, MetAreInOrder, UnmetHandNothingUp, OnlyBegunHaveLists, EachUpStands, EachHearsLatest, EachMeetsLatest, IdleHasArrived, NoSessionSendsFrmr, AllSessionsSendWhole, SessionsAreStations, SetUpIsTheStart};
-ghost use Rattle.x25_line.specs.SessionNumbers.{StandingGoesAlong};
-ghost use Rattle.x25_line.specs.SessionEvents.{EachEventHandsInSession, EachEventMeetsLatest};
+ghost use Rattle.x25_line.specs.laws.SessionNumbers.{StandingGoesAlong};
+ghost use Rattle.x25_line.specs.laws.SessionEvents.{EachEventHandsInSession, EachEventMeetsLatest};
 ghost use Rattle.x25_line.specs.rows.SessionRows.{SetsUpFromNothing, SetsUpAgain, UntimelyIsOutOfStep};
 ghost use Rattle.x25_line.specs.rows.StationRows.{PacketGoes, PacketsCross, LostComesAgain, DamagedComesAgain, DisconnectEnds, AbandonEnds, ConnectSetsUp, ConnectIsDeclined};
 

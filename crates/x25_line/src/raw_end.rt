@@ -1,9 +1,9 @@
 ghost use Rattle.std.specs.Prelude.{ℕ, ◌≡◌, ◌≢◌, ◌+◌, ◌%◌, ◌<◌, ◌≤◌, List, [], ◌∷◌, ◌++◌, length, remove, max, OnOk, OnErr, IfOk, IfErr, MatchOption, Option, Some, None, Err, ◌⊎◌, slice_get, IsErrOf};
-ghost use Rattle.x25_window.specs.Window.{End, Step, Frame, after, frame_of, frames_of, fresh_end};
-ghost use Rattle.x25_window.specs.Window.Step.{HandDown, Send};
-ghost use Rattle.x25_window.specs.Modulo.{resolved};
-ghost use Rattle.x25_line.specs.Line.{arrived};
-ghost use Rattle.x25_line.specs.RawMachine.{RawState, acts, refusal_of, place_after_offer, is_wanted};
+ghost use Rattle.x25_window.specs.laws.Window.{End, Step, Frame, after, frame_of, frames_of, fresh_end};
+ghost use Rattle.x25_window.specs.laws.Window.Step.{HandDown, Send};
+ghost use Rattle.x25_window.specs.code.Modulo.{resolved};
+ghost use Rattle.x25_line.specs.laws.Line.{arrived};
+ghost use Rattle.x25_line.specs.RawWorld.{RawState, acts, refusal_of, place_after_offer, is_wanted};
 ghost use Rattle.x25_line.specs.code.RawFitting.{FitsLine, FitsFrame, FitsEnd, FitsSide, Delivered, BringsBadAck, IsDue, TakesMemory};
 
 use crate::raw_error::RawError;

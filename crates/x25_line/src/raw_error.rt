@@ -28,7 +28,7 @@ pub enum RawError {
 }
 
 impl RawError {
-    ghost use Rattle.x25_line.specs.RawMachine.{number_of};
+    ghost use Rattle.x25_line.specs.RawWorld.{number_of};
 
     /// The number of this error.
     pub fn number(self) -> u8

@@ -31,7 +31,7 @@ pub(crate) enum RawAct {
 }
 
 impl RawEvent {
-    ghost use Rattle.x25_line.specs.RawMachine.{end_of_event, act_of_event};
+    ghost use Rattle.x25_line.specs.RawWorld.{end_of_event, act_of_event};
 
     /// Which end acts, or stands where the line leads to.
     pub(crate) fn role(self) -> Role

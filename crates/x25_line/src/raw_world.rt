@@ -1,5 +1,5 @@
 ghost use Rattle.std.specs.Prelude.{ℕ, ◌≡◌, ◌≢◌, ◌<◌, ◌≤◌, OnOk, OnErr, IfOk, IfErr, IfSome, MatchOption, length, take, slice_get, Some, None, Err, IsErrOf, List};
-ghost use Rattle.x25_line.specs.RawMachine.{RawState, happens, run, start, event_refusal, act_of_event, AllAccepted};
+ghost use Rattle.x25_line.specs.RawWorld.{RawState, happens, run, start, event_refusal, act_of_event, AllAccepted};
 ghost use Rattle.x25_line.specs.code.RawFitting.{FitsWorld, InOrder, IsPrefix, IsRefusal, StopsAt, TakesMemory, RunInWindow, shown_end, other_end};
 
 use crate::raw_end::{RawEnd, act};

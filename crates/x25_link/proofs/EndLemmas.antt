@@ -3,7 +3,7 @@ use Rattle.std.proofs.Common.{◌≡◌, ℕ, ◌+◌, ◌<◌, ◌≤◌, zero,
 use Rattle.std.specs.Prelude.{◌&&◌, nat_lt}
 use Rattle.std.proofs.lemmas.Bool.{lt-ltb, le-ltb, ltb-true, ltb-false, not-true, and_parts, and_left, and_right}
 use Rattle.x25_link.specs.Outgoing.{Outgoing, waits, is_open, added, moved_on}
-use Rattle.x25_link.specs.LinkStation.{LinkStation, Side, is_up, is_busy, ready, send_next, may_send, pumped_once, pumped, owes_ready, finished, ended}
+use Rattle.x25_link.specs.Station.{LinkStation, Side, is_up, is_busy, ready, send_next, may_send, pumped_once, pumped, owes_ready, finished, ended}
 
 -- ---- tests
 

@@ -2,12 +2,12 @@
 use Rattle.std.proofs.Common.{◌≡◌, ℕ, ◌%◌, List, [], ◌∷◌, ◌++◌, length, Bool, true, false, None, if◌then◌else◌, refl, sym, ap, ◌∙◌, append_assoc, add-one, ◌+◌, ◌<◌, ◌≤◌, ◌==◌, arith}
 use Rattle.std.proofs.lemmas.Bool.{eq-eqb, ne_eqb}
 use Rattle.std.proofs.lemmas.List.{length_push}
-use Rattle.x25_window.specs.Modulo.{resolved}
-use Rattle.x25_window.specs.Receiving.{FitsTaken}
+use Rattle.x25_window.specs.code.Modulo.{resolved}
+use Rattle.x25_window.specs.Receiver.{FitsTaken}
 use Rattle.x25_window.specs.declared.receiver.Receiver.{Receiver}
 use Rattle.std.proofs.lemmas.List.{map-append}
 use Rattle.x25_bits.specs.declared.role.Role.{Role}
-use Rattle.x25_frame.specs.PlainFrame.{PlainFrame, info}
+use Rattle.x25_frame.specs.Frame.{PlainFrame, info}
 use Rattle.x25_frame.specs.Spelling.{spelling_of}
 use Rattle.x25_link.specs.declared.outgoing.Outgoing.{Outgoing as OutgoingCode}
 use Rattle.x25_link.specs.declared.station.LinkStation.{LinkStation as StationCode}
@@ -15,8 +15,8 @@ use Rattle.x25_link.specs.Outgoing.{Outgoing, acknowledged_to, gone_back, is_ope
 use Rattle.x25_link.specs.code.OutgoingHeld.{FitsOutgoing}
 use Rattle.x25_link.specs.declared.phase.Phase.{Phase}
 use Rattle.x25_link.specs.declared.phase.Phase.TheVariants.{Up}
-use Rattle.x25_link.specs.LinkStation.{Settings, LinkStation, Side, with_near, with_nothing, fresh, is_up, wanted, may_send, pumped, pumped_once}
-use Rattle.x25_link.specs.MustSend.{Step, acknowledged, is_taken, takes, hears_info, peer_is, goes_back}
+use Rattle.x25_link.specs.Station.{Settings, LinkStation, Side, with_near, with_nothing, fresh, is_up, wanted, may_send, pumped, pumped_once}
+use Rattle.x25_link.specs.Hearing.{Step, acknowledged, is_taken, takes, hears_info, peer_is, goes_back}
 use Rattle.x25_link.specs.declared.phase.Notes.{Notes}
 use Rattle.x25_link.specs.code.Fits.{FitsStation, FitsSide, Made}
 

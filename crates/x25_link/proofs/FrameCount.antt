@@ -1,14 +1,14 @@
 -- How many frames a step sends: one for what it hears, seven by the sending rule, and the RR that ends an RNR.
 use Rattle.std.proofs.Common.{◌≡◌, ℕ, zero, suc, ◌+◌, ◌≤◌, List, [], ◌∷◌, ◌++◌, length, Bool, true, false, not, if◌then◌else◌, Result, Ok, Err, refl, ap, arith, length-append, subst, sym}
-use Rattle.x25_frame.specs.PlainFrame.{PlainFrame, info, rr, rnr, rej, sabm, disc, ua, dm, frmr}
+use Rattle.x25_frame.specs.Frame.{PlainFrame, info, rr, rnr, rej, sabm, disc, ua, dm, frmr}
 use Rattle.x25_frame.specs.Reading.{frame_of}
 use Rattle.x25_frame.specs.declared.error.FrameError.{FrameError}
 use Rattle.x25_frame.specs.declared.error.FrameError.TheVariants.{Short, BadFcs, BadAddress, Undefined, NoInfoAllowed, TooLong}
 use Rattle.x25_link.specs.declared.phase.Phase.{Phase}
 use Rattle.x25_link.specs.declared.phase.Phase.TheVariants.{Down, Waiting, Up, Closed}
-use Rattle.x25_link.specs.LinkStation.{Settings, LinkStation, Side, is_busy, wanted, next_frame, sends, ready, send_next, may_send, pumped, owes_ready, ended}
-use Rattle.x25_link.specs.MustSend.{Step, quiet, other, is_valid, acknowledged, is_taken, takes, answers, passes_over, hears_info, peer_is, goes_back, polls, numbered, rejects, reject_of, row_of_frame, row_of}
-use Rattle.x25_link.specs.Steps.{alone, hears, when_down, when_waiting}
+use Rattle.x25_link.specs.Station.{Settings, LinkStation, Side, is_busy, wanted, next_frame, sends, ready, send_next, may_send, pumped, owes_ready, ended}
+use Rattle.x25_link.specs.Hearing.{Step, quiet, other, is_valid, acknowledged, is_taken, takes, answers, passes_over, hears_info, peer_is, goes_back, polls, numbered, rejects, reject_of, row_of_frame, row_of}
+use Rattle.x25_link.specs.Link.{alone, hears, when_down, when_waiting}
 use Rattle.x25_link.specs.code.Bounds.{TakeSendsFew, PutSendsOne}
 use Rattle.x25_link.proofs.OutgoingLemmas.{sent_length}
 use Rattle.x25_link.proofs.EndLemmas.{with_packet, put_once}

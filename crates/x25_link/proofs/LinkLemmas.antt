@@ -6,12 +6,12 @@ use Rattle.std.specs.Prelude.{nat_lt}
 use Rattle.x25_frame.specs.Spelling.{spelling_of}
 use Rattle.x25_link.specs.declared.phase.Phase.{Phase}
 use Rattle.x25_link.specs.declared.phase.Phase.TheVariants.{Down, Waiting, Up, Closed}
-use Rattle.x25_link.specs.LinkStation.{Settings, Side, is_up, is_busy, with_near, ready, may_send, owes_ready, ended}
-use Rattle.x25_link.specs.Steps.{asks_again, fires}
+use Rattle.x25_link.specs.Station.{Settings, Side, is_up, is_busy, with_near, ready, may_send, owes_ready, ended}
+use Rattle.x25_link.specs.Link.{asks_again, fires}
 use Rattle.x25_link.specs.code.Fits.{FitsStation}
 use Rattle.x25_link.proofs.OutgoingLemmas.{sent_length}
 use Rattle.x25_link.specs.code.Bounds.{FewWait, FewStand, WindowIsSmall}
-use Rattle.x25_link.specs.code.Link.{ShownLink, FitsLink}
+use Rattle.x25_link.specs.code.FitsLink.{ShownLink, FitsLink}
 use Rattle.x25_link.proofs.EndLemmas.{ready_sends, ended_stays}
 
 -- ---- a step after which nothing may be sent

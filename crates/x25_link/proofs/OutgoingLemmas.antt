@@ -4,8 +4,8 @@ use Rattle.std.specs.Prelude.{nat_lt}
 use Rattle.std.proofs.lemmas.List.{length-take-le, take_more, drop_more, length-drop, get_or-take}
 use Rattle.std.proofs.lemmas.Bool.{lt-ltb, ltb-true, ltb-false, eq-eqb}
 use Rattle.x25_window.specs.code.Held.{Held, Fits}
-use Rattle.x25_window.specs.Sending.{offered, moved_on}
-use Rattle.x25_frame.specs.PlainFrame.{info}
+use Rattle.x25_window.specs.Sender.{offered, moved_on}
+use Rattle.x25_frame.specs.Frame.{info}
 use Rattle.x25_link.specs.declared.outgoing.Outgoing.{Outgoing as OutgoingCode}
 use Rattle.x25_link.specs.Outgoing.{moved_on as sent_on}
 use Rattle.x25_link.specs.Outgoing.{Outgoing, is_open, next_packet}

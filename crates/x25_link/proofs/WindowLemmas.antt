@@ -1,12 +1,12 @@
 -- What each small step of a station keeps: it is a run of the window machine.
 use Rattle.std.proofs.Common.{◌≡◌, ℕ, zero, suc, List, [], Bool, true, false, not, if◌then◌else◌, refl, arith}
 use Rattle.std.proofs.lemmas.Option.{slice_get-get_or}
-use Rattle.x25_frame.specs.PlainFrame.{PlainFrame, rr, rnr, rej}
+use Rattle.x25_frame.specs.Frame.{PlainFrame, rr, rnr, rej}
 use Rattle.x25_link.specs.Outgoing.{Outgoing}
-use Rattle.x25_link.specs.LinkStation.{Side, is_up, is_busy, wanted, with_near, sends, ready, send_next, may_send, pumped, owes_ready, finished, ended}
-use Rattle.x25_link.specs.MustSend.{answers, passes_over, goes_back, polls}
-use Rattle.x25_window.specs.Window.Step.{Send, Tell}
-use Rattle.x25_link.specs.WindowMachine.{Window, Runs, goes_on}
+use Rattle.x25_link.specs.Station.{Side, is_up, is_busy, wanted, with_near, sends, ready, send_next, may_send, pumped, owes_ready, finished, ended}
+use Rattle.x25_link.specs.Hearing.{answers, passes_over, goes_back, polls}
+use Rattle.x25_window.specs.laws.Window.Step.{Send, Tell}
+use Rattle.x25_link.specs.laws.WindowMachine.{Window, Runs, goes_on}
 use Rattle.x25_link.specs.laws.WindowLaw.{IsSound, window_in}
 use Rattle.x25_link.proofs.EndLemmas.{open_is}
 

@@ -1,11 +1,9 @@
-pub mod LinkError
-pub mod Lists
-pub mod Plain
+pub mod Error
+pub mod OrderedLink
+pub mod PlainLink
 pub mod Outgoing
-pub mod LinkStation
-pub mod MustSend
-pub mod WindowMachine
-pub mod Steps
-pub mod SetUp
+pub mod Station
+pub mod Hearing
+pub mod Link
 pub mod code
 pub mod laws

@@ -2,5 +2,5 @@
 pub mod OutgoingHeld
 pub mod Outbox
 pub mod Fits
-pub mod Link
+pub mod FitsLink
 pub mod Bounds

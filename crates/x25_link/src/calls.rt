@@ -1,9 +1,9 @@
 //! What a station does at the calls of its user and of its timer.
 ghost use Rattle.std.specs.Prelude.{◌≡◌, ℕ, ◌+◌, ◌<◌, ◌≤◌, List, length, false, true};
-ghost use Rattle.x25_link.specs.LinkStation.{Settings, LinkStation as StationState, Side, may_send, owes_ready, ended};
+ghost use Rattle.x25_link.specs.Station.{Settings, LinkStation as StationState, Side, may_send, owes_ready, ended};
 ghost use Rattle.x25_link.specs.code.Fits.{FitsStation, FitsSide, FitsHeard};
-ghost use Rattle.x25_link.specs.MustSend.{quiet};
-ghost use Rattle.x25_link.specs.Steps.{alone, puts, connects, disconnects, fires, timer_runs, is_idle, asks_again, closed_by};
+ghost use Rattle.x25_link.specs.Hearing.{quiet};
+ghost use Rattle.x25_link.specs.Link.{alone, puts, connects, disconnects, fires, timer_runs, is_idle, asks_again, closed_by};
 
 use crate::heard::Heard;
 use crate::octets::Octets;

@@ -1,5 +1,5 @@
 ghost use Rattle.std.specs.Prelude.{◌≡◌};
-ghost use Rattle.x25_link.specs.LinkError.{number_of};
+ghost use Rattle.x25_link.specs.Error.{number_of};
 ghost use Rattle.x25_link.specs.declared.error.LinkError.TheVariants as error;
 
 use std::alloc::{AllocError, AllocFailed};

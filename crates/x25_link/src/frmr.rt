@@ -1,11 +1,11 @@
 //! FRMR: how a station rejects a frame. ITU-T X.25 (10/96), sections 2.3.4.9 and 2.4.7.3.
 ghost use Rattle.std.specs.Prelude.{◌≡◌, ℕ, ◌+◌, ◌*◌, ◌/◌, ◌%◌, ◌<◌, ◌≤◌, ◌==◌, List, length, slice_index, true, if◌then◌else◌};
-ghost use Rattle.x25_frame.specs.PlainFrame.{plain};
+ghost use Rattle.x25_frame.specs.Frame.{plain};
 ghost use Rattle.x25_frame.specs.Spelling.{information_of};
-ghost use Rattle.x25_link.specs.LinkStation.{Settings, LinkStation as StationState, Side};
+ghost use Rattle.x25_link.specs.Station.{Settings, LinkStation as StationState, Side};
 ghost use Rattle.x25_link.specs.code.OutgoingHeld.{window_of};
 ghost use Rattle.x25_link.specs.code.Fits.{FitsStation, FitsSide, FitsHeard};
-ghost use Rattle.x25_link.specs.MustSend.{rejects, reject_of};
+ghost use Rattle.x25_link.specs.Hearing.{rejects, reject_of};
 
 use crate::heard::Heard;
 use crate::outbox::Outbox;

@@ -1,13 +1,13 @@
 //! What a station does with the octets that it takes, phase by phase.
 ghost use Rattle.std.specs.Prelude.{◌≡◌, ℕ, ◌+◌, ◌<◌, ◌≤◌, List, ◌&&◌, Ok, Err, true, false};
-ghost use Rattle.x25_frame.specs.PlainFrame.{plain};
+ghost use Rattle.x25_frame.specs.Frame.{plain};
 ghost use Rattle.x25_frame.specs.Reading.{frame_of};
 ghost use Rattle.x25_frame.specs.Spelling.{is_command};
-ghost use Rattle.x25_link.specs.LinkStation.{Settings, LinkStation as StationState, Side, may_send, owes_ready};
+ghost use Rattle.x25_link.specs.Station.{Settings, LinkStation as StationState, Side, may_send, owes_ready};
 ghost use Rattle.x25_link.specs.code.OutgoingHeld.{window_of, before_in};
 ghost use Rattle.x25_link.specs.code.Fits.{FitsStation, FitsSide, FitsHeard};
-ghost use Rattle.x25_link.specs.MustSend.{numbered, hears_info, polls, peer_is, goes_back, quiet, row_of_frame, row_of, other};
-ghost use Rattle.x25_link.specs.Steps.{declines, when_down, when_waiting, hears, alone, take_step};
+ghost use Rattle.x25_link.specs.Hearing.{numbered, hears_info, polls, peer_is, goes_back, quiet, row_of_frame, row_of, other};
+ghost use Rattle.x25_link.specs.Link.{declines, when_down, when_waiting, hears, alone, take_step};
 
 use crate::frmr::{BAD_INFORMATION, INVALID_NR, LONG_INFORMATION, UNDEFINED_CONTROL};
 use crate::heard::Heard;

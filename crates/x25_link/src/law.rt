@@ -3,7 +3,7 @@ ghost use Rattle.x25_link.specs.laws.NoteLaw.{TakeTells, TakeContinues, TakeHand
 ghost use Rattle.x25_link.specs.laws.RestLaw.{TakeSaysAll, PutSaysAll, TimerSaysAll, ConnectSaysAll, DisconnectSaysAll, AbandonSaysAll, NoTimerIsIdle, AllHeardIsRest, RestIsAllHeard};
 ghost use Rattle.x25_link.specs.laws.AnswerLaw.{TimerAsks, PollIsAnswered, FinalEndsRecovery, ReadyIsHeard, RejGoesBack, WantedIsTaken, OtherIsPassedOver, OutDeclines, DmLeavesUp};
 ghost use Rattle.x25_link.specs.laws.BusyLaw.{TakeSaysBusy, PutSaysBusy, TimerSaysBusy};
-ghost use Rattle.x25_link.specs.SetUp.{TakeWaits, TakeSetsUp, ConnectWaits, TimerWaits, DisconnectWaits};
+ghost use Rattle.x25_link.specs.laws.SetUp.{TakeWaits, TakeSetsUp, ConnectWaits, TimerWaits, DisconnectWaits};
 ghost use Rattle.x25_link.specs.laws.WindowLaw.{TakeFollows, PutFollows, TimerFollows, DisconnectFollows, AbandonFollows, TakeStaysOut, DisconnectStaysOut};
 
 /// Each step of a station that is Up hears, hands up and then sends as the window machine may, and Up is left exactly

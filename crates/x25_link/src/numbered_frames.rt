@@ -1,9 +1,9 @@
 //! What a station that is Up does with frames that carry an N(R).
 ghost use Rattle.std.specs.Prelude.{◌≡◌, ℕ, ◌+◌, ◌<◌, ◌≤◌, List, length, true, false, option_copied};
-ghost use Rattle.x25_link.specs.LinkStation.{Settings, LinkStation as StationState, Side};
+ghost use Rattle.x25_link.specs.Station.{Settings, LinkStation as StationState, Side};
 ghost use Rattle.x25_link.specs.code.OutgoingHeld.{window_of, before_in};
 ghost use Rattle.x25_link.specs.code.Fits.{FitsStation, FitsSide};
-ghost use Rattle.x25_link.specs.MustSend.{is_valid, acknowledged, is_taken, takes, answers, passes_over, hears_info, polls};
+ghost use Rattle.x25_link.specs.Hearing.{is_valid, acknowledged, is_taken, takes, answers, passes_over, hears_info, polls};
 
 use crate::outbox::Outbox;
 use crate::station::LinkStation;

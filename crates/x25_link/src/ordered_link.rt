@@ -1,6 +1,6 @@
 ghost use Rattle.std.specs.Prelude.{◌≡◌, ℕ, ◌+◌, ◌-◌, ◌<◌, ◌≤◌, ◌↔◌, List, length, max, vec_len, Bool, true, false, IfErr, OnOk, OnErr, IsOk, IsErrOf};
-ghost use Rattle.x25_link.specs.LinkError.{RefusesPut};
-ghost use Rattle.x25_link.specs.Lists.{Lists, handed_down};
+ghost use Rattle.x25_link.specs.Error.{RefusesPut};
+ghost use Rattle.x25_link.specs.OrderedLink.{Lists, handed_down};
 
 use crate::error::LinkError;
 

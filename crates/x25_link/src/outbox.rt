@@ -1,5 +1,5 @@
 ghost use Rattle.std.specs.Prelude.{◌≡◌, ℕ, ◌+◌, ◌-◌, ◌<◌, ◌≤◌, ◌⊎◌, List, [], ◌∷◌, ◌++◌, length, map, max, vec_len, vec_capacity, true, false, OnOk, OnErr};
-ghost use Rattle.x25_frame.specs.PlainFrame.{plain, info};
+ghost use Rattle.x25_frame.specs.Frame.{plain, info};
 ghost use Rattle.x25_frame.specs.Spelling.{spelling_of, information_of};
 ghost use Rattle.x25_link.specs.code.Outbox.{ShownOutbox};
 

@@ -1,8 +1,8 @@
 ghost use Rattle.std.specs.Prelude.{◌≡◌, ℕ, ◌+◌, ◌%◌, ◌<◌, ◌≤◌, ◌&&◌, nat_lt, max, List, [], ◌∷◌, ◌++◌, length, slice_get, slice_index_or, IfOk, IfErr, OnOk, OnErr, MatchOption, true, false, if◌then◌else◌};
-ghost use Rattle.x25_window.specs.Modulo.{resolved};
-ghost use Rattle.x25_window.specs.Sending.{Sending, moved_on, offered};
+ghost use Rattle.x25_window.specs.code.Modulo.{resolved};
+ghost use Rattle.x25_window.specs.Sender.{Sending, moved_on, offered};
 ghost use Rattle.x25_window.specs.code.Held.{Fits, with_item};
-ghost use Rattle.x25_frame.specs.PlainFrame.{info};
+ghost use Rattle.x25_frame.specs.Frame.{info};
 ghost use Rattle.x25_frame.specs.Spelling.{spelling_of};
 ghost use Rattle.x25_link.specs.Outgoing.{Outgoing as OutgoingState, no_packet, added, acknowledged_to, gone_back, is_open, next_packet, waits};
 ghost use Rattle.x25_link.specs.Outgoing.{moved_on as sent_on};

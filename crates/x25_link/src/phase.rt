@@ -13,7 +13,7 @@ pub enum Phase {
 
 impl Phase {
     ghost use Rattle.std.specs.Prelude.{◌≡◌};
-    ghost use Rattle.x25_link.specs.LinkStation.{is_up, awaits_ua};
+    ghost use Rattle.x25_link.specs.Station.{is_up, awaits_ua};
 
     /// Whether packets are transferred.
     pub fn is_up(self) -> bool

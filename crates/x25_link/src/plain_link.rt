@@ -1,6 +1,6 @@
 ghost use Rattle.std.specs.Prelude.{◌≡◌, ℕ, ◌+◌, ◌-◌, ◌<◌, ◌≤◌, List, [], ◌∷◌, ◌++◌, length, drop, true, IfOk, IfErr, OnOk, OnErr, OnSome, IfSome, MatchOption, slice_get};
-ghost use Rattle.x25_link.specs.Lists.{Lists, no_packets, acked_more};
-ghost use Rattle.x25_link.specs.Plain.{ShownPlain, FitsPlain};
+ghost use Rattle.x25_link.specs.OrderedLink.{Lists, no_packets, acked_more};
+ghost use Rattle.x25_link.specs.PlainLink.{ShownPlain, FitsPlain};
 
 use crate::error::LinkError;
 use crate::octets::{LONGEST_PACKET, Octets};
@@ -17,7 +17,7 @@ pub struct PlainLink {
 }
 
 impl Model for PlainLink {
-    ghost use Rattle.x25_link.specs.Plain.{ShownPlain};
+    ghost use Rattle.x25_link.specs.PlainLink.{ShownPlain};
 
     ghost Value = { ShownPlain };
 
@@ -50,8 +50,8 @@ impl PlainLink {
 }
 
 impl OrderedLink for PlainLink {
-    ghost use Rattle.x25_link.specs.Lists.{Lists, handed_down};
-    ghost use Rattle.x25_link.specs.Plain.{FitsPlain, unacknowledged};
+    ghost use Rattle.x25_link.specs.OrderedLink.{Lists, handed_down};
+    ghost use Rattle.x25_link.specs.PlainLink.{FitsPlain, unacknowledged};
     ghost use Rattle.x25_link.specs.laws.LinkLaws.{plain_waits, plain_few, plain_close};
     ghost use Rattle.std.specs.Prelude.{length, true, refl};
 

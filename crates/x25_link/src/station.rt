@@ -1,8 +1,8 @@
 ghost use Rattle.std.specs.Prelude.{◌≡◌, ℕ, ◌+◌, ◌<◌, ◌≤◌, ◌&&◌, not, nat_lt, List, length, if◌then◌else◌};
-ghost use Rattle.x25_frame.specs.PlainFrame.{plain};
+ghost use Rattle.x25_frame.specs.Frame.{plain};
 ghost use Rattle.x25_frame.specs.Spelling.{information_of};
-ghost use Rattle.x25_link.specs.MustSend.{leaves};
-ghost use Rattle.x25_link.specs.LinkStation.{Settings, LinkStation as StationState, Side, is_busy, sends, ready, with_nothing, with_near, fresh, may_send, pumped_once, pumped, finished, ended};
+ghost use Rattle.x25_link.specs.Hearing.{leaves};
+ghost use Rattle.x25_link.specs.Station.{Settings, LinkStation as StationState, Side, is_busy, sends, ready, with_nothing, with_near, fresh, may_send, pumped_once, pumped, finished, ended};
 
 use crate::heard::Heard;
 use crate::outbox::Outbox;

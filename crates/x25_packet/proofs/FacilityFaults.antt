@@ -7,8 +7,8 @@ use Rattle.x25_packet.specs.declared.error.PacketError.TheVariants.{BadFacility,
 use Rattle.x25_packet.specs.declared.facilities.Facilities.{Facilities}
 use Rattle.x25_packet.specs.declared.facilities.Directions.{Directions}
 use Rattle.x25_packet.specs.Facilities.{AreAllowed, AreWithin, IfGiven, facilities_of, facility, field_of, is_within, last, windows_of, with_sizes}
-use Rattle.x25_packet.specs.FirstError.{FieldError, MayFollow}
-use Rattle.x25_packet.specs.FirstError.FieldError.{wrong_code, cut_off, out_of_range}
+use Rattle.x25_packet.specs.Reading.FirstError.{FieldError, MayFollow}
+use Rattle.x25_packet.specs.Reading.FirstError.FieldError.{wrong_code, cut_off, out_of_range}
 use Rattle.x25_packet.proofs.PacketLaws.{other}
 use Rattle.x25_packet.proofs.FacilityLaws.{chosen, within, both_within}
 

@@ -8,15 +8,15 @@ use Rattle.x25_packet.specs.declared.error.PacketError.TheVariants.{Unidentified
 use Rattle.x25_packet.specs.declared.facilities.Facilities.{Facilities}
 use Rattle.x25_packet.specs.Digits.{halves_at, hold_digits}
 use Rattle.x25_packet.specs.Facilities.{IsFacilityField}
-use Rattle.x25_packet.specs.FirstError.{AcceptError, BehindError, CallError, FieldError, HasFormat, IsBodyError, IsFirstError, IsLengthError, digits_of}
-use Rattle.x25_packet.specs.FirstError.FieldError.{wrong_code, cut_off, out_of_range}
-use Rattle.x25_packet.specs.FirstError.BehindError.{no_size, field_missing, in_field, user_long}
-use Rattle.x25_packet.specs.FirstError.CallError.{no_lengths, digits_missing, wrong_digit, behind_digits}
-use Rattle.x25_packet.specs.FirstError.AcceptError.{some_lengths, no_field, zero_size, behind_lengths}
-use Rattle.x25_packet.specs.FirstError.IsFirstError.{no_header, wrong_format, no_packet, in_body}
-use Rattle.x25_packet.specs.PlainPacket.{PlainPacket, call, accept, clear, clear_conf, user_data, rr, rnr, interrupt, interrupt_conf, reset, reset_conf, restart, restart_conf}
+use Rattle.x25_packet.specs.Reading.FirstError.{AcceptError, BehindError, CallError, FieldError, HasFormat, IsBodyError, IsFirstError, IsLengthError, digits_of}
+use Rattle.x25_packet.specs.Reading.FirstError.FieldError.{wrong_code, cut_off, out_of_range}
+use Rattle.x25_packet.specs.Reading.FirstError.BehindError.{no_size, field_missing, in_field, user_long}
+use Rattle.x25_packet.specs.Reading.FirstError.CallError.{no_lengths, digits_missing, wrong_digit, behind_digits}
+use Rattle.x25_packet.specs.Reading.FirstError.AcceptError.{some_lengths, no_field, zero_size, behind_lengths}
+use Rattle.x25_packet.specs.Reading.FirstError.IsFirstError.{no_header, wrong_format, no_packet, in_body}
+use Rattle.x25_packet.specs.Packet.{PlainPacket, call, accept, clear, clear_conf, user_data, rr, rnr, interrupt, interrupt_conf, reset, reset_conf, restart, restart_conf}
 use Rattle.x25_packet.specs.Digits.{IsAddress}
-use Rattle.x25_bits.specs.Bit.{bit}
+use Rattle.x25_bits.specs.Bits.{bit}
 use Rattle.x25_packet.specs.Spelling.{channel_of, format_of, header_of, type_of, IsChannel, IsInRange}
 use Rattle.x25_packet.specs.Reading.{accept_of, accepted_with, bare, call_of, called_with, caused, channelled, data_of, facilities_and_user, field_after, flow_control_of, has_format, interrupt_of, kind_of, packet_of, reason_of, unchannelled, with_field}
 use Rattle.x25_packet.proofs.PacketLaws.{Field, IsOctets, bit_eq, bit_lt, channel_few, differ, field_found, format_cases, numbered, on_channel, other}

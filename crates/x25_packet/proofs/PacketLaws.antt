@@ -5,10 +5,10 @@ use Rattle.std.proofs.lemmas.Bool.{and_parts, leb-true, le-leb, ltb-false, le-lt
 use Rattle.std.proofs.lemmas.List.{take-append-drop, length-take-le}
 use Rattle.x25_packet.specs.declared.error.PacketError.{PacketError}
 use Rattle.x25_packet.specs.declared.facilities.Facilities.{Facilities}
-use Rattle.x25_packet.specs.PlainPacket.{PlainPacket, call, accept, clear, clear_conf, user_data, rr, rnr, interrupt, interrupt_conf, reset, reset_conf, restart, restart_conf}
+use Rattle.x25_packet.specs.Packet.{PlainPacket, call, accept, clear, clear_conf, user_data, rr, rnr, interrupt, interrupt_conf, reset, reset_conf, restart, restart_conf}
 use Rattle.x25_packet.specs.Digits.{halves_at, hold_digits, packed, IsAddress}
 use Rattle.x25_packet.specs.Facilities.{facilities_of, IsFacilityField}
-use Rattle.x25_bits.specs.Bit.{bit}
+use Rattle.x25_bits.specs.Bits.{bit}
 use Rattle.x25_packet.specs.Spelling.{channel_of, format_of, type_of, body_of, spelling_of, addresses, IsChannel, IsInRange, Spells}
 use Rattle.x25_packet.specs.Reading.{bare, reason_of, caused, interrupt_of, data_of, with_field, field_after, called_with, facilities_and_user, call_of, accepted_with, accept_of, flow_control_of, unchannelled, channelled, kind_of, has_format, packet_of}
 use Rattle.x25_packet.proofs.FacilityLaws.{chosen, ok_err, ok_same, facilities_found, facilities_again}

@@ -1,9 +1,8 @@
-pub mod PlainPacket
+pub mod Packet
 pub mod Digits
 pub mod Facilities
 pub mod Spelling
-pub mod PacketError
+pub mod Error
 pub mod Reading
-pub mod FirstError
 pub mod laws
 pub mod code

@@ -5,9 +5,10 @@ use Rattle.x25_packet.specs.declared.error.PacketError.{PacketError}
 use Rattle.x25_packet.specs.declared.error.PacketError.TheVariants.{TooShort, BadFormat, Unidentified, TooLong, BadDigit, BadParameter}
 use Rattle.x25_packet.specs.declared.facilities.Facilities.{Facilities}
 use Rattle.x25_packet.specs.declared.packet.Packet.{Packet}
-use Rattle.x25_packet.specs.PlainPacket.{PlainPacket, plain, call, accept, clear, clear_conf, user_data, rr, rnr, interrupt, interrupt_conf, reset, reset_conf, restart, restart_conf}
+use Rattle.x25_packet.specs.Packet.{PlainPacket, plain, call, accept, clear, clear_conf, user_data, rr, rnr, interrupt, interrupt_conf, reset, reset_conf, restart, restart_conf}
 use Rattle.x25_packet.specs.Digits.{halves_at, hold_digits}
 use Rattle.x25_packet.specs.Facilities.{facilities_of}
+pub mod FirstError
 
 -- a packet that ends with its type
 abbrev pub bare : PlainPacket → List ℕ → Result PlainPacket PacketError

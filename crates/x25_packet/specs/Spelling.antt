@@ -1,7 +1,7 @@
 -- The octets that spell a packet. ITU-T X.25 (10/96), sections 5.1 to 5.5.
 use Rattle.std.specs.Prelude.{ℕ, ◌+◌, ◌*◌, ◌/◌, ◌%◌, ◌<◌, ◌≤◌, ◌≡◌, List, [], ◌∷◌, ◌++◌, length, Bool, if◌then◌else◌}
-pub use Rattle.x25_bits.specs.Bit.{bit}
-use Rattle.x25_packet.specs.PlainPacket.{PlainPacket, call, accept, clear, clear_conf, user_data, rr, rnr, interrupt, interrupt_conf, reset, reset_conf, restart, restart_conf}
+pub use Rattle.x25_bits.specs.Bits.{bit}
+use Rattle.x25_packet.specs.Packet.{PlainPacket, call, accept, clear, clear_conf, user_data, rr, rnr, interrupt, interrupt_conf, reset, reset_conf, restart, restart_conf}
 use Rattle.x25_packet.specs.Digits.{packed, IsAddress}
 use Rattle.x25_packet.specs.Facilities.{IsFacilityField}
 

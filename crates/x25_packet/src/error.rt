@@ -1,5 +1,5 @@
 ghost use Rattle.std.specs.Prelude.{◌≡◌};
-ghost use Rattle.x25_packet.specs.PacketError.{diagnostic_of, number_of};
+ghost use Rattle.x25_packet.specs.Error.{diagnostic_of, number_of};
 
 use thiserror::Error;
 

@@ -1,7 +1,7 @@
 //! The facility field of a CALL or ACCEPT packet, ITU-T X.25 (10/96), sections 7.1 and 7.2.2.1.
 ghost use Rattle.std.specs.Prelude.{◌≡◌, IfOk, IfErr, Ok};
 ghost use Rattle.x25_packet.specs.Facilities.{AreAllowed, facilities_of, field_of, is_within, windows_of};
-ghost use Rattle.x25_packet.specs.FirstError.{FieldError};
+ghost use Rattle.x25_packet.specs.Reading.FirstError.{FieldError};
 ghost use Rattle.x25_packet.specs.declared.facilities.Facilities.{Facilities};
 
 use crate::error::PacketError;

@@ -67,7 +67,7 @@ pub enum Packet<'a> {
 }
 
 impl<'a> Packet<'a> {
-    ghost use Rattle.x25_packet.specs.PlainPacket.{plain};
+    ghost use Rattle.x25_packet.specs.Packet.{plain};
     ghost use Rattle.x25_packet.specs.Spelling.{HasChannel, IsChannel, IsInRange, moved_to};
 
     /// The same packet on this channel, 1 to 4,095. A RESTART and its confirmation have none.

@@ -2,9 +2,9 @@
 ghost use Rattle.std.specs.Prelude.{ℕ, ◌≡◌, ◌+◌, ◌*◌, ◌≤◌, ◌++◌, Ok, OnOk, OnErr, IsOk, drop, length, slice_index, vec_len, vec_capacity};
 ghost use Rattle.std.specs.Vec.{VecUnchanged};
 ghost use Rattle.x25_packet.specs.Digits.{IsAddress, packed};
-ghost use Rattle.x25_packet.specs.PlainPacket.{plain};
+ghost use Rattle.x25_packet.specs.Packet.{plain};
 ghost use Rattle.x25_packet.specs.Reading.{packet_of};
-ghost use Rattle.x25_bits.specs.Bit.{bit};
+ghost use Rattle.x25_bits.specs.Bits.{bit};
 ghost use Rattle.x25_packet.specs.Spelling.{IsInRange, accept_body, body_of, call_body, channel_of, format_of, spelling_of, type_of};
 
 use crate::codes;

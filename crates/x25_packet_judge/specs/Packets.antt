@@ -1,6 +1,6 @@
 -- Both ends of a logical channel, and any packet of it. ITU-T X.25 (10/96), sections 4.1, 4.3 and 4.4.
 use Rattle.std.specs.Prelude.{length, if◌then◌else◌}
-use Rattle.x25_packet.specs.PlainPacket.{PlainPacket, call, accept, clear, clear_conf, user_data, rr, rnr, interrupt, interrupt_conf, reset, reset_conf, restart, restart_conf}
+use Rattle.x25_packet.specs.Packet.{PlainPacket, call, accept, clear, clear_conf, user_data, rr, rnr, interrupt, interrupt_conf, reset, reset_conf, restart, restart_conf}
 use Rattle.x25_packet_judge.specs.Pair.{with_own, breaks, is_known, clears, confirms_clear, starts, settles, finds, finds_call, clears_unknown, calls_unknown, calls, accepts, may_talk}
 use Rattle.x25_packet_judge.specs.Port as port
 use Rattle.x25_packet_judge.specs.Talking.{resets, confirms_reset, goes_on, hears, sends_data, interrupts, confirms_interrupt}

@@ -1,7 +1,7 @@
 //! The packet layers of both ends and all their channels.
 ghost use Rattle.std.specs.Prelude.{◌≡◌, IfOk};
-ghost use Rattle.x25_frame.specs.PlainFrame.{plain as plain_frame};
-ghost use Rattle.x25_packet.specs.PlainPacket.{plain};
+ghost use Rattle.x25_frame.specs.Frame.{plain as plain_frame};
+ghost use Rattle.x25_packet.specs.Packet.{plain};
 ghost use Rattle.x25_packet_judge.specs.Book as definition;
 
 use crate::layer::{Layer, Layers};

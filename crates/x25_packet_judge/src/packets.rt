@@ -1,6 +1,6 @@
 //! Both ends of a logical channel, and any packet of it.
 ghost use Rattle.std.specs.Prelude.{◌≡◌};
-ghost use Rattle.x25_packet.specs.PlainPacket.{plain};
+ghost use Rattle.x25_packet.specs.Packet.{plain};
 ghost use Rattle.x25_packet_judge.specs.Packets as definition;
 
 use crate::packet_rule::PacketRule;

@@ -1,6 +1,6 @@
 //! Both ends of a logical channel: data, interrupts and resets.
 ghost use Rattle.std.specs.Prelude.{◌≡◌, length};
-ghost use Rattle.x25_packet.specs.PlainPacket.{plain};
+ghost use Rattle.x25_packet.specs.Packet.{plain};
 ghost use Rattle.x25_packet_judge.specs.Talking as definition;
 
 use crate::flow::FlowTold;

@@ -4,10 +4,10 @@ use Rattle.std.specs.Prelude.{◌||◌}
 use Rattle.std.proofs.lemmas.List.{append-nil}
 use Rattle.std.proofs.Math.Bool.{or-false}
 use Rattle.x25_io.specs.code.Written.{AppendsPrefix}
-use Rattle.x25_station.specs.Settings.{Settings}
+use Rattle.x25_station.specs.Config.{Settings}
 use Rattle.x25_station.specs.Station.{Station}
 use Rattle.x25_pipe.specs.declared.pipe.Pipe.{Pipe}
-use Rattle.x25_pipe.specs.Piped.{Turn, quiet, and_then, sayings_text, has_refusal}
+use Rattle.x25_pipe.specs.Pipe.{Turn, quiet, and_then, sayings_text, has_refusal}
 use Rattle.x25_pipe.specs.code.Stands.{Stands}
 use Rattle.x25_pipe.specs.code.Leaves.{Leaves}
 use Rattle.x25_io.proofs.ToldLemmas.{prefix_more, told_prefix}

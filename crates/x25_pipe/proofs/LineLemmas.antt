@@ -2,9 +2,9 @@
 use Rattle.std.proofs.Common.{◌≡◌, ◌∙◌, ◌≤◌, ◌<◌, ℕ, List, length, if◌then◌else◌, Option, None, ap, sym}
 use Rattle.std.proofs.lemmas.Bool.{le-leb, lt-leb}
 use Rattle.x25_bits.specs.declared.role.Role.{Role}
-use Rattle.x25_decode.specs.Decoded.{sent_in}
+use Rattle.x25_decode.specs.Decoding.{sent_in}
 use Rattle.x25_io.specs.HeldLine.{most_line}
-use Rattle.x25_pipe.specs.Piped.{event_in, read_event}
+use Rattle.x25_pipe.specs.Pipe.{event_in, read_event}
 
 -- a line that isn't too long is read
 event_read : (end : Role) (line : List ℕ) (sent : Option (Role × List ℕ)) → length line ≤ most_line → sent_in line ≡ sent → event_in end line ≡ read_event end line sent

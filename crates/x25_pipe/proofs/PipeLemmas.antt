@@ -3,7 +3,7 @@ use Rattle.std.proofs.Common.{◌≡◌, ℕ, false, List, [], Option, Some, Non
 use Rattle.std.specs.Prelude.{IfSome}
 use Rattle.x25_io.specs.Lines.{lines_of}
 use Rattle.x25_io.specs.code.Written.{AppendsPrefix}
-use Rattle.x25_station.specs.Settings.{Settings}
+use Rattle.x25_station.specs.Config.{Settings}
 use Rattle.x25_station.specs.Station.{new_station}
 use Rattle.x25_io.specs.HeldLine.{HoldsLine}
 use Rattle.x25_io.specs.declared.held_line.HeldLine.{HeldLine}
@@ -11,7 +11,7 @@ use Rattle.x25_io.specs.code.LinesLead.{LinesLead}
 use Rattle.x25_io.proofs.TakerLemmas.{between}
 use Rattle.x25_io.proofs.ToldLemmas.{none_told, told_more}
 use Rattle.x25_station.specs.code.FitsStation.{FitsStation}
-use Rattle.x25_pipe.specs.Piped.{sayings_text, has_refusal, turns, standing_turn, piped, text_of}
+use Rattle.x25_pipe.specs.Pipe.{sayings_text, has_refusal, turns, standing_turn, piped, text_of}
 use Rattle.x25_pipe.specs.code.Stands.{Stands}
 use Rattle.x25_pipe.specs.code.Stream.{Answers}
 use Rattle.x25_pipe.specs.declared.pipe.Pipe.{Pipe}

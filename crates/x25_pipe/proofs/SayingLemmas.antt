@@ -6,7 +6,7 @@ use Rattle.std.proofs.lemmas.List.{append-nil, map-append, take_more, take-appen
 use Rattle.std.proofs.lemmas.List.Folds.{list_any-append}
 use Rattle.std.proofs.Math.Bool.{or_assoc}
 use Rattle.x25_bits.specs.declared.role.Role.{Role}
-use Rattle.x25_pipe.specs.Piped.{Saying, saying_line, sayings_text, is_refusal, has_refusal}
+use Rattle.x25_pipe.specs.Pipe.{Saying, saying_line, sayings_text, is_refusal, has_refusal}
 
 pub text-append : (end : Role) (xs ys : List Saying) → sayings_text end (xs ++ ys) ≡ sayings_text end xs ++ sayings_text end ys
 text-append end xs ys = flat_map-append (saying_line end) xs ys

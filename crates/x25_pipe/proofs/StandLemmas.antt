@@ -12,18 +12,18 @@ use Rattle.x25_station.specs.declared.error.StationError.{StationError}
 use Rattle.x25_station.specs.declared.error.StationError.TheVariants.{NoMemory}
 use Rattle.x25_station.specs.declared.station.Station as code
 use Rattle.x25_station.specs.declared.step.Step as code_step
-use Rattle.x25_station.specs.Entries.{StationEntry}
+use Rattle.x25_station.specs.Entry.{StationEntry}
 use Rattle.x25_station.specs.Command.{Requests}
 use Rattle.x25_station.specs.code.FitsStation as fits
 use Rattle.x25_station.specs.code.FitsStation.{FitsStation}
 use Rattle.x25_station.specs.code.PlainEntry.{plain_entry}
-use Rattle.x25_station.specs.Settings.{Settings}
-use Rattle.x25_station.specs.StationError.{number_of}
+use Rattle.x25_station.specs.Config.{Settings}
+use Rattle.x25_station.specs.Error.{number_of}
 use Rattle.x25_station.specs.Station.{Station}
-use Rattle.x25_station.specs.Steps.{Step, Outcome, Did, Refused, commands}
-use Rattle.x25_console.specs.Lines.{nothing_line, refusal_line}
+use Rattle.x25_station.specs.Step.{Step, Outcome, Did, Refused, commands}
+use Rattle.x25_console.specs.Telling.{nothing_line, refusal_line}
 use Rattle.x25_io.proofs.ToldLemmas.{prefix_more}
-use Rattle.x25_pipe.specs.Piped.{Saying, enters, sends, refuses, reads_nothing, saying_line, sayings_text, has_refusal, Turn, and_then, said, step_told, pulled_behind, with_pulls}
+use Rattle.x25_pipe.specs.Pipe.{Saying, enters, sends, refuses, reads_nothing, saying_line, sayings_text, has_refusal, Turn, and_then, said, step_told, pulled_behind, with_pulls}
 use Rattle.x25_pipe.specs.code.Stands.{Stands, IsStep, IsError, answer_told}
 use Rattle.x25_pipe.specs.declared.pipe.Pipe.{Pipe}
 use Rattle.x25_pipe.proofs.SayingLemmas.{parts_text, parts_refused}

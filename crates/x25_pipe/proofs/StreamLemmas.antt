@@ -3,9 +3,9 @@ use Rattle.std.proofs.Common.{◌≡◌, ◌∙◌, ℕ, false, List, [], ◌∷
 use Rattle.std.specs.Io.KnownBytes.{Appends}
 use Rattle.std.proofs.lemmas.List.{append-nil}
 use Rattle.x25_io.specs.code.Written.{AppendsPrefix}
-use Rattle.x25_station.specs.Settings.{Settings}
+use Rattle.x25_station.specs.Config.{Settings}
 use Rattle.x25_station.specs.Station.{Station}
-use Rattle.x25_pipe.specs.Piped.{Turn, quiet, and_then, turn, turns, sayings_text, has_refusal}
+use Rattle.x25_pipe.specs.Pipe.{Turn, quiet, and_then, turn, turns, sayings_text, has_refusal}
 use Rattle.x25_pipe.specs.code.Stands.{Stands}
 use Rattle.x25_pipe.specs.code.Leaves.{Leaves}
 use Rattle.x25_pipe.specs.code.Stream.{WritesLines}

@@ -1,4 +1,4 @@
-pub mod Piped
-pub mod Watched
+pub mod Pipe
+pub mod Mark
 pub mod code
 pub mod rows

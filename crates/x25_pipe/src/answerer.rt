@@ -3,8 +3,8 @@ use crate::pipe::Pipe;
 use x25_io::{Fault, LineTaker, Sink};
 
 impl LineTaker for Pipe {
-    ghost use Rattle.x25_station.specs.Settings.{Settings};
-    ghost use Rattle.x25_pipe.specs.Piped.{piped, status_of as status, text_of as text};
+    ghost use Rattle.x25_station.specs.Config.{Settings};
+    ghost use Rattle.x25_pipe.specs.Pipe.{piped, status_of as status, text_of as text};
     ghost use Rattle.x25_pipe.specs.code.Stream.{Answers, WritesLines};
 
     // Which end it is, and the settings of the station.

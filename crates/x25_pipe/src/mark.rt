@@ -1,14 +1,14 @@
 //! What timer T1 does behind a step.
 ghost use Rattle.std.specs.Prelude.{◌≡◌, ◌==◌, ◌||◌, not, map};
-ghost use Rattle.x25_station.specs.Entries.{StationEntry};
+ghost use Rattle.x25_station.specs.Entry.{StationEntry};
 ghost use Rattle.x25_station.specs.code.FitsStation.{FitsStation};
 ghost use Rattle.x25_station.specs.code.PlainEntry.{plain_entry};
-ghost use Rattle.x25_station.specs.Settings.{Settings};
+ghost use Rattle.x25_station.specs.Config.{Settings};
 ghost use Rattle.x25_station.specs.Station.{Station as State};
-ghost use Rattle.x25_station.specs.Steps.{Did, Step as PlainStep};
+ghost use Rattle.x25_station.specs.Step.{Did, Step as PlainStep};
 ghost use Rattle.x25_station.specs.laws.TimerLaw.{Event, is_firing as is_firing_of, is_link_up, mark as mark_behind, mark_of as mark_by, tells_up as tell_up};
-ghost use Rattle.x25_pipe.specs.Piped.{standing as standing_mark};
-ghost use Rattle.x25_pipe.specs.Watched.{plain_mark, Watches};
+ghost use Rattle.x25_pipe.specs.Pipe.{standing as standing_mark};
+ghost use Rattle.x25_pipe.specs.Mark.{plain_mark, Watches};
 
 use x25_bits::Seq;
 use x25_station::{Entry, Station};

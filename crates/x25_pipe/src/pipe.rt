@@ -1,6 +1,6 @@
 //! A station, and what is told of it.
 ghost use Rattle.std.specs.Prelude.{◌≡◌, ◌≢◌, ◌↔◌, ◌+◌, ◌++◌, ◌≤◌, IfErr, IfOk, IsTrue, vec_capacity, vec_len};
-ghost use Rattle.x25_pipe.specs.Piped.{is_same as are_same};
+ghost use Rattle.x25_pipe.specs.Pipe.{is_same as are_same};
 
 use crate::mark::{Mark, Watch, tells_up};
 use crate::telling::{tell_entries, tell_frames, tell_mark, tell_refusal};
@@ -80,16 +80,16 @@ impl Pipe {
     ghost use Rattle.x25_io.specs.HeldLine.{most_line};
     ghost use Rattle.x25_io.specs.code.MarksFaults.{MarksFaults};
     ghost use Rattle.x25_io.specs.code.Written.{AppendsPrefix, Tells, TellsMore};
-    ghost use Rattle.x25_script.specs.PlainLine.{plain, plain_command};
+    ghost use Rattle.x25_script.specs.ScriptLine.{plain, plain_command};
     ghost use Rattle.x25_script.specs.Reading.{line_in};
     ghost use Rattle.x25_station.specs.code.FitsStation.{FitsStation};
-    ghost use Rattle.x25_station.specs.Settings.{Settings, config_refusal, settings_from};
+    ghost use Rattle.x25_station.specs.Config.{Settings, config_refusal, settings_from};
     ghost use Rattle.x25_station.specs.Station.{Station as State, new_station};
-    ghost use Rattle.x25_station.specs.Steps.{Outcome};
+    ghost use Rattle.x25_station.specs.Step.{Outcome};
     ghost use Rattle.x25_station.specs.laws.TimerLaw.{Asks, Comes, Event, Fires, Mark as TimerMark, is_firing as is_firing_of};
-    ghost use Rattle.x25_pipe.specs.Piped.{asked_turn, event_turn, mark_turn, only_of, read_event, sayings_text, script_event, standing_turn, trace_event, turn, turn_of, with_pulls};
+    ghost use Rattle.x25_pipe.specs.Pipe.{asked_turn, event_turn, mark_turn, only_of, read_event, sayings_text, script_event, standing_turn, trace_event, turn, turn_of, with_pulls};
     ghost use Rattle.x25_pipe.specs.code.Stands.{IsError, IsStep, Stands, Stood, Turns, answer_told};
-    ghost use Rattle.x25_pipe.specs.Watched.{Watches, plain_mark};
+    ghost use Rattle.x25_pipe.specs.Mark.{Watches, plain_mark};
 
     /// A station that never was up, and nothing was told.
     pub(crate) fn new(alloc: Global, end: Role, cfg: Cfg) -> Result<Pipe, Fault>

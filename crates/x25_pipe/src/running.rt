@@ -2,8 +2,8 @@
 ghost use Rattle.std.specs.Prelude.{◌≡◌, ◌<◌, ◌≤◌, ◌-◌, ◌^◌, ℕ, true, List, Some, None, IfOk, OnOk, OnErr, IfSome, IsErrOf, length};
 ghost use Rattle.std.specs.Io.KnownBytes.{Appends};
 ghost use Rattle.x25_io.specs.code.Written.{AppendsPrefix};
-ghost use Rattle.x25_station.specs.Settings.{config_refusal, settings_from};
-ghost use Rattle.x25_pipe.specs.Piped.{piped, station_status, station_text};
+ghost use Rattle.x25_station.specs.Config.{config_refusal, settings_from};
+ghost use Rattle.x25_pipe.specs.Pipe.{piped, station_status, station_text};
 ghost use Rattle.x25_pipe.specs.code.Stream.{WritesEnded};
 
 use crate::pipe::Pipe;

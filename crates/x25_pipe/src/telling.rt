@@ -2,11 +2,11 @@
 ghost use Rattle.std.specs.Prelude.{◌≡◌, map};
 ghost use Rattle.x25_io.specs.code.MarksFaults.{MarksFaults};
 ghost use Rattle.x25_io.specs.code.Written.{TellsMore};
-ghost use Rattle.x25_console.specs.Lines.{refusal_line as line_of_refusal};
+ghost use Rattle.x25_console.specs.Telling.{refusal_line as line_of_refusal};
 ghost use Rattle.x25_station.specs.code.PlainEntry.{plain_entry};
-ghost use Rattle.x25_station.specs.StationError.{number_of};
-ghost use Rattle.x25_pipe.specs.Piped.{enters, marks, saying_line, sayings_text, sends};
-ghost use Rattle.x25_pipe.specs.Watched.{plain_mark};
+ghost use Rattle.x25_station.specs.Error.{number_of};
+ghost use Rattle.x25_pipe.specs.Pipe.{enters, marks, saying_line, sayings_text, sends};
+ghost use Rattle.x25_pipe.specs.Mark.{plain_mark};
 
 use crate::mark::Mark;
 use x25_console::{tell, write_frame, write_refusal};
@@ -14,7 +14,7 @@ use x25_io::{Fault, Output, Sink};
 use x25_station::{Entry, Role, StationError};
 use x25_transcript::{Line, write_entry};
 
-#[tactic(auto, unfolding(crate::specs::Piped::saying_line))]
+#[tactic(auto, unfolding(crate::specs::Pipe::saying_line))]
 fn tell_entry<W: Sink>(
     line: &mut Line,
     end: Role,
@@ -29,7 +29,7 @@ fn tell_entry<W: Sink>(
     tell(line.as_slice(), output, writer)
 }
 
-#[tactic(auto, unfolding(crate::specs::Piped::saying_line))]
+#[tactic(auto, unfolding(crate::specs::Pipe::saying_line))]
 fn tell_frame<W: Sink>(
     line: &mut Line,
     end: Role,
@@ -91,7 +91,7 @@ pub(crate) fn tell_refusal<W: Sink>(
 }
 
 /// The line of a mark: what T1 does, and whether the station is idle.
-#[tactic(auto, unfolding(crate::specs::Piped::saying_line))]
+#[tactic(auto, unfolding(crate::specs::Pipe::saying_line))]
 fn mark_line(mark: Mark, is_idle: bool) -> &'static [u8]
     ensures { (end : Role) → result.now ≡ saying_line end (marks (plain_mark mark) is_idle) }
 {

@@ -1,7 +1,7 @@
 //! Two links, and the lines between them. What a user sends is handed down as one packet by `put_packet`, and what interrupts by
 //! `room` and `put`, as the packet layer hands packets down.
 ghost use Rattle.std.specs.Prelude.{◌≤◌, vec_len};
-ghost use Rattle.x25_link.specs.code.Link.{limit_of};
+ghost use Rattle.x25_link.specs.code.FitsLink.{limit_of};
 
 use crate::boxes::boxed;
 use crate::counts::{Counts, Kind};

@@ -2,10 +2,10 @@
 use Rattle.std.proofs.Common.{ℕ, ◌<◌, List, [], ◌∷◌}
 use Rattle.std.proofs.lemmas.List.Elements.{All-nil, All-from_get_or}
 use Rattle.hex.proofs.HexLemmas.{decode_of-ok}
-use Rattle.x25_script.specs.Octets.{AreOctets}
-use Rattle.x25_script.specs.PlainLine.{PlainCommand, call, accept, clear, send, interrupt, reset, ready, not_ready, restart, pull, connect, disconnect, PlainLine, command, t1, deliver, lose, damage, drain, heal}
+use Rattle.x25_script.specs.HexDigits.{AreOctets}
+use Rattle.x25_script.specs.ScriptLine.{PlainCommand, call, accept, clear, send, interrupt, reset, ready, not_ready, restart, pull, connect, disconnect, PlainLine, command, t1, deliver, lose, damage, drain, heal}
 use Rattle.x25_script.specs.laws.ReadingLaw.{AsksInOctets, IsInOctets}
-use Rattle.x25_script.specs.Spelling.{Writes, SpellsCommand, Spells}
+use Rattle.x25_script.specs.Reading.Spelling.{Writes, SpellsCommand, Spells}
 
 written : (text octets : List ℕ) → Writes text octets → AreOctets octets
 written text [] h = All-nil (λ octet. octet < 256)

@@ -9,8 +9,8 @@ use Rattle.x25_script.specs.declared.words.Keyword.TheVariants.{End, T1, Deliver
 use Rattle.x25_script.specs.declared.words.Verb.{Verb}
 use Rattle.x25_script.specs.declared.words.Verb.TheVariants.{Call, Accept, Clear, Send, Interrupt, Reset, Ready, NotReady}
 use Rattle.x25_circuit.specs.declared.params.Params.{Params}
-use Rattle.x25_script.specs.PlainLine.{PlainCommand, clear, reset, ready, not_ready, restart, pull, connect, disconnect, PlainLine, heal}
-use Rattle.x25_script.specs.Spelling.{end_text, direction_text, q_text, address_text, IsNumber, AreParams, params_text, SpellsCommand, Spells}
+use Rattle.x25_script.specs.ScriptLine.{PlainCommand, clear, reset, ready, not_ready, restart, pull, connect, disconnect, PlainLine, heal}
+use Rattle.x25_script.specs.Reading.Spelling.{end_text, direction_text, q_text, address_text, IsNumber, AreParams, params_text, SpellsCommand, Spells}
 use Rattle.x25_script.specs.Reading.{parts_of, end_in, from_in, q_in, number_in, address_in, octets_in, verb_in, keyword_in, small_number_in, params_in, with_params_of, with_params_in, call_in, accept_in, send_in, interrupt_in, on_channel, with_fields, bare_command_in, command_of, command_in, lose_in, damage_in, drain_in, after, bare_line_in, line_of, line_in}
 use Rattle.x25_script.proofs.NumberLemmas.{number_found}
 use Rattle.x25_script.proofs.PartLemmas.{chosen, bind_found, IsText, word_step, parts_joined, end_found, from_found, q_found, address_found, octets_found}

@@ -10,7 +10,7 @@ use Rattle.std.proofs.lemmas.List.Elements.{All-cons, All-head, All-nil, All-tai
 use Rattle.hex.specs.declared.error.FromHexError.{FromHexError}
 use Rattle.hex.specs.Hex.{decode_of, decode_pairs, is_hex_digit}
 use Rattle.hex.proofs.HexLemmas.{decode_of-ok, decode_of-digits}
-use Rattle.x25_script.specs.Octets.{octets_of, octets_written, AreWritten}
+use Rattle.x25_script.specs.HexDigits.{octets_of, octets_written, AreWritten}
 
 digit_same : (c : ℕ) → is_ascii_hexdigit c ≡ is_hex_digit c
 digit_same c = grind (arith, nat_tests)

@@ -9,9 +9,9 @@ use Rattle.std.proofs.lemmas.Bool.Decides.{nat_tests}
 use Rattle.std.proofs.lemmas.Slice.Eq.{bytes_eq-Decides}
 use Rattle.x25_bits.specs.declared.role.Role.{Role}
 use Rattle.x25_bits.specs.declared.role.Role.TheVariants.{Dte, Dce}
-use Rattle.x25_script.specs.Spelling.{end_text, direction_text, q_text, address_text, IsAddress, Writes}
+use Rattle.x25_script.specs.Reading.Spelling.{end_text, direction_text, q_text, address_text, IsAddress, Writes}
 use Rattle.x25_script.specs.Reading.{parts_of, onto_first, end_in, from_in, q_in, digits_in, address_in, octets_in}
-use Rattle.x25_script.specs.Octets.{octets_of}
+use Rattle.x25_script.specs.HexDigits.{octets_of}
 use Rattle.hex.specs.declared.error.FromHexError.{FromHexError}
 use Rattle.hex.specs.Hex.{decode_of}
 use Rattle.hex.proofs.HexLemmas.{decode_of-ok}

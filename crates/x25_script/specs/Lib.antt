@@ -1,5 +1,4 @@
-pub mod Octets
-pub mod PlainLine
-pub mod Spelling
+pub mod HexDigits
+pub mod ScriptLine
 pub mod Reading
 pub mod laws

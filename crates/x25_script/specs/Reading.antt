@@ -14,8 +14,9 @@ use Rattle.x25_script.specs.declared.words.Keyword.{Keyword}
 use Rattle.x25_script.specs.declared.words.Keyword.TheVariants.{End, T1, Deliver, Lose, Damage, Drain}
 use Rattle.x25_script.specs.declared.words.Verb.{Verb}
 use Rattle.x25_script.specs.declared.words.Verb.TheVariants.{Call, Accept, Clear, Send, Interrupt, Reset, Ready, NotReady}
-use Rattle.x25_script.specs.Octets.{octets_of}
-use Rattle.x25_script.specs.PlainLine.{PlainCommand, call, accept, clear, send, interrupt, reset, ready, not_ready, restart, pull, connect, disconnect, PlainLine, command, t1, deliver, lose, damage, drain, heal, plain_command, plain}
+use Rattle.x25_script.specs.HexDigits.{octets_of}
+use Rattle.x25_script.specs.ScriptLine.{PlainCommand, call, accept, clear, send, interrupt, reset, ready, not_ready, restart, pull, connect, disconnect, PlainLine, command, t1, deliver, lose, damage, drain, heal, plain_command, plain}
+pub mod Spelling
 
 -- a step of reading, where the steps before it read something
 infixl 10 ◌>>=◌

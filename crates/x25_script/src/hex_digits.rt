@@ -1,6 +1,6 @@
 //! Octets as hexadecimal digits.
 ghost use Rattle.std.specs.Prelude.{◌≡◌, ◌==◌, List, ℕ, length};
-ghost use Rattle.x25_script.specs.Octets.{octets_of, octets_written, AreWritten};
+ghost use Rattle.x25_script.specs.HexDigits.{octets_of, octets_written, AreWritten};
 
 use std::marker::Model;
 use x25_text::{is_hexadecimal, read_digits};

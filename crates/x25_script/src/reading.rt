@@ -1,8 +1,8 @@
 //! A line of a script read from its characters.
 ghost use Rattle.std.specs.Prelude.{◌≡◌, IfSome, IsSomeAnd};
-ghost use Rattle.x25_script.specs.PlainLine.{PlainLine, plain};
+ghost use Rattle.x25_script.specs.ScriptLine.{PlainLine, plain};
 ghost use Rattle.x25_script.specs.Reading.{after, bare_line_in, damage_in, drain_in, line_in, lose_in, GivesLine};
-ghost use Rattle.x25_script.specs.Spelling.{Spells};
+ghost use Rattle.x25_script.specs.Reading.Spelling.{Spells};
 ghost use Rattle.x25_script.specs.declared.words.Keyword.TheVariants.{Deliver, End};
 
 use crate::command::command;

@@ -9,8 +9,8 @@ use Rattle.x25_settings.specs.declared.options.Flag.{Flag}
 use Rattle.x25_settings.specs.declared.options.Flag.TheVariants.{Down, Long, Tap}
 use Rattle.x25_settings.specs.declared.options.Numbered.{Numbered}
 use Rattle.x25_settings.specs.declared.options.Numbered.TheVariants.{Window, Tries, Channels}
-use Rattle.x25_settings.specs.Choosing.{number_in, flag_in, numbered_in, put_flag, put_fresh, put_read, put_text, put_number, chosen_in}
-use Rattle.x25_settings.specs.Simulation.{Choice, flag, number, flag_word, word_of, most_of, words_of, nothing, chosen_flag, with_flag, chosen_number, with_number, IsInRange, IsOpen, Leads, settled, Choose, AreInRange}
+use Rattle.x25_settings.specs.Options.Choosing.{number_in, flag_in, numbered_in, put_flag, put_fresh, put_read, put_text, put_number, chosen_in}
+use Rattle.x25_settings.specs.Options.{Choice, flag, number, flag_word, word_of, most_of, words_of, nothing, chosen_flag, with_flag, chosen_number, with_number, IsInRange, IsOpen, Leads, settled, Choose, AreInRange}
 use Rattle.x25_settings.proofs.NumberLemmas.{number_found, number_read}
 
 -- ---- one step of reading

@@ -9,7 +9,7 @@ use Rattle.std.proofs.lemmas.Bool.Decides.{nat_tests}
 use Rattle.std.proofs.lemmas.Fmt.{decimal_is_IsNumeral, parse-decimal}
 use Rattle.std.proofs.lemmas.Slice.Eq.{bytes_eq-Decides}
 use Rattle.std.proofs.lemmas.Option.{cond_some}
-use Rattle.x25_settings.specs.Choosing.{number_in}
+use Rattle.x25_settings.specs.Options.Choosing.{number_in}
 
 -- what is read is in its range, and written so
 pub number_found : (most : ℕ) (text : List ℕ) (n : ℕ) → number_in most text ≡ Some n → (1 ≤ n) × (n ≤ most) × (text ≡ decimal n)

@@ -12,9 +12,9 @@ use Rattle.x25_settings.specs.declared.options.Judging.{Judging}
 use Rattle.x25_settings.specs.declared.options.Place.{Place}
 use Rattle.x25_settings.specs.declared.words.Task.{Task}
 use Rattle.x25_settings.specs.declared.words.Task.TheVariants.{Decode, Vectors, Sim, Station, Judge, Deframe, Frame}
-use Rattle.x25_settings.specs.Choosing.{chosen_in, simulation_in, station_in, place_in, end_in, placed, judge_in, judging_of, decode_in, deframe_in, frame_in, vectors_in, task_behind, task_in}
-use Rattle.x25_settings.specs.Simulation.{nothing, settled, settled_at, SaySimulation, SayPlace, SayJudging, Choose, end_word, PlaceIsInRange, JudgingIsInRange, judging_in}
-use Rattle.x25_settings.specs.Simulation as simulation
+use Rattle.x25_settings.specs.Options.Choosing.{chosen_in, simulation_in, station_in, place_in, end_in, placed, judge_in, judging_of, decode_in, deframe_in, frame_in, vectors_in, task_behind, task_in}
+use Rattle.x25_settings.specs.Options.{nothing, settled, settled_at, SaySimulation, SayPlace, SayJudging, Choose, end_word, PlaceIsInRange, JudgingIsInRange, judging_in}
+use Rattle.x25_settings.specs.Options as simulation
 use Rattle.x25_settings.specs.Words.{AreInRange, Say}
 use Rattle.x25_settings.proofs.ChoiceLemmas.{found, read, in_range}
 

@@ -2,7 +2,8 @@
 use Rattle.std.specs.Prelude.{◌≡◌, ℕ, Bool, true, false, List, [], ◌∷◌, codes}
 use Rattle.x25_settings.specs.declared.words.Task.{Task}
 use Rattle.x25_settings.specs.declared.words.Task.TheVariants.{Decode, Vectors, Sim, Station, Judge, Deframe, Frame}
-use Rattle.x25_settings.specs.Simulation as simulation
+use Rattle.x25_settings.specs.Options as simulation
+pub mod SettingsError
 
 abbrev pub long_words : Bool → List (List ℕ)
 long_words true = codes "--long" ∷ []

@@ -1,8 +1,8 @@
 //! The words behind `sim`, `station`, `judge` and `deframe`.
 ghost use Rattle.std.specs.Prelude.{◌≡◌, ◌<◌, ◌↔◌, ◌∷◌, [], IfSome, MatchOption, IsTrue, decimal, map, length};
 ghost use Rattle.std.specs.Str.{bytes_eq};
-ghost use Rattle.x25_settings.specs.Choosing.{chosen_in, end_in, flag_in, judge_in, judging_of, number_in, numbered_in, placed, put_flag, put_number, simulation_in, station_in};
-ghost use Rattle.x25_settings.specs.Simulation.{default_of, most_of, nothing, settled};
+ghost use Rattle.x25_settings.specs.Options.Choosing.{chosen_in, end_in, flag_in, judge_in, judging_of, number_in, numbered_in, placed, put_flag, put_number, simulation_in, station_in};
+ghost use Rattle.x25_settings.specs.Options.{default_of, most_of, nothing, settled};
 
 use itoa::Buffer;
 use std::convert::AsStr;

@@ -1,6 +1,6 @@
 //! What the words of the command line ask for.
 ghost use Rattle.std.specs.Prelude.{◌≡◌, Ok, IfOk, map};
-ghost use Rattle.x25_settings.specs.Choosing.{decode_in, deframe_in, frame_in, task_behind, task_in, vectors_in};
+ghost use Rattle.x25_settings.specs.Options.Choosing.{decode_in, deframe_in, frame_in, task_behind, task_in, vectors_in};
 ghost use Rattle.x25_settings.specs.Words.{AreInRange, Say};
 ghost use Rattle.x25_settings.specs.declared.words.SettingsError.TheVariants.{NoMemory};
 ghost use Rattle.x25_settings.specs.declared.words.Task.{Task as TaskValue};
@@ -40,7 +40,7 @@ pub enum SettingsError {
 }
 
 impl SettingsError {
-    ghost use Rattle.x25_settings.specs.SettingsError.{number_of, exit_status_of};
+    ghost use Rattle.x25_settings.specs.Words.SettingsError.{number_of, exit_status_of};
 
     /// The number of the error: 63 for words that aren't plain, 70 no memory.
     pub fn number(&self) -> u8

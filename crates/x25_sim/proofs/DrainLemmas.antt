@@ -6,7 +6,7 @@ use Rattle.x25_world.specs.World.{World, Receives}
 use Rattle.x25_world.specs.code.ShownWorld.{ShownWorld}
 use Rattle.x25_world.specs.code.FitsWorld.{Gone, FitsWorld}
 use Rattle.x25_world.specs.Healing.{next_end}
-use Rattle.x25_sim.specs.Simulated.{quiet, and_then, event_turn, delivered_to, drained}
+use Rattle.x25_sim.specs.Stage.{quiet, and_then, event_turn, delivered_to, drained}
 
 module _ (cfg : Cfg) (tap : Bool) where
   pub drained_all : (n : ℕ) (w : World) → n ≡ 0 → drained cfg tap n w ≡ quiet w

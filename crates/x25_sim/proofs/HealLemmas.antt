@@ -5,7 +5,7 @@ use Rattle.x25_bits.specs.declared.role.Role.{Role}
 use Rattle.x25_station.specs.declared.config.Cfg.{Cfg}
 use Rattle.x25_world.specs.World.{World}
 use Rattle.x25_world.specs.Healing.{next_end}
-use Rattle.x25_sim.specs.Simulated.{Turn, quiet, and_then, pulled, unless_empty, emptied}
+use Rattle.x25_sim.specs.Stage.{Turn, quiet, and_then, pulled, unless_empty, emptied}
 
 -- whether there is none, by whether there is some
 pub none_by_some : {A B : Type 0} (f : A → B) (o : Option A) (b : Bool) → is_some o ≡ not b → b ≡ is_none (option_map f o)

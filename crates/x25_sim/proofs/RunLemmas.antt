@@ -5,12 +5,12 @@ use Rattle.std.proofs.Math.Seq.{drop-append_seam}
 use Rattle.std.specs.Prelude.{cond, ◌&&◌}
 use Rattle.x25_bits.specs.declared.role.Role.{Role}
 use Rattle.x25_bits.specs.declared.role.Role.TheVariants.{Dte, Dce}
-use Rattle.x25_link.specs.LinkStation.{awaits_ua}
-use Rattle.x25_line.specs.Stations.{is_visible, replaced}
+use Rattle.x25_link.specs.Station.{awaits_ua}
+use Rattle.x25_line.specs.laws.Stations.{is_visible, replaced}
 use Rattle.x25_station.specs.declared.config.Cfg.{Cfg}
-use Rattle.x25_station.specs.Settings.{Settings, settings_from}
-use Rattle.x25_station.specs.Steps.{Outcome, Did, Refused, fires, commands}
-use Rattle.x25_script.specs.PlainLine.{PlainCommand, call, accept, clear, send, interrupt, reset, ready, not_ready, restart, pull, connect, disconnect, PlainLine, command, t1, deliver, lose, damage, drain, heal}
+use Rattle.x25_station.specs.Config.{Settings, settings_from}
+use Rattle.x25_station.specs.Step.{Outcome, Did, Refused, fires, commands}
+use Rattle.x25_script.specs.ScriptLine.{PlainCommand, call, accept, clear, send, interrupt, reset, ready, not_ready, restart, pull, connect, disconnect, PlainLine, command, t1, deliver, lose, damage, drain, heal}
 use Rattle.x25_script.specs.Reading.{line_in}
 use Rattle.x25_script.specs.laws.ReadingLaw.{AsksInOctets, IsInOctets, ReadsOctets}
 use Rattle.x25_io.specs.Lines.{lines_of}
@@ -18,11 +18,11 @@ use Rattle.x25_world.specs.World.{World, OnTap, AtEnd, swapped, Act, Commands, R
 use Rattle.x25_world.specs.declared.error.WorldError.{WorldError}
 use Rattle.x25_world.specs.laws.Claims.{ActsInOctets, AreInOctets, IsUpOnce, IsUpAtMostOnce, IsBeginning, IsNoConnect, NoneConnects, UpOnceUnlessConnected, Always, UntilSecondUp}
 use Rattle.x25_world.specs.laws.SessionClaims.{Throughout, ThroughoutAlong}
-use Rattle.x25_sim.specs.Sayings.{Saying, enters, taps, reads_nothing, refuses}
+use Rattle.x25_sim.specs.Telling.{Saying, enters, taps, reads_nothing, refuses}
 use Rattle.x25_console.specs.Commands.{command_asked}
 use Rattle.x25_io.specs.HeldLine.{most_line}
 use Rattle.x25_world.specs.Healing.{next_end}
-use Rattle.x25_sim.specs.Simulated.{Turn, and_then, step_told, told_between, turn_of, event_turn, delivered_to, drained, tried_of, tried, both_tried, most_times, fired, pulled, unless_empty, emptied, healed, line_turn, asked_in, asked_turn, turn, turns, connecting, set_up, opened, simulated}
+use Rattle.x25_sim.specs.Stage.{Turn, and_then, step_told, told_between, turn_of, event_turn, delivered_to, drained, tried_of, tried, both_tried, most_times, fired, pulled, unless_empty, emptied, healed, line_turn, asked_in, asked_turn, turn, turns, connecting, set_up, opened, simulated}
 use Rattle.x25_sim.specs.laws.RunLaw.{entries_in, frames_in, begins, IsNoConnectLine, NoneAsks, IsRun, ScriptsAreRuns, OfScripts, OfScriptsSetUp, OfAllScripts, UpOnceUnlessAsked, ScriptsAreTold, ScriptsAreTapped}
 
 -- ---- a world only grows

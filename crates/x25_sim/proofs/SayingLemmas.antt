@@ -2,7 +2,7 @@
 use Rattle.std.proofs.Common.{◌≡◌, ◌∙◌, ◌+◌, ◌<◌, ℕ, List, [], ◌∷◌, ◌++◌, length, take, drop, map, get_or, ap, sym}
 use Rattle.std.proofs.lemmas.Grind.{flat_map-append}
 use Rattle.std.proofs.lemmas.List.{append-nil, map-append, take_more, take-append-drop}
-use Rattle.x25_sim.specs.Sayings.{Saying, saying_line, sayings_text}
+use Rattle.x25_sim.specs.Telling.{Saying, saying_line, sayings_text}
 
 pub text-append : (xs ys : List Saying) → sayings_text (xs ++ ys) ≡ sayings_text xs ++ sayings_text ys
 text-append xs ys = flat_map-append saying_line xs ys

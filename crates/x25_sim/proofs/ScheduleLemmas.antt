@@ -3,14 +3,14 @@ use Rattle.std.proofs.Common.{◌≡◌, ◌∙◌, ℕ, zero, suc, Bool, List, 
 use Rattle.x25_bits.specs.declared.role.Role.{Role}
 use Rattle.x25_bits.specs.declared.role.Role.TheVariants.{Dte, Dce}
 use Rattle.x25_station.specs.declared.config.Cfg.{Cfg}
-use Rattle.x25_script.specs.PlainLine.{pull}
+use Rattle.x25_script.specs.ScriptLine.{pull}
 use Rattle.x25_console.specs.Commands.{command_asked}
 use Rattle.x25_world.specs.World.{World, Act, Commands, Fires, Event, WorldOutcome, Happened, Declined, happens, after, run}
 use Rattle.x25_world.specs.Healing as schedule
 use Rattle.x25_world.specs.Healing.{next_end, receipt, all_received, arrivals_from, arrivals, deliveries, one_if, if_accepted, firing, pull_round, pull_rounds, most_rounds, fire_and_pull, healing, ArrivesByHealing, HealingBringsAll}
 use Rattle.x25_world.specs.laws.SessionClaims.{Throughout}
 use Rattle.x25_world.specs.laws.WaitClaims.{pull_at}
-use Rattle.x25_sim.specs.Simulated.{Turn, and_then, turn_of, event_turn, delivered_to, drained, tried_of, tried, both_tried, most_times, fired, pulled, unless_empty, emptied, healed, line_turn}
+use Rattle.x25_sim.specs.Stage.{Turn, and_then, turn_of, event_turn, delivered_to, drained, tried_of, tried, both_tried, most_times, fired, pulled, unless_empty, emptied, healed, line_turn}
 use Rattle.x25_sim.specs.laws.RunLaw.{HealIsTheSchedule, HealBringsAll}
 
 module _ (cfg : Cfg) (tap : Bool) where

@@ -4,8 +4,8 @@ use Rattle.std.specs.Prelude.{IfSome}
 use Rattle.x25_io.specs.Lines.{lines_of}
 use Rattle.x25_io.specs.code.Written.{AppendsPrefix}
 use Rattle.x25_station.specs.declared.config.Cfg.{Cfg}
-use Rattle.x25_sim.specs.Sayings.{sayings_text, has_refusal}
-use Rattle.x25_sim.specs.Simulated.{turns, opened, simulated, sim_text}
+use Rattle.x25_sim.specs.Telling.{sayings_text, has_refusal}
+use Rattle.x25_sim.specs.Stage.{turns, opened, simulated, sim_text}
 use Rattle.x25_io.specs.HeldLine.{HoldsLine}
 use Rattle.x25_sim.specs.code.Stream.{Simulates}
 use Rattle.x25_io.specs.declared.held_line.HeldLine.{HeldLine}

@@ -11,10 +11,10 @@ use Rattle.x25_world.specs.World.{World, WorldOutcome, Event, Receives, Happened
 use Rattle.x25_world.specs.code.FitsWorld.{FitsWorld, all_of}
 use Rattle.x25_world.specs.declared.error.WorldError.{WorldError}
 use Rattle.x25_sim.specs.declared.stage.Stage.{Stage}
-use Rattle.x25_sim.specs.Sayings.{Saying, refuses, reads_nothing, sayings_text, saying_line, refusal_number, is_refusal, has_refusal}
-use Rattle.x25_sim.specs.Simulated.{Turn, quiet, and_then, turn_of, tried_of, tried, event_turn, told_between, asked_turn, connecting, set_up, opened}
+use Rattle.x25_sim.specs.Telling.{Saying, refuses, reads_nothing, sayings_text, saying_line, refusal_number, is_refusal, has_refusal}
+use Rattle.x25_sim.specs.Stage.{Turn, quiet, and_then, turn_of, tried_of, tried, event_turn, told_between, asked_turn, connecting, set_up, opened}
 use Rattle.x25_sim.specs.code.Stands.{Stands, opening}
-use Rattle.x25_console.specs.Lines.{refusal_line}
+use Rattle.x25_console.specs.Telling.{refusal_line}
 use Rattle.x25_io.proofs.ToldLemmas.{prefix_more}
 use Rattle.x25_sim.proofs.SayingLemmas.{text-append}
 use Rattle.x25_sim.proofs.StepLemmas.{happened_turn, declined_turn, happened_tried, declined_tried, step_accepts, refusal_told}

@@ -6,14 +6,14 @@ use Rattle.std.proofs.lemmas.Option.{same_Some}
 use Rattle.x25_bits.specs.declared.role.Role.{Role}
 use Rattle.x25_bits.specs.declared.role.Role.TheVariants.{Dte}
 use Rattle.x25_station.specs.declared.config.Cfg.{Cfg}
-use Rattle.x25_station.specs.Entries.{StationEntry}
+use Rattle.x25_station.specs.Entry.{StationEntry}
 use Rattle.x25_world.specs.World.{World, start, entered, OnTap, AtEnd, WorldOutcome, Happened, Declined, refusal_of, after}
 use Rattle.x25_world.specs.code.ShownWorld.{ShownWorld}
 use Rattle.x25_world.specs.code.FitsWorld.{FitsWorld, all_of, gone_after, nothing_gone}
 use Rattle.x25_world.specs.declared.error.WorldError.{WorldError}
-use Rattle.x25_sim.specs.Sayings.{enters, enters_at, taps, refuses, sayings_text, saying_line, refusal_number, has_refusal}
-use Rattle.x25_console.specs.Lines.{refusal_line}
-use Rattle.x25_sim.specs.Simulated.{quiet, frames_told, step_told, told_between, turn_of, tried_of}
+use Rattle.x25_sim.specs.Telling.{enters, enters_at, taps, refuses, sayings_text, saying_line, refusal_number, has_refusal}
+use Rattle.x25_console.specs.Telling.{refusal_line}
+use Rattle.x25_sim.specs.Stage.{quiet, frames_told, step_told, told_between, turn_of, tried_of}
 use Rattle.x25_sim.specs.code.Stands.{opening}
 use Rattle.x25_world.proofs.Established.{connected_tells}
 use Rattle.x25_sim.proofs.SayingLemmas.{text-append}

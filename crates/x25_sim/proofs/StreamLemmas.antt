@@ -8,8 +8,8 @@ use Rattle.x25_io.specs.code.Written.{AppendsPrefix}
 use Rattle.x25_script.specs.Reading.{line_in}
 use Rattle.x25_station.specs.declared.config.Cfg.{Cfg}
 use Rattle.x25_world.specs.World.{World}
-use Rattle.x25_sim.specs.Sayings.{sayings_text, has_refusal}
-use Rattle.x25_sim.specs.Simulated.{Turn, quiet, and_then, asked_in, turn, turns}
+use Rattle.x25_sim.specs.Telling.{sayings_text, has_refusal}
+use Rattle.x25_sim.specs.Stage.{Turn, quiet, and_then, asked_in, turn, turns}
 use Rattle.x25_sim.specs.code.Stands.{Stands}
 use Rattle.x25_sim.specs.code.Leaves.{Leaves}
 use Rattle.x25_sim.specs.code.Stream.{WritesLines}

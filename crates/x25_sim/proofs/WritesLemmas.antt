@@ -3,12 +3,12 @@ use Rattle.std.proofs.Common.{◌≡◌, ◌<◌, ◌-◌, ◌^◌, ℕ, Bool, t
 use Rattle.std.specs.Prelude.{IfSome}
 use Rattle.std.specs.Io.KnownBytes.{Appends}
 use Rattle.x25_station.specs.declared.config.Cfg.{Cfg}
-use Rattle.x25_station.specs.Settings.{config_refusal}
+use Rattle.x25_station.specs.Config.{config_refusal}
 use Rattle.x25_world.specs.World.{World}
 use Rattle.x25_world.specs.laws.Claims.{HasNoProcedureError}
 use Rattle.x25_world.specs.laws.SessionClaims.{MeetInStep, AreLawfulWhereMet, AreNamedInSessions, AllArrive, UnmetAreToldNothing, OpenStretchesMeet, SessionsKeepOrder}
-use Rattle.x25_world.specs.SessionWindow.{UpIsInWindow}
-use Rattle.x25_sim.specs.Simulated.{simulated, sim_text}
+use Rattle.x25_world.specs.laws.SessionWindow.{UpIsInWindow}
+use Rattle.x25_sim.specs.Stage.{simulated, sim_text}
 use Rattle.x25_sim.specs.laws.RunLaw.{frames_in, OfScripts, OfScriptsSetUp, OfAllScripts, ScriptsAreTold, ScriptsAreTapped}
 use Rattle.x25_sim.specs.laws.WritesRun.{Writes, WritesOnce, WritesSetUp}
 

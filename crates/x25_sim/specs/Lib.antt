@@ -1,5 +1,5 @@
-pub mod Sayings
-pub mod Simulated
+pub mod Telling
+pub mod Stage
 pub mod code
 pub mod laws
 pub mod rows

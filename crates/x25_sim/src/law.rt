@@ -1,9 +1,9 @@
 //! What the simulator writes is a run, and what holds of it, as laws about the definition: each is the contract of a function that
 //! does nothing.
 ghost use Rattle.x25_world.specs.laws.Claims.{ArrivesAll, HasNoProcedureError, IsLawful, IsNamed};
-ghost use Rattle.x25_world.specs.WindowGoes.{IsInWindow};
+ghost use Rattle.x25_world.specs.laws.WindowGoes.{IsInWindow};
 ghost use Rattle.x25_world.specs.laws.SessionClaims.{AllArrive, AreLawfulWhereMet, AreNamedInSessions, MeetInStep, OpenStretchesMeet, UnmetAreToldNothing};
-ghost use Rattle.x25_world.specs.SessionWindow.{UpIsInWindow};
+ghost use Rattle.x25_world.specs.laws.SessionWindow.{UpIsInWindow};
 ghost use Rattle.x25_sim.specs.laws.RunLaw.{HealBringsAll, HealIsTheSchedule, OfAllScripts, OfScripts, OfScriptsSetUp, ScriptsAreRuns, ScriptsAreTapped, ScriptsAreTold, UpOnceUnlessAsked};
 ghost use Rattle.x25_sim.specs.rows.ScriptRows.{BothEndsGoDown, BothEndsHeal, CallsCollide, DamageIsSeen, FramesAreWritten, LinkGoesDown, LinkIsSetUp, LinkIsSetUpAgain, LinksComeUp, LinksThatAreDownHeal, LostFrameArrives, LostUaComesAgain, MessagesArrive, OtherLinesAreRefused, ResetIsDone, RestartIsDone, WaitingMessageIsPulled};
 

@@ -2,12 +2,12 @@
 ghost use Rattle.std.specs.Prelude.{◌≡◌, ◌<◌, ◌≤◌, ◌-◌, ◌^◌, ℕ, true, List, Some, None, IfOk, OnOk, OnErr, IfSome, IsErrOf, length};
 ghost use Rattle.std.specs.Io.KnownBytes.{Appends};
 ghost use Rattle.x25_io.specs.code.Written.{AppendsPrefix};
-ghost use Rattle.x25_station.specs.Settings.{config_refusal};
-ghost use Rattle.x25_sim.specs.Simulated.{simulated, sim_status, sim_text};
+ghost use Rattle.x25_station.specs.Config.{config_refusal};
+ghost use Rattle.x25_sim.specs.Stage.{simulated, sim_status, sim_text};
 ghost use Rattle.x25_sim.specs.code.Stream.{WritesEnded};
 ghost use Rattle.x25_sim.specs.laws.WritesRun.{Writes, WritesOnce, WritesSetUp};
 ghost use Rattle.x25_world.specs.laws.Claims.{ArrivesAll, HasNoProcedureError, IsLawful, IsNamed};
-ghost use Rattle.x25_world.specs.WindowGoes.{IsInWindow};
+ghost use Rattle.x25_world.specs.laws.WindowGoes.{IsInWindow};
 ghost use Rattle.x25_world.specs.laws.SessionClaims.{SessionsKeepOrder};
 
 use crate::law::{scripts_keep_order, scripts_meet_in_sessions};

@@ -3,7 +3,7 @@ ghost use Rattle.std.specs.Prelude.{◌≡◌, ◌<◌, ◌≤◌, ◌-◌, ◌^
 ghost use Rattle.std.specs.Io.KnownBytes.{Appends};
 ghost use Rattle.x25_io.specs.code.Written.{AppendsPrefix};
 ghost use Rattle.x25_station.specs.declared.config.Cfg.{Cfg as Settings};
-ghost use Rattle.x25_sim.specs.Simulated.{simulated, sim_status, sim_text};
+ghost use Rattle.x25_sim.specs.Stage.{simulated, sim_status, sim_text};
 ghost use Rattle.x25_sim.specs.code.Stream.{WritesEnded};
 
 use crate::simulator::Simulator;

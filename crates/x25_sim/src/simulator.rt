@@ -2,7 +2,7 @@
 ghost use Rattle.std.specs.Prelude.{◌≤◌, length};
 ghost use Rattle.x25_io.specs.HeldLine.{most_line};
 ghost use Rattle.x25_script.specs.Reading.{GivesLine};
-ghost use Rattle.x25_sim.specs.Simulated.{asked_in};
+ghost use Rattle.x25_sim.specs.Stage.{asked_in};
 
 use crate::stage::Stage;
 use x25_io::{Fault, LineTaker, Sink};
@@ -16,7 +16,7 @@ pub(crate) struct Simulator {
 }
 
 /// What a line that isn't too long asks for.
-#[tactic(auto, unfolding(crate::specs::Simulated::asked_in))]
+#[tactic(auto, unfolding(crate::specs::Stage::asked_in))]
 fn script_line(line: &[u8]) -> Option<ScriptLine<'_>>
     ensures { length line.now ≤ most_line → GivesLine result (asked_in line.now) }
 {
@@ -27,7 +27,7 @@ impl Simulator {
     ghost use Rattle.std.specs.Prelude.{◌≡◌, ℕ, List, Bool, Option};
     ghost use Rattle.x25_io.specs.code.MarksFaults.{MarksFaults};
     ghost use Rattle.x25_station.specs.declared.config.Cfg.{Cfg as Settings};
-    ghost use Rattle.x25_sim.specs.Simulated.{turn};
+    ghost use Rattle.x25_sim.specs.Stage.{turn};
     ghost use Rattle.x25_sim.specs.code.Stands.{Turns};
 
     pub(crate) fn new(octets: Vec<u8>, stage: Stage) -> Simulator
@@ -37,7 +37,7 @@ impl Simulator {
     }
 
     /// What a line asks for happens.
-    #[tactic(auto, unfolding(crate::specs::Simulated::turn))]
+    #[tactic(auto, unfolding(crate::specs::Stage::turn))]
     fn obey<W: Sink>(&mut self, line: &[u8], writer: &mut W) -> Result<(), Fault>
         ensures turns { length line.now ≤ most_line → (cfg : Settings) (tap : Bool) (old : Option (List ℕ))
             → Turns cfg tap old (W.contents writer.old) (W.contents writer.new) self.old.stage self.new.stage result (turn cfg tap line.now) }
@@ -51,7 +51,7 @@ impl Simulator {
 }
 
 impl LineTaker for Simulator {
-    ghost use Rattle.x25_sim.specs.Simulated.{sim_status, sim_text, simulated};
+    ghost use Rattle.x25_sim.specs.Stage.{sim_status, sim_text, simulated};
     ghost use Rattle.x25_sim.specs.code.Stream.{Asked, Simulates, WritesLines};
 
     // How the simulation was asked for.

@@ -71,16 +71,16 @@ fn away_from(end: Role) -> Direction
 
 impl Stage {
     ghost use Rattle.std.specs.Prelude.{◌≡◌, ◌⊎◌, ◌++◌, true, ℕ, List, Bool, Option, Some, None, [], false, OnOk, OnErr, IfErr, MatchResult, is_none, option_map};
-    ghost use Rattle.x25_script.specs.PlainLine.{plain, plain_command};
+    ghost use Rattle.x25_script.specs.ScriptLine.{plain, plain_command};
     ghost use Rattle.x25_io.specs.code.MarksFaults.{MarksFaults};
     ghost use Rattle.x25_io.specs.code.Written.{AppendsPrefix, Tells, TellsMore};
     ghost use Rattle.x25_station.specs.declared.config.Cfg.{Cfg as Settings};
     ghost use Rattle.x25_world.specs.World.{World as State, start, entered, Commands, WorldOutcome, event_of, refusal_of};
     ghost use Rattle.x25_world.specs.code.FitsWorld.{Gone, all_of};
     ghost use Rattle.x25_world.specs.Healing.{next_end};
-    ghost use Rattle.x25_sim.specs.Sayings.{taps, sayings_text};
+    ghost use Rattle.x25_sim.specs.Telling.{taps, sayings_text};
     ghost use Rattle.x25_console.specs.Commands.{command_asked};
-    ghost use Rattle.x25_sim.specs.Simulated.{and_then, asked_turn, drained, emptied, event_turn, fired, healed, line_turn, most_times, opened, pulled, told_between, tried, turn_of};
+    ghost use Rattle.x25_sim.specs.Stage.{and_then, asked_turn, drained, emptied, event_turn, fired, healed, line_turn, most_times, opened, pulled, told_between, tried, turn_of};
     ghost use Rattle.x25_sim.specs.code.Stands.{IsOpening, Stands, Stood, Turns};
 
     /// The first world, of which nothing was told.
@@ -327,7 +327,7 @@ impl Stage {
     }
 
     /// What a line of the script asks for happens. The octets that it has are read into the list.
-    #[tactic(auto, unfolding(crate::specs::Simulated::line_turn))]
+    #[tactic(auto, unfolding(crate::specs::Stage::line_turn))]
     pub(crate) fn obey<W: Sink>(
         &mut self,
         line: ScriptLine,

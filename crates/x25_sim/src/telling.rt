@@ -4,8 +4,8 @@ ghost use Rattle.x25_io.specs.code.MarksFaults.{MarksFaults};
 ghost use Rattle.x25_io.specs.code.Written.{TellsMore};
 ghost use Rattle.x25_station.specs.code.PlainEntry.{plain_entry};
 ghost use Rattle.x25_world.specs.code.PlainTold.{plain_tapped};
-ghost use Rattle.x25_console.specs.Lines.{refusal_line as line_of_refusal};
-ghost use Rattle.x25_sim.specs.Sayings.{enters_at, taps, refusal_number as number_of_refusal, saying_line, sayings_text};
+ghost use Rattle.x25_console.specs.Telling.{refusal_line as line_of_refusal};
+ghost use Rattle.x25_sim.specs.Telling.{enters_at, taps, refusal_number as number_of_refusal, saying_line, sayings_text};
 
 use x25_console::{tell, write_frame, write_refusal};
 use x25_io::{Fault, Output, Sink};
@@ -23,7 +23,7 @@ fn refusal_number(error: WorldError) -> u8
     }
 }
 
-#[tactic(auto, unfolding(crate::specs::Sayings::saying_line))]
+#[tactic(auto, unfolding(crate::specs::Telling::saying_line))]
 fn tell_entry<W: Sink>(
     line: &mut Line,
     at: Role,
@@ -38,7 +38,7 @@ fn tell_entry<W: Sink>(
     tell(line.as_slice(), output, writer)
 }
 
-#[tactic(auto, unfolding(crate::specs::Sayings::saying_line))]
+#[tactic(auto, unfolding(crate::specs::Telling::saying_line))]
 fn tell_frame<W: Sink>(
     line: &mut Line,
     frame: &Tapped,

@@ -1,29 +1,29 @@
 -- What a station answers to a command, by what its layer answers.
 use Rattle.std.proofs.Common.{◌≡◌, ℕ, List, [], map, Option, Some, None, Result, Ok, Err, Bool, true, false, ◌==◌, if◌then◌else◌, IfSome, inl, refl, ap, sym, subst, ◌∙◌}
-use Rattle.x25_packet.specs.PlainPacket.{PlainPacket}
-use Rattle.x25_link.specs.LinkStation.{Settings as LinkSettings, LinkStation, Side}
-use Rattle.x25_link.specs.Steps.{alone}
-use Rattle.x25_link.specs.code.Link.{ShownLink, LinkState, FitsWhole, FitsLink, up_at, waits_of, after_put_to}
+use Rattle.x25_packet.specs.Packet.{PlainPacket}
+use Rattle.x25_link.specs.Station.{Settings as LinkSettings, LinkStation, Side}
+use Rattle.x25_link.specs.Link.{alone}
+use Rattle.x25_link.specs.code.FitsLink.{ShownLink, LinkState, FitsWhole, FitsLink, up_at, waits_of, after_put_to}
 use Rattle.x25_circuit.specs.declared.params.Params.{Params}
 use Rattle.x25_circuit.specs.Circuit.{Circuit}
-use Rattle.x25_circuit.specs.Calls as circuit
+use Rattle.x25_circuit.specs.Calling as circuit
 use Rattle.x25_layer.specs.declared.layer.Layer as layer_code
 use Rattle.x25_layer.specs.declared.error.LayerError.{LayerError}
 use Rattle.x25_layer.specs.declared.error.LayerError.TheVariants as layer_error
 use Rattle.x25_layer.specs.Layer.{LayerSettings, Layer, is_channel}
 use Rattle.x25_layer.specs.Calls.{LayerRequest, Asks, Dials, Restarts, PullsAll, LayerOutcome, Accepted, Declined, layer_outcome, outcome_in, outcome_ready, outcome_on, where_room, if_at_once, puts_at_once, dialled, free_channel}
 use Rattle.x25_layer.specs.Rounds.{LinkView, Putting, Answered, Went, Refuses, went, calls}
-use Rattle.x25_layer.specs.OverLink as over
-use Rattle.x25_layer.specs.OverLink.{after_all, LayerGives, LinkGives}
+use Rattle.x25_layer.specs.code.OverLink as over
+use Rattle.x25_layer.specs.code.OverLink.{after_all, LayerGives, LinkGives}
 use Rattle.x25_layer.specs.code.FitsLayer.{FitsLayer}
 use Rattle.x25_station.specs.declared.step.Step as code_step
 use Rattle.x25_station.specs.declared.error.StationError.{StationError}
 use Rattle.x25_station.specs.declared.error.StationError.TheVariants as error
-use Rattle.x25_station.specs.StationError.{of_layer}
-use Rattle.x25_station.specs.Settings.{Settings, link_settings, layer_settings}
-use Rattle.x25_station.specs.Entries.{StationEntry}
+use Rattle.x25_station.specs.Error.{of_layer}
+use Rattle.x25_station.specs.Config.{Settings, link_settings, layer_settings}
+use Rattle.x25_station.specs.Entry.{StationEntry}
 use Rattle.x25_station.specs.Station.{Station, all_put, view_of, waiting_after}
-use Rattle.x25_station.specs.Steps.{Outcome, Did, Refused, did, requests, entries_of_outcome}
+use Rattle.x25_station.specs.Step.{Outcome, Did, Refused, did, requests, entries_of_outcome}
 use Rattle.x25_station.specs.laws.KeepLaw.{KeptBy}
 use Rattle.x25_station.specs.code.PlainEntry.{plain_entry}
 use Rattle.x25_station.specs.code.FitsParts.{FitsParts}

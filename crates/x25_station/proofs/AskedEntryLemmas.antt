@@ -4,19 +4,19 @@ use Rattle.std.proofs.lemmas.Option.{none-some, same_Some}
 use Rattle.std.proofs.lemmas.Bool.{le-leb}
 use Rattle.x25_bits.specs.declared.role.Role.{Role}
 use Rattle.x25_bits.specs.declared.role.Role.TheVariants.{Dte, Dce}
-use Rattle.x25_packet.specs.PlainPacket.{PlainPacket}
+use Rattle.x25_packet.specs.Packet.{PlainPacket}
 use Rattle.x25_circuit.specs.declared.params.Params.{Params}
 use Rattle.x25_circuit.specs.Circuit.{Circuit, is_free}
-use Rattle.x25_circuit.specs.Calls as circuit
+use Rattle.x25_circuit.specs.Calling as circuit
 use Rattle.x25_layer.specs.declared.error.LayerError.{LayerError}
 use Rattle.x25_layer.specs.declared.error.LayerError.TheVariants as layer_error
 use Rattle.x25_layer.specs.Layer.{LayerSettings, Layer, is_channel}
 use Rattle.x25_layer.specs.Calls.{LayerRequest, Asks, Dials, Restarts, PullsAll, LayerOutcome, Accepted, Declined, layer_outcome, outcome_in, outcome_on, if_at_once, puts_at_once, first_of, lowest_free, highest_free, free_channel}
 use Rattle.x25_layer.specs.Rounds.{LinkView, Putting, begin, rounds, Answered, Went, Refuses, went, calls}
-use Rattle.x25_layer.specs.Transcript.{Asked, name_of}
-use Rattle.x25_layer.specs.TwoLayers.{shown, entry_of_dial}
-use Rattle.x25_station.specs.Entries.{StationEntry, of_channel, of_channels, restart_asked, station_asked}
-use Rattle.x25_station.specs.Steps.{entries_of_outcome}
+use Rattle.x25_layer.specs.laws.Transcript.{Asked, name_of}
+use Rattle.x25_layer.specs.laws.TwoLayers.{shown, entry_of_dial}
+use Rattle.x25_station.specs.Entry.{StationEntry, of_channel, of_channels, restart_asked, station_asked}
+use Rattle.x25_station.specs.Step.{entries_of_outcome}
 use Rattle.x25_station.proofs.NameLemmas.{rounds_name, rounds_params}
 use Rattle.x25_station.proofs.ShownLemmas.{same_shown}
 

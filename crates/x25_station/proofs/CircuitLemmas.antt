@@ -8,21 +8,21 @@ use Rattle.std.proofs.lemmas.List.Elements.{All-take, All-drop}
 use Rattle.x25_bits.specs.declared.role.Role.{Role}
 use Rattle.x25_bits.specs.declared.role.Role.TheVariants.{Dte, Dce}
 use Rattle.x25_packet.specs.Digits.{is_digit, is_figure, digits_of_text, IsAddress}
-use Rattle.x25_packet.specs.PlainPacket.{PlainPacket, call, accept, clear, clear_conf, user_data, rr, rnr, interrupt, interrupt_conf, reset, reset_conf, restart, restart_conf}
+use Rattle.x25_packet.specs.Packet.{PlainPacket, call, accept, clear, clear_conf, user_data, rr, rnr, interrupt, interrupt_conf, reset, reset_conf, restart, restart_conf}
 use Rattle.x25_packet.specs.Spelling.{HasChannel, longest_user}
 use Rattle.x25_circuit.specs.declared.state.State.{State}
 use Rattle.x25_circuit.specs.declared.state.State.TheVariants.{Free, Calling, Arriving, Collision, Open, Resetting, Clearing}
 use Rattle.x25_circuit.specs.declared.error.CircuitError.TheVariants as error
-use Rattle.x25_circuit.specs.Messages.{Piece, More, Last, Partial, no_part, joining, may_have_q, ground_of, piece_ground, q_of, user_of, piece_of, cut_from, cut}
-use Rattle.x25_window.specs.Modulo.{resolved}
+use Rattle.x25_circuit.specs.Message.{Piece, More, Last, Partial, no_part, joining, may_have_q, ground_of, piece_ground, q_of, user_of, piece_of, cut_from, cut}
+use Rattle.x25_window.specs.code.Modulo.{resolved}
 use Rattle.x25_packet.specs.Facilities.{IsFacilityField}
 use Rattle.x25_circuit.specs.declared.params.Params.{Params}
 use Rattle.x25_circuit.specs.Params.{default_params, may_propose, may_answer, field_for, said_in, called_terms, calling_terms}
 use Rattle.x25_circuit.specs.laws.ParamsLaws.{FieldIsAllowed, SaidIsAllowed, AnswerIsAllowed, TermsAreAllowed, AreTerms}
 use Rattle.x25_circuit.specs.Circuit.{Settings, Talk, Circuit, talking, outgoing, incoming, waits}
-use Rattle.x25_circuit.specs.Notices.{CallRequest, connected}
-use Rattle.x25_circuit.specs.Table as table
-use Rattle.x25_circuit.specs.Calls.{Outcome, Done, Refused, Request, Calls, Accepts, Clears, Sends, Interrupts, Resets, SaysReady, SaysNotReady, does, is_address_text, request_of, call_sent, may_call, call_in, accept_with, accept_in, clear_in, send_in, interrupt_in, reset_in, ready_in, outcome, Pulled, pulls_nothing, data_packet, pull_open, pull_in, pulled}
+use Rattle.x25_circuit.specs.Notice.{CallRequest, connected}
+use Rattle.x25_circuit.specs.Hearing as table
+use Rattle.x25_circuit.specs.Calling.{Outcome, Done, Refused, Request, Calls, Accepts, Clears, Sends, Interrupts, Resets, SaysReady, SaysNotReady, does, is_address_text, request_of, call_sent, may_call, call_in, accept_with, accept_in, clear_in, send_in, interrupt_in, reset_in, ready_in, outcome, Pulled, pulls_nothing, data_packet, pull_open, pull_in, pulled}
 use Rattle.x25_station.specs.laws.ReadLaw.{AreOctets, AsksOctets}
 use Rattle.x25_station.proofs.FieldLemmas.{Fits}
 

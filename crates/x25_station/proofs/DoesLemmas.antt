@@ -1,6 +1,6 @@
 -- A call does what the definition says of it, by what the calls of its link or of its layer did.
 use Rattle.std.proofs.Common.{◌≡◌, ◌≤◌, [], length, map, vec_len, Result, Ok, Err, inr, refl, arith}
-use Rattle.x25_link.specs.code.Link.{ShownLink, LinkState, FitsWhole}
+use Rattle.x25_link.specs.code.FitsLink.{ShownLink, LinkState, FitsWhole}
 use Rattle.x25_link.specs.code.Bounds.{WindowIsSmall, FewStand}
 use Rattle.x25_layer.specs.Layer.{LayerSettings, Layer}
 use Rattle.x25_layer.specs.Calls.{LayerRequest}
@@ -10,11 +10,11 @@ use Rattle.x25_station.specs.declared.error.StationError.{StationError}
 use Rattle.x25_station.specs.declared.error.StationError.TheVariants as error
 use Rattle.x25_station.specs.declared.station.Station as code
 use Rattle.x25_station.specs.declared.step.Step as code_step
-use Rattle.x25_station.specs.StationError.{of_layer}
+use Rattle.x25_station.specs.Error.{of_layer}
 use Rattle.x25_station.specs.Command.{Requests}
-use Rattle.x25_station.specs.Settings.{Settings, link_settings, layer_settings}
+use Rattle.x25_station.specs.Config.{Settings, link_settings, layer_settings}
 use Rattle.x25_station.specs.Station.{Station}
-use Rattle.x25_station.specs.Steps.{Outcome, Did, Refused, requests}
+use Rattle.x25_station.specs.Step.{Outcome, Did, Refused, requests}
 use Rattle.x25_station.specs.laws.KeepLaw.{CommandKeeps}
 use Rattle.x25_station.specs.code.FitsStation.{FitsStation, Does, Leaves, Sends, Enters, Refuses}
 use Rattle.x25_station.proofs.AskLemmas.{Layers, Links, Answers, answers, refuses, still_fits}

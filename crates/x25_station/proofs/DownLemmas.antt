@@ -3,19 +3,19 @@ use Rattle.std.proofs.Common.{◌≡◌, ℕ, ◌+◌, List, [], ◌++◌, map, 
 use Rattle.x25_frame.specs.Spelling.{spelling_of}
 use Rattle.x25_link.specs.declared.error.LinkError.{LinkError}
 use Rattle.x25_link.specs.declared.phase.Reason.{Reason}
-use Rattle.x25_link.specs.LinkStation.{Settings as LinkSettings, LinkStation, Side, with_near}
-use Rattle.x25_link.specs.MustSend.{Step as LinkStep, quiet, leaves}
-use Rattle.x25_link.specs.Steps.{alone, asks_again, timer_step, disconnect_step}
+use Rattle.x25_link.specs.Station.{Settings as LinkSettings, LinkStation, Side, with_near}
+use Rattle.x25_link.specs.Hearing.{Step as LinkStep, quiet, leaves}
+use Rattle.x25_link.specs.Link.{alone, asks_again, timer_step, disconnect_step}
 use Rattle.x25_link.specs.declared.phase.Reason.TheVariants.{Retries}
-use Rattle.x25_link.specs.code.Link.{ShownLink, FitsLink}
+use Rattle.x25_link.specs.code.FitsLink.{ShownLink, FitsLink}
 use Rattle.x25_layer.specs.Layer.{Layer}
 use Rattle.x25_layer.specs.code.FitsLayer.{FitsLayer}
 use Rattle.x25_layer.specs.declared.layer.Layer as layer_code
 use Rattle.x25_station.specs.declared.step.Step as code_step
-use Rattle.x25_station.specs.Settings.{Settings, link_settings, layer_settings}
-use Rattle.x25_station.specs.Entries.{StationEntry, entries_down}
+use Rattle.x25_station.specs.Config.{Settings, link_settings, layer_settings}
+use Rattle.x25_station.specs.Entry.{StationEntry, entries_down}
 use Rattle.x25_station.specs.Station.{Station}
-use Rattle.x25_station.specs.Steps.{Step, follows, layer_down, unless}
+use Rattle.x25_station.specs.Step.{Step, follows, layer_down, unless}
 use Rattle.x25_station.specs.laws.KeepLaw.{IsKept, KeptBy}
 use Rattle.x25_station.specs.code.FitsParts.{FitsParts}
 use Rattle.x25_station.specs.code.FitsStation.{LeavesParts}

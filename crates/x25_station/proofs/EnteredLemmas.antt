@@ -1,21 +1,21 @@
 -- The entries of an accepted command are those of the definition.
 use Rattle.std.proofs.Common.{◌≡◌, ℕ, List, [], ◌∷◌, ◌==◌, Some, Ok, map, true, sym, subst, ◌∙◌}
-use Rattle.x25_link.specs.code.Link.{ShownLink}
+use Rattle.x25_link.specs.code.FitsLink.{ShownLink}
 use Rattle.x25_circuit.specs.declared.params.Params.{Params}
-use Rattle.x25_circuit.specs.Calls as circuit
+use Rattle.x25_circuit.specs.Calling as circuit
 use Rattle.x25_layer.specs.declared.layer.Layer as layer_code
 use Rattle.x25_layer.specs.Layer.{LayerSettings, Layer, is_channel}
 use Rattle.x25_layer.specs.Calls.{LayerRequest, Asks, Dials, Restarts, PullsAll, layer_outcome, free_channel}
 use Rattle.x25_layer.specs.Rounds.{LinkView, Putting, Answered, Went}
-use Rattle.x25_layer.specs.OverLink.{LayerGives}
+use Rattle.x25_layer.specs.code.OverLink.{LayerGives}
 use Rattle.x25_layer.specs.code.FitsLayer.{FitsLayer}
-use Rattle.x25_layer.specs.Transcript.{Asked, name_of}
-use Rattle.x25_layer.specs.TwoLayers.{shown}
+use Rattle.x25_layer.specs.laws.Transcript.{Asked, name_of}
+use Rattle.x25_layer.specs.laws.TwoLayers.{shown}
 use Rattle.x25_station.specs.declared.step.Step as code_step
-use Rattle.x25_station.specs.Settings.{Settings, link_settings, layer_settings}
-use Rattle.x25_station.specs.Entries.{StationEntry, of_channel, restart_asked}
+use Rattle.x25_station.specs.Config.{Settings, link_settings, layer_settings}
+use Rattle.x25_station.specs.Entry.{StationEntry, of_channel, restart_asked}
 use Rattle.x25_station.specs.Station.{Station, view_of, waiting_after}
-use Rattle.x25_station.specs.Steps.{requests, entries_of_outcome}
+use Rattle.x25_station.specs.Step.{requests, entries_of_outcome}
 use Rattle.x25_station.specs.code.PlainEntry.{plain_entry}
 use Rattle.x25_station.specs.code.FitsParts.{FitsParts}
 use Rattle.x25_station.specs.code.FitsStation.{Enters}

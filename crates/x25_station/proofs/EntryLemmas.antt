@@ -1,11 +1,11 @@
 -- The entries of a step have those of the layer's own transcript.
 use Rattle.std.proofs.Common.{◌≡◌, ℕ, List, [], ◌∷◌, Option, Some, None, refl, ap}
-use Rattle.x25_circuit.specs.Calls.{Calls}
+use Rattle.x25_circuit.specs.Calling.{Calls}
 use Rattle.x25_layer.specs.Layer.{LayerSettings, Layer, LayerNotice, on_channel, restarted, restart_done, layer_fault}
 use Rattle.x25_layer.specs.Calls.{LayerRequest, Asks, Dials, Restarts, PullsAll, free_channel}
-use Rattle.x25_layer.specs.Transcript.{Entry, Told, name_of}
-use Rattle.x25_layer.specs.TwoLayers.{entries_told, entries_asked, entry_of_dial}
-use Rattle.x25_station.specs.Entries.{station_told, of_channels, station_asked, layer_entries, layer_notices}
+use Rattle.x25_layer.specs.laws.Transcript.{Entry, Told, name_of}
+use Rattle.x25_layer.specs.laws.TwoLayers.{entries_told, entries_asked, entry_of_dial}
+use Rattle.x25_station.specs.Entry.{station_told, of_channels, station_asked, layer_entries, layer_notices}
 
 pub told_entries : (l : Layer) (notices : List LayerNotice) → layer_entries (station_told l notices) ≡ entries_told l notices
 told_entries l [] = refl

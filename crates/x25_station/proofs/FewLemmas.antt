@@ -3,19 +3,19 @@ use Rattle.std.proofs.Common.{ℕ, ◌+◌, ◌≤◌, Bool, true, false, if◌t
 use Rattle.x25_link.specs.declared.phase.Phase.{Phase}
 use Rattle.x25_link.specs.declared.phase.Phase.TheVariants.{Down, Waiting, Up, Closed}
 use Rattle.x25_link.specs.declared.phase.Reason.TheVariants.{Retries, Counts}
-use Rattle.x25_link.specs.LinkStation.{Settings as LinkSettings, LinkStation, Side, is_busy, sends, ready, ended}
-use Rattle.x25_link.specs.MustSend.{Step as LinkStep, quiet, leaves}
-use Rattle.x25_link.specs.Steps as link
-use Rattle.x25_link.specs.Steps.{alone, asks_again, connect_step, disconnect_step, timer_step, abandon_step}
+use Rattle.x25_link.specs.Station.{Settings as LinkSettings, LinkStation, Side, is_busy, sends, ready, ended}
+use Rattle.x25_link.specs.Hearing.{Step as LinkStep, quiet, leaves}
+use Rattle.x25_link.specs.Link as link
+use Rattle.x25_link.specs.Link.{alone, asks_again, connect_step, disconnect_step, timer_step, abandon_step}
 use Rattle.x25_layer.specs.Rounds.{Answered, Went, Refuses as LayerRefuses, calls}
 use Rattle.x25_layer.specs.Calls.{LayerRequest}
 use Rattle.x25_station.specs.declared.step.Step as code_step
 use Rattle.x25_station.specs.declared.error.StationError.{StationError}
-use Rattle.x25_station.specs.Entries.{StationEntry}
+use Rattle.x25_station.specs.Entry.{StationEntry}
 use Rattle.x25_station.specs.code.FitsStation.{Sends, Refuses}
-use Rattle.x25_station.specs.Settings.{Settings, link_settings, layer_settings}
+use Rattle.x25_station.specs.Config.{Settings, link_settings, layer_settings}
 use Rattle.x25_station.specs.Station.{Station, view_of}
-use Rattle.x25_station.specs.Steps.{Outcome, Did, Refused, did, requests}
+use Rattle.x25_station.specs.Step.{Outcome, Did, Refused, did, requests}
 use Rattle.x25_station.proofs.FrameLemmas.{few_put, ended_few}
 use Rattle.x25_station.proofs.TakeLemmas.{few_frames}
 

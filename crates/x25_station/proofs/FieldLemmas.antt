@@ -5,9 +5,9 @@ use Rattle.std.specs.Prelude.{◌&&◌}
 use Rattle.std.proofs.lemmas.Bool.{and_parts, leb-true}
 use Rattle.std.proofs.lemmas.List.Elements.{All-nil, All-cons, All-append}
 use Rattle.std.proofs.lemmas.List.Folds.{list_all-append}
-use Rattle.x25_bits.specs.Bit.{bit}
+use Rattle.x25_bits.specs.Bits.{bit}
 use Rattle.x25_packet.specs.Digits.{packed, is_digit, IsAddress}
-use Rattle.x25_packet.specs.PlainPacket.{PlainPacket, call, accept, clear, clear_conf, user_data, rr, rnr, interrupt, interrupt_conf, reset, reset_conf, restart, restart_conf}
+use Rattle.x25_packet.specs.Packet.{PlainPacket, call, accept, clear, clear_conf, user_data, rr, rnr, interrupt, interrupt_conf, reset, reset_conf, restart, restart_conf}
 use Rattle.x25_packet.specs.Spelling.{channel_of, HasChannel, moved_to, format_of, type_of, call_body, accept_body, body_of, header_of, spelling_of, IsInRange, longest_user}
 use Rattle.x25_packet.specs.declared.facilities.Directions.{Directions}
 use Rattle.x25_packet.specs.Facilities.{facility, field_of, AreWithin, IfGiven, IsFacilityField}

@@ -4,7 +4,7 @@ use Rattle.std.specs.Option.{is_some}
 use Rattle.x25_link.specs.declared.phase.Reason.{Reason}
 use Rattle.x25_layer.specs.Layer.{LayerSettings, Layer}
 use Rattle.x25_layer.specs.Rounds.{LinkView, Putting, hears, comes_up}
-use Rattle.x25_station.specs.Steps.{rests, layer_at, layer_down}
+use Rattle.x25_station.specs.Step.{rests, layer_at, layer_down}
 
 some_none : {T : Type 0} (x : T) → Some x ≡ None → ⊥
 some_none x is = cc

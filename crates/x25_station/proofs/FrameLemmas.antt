@@ -3,12 +3,12 @@ use Rattle.std.proofs.Common.{◌≡◌, ℕ, zero, suc, ◌+◌, ◌-◌, ◌<�
 use Rattle.std.proofs.Math.Nat.{le_trans}
 use Rattle.std.proofs.lemmas.Bool.{and_parts, ltb-true}
 use Rattle.std.proofs.lemmas.List.{length-append, append_assoc, append-nil}
-use Rattle.x25_packet.specs.PlainPacket.{PlainPacket}
+use Rattle.x25_packet.specs.Packet.{PlainPacket}
 use Rattle.x25_packet.specs.Spelling as packet
-use Rattle.x25_frame.specs.PlainFrame.{PlainFrame, rr, rnr}
+use Rattle.x25_frame.specs.Frame.{PlainFrame, rr, rnr}
 use Rattle.x25_link.specs.Outgoing.{is_open, added}
-use Rattle.x25_link.specs.LinkStation.{Settings as LinkSettings, LinkStation, Side, is_up, is_busy, with_near, sends, wanted, ready, send_next, next_frame, may_send, pumped, owes_ready, finished, ended}
-use Rattle.x25_link.specs.Steps.{alone, put_step}
+use Rattle.x25_link.specs.Station.{Settings as LinkSettings, LinkStation, Side, is_up, is_busy, with_near, sends, wanted, ready, send_next, next_frame, may_send, pumped, owes_ready, finished, ended}
+use Rattle.x25_link.specs.Link.{alone, put_step}
 use Rattle.x25_station.specs.Station.{put_on, all_put}
 
 -- the places left in the window, and one where RNR was said

@@ -5,7 +5,7 @@ use Rattle.std.proofs.lemmas.Bool.{and_parts, leb-true}
 use Rattle.std.proofs.lemmas.List.{length-append}
 use Rattle.x25_circuit.specs.declared.circuit.Circuit as circuit_code
 use Rattle.x25_circuit.specs.declared.message.Message.{Message}
-use Rattle.x25_circuit.specs.Messages.{Piece, More, Last, cut_from, cut_all, wholes, Partial, no_part, joining}
+use Rattle.x25_circuit.specs.Message.{Piece, More, Last, cut_from, cut_all, wholes, Partial, no_part, joining}
 use Rattle.x25_circuit.specs.Circuit as circuit
 use Rattle.x25_circuit.specs.code.FitsCircuit.{FitsCircuit}
 use Rattle.x25_link.specs.code.Bounds.{FewStand as LinkStands, WindowIsSmall}
@@ -13,7 +13,7 @@ use Rattle.x25_layer.specs.Layer.{is_channel}
 use Rattle.x25_station.specs.declared.station.Station as code
 use Rattle.x25_station.specs.code.FitsStation.{FitsStation}
 use Rattle.x25_station.specs.Station.{Station}
-use Rattle.x25_station.specs.Settings.{Settings, link_settings, layer_settings}
+use Rattle.x25_station.specs.Config.{Settings, link_settings, layer_settings}
 use Rattle.x25_station.specs.laws.HoldLaw as law
 
 wholes_append : (a b : List Piece) → wholes (a ++ b) ≡ wholes a + wholes b

@@ -3,28 +3,28 @@ use Rattle.std.proofs.Common.{◌≡◌, ℕ, ◌<◌, ◌≤◌, List, [], ◌�
 use Rattle.std.proofs.lemmas.Bool.{eq-eqb}
 use Rattle.std.proofs.lemmas.List.{append-nil}
 use Rattle.x25_packet.specs.declared.error.PacketError.{PacketError}
-use Rattle.x25_packet.specs.PlainPacket.{PlainPacket}
+use Rattle.x25_packet.specs.Packet.{PlainPacket}
 use Rattle.x25_packet.specs.Reading.{packet_of}
 use Rattle.x25_link.specs.declared.phase.Notes.{Notes}
 use Rattle.x25_link.specs.Outgoing.{waits}
-use Rattle.x25_link.specs.LinkStation.{LinkStation, Side, is_up}
-use Rattle.x25_link.specs.MustSend.{Step as LinkStep}
-use Rattle.x25_link.specs.Steps.{alone, take_step, abandon_step}
+use Rattle.x25_link.specs.Station.{LinkStation, Side, is_up}
+use Rattle.x25_link.specs.Hearing.{Step as LinkStep}
+use Rattle.x25_link.specs.Link.{alone, take_step, abandon_step}
 use Rattle.x25_link.specs.laws.NoteLaw.{IsQuiet, PutTells, TakeTells, TakeHandsUp}
 use Rattle.x25_layer.specs.declared.error.LayerError.TheVariants as layer_error
 use Rattle.x25_layer.specs.Layer.{LayerSettings, Layer, LayerAnswer, LayerNotice, goes_up, layer_answers}
 use Rattle.x25_layer.specs.Calls.{LayerOutcome, Accepted, Declined, layer_outcome}
 use Rattle.x25_layer.specs.Rounds.{LinkView, Putting, begin, rounds, Went, Refuses, went, calls, hears, answer_to}
 use Rattle.x25_packet.specs.Spelling.{longest_user}
-use Rattle.x25_layer.specs.Transcript.{Entry}
-use Rattle.x25_layer.specs.TwoLayers.{TwoLayers, Move, Requests, HandsUp, requested, answered, handed_up, moves_in, moves}
+use Rattle.x25_layer.specs.laws.Transcript.{Entry}
+use Rattle.x25_layer.specs.laws.TwoLayers.{TwoLayers, Move, Requests, HandsUp, requested, answered, handed_up, moves_in, moves}
 use Rattle.x25_layer.specs.laws.RoundLaw.{moves_all, pulls_of, AreChannels, IsRun, CallsRun, HearsRun, ComesUpAlone}
 use Rattle.x25_station.specs.declared.error.StationError.{StationError}
 use Rattle.x25_station.specs.declared.error.StationError.TheVariants as error
-use Rattle.x25_station.specs.Settings.{Settings, link_settings, layer_settings}
-use Rattle.x25_station.specs.Entries.{StationEntry, entries_noted, station_asked, layer_entries, layer_notices}
+use Rattle.x25_station.specs.Config.{Settings, link_settings, layer_settings}
+use Rattle.x25_station.specs.Entry.{StationEntry, entries_noted, station_asked, layer_entries, layer_notices}
 use Rattle.x25_station.specs.Station.{view_of}
-use Rattle.x25_station.specs.Steps.{Step, Outcome, Did, Refused, with_puts, layer_at, entries_heard, entries_of_answer, entries_of_outcome, layer_answer, follows, did}
+use Rattle.x25_station.specs.Step.{Step, Outcome, Did, Refused, with_puts, layer_at, entries_heard, entries_of_answer, entries_of_outcome, layer_answer, follows, did}
 use Rattle.x25_station.specs.laws.JoinLaw.{AreAccepted, IsJoined, RequestIsJoined, ReceiveIsJoined, QuietIsJoined, DownIsJoined, ComesUp, UpIsJoined}
 use Rattle.x25_station.proofs.PutLemmas.{accepts, rounds_accepted, begin_accepted}
 use Rattle.x25_station.proofs.EntryLemmas.{told_entries, told_notices, asked_entries, asked_notices}

@@ -2,14 +2,14 @@
 use Rattle.std.proofs.Common.{Result, Ok, OnOk, subst, ◌≡◌, ℕ, List, [], ◌∷◌, refl, sym, ap, ◌∙◌}
 use Rattle.std.proofs.Math.Path.{fun_ext}
 use Rattle.std.proofs.lemmas.List.{map-append}
-use Rattle.x25_packet.specs.PlainPacket.{PlainPacket}
+use Rattle.x25_packet.specs.Packet.{PlainPacket}
 use Rattle.x25_packet.specs.Spelling as packet
 use Rattle.x25_frame.specs.Spelling.{spelling_of}
-use Rattle.x25_link.specs.LinkStation.{Settings as LinkSettings, LinkStation, Side, is_up}
-use Rattle.x25_link.specs.Steps.{alone, put_step}
-use Rattle.x25_link.specs.code.Link.{up_at, waits_of, after_put_to}
+use Rattle.x25_link.specs.Station.{Settings as LinkSettings, LinkStation, Side, is_up}
+use Rattle.x25_link.specs.Link.{alone, put_step}
+use Rattle.x25_link.specs.code.FitsLink.{up_at, waits_of, after_put_to}
 use Rattle.x25_layer.specs.Rounds.{LinkView}
-use Rattle.x25_layer.specs.OverLink as over
+use Rattle.x25_layer.specs.code.OverLink as over
 use Rattle.x25_station.specs.Receiving.{kept_of}
 use Rattle.x25_station.specs.Station.{put_on, all_put, view_of}
 

@@ -1,17 +1,17 @@
 -- Pulls of data packets keep the names of all stretches, and the packet sizes and windows of all calls.
 use Rattle.std.proofs.Common.{◌≡◌, ℕ, zero, suc, List, [], ◌∷◌, ◌++◌, ◌%◌, Option, Some, None, Bool, true, false, ◌&&◌, ◌+◌, nat_lt, length, ◌==◌, if◌then◌else◌, refl, ap, sym, ◌∙◌}
 use Rattle.std.proofs.lemmas.Bool.{eqb-true}
-use Rattle.x25_packet.specs.PlainPacket.{PlainPacket}
+use Rattle.x25_packet.specs.Packet.{PlainPacket}
 use Rattle.x25_circuit.specs.declared.state.State.{State}
 use Rattle.x25_circuit.specs.declared.state.State.TheVariants.{Free, Calling, Arriving, Collision, Open, Resetting, Clearing}
 use Rattle.x25_circuit.specs.declared.params.Params.{Params}
 use Rattle.x25_circuit.specs.Circuit.{Settings as CircuitSettings, Circuit, Talk, talking, outgoing}
-use Rattle.x25_circuit.specs.Messages.{Piece}
-use Rattle.x25_circuit.specs.Calls.{Pulled, pulled, pull_in, pull_open, pulls_nothing, data_packet}
-use Rattle.x25_handshakes.specs.Names.{Name}
+use Rattle.x25_circuit.specs.Message.{Piece}
+use Rattle.x25_circuit.specs.Calling.{Pulled, pulled, pull_in, pull_open, pulls_nothing, data_packet}
+use Rattle.x25_handshakes.specs.laws.Names.{Name}
 use Rattle.x25_layer.specs.Layer.{LayerSettings, Layer, put_at}
 use Rattle.x25_layer.specs.Calls.{LayerPulled, layer_pulled}
-use Rattle.x25_layer.specs.Transcript.{name_of}
+use Rattle.x25_layer.specs.laws.Transcript.{name_of}
 use Rattle.x25_layer.specs.Rounds.{LinkView, Putting, with_pulled, pull_one, round, rounds_of, rounds, backlog}
 
 -- what a pull leaves as it is

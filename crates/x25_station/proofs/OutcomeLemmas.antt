@@ -6,17 +6,17 @@ use Rattle.x25_link.specs.declared.error.LinkError.{LinkError}
 use Rattle.x25_link.specs.declared.error.LinkError.TheVariants as link_error
 use Rattle.x25_link.specs.declared.phase.Phase.{Phase}
 use Rattle.x25_link.specs.declared.phase.Phase.TheVariants.{Down, Waiting, Up, Closed}
-use Rattle.x25_link.specs.LinkStation.{LinkStation}
-use Rattle.x25_link.specs.Steps as link
-use Rattle.x25_link.specs.code.Link.{ShownLink}
+use Rattle.x25_link.specs.Station.{LinkStation}
+use Rattle.x25_link.specs.Link as link
+use Rattle.x25_link.specs.code.FitsLink.{ShownLink}
 use Rattle.x25_layer.specs.declared.layer.Layer as layer_code
 use Rattle.x25_station.specs.declared.step.Step as code_step
 use Rattle.x25_station.specs.declared.error.StationError.{StationError}
 use Rattle.x25_station.specs.declared.error.StationError.TheVariants as error
-use Rattle.x25_station.specs.StationError.{of_link}
-use Rattle.x25_station.specs.Settings.{Settings}
+use Rattle.x25_station.specs.Error.{of_link}
+use Rattle.x25_station.specs.Config.{Settings}
 use Rattle.x25_station.specs.Station.{Station}
-use Rattle.x25_station.specs.Steps.{Step, Outcome, Did, Refused, unless}
+use Rattle.x25_station.specs.Step.{Step, Outcome, Did, Refused, unless}
 use Rattle.x25_station.specs.laws.KeepLaw.{IsKept, KeptBy}
 use Rattle.x25_station.specs.code.PlainEntry.{plain_entry}
 use Rattle.x25_station.specs.code.FitsParts.{FitsParts, AreMeant}

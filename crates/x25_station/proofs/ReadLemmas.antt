@@ -3,15 +3,15 @@ use Rattle.std.proofs.Common.{◌≡◌, ℕ, zero, suc, ◌<◌, ◌≤◌, Lis
 use Rattle.std.proofs.lemmas.Bool.{and_parts, leb-true}
 use Rattle.x25_bits.specs.declared.role.Role.{Role}
 use Rattle.x25_bits.specs.declared.role.Role.TheVariants.{Dte, Dce}
-use Rattle.x25_packet.specs.PlainPacket.{PlainPacket, call, accept, clear, clear_conf, user_data, rr, rnr, interrupt, interrupt_conf, reset, reset_conf, restart, restart_conf}
+use Rattle.x25_packet.specs.Packet.{PlainPacket, call, accept, clear, clear_conf, user_data, rr, rnr, interrupt, interrupt_conf, reset, reset_conf, restart, restart_conf}
 use Rattle.x25_packet.specs.laws.ReadingLaw.{ReadsWhatIsSpelled}
 use Rattle.x25_circuit.specs.Circuit.{Circuit, begun}
-use Rattle.x25_circuit.specs.Table.{answers, cause_at}
-use Rattle.x25_circuit.specs.Calls.{Outcome, Done, Refused, Calls, outcome, pulled}
+use Rattle.x25_circuit.specs.Hearing.{answers, cause_at}
+use Rattle.x25_circuit.specs.Calling.{Outcome, Done, Refused, Calls, outcome, pulled}
 use Rattle.x25_layer.specs.Layer.{LayerSettings, Layer, LayerAnswer, is_channel, put_at, packet_on, restarting_from, answers_on, drops, answers_ready, answers_restarting, answers_in, layer_answers, goes_up, restart_cause}
 use Rattle.x25_layer.specs.Calls.{LayerRequest, Asks, Dials, Restarts, PullsAll, LayerOutcome, Accepted, Declined, highest_free, lowest_free, first_of, free_channel, where_room, if_at_once, puts_at_once, outcome_on, dialled, outcome_ready, outcome_in, layer_outcome, layer_pulled}
 use Rattle.x25_layer.specs.declared.error.LayerError.TheVariants as error
-use Rattle.x25_layer.specs.TwoLayers.{End, TwoLayers, Move, Requests, Pulls, HandsUp, GoesDown, Event, requested, pulled_in, handed_up, moves_in, moves, turned, settings_of, happens, run, started, start}
+use Rattle.x25_layer.specs.laws.TwoLayers.{End, TwoLayers, Move, Requests, Pulls, HandsUp, GoesDown, Event, requested, pulled_in, handed_up, moves_in, moves, turned, settings_of, happens, run, started, start}
 use Rattle.x25_station.specs.laws.ReadLaw.{AreReadable, RequestsOctets, MovesOctets, BringOctets, PutsAreReadable}
 use Rattle.x25_station.proofs.FieldLemmas.{Fits, IsOn, moved_fits, moved_on, readable}
 use Rattle.x25_station.proofs.CircuitLemmas.{Agreed, CircuitFits, MayGive, AnswerFits, answers_fit, OutcomeFits, outcome_fits, PulledFits, pulled_fits}

@@ -1,12 +1,12 @@
 -- A call that puts a packet at once is refused where 256 packets wait.
 use Rattle.std.proofs.Common.{◌≡◌, ℕ, List, ◌++◌, Option, Some, None, Bool, true, false, nat_lt, nat_le, if◌then◌else◌, length, refl, subst}
-use Rattle.x25_packet.specs.PlainPacket.{PlainPacket}
+use Rattle.x25_packet.specs.Packet.{PlainPacket}
 use Rattle.x25_circuit.specs.declared.state.State.{State}
 use Rattle.x25_circuit.specs.declared.state.State.TheVariants.{Free, Calling, Arriving, Collision, Open, Resetting, Clearing}
 use Rattle.x25_circuit.specs.Circuit.{Settings, Talk, Circuit, outgoing, waits}
-use Rattle.x25_circuit.specs.Messages.{cut}
+use Rattle.x25_circuit.specs.Message.{cut}
 use Rattle.x25_circuit.specs.declared.error.CircuitError.TheVariants as circuit
-use Rattle.x25_circuit.specs.Calls.{Outcome, Done, Refused, Request, Calls, Accepts, Clears, Sends, Interrupts, Resets, SaysReady, SaysNotReady, keeps_on, send_open, send_in, outcome}
+use Rattle.x25_circuit.specs.Calling.{Outcome, Done, Refused, Request, Calls, Accepts, Clears, Sends, Interrupts, Resets, SaysReady, SaysNotReady, keeps_on, send_open, send_in, outcome}
 use Rattle.x25_layer.specs.Layer.{LayerSettings, Layer, is_channel}
 use Rattle.x25_layer.specs.Calls.{LayerRequest, Asks, Dials, Restarts, PullsAll, LayerOutcome, Accepted, Declined, free_channel, puts_at_once, if_at_once, outcome_on, dialled, outcome_in, outcome_ready, layer_outcome}
 use Rattle.x25_layer.specs.declared.error.LayerError.TheVariants as error

@@ -3,7 +3,7 @@ use Rattle.std.proofs.Common.{◌≡◌, ℕ, ◌<◌, ◌≤◌, List, [], ◌�
 use Rattle.x25_bits.specs.declared.role.Role.{Role}
 use Rattle.x25_bits.specs.declared.role.Role.TheVariants.{Dte, Dce}
 use Rattle.x25_packet.specs.declared.error.PacketError.{PacketError}
-use Rattle.x25_packet.specs.PlainPacket.{PlainPacket, call, accept, clear, clear_conf, user_data, rr, rnr, interrupt, interrupt_conf, reset, reset_conf, restart, restart_conf}
+use Rattle.x25_packet.specs.Packet.{PlainPacket, call, accept, clear, clear_conf, user_data, rr, rnr, interrupt, interrupt_conf, reset, reset_conf, restart, restart_conf}
 use Rattle.x25_packet.specs.Spelling.{IsInRange, longest_user}
 use Rattle.x25_packet.specs.Reading.{packet_of, channel_in}
 use Rattle.x25_packet.specs.laws.ReadingLaw.{ReadsWhatIsSpelled}
@@ -13,9 +13,9 @@ use Rattle.x25_circuit.specs.declared.state.State.TheVariants.{Free, Calling, Ar
 use Rattle.x25_circuit.specs.declared.params.Params.{Params}
 use Rattle.x25_circuit.specs.Params.{default_params, may_answer, said_in}
 use Rattle.x25_circuit.specs.Circuit.{Settings as CircuitSettings, Circuit, Talk, incoming}
-use Rattle.x25_circuit.specs.Messages.{piece_of, no_part, joining, completed}
-use Rattle.x25_circuit.specs.Notices.{CallRequest, PlainNotice, connected, deliveries}
-use Rattle.x25_circuit.specs.Table.{Answer, answers, undecoded, collides, goes, clears_for, connects, row_call, row_accept, row_clear, row_clear_conf, row_reset, row_reset_conf, row_open, row_data, row_undecoded, unless, data_ground, number_ground, takes, hears_status, confirms}
+use Rattle.x25_circuit.specs.Message.{piece_of, no_part, joining, completed}
+use Rattle.x25_circuit.specs.Notice.{CallRequest, PlainNotice, connected, deliveries}
+use Rattle.x25_circuit.specs.Hearing.{Answer, answers, undecoded, collides, goes, clears_for, connects, row_call, row_accept, row_clear, row_clear_conf, row_reset, row_reset_conf, row_open, row_data, row_undecoded, unless, data_ground, number_ground, takes, hears_status, confirms}
 use Rattle.x25_layer.specs.Layer.{LayerSettings, Layer, LayerAnswer, is_channel, notices_on, answers_on, drops, answers_ready, answers_restarting, answers_in, undecoded_in}
 use Rattle.x25_layer.specs.Rounds.{undecoded_at, answer_to}
 use Rattle.x25_station.specs.Receiving.{IsShort, AreTellable}

@@ -3,8 +3,8 @@ use Rattle.std.proofs.Common.{◌≡◌, Bool, true, if◌then◌else◌, Option
 use Rattle.std.specs.Option.{unwrap_or}
 use Rattle.x25_circuit.specs.declared.params.Params.{Params}
 use Rattle.x25_circuit.specs.Circuit.{Circuit}
-use Rattle.x25_circuit.specs.Calls as circuit
-use Rattle.x25_layer.specs.TwoLayers.{shown}
+use Rattle.x25_circuit.specs.Calling as circuit
+use Rattle.x25_layer.specs.laws.TwoLayers.{shown}
 use Rattle.x25_station.specs.declared.entry.Asked.{Asked}
 use Rattle.x25_station.specs.declared.entry.Asked.TheVariants as asked
 use Rattle.x25_station.specs.code.PlainEntry.{plain_asked}

@@ -5,26 +5,26 @@ use Rattle.std.proofs.Math.Logic.{∥∥₁_elim}
 use Rattle.std.proofs.Props.{props}
 use Rattle.std.proofs.lemmas.List.{length-append, length-map}
 use Rattle.x25_bits.specs.declared.role.Role.{Role}
-use Rattle.x25_bits.specs.Sealed.{seal_of}
+use Rattle.x25_bits.specs.FrameCheck.Sealed.{seal_of}
 use Rattle.x25_frame.specs.declared.error.FrameError.{FrameError}
 use Rattle.x25_frame.specs.declared.error.FrameError.TheVariants.{Short, BadFcs, BadAddress, Undefined, NoInfoAllowed, TooLong}
-use Rattle.x25_frame.specs.PlainFrame.{PlainFrame, info, rr, rnr, rej, sabm, disc, ua, dm, frmr}
+use Rattle.x25_frame.specs.Frame.{PlainFrame, info, rr, rnr, rej, sabm, disc, ua, dm, frmr}
 use Rattle.x25_frame.specs.Spelling.{information_of, body_of, spelling_of, Spells}
 use Rattle.x25_frame.specs.Reading.{frame_of}
 use Rattle.x25_frame.specs.laws.ReadingLaw.{ReadsWhatIsSpelled}
 use Rattle.x25_link.specs.declared.phase.Phase.{Phase}
 use Rattle.x25_link.specs.declared.phase.Phase.TheVariants.{Up}
 use Rattle.x25_link.specs.Outgoing.{waits}
-use Rattle.x25_link.specs.LinkStation.{Settings as LinkSettings, LinkStation, Side, is_up, fresh}
-use Rattle.x25_link.specs.MustSend.{Step as LinkStep, quiet, other, is_valid, acknowledged, is_taken, takes, answers, passes_over, hears_info, peer_is, goes_back, polls, numbered, rejects, row_of_frame, row_of}
-use Rattle.x25_link.specs.Steps.{alone, hears, take_step}
+use Rattle.x25_link.specs.Station.{Settings as LinkSettings, LinkStation, Side, is_up, fresh}
+use Rattle.x25_link.specs.Hearing.{Step as LinkStep, quiet, other, is_valid, acknowledged, is_taken, takes, answers, passes_over, hears_info, peer_is, goes_back, polls, numbered, rejects, row_of_frame, row_of}
+use Rattle.x25_link.specs.Link.{alone, hears, take_step}
 use Rattle.x25_link.specs.laws.NoteLaw.{TakeTells, TakeHandsUp}
-use Rattle.x25_link.specs.code.Link.{ShownLink, FitsLink, limit_of, up_of, waiting_of}
+use Rattle.x25_link.specs.code.FitsLink.{ShownLink, FitsLink, limit_of, up_of, waiting_of}
 use Rattle.x25_link.specs.laws.LinkLaws.{link_waits}
 use Rattle.x25_circuit.specs.code.FitsCircuit.{room_of}
 use Rattle.x25_layer.specs.declared.layer.Layer as layer_code
 use Rattle.x25_layer.specs.Room.{HasRoom}
-use Rattle.x25_station.specs.Settings.{Settings, link_settings}
+use Rattle.x25_station.specs.Config.{Settings, link_settings}
 use Rattle.x25_station.specs.Station.{Station}
 use Rattle.x25_station.specs.code.FitsParts.{FitsParts, AreMeant}
 use Rattle.x25_station.specs.Receiving.{CanPut}

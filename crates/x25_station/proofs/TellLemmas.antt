@@ -2,14 +2,14 @@
 use Rattle.std.proofs.Common.{◌≡◌, ℕ, List, [], ◌∷◌, ◌++◌, Option, Some, Result, Ok, IfOk, Bool, true, false, if◌then◌else◌, refl, ap, sym, subst, ◌∙◌}
 use Rattle.std.proofs.lemmas.List.{append_assoc}
 use Rattle.x25_circuit.specs.declared.notice.Notice.{Notice}
-use Rattle.x25_circuit.specs.Notices.{collided}
+use Rattle.x25_circuit.specs.Notice.{collided}
 use Rattle.x25_circuit.specs.code.Replies.{plain_notice, notices_of}
-use Rattle.x25_handshakes.specs.Names.{Name}
+use Rattle.x25_handshakes.specs.laws.Names.{Name}
 use Rattle.x25_layer.specs.declared.told.Told.{Told as Heard}
 use Rattle.x25_layer.specs.Told.{plain_told as plain_heard}
-use Rattle.x25_layer.specs.Transcript.{Told, name_of}
+use Rattle.x25_layer.specs.laws.Transcript.{Told, name_of}
 use Rattle.x25_layer.specs.Layer.{LayerSettings, Layer, LayerNotice, on_channel, restarted, restart_done, layer_fault, notices_on}
-use Rattle.x25_station.specs.Entries.{StationEntry, of_channel, was_restarted, restart_confirmed, at_fault, entry_told, station_told}
+use Rattle.x25_station.specs.Entry.{StationEntry, of_channel, was_restarted, restart_confirmed, at_fault, entry_told, station_told}
 use Rattle.x25_station.specs.Receiving.{IsTellable, AreTellable}
 
 abbrev pub told_first : ℕ → Layer → Bool → List StationEntry

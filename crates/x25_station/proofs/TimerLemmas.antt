@@ -2,11 +2,11 @@
 use Rattle.std.proofs.Common.{◌≡◌, Bool, true, false, not, ◌||◌, if◌then◌else◌, List, [], ◌∷◌, Some, None, refl, sym, ◌∙◌}
 use Rattle.std.proofs.lemmas.Bool.{true≢false}
 use Rattle.x25_link.specs.declared.error.LinkError.TheVariants as link_error
-use Rattle.x25_link.specs.Steps.{timer_step}
+use Rattle.x25_link.specs.Link.{timer_step}
 use Rattle.x25_station.specs.declared.error.StationError.TheVariants as error
-use Rattle.x25_station.specs.Settings.{Settings, link_settings}
+use Rattle.x25_station.specs.Config.{Settings, link_settings}
 use Rattle.x25_station.specs.Station.{Station}
-use Rattle.x25_station.specs.Steps.{Step, Outcome, Did, Refused, follows, unless}
+use Rattle.x25_station.specs.Step.{Step, Outcome, Did, Refused, follows, unless}
 use Rattle.x25_station.specs.laws.TimerLaw as law
 use Rattle.x25_station.specs.laws.TimerLaw.{Event, Watched, mark_of, heeds, runs, after, watched_by, watched_from}
 

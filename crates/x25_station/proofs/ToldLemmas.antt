@@ -1,7 +1,7 @@
 -- What a station tells of itself.
 use Rattle.std.proofs.Common.{◌∙◌, ◌≡◌, Bool, true, false, if◌then◌else◌, Option, Some, None, sym, ap}
 use Rattle.std.proofs.lemmas.Option.{none-some, same_Some}
-use Rattle.x25_handshakes.specs.Names.{Name}
+use Rattle.x25_handshakes.specs.laws.Names.{Name}
 
 -- a channel is open only where it is configured
 pub open_named : (configured opened : Bool) (name : Name) (o : Option Name) → (if configured then opened else false) ≡ true → o ≡ (if configured then Some name else None)

@@ -1,20 +1,20 @@
 -- What the link's step and what the layer does behind it are together is what the definition says of octets that come.
 use Rattle.std.proofs.Common.{◌≡◌, ℕ, List, [], ◌++◌, map, Option, Bool, true, false, if◌then◌else◌, refl, ap, sym, subst, ◌∙◌}
 use Rattle.std.proofs.lemmas.List.{map-append}
-use Rattle.x25_frame.specs.PlainFrame.{PlainFrame}
+use Rattle.x25_frame.specs.Frame.{PlainFrame}
 use Rattle.x25_frame.specs.Spelling.{spelling_of}
 use Rattle.x25_link.specs.declared.phase.Notes.{Notes}
-use Rattle.x25_link.specs.LinkStation.{LinkStation}
-use Rattle.x25_link.specs.MustSend.{Step as LinkStep}
-use Rattle.x25_link.specs.Steps.{alone, take_step, abandon_step}
-use Rattle.x25_link.specs.code.Link.{ShownLink, FitsLink, FitsWhole}
+use Rattle.x25_link.specs.Station.{LinkStation}
+use Rattle.x25_link.specs.Hearing.{Step as LinkStep}
+use Rattle.x25_link.specs.Link.{alone, take_step, abandon_step}
+use Rattle.x25_link.specs.code.FitsLink.{ShownLink, FitsLink, FitsWhole}
 use Rattle.x25_layer.specs.declared.layer.Layer as layer_code
 use Rattle.x25_layer.specs.code.FitsLayer.{FitsLayer}
 use Rattle.x25_layer.specs.Rounds.{Putting}
-use Rattle.x25_station.specs.Settings.{Settings, link_settings, layer_settings}
-use Rattle.x25_station.specs.Entries.{StationEntry, entries_noted}
+use Rattle.x25_station.specs.Config.{Settings, link_settings, layer_settings}
+use Rattle.x25_station.specs.Entry.{StationEntry, entries_noted}
 use Rattle.x25_station.specs.Station.{Station, view_of, all_put}
-use Rattle.x25_station.specs.Steps.{Step, layer_at, entries_heard, follows, abandons, receives}
+use Rattle.x25_station.specs.Step.{Step, layer_at, entries_heard, follows, abandons, receives}
 use Rattle.x25_station.specs.laws.KeepLaw.{IsKept}
 use Rattle.x25_station.specs.code.FitsParts.{FitsParts}
 use Rattle.x25_station.specs.Receiving.{kept_of}

@@ -1,7 +1,7 @@
 -- What the user of a station asks for (profile: the commands).
 use Rattle.std.specs.Prelude.{Some, None}
 use Rattle.x25_circuit.specs.Params.{default_params}
-use Rattle.x25_circuit.specs.Calls.{Accepts, Clears, Sends, Interrupts, Resets, SaysReady, SaysNotReady}
+use Rattle.x25_circuit.specs.Calling.{Accepts, Clears, Sends, Interrupts, Resets, SaysReady, SaysNotReady}
 use Rattle.x25_layer.specs.Calls.{LayerRequest, Asks, Dials, Restarts, PullsAll}
 use Rattle.x25_station.specs.declared.command.Cmd.{Cmd}
 use Rattle.x25_station.specs.declared.command.Cmd.TheVariants as code

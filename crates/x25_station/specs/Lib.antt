@@ -1,10 +1,9 @@
-pub mod StationError
-pub mod Settings
+pub mod Error
+pub mod Config
 pub mod Command
-pub mod Entries
+pub mod Entry
 pub mod Station
-pub mod Steps
-pub mod Told
+pub mod Step
 pub mod Receiving
 pub mod code
 pub mod laws

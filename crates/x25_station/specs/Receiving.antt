@@ -1,9 +1,9 @@
 -- What a station is sure of while octets are received.
 use Rattle.std.specs.Prelude.{◌≡◌, ◌<◌, ◌≤◌, List, [], ◌∷◌, length, map, true}
 use Rattle.x25_frame.specs.Spelling.{spelling_of}
-use Rattle.x25_link.specs.LinkStation.{Settings as LinkSettings, Side}
-use Rattle.x25_link.specs.code.Link.{ShownLink, LinkState, limit_of, up_of, waiting_of}
-use Rattle.x25_circuit.specs.Notices.{PlainNotice, incoming, interrupted}
+use Rattle.x25_link.specs.Station.{Settings as LinkSettings, Side}
+use Rattle.x25_link.specs.code.FitsLink.{ShownLink, LinkState, limit_of, up_of, waiting_of}
+use Rattle.x25_circuit.specs.Notice.{PlainNotice, incoming, interrupted}
 use Rattle.x25_layer.specs.Layer.{LayerSettings, LayerNotice, on_channel, is_channel}
 
 -- a side of a step of the link, as the state of a link that keeps its frames

@@ -1,13 +1,14 @@
 -- A station: its link and its packet layer, and packets that the one hands down to the other.
 use Rattle.std.specs.Prelude.{ℕ, List, [], ◌∷◌, ◌++◌}
-use Rattle.x25_packet.specs.PlainPacket.{PlainPacket}
+use Rattle.x25_packet.specs.Packet.{PlainPacket}
 use Rattle.x25_packet.specs.Spelling.{spelling_of}
 use Rattle.x25_link.specs.declared.phase.Phase.TheVariants.{Down}
 use Rattle.x25_link.specs.Outgoing.{waits}
-use Rattle.x25_link.specs.LinkStation.{Settings as LinkSettings, LinkStation, Side, with_nothing, is_up}
-use Rattle.x25_link.specs.Steps.{alone, put_step}
+use Rattle.x25_link.specs.Station.{Settings as LinkSettings, LinkStation, Side, with_nothing, is_up}
+use Rattle.x25_link.specs.Link.{alone, put_step}
 use Rattle.x25_layer.specs.Layer.{Layer, at_rest}
 use Rattle.x25_layer.specs.Rounds.{LinkView}
+pub mod Told
 
 pub record Station : Type 0 where
   pub link : LinkStation

@@ -1,4 +1,4 @@
--- What the laws of this crate say (src/law.rt).
+-- What the laws of this crate say (src/law.rt), and the machines that they are about.
 pub mod JoinLaw
 pub mod ReadLaw
 pub mod KeepLaw

@@ -1,20 +1,20 @@
 //! What the user asks of the packet layer: the layer's call, and its entry.
 ghost use Rattle.std.specs.Prelude.{ℕ, List, Bool, ◌≡◌, ◌<◌, ◌≤◌, ◌++◌, [], ◌∷◌, Some, map, vec_len, vec_capacity, true, string_bytes, IfOk, IfErr, IfSome, OnErr};
 ghost use Rattle.x25_circuit.specs.Circuit.{Circuit};
-ghost use Rattle.x25_circuit.specs.Calls.{Calls, Accepts, Sends as CircuitSends};
-ghost use Rattle.x25_circuit.specs.Requests.{plain_request};
+ghost use Rattle.x25_circuit.specs.Calling.{Calls, Accepts, Sends as CircuitSends};
+ghost use Rattle.x25_circuit.specs.Request.{plain_request};
 ghost use Rattle.x25_layer.specs.Layer.{Layer as LayerState, LayerSettings, is_channel};
 ghost use Rattle.x25_layer.specs.Calls.{Asks, Dials, Restarts, PullsAll};
 ghost use Rattle.x25_layer.specs.code.FitsLayer.{FitsLayer};
-ghost use Rattle.x25_layer.specs.Transcript.{name_of};
-ghost use Rattle.x25_layer.specs.TwoLayers.{shown};
+ghost use Rattle.x25_layer.specs.laws.Transcript.{name_of};
+ghost use Rattle.x25_layer.specs.laws.TwoLayers.{shown};
 ghost use Rattle.x25_station.specs.Command.{command_of};
-ghost use Rattle.x25_station.specs.Entries.{of_channel};
+ghost use Rattle.x25_station.specs.Entry.{of_channel};
 ghost use Rattle.x25_station.specs.code.FitsStation.{FitsStation, Does, RefusesExactly};
 ghost use Rattle.x25_station.specs.code.PlainEntry.{plain_entry, plain_asked, plain_said};
-ghost use Rattle.x25_station.specs.Settings.{Settings};
+ghost use Rattle.x25_station.specs.Config.{Settings};
 ghost use Rattle.x25_station.specs.Station.{Station as State};
-ghost use Rattle.x25_station.specs.Steps.{Refused, commands, requests};
+ghost use Rattle.x25_station.specs.Step.{Refused, commands, requests};
 
 use crate::command::Cmd;
 use crate::entering::enter;

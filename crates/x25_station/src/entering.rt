@@ -3,9 +3,9 @@ ghost use Rattle.std.specs.Prelude.{◌≡◌, ℕ, ◌+◌, ◌<◌, ◌≤◌,
 ghost use Rattle.x25_circuit.specs.code.Replies.{plain_notice, notices_of};
 ghost use Rattle.x25_layer.specs.Layer.{Layer as LayerState, LayerSettings, is_channel, notices_on};
 ghost use Rattle.x25_layer.specs.code.FitsLayer.{FitsLayer};
-ghost use Rattle.x25_layer.specs.Transcript.{name_of};
+ghost use Rattle.x25_layer.specs.laws.Transcript.{name_of};
 ghost use Rattle.x25_layer.specs.Told.{plain_told as plain_heard};
-ghost use Rattle.x25_station.specs.Entries.{of_channel, station_told};
+ghost use Rattle.x25_station.specs.Entry.{of_channel, station_told};
 ghost use Rattle.x25_station.specs.code.PlainEntry.{plain_entry, plain_said, plain_told};
 ghost use Rattle.x25_station.specs.Receiving.{IsShort, AreTellable};
 

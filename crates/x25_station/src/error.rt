@@ -1,5 +1,5 @@
 ghost use Rattle.std.specs.Prelude.{◌≡◌};
-ghost use Rattle.x25_station.specs.StationError.{number_of, of_link, of_layer};
+ghost use Rattle.x25_station.specs.Error.{number_of, of_link, of_layer};
 
 use thiserror::Error;
 use x25_layer::LayerError;

@@ -3,12 +3,12 @@ ghost use Rattle.std.specs.Prelude.{◌≡◌, ℕ, ◌+◌, ◌<◌, ◌≤◌,
 ghost use Rattle.x25_layer.specs.Layer.{Layer as LayerState, LayerSettings};
 ghost use Rattle.x25_layer.specs.code.FitsLayer.{FitsLayer};
 ghost use Rattle.x25_layer.specs.Room.{HasRoom};
-ghost use Rattle.x25_station.specs.Entries.{entries_down};
+ghost use Rattle.x25_station.specs.Entry.{entries_down};
 ghost use Rattle.x25_station.specs.code.FitsStation.{FitsStation, Does, RefusesExactly};
 ghost use Rattle.x25_station.specs.code.PlainEntry.{plain_entry};
-ghost use Rattle.x25_station.specs.Settings.{Settings};
+ghost use Rattle.x25_station.specs.Config.{Settings};
 ghost use Rattle.x25_station.specs.Station.{Station as State};
-ghost use Rattle.x25_station.specs.Steps.{connects, connects_asked, disconnects, fires, layer_down};
+ghost use Rattle.x25_station.specs.Step.{connects, connects_asked, disconnects, fires, layer_down};
 
 use crate::entry::Entry;
 use crate::error::StationError;

@@ -1,19 +1,19 @@
 //! Octets that come: the step of the link, and what the packet layer does at it.
 ghost use Rattle.std.specs.Prelude.{◌≡◌, ℕ, ◌+◌, ◌<◌, ◌≤◌, ◌++◌, List, [], length, max, map, true, false, None, option_copied, vec_len, vec_capacity, IfSome, IfOk, IfErr, OnOk, OnErr};
-ghost use Rattle.x25_link.specs.LinkStation.{Side};
-ghost use Rattle.x25_link.specs.Steps.{alone};
-ghost use Rattle.x25_link.specs.code.Link.{FitsWhole, up_of};
+ghost use Rattle.x25_link.specs.Station.{Side};
+ghost use Rattle.x25_link.specs.Link.{alone};
+ghost use Rattle.x25_link.specs.code.FitsLink.{FitsWhole, up_of};
 ghost use Rattle.x25_layer.specs.Layer.{Layer as LayerState};
 ghost use Rattle.x25_layer.specs.code.FitsLayer.{FitsLayer};
 ghost use Rattle.x25_layer.specs.Room.{HasRoom, HaveAtMost, IsNotFull};
 ghost use Rattle.x25_layer.specs.Rounds.{Putting, hears, comes_up};
-ghost use Rattle.x25_station.specs.Entries.{entries_up, entries_noted};
+ghost use Rattle.x25_station.specs.Entry.{entries_up, entries_noted};
 ghost use Rattle.x25_station.specs.code.FitsStation.{FitsStation, Does};
 ghost use Rattle.x25_station.specs.code.PlainEntry.{plain_entry};
 ghost use Rattle.x25_station.specs.Receiving.{kept_of, CanPut};
-ghost use Rattle.x25_station.specs.Settings.{Settings, link_settings, layer_settings};
+ghost use Rattle.x25_station.specs.Config.{Settings, link_settings, layer_settings};
 ghost use Rattle.x25_station.specs.Station.{Station as State, view_of, all_put};
-ghost use Rattle.x25_station.specs.Steps.{Did, abandons, receives, layer_at, layer_answer, entries_heard, entries_of_answer};
+ghost use Rattle.x25_station.specs.Step.{Did, abandons, receives, layer_at, layer_answer, entries_heard, entries_of_answer};
 
 use crate::entering::{MOST_TEXTS, TextMemory, enter_told};
 use crate::entry::Entry;

@@ -30,13 +30,13 @@ pub struct Station {
 impl Station {
     ghost use Rattle.std.specs.Prelude.{◌≡◌, ◌+◌, ◌≤◌, ◌%◌, IfOk};
     ghost use Rattle.x25_station.specs.code.FitsStation.{FitsStation, RefusesWith};
-    ghost use Rattle.x25_station.specs.Settings.{Settings, layer_settings, settings_from, config_refusal};
+    ghost use Rattle.x25_station.specs.Config.{Settings, layer_settings, settings_from, config_refusal};
     ghost use Rattle.x25_station.specs.Station.{Station as State, new_station};
-    ghost use Rattle.x25_station.specs.Told.{is_idle, stretch};
+    ghost use Rattle.x25_station.specs.Station.Told.{is_idle, stretch};
     ghost use Rattle.x25_layer.specs.code.FitsLayer.{plain_stretch};
-    ghost use Rattle.x25_layer.specs.InPart.{joined_at};
-    ghost use Rattle.x25_link.specs.LinkStation.{awaits_ua};
-    ghost use Rattle.x25_link.specs.Steps.{timer_runs};
+    ghost use Rattle.x25_layer.specs.Layer.InPart.{joined_at};
+    ghost use Rattle.x25_link.specs.Station.{awaits_ua};
+    ghost use Rattle.x25_link.specs.Link.{timer_runs};
 
     /// A station whose link is down.
     ///

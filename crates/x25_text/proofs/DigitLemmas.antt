@@ -2,7 +2,7 @@
 use Rattle.std.proofs.Common.{ℕ, zero, suc, ◌≡◌, ◌<◌, ◌/◌, ◌%◌, ◌∷◌, [], List, false, refl, arith, slice_index}
 use Rattle.std.specs.Fmt.{digit_glyph}
 use Rattle.hex.specs.Hex.{encode_with, encode_lower, lower_digits}
-use Rattle.x25_text.specs.OctetText.{octet_text}
+use Rattle.x25_text.specs.Text.{octet_text}
 use Rattle.std.specs.List.{flat_map}
 
 digit_same : (d : ℕ) → d < 16 → slice_index lower_digits d ≡ digit_glyph false d

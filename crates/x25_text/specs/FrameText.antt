@@ -1,10 +1,10 @@
 -- The text that a trace shows of a frame and of its error (profile).
 use Rattle.std.specs.Prelude.{ℕ, Bool, true, false, List, ◌++◌, codes, decimal, slice_index, Result, Ok, Err}
-use Rattle.x25_frame.specs.PlainFrame.{PlainFrame, info, rr, rnr, rej, sabm, disc, ua, dm, frmr}
+use Rattle.x25_frame.specs.Frame.{PlainFrame, info, rr, rnr, rej, sabm, disc, ua, dm, frmr}
 use Rattle.x25_frame.specs.Spelling.{bit}
 use Rattle.x25_frame.specs.declared.error.FrameError.{FrameError}
 use Rattle.x25_frame.specs.declared.error.FrameError.TheVariants.{Short, BadFcs, BadAddress, Undefined, NoInfoAllowed, TooLong}
-use Rattle.x25_text.specs.OctetText.{octet_text}
+use Rattle.x25_text.specs.Text.{octet_text}
 use Rattle.x25_text.specs.PacketText.{information_text}
 
 -- of RR, RNR and REJ: command or response, the poll or final bit, and N(R)

@@ -1,4 +1,4 @@
-pub mod OctetText
+pub mod Text
 pub mod Hexadecimal
 pub mod PacketText
 pub mod FrameText

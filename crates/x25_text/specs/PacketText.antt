@@ -1,11 +1,11 @@
 -- The text that a trace shows of a packet and of its error (profile).
 use Rattle.std.specs.Prelude.{ℕ, ◌+◌, Bool, List, [], ◌∷◌, ◌++◌, map, codes, decimal, Result, Ok, Err}
-use Rattle.x25_packet.specs.PlainPacket.{PlainPacket, call, accept, clear, clear_conf, user_data, rr, rnr, interrupt, interrupt_conf, reset, reset_conf, restart, restart_conf}
+use Rattle.x25_packet.specs.Packet.{PlainPacket, call, accept, clear, clear_conf, user_data, rr, rnr, interrupt, interrupt_conf, reset, reset_conf, restart, restart_conf}
 use Rattle.x25_packet.specs.Reading.{packet_of}
 use Rattle.x25_packet.specs.Spelling.{bit, longest_user}
-use Rattle.x25_packet.specs.PacketError.{number_of, diagnostic_of}
+use Rattle.x25_packet.specs.Error.{number_of, diagnostic_of}
 use Rattle.x25_packet.specs.declared.error.PacketError.{PacketError}
-use Rattle.x25_text.specs.OctetText.{octets_text}
+use Rattle.x25_text.specs.Text.{octets_text}
 
 -- an address: its digits, `-` where there are none
 abbrev pub digits_text : List ℕ → List ℕ

@@ -1,9 +1,9 @@
 //! Frames and faults as text.
 ghost use Rattle.std.specs.Prelude.{◌≡◌, ◌+◌, ◌*◌, ◌≤◌, ◌++◌, codes, decimal, length};
 ghost use Rattle.std.specs.List.{flat_map};
-ghost use Rattle.x25_frame.specs.PlainFrame.{plain};
+ghost use Rattle.x25_frame.specs.Frame.{plain};
 ghost use Rattle.x25_frame.specs.Spelling.{bit};
-ghost use Rattle.x25_text.specs.OctetText.{octet_text};
+ghost use Rattle.x25_text.specs.Text.{octet_text};
 ghost use Rattle.x25_text.specs.PacketText.{information_text};
 ghost use Rattle.x25_text.specs.FrameText.{fault_text, frame_text, supervisory_text, why_text};
 

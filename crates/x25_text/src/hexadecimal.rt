@@ -6,7 +6,7 @@ ghost use Rattle.std.specs.List.{flat_map, list_all, prefix_len};
 ghost use Rattle.std.specs.Result.{result_ok};
 ghost use Rattle.hex.specs.Hex.{decode_of};
 ghost use Rattle.x25_text.specs.Hexadecimal.{octets_of, paired, value_of};
-ghost use Rattle.x25_text.specs.OctetText.{octet_text};
+ghost use Rattle.x25_text.specs.Text.{octet_text};
 
 use std::simd::prelude::*;
 

@@ -1,8 +1,8 @@
 //! Packets and their errors as text.
 ghost use Rattle.std.specs.Prelude.{◌≡◌, ◌+◌, ◌*◌, ◌≤◌, ◌<◌, ◌++◌, codes, decimal, length, map};
-ghost use Rattle.x25_packet.specs.PlainPacket.{plain};
+ghost use Rattle.x25_packet.specs.Packet.{plain};
 ghost use Rattle.x25_packet.specs.Spelling.{IsInRange};
-ghost use Rattle.x25_text.specs.OctetText.{octets_text};
+ghost use Rattle.x25_text.specs.Text.{octets_text};
 ghost use Rattle.x25_text.specs.PacketText.{addresses_text, digits_text, fields_text, information_text, marks_text, numbers_text, packet_fault_text, packet_text, reason_text};
 
 use crate::text::{MOST_OCTETS, ROOM, Text, bit_digit, seq_digit};

@@ -2,7 +2,7 @@
 ghost use Rattle.std.specs.Prelude.{◌≡◌, ◌↔◌, ◌+◌, ◌*◌, ◌≤◌, ◌<◌, ◌++◌, [], ◌∷◌, ℕ, List, IfOk, IsTrue, length, take, decimal};
 ghost use Rattle.std.specs.List.{flat_map};
 ghost use Rattle.x25_frame.specs.Spelling.{bit};
-ghost use Rattle.x25_text.specs.OctetText.{octet_text, octets_text};
+ghost use Rattle.x25_text.specs.Text.{octet_text, octets_text};
 ghost use Rattle.x25_text.specs.declared.text.TheConstants.{ROOM};
 
 use crate::hexadecimal::write_hexadecimal;

@@ -9,12 +9,12 @@ use Rattle.x25_link.specs.declared.phase.Reason.TheVariants.{Retries, Disc, Dm, 
 use Rattle.x25_circuit.specs.declared.message.Message.{Message}
 use Rattle.x25_circuit.specs.declared.params.Params.{Params}
 use Rattle.x25_circuit.specs.Params.{default_params}
-use Rattle.x25_circuit.specs.Notices.{PlainNotice, incoming, connected, collided, cleared, clear_done, was_reset, reset_done, delivered, interrupted, interrupt_done, fault}
-use Rattle.x25_circuit.specs.Calls.{Request, Calls, Accepts, Clears, Sends, Interrupts, Resets, SaysReady, SaysNotReady}
-use Rattle.x25_handshakes.specs.Names.{Name}
-use Rattle.x25_layer.specs.Transcript.{Said, Asked, Told}
-use Rattle.x25_station.specs.Entries.{StationEntry, of_channel, restart_asked, connect_asked, disconnect_asked, link_up, link_down, was_restarted, restart_confirmed, at_fault}
-use Rattle.x25_text.specs.OctetText.{octets_text}
+use Rattle.x25_circuit.specs.Notice.{PlainNotice, incoming, connected, collided, cleared, clear_done, was_reset, reset_done, delivered, interrupted, interrupt_done, fault}
+use Rattle.x25_circuit.specs.Calling.{Request, Calls, Accepts, Clears, Sends, Interrupts, Resets, SaysReady, SaysNotReady}
+use Rattle.x25_handshakes.specs.laws.Names.{Name}
+use Rattle.x25_layer.specs.laws.Transcript.{Said, Asked, Told}
+use Rattle.x25_station.specs.Entry.{StationEntry, of_channel, restart_asked, connect_asked, disconnect_asked, link_up, link_down, was_restarted, restart_confirmed, at_fault}
+use Rattle.x25_text.specs.Text.{octets_text}
 use Rattle.x25_text.specs.PacketText.{reason_text}
 
 -- ---- on a channel

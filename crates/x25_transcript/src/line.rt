@@ -2,7 +2,7 @@
 ghost use Rattle.std.specs.Prelude.{◌≡◌, ◌+◌, ◌*◌, ◌≤◌, ◌++◌, [], ℕ, List, IfOk, OnOk, OnErr, decimal, length, take};
 ghost use Rattle.std.specs.List.{flat_map};
 ghost use Rattle.x25_packet.specs.Spelling.{bit};
-ghost use Rattle.x25_text.specs.OctetText.{octet_text, octets_text};
+ghost use Rattle.x25_text.specs.Text.{octet_text, octets_text};
 
 use itoa::Buffer;
 use std::alloc::{AllocError, Global};

@@ -1,5 +1,4 @@
-pub mod Modulo
-pub mod Window
-pub mod Sending
-pub mod Receiving
+pub mod Sender
+pub mod Receiver
 pub mod code
+pub mod laws

@@ -2,3 +2,4 @@
 pub mod Held
 pub mod SenderFields
 pub mod SenderLends
+pub mod Modulo

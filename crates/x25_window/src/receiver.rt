@@ -1,5 +1,5 @@
 ghost use Rattle.std.specs.Prelude.{ℕ, ◌≡◌, ◌+◌, ◌%◌, ◌↔◌, IsTrue, if◌then◌else◌};
-ghost use Rattle.x25_window.specs.Receiving.{FitsTaken};
+ghost use Rattle.x25_window.specs.Receiver.{FitsTaken};
 
 use std::marker::Model;
 use x25_bits::Seq;

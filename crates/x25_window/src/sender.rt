@@ -1,6 +1,6 @@
 ghost use Rattle.std.specs.Prelude.{ℕ, ◌≡◌, ◌+◌, ◌-◌, ◌%◌, ◌<◌, ◌≤◌, ◌↔◌, IsTrue, IsErr, OnOk, OnErr, OnSome, IfOk, IfErr, IfSome, IfNone, MatchOption, length, drop, slice_get};
-ghost use Rattle.x25_window.specs.Modulo.{resolved};
-ghost use Rattle.x25_window.specs.Sending.{Sending, Acknowledges, fresh, offered, acknowledged, from_acked, moved_on};
+ghost use Rattle.x25_window.specs.code.Modulo.{resolved};
+ghost use Rattle.x25_window.specs.Sender.{Sending, Acknowledges, fresh, offered, acknowledged, from_acked, moved_on};
 ghost use Rattle.x25_window.specs.code.Held.{Fits, advanced, with_item, without};
 
 use crate::window_error::WindowError;

@@ -1,10 +1,10 @@
 -- Damage to the bits of the line is damage to the octets, and is refused for no other ground than its own.
 use Rattle.std.proofs.Common.{◌≡◌, ◌∙◌, ℕ, ◌<◌, nat_lt, lt-ltb, Bool, true, false, not, List, length, None, Result, Ok, Err, IfErr, refl, ap, sym}
 use Rattle.std.specs.Prelude.{◌||◌}
-use Rattle.x25_bits.specs.Sealed.{is_sealed}
-use Rattle.x25_bits.specs.SpanClass.{found_of}
-use Rattle.x25_bits.specs.Harmless.{between_flags, first_content}
-use Rattle.x25_line.specs.Stations.{is_visible}
+use Rattle.x25_bits.specs.FrameCheck.Sealed.{is_sealed}
+use Rattle.x25_bits.specs.Found.{found_of}
+use Rattle.x25_bits.specs.HarmlessBits.{between_flags, first_content}
+use Rattle.x25_line.specs.laws.Stations.{is_visible}
 use Rattle.x25_bits.specs.Role.{end_of}
 use Rattle.x25_bits.specs.declared.direction.Direction.{Direction}
 use Rattle.x25_bits.specs.declared.direction.Direction.TheVariants.{ToDce, ToDte}

@@ -2,26 +2,26 @@
 use Rattle.std.proofs.Common.{◌≡◌, ℕ, List, [], ◌∷◌, ◌++◌, map, Bool, true, Option, None, Ok, refl, sym, ap, ap₂, ◌∙◌, subst, arith}
 use Rattle.x25_bits.specs.declared.role.Role.{Role}
 use Rattle.x25_bits.specs.declared.role.Role.TheVariants.{Dte, Dce}
-use Rattle.x25_frame.specs.PlainFrame.{PlainFrame, sabm, ua}
+use Rattle.x25_frame.specs.Frame.{PlainFrame, sabm, ua}
 use Rattle.x25_frame.specs.Spelling.{spelling_of}
 use Rattle.x25_frame.specs.Reading.{frame_of}
-use Rattle.x25_packet.specs.PlainPacket.{restart}
+use Rattle.x25_packet.specs.Packet.{restart}
 use Rattle.x25_link.specs.declared.phase.Phase.TheVariants.{Down, Waiting}
 use Rattle.x25_link.specs.declared.phase.Reason.{Reason}
-use Rattle.x25_link.specs.SetUp.{Is}
-use Rattle.x25_link.specs.LinkStation.{LinkStation, with_nothing, fresh, is_up, pumped}
-use Rattle.x25_link.specs.MustSend.{Step as LinkStep}
-use Rattle.x25_link.specs.Steps.{take_step, put_step}
+use Rattle.x25_link.specs.laws.SetUp.{Is}
+use Rattle.x25_link.specs.Station.{LinkStation, with_nothing, fresh, is_up, pumped}
+use Rattle.x25_link.specs.Hearing.{Step as LinkStep}
+use Rattle.x25_link.specs.Link.{take_step, put_step}
 use Rattle.x25_layer.specs.Layer.{at_rest, goes_up, restart_cause}
 use Rattle.x25_station.specs.declared.config.Cfg.{Cfg}
-use Rattle.x25_station.specs.Settings.{settings_from, longest_packet}
-use Rattle.x25_station.specs.Entries.{StationEntry, link_up, entries_noted}
+use Rattle.x25_station.specs.Config.{settings_from, longest_packet}
+use Rattle.x25_station.specs.Entry.{StationEntry, link_up, entries_noted}
 use Rattle.x25_station.specs.Station.{Station, new_station}
-use Rattle.x25_station.specs.Steps.{Step, follows, receives}
+use Rattle.x25_station.specs.Step.{Step, follows, receives}
 use Rattle.x25_station.specs.laws.KeepLaw.{IsKept}
 use Rattle.x25_world.specs.World.{World, swapped, entered, after_step, delivered, after, Event, Receives, happens, refusal_of, AreAccepted, connected, established}
 use Rattle.x25_world.specs.laws.Claims.{link_of}
-use Rattle.x25_world.specs.WindowGoes.{restart_of, two_links}
+use Rattle.x25_world.specs.laws.WindowGoes.{restart_of, two_links}
 use Rattle.x25_world.proofs.sessions.SessionTrace.{layer_of}
 use Rattle.x25_world.specs.laws.LawsBelow.{Laws}
 use Rattle.x25_world.proofs.sessions.SessionLinks.{puts_up}

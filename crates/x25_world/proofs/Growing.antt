@@ -3,14 +3,14 @@ use Rattle.std.proofs.Common.{◌≡◌, ℕ, List, [], ◌∷◌, ◌++◌, map
 use Rattle.std.proofs.lemmas.List.{map-append}
 use Rattle.x25_bits.specs.declared.role.Role.{Role}
 use Rattle.x25_bits.specs.declared.role.Role.TheVariants.{Dte, Dce}
-use Rattle.x25_frame.specs.PlainFrame.{PlainFrame}
+use Rattle.x25_frame.specs.Frame.{PlainFrame}
 use Rattle.x25_frame.specs.Spelling.{spelling_of}
-use Rattle.x25_packet.specs.PlainPacket.{PlainPacket}
+use Rattle.x25_packet.specs.Packet.{PlainPacket}
 use Rattle.x25_packet.specs.Spelling as packet
-use Rattle.x25_link.specs.MustSend.{other}
+use Rattle.x25_link.specs.Hearing.{other}
 use Rattle.x25_layer.specs.Layer.{LayerNotice}
-use Rattle.x25_layer.specs.Transcript.{Entry}
-use Rattle.x25_station.specs.Entries.{StationEntry, in_layer, notice_in, layer_entries, layer_notices}
+use Rattle.x25_layer.specs.laws.Transcript.{Entry}
+use Rattle.x25_station.specs.Entry.{StationEntry, in_layer, notice_in, layer_entries, layer_notices}
 use Rattle.x25_world.specs.World.{OnTap, AtEnd, tapped, entered}
 use Rattle.x25_world.specs.laws.Claims.{entry_of_end, entries_at}
 

@@ -1,11 +1,11 @@
 -- After each list of events by which the link isn't set up anew the claims hold, as they do on its sessions.
 use Rattle.std.proofs.Common.{false}
 use Rattle.x25_line.specs.laws.StationClaims.{OneLinkUnlessConnected}
-use Rattle.x25_line.specs.WholeNumbers.{MachineGoesAlong, OnceStaysOnce}
+use Rattle.x25_line.specs.laws.WholeNumbers.{MachineGoesAlong, OnceStaysOnce}
 use Rattle.x25_station.specs.laws.KeepLaw.{ConnectKeeps}
 use Rattle.x25_world.specs.World.{run, established}
 use Rattle.x25_world.specs.laws.Claims.{Always, UntilSecondUp, UpOnceUnlessConnected, IsSetUp, IsLawful, IsNamed, ArrivesAll, HasNoProcedureError}
-use Rattle.x25_world.specs.WindowGoes.{StaysInWindow}
+use Rattle.x25_world.specs.laws.WindowGoes.{StaysInWindow}
 use Rattle.x25_world.proofs.Known.{is_configured}
 use Rattle.x25_world.proofs.Established.{set_up_accepted}
 use Rattle.x25_world.specs.laws.LawsBelow.{SessionLaws}

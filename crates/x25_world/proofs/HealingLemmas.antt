@@ -5,37 +5,37 @@ use Rattle.std.proofs.lemmas.Bool.{eq-eqb}
 use Rattle.x25_bits.specs.declared.role.Role.{Role}
 use Rattle.x25_bits.specs.declared.role.Role.TheVariants.{Dte, Dce}
 use Rattle.x25_frame.specs.Spelling.{spelling_of}
-use Rattle.x25_packet.specs.PlainPacket.{PlainPacket}
+use Rattle.x25_packet.specs.Packet.{PlainPacket}
 use Rattle.x25_link.specs.declared.error.LinkError.{LinkError}
 use Rattle.x25_link.specs.declared.phase.Reason.TheVariants.{Retries}
-use Rattle.x25_link.specs.LinkStation.{Settings as LinkSettings, LinkStation, with_near, is_up, awaits_ua}
-use Rattle.x25_link.specs.MustSend.{Step as LinkStep, other, quiet, leaves}
-use Rattle.x25_link.specs.Steps.{alone, closed_by, asks_again, take_step, timer_step, timer_refusal, timer_runs, abandon_step}
-use Rattle.x25_link.specs.Steps as link
+use Rattle.x25_link.specs.Station.{Settings as LinkSettings, LinkStation, with_near, is_up, awaits_ua}
+use Rattle.x25_link.specs.Hearing.{Step as LinkStep, other, quiet, leaves}
+use Rattle.x25_link.specs.Link.{alone, closed_by, asks_again, take_step, timer_step, timer_refusal, timer_runs, abandon_step}
+use Rattle.x25_link.specs.Link as link
 use Rattle.x25_link.specs.laws.RestLaw.{IsAtRest}
-use Rattle.x25_line.specs.Stations as line
-use Rattle.x25_line.specs.Sessions as links
-use Rattle.x25_line.specs.Sessions.{Meeting, Sessions, from_nothing, sent_in, begun_by, IsTimely, AreTimely}
-use Rattle.x25_line.specs.SessionNumbers.{standing_run, standing_at}
+use Rattle.x25_line.specs.laws.Stations as line
+use Rattle.x25_line.specs.laws.Sessions as links
+use Rattle.x25_line.specs.laws.Sessions.{Meeting, Sessions, from_nothing, sent_in, begun_by, IsTimely, AreTimely}
+use Rattle.x25_line.specs.laws.SessionNumbers.{standing_run, standing_at}
 use Rattle.x25_line.specs.laws.SessionClaims as claims
 use Rattle.x25_line.specs.laws.SessionClaims.{octets_of}
 use Rattle.x25_line.specs.Healing.{AreDeliveries, EachRestShows, SessionHasTries, OneIsFree, EachSessionHeals, SessionsHealUnlessBothBusy, FindsIn, EachFindsIn, SessionsDrainEnd}
 use Rattle.x25_layer.specs.code.FitsLayer.{waits_up_to}
 use Rattle.x25_layer.specs.laws.Law.{HasAllOf}
-use Rattle.x25_handshakes.specs.Names.{Name}
+use Rattle.x25_handshakes.specs.laws.Names.{Name}
 use Rattle.x25_station.specs.declared.config.Cfg.{Cfg}
-use Rattle.x25_station.specs.Settings.{Settings, settings_from, link_settings, layer_settings}
+use Rattle.x25_station.specs.Config.{Settings, settings_from, link_settings, layer_settings}
 use Rattle.x25_station.specs.Station.{all_put, view_of}
-use Rattle.x25_station.specs.Steps.{follows, layer_at, unless, fires}
+use Rattle.x25_station.specs.Step.{follows, layer_at, unless, fires}
 use Rattle.x25_station.specs.laws.KeepLaw.{ConnectKeeps}
-use Rattle.x25_station.specs.Told.{stretch}
+use Rattle.x25_station.specs.Station.Told.{stretch}
 use Rattle.x25_world.specs.World.{World, swapped, WorldOutcome, Happened, Declined, swapped_back, Receives, acts, delivered, fired, of_station, is_on_line, after, after_step, happens, refusal_of, run, AreAccepted}
 use Rattle.x25_world.specs.declared.error.WorldError.TheVariants as error
 use Rattle.x25_world.specs.laws.Claims.{link_of, station_at}
 use Rattle.x25_world.specs.laws.LawsBelow.{SessionLaws}
 use Rattle.x25_world.specs.laws.SessionClaims.{Throughout, AllArrive}
-use Rattle.x25_world.specs.WindowGoes.{at_end}
-use Rattle.x25_world.specs.Sessions.{last_session, handed_in}
+use Rattle.x25_world.specs.laws.WindowGoes.{at_end}
+use Rattle.x25_world.specs.laws.Sessions.{last_session, handed_in}
 use Rattle.x25_world.specs.Healing.{IsDrained, receipt, all_received, firing, AreLinksOf, StopsAtRest, RestShows, PutsNothing, PutsNothingAt, NonePut, HasTries, RestsOrIsOut, Heals, MayHeal, HealsWhereNonePut, DrainsWhereNonePut}
 use Rattle.x25_world.proofs.Known.{IsConfigured, is_configured, links_joined}
 use Rattle.x25_world.proofs.OneLink.{octets_append, octets_sent}

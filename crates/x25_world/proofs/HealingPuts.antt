@@ -3,31 +3,31 @@
 use Rattle.std.proofs.Common.{◌≡◌, ℕ, List, [], ◌∷◌, ◌++◌, map, Bool, true, false, if◌then◌else◌, option_to_list, refl, sym, ap, ap₂, ◌∙◌, subst}
 use Rattle.x25_bits.specs.declared.role.Role.{Role}
 use Rattle.x25_bits.specs.declared.role.Role.TheVariants.{Dte, Dce}
-use Rattle.x25_frame.specs.PlainFrame.{PlainFrame}
+use Rattle.x25_frame.specs.Frame.{PlainFrame}
 use Rattle.x25_frame.specs.Spelling.{spelling_of}
-use Rattle.x25_packet.specs.PlainPacket.{PlainPacket}
+use Rattle.x25_packet.specs.Packet.{PlainPacket}
 use Rattle.x25_link.specs.declared.phase.Phase.{Phase}
 use Rattle.x25_link.specs.declared.phase.Phase.TheVariants.{Down, Waiting, Up, Closed}
-use Rattle.x25_link.specs.LinkStation.{Settings as LinkSettings, LinkStation, Side, is_up, is_busy, awaits_ua}
-use Rattle.x25_link.specs.Steps.{alone, take_step, abandon_step}
+use Rattle.x25_link.specs.Station.{Settings as LinkSettings, LinkStation, Side, is_up, is_busy, awaits_ua}
+use Rattle.x25_link.specs.Link.{alone, take_step, abandon_step}
 use Rattle.x25_link.specs.laws.RestLaw.{IsAtRest}
-use Rattle.x25_line.specs.Stations as line
-use Rattle.x25_line.specs.Sessions as links
-use Rattle.x25_line.specs.Sessions.{SessionEnd, Meeting, Sessions, begun_by, IsTimely, AreTimely}
+use Rattle.x25_line.specs.laws.Stations as line
+use Rattle.x25_line.specs.laws.Sessions as links
+use Rattle.x25_line.specs.laws.Sessions.{SessionEnd, Meeting, Sessions, begun_by, IsTimely, AreTimely}
 use Rattle.x25_line.specs.Healing.{SessionMayHeal}
-use Rattle.x25_line.specs.HealingPuts.{AreFree, IsDeliverOrPut, AreDeliveriesAndPuts, SessionsFreeThroughout, SessionsHaveArrived, PutsHealSessions}
+use Rattle.x25_line.specs.laws.HealingPuts.{AreFree, IsDeliverOrPut, AreDeliveriesAndPuts, SessionsFreeThroughout, SessionsHaveArrived, PutsHealSessions}
 use Rattle.x25_layer.specs.Calls.{LayerRequest}
 use Rattle.x25_station.specs.declared.config.Cfg.{Cfg}
 use Rattle.x25_station.specs.Command as command
-use Rattle.x25_station.specs.Settings.{Settings, settings_from}
-use Rattle.x25_station.specs.Steps.{Step, Outcome, Did, Refused, follows, requests}
+use Rattle.x25_station.specs.Config.{Settings, settings_from}
+use Rattle.x25_station.specs.Step.{Step, Outcome, Did, Refused, follows, requests}
 use Rattle.x25_station.specs.laws.KeepLaw.{ConnectKeeps}
 use Rattle.x25_station.specs.laws.ReadLaw.{RequestsOctets}
 use Rattle.x25_world.specs.World.{World, swapped, Act, Commands, Receives, Fires, Loses, Damages, Event, acts, delivered, of_station, happens, after, after_step, run}
 use Rattle.x25_world.specs.laws.Claims.{ActsInOctets, AreInOctets, link_of}
 use Rattle.x25_world.specs.laws.LawsBelow.{SessionLaws}
 use Rattle.x25_world.specs.laws.SessionClaims.{Throughout}
-use Rattle.x25_world.specs.WindowGoes.{all_at}
+use Rattle.x25_world.specs.laws.WindowGoes.{all_at}
 use Rattle.x25_world.specs.Healing.{firing, HasTries, IsReceiptOrRequest, AreReceiptsAndRequests, ComeFreely, ActsFreely, FreeAt, FreeThroughout, LinkMayHeal, HealsWithPuts}
 use Rattle.x25_world.proofs.Known.{IsConfigured, is_configured, true_false}
 use Rattle.x25_world.proofs.sessions.SessionReaches.{both_down, twice, known_sessions}

@@ -4,14 +4,14 @@ use Rattle.std.specs.Prelude.{is_none, is_some, not, option_map}
 use Rattle.x25_bits.specs.declared.role.Role.{Role}
 use Rattle.x25_bits.specs.declared.role.Role.TheVariants.{Dte, Dce}
 use Rattle.x25_station.specs.declared.config.Cfg.{Cfg}
-use Rattle.x25_link.specs.Steps.{is_idle}
+use Rattle.x25_link.specs.Link.{is_idle}
 use Rattle.x25_link.specs.laws.RestLaw.{IsAtRest}
 use Rattle.x25_layer.specs.Calls.{PullsAll}
 use Rattle.x25_layer.specs.laws.WaitLaw.{PullsNone}
-use Rattle.x25_station.specs.Settings.{settings_from, layer_settings, config_refusal}
+use Rattle.x25_station.specs.Config.{settings_from, layer_settings, config_refusal}
 use Rattle.x25_station.specs.Command.{Requests}
 use Rattle.x25_station.specs.Station.{Station}
-use Rattle.x25_station.specs.Steps.{Outcome, Did, Refused, commands}
+use Rattle.x25_station.specs.Step.{Outcome, Did, Refused, commands}
 use Rattle.x25_world.specs.World.{World, swapped, WorldOutcome, Happened, Declined, of_station, swapped_back, Event, happens, after, run}
 use Rattle.x25_world.specs.declared.error.WorldError.{WorldError}
 use Rattle.x25_world.specs.laws.Claims.{ActsInOctets, AreInOctets, IsBeginning}

@@ -6,7 +6,7 @@ use Rattle.x25_line.specs.laws.StationClaims.{AreJoined}
 use Rattle.x25_station.specs.declared.config.Cfg.{Cfg}
 use Rattle.x25_station.specs.declared.error.StationError.{StationError}
 use Rattle.x25_station.specs.declared.error.StationError.TheVariants as error
-use Rattle.x25_station.specs.Settings.{config_refusal}
+use Rattle.x25_station.specs.Config.{config_refusal}
 use Rattle.x25_world.specs.laws.Claims.{link_of}
 
 -- ---- the settings

@@ -5,7 +5,7 @@ use Rattle.std.proofs.Math.ListN.{set, get_or}
 use Rattle.std.proofs.lemmas.Bool.{eqb-true, leb-true, leb-false}
 use Rattle.std.proofs.lemmas.List.Elements.{All-nil, All-cons}
 use Rattle.std.proofs.lemmas.List.{map-append, map-set, take-map, drop-map, length-map}
-use Rattle.x25_line.specs.Stations.{replaced}
+use Rattle.x25_line.specs.laws.Stations.{replaced}
 use Rattle.x25_world.specs.World.{OnTap}
 use Rattle.x25_world.specs.OnLine.{octets_at, octets_of, shown_line, IsThere, IsOwn, shares, AreApart}
 use Rattle.x25_world.specs.declared.on_line.OnLine.{OnLine}

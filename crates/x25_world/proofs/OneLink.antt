@@ -3,17 +3,17 @@
 use Rattle.std.proofs.Common.{◌≡◌, ℕ, suc, ◌<◌, ◌⊎◌, inl, inr, List, [], ◌∷◌, ◌++◌, length, map, remove, nat_le, Bool, true, false, ◌||◌, if◌then◌else◌, Option, Some, None, refl, sym, ap, ◌∙◌, subst, arith, zero}
 use Rattle.x25_bits.specs.declared.role.Role.{Role}
 use Rattle.x25_bits.specs.declared.role.Role.TheVariants.{Dte, Dce}
-use Rattle.x25_frame.specs.PlainFrame.{PlainFrame}
+use Rattle.x25_frame.specs.Frame.{PlainFrame}
 use Rattle.x25_frame.specs.Spelling.{spelling_of}
 use Rattle.x25_link.specs.declared.error.LinkError.{LinkError}
-use Rattle.x25_link.specs.MustSend.{other, Step as LinkStep}
-use Rattle.x25_link.specs.LinkStation.{Settings as LinkSettings, LinkStation, is_up}
-use Rattle.x25_link.specs.Steps.{take_step, put_step, put_refusal, timer_step, timer_refusal, connect_step, connect_refusal, disconnect_step, disconnect_refusal, abandon_step}
-use Rattle.x25_line.specs.Stations as line
-use Rattle.x25_line.specs.Stations.{StationEnd, is_visible}
+use Rattle.x25_link.specs.Hearing.{other, Step as LinkStep}
+use Rattle.x25_link.specs.Station.{Settings as LinkSettings, LinkStation, is_up}
+use Rattle.x25_link.specs.Link.{take_step, put_step, put_refusal, timer_step, timer_refusal, connect_step, connect_refusal, disconnect_step, disconnect_refusal, abandon_step}
+use Rattle.x25_line.specs.laws.Stations as line
+use Rattle.x25_line.specs.laws.Stations.{StationEnd, is_visible}
 use Rattle.x25_line.specs.laws.StationClaims.{AcceptsNoConnect, AcceptsNoConnectAt, NoneConnects}
-use Rattle.x25_line.specs.Sessions as links
-use Rattle.x25_line.specs.Sessions.{SessionEnd, Meeting, Sessions, sent_in, begun_by}
+use Rattle.x25_line.specs.laws.Sessions as links
+use Rattle.x25_line.specs.laws.Sessions.{SessionEnd, Meeting, Sessions, sent_in, begun_by}
 use Rattle.x25_line.specs.laws.SessionClaims.{octets_of}
 use Rattle.x25_station.specs.declared.config.Cfg.{Cfg}
 use Rattle.x25_world.specs.laws.Claims.{link_of}

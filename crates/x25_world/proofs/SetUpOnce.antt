@@ -2,24 +2,24 @@
 use Rattle.std.proofs.Common.{◌≡◌, ℕ, zero, suc, ◌+◌, ◌≤◌, ◌⊎◌, inl, inr, List, [], ◌∷◌, Bool, true, false, refl, sym, ap, ◌∙◌, subst, arith}
 use Rattle.x25_bits.specs.declared.role.Role.{Role}
 use Rattle.x25_bits.specs.declared.role.Role.TheVariants.{Dte, Dce}
-use Rattle.x25_link.specs.MustSend.{other}
+use Rattle.x25_link.specs.Hearing.{other}
 use Rattle.x25_line.specs.laws.StationClaims.{IsSetUpOnce, OneLinkUnlessConnected}
-use Rattle.x25_line.specs.Sessions.{SessionEnd}
+use Rattle.x25_line.specs.laws.Sessions.{SessionEnd}
 use Rattle.x25_line.specs.laws.SessionClaims.{OnlyBegunHaveLists}
 use Rattle.x25_layer.specs.Layer.{LayerNotice}
 use Rattle.x25_layer.specs.laws.Law.{HandsUpLawfully, HasAllOf}
 use Rattle.x25_layer.specs.laws.NameLaw.{first_name, counted}
-use Rattle.x25_layer.specs.Transcript.{Entry}
+use Rattle.x25_layer.specs.laws.Transcript.{Entry}
 use Rattle.x25_layer.specs.Layer.{goes_up}
-use Rattle.x25_layer.specs.Apart.{OwnMove, own_run}
-use Rattle.x25_layer.specs.TwoLayers.{started}
-use Rattle.x25_link.specs.LinkStation.{is_up}
+use Rattle.x25_layer.specs.laws.Apart.{OwnMove, own_run}
+use Rattle.x25_layer.specs.laws.TwoLayers.{started}
+use Rattle.x25_link.specs.Station.{is_up}
 use Rattle.x25_station.specs.declared.config.Cfg.{Cfg}
-use Rattle.x25_station.specs.Entries.{StationEntry, of_channel, restart_asked, connect_asked, disconnect_asked, link_up, link_down, layer_entries, was_restarted, restart_confirmed, at_fault}
+use Rattle.x25_station.specs.Entry.{StationEntry, of_channel, restart_asked, connect_asked, disconnect_asked, link_up, link_down, layer_entries, was_restarted, restart_confirmed, at_fault}
 use Rattle.x25_station.specs.Station.{Station}
 use Rattle.x25_world.specs.World.{World}
 use Rattle.x25_world.specs.laws.Claims.{station_at, entries_at, ups_in, IsUpOnce, IsUpAtMostOnce, handed_at, link_of, IsLawful, IsNamed, ArrivesAll}
-use Rattle.x25_world.specs.Sessions.{Progress, none_begun, after_entry, after_entries, session_at, last_session, handed_in}
+use Rattle.x25_world.specs.laws.Sessions.{Progress, none_begun, after_entry, after_entries, session_at, last_session, handed_in}
 use Rattle.x25_world.proofs.Known.{IsConfigured}
 use Rattle.x25_world.proofs.OneLink.{IsAnew, OneLink}
 use Rattle.x25_world.proofs.sessions.SessionTrace.{Done, layer_of, own}

@@ -6,21 +6,21 @@ use Rattle.x25_bits.specs.Role.{other}
 use Rattle.x25_bits.specs.declared.role.Role.{Role}
 use Rattle.x25_bits.specs.declared.role.Role.TheVariants.{Dte, Dce}
 use Rattle.x25_frame.specs.Spelling.{spelling_of}
-use Rattle.x25_link.specs.LinkStation.{awaits_ua}
+use Rattle.x25_link.specs.Station.{awaits_ua}
 use Rattle.x25_station.specs.declared.config.Cfg.{Cfg}
 use Rattle.x25_station.specs.declared.error.StationError.{StationError}
 use Rattle.x25_station.specs.declared.error.StationError.TheVariants as station
 use Rattle.x25_station.specs.declared.station.Station as code
 use Rattle.x25_station.specs.declared.step.Step as code_step
-use Rattle.x25_station.specs.Entries.{StationEntry}
+use Rattle.x25_station.specs.Entry.{StationEntry}
 use Rattle.x25_station.specs.code.FitsStation.{FitsStation, Leaves, Sends, Enters, Refuses}
 use Rattle.x25_station.specs.code.PlainEntry.{plain_entry}
-use Rattle.x25_station.specs.Settings.{Settings, settings_from}
+use Rattle.x25_station.specs.Config.{Settings, settings_from}
 use Rattle.x25_station.specs.Station.{Station}
-use Rattle.x25_station.specs.Steps.{Step, Outcome, Did, Refused, fires, receives}
+use Rattle.x25_station.specs.Step.{Step, Outcome, Did, Refused, fires, receives}
 use Rattle.x25_world.specs.declared.error.WorldError.{WorldError}
 use Rattle.x25_world.specs.declared.error.WorldError.TheVariants as error
-use Rattle.x25_world.specs.WorldError.{error_of}
+use Rattle.x25_world.specs.Error.{error_of}
 use Rattle.x25_world.specs.World.{OnTap, AtEnd, World, WorldOutcome, Happened, Declined, after_step, of_station, delivered, on_line, is_on_line, fired, refusal_of, tapped, entered}
 use Rattle.x25_world.specs.code.ShownLine.{ShownLine, line_to, with_line_to, tap_with, put_by}
 use Rattle.x25_world.specs.code.FitsWorld.{Gone, HoldsTap, FitsSide, HasHappened}

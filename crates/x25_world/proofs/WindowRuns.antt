@@ -1,18 +1,18 @@
 -- The window along a run from a link just set up: at each event two links go on as its end asks, with one machine behind them.
 use Rattle.std.proofs.Common.{◌≡◌, ℕ, List, [], ◌∷◌, ◌++◌, false, refl, sym, ap, ◌∙◌, subst, append_assoc, append-nil}
 use Rattle.x25_bits.specs.declared.role.Role.TheVariants.{Dte, Dce}
-use Rattle.x25_link.specs.LinkStation.{Settings as LinkSettings}
-use Rattle.x25_line.specs.Line.{Line}
-use Rattle.x25_line.specs.Stations as line
+use Rattle.x25_link.specs.Station.{Settings as LinkSettings}
+use Rattle.x25_line.specs.laws.Line.{Line}
+use Rattle.x25_line.specs.laws.Stations as line
 use Rattle.x25_line.specs.laws.StationClaims.{IsSetUpOnce}
-use Rattle.x25_line.specs.Sessions as links
-use Rattle.x25_line.specs.Sessions.{Sessions, AreTimely}
-use Rattle.x25_line.specs.WholeNumbers.{machine_run, machine_at_start, machine_happens, MachineGoesAlong, OnceStaysOnce}
+use Rattle.x25_line.specs.laws.Sessions as links
+use Rattle.x25_line.specs.laws.Sessions.{Sessions, AreTimely}
+use Rattle.x25_line.specs.laws.WholeNumbers.{machine_run, machine_at_start, machine_happens, MachineGoesAlong, OnceStaysOnce}
 use Rattle.x25_station.specs.declared.config.Cfg.{Cfg}
 use Rattle.x25_station.specs.laws.KeepLaw.{ConnectKeeps}
 use Rattle.x25_world.specs.World.{World, Event, happens, after, run, established}
 use Rattle.x25_world.specs.laws.Claims.{ActsInOctets, AreInOctets, IsUpOnce, link_of}
-use Rattle.x25_world.specs.WindowGoes.{AsksAll, all_at, IsBehindWorld, GoesAlong, both_put, StaysInWindow}
+use Rattle.x25_world.specs.laws.WindowGoes.{AsksAll, all_at, IsBehindWorld, GoesAlong, both_put, StaysInWindow}
 use Rattle.x25_world.proofs.Known.{IsConfigured}
 use Rattle.x25_world.proofs.OneLink.{AreAlike, acts_alike}
 use Rattle.x25_world.proofs.sessions.SessionReaches.{Beginning, both_down, set_up, at_event, SessionsReach, joined_at}

@@ -6,14 +6,14 @@ use Rattle.std.proofs.lemmas.Option.{slice_get-get_or}
 use Rattle.std.proofs.lemmas.List.{append-nil, take_more, map-append, take_all, length-map, get_or-map}
 use Rattle.x25_bits.specs.declared.role.Role.{Role}
 use Rattle.x25_bits.specs.declared.role.Role.TheVariants.{Dte, Dce}
-use Rattle.x25_link.specs.LinkStation.{awaits_ua}
-use Rattle.x25_line.specs.Stations.{is_visible}
+use Rattle.x25_link.specs.Station.{awaits_ua}
+use Rattle.x25_line.specs.laws.Stations.{is_visible}
 use Rattle.x25_station.specs.declared.config.Cfg.{Cfg}
 use Rattle.x25_station.specs.declared.error.StationError.{StationError}
 use Rattle.x25_station.specs.declared.station.Station as code
 use Rattle.x25_station.specs.code.FitsStation.{FitsStation}
-use Rattle.x25_station.specs.Settings.{Settings, settings_from, config_refusal}
-use Rattle.x25_station.specs.Steps.{Outcome, Did, Refused, commands, fires}
+use Rattle.x25_station.specs.Config.{Settings, settings_from, config_refusal}
+use Rattle.x25_station.specs.Step.{Outcome, Did, Refused, commands, fires}
 use Rattle.x25_world.specs.declared.event.Event as code_event
 use Rattle.x25_world.specs.declared.error.WorldError.{WorldError}
 use Rattle.x25_world.specs.declared.error.WorldError.TheVariants as error
@@ -21,7 +21,7 @@ use Rattle.x25_world.specs.World.{World, swapped, Event, Act, Commands, Receives
 use Rattle.x25_world.specs.laws.Claims.{ActsInOctets, AreInOctets, entries_at, ups_in, IsUpOnce, IsUpAtMostOnce, IsBeginning, NoneConnects, SetsUpOnce, UpOnceUnlessConnected, Always, UntilSecondUp, HasNoProcedureError}
 use Rattle.x25_world.proofs.Established.{connected_tells}
 use Rattle.x25_world.specs.laws.SessionClaims.{Throughout, ThroughoutAlong, MeetInStep, AreLawfulWhereMet, AreNamedInSessions, AllArrive, UnmetAreToldNothing, OpenStretchesMeet, SessionsKeepOrder}
-use Rattle.x25_world.specs.SessionWindow.{SessionsStayInWindow}
+use Rattle.x25_world.specs.laws.SessionWindow.{SessionsStayInWindow}
 use Rattle.x25_world.specs.code.ShownWorld.{ShownWorld, ShownSide, ShownParts}
 use Rattle.x25_world.specs.code.FitsWorld.{Gone, all_of, gone_after, nothing_gone, FitsWorld, FitsRun, Leaves, with_gone, and_then, FitsSide, FitsParts, HasHappened, IsRefusal, StopsAt, RefusesConfig}
 

@@ -1,7 +1,7 @@
 -- Damage to the bits of the line: others come in the place of those between the flags of a frame. Profile.
 use Rattle.std.specs.Prelude.{ℕ, ◌<◌, ◌≤◌, Bool, List, length}
-use Rattle.x25_bits.specs.SpanClass.{found_of}
-use Rattle.x25_bits.specs.Harmless.{between_flags, IsHarmless, first_content}
+use Rattle.x25_bits.specs.Found.{found_of}
+use Rattle.x25_bits.specs.HarmlessBits.{between_flags, IsHarmless, first_content}
 use Rattle.x25_bits.specs.declared.direction.Direction.{Direction}
 use Rattle.x25_bits.specs.Role.{end_of}
 use Rattle.x25_world.specs.World.{Event, Damages}

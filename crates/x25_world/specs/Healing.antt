@@ -4,29 +4,29 @@
 use Rattle.std.specs.Prelude.{◌≡◌, ℕ, zero, suc, ◌+◌, ◌<◌, ◌≤◌, length, ◌⊎◌, true, false, List, [], ◌∷◌, ◌++◌, Option, Some, None}
 use Rattle.x25_bits.specs.declared.role.Role.{Role}
 use Rattle.x25_bits.specs.declared.role.Role.TheVariants.{Dte, Dce}
-use Rattle.x25_link.specs.MustSend.{other}
-use Rattle.x25_link.specs.LinkStation.{LinkStation, is_up, is_busy, awaits_ua}
-use Rattle.x25_link.specs.Steps.{timer_runs, take_step}
+use Rattle.x25_link.specs.Hearing.{other}
+use Rattle.x25_link.specs.Station.{LinkStation, is_up, is_busy, awaits_ua}
+use Rattle.x25_link.specs.Link.{timer_runs, take_step}
 use Rattle.x25_link.specs.laws.RestLaw.{IsAtRest}
-use Rattle.x25_line.specs.Stations as line
-use Rattle.x25_line.specs.Sessions as links
-use Rattle.x25_line.specs.Sessions.{Sessions}
-use Rattle.x25_line.specs.SessionNumbers.{Standing}
+use Rattle.x25_line.specs.laws.Stations as line
+use Rattle.x25_line.specs.laws.Sessions as links
+use Rattle.x25_line.specs.laws.Sessions.{Sessions}
+use Rattle.x25_line.specs.laws.SessionNumbers.{Standing}
 use Rattle.x25_line.specs.Healing.{EachRestShows, SessionsAreHealed, OneIsFree}
-use Rattle.x25_line.specs.HealingPuts.{AreFree, AreDeliveriesAndPuts, SessionsHaveArrived}
+use Rattle.x25_line.specs.laws.HealingPuts.{AreFree, AreDeliveriesAndPuts, SessionsHaveArrived}
 use Rattle.x25_layer.specs.laws.Law.{HasAllOf}
 use Rattle.x25_layer.specs.code.FitsLayer.{waits_up_to}
-use Rattle.x25_handshakes.specs.Names.{Name}
+use Rattle.x25_handshakes.specs.laws.Names.{Name}
 use Rattle.x25_station.specs.declared.config.Cfg.{Cfg}
 use Rattle.x25_station.specs.Command.{Requests}
-use Rattle.x25_station.specs.Settings.{Settings, settings_from, link_settings, layer_settings}
+use Rattle.x25_station.specs.Config.{Settings, settings_from, link_settings, layer_settings}
 use Rattle.x25_station.specs.Station.{Station, view_of}
-use Rattle.x25_station.specs.Steps.{abandons, layer_at}
-use Rattle.x25_station.specs.Told.{stretch}
+use Rattle.x25_station.specs.Step.{abandons, layer_at}
+use Rattle.x25_station.specs.Station.Told.{stretch}
 use Rattle.x25_world.specs.World.{World, WorldOutcome, Happened, Declined, Act, Commands, Receives, Fires, Event, happens, after, run, AreAccepted}
 use Rattle.x25_world.specs.laws.Claims.{AreInOctets, link_of, station_at}
-use Rattle.x25_world.specs.SessionWindow.{IsRunOfSessions}
-use Rattle.x25_world.specs.Sessions.{last_session, handed_in}
+use Rattle.x25_world.specs.laws.SessionWindow.{IsRunOfSessions}
+use Rattle.x25_world.specs.laws.Sessions.{last_session, handed_in}
 use Rattle.x25_world.specs.laws.WaitClaims.{pull_at, AllWaitForUsers}
 
 -- nothing is on the line

@@ -1,11 +1,7 @@
-pub mod WorldError
-pub mod SetUpFrames
+pub mod Error
+pub mod SetUp
 pub mod World
-pub mod Sessions
-pub mod WindowGoes
-pub mod SessionWindow
 pub mod Healing
-pub mod TapOctets
 pub mod OnLine
 pub mod BitDamage
 pub mod code

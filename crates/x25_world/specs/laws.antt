@@ -1,5 +1,9 @@
--- What the laws of this crate say (src/law.rt).
+-- What the laws of this crate say (src/law.rt), and the machines that they are about.
 pub mod Claims
 pub mod SessionClaims
 pub mod LawsBelow
 pub mod WaitClaims
+pub mod SessionWindow
+pub mod Sessions
+pub mod TapOctets
+pub mod WindowGoes

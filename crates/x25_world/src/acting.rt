@@ -1,14 +1,14 @@
 //! What happens at one end, and on the line to it.
 ghost use Rattle.std.specs.Prelude.{◌≡◌, ◌&&◌, List, ◌+◌, ◌≤◌, ◌++◌, ◌⊎◌, Bool, false, [], length, map, vec_len, vec_capacity, IfErr, OnOk, OnErr, IsErrOf};
-ghost use Rattle.x25_link.specs.LinkStation.{awaits_ua};
-ghost use Rattle.x25_line.specs.Stations.{is_visible};
+ghost use Rattle.x25_link.specs.Station.{awaits_ua};
+ghost use Rattle.x25_line.specs.laws.Stations.{is_visible};
 ghost use Rattle.x25_station.specs.Command.{command_of};
 ghost use Rattle.x25_station.specs.code.PlainEntry.{plain_entry};
 ghost use Rattle.x25_station.specs.declared.config.Cfg.{Cfg};
-ghost use Rattle.x25_station.specs.Settings.{Settings, settings_from};
+ghost use Rattle.x25_station.specs.Config.{Settings, settings_from};
 ghost use Rattle.x25_station.specs.Station.{Station as StationState};
 ghost use Rattle.x25_station.specs.code.FitsStation.{FitsStation};
-ghost use Rattle.x25_station.specs.Steps.{connects, commands};
+ghost use Rattle.x25_station.specs.Step.{connects, commands};
 ghost use Rattle.x25_world.specs.World as definition;
 ghost use Rattle.x25_world.specs.World.{AtEnd, Happened, Declined, of_station, delivered, is_on_line, fired, on_line, lost, damaged, acts, entered, event_of};
 ghost use Rattle.x25_world.specs.code.PlainTold.{plain_entered};

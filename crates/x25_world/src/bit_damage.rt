@@ -1,8 +1,8 @@
 //! Bits that come in the place of those between the flags of a frame.
 ghost use Rattle.std.specs.Prelude.{◌≡◌, ◌⊎◌, false, IfOk, OnOk, IfErr};
-ghost use Rattle.x25_bits.specs.Harmless.{between_flags, IsHarmless, first_content};
-ghost use Rattle.x25_bits.specs.Sealed.{is_sealed};
-ghost use Rattle.x25_bits.specs.SpanClass.{found_of};
+ghost use Rattle.x25_bits.specs.HarmlessBits.{between_flags, IsHarmless, first_content};
+ghost use Rattle.x25_bits.specs.FrameCheck.Sealed.{is_sealed};
+ghost use Rattle.x25_bits.specs.Found.{found_of};
 
 use crate::error::WorldError;
 use x25_bits::{Bits, first_content, harmless, harmless_bits_lose_a_frame};

@@ -1,5 +1,5 @@
 ghost use Rattle.std.specs.Prelude.{◌≡◌};
-ghost use Rattle.x25_world.specs.WorldError.{number_of, error_of};
+ghost use Rattle.x25_world.specs.Error.{number_of, error_of};
 
 use thiserror::Error;
 use x25_station::StationError;

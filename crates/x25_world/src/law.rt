@@ -6,9 +6,9 @@ ghost use Rattle.x25_world.specs.laws.SessionClaims.{Throughout, ThroughoutAlong
 ghost use Rattle.x25_world.specs.laws.WaitClaims.{PullsLeaveNone, UnpulledWaitForUsers, ClosedKeepNone, MessagesWaitForUsers};
 ghost use Rattle.x25_world.specs.laws.LawsBelow.{SessionLaws};
 ghost use Rattle.x25_world.specs.laws.Claims.{ActsInOctets, Always, UntilSecondUp, IsSetUp, IsLawful, IsNamed, ArrivesAll, HasNoProcedureError, UpOnceUnlessConnected};
-ghost use Rattle.x25_world.specs.WindowGoes.{StaysInWindow};
-ghost use Rattle.x25_world.specs.SessionWindow.{SessionsStayInWindow};
-ghost use Rattle.x25_world.specs.TapOctets.{IsTapOfOctets};
+ghost use Rattle.x25_world.specs.laws.WindowGoes.{StaysInWindow};
+ghost use Rattle.x25_world.specs.laws.SessionWindow.{SessionsStayInWindow};
+ghost use Rattle.x25_world.specs.laws.TapOctets.{IsTapOfOctets};
 
 use crate::Event;
 use x25_frame::reads_what_is_spelled;

@@ -1,5 +1,5 @@
 ghost use Rattle.std.specs.Prelude.{◌≡◌, ℕ, ◌+◌, ◌<◌, ◌≤◌, ◌++◌, [], length, map, remove, OnOk, OnErr, List, ◌∷◌, true, false, All, option_copied, slice_get, slice_set, take, vec_len, vec_capacity};
-ghost use Rattle.x25_line.specs.Stations.{replaced};
+ghost use Rattle.x25_line.specs.laws.Stations.{replaced};
 ghost use Rattle.x25_world.specs.code.ShownLine.{ShownLine, line_to, with_line_to, put_by};
 ghost use Rattle.x25_world.specs.code.PlainTold.{plain_tapped};
 ghost use Rattle.x25_world.specs.OnLine.{octets_of, AreLate, IsThere, shares};

@@ -1,7 +1,7 @@
 //! The frames of a set-up that are on the line.
 ghost use Rattle.std.specs.Prelude.{◌≡◌, ◌||◌};
 ghost use Rattle.x25_bits.specs.Role.{other};
-ghost use Rattle.x25_world.specs.SetUpFrames.{reads_as, carries};
+ghost use Rattle.x25_world.specs.SetUp.{reads_as, carries};
 ghost use Rattle.x25_world.specs.code.ShownLine.{line_to};
 ghost use Rattle.x25_world.specs.declared.set_up.SetUpFrame.{SetUpFrame};
 

@@ -2,17 +2,17 @@ ghost use Rattle.std.specs.Prelude.{◌≡◌, List, [], ◌++◌, length, map, 
 ghost use Rattle.x25_station.specs.declared.config.Cfg.{Cfg};
 ghost use Rattle.x25_station.specs.code.FitsStation.{FitsStation};
 ghost use Rattle.x25_station.specs.code.PlainEntry.{plain_entry};
-ghost use Rattle.x25_station.specs.Settings.{settings_from, config_refusal};
+ghost use Rattle.x25_station.specs.Config.{settings_from, config_refusal};
 ghost use Rattle.x25_station.specs.Station as station;
-ghost use Rattle.x25_bits.specs.Harmless.{IsHarmless};
+ghost use Rattle.x25_bits.specs.HarmlessBits.{IsHarmless};
 ghost use Rattle.x25_world.specs.BitDamage.{bit_damage, RefusesBits};
 ghost use Rattle.x25_world.specs.code.PlainTold.{plain_tapped, plain_entered};
 ghost use Rattle.x25_world.specs.code.ShownWorld.{line_of, station_of};
 ghost use Rattle.x25_world.specs.code.FitsWorld.{Gone, all_of, gone_after, nothing_gone, FitsWorld, FitsRun, Leaves, and_then, and_all, HoldsAfter, HoldsAfterSetUp, HoldsThroughout, GoesOnThroughout, UpOnceAfter, IsRefusal, TakesMemory, StopsAt, RefusesConfig};
 ghost use Rattle.x25_world.specs.laws.Claims.{IsLawful, IsNamed, ArrivesAll, HasNoProcedureError, IsUpOnce};
-ghost use Rattle.x25_world.specs.WindowGoes.{StaysInWindow};
+ghost use Rattle.x25_world.specs.laws.WindowGoes.{StaysInWindow};
 ghost use Rattle.x25_world.specs.laws.SessionClaims.{SessionsKeepOrder};
-ghost use Rattle.x25_world.specs.SessionWindow.{SessionsStayInWindow};
+ghost use Rattle.x25_world.specs.laws.SessionWindow.{SessionsStayInWindow};
 ghost use Rattle.x25_world.specs.World as definition;
 ghost use Rattle.x25_world.specs.World.{entered, event_of, happens, after, refusal_of, run, AreAccepted, start, connected, established};
 

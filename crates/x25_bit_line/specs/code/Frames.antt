@@ -2,11 +2,11 @@
 use Rattle.std.specs.Prelude.{◌≡◌, ◌<◌, ℕ, Bool, ◌||◌, List, ◌++◌, length, Option}
 use Rattle.std.specs.List.{flat_map, list_any}
 use Rattle.std.specs.Io.KnownBytes.{Appends}
-use Rattle.x25_bits.specs.SpanClass.{octets_of}
+use Rattle.x25_bits.specs.Found.{octets_of}
 use Rattle.x25_bits.specs.Stuffing.{filled}
 use Rattle.x25_io.specs.code.LinesLead.{LinesEnded}
-use Rattle.x25_bit_line.specs.Framed.{framed_bits, framed_octets, has_wrong, is_wrong, line_bits}
-use Rattle.x25_bit_line.specs.Sending.{Sends}
+use Rattle.x25_bit_line.specs.Framing.{framed_bits, framed_octets, has_wrong, is_wrong, line_bits}
+use Rattle.x25_bit_line.specs.LineBits.{Sends}
 use Rattle.x25_bit_line.specs.declared.frame_sender.FrameSender.{FrameSender}
 
 -- With `lines` to come the bits sent are those of the input in the end, and a line is refused then where one of the input is.

@@ -1,13 +1,13 @@
 -- What is held in the midst of a line.
 use Rattle.std.specs.Prelude.{◌≡◌, ℕ, Bool, List, ◌++◌, Option}
 use Rattle.std.specs.Io.KnownBytes.{Appends}
-use Rattle.x25_bits.specs.Fcs.{bits_of}
+use Rattle.x25_bits.specs.FrameCheck.{bits_of}
 use Rattle.x25_bits.specs.code.Fits.{Fits}
-use Rattle.x25_bits.specs.SpanClass.{found_of}
+use Rattle.x25_bits.specs.Found.{found_of}
 use Rattle.x25_bits.specs.declared.deframer.Deframer.{Deframer}
 use Rattle.x25_bits.specs.declared.role.Role.{Role}
 use Rattle.x25_io.specs.code.Written.{Tells}
-use Rattle.x25_bit_line.specs.Deframed.{class_lines, deframed}
+use Rattle.x25_bit_line.specs.Deframing.{class_lines, deframed}
 use Rattle.x25_bit_line.specs.declared.finder.Finder.{Finder}
 
 -- These bits were read, and the lines for what is found in them were told, of which `text` waits to be written.

@@ -2,7 +2,7 @@
 use Rattle.std.specs.Prelude.{ℕ, ◌≡◌, ◌≤◌, ◌++◌, Bool, List, [], ◌∷◌, length}
 use Rattle.x25_bits.specs.laws.Cuts.{found_more}
 use Rattle.x25_bits.specs.code.Reading.{part}
-use Rattle.x25_bits.specs.SpanClass.{Class}
+use Rattle.x25_bits.specs.Found.{Class}
 
 -- what one call answers: the place behind the last bit that it read, and what it found
 pub record Call : Type 0 where

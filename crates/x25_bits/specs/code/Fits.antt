@@ -1,8 +1,8 @@
 -- What a deframer holds of the bits so far. Profile.
 use Rattle.std.specs.Prelude.{ℕ, ◌≡◌, ◌+◌, ◌==◌, ◌&&◌, Bool, true, false, Option, Some, None, List, [], ◌∷◌, drop, length, take}
-use Rattle.x25_bits.specs.Spans.{flag_places}
+use Rattle.x25_bits.specs.Deframer.{flag_places}
 use Rattle.x25_bits.specs.Stuffing.{unstuff}
-use Rattle.x25_bits.specs.SpanClass.{seven_from}
+use Rattle.x25_bits.specs.Found.{seven_from}
 use Rattle.x25_bits.specs.code.Held.{up}
 use Rattle.x25_bits.specs.declared.deframer.Deframer.{Deframer}
 

@@ -1,6 +1,6 @@
 -- What is found, without the memory that holds it.
 use Rattle.std.specs.Prelude.{Option, Some, None, List, [], ◌∷◌, map}
-use Rattle.x25_bits.specs.SpanClass.{Class, Content, Abort, Short, Long, Ragged}
+use Rattle.x25_bits.specs.Found.{Class, Content, Abort, Short, Long, Ragged}
 use Rattle.x25_bits.specs.declared.found.Found.{Found}
 use Rattle.x25_bits.specs.declared.found.Found.TheVariants.{Content as FoundContent, Abort as FoundAbort, Short as FoundShort, Long as FoundLong, Ragged as FoundRagged}
 use Rattle.x25_bits.specs.declared.found.Span.{Span}

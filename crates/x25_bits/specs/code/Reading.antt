@@ -2,7 +2,7 @@
 use Rattle.std.specs.Prelude.{ℕ, ◌≡◌, ◌-◌, ◌<◌, ◌≤◌, ◌++◌, ⊤, Bool, true, Option, Some, None, List, [], length, take, drop}
 use Rattle.std.specs.Borrow.{Fml, MutBor, follows_so}
 use mathlib.Core.Option.{none}
-use Rattle.x25_bits.specs.SpanClass.{Class}
+use Rattle.x25_bits.specs.Found.{Class}
 use Rattle.x25_bits.specs.code.Held.{Held, closing}
 use Rattle.x25_bits.specs.code.Shows.{Shows}
 use Rattle.x25_bits.specs.code.Fits.{Fits, count_held, has_buffer}

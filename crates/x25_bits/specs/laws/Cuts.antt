@@ -1,6 +1,6 @@
 -- Bits that come cut by cut. Profile.
 use Rattle.std.specs.Prelude.{Bool, List, [], ◌∷◌, ◌++◌, length, drop}
-use Rattle.x25_bits.specs.SpanClass.{Class, found_of}
+use Rattle.x25_bits.specs.Found.{Class, found_of}
 
 -- what one more cut finds, behind the bits before it
 abbrev pub found_more : List Bool → List Bool → List Class

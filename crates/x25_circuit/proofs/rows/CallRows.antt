@@ -1,13 +1,13 @@
 -- Answers to calls of the user, made by running another implementation, on the definition.
 use Rattle.std.proofs.Common.{◌≡◌, [], ◌∷◌, Some, None, true, false, refl}
-use Rattle.x25_packet.specs.PlainPacket.{call, accept, clear, user_data, rr, rnr, interrupt, reset}
+use Rattle.x25_packet.specs.Packet.{call, accept, clear, user_data, rr, rnr, interrupt, reset}
 use Rattle.x25_circuit.specs.declared.error.CircuitError.{CircuitError}
 use Rattle.x25_circuit.specs.declared.error.CircuitError.TheVariants.{WrongState, Full, InterruptOutstanding}
 use Rattle.x25_circuit.specs.declared.error.CircuitError.TheVariants as error
 use Rattle.x25_circuit.specs.declared.state.State.TheVariants.{Free, Calling, Arriving, Open, Resetting, Clearing}
 use Rattle.x25_circuit.specs.Params.{default_params}
-use Rattle.x25_circuit.specs.Messages.{More, Last}
-use Rattle.x25_circuit.specs.Calls.{Done, Refused, Calls, Accepts, Clears, Sends, Interrupts, Resets, SaysReady, SaysNotReady, outcome, pulled}
+use Rattle.x25_circuit.specs.Message.{More, Last}
+use Rattle.x25_circuit.specs.Calling.{Done, Refused, Calls, Accepts, Clears, Sends, Interrupts, Resets, SaysReady, SaysNotReady, outcome, pulled}
 use Rattle.x25_circuit.proofs.RowStates.{dce, still, opened, talk, zeros}
 
 abbrev refused_parameter : CircuitError

@@ -2,12 +2,12 @@
 use Rattle.std.proofs.Common.{◌≡◌, [], ◌∷◌, Some, None, true, false, refl}
 use Rattle.x25_packet.specs.declared.error.PacketError.TheVariants.{TooShort, BadFormat, Unidentified, TooLong, BadDigit, BadFacility, BadParameter}
 use Rattle.x25_packet.specs.Facilities.{facilities_of}
-use Rattle.x25_packet.specs.PlainPacket.{call, accept, clear, clear_conf, user_data, rr, rnr, interrupt, interrupt_conf, reset, reset_conf}
+use Rattle.x25_packet.specs.Packet.{call, accept, clear, clear_conf, user_data, rr, rnr, interrupt, interrupt_conf, reset, reset_conf}
 use Rattle.x25_circuit.specs.declared.state.State.TheVariants.{Free, Calling, Arriving, Collision, Open, Resetting, Clearing}
 use Rattle.x25_circuit.specs.Params.{default_params}
-use Rattle.x25_circuit.specs.Messages.{More, Last}
-use Rattle.x25_circuit.specs.Notices.{incoming, connected, cleared, clear_done, was_reset, reset_done, delivered, interrupted, interrupt_done, fault}
-use Rattle.x25_circuit.specs.Table.{answers, undecoded}
+use Rattle.x25_circuit.specs.Message.{More, Last}
+use Rattle.x25_circuit.specs.Notice.{incoming, connected, cleared, clear_done, was_reset, reset_done, delivered, interrupted, interrupt_done, fault}
+use Rattle.x25_circuit.specs.Hearing.{answers, undecoded}
 use Rattle.x25_circuit.proofs.RowStates.{dte, dialled, still, opened, talk, gives, zeros}
 
 dte_p1_packets :

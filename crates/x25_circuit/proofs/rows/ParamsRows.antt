@@ -1,17 +1,17 @@
 -- Worked rows of negotiated packet sizes and windows, on the definition.
 use Rattle.std.proofs.Common.{◌≡◌, ℕ, List, [], ◌∷◌, Some, None, Bool, true, false, refl}
 use Rattle.x25_packet.specs.Facilities.{facilities_of}
-use Rattle.x25_packet.specs.PlainPacket.{PlainPacket, call, accept, clear, user_data}
+use Rattle.x25_packet.specs.Packet.{PlainPacket, call, accept, clear, user_data}
 use Rattle.x25_circuit.specs.declared.error.CircuitError.TheVariants.{BadParameter}
 use Rattle.x25_circuit.specs.declared.params.Params.{Params}
 use Rattle.x25_circuit.specs.declared.state.State.{State}
 use Rattle.x25_circuit.specs.declared.state.State.TheVariants.{Free, Calling, Arriving, Collision, Open, Clearing}
 use Rattle.x25_circuit.specs.Params.{may_answer}
-use Rattle.x25_circuit.specs.Messages.{More, Last}
+use Rattle.x25_circuit.specs.Message.{More, Last}
 use Rattle.x25_circuit.specs.Circuit.{Circuit, Talk, silent}
-use Rattle.x25_circuit.specs.Notices.{PlainNotice, incoming, connected, collided, fault}
-use Rattle.x25_circuit.specs.Calls.{Done, Refused, Calls, Accepts, Sends, outcome, pulled}
-use Rattle.x25_circuit.specs.Table.{answers}
+use Rattle.x25_circuit.specs.Notice.{PlainNotice, incoming, connected, collided, fault}
+use Rattle.x25_circuit.specs.Calling.{Done, Refused, Calls, Accepts, Sends, outcome, pulled}
+use Rattle.x25_circuit.specs.Hearing.{answers}
 use Rattle.x25_circuit.proofs.RowStates.{dte, dce, still, talk, gives, zeros}
 
 -- sizes of the called and of the calling end, then their windows

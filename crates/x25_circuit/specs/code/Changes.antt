@@ -1,6 +1,6 @@
 -- A talk with one part changed.
 use Rattle.std.specs.Prelude.{ℕ, List, [], ◌∷◌, ◌++◌, Bool}
-use Rattle.x25_circuit.specs.Messages.{Piece}
+use Rattle.x25_circuit.specs.Message.{Piece}
 use Rattle.x25_circuit.specs.Circuit.{Talk}
 
 abbrev pub with_acked : ℕ → Talk → Talk

@@ -1,7 +1,7 @@
 -- What contracts see of a message while it is cut.
 use Rattle.std.specs.Prelude.{ℕ, Bool, false, nat_le, if◌then◌else◌, List, [], ◌∷◌, length, take, drop}
 use Rattle.x25_circuit.specs.declared.message.Message.{Message}
-use Rattle.x25_circuit.specs.Messages.{Piece, More, Last, piece_of}
+use Rattle.x25_circuit.specs.Message.{Piece, More, Last, piece_of}
 
 -- what is left of it, where something is, and the user data of the packet that was cut off last
 pub record ShownCutter : Type 0 where

@@ -1,12 +1,12 @@
 -- Which states of the definition a circuit's variables stand for.
 use Rattle.std.specs.Prelude.{◌≡◌, ℕ, ◌+◌, ◌≤◌, ◌%◌, ◌⊎◌, List, [], ◌∷◌, length, nat_lt, nat_le, if◌then◌else◌, ◌&&◌, true, false}
-use Rattle.x25_window.specs.Modulo.{resolved}
-use Rattle.x25_window.specs.Receiving.{FitsTaken}
+use Rattle.x25_window.specs.code.Modulo.{resolved}
+use Rattle.x25_window.specs.Receiver.{FitsTaken}
 use Rattle.x25_circuit.specs.declared.transfer.Transfer.{Transfer}
 use Rattle.x25_circuit.specs.declared.transfer.Header.{Header}
 use Rattle.x25_circuit.specs.code.FitsNumbers.{FitsNumbers}
 use Rattle.x25_circuit.specs.code.Changes.{with_sent}
-use Rattle.x25_circuit.specs.Messages.{Piece, piece_of, no_part, joining, cut_all}
+use Rattle.x25_circuit.specs.Message.{Piece, piece_of, no_part, joining, cut_all}
 use Rattle.x25_circuit.specs.Queue.{waiting}
 use Rattle.x25_circuit.specs.Circuit.{Talk}
 

@@ -1,12 +1,12 @@
 -- Which states of the definition a circuit stands for, and what its calls mean.
 use Rattle.std.specs.Prelude.{◌≡◌, ℕ, List, [], Some, None, Result, Err, IsOkAnd}
 use Rattle.x25_packet.specs.declared.packet.Packet.{Packet}
-use Rattle.x25_packet.specs.PlainPacket.{PlainPacket, plain, user_data}
+use Rattle.x25_packet.specs.Packet.{PlainPacket, plain, user_data}
 use Rattle.x25_circuit.specs.declared.circuit.Circuit as code
 use Rattle.x25_circuit.specs.declared.error.CircuitError.{CircuitError}
 use Rattle.x25_circuit.specs.Circuit.{Settings, Circuit, outgoing}
 use Rattle.x25_circuit.specs.code.Fits.{FitsTalk}
-use Rattle.x25_circuit.specs.Calls.{Outcome, Done, Refused}
+use Rattle.x25_circuit.specs.Calling.{Outcome, Done, Refused}
 
 pub record FitsCircuit (c : Settings) (v : code.Circuit) (x : Circuit) : Type 0 where
   pub role : v.role ≡ c.role

@@ -1,6 +1,6 @@
 -- What a sender counts.
 use Rattle.std.specs.Prelude.{◌≡◌, ℕ, length}
-use Rattle.x25_window.specs.Sending.{Sending}
+use Rattle.x25_window.specs.Sender.{Sending}
 use Rattle.x25_window.specs.code.Held.{Held, Fits}
 
 -- the sender has room for seven packets, and counts those sent and those acknowledged

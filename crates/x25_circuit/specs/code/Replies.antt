@@ -1,14 +1,14 @@
 -- What a reply says, as values alone, and that it is the answer of the table.
 use Rattle.std.specs.Prelude.{◌≡◌, ℕ, Bool, true, false, List, [], ◌∷◌, Option, Some, None}
 use Rattle.x25_packet.specs.declared.packet.Packet.{Packet}
-use Rattle.x25_packet.specs.PlainPacket.{PlainPacket, plain, clear, clear_conf, rr, rnr, interrupt_conf, reset, reset_conf}
+use Rattle.x25_packet.specs.Packet.{PlainPacket, plain, clear, clear_conf, rr, rnr, interrupt_conf, reset, reset_conf}
 use Rattle.x25_packet.specs.Spelling.{IsInRange}
 use Rattle.x25_circuit.specs.declared.notice.Notice.{Notice}
 use Rattle.x25_circuit.specs.declared.notice.Notice.TheVariants as code
 use Rattle.x25_circuit.specs.declared.notice.Reply.{Reply}
 use Rattle.x25_circuit.specs.declared.owed.Owed.{Owed}
 use Rattle.x25_circuit.specs.declared.owed.Owed.TheVariants as owing
-use Rattle.x25_circuit.specs.Notices.{PlainNotice, incoming, connected, collided, cleared, clear_done, was_reset, reset_done, delivered, interrupted, interrupt_done, fault}
+use Rattle.x25_circuit.specs.Notice.{PlainNotice, incoming, connected, collided, cleared, clear_done, was_reset, reset_done, delivered, interrupted, interrupt_done, fault}
 
 abbrev pub plain_notice : Notice → PlainNotice
 plain_notice (code.Incoming called calling user params) = incoming (record { called = called; calling = calling; user = user.now; params = params })

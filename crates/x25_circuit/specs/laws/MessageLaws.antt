@@ -1,6 +1,6 @@
 -- Messages are carried by their packets, whoever cut them. ITU-T X.25 (10/96), sections 4.3.4 to 4.3.6.
 use Rattle.std.specs.Prelude.{◌≡◌, ℕ, ◌≤◌, List, [], ◌∷◌, ◌++◌, length, Bool}
-use Rattle.x25_circuit.specs.Messages.{Piece, no_part, joining, completed, carried, AreSound, cut}
+use Rattle.x25_circuit.specs.Message.{Piece, no_part, joining, completed, carried, AreSound, cut}
 
 -- no message has begun and not ended behind these packets
 abbrev pub IsWhole : List Piece → Type 0

@@ -5,7 +5,7 @@ use Rattle.x25_io.specs.HeldLine.{HoldsLine}
 use Rattle.x25_io.specs.declared.held_line.HeldLine.{HeldLine}
 use Rattle.x25_io.specs.Lines.{IsOpen}
 use Rattle.x25_io.specs.code.Written.{Tells}
-use Rattle.x25_decode.specs.Decoded.{output_of, has_refused}
+use Rattle.x25_decode.specs.Decoding.{output_of, has_refused}
 use Rattle.x25_decode.specs.declared.decoder.Decoder.{Decoder}
 
 -- The writer held `old` at first and holds `now`, and `text` waits. `held` is what is held of the line that has begun. With `rest` to come

@@ -1,10 +1,10 @@
 -- What octets read as, and the grammar of frames.
 use Rattle.std.specs.Prelude.{◌≡◌, ◌<◌, ◌↔◌, ℕ, List, All, Ok, Err}
 use Rattle.x25_bits.specs.declared.role.Role.{Role}
-use Rattle.x25_frame.specs.PlainFrame.{PlainFrame}
+use Rattle.x25_frame.specs.Frame.{PlainFrame}
 use Rattle.x25_frame.specs.Spelling.{Spells}
 use Rattle.x25_frame.specs.Reading.{frame_of}
-use Rattle.x25_frame.specs.FrameError.{IsFirstError}
+use Rattle.x25_frame.specs.Error.{IsFirstError}
 use Rattle.x25_frame.specs.declared.error.FrameError.{FrameError}
 
 -- octets that spell a frame are read as that frame

@@ -3,18 +3,18 @@ use Rattle.std.specs.Prelude.{◌≡◌, ◌≤◌, ℕ, true, List, [], ◌∷�
 use Rattle.x25_bits.specs.Role.{other}
 use Rattle.x25_bits.specs.declared.role.Role.{Role}
 use Rattle.x25_bits.specs.declared.role.Role.TheVariants.{Dte, Dce}
-use Rattle.x25_handshakes.specs.Names.{Name}
+use Rattle.x25_handshakes.specs.laws.Names.{Name}
 use Rattle.x25_layer.specs.laws.Law.{HandsUpLawfully, HasAllOf}
-use Rattle.x25_layer.specs.Transcript.{Entry}
+use Rattle.x25_layer.specs.laws.Transcript.{Entry}
 use Rattle.x25_station.specs.declared.config.Cfg.{Cfg}
-use Rattle.x25_station.specs.Entries.{StationEntry, layer_entries}
-use Rattle.x25_station.specs.Settings.{settings_from, config_refusal}
+use Rattle.x25_station.specs.Entry.{StationEntry, layer_entries}
+use Rattle.x25_station.specs.Config.{settings_from, config_refusal}
 use Rattle.x25_station.specs.Station.{Station}
-use Rattle.x25_station.specs.Told.{is_idle, stretch}
+use Rattle.x25_station.specs.Station.Told.{is_idle, stretch}
 use Rattle.x25_world.specs.World as world
 use Rattle.x25_world.specs.World.{OnTap, World, AreAccepted, start}
 use Rattle.x25_world.specs.laws.Claims.{AreInOctets, station_at, entries_at, ups_in}
-use Rattle.x25_joined.specs.Joined.{Joined, Happening, nothing_read, run, ArePossible, written, station_of, entries_in, frames_in}
+use Rattle.x25_joined.specs.laws.Joined.{Joined, Happening, nothing_read, run, ArePossible, written, station_of, entries_in, frames_in}
 
 -- ---- the program of an end
 

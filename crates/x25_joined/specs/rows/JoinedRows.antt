@@ -1,13 +1,13 @@
 -- Worked rows of two joined programs: what they read, and what they write.
 use Rattle.std.specs.Prelude.{◌≡◌, ℕ, true, false, List, [], ◌∷◌, ◌++◌, Some, codes}
 use Rattle.x25_bits.specs.declared.role.Role.TheVariants.{Dte, Dce}
-use Rattle.x25_handshakes.specs.Names.{Name}
-use Rattle.x25_layer.specs.Transcript.{under, messages_in}
+use Rattle.x25_handshakes.specs.laws.Names.{Name}
+use Rattle.x25_layer.specs.laws.Transcript.{under, messages_in}
 use Rattle.x25_station.specs.declared.config.Cfg.{Cfg}
-use Rattle.x25_station.specs.Settings.{settings_from}
-use Rattle.x25_station.specs.Told.{is_idle, stretch}
-use Rattle.x25_pipe.specs.Piped.{station_text}
-use Rattle.x25_joined.specs.Joined.{Joined, Act, Reads, Takes, Loses, Damages, Happening, nothing_read, run, IsPossibleAt, ArePossible}
+use Rattle.x25_station.specs.Config.{settings_from}
+use Rattle.x25_station.specs.Station.Told.{is_idle, stretch}
+use Rattle.x25_pipe.specs.Pipe.{station_text}
+use Rattle.x25_joined.specs.laws.Joined.{Joined, Act, Reads, Takes, Loses, Damages, Happening, nothing_read, run, IsPossibleAt, ArePossible}
 use Rattle.x25_joined.specs.laws.JoinedClaims.{station_by, handed_by}
 
 abbrev pub usual : Cfg

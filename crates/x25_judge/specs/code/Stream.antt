@@ -4,7 +4,7 @@ use Rattle.std.specs.Io.KnownBytes.{Appends}
 use Rattle.x25_io.specs.Lines.{lines_of}
 use Rattle.x25_io.specs.code.LinesLead.{LinesEnded}
 use Rattle.x25_io.specs.code.Written.{Tells}
-use Rattle.x25_judge.specs.Judged.{output_of, text_of, has_fault}
+use Rattle.x25_judge.specs.Judge.{output_of, text_of, has_fault}
 use Rattle.x25_judge.specs.declared.answerer.Answerer.{Answerer}
 use Rattle.x25_judge.specs.declared.judge.Judge.{Judge}
 

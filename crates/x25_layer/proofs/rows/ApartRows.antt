@@ -1,13 +1,13 @@
 -- Worked runs of two layers, each end by itself, computed on the definitions.
 use Rattle.std.proofs.Common.{◌≡◌, List, [], ◌∷◌, ◌++◌, None, true, false, refl}
-use Rattle.x25_packet.specs.PlainPacket.{call, accept, restart}
+use Rattle.x25_packet.specs.Packet.{call, accept, restart}
 use Rattle.x25_packet.specs.Facilities.{facilities_of}
 use Rattle.x25_circuit.specs.Params.{default_params}
-use Rattle.x25_circuit.specs.Notices.{connected}
-use Rattle.x25_circuit.specs.Calls.{Request, Calls, Accepts}
+use Rattle.x25_circuit.specs.Notice.{connected}
+use Rattle.x25_circuit.specs.Calling.{Request, Calls, Accepts}
 use Rattle.x25_layer.specs.Layer.{on_channel, restarted}
 use Rattle.x25_layer.specs.Calls.{Asks}
-use Rattle.x25_layer.specs.Apart.{OwnMove, Requests, Pulls, Takes, GoesDown, Ends, ApartEvent, apart_run, apart_start, AreInOrder}
+use Rattle.x25_layer.specs.laws.Apart.{OwnMove, Requests, Pulls, Takes, GoesDown, Ends, ApartEvent, apart_run, apart_start, AreInOrder}
 
 abbrev by_dte : OwnMove → ApartEvent
 by_dte what = record { first = true; what = what }

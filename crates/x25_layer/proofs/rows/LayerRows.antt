@@ -1,23 +1,23 @@
 -- Worked runs of two layers, computed on the definitions.
 use Rattle.std.proofs.Common.{◌≡◌, ℕ, ◌+◌, List, [], ◌∷◌, ◌++◌, length, Some, None, Bool, true, false, refl}
 use Rattle.x25_bits.specs.declared.role.Role.TheVariants.{Dte, Dce}
-use Rattle.x25_packet.specs.PlainPacket.{call, accept, user_data, restart, restart_conf}
+use Rattle.x25_packet.specs.Packet.{call, accept, user_data, restart, restart_conf}
 use Rattle.x25_packet.specs.Facilities.{facilities_of}
 use Rattle.x25_circuit.specs.declared.error.CircuitError.TheVariants as circuit
 use Rattle.x25_circuit.specs.declared.state.State.TheVariants.{Calling, Open}
 use Rattle.x25_circuit.specs.declared.params.Params.{Params}
 use Rattle.x25_circuit.specs.Params.{default_params}
-use Rattle.x25_circuit.specs.Messages.{Last}
+use Rattle.x25_circuit.specs.Message.{Last}
 use Rattle.x25_circuit.specs.Circuit.{Circuit, begun, entered, waits}
-use Rattle.x25_circuit.specs.Notices.{CallRequest, incoming, connected, collided, cleared, clear_done, was_reset, delivered}
-use Rattle.x25_circuit.specs.Calls.{Request, Calls, Accepts, Clears, Sends, Resets, SaysReady, SaysNotReady}
-use Rattle.x25_handshakes.specs.Names.{Name}
+use Rattle.x25_circuit.specs.Notice.{CallRequest, incoming, connected, collided, cleared, clear_done, was_reset, delivered}
+use Rattle.x25_circuit.specs.Calling.{Request, Calls, Accepts, Clears, Sends, Resets, SaysReady, SaysNotReady}
+use Rattle.x25_handshakes.specs.laws.Names.{Name}
 use Rattle.x25_layer.specs.declared.error.LayerError.TheVariants as error
 use Rattle.x25_layer.specs.Layer.{LayerSettings, Layer, on_channel, restarted, is_ready, layer_answers}
 use Rattle.x25_layer.specs.Calls.{Asks, Dials, Restarts, PullsAll, layer_pulled}
 use Rattle.x25_layer.specs.Rounds.{LinkView, Went, Refuses, calls, rounds, begin}
-use Rattle.x25_layer.specs.Transcript.{Entry, Said, Asked, Told}
-use Rattle.x25_layer.specs.TwoLayers.{TwoLayers, Move, Requests, Pulls, HandsUp, Event, settings_of, run, start}
+use Rattle.x25_layer.specs.laws.Transcript.{Entry, Said, Asked, Told}
+use Rattle.x25_layer.specs.laws.TwoLayers.{TwoLayers, Move, Requests, Pulls, HandsUp, Event, settings_of, run, start}
 
 abbrev by_dte : Move → Event
 by_dte move = record { first = true; what = move }

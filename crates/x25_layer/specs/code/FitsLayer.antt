@@ -4,11 +4,11 @@ use Rattle.x25_circuit.specs.declared.circuit.Circuit as circuit_code
 use Rattle.x25_circuit.specs.declared.params.Params.{Params}
 use Rattle.x25_circuit.specs.Circuit.{Circuit, is_open, waits}
 use Rattle.x25_circuit.specs.code.FitsCircuit.{FitsCircuit}
-use Rattle.x25_handshakes.specs.Names.{Name}
+use Rattle.x25_handshakes.specs.laws.Names.{Name}
 use Rattle.x25_layer.specs.declared.layer.Layer as code
 use Rattle.x25_layer.specs.declared.stretch.Stretch.{Stretch}
 use Rattle.x25_layer.specs.Layer.{LayerSettings, Layer, is_channel}
-use Rattle.x25_layer.specs.Transcript.{name_of}
+use Rattle.x25_layer.specs.laws.Transcript.{name_of}
 
 -- each of these circuits fits the one of its channel; the first is on channel 1
 abbrev pub FitsCircuits : LayerSettings → List circuit_code.Circuit → (ℕ → Circuit) → Type 0

@@ -1,12 +1,12 @@
 -- What holds of two layers of which each end is by itself, and of one such end whatever its link hands up.
 use Rattle.std.specs.Prelude.{◌≡◌, ℕ, List, [], ◌∷◌, ◌++◌, Bool, true, option_to_list}
 use Rattle.x25_bits.specs.declared.role.Role.TheVariants.{Dte, Dce}
-use Rattle.x25_packet.specs.PlainPacket.{PlainPacket}
+use Rattle.x25_packet.specs.Packet.{PlainPacket}
 use Rattle.x25_circuit.specs.Circuit.{is_free}
 use Rattle.x25_layer.specs.Layer.{LayerSettings, LayerNotice, restarted, goes_up}
 use Rattle.x25_layer.specs.laws.Law.{IsQuietEnd}
-use Rattle.x25_layer.specs.TwoLayers.{End, TwoLayers, settings_of, run, start, started}
-use Rattle.x25_layer.specs.Apart.{OwnMove, GoesDown, own_moves, own_run, Ends, ApartEvent, apart_run, apart_start, near_moves, far_moves, AreInOrder, all_over_links, as_world}
+use Rattle.x25_layer.specs.laws.TwoLayers.{End, TwoLayers, settings_of, run, start, started}
+use Rattle.x25_layer.specs.laws.Apart.{OwnMove, GoesDown, own_moves, own_run, Ends, ApartEvent, apart_run, apart_start, near_moves, far_moves, AreInOrder, all_over_links, as_world}
 
 -- events in order lead where the same events lead two layers over links
 abbrev pub IsOverLinks : Bool → ℕ → Type 0

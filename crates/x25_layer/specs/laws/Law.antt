@@ -1,11 +1,11 @@
 -- What holds of two layers over links that keep order, after any events.
 use Rattle.std.specs.Prelude.{◌≡◌, Bool, ℕ, ◌≤◌, List, ◌++◌, length, true}
 use Rattle.x25_circuit.specs.Circuit.{is_open, waits}
-use Rattle.x25_handshakes.specs.Names.{Name}
-use Rattle.x25_handshakes.specs.Histories.{IsPrefix}
-use Rattle.x25_layer.specs.Quiet.{AreQuiet, AreNoFaults}
-use Rattle.x25_layer.specs.Transcript.{Entry, under, calls_in, messages_in, interrupts_in, name_of}
-use Rattle.x25_layer.specs.TwoLayers.{End, TwoLayers, Event, run, start}
+use Rattle.x25_handshakes.specs.laws.Names.{Name}
+use Rattle.x25_handshakes.specs.laws.Histories.{IsPrefix}
+use Rattle.x25_layer.specs.laws.Quiet.{AreQuiet, AreNoFaults}
+use Rattle.x25_layer.specs.laws.Transcript.{Entry, under, calls_in, messages_in, interrupts_in, name_of}
+use Rattle.x25_layer.specs.laws.TwoLayers.{End, TwoLayers, Event, run, start}
 
 -- whatever happened to two ends
 abbrev pub Always : (TwoLayers → Type 0) → Bool → ℕ → Type 0

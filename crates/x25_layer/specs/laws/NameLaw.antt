@@ -1,13 +1,13 @@
 -- The name of a stretch is what the user was told: the restarts, clears and resets that the notices tell of. And no CLEAR comes in p1,
 -- which would count and tell nothing.
 use Rattle.std.specs.Prelude.{◌≡◌, ℕ, suc, List, [], ◌∷◌, ◌==◌, false, if◌then◌else◌}
-use Rattle.x25_packet.specs.PlainPacket.{PlainPacket, clear}
+use Rattle.x25_packet.specs.Packet.{PlainPacket, clear}
 use Rattle.x25_circuit.specs.Circuit.{is_free}
-use Rattle.x25_circuit.specs.Notices.{PlainNotice, cleared, clear_done, was_reset, reset_done}
-use Rattle.x25_handshakes.specs.Names.{Name}
+use Rattle.x25_circuit.specs.Notice.{PlainNotice, cleared, clear_done, was_reset, reset_done}
+use Rattle.x25_handshakes.specs.laws.Names.{Name}
 use Rattle.x25_layer.specs.Layer.{LayerNotice, on_channel, restarted, restart_done}
-use Rattle.x25_layer.specs.Transcript.{name_of}
-use Rattle.x25_layer.specs.TwoLayers.{End, TwoLayers}
+use Rattle.x25_layer.specs.laws.Transcript.{name_of}
+use Rattle.x25_layer.specs.laws.TwoLayers.{End, TwoLayers}
 
 -- ---- names
 

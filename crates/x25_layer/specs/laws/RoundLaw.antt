@@ -1,12 +1,12 @@
 -- Each call of a layer is a run: the step of the call, and then pulls of configured channels.
 use Rattle.std.specs.Prelude.{◌≡◌, ℕ, List, [], ◌∷◌, ◌++◌, Ok, true, false, ◌==◌}
-use Rattle.x25_packet.specs.PlainPacket.{PlainPacket}
+use Rattle.x25_packet.specs.Packet.{PlainPacket}
 use Rattle.x25_packet.specs.Reading.{packet_of}
 use Rattle.x25_packet.specs.Spelling.{longest_user}
 use Rattle.x25_layer.specs.Layer.{LayerSettings, is_channel, goes_up}
 use Rattle.x25_layer.specs.Calls.{LayerRequest}
 use Rattle.x25_layer.specs.Rounds.{LinkView, Putting, begin, round, rounds, Went, calls, hears, comes_up}
-use Rattle.x25_layer.specs.TwoLayers.{TwoLayers, Move, Requests, Pulls, HandsUp, moves}
+use Rattle.x25_layer.specs.laws.TwoLayers.{TwoLayers, Move, Requests, Pulls, HandsUp, moves}
 
 -- moves of the near end, one after another
 abbrev pub moves_all : LayerSettings → TwoLayers → List Move → TwoLayers

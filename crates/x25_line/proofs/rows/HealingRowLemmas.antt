@@ -1,15 +1,15 @@
 -- Worked moments of healing, and what isn't so, by computing.
 use Rattle.std.proofs.Common.{◌≡◌, ℕ, true, false, List, [], ◌∷◌, inl, inr, Ok, refl, sym, subst, arith}
 use Rattle.x25_bits.specs.declared.role.Role.TheVariants.{Dte, Dce}
-use Rattle.x25_frame.specs.PlainFrame.{PlainFrame, info, rr}
+use Rattle.x25_frame.specs.Frame.{PlainFrame, info, rr}
 use Rattle.x25_frame.specs.Spelling.{spelling_of}
 use Rattle.x25_frame.specs.Reading.{frame_of}
 use Rattle.x25_frame.specs.laws.ReadingLaw.{ReadsSpelled}
-use Rattle.x25_link.specs.LinkStation.{is_up, pumped}
-use Rattle.x25_link.specs.Steps.{timer_runs}
-use Rattle.x25_line.specs.Stations.{StationEnd, Stations, Put, Deliver, T1, Disconnect, Abandon, Lose, Event, Near, Far, swapped, happens, run, start}
+use Rattle.x25_link.specs.Station.{is_up, pumped}
+use Rattle.x25_link.specs.Link.{timer_runs}
+use Rattle.x25_line.specs.laws.Stations.{StationEnd, Stations, Put, Deliver, T1, Disconnect, Abandon, Lose, Event, Near, Far, swapped, happens, run, start}
 use Rattle.x25_line.specs.Healing.{IsDrained, IsAtRestOrOut, both_lost, BothLostMayHeal}
-use Rattle.x25_line.specs.HealingPuts.{AreFree, FreeThroughout, near_lost, OnePutArrives}
+use Rattle.x25_line.specs.laws.HealingPuts.{AreFree, FreeThroughout, near_lost, OnePutArrives}
 use Rattle.x25_line.specs.rows.StationRows.{dte, dce}
 use Rattle.x25_line.specs.rows.HealingRows.{NoFiringIsTooFew, OneFiringIsTooFew, NoTriesAreLeft, FiringsAloneEnd, PutToGoneStays, BothBusyIsReached, OneBusyIsReached}
 use Rattle.x25_line.proofs.StationSteps.{not_both}

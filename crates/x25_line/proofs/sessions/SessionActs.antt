@@ -2,7 +2,7 @@
 -- and abandon.
 use Rattle.std.proofs.Common.{◌≡◌, ◌≤◌, ℕ, suc, ◌+◌, List, [], ◌∷◌, length, Bool, true, false, if◌then◌else◌, Option, Some, None, Err, refl, sym, ap, ◌∙◌, subst, arith}
 use Rattle.std.specs.Prelude.{nat_lt}
-use Rattle.x25_frame.specs.PlainFrame.{sabm, disc}
+use Rattle.x25_frame.specs.Frame.{sabm, disc}
 use Rattle.x25_frame.specs.laws.ReadingLaw.{ReadsSpelled}
 use Rattle.x25_frame.specs.declared.error.FrameError.TheVariants.{Short}
 use Rattle.x25_link.specs.declared.error.LinkError.TheVariants as error
@@ -10,16 +10,16 @@ use Rattle.x25_link.specs.declared.phase.Phase.{Phase}
 use Rattle.x25_link.specs.declared.phase.Phase.TheVariants.{Down, Waiting, Up, Closed}
 use Rattle.x25_link.specs.declared.phase.Reason.{Reason}
 use Rattle.x25_link.specs.declared.phase.Reason.TheVariants.{Retries, Local, Counts}
-use Rattle.x25_link.specs.SetUp.{Is}
-use Rattle.x25_link.specs.LinkStation.{Settings, LinkStation, is_up, with_nothing}
-use Rattle.x25_link.specs.MustSend.{Step, other}
-use Rattle.x25_link.specs.Steps.{put_step, timer_step, connect_step, disconnect_step, disconnect_refusal, abandon_step}
-use Rattle.x25_link.specs.WindowMachine.{hands_down, nothing}
+use Rattle.x25_link.specs.laws.SetUp.{Is}
+use Rattle.x25_link.specs.Station.{Settings, LinkStation, is_up, with_nothing}
+use Rattle.x25_link.specs.Hearing.{Step, other}
+use Rattle.x25_link.specs.Link.{put_step, timer_step, connect_step, disconnect_step, disconnect_refusal, abandon_step}
+use Rattle.x25_link.specs.laws.WindowMachine.{hands_down, nothing}
 use Rattle.x25_link.specs.laws.WindowLaw.{IsRunning, IsSound, IsOut, Ends}
-use Rattle.x25_line.specs.Stations as one
+use Rattle.x25_line.specs.laws.Stations as one
 use Rattle.x25_line.specs.laws.StationClaims.{AreJoined}
-use Rattle.x25_line.specs.SessionNumbers.{Standing}
-use Rattle.x25_line.specs.Sessions.{Entry, Meeting, Sessions, sabm_in, ua_in, disc_in, how_many, begun_by, after_step}
+use Rattle.x25_line.specs.laws.SessionNumbers.{Standing}
+use Rattle.x25_line.specs.laws.Sessions.{Entry, Meeting, Sessions, sabm_in, ua_in, disc_in, how_many, begun_by, after_step}
 use Rattle.x25_line.specs.laws.LawsBelow.{Laws}
 use Rattle.x25_line.proofs.StationLines.{AreParting}
 use Rattle.x25_line.proofs.StationSteps.{AsUp, Leads, not_both, ends_joint}

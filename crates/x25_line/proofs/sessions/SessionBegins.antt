@@ -1,16 +1,16 @@
 -- A SABM that comes to an end that isn't Closed begins two sessions, and keeps what holds of two stations.
 use Rattle.std.proofs.Common.{◌≡◌, ◌≤◌, ◌<◌, ℕ, suc, ◌+◌, List, [], ◌∷◌, ◌++◌, inl, inr, map, Bool, None, Ok, refl, sym, ap, ◌∙◌, subst, arith}
 use Rattle.x25_bits.specs.declared.role.Role.{Role}
-use Rattle.x25_frame.specs.PlainFrame.{PlainFrame, ua}
+use Rattle.x25_frame.specs.Frame.{PlainFrame, ua}
 use Rattle.x25_frame.specs.Spelling.{spelling_of}
 use Rattle.x25_frame.specs.Reading.{frame_of}
 use Rattle.x25_frame.specs.laws.ReadingLaw.{ReadsSpelled}
-use Rattle.x25_link.specs.LinkStation.{Settings, is_up, fresh}
-use Rattle.x25_link.specs.MustSend.{Step, other}
-use Rattle.x25_line.specs.Stations.{start}
+use Rattle.x25_link.specs.Station.{Settings, is_up, fresh}
+use Rattle.x25_link.specs.Hearing.{Step, other}
+use Rattle.x25_line.specs.laws.Stations.{start}
 use Rattle.x25_line.specs.laws.StationClaims.{AreJoined, NoFrmr, numbered_on}
-use Rattle.x25_line.specs.Sessions.{Entry, SessionEnd, Sessions, sabm_in, ua_in, disc_in, how_many, sent_in}
-use Rattle.x25_line.specs.SessionNumbers.{Standing, anew}
+use Rattle.x25_line.specs.laws.Sessions.{Entry, SessionEnd, Sessions, sabm_in, ua_in, disc_in, how_many, sent_in}
+use Rattle.x25_line.specs.laws.SessionNumbers.{Standing, anew}
 use Rattle.x25_line.specs.laws.SessionClaims.{octets_of}
 use Rattle.x25_line.proofs.StationLines.{AreOrderly, orderly_append, AreParting, no_frmr_append, parting_numbered, parting_orderly, parting_whole}
 use Rattle.x25_line.proofs.StationRuns.{start_machine}

@@ -1,21 +1,21 @@
 -- A frame on the line to the near end is lost or damaged, which keeps what holds of two stations.
 use Rattle.std.proofs.Common.{Option, None, length, ◌≡◌, ◌≤◌, ℕ, zero, suc, List, [], ◌∷◌, ◌++◌, ◌⊎◌, inl, inr, remove, true, false, refl, sym, ap, ◌∙◌, subst, arith}
 use Rattle.x25_bits.specs.declared.role.Role.{Role}
-use Rattle.x25_frame.specs.PlainFrame.{PlainFrame}
+use Rattle.x25_frame.specs.Frame.{PlainFrame}
 use Rattle.x25_frame.specs.Reading.{frame_of}
 use Rattle.x25_frame.specs.laws.ReadingLaw.{ReadsSpelled}
 use Rattle.x25_link.specs.declared.phase.Phase.{Phase}
 use Rattle.x25_link.specs.declared.phase.Phase.TheVariants.{Down, Waiting, Up, Closed}
-use Rattle.x25_link.specs.LinkStation.{Settings, is_up}
-use Rattle.x25_link.specs.MustSend.{other}
-use Rattle.x25_link.specs.WindowMachine.{ShowAll}
-use Rattle.x25_line.specs.Line.{Line}
-use Rattle.x25_line.specs.Stations.{Stations, is_visible}
+use Rattle.x25_link.specs.Station.{Settings, is_up}
+use Rattle.x25_link.specs.Hearing.{other}
+use Rattle.x25_link.specs.laws.WindowMachine.{ShowAll}
+use Rattle.x25_line.specs.laws.Line.{Line}
+use Rattle.x25_line.specs.laws.Stations.{Stations, is_visible}
 use Rattle.x25_line.specs.laws.StationClaims.{AreJoined, numbered_on}
-use Rattle.x25_line.specs.WholeNumbers.{given, behind, taken_out, counted}
-use Rattle.x25_line.specs.Sessions.{Entry, Sessions, ua_in, how_many, replaced}
+use Rattle.x25_line.specs.laws.WholeNumbers.{given, behind, taken_out, counted}
+use Rattle.x25_line.specs.laws.Sessions.{Entry, Sessions, ua_in, how_many, replaced}
 use Rattle.x25_line.specs.laws.SessionClaims.{octets_of}
-use Rattle.x25_line.specs.SessionNumbers.{Standing, by_answers, place_to_hear, standing_after}
+use Rattle.x25_line.specs.laws.SessionNumbers.{Standing, by_answers, place_to_hear, standing_after}
 use Rattle.x25_line.specs.laws.LawsBelow.{Laws}
 use Rattle.x25_line.proofs.StationSteps.{Joint, Leads, counted_fits, nothing_put, stands_still, not_both}
 use Rattle.x25_line.proofs.StationRuns.{taken_off}

@@ -1,24 +1,24 @@
 -- What one event does to the sessions of two link stations, by cases of the event.
 use Rattle.std.proofs.Common.{◌≡◌, ◌<◌, ◌⊎◌, ℕ, suc, List, [], ◌∷◌, length, map, inl, inr, Bool, true, false, if◌then◌else◌, Option, Some, None, Ok, Err, refl, sym, ap, ◌∙◌, subst, arith, append-nil}
 use Rattle.std.specs.Prelude.{nat_le, option_to_list}
-use Rattle.x25_frame.specs.PlainFrame.{PlainFrame, info, rr, rnr, rej, sabm, disc, ua, dm, frmr}
+use Rattle.x25_frame.specs.Frame.{PlainFrame, info, rr, rnr, rej, sabm, disc, ua, dm, frmr}
 use Rattle.x25_frame.specs.laws.ReadingLaw.{ReadsSpelled}
 use Rattle.x25_link.specs.declared.error.LinkError.{LinkError}
 use Rattle.x25_link.specs.declared.phase.Notes.{Notes}
 use Rattle.x25_link.specs.declared.phase.Reason.{Reason}
 use Rattle.x25_link.specs.declared.phase.Reason.TheVariants.{FrmrSent}
 use Rattle.x25_link.specs.laws.NoteLaw.{Tells, HandsUp, TakeHandsUp}
-use Rattle.x25_link.specs.LinkStation.{Settings, LinkStation, is_up}
-use Rattle.x25_link.specs.MustSend.{Step, other}
-use Rattle.x25_link.specs.Steps.{take_step, put_step, put_refusal, timer_step, timer_refusal, connect_step, connect_refusal, disconnect_step, disconnect_refusal, abandon_step}
-use Rattle.x25_link.specs.WindowMachine.{Window, Input}
+use Rattle.x25_link.specs.Station.{Settings, LinkStation, is_up}
+use Rattle.x25_link.specs.Hearing.{Step, other}
+use Rattle.x25_link.specs.Link.{take_step, put_step, put_refusal, timer_step, timer_refusal, connect_step, connect_refusal, disconnect_step, disconnect_refusal, abandon_step}
+use Rattle.x25_link.specs.laws.WindowMachine.{Window, Input}
 use Rattle.x25_link.specs.laws.WindowLaw.{window_of, brought_by, ending_of, Follows}
-use Rattle.x25_line.specs.Stations.{Act, Put, Deliver, T1, Connect, Disconnect, Abandon, Lose, Damage, Near, Far, is_visible}
+use Rattle.x25_line.specs.laws.Stations.{Act, Put, Deliver, T1, Connect, Disconnect, Abandon, Lose, Damage, Near, Far, is_visible}
 use Rattle.x25_line.specs.laws.StationClaims.{AreJoined, number_in}
-use Rattle.x25_line.specs.Sessions.{Entry, SessionEnd, Meeting, Sessions, turned, swapped, begun_by, after_step, unless, heard, delivered, replaced, acts, run}
-use Rattle.x25_line.specs.SessionNumbers.{Standing}
+use Rattle.x25_line.specs.laws.Sessions.{Entry, SessionEnd, Meeting, Sessions, turned, swapped, begun_by, after_step, unless, heard, delivered, replaced, acts, run}
+use Rattle.x25_line.specs.laws.SessionNumbers.{Standing}
 use Rattle.x25_line.specs.laws.SessionClaims.{Throughout, AllOf}
-use Rattle.x25_line.specs.SessionEvents.{NextBegins, GoesOn, HandsInSession, EachEventHandsInSession, latest, BeginsAfresh, MeetsNone, MeetsOne, EachEventMeetsLatest}
+use Rattle.x25_line.specs.laws.SessionEvents.{NextBegins, GoesOn, HandsInSession, EachEventHandsInSession, latest, BeginsAfresh, MeetsNone, MeetsOne, EachEventMeetsLatest}
 use Rattle.x25_line.specs.laws.LawsBelow.{SessionLaws}
 use Rattle.x25_line.proofs.StationSteps.{not_both}
 use Rattle.x25_line.proofs.StationEvents.{timer_packet, timer_up}

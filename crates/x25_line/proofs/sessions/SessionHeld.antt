@@ -4,20 +4,20 @@ use Rattle.std.specs.List.{Contains}
 use Rattle.std.proofs.lemmas.Bool.{eq-eqb, eqb-true}
 use Rattle.std.proofs.lemmas.List.Elements.{Contains-append_left, Contains-append_right, Contains-append_cases}
 use Rattle.x25_bits.specs.declared.role.Role.{Role}
-use Rattle.x25_frame.specs.PlainFrame.{PlainFrame}
+use Rattle.x25_frame.specs.Frame.{PlainFrame}
 use Rattle.x25_frame.specs.Reading.{frame_of}
-use Rattle.x25_window.specs.Window.{End, Frame}
+use Rattle.x25_window.specs.laws.Window.{End, Frame}
 use Rattle.x25_link.specs.declared.phase.Phase.{Phase}
 use Rattle.x25_link.specs.declared.phase.Phase.TheVariants.{Down, Waiting, Up, Closed}
-use Rattle.x25_link.specs.LinkStation.{Settings, LinkStation, is_up, fresh}
-use Rattle.x25_link.specs.MustSend.{other}
+use Rattle.x25_link.specs.Station.{Settings, LinkStation, is_up, fresh}
+use Rattle.x25_link.specs.Hearing.{other}
 use Rattle.x25_line.specs.laws.InWindow.{IsPrefix}
-use Rattle.x25_line.specs.Stations.{StationEnd, Stations}
+use Rattle.x25_line.specs.laws.Stations.{StationEnd, Stations}
 use Rattle.x25_line.specs.laws.StationClaims.{NoFrmr, AreWhole, numbered_on}
-use Rattle.x25_line.specs.Sessions.{Entry, SessionEnd, Meeting, Sessions, sabm_in, ua_in, disc_in, how_many, extended}
-use Rattle.x25_line.specs.Line.{Line}
-use Rattle.x25_line.specs.WholeNumbers.{given, taken_out, counted}
-use Rattle.x25_line.specs.SessionNumbers.{Standing, standing_after}
+use Rattle.x25_line.specs.laws.Sessions.{Entry, SessionEnd, Meeting, Sessions, sabm_in, ua_in, disc_in, how_many, extended}
+use Rattle.x25_line.specs.laws.Line.{Line}
+use Rattle.x25_line.specs.laws.WholeNumbers.{given, taken_out, counted}
+use Rattle.x25_line.specs.laws.SessionNumbers.{Standing, standing_after}
 use Rattle.x25_line.specs.laws.SessionClaims.{AllMet, SomeMet, IsAbove, InStep, IsInOrder, octets_of, AllOf, AreWholeIn}
 use Rattle.x25_line.proofs.StationLines.{AreOrderly, numbered_append, AreParting, whole_more, whole_append, parting_whole}
 use Rattle.x25_line.proofs.StationSteps.{Joint, FitsEnd, counted_off, counted_fits, none_put, not_both}

@@ -4,11 +4,11 @@ use Rattle.std.proofs.Common.{◌≡◌, ◌≤◌, ℕ, List, [], ◌∷◌, �
 use Rattle.std.proofs.lemmas.Bool.{and_parts}
 use Rattle.x25_bits.specs.declared.role.Role.{Role}
 use Rattle.x25_frame.specs.laws.ReadingLaw.{ReadsSpelled}
-use Rattle.x25_link.specs.LinkStation.{Settings, LinkStation, is_up}
-use Rattle.x25_link.specs.MustSend.{other}
-use Rattle.x25_link.specs.Steps.{is_idle}
-use Rattle.x25_line.specs.Sessions.{Entry, SessionEnd, Meeting, Sessions, turned, swapped, run}
-use Rattle.x25_line.specs.SessionNumbers.{Standing}
+use Rattle.x25_link.specs.Station.{Settings, LinkStation, is_up}
+use Rattle.x25_link.specs.Hearing.{other}
+use Rattle.x25_link.specs.Link.{is_idle}
+use Rattle.x25_line.specs.laws.Sessions.{Entry, SessionEnd, Meeting, Sessions, turned, swapped, run}
+use Rattle.x25_line.specs.laws.SessionNumbers.{Standing}
 use Rattle.x25_line.specs.laws.SessionClaims.{Throughout, AllOf, AllMet, SomeMet, EachHearsLatest, EachMeetsLatest, IdleHasArrived}
 use Rattle.x25_line.specs.laws.LawsBelow.{SessionLaws}
 use Rattle.x25_line.proofs.StationSteps.{not_both}

@@ -3,21 +3,21 @@ use Rattle.std.proofs.Common.{◌≡◌, ℕ, List, [], ◌∷◌, ◌++◌, ◌
 use Rattle.std.specs.Prelude.{nat_le}
 use Rattle.std.proofs.lemmas.Bool.{leb-true}
 use Rattle.x25_bits.specs.declared.role.Role.{Role}
-use Rattle.x25_frame.specs.PlainFrame.{PlainFrame}
+use Rattle.x25_frame.specs.Frame.{PlainFrame}
 use Rattle.x25_frame.specs.Spelling.{spelling_of}
 use Rattle.x25_frame.specs.laws.ReadingLaw.{ReadsSpelled}
 use Rattle.x25_link.specs.declared.error.LinkError.{LinkError}
 use Rattle.x25_link.specs.declared.error.LinkError.TheVariants as error
 use Rattle.x25_link.specs.declared.phase.Phase.{Phase}
 use Rattle.x25_link.specs.declared.phase.Phase.TheVariants.{Down, Waiting, Up, Closed}
-use Rattle.x25_link.specs.LinkStation.{Settings, LinkStation, is_up}
-use Rattle.x25_link.specs.MustSend.{Step, other}
-use Rattle.x25_link.specs.Steps.{take_step, put_step, put_refusal, timer_step, timer_refusal, timer_runs, connect_step, connect_refusal, disconnect_step, disconnect_refusal, abandon_step}
-use Rattle.x25_line.specs.Stations.{Stations, Act, Put, Deliver, T1, Connect, Disconnect, Abandon, Lose, Damage, Event, Near, Far, is_visible, start}
-use Rattle.x25_line.specs.Stations as one
+use Rattle.x25_link.specs.Station.{Settings, LinkStation, is_up}
+use Rattle.x25_link.specs.Hearing.{Step, other}
+use Rattle.x25_link.specs.Link.{take_step, put_step, put_refusal, timer_step, timer_refusal, timer_runs, connect_step, connect_refusal, disconnect_step, disconnect_refusal, abandon_step}
+use Rattle.x25_line.specs.laws.Stations.{Stations, Act, Put, Deliver, T1, Connect, Disconnect, Abandon, Lose, Damage, Event, Near, Far, is_visible, start}
+use Rattle.x25_line.specs.laws.Stations as one
 use Rattle.x25_line.specs.laws.StationClaims.{AreJoined, AreWhole, number_in}
-use Rattle.x25_line.specs.Sessions.{Entry, SessionEnd, Meeting, Sessions, turned, swapped, begun_by, sent_in, after_step, unless, heard, delivered, replaced, acts, happens, run, from_nothing, from_set_up, IsTimely, IsTimelyAt, AreTimely}
-use Rattle.x25_line.specs.SessionNumbers.{Standing, turned as other_way, is_set_up, front_sets_up, anew, place_to_hear, gone_at, standing_after, same_two, standing_acts, standing_happens, standing_run, standing_at, StandsWith, EachUpStandsWith, StandingGoesAlong}
+use Rattle.x25_line.specs.laws.Sessions.{Entry, SessionEnd, Meeting, Sessions, turned, swapped, begun_by, sent_in, after_step, unless, heard, delivered, replaced, acts, happens, run, from_nothing, from_set_up, IsTimely, IsTimelyAt, AreTimely}
+use Rattle.x25_line.specs.laws.SessionNumbers.{Standing, turned as other_way, is_set_up, front_sets_up, anew, place_to_hear, gone_at, standing_after, same_two, standing_acts, standing_happens, standing_run, standing_at, StandsWith, EachUpStandsWith, StandingGoesAlong}
 use Rattle.x25_line.specs.laws.SessionClaims.{Throughout, octets_of, AllOf, AllMet, SomeMet, IsAbove, InStep, IsInOrder, MeetInStep, MetAreInOrder, UnmetHandNothingUp, OnlyBegunHaveLists, IsSession, Stands, EachUpStands, NoSessionSendsFrmr, AllSessionsSendWhole}
 use Rattle.x25_line.specs.laws.LawsBelow.{SessionLaws}
 use Rattle.x25_line.proofs.StationSteps.{Holds}

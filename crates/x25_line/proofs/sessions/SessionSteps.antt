@@ -5,20 +5,20 @@ use Rattle.std.specs.Prelude.{option_to_list}
 use Rattle.std.specs.List.{Contains}
 use Rattle.std.proofs.lemmas.List.Elements.{Contains-append_cases}
 use Rattle.x25_bits.specs.declared.role.Role.{Role}
-use Rattle.x25_frame.specs.PlainFrame.{PlainFrame, info, rr, rnr, rej, sabm, disc, ua, dm, frmr}
+use Rattle.x25_frame.specs.Frame.{PlainFrame, info, rr, rnr, rej, sabm, disc, ua, dm, frmr}
 use Rattle.x25_frame.specs.Spelling.{spelling_of}
 use Rattle.x25_frame.specs.Reading.{frame_of}
 use Rattle.x25_frame.specs.laws.ReadingLaw.{ReadsSpelled}
 use Rattle.x25_link.specs.declared.phase.Phase.{Phase}
 use Rattle.x25_link.specs.declared.phase.Phase.TheVariants.{Down, Waiting, Up, Closed}
-use Rattle.x25_link.specs.LinkStation.{Settings, is_up}
-use Rattle.x25_link.specs.MustSend.{Step, other}
-use Rattle.x25_line.specs.Stations.{Stations, start}
-use Rattle.x25_line.specs.Stations as one
+use Rattle.x25_link.specs.Station.{Settings, is_up}
+use Rattle.x25_link.specs.Hearing.{Step, other}
+use Rattle.x25_line.specs.laws.Stations.{Stations, start}
+use Rattle.x25_line.specs.laws.Stations as one
 use Rattle.x25_line.specs.laws.StationClaims.{AreJoined, NoFrmr, AreWhole, numbered_on}
-use Rattle.x25_line.specs.Sessions.{Entry, SessionEnd, Meeting, Sessions, sabm_in, ua_in, disc_in, how_many, sent_in, extended}
-use Rattle.x25_line.specs.WholeNumbers.{given, taken_out}
-use Rattle.x25_line.specs.SessionNumbers.{Standing, standing_after}
+use Rattle.x25_line.specs.laws.Sessions.{Entry, SessionEnd, Meeting, Sessions, sabm_in, ua_in, disc_in, how_many, sent_in, extended}
+use Rattle.x25_line.specs.laws.WholeNumbers.{given, taken_out}
+use Rattle.x25_line.specs.laws.SessionNumbers.{Standing, standing_after}
 use Rattle.x25_line.specs.laws.SessionClaims.{octets_of, AllOf}
 use Rattle.x25_line.proofs.StationLines.{IsOrderly, orderly_where, AreOrderly, orderly_append, AreParting, no_frmr_append, parting_no_frmr, parting_numbered, parting_orderly, parting_whole}
 use Rattle.x25_line.proofs.StationSteps.{MayBeAway, away_is_not_up, Leads, put_behind, FitsEnd, not_both}

@@ -1,24 +1,24 @@
 -- What comes to the near end keeps what holds of two stations over sessions.
 use Rattle.std.proofs.Common.{◌≡◌, ◌≤◌, ℕ, zero, suc, ◌+◌, List, [], ◌∷◌, ◌⊎◌, inl, inr, Bool, true, false, if◌then◌else◌, Option, Some, None, Ok, Err, refl, sym, ap, ◌∙◌, subst, arith}
-use Rattle.x25_frame.specs.PlainFrame.{PlainFrame, info, rr, rnr, rej, sabm, disc, ua, dm, frmr}
+use Rattle.x25_frame.specs.Frame.{PlainFrame, info, rr, rnr, rej, sabm, disc, ua, dm, frmr}
 use Rattle.x25_frame.specs.Reading.{frame_of}
 use Rattle.x25_frame.specs.laws.ReadingLaw.{ReadsSpelled}
 use Rattle.x25_link.specs.declared.phase.Phase.{Phase}
 use Rattle.x25_link.specs.declared.phase.Phase.TheVariants.{Down, Waiting, Up, Closed}
 use Rattle.x25_link.specs.declared.phase.Notes.{Notes}
 use Rattle.x25_link.specs.laws.NoteLaw.{TakeContinues}
-use Rattle.x25_link.specs.SetUp.{Is, TakesPart, waiting_after, waiting_sends, waiting_up}
-use Rattle.x25_link.specs.LinkStation.{Settings, LinkStation, is_up, fresh}
-use Rattle.x25_link.specs.MustSend.{Step, other}
-use Rattle.x25_link.specs.Steps.{take_step}
-use Rattle.x25_link.specs.WindowMachine.{ShowAll}
+use Rattle.x25_link.specs.laws.SetUp.{Is, TakesPart, waiting_after, waiting_sends, waiting_up}
+use Rattle.x25_link.specs.Station.{Settings, LinkStation, is_up, fresh}
+use Rattle.x25_link.specs.Hearing.{Step, other}
+use Rattle.x25_link.specs.Link.{take_step}
+use Rattle.x25_link.specs.laws.WindowMachine.{ShowAll}
 use Rattle.x25_link.specs.laws.WindowLaw.{window_of, brought_by, ending_of, Follows, IsOut, AreDeclining, StaysOut}
-use Rattle.x25_line.specs.Stations as one
+use Rattle.x25_line.specs.laws.Stations as one
 use Rattle.x25_line.specs.laws.StationClaims.{AreJoined, number_in, numbered_on}
-use Rattle.x25_line.specs.WholeNumbers.{first_of, taken_out}
+use Rattle.x25_line.specs.laws.WholeNumbers.{first_of, taken_out}
 use Rattle.x25_line.specs.laws.SessionClaims.{octets_of}
-use Rattle.x25_line.specs.SessionNumbers.{Standing, is_sabm, is_set_up, anew, place_to_hear}
-use Rattle.x25_line.specs.Sessions.{Entry, Meeting, Sessions, sabm_in, ua_in, disc_in, how_many, begun_by, after_step, heard}
+use Rattle.x25_line.specs.laws.SessionNumbers.{Standing, is_sabm, is_set_up, anew, place_to_hear}
+use Rattle.x25_line.specs.laws.Sessions.{Entry, Meeting, Sessions, sabm_in, ua_in, disc_in, how_many, begun_by, after_step, heard}
 use Rattle.x25_line.specs.laws.LawsBelow.{Laws}
 use Rattle.x25_line.proofs.StationLines.{IsOrderly, orderly_where, consed, AreParting}
 use Rattle.x25_line.proofs.StationSteps.{Leads, not_both, read_joint, declining_parting}

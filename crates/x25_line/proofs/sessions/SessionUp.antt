@@ -1,26 +1,26 @@
 -- What an end does that is Up, over sessions: what it sends, and which sessions meet.
 use Rattle.std.proofs.Common.{◌≡◌, ◌≤◌, ℕ, List, [], ◌∷◌, ◌++◌, inl, inr, Bool, true, false, if◌then◌else◌, Option, Some, None, Ok, Err, refl, sym, ap, ◌∙◌, subst, arith}
 use Rattle.std.proofs.lemmas.Option.{none-some, same_Some}
-use Rattle.x25_frame.specs.PlainFrame.{PlainFrame, info, rr, rnr, rej, sabm, disc, ua, dm, frmr}
+use Rattle.x25_frame.specs.Frame.{PlainFrame, info, rr, rnr, rej, sabm, disc, ua, dm, frmr}
 use Rattle.x25_frame.specs.declared.error.FrameError.TheVariants.{Short, BadFcs, BadAddress, Undefined, NoInfoAllowed, TooLong}
 use Rattle.x25_frame.specs.laws.ReadingLaw.{ReadsSpelled}
-use Rattle.x25_window.specs.Window.{Frame, frames_of}
+use Rattle.x25_window.specs.laws.Window.{Frame, frames_of}
 use Rattle.x25_link.specs.declared.phase.Phase.{Phase}
 use Rattle.x25_link.specs.declared.phase.Phase.TheVariants.{Closed}
 use Rattle.x25_link.specs.declared.phase.Reason.{Reason}
 use Rattle.x25_link.specs.declared.phase.Reason.TheVariants.{Retries, Disc, Dm, FrmrSent, FrmrGot, Reset, Local, Counts}
-use Rattle.x25_link.specs.LinkStation.{Settings, LinkStation}
-use Rattle.x25_link.specs.MustSend.{Step, other}
-use Rattle.x25_link.specs.WindowMachine.{Window, Input, Runs, rests, goes_on, Shows, ShowAll}
+use Rattle.x25_link.specs.Station.{Settings, LinkStation}
+use Rattle.x25_link.specs.Hearing.{Step, other}
+use Rattle.x25_link.specs.laws.WindowMachine.{Window, Input, Runs, rests, goes_on, Shows, ShowAll}
 use Rattle.x25_link.specs.laws.WindowLaw.{brought_by, MayHandUp, InputMayHandUp, ending_of, Stays, Ends, Follows}
 use Rattle.x25_line.specs.laws.InWindow.{IsPrefix}
-use Rattle.x25_line.specs.Stations.{Stations}
-use Rattle.x25_line.specs.Stations as one
+use Rattle.x25_line.specs.laws.Stations.{Stations}
+use Rattle.x25_line.specs.laws.Stations as one
 use Rattle.x25_line.specs.laws.StationClaims.{AreJoined, number_in}
-use Rattle.x25_line.specs.Sessions.{Entry, Meeting, Sessions, ua_in, disc_in, begun_by, after_step}
-use Rattle.x25_line.specs.SessionNumbers.{Standing}
+use Rattle.x25_line.specs.laws.Sessions.{Entry, Meeting, Sessions, ua_in, disc_in, begun_by, after_step}
+use Rattle.x25_line.specs.laws.SessionNumbers.{Standing}
 use Rattle.x25_line.specs.laws.SessionClaims.{IsInOrder}
-use Rattle.x25_line.specs.WholeNumbers.{taken_out}
+use Rattle.x25_line.specs.laws.WholeNumbers.{taken_out}
 use Rattle.x25_line.proofs.StationSteps.{Holds, Leads}
 use Rattle.x25_line.proofs.StationAway.{second_false}
 use Rattle.x25_line.proofs.StationClaimLemmas.{holds_order}

@@ -1,13 +1,13 @@
 -- The states of the window machine that a world of two bare ends fits.
 use Rattle.std.specs.Prelude.{◌≡◌, ℕ, ◌%◌, ◌<◌, ◌≤◌, List, [], ◌∷◌, length, take, slice_get, max, Option, Some, None, ◌⊎◌}
-use Rattle.x25_window.specs.Modulo.{resolved}
-use Rattle.x25_window.specs.Sending.{Sending}
+use Rattle.x25_window.specs.code.Modulo.{resolved}
+use Rattle.x25_window.specs.Sender.{Sending}
 use Rattle.x25_window.specs.code.Held.{Fits}
-use Rattle.x25_window.specs.Receiving.{FitsTaken}
-use Rattle.x25_window.specs.Window.{End, Numbered, Frame}
-use Rattle.x25_line.specs.Line.{arrived}
+use Rattle.x25_window.specs.Receiver.{FitsTaken}
+use Rattle.x25_window.specs.laws.Window.{End, Numbered, Frame}
+use Rattle.x25_line.specs.laws.Line.{arrived}
 use Rattle.x25_line.specs.laws.InWindow.{InWindow}
-use Rattle.x25_line.specs.RawMachine.{RawState, is_wanted, refusal_of, event_refusal, run, start, AllAccepted}
+use Rattle.x25_line.specs.RawWorld.{RawState, is_wanted, refusal_of, event_refusal, run, start, AllAccepted}
 use Rattle.x25_line.specs.code.RawShown.{ShownEnd, ShownWorld}
 use Rattle.x25_bits.specs.declared.role.Role.{Role}
 use Rattle.x25_bits.specs.declared.role.Role.TheVariants.{Dte, Dce}

@@ -1,7 +1,7 @@
 -- What holds of two ends and the line between them at each moment: the window.
 use Rattle.std.specs.Prelude.{ℕ, ◌≡◌, ◌+◌, ◌%◌, ◌<◌, ◌≤◌, List, [], ◌∷◌, ◌++◌, length, Option, Some, None}
-use Rattle.x25_window.specs.Window.{End, Numbered, Frame}
-use Rattle.x25_line.specs.Line.{Line}
+use Rattle.x25_window.specs.laws.Window.{End, Numbered, Frame}
+use Rattle.x25_line.specs.laws.Line.{Line}
 
 -- y is x followed by some list
 abbrev pub IsPrefix : {T : Type 0} → List T → List T → Type 0

@@ -3,7 +3,7 @@ use Rattle.x25_link.specs.laws.NoteLaw.{TakeTells, TakeContinues, TimerTells, Di
 use Rattle.x25_link.specs.laws.WindowLaw.{StationLaws}
 use Rattle.x25_link.specs.laws.RestLaw.{RestLaws}
 use Rattle.x25_link.specs.laws.AnswerLaw.{AnswerLaws}
-use Rattle.x25_link.specs.SetUp.{SetUpLaws}
+use Rattle.x25_link.specs.laws.SetUp.{SetUpLaws}
 
 -- those of a link that is set up once
 pub record Laws : Type 0 where

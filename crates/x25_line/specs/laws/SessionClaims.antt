@@ -2,15 +2,15 @@
 use Rattle.std.specs.Prelude.{◌≡◌, ◌≤◌, ◌<◌, ◌⊎◌, ℕ, zero, suc, true, List, [], ◌∷◌, ◌++◌, None}
 use Rattle.std.specs.List.{Contains}
 use Rattle.x25_bits.specs.declared.role.Role.{Role}
-use Rattle.x25_frame.specs.PlainFrame.{PlainFrame}
+use Rattle.x25_frame.specs.Frame.{PlainFrame}
 use Rattle.x25_frame.specs.Reading.{frame_of}
-use Rattle.x25_link.specs.LinkStation.{Settings, is_up}
-use Rattle.x25_link.specs.MustSend.{other}
-use Rattle.x25_link.specs.Steps.{is_idle}
+use Rattle.x25_link.specs.Station.{Settings, is_up}
+use Rattle.x25_link.specs.Hearing.{other}
+use Rattle.x25_link.specs.Link.{is_idle}
 use Rattle.x25_line.specs.laws.InWindow.{IsPrefix}
-use Rattle.x25_line.specs.Stations.{StationEnd, Stations, Event, start, run as run_alone}
+use Rattle.x25_line.specs.laws.Stations.{StationEnd, Stations, Event, start, run as run_alone}
 use Rattle.x25_line.specs.laws.StationClaims.{AreJoined, BothInOrder, BothHaveTheirLists, AreInWindow, NoFrmr, NoFrmrSent, AreWhole, AllSentAreWhole, number_in, numbered_on}
-use Rattle.x25_line.specs.Sessions.{Entry, SessionEnd, Meeting, Sessions, run, from_nothing, from_set_up, AreTimely, swapped}
+use Rattle.x25_line.specs.laws.Sessions.{Entry, SessionEnd, Meeting, Sessions, run, from_nothing, from_set_up, AreTimely, swapped}
 
 -- what holds after each list of events, from nothing and from a link just set up, where timer T1 is timely
 abbrev pub Throughout : (Settings → Settings → Sessions → Type 0) → Type 0

@@ -2,22 +2,22 @@
 use Rattle.std.specs.Prelude.{◌≡◌, ℕ, ◌≤◌, Bool, true, false, ◌||◌, if◌then◌else◌, List, [], ◌∷◌, ◌++◌, length, take, replicate, Option, Some, None, option_to_list, Result, Ok, Err}
 use Rattle.std.specs.List.{Contains}
 use Rattle.x25_bits.specs.declared.role.Role.{Role}
-use Rattle.x25_frame.specs.PlainFrame.{PlainFrame, info, rr, rnr, rej, frmr}
+use Rattle.x25_frame.specs.Frame.{PlainFrame, info, rr, rnr, rej, frmr}
 use Rattle.x25_frame.specs.Spelling.{information_of, IsInRange, MayCarry, IsWithin}
 use Rattle.x25_frame.specs.Reading.{frame_of}
 use Rattle.x25_frame.specs.declared.error.FrameError.{FrameError}
-use Rattle.x25_window.specs.Window.{End, fresh_end}
+use Rattle.x25_window.specs.laws.Window.{End, fresh_end}
 use Rattle.x25_link.specs.declared.phase.Reason.{Reason}
 use Rattle.x25_link.specs.declared.phase.Reason.TheVariants.{Retries}
-use Rattle.x25_link.specs.Lists.{no_packets}
-use Rattle.x25_link.specs.LinkStation.{Settings, is_up, lists_of}
-use Rattle.x25_link.specs.MustSend.{other}
-use Rattle.x25_link.specs.Steps.{connect_refusal, is_idle}
-use Rattle.x25_link.specs.WindowMachine.{ShowAll}
+use Rattle.x25_link.specs.OrderedLink.{no_packets}
+use Rattle.x25_link.specs.Station.{Settings, is_up, lists_of}
+use Rattle.x25_link.specs.Hearing.{other}
+use Rattle.x25_link.specs.Link.{connect_refusal, is_idle}
+use Rattle.x25_link.specs.laws.WindowMachine.{ShowAll}
 use Rattle.x25_link.specs.laws.WindowLaw.{window_of}
 use Rattle.x25_line.specs.laws.InWindow.{InWindow, IsPrefix}
-use Rattle.x25_line.specs.Line.{Line, Move, AllowsMove, moved, swapped as line_swapped}
-use Rattle.x25_line.specs.Stations.{StationEnd, Stations, Act, Put, Deliver, Connect, Event, Near, Far, happens, run, start, swapped}
+use Rattle.x25_line.specs.laws.Line.{Line, Move, AllowsMove, moved, swapped as line_swapped}
+use Rattle.x25_line.specs.laws.Stations.{StationEnd, Stations, Act, Put, Deliver, Connect, Event, Near, Far, happens, run, start, swapped}
 
 -- the two ends of one link: one is the DTE and one the DCE, both with the same N1 and k from 1 to 7
 pub record AreJoined (c d : Settings) : Type 0 where

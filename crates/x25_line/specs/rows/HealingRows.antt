@@ -2,12 +2,12 @@
 use Rattle.std.specs.Prelude.{◌≡◌, ℕ, zero, suc, true, List, [], ◌∷◌, ◌++◌}
 use Rattle.x25_link.specs.declared.phase.Phase.{Phase}
 use Rattle.x25_link.specs.declared.phase.Phase.TheVariants.{Down, Waiting, Up, Closed}
-use Rattle.x25_link.specs.LinkStation.{Settings, is_up, is_busy}
-use Rattle.x25_link.specs.Steps.{timer_runs}
-use Rattle.x25_line.specs.Stations.{StationEnd, Stations, Act, Put, Deliver, T1, Connect, Disconnect, Abandon, Lose, Event, Near, Far, run, start}
+use Rattle.x25_link.specs.Station.{Settings, is_up, is_busy}
+use Rattle.x25_link.specs.Link.{timer_runs}
+use Rattle.x25_line.specs.laws.Stations.{StationEnd, Stations, Act, Put, Deliver, T1, Connect, Disconnect, Abandon, Lose, Event, Near, Far, run, start}
 use Rattle.x25_line.specs.laws.StationClaims.{AreJoined}
 use Rattle.x25_line.specs.Healing.{IsDrained, IsQuietMoment, MayHeal, IsAtRestOrOut, both_lost}
-use Rattle.x25_line.specs.HealingPuts.{FreeThroughout}
+use Rattle.x25_line.specs.laws.HealingPuts.{FreeThroughout}
 use Rattle.x25_line.specs.rows.StationRows.{dte, dce}
 
 -- The packet of each end was lost. Without a firing nothing arrives, as nothing is on the line.

@@ -1,9 +1,9 @@
 -- Worked rows of two link stations over sessions: from nothing, set up again with a packet on the line, and what happens where
 -- timer T1 isn't timely.
 use Rattle.std.specs.Prelude.{◌≡◌, ℕ, List, [], ◌∷◌}
-use Rattle.x25_line.specs.Stations.{Put, Deliver, T1, Connect, Abandon, Lose, Event, Near, Far}
+use Rattle.x25_line.specs.laws.Stations.{Put, Deliver, T1, Connect, Abandon, Lose, Event, Near, Far}
 use Rattle.x25_line.specs.rows.StationRows.{dte, dce}
-use Rattle.x25_line.specs.Sessions.{Meeting, Sessions, run, from_nothing, from_set_up, AreTimely}
+use Rattle.x25_line.specs.laws.Sessions.{Meeting, Sessions, run, from_nothing, from_set_up, AreTimely}
 use Rattle.x25_line.specs.laws.SessionClaims.{MeetInStep}
 
 abbrev pub meeting : ℕ → ℕ → Meeting

@@ -1,14 +1,14 @@
 -- How each numbered frame is answered, what the sending rule sends behind the answer, and what timer T1 asks.
 use Rattle.std.proofs.Common.{◌≡◌, ℕ, suc, zero, ◌+◌, ◌-◌, ◌*◌, ◌%◌, ◌<◌, ◌≤◌, List, [], ◌∷◌, ◌++◌, length, Bool, true, false, not, if◌then◌else◌, Some, None, Ok, refl, sym, ap, ◌∙◌, subst, arith, append-nil, append_assoc}
 use Rattle.std.proofs.lemmas.Bool.{lt-ltb, and_parts, not-true}
-use Rattle.x25_frame.specs.PlainFrame.{PlainFrame, info, rr, rnr, rej, sabm, disc, ua, dm, frmr}
+use Rattle.x25_frame.specs.Frame.{PlainFrame, info, rr, rnr, rej, sabm, disc, ua, dm, frmr}
 use Rattle.x25_frame.specs.Reading.{frame_of}
 use Rattle.x25_link.specs.declared.phase.Phase.{Phase}
 use Rattle.x25_link.specs.declared.phase.Phase.TheVariants.{Down, Waiting, Up, Closed}
 use Rattle.x25_link.specs.declared.phase.Reason.TheVariants.{Dm}
-use Rattle.x25_link.specs.LinkStation.{Settings, LinkStation, Side, is_up, is_busy, wanted, with_near, sends, ready, next_frame, send_next, may_send, pumped, owes_ready, finished, ended}
-use Rattle.x25_link.specs.MustSend.{Step, quiet, leaves, other, is_valid, acknowledged, is_taken, takes, answers, passes_over, rejects_gap, hears_info, peer_is, goes_back, polls, row_of_frame}
-use Rattle.x25_link.specs.Steps.{alone, closed_by, hears, declines, when_down, fires, asks_again, take_step}
+use Rattle.x25_link.specs.Station.{Settings, LinkStation, Side, is_up, is_busy, wanted, with_near, sends, ready, next_frame, send_next, may_send, pumped, owes_ready, finished, ended}
+use Rattle.x25_link.specs.Hearing.{Step, quiet, leaves, other, is_valid, acknowledged, is_taken, takes, answers, passes_over, rejects_gap, hears_info, peer_is, goes_back, polls, row_of_frame}
+use Rattle.x25_link.specs.Link.{alone, closed_by, hears, declines, when_down, fires, asks_again, take_step}
 use Rattle.x25_link.specs.laws.WindowLaw.{IsOut}
 use Rattle.x25_link.specs.laws.AnswerLaw.{says, AreNext, weight_of, weight_if, once_taken, busy_after, Outcome, Answers, Asks, TimerAsks, heard, goes_on_from, PollIsAnswered, FinalEndsRecovery, ReadyIsHeard, RejGoesBack, IsTakenUp, WantedIsTaken, passed_over, OtherIsPassedOver, asks, Declines, OutDeclines, DmLeavesUp}
 use Rattle.x25_link.proofs.EndLemmas.{true_false, open_is}

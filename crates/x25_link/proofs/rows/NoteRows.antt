@@ -4,7 +4,7 @@ use Rattle.std.proofs.lemmas.Option.{none-some}
 use Rattle.std.specs.Prelude.{nat_lt}
 use Rattle.std.proofs.Math.Nat.{le_trans}
 use Rattle.std.proofs.lemmas.Bool.{ltb-false, not-true, and_parts}
-use Rattle.x25_frame.specs.PlainFrame.{PlainFrame, info, rr, rnr, rej, sabm, disc, ua, dm, frmr}
+use Rattle.x25_frame.specs.Frame.{PlainFrame, info, rr, rnr, rej, sabm, disc, ua, dm, frmr}
 use Rattle.x25_frame.specs.Reading.{frame_of}
 use Rattle.x25_frame.specs.declared.error.FrameError.{FrameError}
 use Rattle.x25_frame.specs.declared.error.FrameError.TheVariants.{Short, BadFcs, BadAddress, Undefined, NoInfoAllowed, TooLong}
@@ -13,12 +13,12 @@ use Rattle.x25_link.specs.declared.phase.Phase.TheVariants.{Down, Waiting, Up, C
 use Rattle.x25_link.specs.declared.phase.Reason.{Reason}
 use Rattle.x25_link.specs.declared.phase.Reason.TheVariants.{Disc, Dm, FrmrSent, FrmrGot, Retries, Counts, Reset}
 use Rattle.x25_link.specs.declared.phase.Notes.{Notes}
-use Rattle.x25_link.specs.Lists.{no_packets}
+use Rattle.x25_link.specs.OrderedLink.{no_packets}
 use Rattle.x25_link.specs.Outgoing.{no_packet, waits}
-use Rattle.x25_link.specs.LinkStation.{Settings, LinkStation, Side, lists_of, fresh, is_up, is_busy, with_near, sends, ready, send_next, may_send, pumped, owes_ready, ended}
-use Rattle.x25_link.specs.MustSend.{Step, quiet, leaves, other, rejects, is_valid, acknowledged, is_taken, takes, answers, passes_over, reject_of, hears_info, peer_is, goes_back, polls, numbered, row_of_frame, row_of}
-use Rattle.x25_link.specs.Steps.{alone, closed_by, hears, puts, connects, asks_again, fires, disconnects, when_down, when_waiting}
-use Rattle.x25_link.specs.SetUp.{reset_from}
+use Rattle.x25_link.specs.Station.{Settings, LinkStation, Side, lists_of, fresh, is_up, is_busy, with_near, sends, ready, send_next, may_send, pumped, owes_ready, ended}
+use Rattle.x25_link.specs.Hearing.{Step, quiet, leaves, other, rejects, is_valid, acknowledged, is_taken, takes, answers, passes_over, reject_of, hears_info, peer_is, goes_back, polls, numbered, row_of_frame, row_of}
+use Rattle.x25_link.specs.Link.{alone, closed_by, hears, puts, connects, asks_again, fires, disconnects, when_down, when_waiting}
+use Rattle.x25_link.specs.laws.SetUp.{reset_from}
 use Rattle.x25_link.specs.laws.NoteLaw.{Tells, Continues, HandsUp, TakeTells, TakeContinues, TakeHandsUp, TimerTells, TimerContinues, PutTells, ConnectTells, DisconnectTells, AbandonTells}
 use Rattle.x25_link.specs.laws.LinkLaws.{ended_lists, ended_phase}
 use Rattle.x25_link.proofs.EndLemmas.{true_false, none_open, ended_stays}

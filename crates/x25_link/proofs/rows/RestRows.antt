@@ -2,7 +2,7 @@
 use Rattle.std.proofs.Common.{◌≡◌, ℕ, suc, zero, ◌+◌, ◌<◌, ◌≤◌, List, length, Bool, true, false, not, if◌then◌else◌, Result, Ok, Err, refl, sym, ap, ◌∙◌, subst, arith}
 use Rattle.std.specs.Prelude.{◌&&◌, ◌||◌, ◌==◌, nat_lt}
 use Rattle.std.proofs.lemmas.Bool.{lt-ltb, le-ltb, ltb-false, eqb-true, eq-eqb, and_parts}
-use Rattle.x25_frame.specs.PlainFrame.{PlainFrame, info, rr, rnr, rej, sabm, disc, ua, dm, frmr}
+use Rattle.x25_frame.specs.Frame.{PlainFrame, info, rr, rnr, rej, sabm, disc, ua, dm, frmr}
 use Rattle.x25_frame.specs.Reading.{frame_of}
 use Rattle.x25_frame.specs.declared.error.FrameError.{FrameError}
 use Rattle.x25_frame.specs.declared.error.FrameError.TheVariants.{Short, BadFcs, BadAddress, Undefined, NoInfoAllowed, TooLong}
@@ -10,9 +10,9 @@ use Rattle.x25_link.specs.declared.phase.Phase.{Phase}
 use Rattle.x25_link.specs.declared.phase.Phase.TheVariants.{Down, Waiting, Up, Closed}
 use Rattle.x25_link.specs.declared.phase.Reason.TheVariants.{Retries, Counts}
 use Rattle.x25_link.specs.Outgoing.{waits, is_open}
-use Rattle.x25_link.specs.LinkStation.{Settings, LinkStation, Side, is_up, is_busy, with_near, ready, send_next, may_send, pumped, owes_ready, ended}
-use Rattle.x25_link.specs.MustSend.{Step, quiet, leaves, other, is_valid, acknowledged, is_taken, takes, answers, passes_over, peer_is, goes_back, polls, row_of_frame, row_of}
-use Rattle.x25_link.specs.Steps.{alone, closed_by, hears, when_down, when_waiting, puts, fires, asks_again, connects, disconnects, timer_runs, is_idle}
+use Rattle.x25_link.specs.Station.{Settings, LinkStation, Side, is_up, is_busy, with_near, ready, send_next, may_send, pumped, owes_ready, ended}
+use Rattle.x25_link.specs.Hearing.{Step, quiet, leaves, other, is_valid, acknowledged, is_taken, takes, answers, passes_over, peer_is, goes_back, polls, row_of_frame, row_of}
+use Rattle.x25_link.specs.Link.{alone, closed_by, hears, when_down, when_waiting, puts, fires, asks_again, connects, disconnects, timer_runs, is_idle}
 use Rattle.x25_link.specs.laws.RestLaw.{HasSaidAll, TakeSaysAll, PutSaysAll, TimerSaysAll, ConnectSaysAll, DisconnectSaysAll, AbandonSaysAll, NoTimerIsIdle, AllHeardIsRest, RestIsAllHeard}
 use Rattle.x25_link.proofs.EndLemmas.{true_false, closed_is, ended_settled, ended_calm}
 use Rattle.x25_link.proofs.rows.WindowRows.{closed_stays, up_is}

@@ -1,17 +1,17 @@
 -- What a station does in set-up, row by row.
 use Rattle.std.proofs.Common.{◌≡◌, ℕ, suc, ◌+◌, List, [], ◌∷◌, Bool, true, false, if◌then◌else◌, Option, Some, None, Result, Ok, Err, refl, sym, ap, ◌∙◌, subst, arith}
 use Rattle.std.specs.Prelude.{nat_lt}
-use Rattle.x25_frame.specs.PlainFrame.{PlainFrame, info, rr, rnr, rej, sabm, disc, ua, dm, frmr}
+use Rattle.x25_frame.specs.Frame.{PlainFrame, info, rr, rnr, rej, sabm, disc, ua, dm, frmr}
 use Rattle.x25_frame.specs.declared.error.FrameError.{FrameError}
 use Rattle.x25_link.specs.declared.phase.Phase.{Phase}
 use Rattle.x25_link.specs.declared.phase.Phase.TheVariants.{Down, Waiting, Up, Closed}
 use Rattle.x25_link.specs.declared.phase.Reason.{Reason}
 use Rattle.x25_link.specs.declared.phase.Reason.TheVariants.{Retries}
 use Rattle.x25_link.specs.Outgoing.{no_packet}
-use Rattle.x25_link.specs.LinkStation.{Settings, LinkStation, is_up, may_send, owes_ready, fresh, with_nothing}
-use Rattle.x25_link.specs.MustSend.{Step, quiet, leaves, row_of}
-use Rattle.x25_link.specs.Steps.{alone, closed_by, hears, goes_up, connects, fires, disconnects, asks_again, when_waiting, when_down}
-use Rattle.x25_link.specs.SetUp.{Is, waiting_after, waiting_sends, waiting_up, TakesPart, reset_from, TakeWaits, TakeSetsUp, ConnectWaits, TimerWaits, DisconnectWaits}
+use Rattle.x25_link.specs.Station.{Settings, LinkStation, is_up, may_send, owes_ready, fresh, with_nothing}
+use Rattle.x25_link.specs.Hearing.{Step, quiet, leaves, row_of}
+use Rattle.x25_link.specs.Link.{alone, closed_by, hears, goes_up, connects, fires, disconnects, asks_again, when_waiting, when_down}
+use Rattle.x25_link.specs.laws.SetUp.{Is, waiting_after, waiting_sends, waiting_up, TakesPart, reset_from, TakeWaits, TakeSetsUp, ConnectWaits, TimerWaits, DisconnectWaits}
 use Rattle.x25_link.proofs.EndLemmas.{none_open}
 use Rattle.x25_link.proofs.rows.WindowRows.{closed_stays}
 

@@ -1,11 +1,11 @@
 -- The definition moves: worked examples, by computing.
 use Rattle.std.proofs.Common.{◌≡◌, [], ◌∷◌, ◌++◌, true, false, Ok, refl}
 use Rattle.x25_bits.specs.declared.role.Role.TheVariants.{Dte, Dce}
-use Rattle.x25_frame.specs.PlainFrame.{info, rr, rej, dm, frmr}
-use Rattle.x25_link.specs.LinkStation.{Settings, fresh, with_nothing, pumped}
-use Rattle.x25_link.specs.MustSend.{Step, row_of, row_of_frame}
+use Rattle.x25_frame.specs.Frame.{info, rr, rej, dm, frmr}
+use Rattle.x25_link.specs.Station.{Settings, fresh, with_nothing, pumped}
+use Rattle.x25_link.specs.Hearing.{Step, row_of, row_of_frame}
 use Rattle.x25_link.specs.declared.phase.Phase.TheVariants.{Down}
-use Rattle.x25_link.specs.Steps.{alone, put_step, timer_step, closed_by, when_down}
+use Rattle.x25_link.specs.Link.{alone, put_step, timer_step, closed_by, when_down}
 use Rattle.x25_link.specs.laws.RestLaw.{IsAtRest}
 
 -- an I frame with N(R) 1 where nothing was sent

@@ -2,22 +2,22 @@
 use Rattle.std.proofs.Common.{◌≡◌, ℕ, ◌%◌, List, [], ◌∷◌, length, Bool, true, false, if◌then◌else◌, Some, None, Result, Ok, Err, refl, sym, ap, subst, length-append, arith, ◌+◌, ◌≤◌}
 use Rattle.std.specs.Prelude.{nat_lt}
 use Rattle.std.proofs.lemmas.Bool.{leb-true, eqb-true, and_parts}
-use Rattle.x25_frame.specs.PlainFrame.{PlainFrame, info, rr, rnr, rej, sabm, disc, ua, dm, frmr}
+use Rattle.x25_frame.specs.Frame.{PlainFrame, info, rr, rnr, rej, sabm, disc, ua, dm, frmr}
 use Rattle.x25_frame.specs.Reading.{frame_of}
 use Rattle.x25_frame.specs.declared.error.FrameError.{FrameError}
 use Rattle.x25_frame.specs.declared.error.FrameError.TheVariants.{Short, BadFcs, BadAddress, Undefined, NoInfoAllowed, TooLong}
-use Rattle.x25_window.specs.Modulo.{resolved}
+use Rattle.x25_window.specs.code.Modulo.{resolved}
 use Rattle.x25_link.specs.declared.phase.Phase.{Phase}
 use Rattle.x25_link.specs.declared.phase.Phase.TheVariants.{Down, Waiting, Up, Closed}
 use Rattle.x25_link.specs.declared.phase.Reason.{Reason}
 use Rattle.x25_link.specs.declared.phase.Reason.TheVariants.{Retries, Disc, Dm, FrmrSent, FrmrGot, Reset, Local, Counts}
 use Rattle.x25_link.specs.Outgoing.{no_packet}
-use Rattle.x25_link.specs.LinkStation.{Settings, LinkStation, Side, is_up, with_near, sends, ready, may_send, owes_ready}
-use Rattle.x25_link.specs.MustSend.{Step, quiet, leaves, other, rejects, is_valid, acknowledged, is_taken, takes, hears_info, peer_is, goes_back, polls, numbered, row_of_frame, row_of}
-use Rattle.x25_link.specs.Steps.{alone, closed_by, hears, puts, asks_again, fires, disconnects, when_down}
-use Rattle.x25_window.specs.Window.{after}
-use Rattle.x25_window.specs.Window.Step.{Hear, Take}
-use Rattle.x25_link.specs.WindowMachine.{Window, Input, hands_down, receives, nothing, rests}
+use Rattle.x25_link.specs.Station.{Settings, LinkStation, Side, is_up, with_near, sends, ready, may_send, owes_ready}
+use Rattle.x25_link.specs.Hearing.{Step, quiet, leaves, other, rejects, is_valid, acknowledged, is_taken, takes, hears_info, peer_is, goes_back, polls, numbered, row_of_frame, row_of}
+use Rattle.x25_link.specs.Link.{alone, closed_by, hears, puts, asks_again, fires, disconnects, when_down}
+use Rattle.x25_window.specs.laws.Window.{after}
+use Rattle.x25_window.specs.laws.Window.Step.{Hear, Take}
+use Rattle.x25_link.specs.laws.WindowMachine.{Window, Input, hands_down, receives, nothing, rests}
 use Rattle.x25_link.specs.laws.WindowLaw.{IsRunning, brought_by, window_of}
 use Rattle.x25_link.specs.laws.WindowLaw.{after_input, MayHandUp, if_valid, ending_of_frame, ending_of, ends_in, AreLast, Stays, Ends, Follows, TakeFollows, PutFollows, TimerFollows, DisconnectFollows, AbandonFollows, IsOut, sets_up, StaysOut, TakeStaysOut, ClosesOut, DisconnectStaysOut}
 use Rattle.x25_link.proofs.EndLemmas.{true_false, none_open, ended_stays}

@@ -1,10 +1,10 @@
 -- What a link holds at most, and how many frames a step sends at most.
 use Rattle.std.specs.Prelude.{ℕ, ◌≤◌, List, length}
 use Rattle.x25_link.specs.Outgoing.{waits}
-use Rattle.x25_link.specs.LinkStation.{Settings, LinkStation}
-use Rattle.x25_link.specs.Steps.{take_step, put_step}
+use Rattle.x25_link.specs.Station.{Settings, LinkStation}
+use Rattle.x25_link.specs.Link.{take_step, put_step}
 use Rattle.x25_link.specs.laws.WindowLaw.{IsSound}
-use Rattle.x25_link.specs.code.Link.{ShownLink, FitsLink}
+use Rattle.x25_link.specs.code.FitsLink.{ShownLink, FitsLink}
 
 -- at most 256 packets wait (profile)
 abbrev pub FewWait : Type 0

@@ -1,13 +1,13 @@
 -- Which states of the definition the code's variables stand for.
 use Rattle.std.specs.Prelude.{◌≡◌, ℕ, List, ◌++◌, length, map, option_copied}
-use Rattle.x25_frame.specs.PlainFrame.{PlainFrame}
+use Rattle.x25_frame.specs.Frame.{PlainFrame}
 use Rattle.x25_frame.specs.Spelling.{spelling_of}
-use Rattle.x25_window.specs.Receiving.{FitsTaken}
+use Rattle.x25_window.specs.Receiver.{FitsTaken}
 use Rattle.x25_link.specs.declared.station.LinkStation.{LinkStation as StationCode}
 use Rattle.x25_link.specs.declared.heard.Heard.{Heard}
-use Rattle.x25_link.specs.MustSend.{Step}
+use Rattle.x25_link.specs.Hearing.{Step}
 use Rattle.x25_link.specs.code.OutgoingHeld.{FitsOutgoing}
-use Rattle.x25_link.specs.LinkStation.{Settings, LinkStation, Side}
+use Rattle.x25_link.specs.Station.{Settings, LinkStation, Side}
 
 pub record FitsStation (c : Settings) (v : StationCode) (s : LinkStation) : Type 0 where
   pub role : v.role ≡ c.role

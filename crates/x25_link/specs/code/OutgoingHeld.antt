@@ -1,6 +1,6 @@
 -- Which packets handed down a outgoing stands for.
 use Rattle.std.specs.Prelude.{◌≡◌, ℕ, ◌≤◌, List, length, take, drop}
-use Rattle.x25_window.specs.Sending.{Sending}
+use Rattle.x25_window.specs.Sender.{Sending}
 use Rattle.x25_window.specs.code.Held.{Fits}
 use Rattle.x25_link.specs.declared.outgoing.Outgoing.{Outgoing as OutgoingCode}
 use Rattle.x25_link.specs.Outgoing.{Outgoing}

@@ -2,13 +2,13 @@
 -- acknowledged from the first on, and the I frame that is wanted by a frame with the new N(R). ITU-T X.25 (10/96), sections 2.4.5
 -- and 2.4.6.
 use Rattle.std.specs.Prelude.{◌≡◌, ℕ, ◌+◌, ◌-◌, ◌*◌, ◌%◌, ◌<◌, ◌≤◌, max, ◌==◌, Bool, true, false, not, if◌then◌else◌, List, [], ◌∷◌, ◌++◌, length, Some, None, Ok}
-use Rattle.x25_frame.specs.PlainFrame.{PlainFrame, info, rr, rnr, rej, dm}
+use Rattle.x25_frame.specs.Frame.{PlainFrame, info, rr, rnr, rej, dm}
 use Rattle.x25_frame.specs.Reading.{frame_of}
-use Rattle.x25_window.specs.Modulo.{resolved}
+use Rattle.x25_window.specs.code.Modulo.{resolved}
 use Rattle.x25_link.specs.declared.phase.Phase.TheVariants.{Down, Up}
-use Rattle.x25_link.specs.LinkStation.{Settings, LinkStation, with_nothing, is_up, is_busy, wanted}
-use Rattle.x25_link.specs.MustSend.{Step, other, is_valid, is_taken}
-use Rattle.x25_link.specs.Steps.{take_step, timer_step}
+use Rattle.x25_link.specs.Station.{Settings, LinkStation, with_nothing, is_up, is_busy, wanted}
+use Rattle.x25_link.specs.Hearing.{Step, other, is_valid, is_taken}
+use Rattle.x25_link.specs.Link.{take_step, timer_step}
 use Rattle.x25_link.specs.laws.WindowLaw.{IsOut}
 
 -- RNR where the sender is busy, else RR

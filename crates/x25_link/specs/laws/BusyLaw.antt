@@ -1,10 +1,10 @@
 -- What a station says of whether it is busy, and what it doesn't send to a peer that is. ITU-T X.25 (10/96), sections 2.4.5.5, 2.4.5.7
 -- and 2.4.5.8.
 use Rattle.std.specs.Prelude.{◌≡◌, Bool, true, false, List, [], ◌∷◌, ℕ}
-use Rattle.x25_frame.specs.PlainFrame.{PlainFrame, info, rr, rnr, rej}
-use Rattle.x25_link.specs.LinkStation.{Settings, LinkStation, is_up, is_busy}
-use Rattle.x25_link.specs.MustSend.{Step}
-use Rattle.x25_link.specs.Steps.{take_step, put_step, timer_step}
+use Rattle.x25_frame.specs.Frame.{PlainFrame, info, rr, rnr, rej}
+use Rattle.x25_link.specs.Station.{Settings, LinkStation, is_up, is_busy}
+use Rattle.x25_link.specs.Hearing.{Step}
+use Rattle.x25_link.specs.Link.{take_step, put_step, timer_step}
 use Rattle.x25_link.specs.laws.NoteLaw.{IsQuiet}
 
 -- whether RNR is the last of RR and RNR among these frames; with none of them, as before

@@ -5,12 +5,12 @@ use Rattle.std.proofs.Common.{sym, ap, subst, ◌∙◌, arith}
 use Rattle.std.proofs.Math.Nat.{le_trans}
 use Rattle.std.proofs.lemmas.List.{length-take-le, length-drop}
 use Rattle.x25_link.specs.declared.phase.Phase.{Phase}
-use Rattle.x25_link.specs.Lists.{Lists, handed_down}
-use Rattle.x25_link.specs.Plain.{ShownPlain, FitsPlain, unacknowledged}
+use Rattle.x25_link.specs.OrderedLink.{Lists, handed_down}
+use Rattle.x25_link.specs.PlainLink.{ShownPlain, FitsPlain, unacknowledged}
 use Rattle.x25_link.specs.Outgoing.{added}
-use Rattle.x25_link.specs.LinkStation.{Side, lists_of, is_up, with_near, is_busy, ready, send_next, may_send, pumped, owes_ready, ended}
-use Rattle.x25_link.specs.Steps.{alone}
-use Rattle.x25_link.specs.code.Link.{ShownLink, LinkState, FitsWhole, waiting_of, up_of, lists_in, waits_of, up_at, after_put_to}
+use Rattle.x25_link.specs.Station.{Side, lists_of, is_up, with_near, is_busy, ready, send_next, may_send, pumped, owes_ready, ended}
+use Rattle.x25_link.specs.Link.{alone}
+use Rattle.x25_link.specs.code.FitsLink.{ShownLink, LinkState, FitsWhole, waiting_of, up_of, lists_in, waits_of, up_at, after_put_to}
 
 by_if : (b : Bool) (u v : Side) (x : Lists) → lists_of u.near ≡ x → lists_of v.near ≡ x → (let w : Side = if b then u else v in lists_of w.near) ≡ x
 by_if true u v x e f = e

@@ -1,7 +1,7 @@
 -- Each step of a station leaves nothing that it may send, and no RR that it owes; and when a station is at rest.
 use Rattle.std.specs.Prelude.{◌≡◌, ℕ, ◌≤◌, true, false, List}
-use Rattle.x25_link.specs.LinkStation.{Settings, LinkStation, is_up, may_send, owes_ready}
-use Rattle.x25_link.specs.Steps.{take_step, put_step, timer_step, timer_runs, connect_step, disconnect_step, abandon_step, is_idle}
+use Rattle.x25_link.specs.Station.{Settings, LinkStation, is_up, may_send, owes_ready}
+use Rattle.x25_link.specs.Link.{take_step, put_step, timer_step, timer_runs, connect_step, disconnect_step, abandon_step, is_idle}
 use Rattle.x25_link.specs.laws.WindowLaw.{IsSound}
 
 -- V(S) isn't below what is acknowledged, nothing is left that may be sent, and no RR is owed

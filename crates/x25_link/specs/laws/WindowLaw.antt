@@ -1,22 +1,22 @@
 -- Each step of a station that is Up: what it hears and hands up, and after that what it sends; exactly when Up is left,
 -- and with which frames; and that a station that is out stays out.
 use Rattle.std.specs.Prelude.{◌≡◌, ℕ, ◌+◌, ◌%◌, ◌≤◌, nat_le, nat_lt, Bool, true, false, if◌then◌else◌, List, [], ◌∷◌, length, Option, Some, None, Result, Ok, Err}
-use Rattle.x25_frame.specs.PlainFrame.{PlainFrame, info, rr, rnr, rej, sabm, disc, ua, dm, frmr}
+use Rattle.x25_frame.specs.Frame.{PlainFrame, info, rr, rnr, rej, sabm, disc, ua, dm, frmr}
 use Rattle.x25_frame.specs.Reading.{frame_of}
 use Rattle.x25_frame.specs.declared.error.FrameError.{FrameError}
 use Rattle.x25_frame.specs.declared.error.FrameError.TheVariants.{Short, BadFcs, BadAddress, Undefined, NoInfoAllowed, TooLong}
-use Rattle.x25_window.specs.Modulo.{resolved}
+use Rattle.x25_window.specs.code.Modulo.{resolved}
 use Rattle.x25_link.specs.declared.phase.Phase.{Phase}
 use Rattle.x25_link.specs.declared.phase.Phase.TheVariants.{Down, Waiting, Up, Closed}
 use Rattle.x25_link.specs.declared.phase.Reason.{Reason}
 use Rattle.x25_link.specs.declared.phase.Reason.TheVariants.{Retries, Disc, Dm, FrmrSent, FrmrGot, Reset, Local, Counts}
 use Rattle.x25_link.specs.Outgoing.{Outgoing, no_packet}
-use Rattle.x25_link.specs.LinkStation.{Settings, LinkStation, is_up}
-use Rattle.x25_link.specs.MustSend.{Step, other}
-use Rattle.x25_link.specs.Steps.{take_step, put_step, timer_step, disconnect_step, abandon_step}
-use Rattle.x25_window.specs.Window.{after}
-use Rattle.x25_window.specs.Window.Step.{HandDown, Hear, Take}
-use Rattle.x25_link.specs.WindowMachine.{Window, Input, hands_down, receives, nothing, Runs}
+use Rattle.x25_link.specs.Station.{Settings, LinkStation, is_up}
+use Rattle.x25_link.specs.Hearing.{Step, other}
+use Rattle.x25_link.specs.Link.{take_step, put_step, timer_step, disconnect_step, abandon_step}
+use Rattle.x25_window.specs.laws.Window.{after}
+use Rattle.x25_window.specs.laws.Window.Step.{HandDown, Hear, Take}
+use Rattle.x25_link.specs.laws.WindowMachine.{Window, Input, hands_down, receives, nothing, Runs}
 
 -- ---- a station as a window machine
 

@@ -1,9 +1,9 @@
 -- What octets read as, and the grammar of packets.
 use Rattle.std.specs.Prelude.{◌≡◌, ◌<◌, ◌↔◌, ℕ, List, All, Ok, Err}
-use Rattle.x25_packet.specs.PlainPacket.{PlainPacket}
+use Rattle.x25_packet.specs.Packet.{PlainPacket}
 use Rattle.x25_packet.specs.Spelling.{Spells}
 use Rattle.x25_packet.specs.Reading.{packet_of}
-use Rattle.x25_packet.specs.FirstError.{IsFirstError}
+use Rattle.x25_packet.specs.Reading.FirstError.{IsFirstError}
 use Rattle.x25_packet.specs.declared.error.PacketError.{PacketError}
 
 -- octets are read as a packet exactly where they spell it

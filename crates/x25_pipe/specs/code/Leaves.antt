@@ -1,8 +1,8 @@
 -- What is left of a turn that is made in parts.
 use Rattle.std.specs.Prelude.{◌≡◌, ℕ, Bool, ◌||◌, List, ◌++◌, Option}
-use Rattle.x25_station.specs.Settings.{Settings}
+use Rattle.x25_station.specs.Config.{Settings}
 use Rattle.x25_station.specs.Station.{Station}
-use Rattle.x25_pipe.specs.Piped.{Turn, sayings_text, has_refusal}
+use Rattle.x25_pipe.specs.Pipe.{Turn, sayings_text, has_refusal}
 use Rattle.x25_pipe.specs.code.Stands.{Stands}
 use Rattle.x25_pipe.specs.declared.pipe.Pipe.{Pipe}
 

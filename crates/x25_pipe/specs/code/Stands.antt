@@ -7,10 +7,10 @@ use Rattle.x25_station.specs.declared.station.Station as code
 use Rattle.x25_station.specs.declared.step.Step as code_step
 use Rattle.x25_station.specs.code.FitsStation as fits
 use Rattle.x25_station.specs.code.PlainEntry.{plain_entry}
-use Rattle.x25_station.specs.Settings.{Settings}
+use Rattle.x25_station.specs.Config.{Settings}
 use Rattle.x25_station.specs.Station.{Station}
-use Rattle.x25_station.specs.Steps.{Outcome}
-use Rattle.x25_pipe.specs.Piped.{Saying, enters, sends, Turn, sayings_text, has_refusal}
+use Rattle.x25_station.specs.Step.{Outcome}
+use Rattle.x25_pipe.specs.Pipe.{Saying, enters, sends, Turn, sayings_text, has_refusal}
 use Rattle.x25_pipe.specs.declared.pipe.Pipe.{Pipe}
 
 -- The writer held `old` at first and holds `now`.

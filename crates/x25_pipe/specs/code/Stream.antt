@@ -2,9 +2,9 @@
 use Rattle.std.specs.Prelude.{◌≡◌, ℕ, false, List, [], ◌++◌, Option}
 use Rattle.std.specs.Io.KnownBytes.{Appends}
 use Rattle.x25_io.specs.code.LinesLead.{LinesEnded}
-use Rattle.x25_station.specs.Settings.{Settings}
+use Rattle.x25_station.specs.Config.{Settings}
 use Rattle.x25_station.specs.Station.{Station}
-use Rattle.x25_pipe.specs.Piped.{Turn, sayings_text, piped, turns}
+use Rattle.x25_pipe.specs.Pipe.{Turn, sayings_text, piped, turns}
 use Rattle.x25_pipe.specs.code.Leaves.{Leaves}
 use Rattle.x25_pipe.specs.declared.pipe.Pipe.{Pipe}
 

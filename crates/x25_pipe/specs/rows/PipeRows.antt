@@ -3,7 +3,7 @@ use Rattle.std.specs.Prelude.{◌≡◌, ℕ, false, List, [], codes}
 use Rattle.x25_bits.specs.declared.role.Role.{Role}
 use Rattle.x25_bits.specs.declared.role.Role.TheVariants.{Dte, Dce}
 use Rattle.x25_station.specs.declared.config.Cfg.{Cfg}
-use Rattle.x25_pipe.specs.Piped.{station_text, station_status}
+use Rattle.x25_pipe.specs.Pipe.{station_text, station_status}
 
 abbrev pub usual : Cfg
 usual = record { k = 7; n2 = 10; channels = 1; long_data = false }

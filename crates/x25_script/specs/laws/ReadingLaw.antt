@@ -1,8 +1,8 @@
 -- What characters read as, and the grammar of a script's lines.
 use Rattle.std.specs.Prelude.{◌≡◌, ◌↔◌, ℕ, List, Some}
-use Rattle.x25_script.specs.Octets.{AreOctets}
-use Rattle.x25_script.specs.PlainLine.{PlainCommand, call, send, interrupt, PlainLine, command, damage}
-use Rattle.x25_script.specs.Spelling.{Spells}
+use Rattle.x25_script.specs.HexDigits.{AreOctets}
+use Rattle.x25_script.specs.ScriptLine.{PlainCommand, call, send, interrupt, PlainLine, command, damage}
+use Rattle.x25_script.specs.Reading.Spelling.{Spells}
 use Rattle.x25_script.specs.Reading.{line_in}
 
 -- characters are read as a line exactly where they spell it

@@ -2,8 +2,8 @@
 use Rattle.std.specs.Prelude.{◌≡◌, ℕ, Bool, ◌||◌, List, ◌++◌, Option}
 use Rattle.x25_station.specs.declared.config.Cfg.{Cfg}
 use Rattle.x25_world.specs.World.{World}
-use Rattle.x25_sim.specs.Sayings.{sayings_text, has_refusal}
-use Rattle.x25_sim.specs.Simulated.{Turn}
+use Rattle.x25_sim.specs.Telling.{sayings_text, has_refusal}
+use Rattle.x25_sim.specs.Stage.{Turn}
 use Rattle.x25_sim.specs.code.Stands.{Stands}
 use Rattle.x25_sim.specs.declared.stage.Stage.{Stage}
 

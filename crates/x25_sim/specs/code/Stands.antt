@@ -5,8 +5,8 @@ use Rattle.x25_world.specs.World.{World, start, connected}
 use Rattle.x25_world.specs.code.FitsWorld.{FitsWorld, all_of, nothing_gone}
 use Rattle.x25_io.specs.code.Written.{AppendsPrefix, Tells}
 use Rattle.x25_io.specs.declared.fault.Fault.{Fault}
-use Rattle.x25_sim.specs.Sayings.{sayings_text, has_refusal}
-use Rattle.x25_sim.specs.Simulated.{Turn}
+use Rattle.x25_sim.specs.Telling.{sayings_text, has_refusal}
+use Rattle.x25_sim.specs.Stage.{Turn}
 use Rattle.x25_sim.specs.declared.stage.Stage.{Stage}
 
 -- The writer held `old` at first and holds `now`.

@@ -4,8 +4,8 @@ use Rattle.std.specs.Io.KnownBytes.{Appends}
 use Rattle.x25_io.specs.code.LinesLead.{LinesEnded}
 use Rattle.x25_station.specs.declared.config.Cfg.{Cfg}
 use Rattle.x25_world.specs.World.{World}
-use Rattle.x25_sim.specs.Sayings.{sayings_text}
-use Rattle.x25_sim.specs.Simulated.{Turn, simulated, turns}
+use Rattle.x25_sim.specs.Telling.{sayings_text}
+use Rattle.x25_sim.specs.Stage.{Turn, simulated, turns}
 use Rattle.x25_sim.specs.code.Leaves.{Leaves}
 use Rattle.x25_sim.specs.declared.simulator.Simulator.{Simulator}
 

@@ -1,14 +1,14 @@
 -- What is written for a script is the transcript of a run of the world, beside what was refused.
 use Rattle.std.specs.Prelude.{◌≡◌, ℕ, Bool, true, false, List, [], ◌∷◌, Option, Some, None}
 use Rattle.x25_station.specs.declared.config.Cfg.{Cfg}
-use Rattle.x25_station.specs.Settings.{config_refusal}
-use Rattle.x25_script.specs.PlainLine.{connect, PlainLine, command, heal}
+use Rattle.x25_station.specs.Config.{config_refusal}
+use Rattle.x25_script.specs.ScriptLine.{connect, PlainLine, command, heal}
 use Rattle.x25_io.specs.Lines.{lines_of}
 use Rattle.x25_world.specs.World.{World, OnTap, AtEnd, Event, AreAccepted, run, start, established}
 use Rattle.x25_world.specs.Healing.{healing, ArrivesByHealing}
 use Rattle.x25_world.specs.laws.Claims.{AreInOctets, IsUpOnce, IsUpAtMostOnce, NoneConnects}
-use Rattle.x25_sim.specs.Sayings.{Saying, enters, taps, reads_nothing, refuses}
-use Rattle.x25_sim.specs.Simulated.{asked_in, line_turn, simulated}
+use Rattle.x25_sim.specs.Telling.{Saying, enters, taps, reads_nothing, refuses}
+use Rattle.x25_sim.specs.Stage.{asked_in, line_turn, simulated}
 
 -- the entries among what is said
 abbrev pub entries_in : List Saying → List AtEnd

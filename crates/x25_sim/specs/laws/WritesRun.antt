@@ -4,8 +4,8 @@ use Rattle.std.specs.Io.KnownBytes.{Appends}
 use Rattle.x25_station.specs.declared.config.Cfg.{Cfg}
 use Rattle.x25_world.specs.World.{World}
 use Rattle.x25_world.specs.laws.Claims.{IsUpOnce, IsUpAtMostOnce}
-use Rattle.x25_sim.specs.Sayings.{Saying, sayings_text}
-use Rattle.x25_sim.specs.Simulated.{simulated}
+use Rattle.x25_sim.specs.Telling.{Saying, sayings_text}
+use Rattle.x25_sim.specs.Stage.{simulated}
 use Rattle.x25_sim.specs.laws.RunLaw.{entries_in, frames_in}
 
 -- What was written behind `old` is the text of sayings. The entries among these are the transcript of the two stations to which the script

@@ -1,7 +1,7 @@
 -- Worked scripts of the simulator: what is written for each, and the status.
 use Rattle.std.specs.Prelude.{◌≡◌, ℕ, Bool, true, false, List, [], codes}
 use Rattle.x25_station.specs.declared.config.Cfg.{Cfg}
-use Rattle.x25_sim.specs.Simulated.{sim_text, sim_status}
+use Rattle.x25_sim.specs.Stage.{sim_text, sim_status}
 
 abbrev pub usual : Cfg
 usual = record { k = 7; n2 = 10; channels = 1; long_data = false }

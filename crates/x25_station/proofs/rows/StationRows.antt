@@ -1,32 +1,32 @@
 -- Worked rows of a station, computed on the definition.
 use Rattle.std.proofs.Common.{◌≡◌, ℕ, List, [], ◌∷◌, Some, None, true, false, refl}
 use Rattle.x25_bits.specs.declared.role.Role.TheVariants.{Dte}
-use Rattle.x25_frame.specs.PlainFrame.{PlainFrame, info, sabm, disc}
+use Rattle.x25_frame.specs.Frame.{PlainFrame, info, sabm, disc}
 use Rattle.x25_packet.specs.Digits.{packed}
 use Rattle.x25_packet.specs.Reading.{packet_of}
 use Rattle.x25_link.specs.declared.error.LinkError.TheVariants as link_error
 use Rattle.x25_link.specs.declared.phase.Phase.TheVariants.{Waiting, Closed}
 use Rattle.x25_link.specs.declared.phase.Reason.TheVariants.{Local, Counts, Reset}
-use Rattle.x25_link.specs.LinkStation.{with_nothing, fresh, pumped}
-use Rattle.x25_link.specs.MustSend.{Step as LinkStep}
-use Rattle.x25_link.specs.Steps.{alone, goes_up}
+use Rattle.x25_link.specs.Station.{with_nothing, fresh, pumped}
+use Rattle.x25_link.specs.Hearing.{Step as LinkStep}
+use Rattle.x25_link.specs.Link.{alone, goes_up}
 use Rattle.x25_circuit.specs.declared.state.State.TheVariants.{Open}
-use Rattle.x25_circuit.specs.Messages.{Last}
+use Rattle.x25_circuit.specs.Message.{Last}
 use Rattle.x25_circuit.specs.Params.{default_params}
 use Rattle.x25_circuit.specs.Circuit.{silent, begun}
-use Rattle.x25_circuit.specs.Calls.{Calls, Sends}
-use Rattle.x25_handshakes.specs.Names.{Name}
+use Rattle.x25_circuit.specs.Calling.{Calls, Sends}
+use Rattle.x25_handshakes.specs.laws.Names.{Name}
 use Rattle.x25_layer.specs.declared.error.LayerError.TheVariants as layer_error
 use Rattle.x25_layer.specs.Layer as layer
 use Rattle.x25_layer.specs.Calls.{Asks, Dials, Restarts, PullsAll}
-use Rattle.x25_layer.specs.Transcript.{Asked}
+use Rattle.x25_layer.specs.laws.Transcript.{Asked}
 use Rattle.x25_station.specs.declared.error.StationError.TheVariants as error
-use Rattle.x25_station.specs.Settings.{Settings, layer_settings}
+use Rattle.x25_station.specs.Config.{Settings, layer_settings}
 use Rattle.x25_station.specs.Command.{Requests, Connects, Disconnects}
-use Rattle.x25_station.specs.Entries.{StationEntry, of_channel, restart_asked, connect_asked, disconnect_asked, link_up, link_down, was_restarted}
+use Rattle.x25_station.specs.Entry.{StationEntry, of_channel, restart_asked, connect_asked, disconnect_asked, link_up, link_down, was_restarted}
 use Rattle.x25_station.specs.Station.{Station, new_station}
-use Rattle.x25_station.specs.Steps.{Outcome, Did, Refused, follows, connects, fires, receives, commands}
-use Rattle.x25_station.specs.Told.{is_idle, stretch}
+use Rattle.x25_station.specs.Step.{Outcome, Did, Refused, follows, connects, fires, receives, commands}
+use Rattle.x25_station.specs.Station.Told.{is_idle, stretch}
 
 abbrev dte : Settings
 dte = record { role = Dte; window = 7; retries = 10; channels = 1; long_data = false }

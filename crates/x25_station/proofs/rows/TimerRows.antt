@@ -3,15 +3,15 @@ use Rattle.std.proofs.Common.{◌≡◌, [], ◌∷◌, true, false, None, Some,
 use Rattle.x25_bits.specs.declared.role.Role.TheVariants.{Dte}
 use Rattle.x25_link.specs.declared.phase.Phase.TheVariants.{Waiting}
 use Rattle.x25_link.specs.declared.phase.Reason.TheVariants.{Reset}
-use Rattle.x25_link.specs.LinkStation.{LinkStation, with_nothing, fresh, pumped}
-use Rattle.x25_link.specs.MustSend.{quiet}
-use Rattle.x25_link.specs.Steps.{alone, goes_up}
+use Rattle.x25_link.specs.Station.{LinkStation, with_nothing, fresh, pumped}
+use Rattle.x25_link.specs.Hearing.{quiet}
+use Rattle.x25_link.specs.Link.{alone, goes_up}
 use Rattle.x25_circuit.specs.Circuit.{begun}
 use Rattle.x25_layer.specs.Layer as layer
-use Rattle.x25_station.specs.Settings.{Settings}
+use Rattle.x25_station.specs.Config.{Settings}
 use Rattle.x25_station.specs.Command.{Connects, Disconnects}
 use Rattle.x25_station.specs.Station.{Station, new_station}
-use Rattle.x25_station.specs.Steps.{Did, follows, commands, fires}
+use Rattle.x25_station.specs.Step.{Did, follows, commands, fires}
 use Rattle.x25_station.specs.laws.TimerLaw.{Comes, Asks, Fires, Off, On, Start, mark}
 
 abbrev dte : Settings

@@ -1,6 +1,6 @@
 -- How much memory a station keeps set aside (profile).
 use Rattle.std.specs.Prelude.{ℕ, ◌≤◌}
-use Rattle.x25_link.specs.code.Link.{ShownLink}
+use Rattle.x25_link.specs.code.FitsLink.{ShownLink}
 use Rattle.x25_layer.specs.declared.layer.Layer as layer_code
 
 -- for so many packets that its layer puts, as many packets that are handed down to its link, and texts of entries

@@ -1,9 +1,9 @@
 -- Which states of the definition a link and a packet layer stand for together.
 use Rattle.std.specs.Prelude.{◌≡◌, []}
-use Rattle.x25_link.specs.code.Link.{ShownLink, FitsLink}
+use Rattle.x25_link.specs.code.FitsLink.{ShownLink, FitsLink}
 use Rattle.x25_layer.specs.declared.layer.Layer as layer_code
 use Rattle.x25_layer.specs.code.FitsLayer.{FitsLayer}
-use Rattle.x25_station.specs.Settings.{Settings, link_settings, layer_settings}
+use Rattle.x25_station.specs.Config.{Settings, link_settings, layer_settings}
 use Rattle.x25_station.specs.Station.{Station}
 use Rattle.x25_station.specs.laws.KeepLaw.{IsKept}
 

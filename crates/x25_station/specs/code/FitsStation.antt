@@ -1,15 +1,15 @@
 -- Which states of the definition a station stands for, and what its calls answer.
 use Rattle.std.specs.Prelude.{◌≡◌, ◌≤◌, ◌⊎◌, map, vec_len, Option, Some, None, Result, Err, OnOk, OnErr, IfOk, IfErr, IsErrAnd}
 use Rattle.x25_frame.specs.Spelling.{spelling_of}
-use Rattle.x25_link.specs.code.Link.{ShownLink}
+use Rattle.x25_link.specs.code.FitsLink.{ShownLink}
 use Rattle.x25_layer.specs.declared.layer.Layer as layer_code
 use Rattle.x25_station.specs.declared.station.Station as code
 use Rattle.x25_station.specs.declared.step.Step as code_step
 use Rattle.x25_station.specs.declared.error.StationError.{StationError}
 use Rattle.x25_station.specs.declared.error.StationError.TheVariants as error
-use Rattle.x25_station.specs.Settings.{Settings}
+use Rattle.x25_station.specs.Config.{Settings}
 use Rattle.x25_station.specs.Station.{Station}
-use Rattle.x25_station.specs.Steps.{Outcome, Did, Refused}
+use Rattle.x25_station.specs.Step.{Outcome, Did, Refused}
 use Rattle.x25_station.specs.code.FitsParts.{FitsParts}
 use Rattle.x25_station.specs.code.PlainEntry.{plain_entry}
 

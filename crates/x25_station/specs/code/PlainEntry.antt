@@ -1,10 +1,10 @@
 -- Which entry of the definition an entry of the code is.
 use Rattle.std.specs.Prelude.{string_bytes, Some}
-use Rattle.x25_circuit.specs.Notices.{PlainNotice, incoming, connected, collided, cleared, clear_done, was_reset, reset_done, delivered, interrupted, interrupt_done, fault}
-use Rattle.x25_circuit.specs.Calls.{Request, Calls, Accepts, Clears, Sends, Interrupts, Resets, SaysReady, SaysNotReady}
-use Rattle.x25_handshakes.specs.Names.{Name}
+use Rattle.x25_circuit.specs.Notice.{PlainNotice, incoming, connected, collided, cleared, clear_done, was_reset, reset_done, delivered, interrupted, interrupt_done, fault}
+use Rattle.x25_circuit.specs.Calling.{Request, Calls, Accepts, Clears, Sends, Interrupts, Resets, SaysReady, SaysNotReady}
+use Rattle.x25_handshakes.specs.laws.Names.{Name}
 use Rattle.x25_layer.specs.declared.stretch.Stretch.{Stretch}
-use Rattle.x25_layer.specs.Transcript as layer
+use Rattle.x25_layer.specs.laws.Transcript as layer
 use Rattle.x25_station.specs.declared.entry.Entry.{Entry}
 use Rattle.x25_station.specs.declared.entry.Entry.TheVariants as code
 use Rattle.x25_station.specs.declared.entry.Said.{Said}
@@ -13,7 +13,7 @@ use Rattle.x25_station.specs.declared.entry.Asked.{Asked}
 use Rattle.x25_station.specs.declared.entry.Asked.TheVariants as asked
 use Rattle.x25_station.specs.declared.entry.Told.{Told}
 use Rattle.x25_station.specs.declared.entry.Told.TheVariants as told
-use Rattle.x25_station.specs.Entries.{StationEntry, of_channel, restart_asked, connect_asked, disconnect_asked, link_up, link_down, was_restarted, restart_confirmed, at_fault}
+use Rattle.x25_station.specs.Entry.{StationEntry, of_channel, restart_asked, connect_asked, disconnect_asked, link_up, link_down, was_restarted, restart_confirmed, at_fault}
 
 abbrev pub plain_name : Stretch → Name
 plain_name s = record { restarts = s.restarts; clears = s.clears; resets = s.resets }

@@ -5,9 +5,9 @@ use Rattle.x25_circuit.specs.declared.circuit.Circuit as circuit_code
 use Rattle.x25_circuit.specs.Circuit as circuit
 use Rattle.x25_layer.specs.Layer.{is_channel}
 use Rattle.x25_station.specs.declared.station.Station as code
-use Rattle.x25_layer.specs.InPart.{joined_at}
+use Rattle.x25_layer.specs.Layer.InPart.{joined_at}
 use Rattle.x25_station.specs.code.Aside.{IsFewAside}
-use Rattle.x25_station.specs.Settings.{Settings, layer_settings}
+use Rattle.x25_station.specs.Config.{Settings, layer_settings}
 use Rattle.x25_station.specs.Station.{Station}
 use Rattle.x25_station.specs.code.FitsStation.{FitsStation}
 

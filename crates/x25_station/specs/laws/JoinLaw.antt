@@ -1,23 +1,23 @@
 -- Each step of a station is a step of its link, and then packets that are handed down to the link, each accepted; and these packets are
 -- those that the same moves of the packet layer put, alone over a link that keeps order.
 use Rattle.std.specs.Prelude.{◌≡◌, ℕ, ◌≤◌, ◌==◌, true, false, List, [], ◌∷◌, ◌++◌, Some, None, Ok}
-use Rattle.x25_packet.specs.PlainPacket.{PlainPacket, restart}
+use Rattle.x25_packet.specs.Packet.{PlainPacket, restart}
 use Rattle.x25_packet.specs.Reading.{packet_of}
 use Rattle.x25_link.specs.Outgoing.{waits}
-use Rattle.x25_link.specs.LinkStation.{Settings as LinkSettings, LinkStation, Side, fresh}
-use Rattle.x25_link.specs.MustSend.{Step as LinkStep}
+use Rattle.x25_link.specs.Station.{Settings as LinkSettings, LinkStation, Side, fresh}
+use Rattle.x25_link.specs.Hearing.{Step as LinkStep}
 use Rattle.x25_link.specs.laws.NoteLaw.{IsQuiet}
-use Rattle.x25_link.specs.Steps.{alone, put_refusal, take_step}
+use Rattle.x25_link.specs.Link.{alone, put_refusal, take_step}
 use Rattle.x25_link.specs.declared.phase.Reason.{Reason}
 use Rattle.x25_layer.specs.Layer.{Layer, rested, goes_up, restart_cause}
 use Rattle.x25_layer.specs.Calls.{LayerRequest}
 use Rattle.x25_packet.specs.Spelling.{longest_user}
-use Rattle.x25_layer.specs.TwoLayers.{TwoLayers, Move, Requests, HandsUp}
+use Rattle.x25_layer.specs.laws.TwoLayers.{TwoLayers, Move, Requests, HandsUp}
 use Rattle.x25_layer.specs.laws.RoundLaw.{moves_all, pulls_of, AreChannels}
-use Rattle.x25_station.specs.Settings.{Settings, link_settings, layer_settings}
-use Rattle.x25_station.specs.Entries.{link_down, entries_noted, layer_entries, layer_notices}
+use Rattle.x25_station.specs.Config.{Settings, link_settings, layer_settings}
+use Rattle.x25_station.specs.Entry.{link_down, entries_noted, layer_entries, layer_notices}
 use Rattle.x25_station.specs.Station.{Station, put_on, all_put}
-use Rattle.x25_station.specs.Steps.{Step, Did, follows, abandons, receives, requests}
+use Rattle.x25_station.specs.Step.{Step, Did, follows, abandons, receives, requests}
 
 -- ---- the link's half
 

@@ -2,12 +2,12 @@
 -- LinkDown leaves it.
 use Rattle.std.specs.Prelude.{◌≡◌, ℕ, ◌≤◌, false, List}
 use Rattle.x25_link.specs.Outgoing.{waits}
-use Rattle.x25_link.specs.LinkStation.{is_up}
+use Rattle.x25_link.specs.Station.{is_up}
 use Rattle.x25_layer.specs.Layer.{rested}
-use Rattle.x25_station.specs.Settings.{Settings}
+use Rattle.x25_station.specs.Config.{Settings}
 use Rattle.x25_station.specs.Command.{Command}
 use Rattle.x25_station.specs.Station.{Station}
-use Rattle.x25_station.specs.Steps.{Outcome, Did, Refused, connects, fires, receives, commands}
+use Rattle.x25_station.specs.Step.{Outcome, Did, Refused, connects, fires, receives, commands}
 
 pub record IsKept (s : Station) : Type 0 where
   pub few : waits s.link.outgoing ≤ 256

@@ -1,13 +1,13 @@
 -- What the layers put the other end reads again: each packet's octets are octets, fit in an I frame, and read as the packet, with as much
 -- user data of a CALL as both ends may send.
 use Rattle.std.specs.Prelude.{◌≡◌, Bool, ℕ, ◌<◌, ◌≤◌, List, [], ◌∷◌, length, All, Ok}
-use Rattle.x25_packet.specs.PlainPacket.{PlainPacket}
+use Rattle.x25_packet.specs.Packet.{PlainPacket}
 use Rattle.x25_packet.specs.Spelling.{spelling_of, longest_user}
 use Rattle.x25_packet.specs.Reading.{packet_of}
-use Rattle.x25_circuit.specs.Calls.{Request, Calls, Sends, Interrupts}
+use Rattle.x25_circuit.specs.Calling.{Request, Calls, Sends, Interrupts}
 use Rattle.x25_layer.specs.Calls.{LayerRequest, Asks, Dials, Restarts, PullsAll}
-use Rattle.x25_layer.specs.TwoLayers.{TwoLayers, Move, Requests, Event, run, start}
-use Rattle.x25_station.specs.Settings.{longest_packet}
+use Rattle.x25_layer.specs.laws.TwoLayers.{TwoLayers, Move, Requests, Event, run, start}
+use Rattle.x25_station.specs.Config.{longest_packet}
 
 abbrev pub AreOctets : List ℕ → Type 0
 AreOctets xs = All (λ octet. octet < 256) xs

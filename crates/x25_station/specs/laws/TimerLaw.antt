@@ -2,14 +2,14 @@
 -- is dropped, left as it is, or set. When it passes he fires T1.
 use Rattle.std.specs.Prelude.{◌≡◌, ℕ, ◌%◌, ◌==◌, Bool, true, false, not, ◌||◌, List, [], ◌∷◌}
 use Rattle.x25_link.specs.declared.error.LinkError.TheVariants as link_error
-use Rattle.x25_link.specs.LinkStation.{LinkStation}
-use Rattle.x25_link.specs.Steps.{timer_runs}
+use Rattle.x25_link.specs.Station.{LinkStation}
+use Rattle.x25_link.specs.Link.{timer_runs}
 use Rattle.x25_station.specs.declared.error.StationError.TheVariants as error
-use Rattle.x25_station.specs.Settings.{Settings}
+use Rattle.x25_station.specs.Config.{Settings}
 use Rattle.x25_station.specs.Command.{Command}
-use Rattle.x25_station.specs.Entries.{StationEntry, link_up}
+use Rattle.x25_station.specs.Entry.{StationEntry, link_up}
 use Rattle.x25_station.specs.Station.{Station, new_station}
-use Rattle.x25_station.specs.Steps.{Step, Outcome, Did, Refused, receives, commands, fires}
+use Rattle.x25_station.specs.Step.{Step, Outcome, Did, Refused, receives, commands, fires}
 
 -- octets come, the user commands, or T1 fires
 pub data Event : Type 0 where

@@ -1,6 +1,6 @@
 -- What a sender holds, and the states of the window machine that it fits.
 use Rattle.std.specs.Prelude.{◌≡◌, ℕ, ◌+◌, ◌-◌, ◌%◌, List, [], ◌∷◌, ◌++◌, length, drop, nat_lt, ◌==◌, if◌then◌else◌}
-use Rattle.x25_window.specs.Sending.{Sending, IsSending}
+use Rattle.x25_window.specs.Sender.{Sending, IsSending}
 
 -- the window, the number modulo 8 of the first item held, how many items stand before the place to send from,
 -- and the items from the first that isn't acknowledged on

@@ -3,7 +3,7 @@ use Rattle.std.specs.Prelude.{◌≡◌, ⊤, length, nat_lt, if◌then◌else�
 use Rattle.std.specs.Borrow.{Fml, RattleType, MutBor, follows_so}
 use mathlib.Core.Option.{none}
 use Rattle.x25_window.specs.contracts.sender.Sender.{the_row}
-use Rattle.x25_window.specs.Sending.{Sending, moved_on}
+use Rattle.x25_window.specs.Sender.{Sending, moved_on}
 use Rattle.x25_window.specs.code.Held.{Held, Fits, advanced}
 
 -- each state that it fitted has moved on, where there was an item to send

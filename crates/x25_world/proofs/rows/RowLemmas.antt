@@ -1,9 +1,9 @@
 -- The worked rows, by computing.
 use Rattle.std.proofs.Common.{refl, arith}
-use Rattle.x25_bits.specs.Fcs.{fcs_of, number_of, low_bits, add, divisor, divided}
-use Rattle.x25_bits.specs.Sealed.{is_sealed}
+use Rattle.x25_bits.specs.FrameCheck.{fcs_of, number_of, low_bits, add, divisor, divided}
+use Rattle.x25_bits.specs.FrameCheck.Sealed.{is_sealed}
 use Rattle.x25_frame.specs.Reading.{frame_of}
-use Rattle.x25_link.specs.LinkStation.{pumped}
+use Rattle.x25_link.specs.Station.{pumped}
 use Rattle.x25_packet.specs.Digits.{packed, halves_of}
 use Rattle.x25_packet.specs.Facilities.{facilities_of}
 use Rattle.x25_packet.specs.Reading.{packet_of}

@@ -3,20 +3,20 @@ use Rattle.std.proofs.Common.{◌≡◌, ℕ, List, [], ◌∷◌, ◌++◌, Boo
 use Rattle.x25_bits.specs.declared.role.Role.{Role}
 use Rattle.x25_bits.specs.declared.role.Role.TheVariants.{Dte, Dce}
 use Rattle.x25_link.specs.declared.phase.Notes.{Notes}
-use Rattle.x25_link.specs.MustSend.{other}
+use Rattle.x25_link.specs.Hearing.{other}
 use Rattle.x25_link.specs.laws.NoteLaw.{IsQuiet}
-use Rattle.x25_link.specs.MustSend.{Step as LinkStep}
+use Rattle.x25_link.specs.Hearing.{Step as LinkStep}
 use Rattle.x25_layer.specs.Layer.{LayerSettings, Layer, LayerNotice, on_channel, restarted, restart_done, layer_fault}
 use Rattle.x25_layer.specs.Calls.{LayerRequest, Asks, Dials, Restarts, PullsAll, LayerOutcome, Accepted, Declined}
-use Rattle.x25_layer.specs.Transcript.{Entry, Said, Asked, Told}
-use Rattle.x25_layer.specs.TwoLayers.{entries_asked}
+use Rattle.x25_layer.specs.laws.Transcript.{Entry, Said, Asked, Told}
+use Rattle.x25_layer.specs.laws.TwoLayers.{entries_asked}
 use Rattle.x25_layer.specs.laws.ApartLaw.{BeginsRestarted}
-use Rattle.x25_station.specs.Settings.{Settings, layer_settings}
-use Rattle.x25_station.specs.Entries.{StationEntry, of_channel, restart_asked, connect_asked, disconnect_asked, link_up, link_down, was_restarted, restart_confirmed, at_fault, of_channels, station_told, entries_noted, notice_of, layer_notices}
-use Rattle.x25_station.specs.Steps.{entries_of_outcome, layer_answer, entries_heard, follows}
+use Rattle.x25_station.specs.Config.{Settings, layer_settings}
+use Rattle.x25_station.specs.Entry.{StationEntry, of_channel, restart_asked, connect_asked, disconnect_asked, link_up, link_down, was_restarted, restart_confirmed, at_fault, of_channels, station_told, entries_noted, notice_of, layer_notices}
+use Rattle.x25_station.specs.Step.{entries_of_outcome, layer_answer, entries_heard, follows}
 use Rattle.x25_world.specs.World.{AtEnd, entered}
 use Rattle.x25_world.specs.laws.Claims.{entry_of_end, entries_at}
-use Rattle.x25_world.specs.Sessions.{Progress, none_begun, after_entry, after_entries, is_in, entry_if, session_from, first_of, met_at, met_by, meets_from, meets}
+use Rattle.x25_world.specs.laws.Sessions.{Progress, none_begun, after_entry, after_entries, is_in, entry_if, session_from, first_of, met_at, met_by, meets_from, meets}
 
 -- ---- one behind the other
 

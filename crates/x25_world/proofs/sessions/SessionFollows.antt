@@ -1,33 +1,33 @@
 -- A step of the link that hands nothing up: nothing is noted; or LinkDown; or LinkUp, by which a session begins.
 use Rattle.std.proofs.Common.{◌≡◌, ℕ, suc, ◌==◌, List, [], ◌∷◌, ◌++◌, map, Bool, true, false, Option, Some, None, refl, sym, ap, ap₂, ◌∙◌, subst, arith}
 use Rattle.x25_bits.specs.declared.role.Role.{Role}
-use Rattle.x25_frame.specs.PlainFrame.{PlainFrame}
+use Rattle.x25_frame.specs.Frame.{PlainFrame}
 use Rattle.x25_frame.specs.Spelling.{spelling_of}
-use Rattle.x25_packet.specs.PlainPacket.{PlainPacket, restart}
+use Rattle.x25_packet.specs.Packet.{PlainPacket, restart}
 use Rattle.x25_link.specs.declared.phase.Reason.{Reason}
 use Rattle.x25_link.specs.declared.phase.Notes.{Notes}
-use Rattle.x25_link.specs.LinkStation.{LinkStation, is_up}
-use Rattle.x25_link.specs.MustSend.{Step as LinkStep}
+use Rattle.x25_link.specs.Station.{LinkStation, is_up}
+use Rattle.x25_link.specs.Hearing.{Step as LinkStep}
 use Rattle.x25_link.specs.laws.NoteLaw.{IsQuiet, Tells}
-use Rattle.x25_line.specs.Stations as line
-use Rattle.x25_line.specs.Sessions.{Sessions}
+use Rattle.x25_line.specs.laws.Stations as line
+use Rattle.x25_line.specs.laws.Sessions.{Sessions}
 use Rattle.x25_line.specs.laws.SessionClaims.{octets_of, OnlyBegunHaveLists}
 use Rattle.x25_layer.specs.Layer.{LayerSettings, Layer, rested, restart_cause, goes_up}
 use Rattle.x25_layer.specs.Rounds.{LinkView}
-use Rattle.x25_layer.specs.TwoLayers as layer
-use Rattle.x25_layer.specs.TwoLayers.{started}
-use Rattle.x25_layer.specs.Apart.{OwnMove, own_run}
+use Rattle.x25_layer.specs.laws.TwoLayers as layer
+use Rattle.x25_layer.specs.laws.TwoLayers.{started}
+use Rattle.x25_layer.specs.laws.Apart.{OwnMove, own_run}
 use Rattle.x25_station.specs.declared.config.Cfg.{Cfg}
-use Rattle.x25_station.specs.Settings.{settings_from, link_settings, layer_settings}
-use Rattle.x25_station.specs.Entries.{StationEntry, connect_asked, disconnect_asked, link_up, link_down, entries_noted, layer_entries, layer_notices}
+use Rattle.x25_station.specs.Config.{settings_from, link_settings, layer_settings}
+use Rattle.x25_station.specs.Entry.{StationEntry, connect_asked, disconnect_asked, link_up, link_down, entries_noted, layer_entries, layer_notices}
 use Rattle.x25_station.specs.Station.{all_put, view_of}
-use Rattle.x25_station.specs.Steps.{Step, layer_at, follows, led_by}
+use Rattle.x25_station.specs.Step.{Step, layer_at, follows, led_by}
 use Rattle.x25_station.specs.laws.KeepLaw.{IsKept}
 use Rattle.x25_station.specs.laws.JoinLaw.{station_with}
 use Rattle.x25_station.specs.laws.ReadLaw.{AreReadable}
 use Rattle.x25_world.specs.World.{World, after_step}
 use Rattle.x25_world.specs.laws.Claims.{link_of}
-use Rattle.x25_world.specs.Sessions.{Progress, is_in, entry_if}
+use Rattle.x25_world.specs.laws.Sessions.{Progress, is_in, entry_if}
 use Rattle.x25_world.proofs.Known.{IsConfigured, true_false}
 use Rattle.x25_world.proofs.sessions.SessionTrace.{layer_of, own, TakeNothing}
 use Rattle.x25_world.proofs.sessions.SessionReaches.{Beginning, MayAsk, SessionsReach, known_sessions}

@@ -3,29 +3,29 @@ use Rattle.std.proofs.Common.{◌≡◌, ℕ, suc, ◌==◌, ◌≤◌, ◌<◌,
 use Rattle.std.proofs.lemmas.Bool.{eqb-true, eq-eqb}
 use Rattle.x25_bits.specs.declared.role.Role.{Role}
 use Rattle.x25_bits.specs.declared.role.Role.TheVariants.{Dte, Dce}
-use Rattle.x25_frame.specs.PlainFrame.{PlainFrame}
+use Rattle.x25_frame.specs.Frame.{PlainFrame}
 use Rattle.x25_frame.specs.Spelling.{spelling_of}
-use Rattle.x25_packet.specs.PlainPacket.{PlainPacket, restart}
-use Rattle.x25_link.specs.LinkStation.{is_up}
-use Rattle.x25_link.specs.MustSend.{other}
-use Rattle.x25_line.specs.Sessions.{SessionEnd, Meeting, Sessions, extended}
+use Rattle.x25_packet.specs.Packet.{PlainPacket, restart}
+use Rattle.x25_link.specs.Station.{is_up}
+use Rattle.x25_link.specs.Hearing.{other}
+use Rattle.x25_line.specs.laws.Sessions.{SessionEnd, Meeting, Sessions, extended}
 use Rattle.x25_line.specs.laws.SessionClaims.{octets_of}
 use Rattle.x25_layer.specs.Layer.{Layer, LayerNotice, goes_up, restart_cause}
-use Rattle.x25_layer.specs.Transcript.{Entry}
-use Rattle.x25_layer.specs.Quiet.{AreNoFaults}
-use Rattle.x25_layer.specs.TwoLayers as layer
-use Rattle.x25_layer.specs.TwoLayers.{started}
-use Rattle.x25_layer.specs.Apart.{OwnMove, own_run}
+use Rattle.x25_layer.specs.laws.Transcript.{Entry}
+use Rattle.x25_layer.specs.laws.Quiet.{AreNoFaults}
+use Rattle.x25_layer.specs.laws.TwoLayers as layer
+use Rattle.x25_layer.specs.laws.TwoLayers.{started}
+use Rattle.x25_layer.specs.laws.Apart.{OwnMove, own_run}
 use Rattle.x25_layer.specs.laws.ApartLaw.{BeginsRestarted}
 use Rattle.x25_station.specs.declared.config.Cfg.{Cfg}
-use Rattle.x25_station.specs.Settings.{settings_from}
-use Rattle.x25_station.specs.Entries.{StationEntry, layer_entries, layer_notices}
+use Rattle.x25_station.specs.Config.{settings_from}
+use Rattle.x25_station.specs.Entry.{StationEntry, layer_entries, layer_notices}
 use Rattle.x25_station.specs.Station.{Station}
-use Rattle.x25_station.specs.Steps.{Step}
+use Rattle.x25_station.specs.Step.{Step}
 use Rattle.x25_station.specs.laws.KeepLaw.{IsKept}
 use Rattle.x25_world.specs.World.{World, tapped, entered, after_step}
 use Rattle.x25_world.specs.laws.Claims.{entries_at, link_of}
-use Rattle.x25_world.specs.Sessions.{Progress, none_begun, after_entries, is_in, session_from, first_of, met_by, meets}
+use Rattle.x25_world.specs.laws.Sessions.{Progress, none_begun, after_entries, is_in, session_from, first_of, met_by, meets}
 use Rattle.x25_world.proofs.Growing.{spelled, spelled_none, grown, AreOnTap, entries_more, entries_other, layer_append, notices_append, on_tap}
 use Rattle.x25_world.proofs.Known.{true_false}
 use Rattle.x25_world.proofs.sessions.SessionTrace.{layer_of, Done, moved, own_in, own, own_more, own_same, own_other, own_goes, same_number, other_number, TakeNothing, nothing_append, BringOctets, octets_append}

@@ -3,21 +3,21 @@
 use Rattle.std.proofs.Common.{◌≡◌, ℕ, ◌≤◌, ◌<◌, ◌⊎◌, inl, inr, List, [], ◌∷◌, map, true, false, Option, Some, None, refl, sym, subst}
 use Rattle.x25_bits.specs.declared.role.Role.{Role}
 use Rattle.x25_bits.specs.declared.role.Role.TheVariants.{Dte, Dce}
-use Rattle.x25_link.specs.LinkStation.{is_up}
-use Rattle.x25_link.specs.MustSend.{other}
-use Rattle.x25_line.specs.Sessions as links
-use Rattle.x25_line.specs.Sessions.{SessionEnd, Meeting, Sessions, turned}
+use Rattle.x25_link.specs.Station.{is_up}
+use Rattle.x25_link.specs.Hearing.{other}
+use Rattle.x25_line.specs.laws.Sessions as links
+use Rattle.x25_line.specs.laws.Sessions.{SessionEnd, Meeting, Sessions, turned}
 use Rattle.x25_line.specs.laws.SessionClaims.{AllMet, SomeMet, octets_of}
-use Rattle.x25_layer.specs.Quiet.{AreNoFaults}
-use Rattle.x25_layer.specs.TwoLayers as layer
-use Rattle.x25_layer.specs.Apart.{ApartEvent, apart_start, AreInOrder}
+use Rattle.x25_layer.specs.laws.Quiet.{AreNoFaults}
+use Rattle.x25_layer.specs.laws.TwoLayers as layer
+use Rattle.x25_layer.specs.laws.Apart.{ApartEvent, apart_start, AreInOrder}
 use Rattle.x25_station.specs.declared.config.Cfg.{Cfg}
-use Rattle.x25_station.specs.Entries.{StationEntry, layer_entries, layer_notices}
+use Rattle.x25_station.specs.Entry.{StationEntry, layer_entries, layer_notices}
 use Rattle.x25_station.specs.Station.{Station}
 use Rattle.x25_station.specs.laws.KeepLaw.{IsKept}
 use Rattle.x25_world.specs.World.{World, swapped}
 use Rattle.x25_world.specs.laws.Claims.{entries_at}
-use Rattle.x25_world.specs.Sessions.{none_begun, after_entries, session_from, meets}
+use Rattle.x25_world.specs.laws.Sessions.{none_begun, after_entries, session_from, meets}
 use Rattle.x25_world.proofs.Growing.{spelled, AreOnTap}
 use Rattle.x25_world.proofs.sessions.SessionTrace.{Done, own_in, own, pair_at, pair_turned, TakeNothing, BringOctets}
 use Rattle.x25_world.proofs.sessions.SessionReaches.{Beginning, SessionsReach, reach_swapped}

@@ -2,12 +2,12 @@
 use Rattle.std.proofs.Common.{◌≡◌, ℕ, ◌==◌, ◌<◌, inl, inr, List, [], ◌∷◌, ◌++◌, Bool, true, false, if◌then◌else◌, sym, ap, ◌∙◌, subst, arith}
 use Rattle.x25_bits.specs.declared.role.Role.{Role}
 use Rattle.x25_bits.specs.declared.role.Role.TheVariants.{Dte, Dce}
-use Rattle.x25_link.specs.MustSend.{other}
-use Rattle.x25_line.specs.Sessions.{Meeting}
+use Rattle.x25_link.specs.Hearing.{other}
+use Rattle.x25_line.specs.laws.Sessions.{Meeting}
 use Rattle.x25_line.specs.laws.SessionClaims.{AllMet, SomeMet, IsNoEarlier, InStep}
-use Rattle.x25_layer.specs.TwoLayers as layer
+use Rattle.x25_layer.specs.laws.TwoLayers as layer
 use Rattle.x25_layer.specs.laws.Law.{IsQuietEnd}
-use Rattle.x25_layer.specs.Apart.{OwnMove, as_move, own_run, Ends, ApartEvent, apart_run, apart_start, as_world, all_over_links}
+use Rattle.x25_layer.specs.laws.Apart.{OwnMove, as_move, own_run, Ends, ApartEvent, apart_run, apart_start, as_world, all_over_links}
 use Rattle.x25_layer.specs.laws.ApartLaw.{IsToldFirst}
 use Rattle.x25_station.specs.declared.config.Cfg.{Cfg}
 use Rattle.x25_station.specs.laws.ReadLaw.{AreReadable, MovesOctets, BringOctets}

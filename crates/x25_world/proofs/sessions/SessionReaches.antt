@@ -2,17 +2,17 @@
 use Rattle.std.proofs.Common.{◌≡◌, Bool, false, List, [], ◌∷◌, ◌++◌, inl, refl, sym, ap, ◌∙◌, subst, map}
 use Rattle.x25_bits.specs.declared.role.Role.{Role}
 use Rattle.x25_bits.specs.declared.role.Role.TheVariants.{Dte, Dce}
-use Rattle.x25_link.specs.LinkStation.{Settings as LinkSettings}
-use Rattle.x25_link.specs.MustSend.{other}
-use Rattle.x25_line.specs.Stations as line
+use Rattle.x25_link.specs.Station.{Settings as LinkSettings}
+use Rattle.x25_link.specs.Hearing.{other}
+use Rattle.x25_line.specs.laws.Stations as line
 use Rattle.x25_line.specs.laws.StationClaims.{AreJoined, AcceptsNoConnect}
-use Rattle.x25_line.specs.Sessions as links
-use Rattle.x25_line.specs.Sessions.{Meeting, Sessions, turned, from_nothing, IsTimely, IsTimelyAt, AreTimely}
+use Rattle.x25_line.specs.laws.Sessions as links
+use Rattle.x25_line.specs.laws.Sessions.{Meeting, Sessions, turned, from_nothing, IsTimely, IsTimelyAt, AreTimely}
 use Rattle.x25_line.specs.laws.SessionClaims.{Throughout}
 use Rattle.x25_station.specs.declared.config.Cfg.{Cfg}
 use Rattle.x25_world.specs.World.{Act, Event}
 use Rattle.x25_world.specs.laws.Claims.{link_of}
-use Rattle.x25_world.specs.WindowGoes.{Asks, AsksAll, at_end, all_at}
+use Rattle.x25_world.specs.laws.WindowGoes.{Asks, AsksAll, at_end, all_at}
 use Rattle.x25_world.proofs.Known.{IsConfigured}
 use Rattle.x25_world.proofs.OneLink.{OneLink, one_turned, one_acts}
 

@@ -2,17 +2,17 @@
 use Rattle.std.proofs.Common.{◌≡◌, ℕ, ◌≤◌, inl, inr, List, [], ◌∷◌, Bool, false, None, refl, sym, ap, ◌∙◌, subst, arith}
 use Rattle.x25_bits.specs.declared.role.Role.{Role}
 use Rattle.x25_bits.specs.declared.role.Role.TheVariants.{Dte, Dce}
-use Rattle.x25_line.specs.Sessions.{Sessions, from_nothing}
+use Rattle.x25_line.specs.laws.Sessions.{Sessions, from_nothing}
 use Rattle.x25_station.specs.declared.config.Cfg.{Cfg}
-use Rattle.x25_station.specs.Settings.{settings_from, config_refusal}
-use Rattle.x25_station.specs.Entries.{link_up}
+use Rattle.x25_station.specs.Config.{settings_from, config_refusal}
+use Rattle.x25_station.specs.Entry.{link_up}
 use Rattle.x25_station.specs.Command.{Requests, Connects, Disconnects}
 use Rattle.x25_station.specs.Station.{new_station}
 use Rattle.x25_station.specs.laws.KeepLaw.{ConnectKeeps}
 use Rattle.x25_world.specs.World.{AtEnd, World, swapped, WorldOutcome, Happened, Declined, swapped_back, Act, Commands, Receives, Fires, Loses, Damages, acts, Event, happens, refusal_of, after, run, start, connected, established}
 use Rattle.x25_world.specs.laws.Claims.{ActsInOctets, AreInOctets, IsBeginning, IsNoConnect, NoneConnects}
-use Rattle.x25_world.specs.Sessions.{Progress, progress_at, last_session}
-use Rattle.x25_world.specs.WindowGoes.{both_put, two_links}
+use Rattle.x25_world.specs.laws.Sessions.{Progress, progress_at, last_session}
+use Rattle.x25_world.specs.laws.WindowGoes.{both_put, two_links}
 use Rattle.x25_world.specs.laws.SessionClaims.{Throughout}
 use Rattle.x25_world.proofs.Known.{IsConfigured, is_configured}
 use Rattle.x25_world.proofs.Established.{kept_new, just_set_up}

@@ -3,28 +3,28 @@
 use Rattle.std.proofs.Common.{◌≡◌, ℕ, ◌+◌, inl, List, [], ◌∷◌, ◌++◌, length, map, remove, nat_le, Bool, true, false, if◌then◌else◌, Option, Some, None, Result, refl, sym, ap, ap₂, ◌∙◌, subst}
 use Rattle.x25_bits.specs.declared.role.Role.{Role}
 use Rattle.x25_bits.specs.declared.role.Role.TheVariants.{Dte, Dce}
-use Rattle.x25_frame.specs.PlainFrame.{PlainFrame}
+use Rattle.x25_frame.specs.Frame.{PlainFrame}
 use Rattle.x25_frame.specs.Spelling.{spelling_of}
 use Rattle.x25_frame.specs.Reading.{frame_of}
 use Rattle.x25_frame.specs.declared.error.FrameError.{FrameError}
 use Rattle.x25_link.specs.declared.error.LinkError.{LinkError}
-use Rattle.x25_link.specs.MustSend.{other, Step as LinkStep}
-use Rattle.x25_link.specs.LinkStation.{Settings as LinkSettings, LinkStation, is_up}
-use Rattle.x25_link.specs.Steps.{take_step, put_step, put_refusal, timer_step, timer_refusal, connect_step, connect_refusal, disconnect_step, disconnect_refusal, abandon_step}
-use Rattle.x25_line.specs.Stations as line
-use Rattle.x25_line.specs.Stations.{is_visible}
+use Rattle.x25_link.specs.Hearing.{other, Step as LinkStep}
+use Rattle.x25_link.specs.Station.{Settings as LinkSettings, LinkStation, is_up}
+use Rattle.x25_link.specs.Link.{take_step, put_step, put_refusal, timer_step, timer_refusal, connect_step, connect_refusal, disconnect_step, disconnect_refusal, abandon_step}
+use Rattle.x25_line.specs.laws.Stations as line
+use Rattle.x25_line.specs.laws.Stations.{is_visible}
 use Rattle.x25_line.specs.laws.StationClaims.{number_in}
-use Rattle.x25_line.specs.Sessions as links
-use Rattle.x25_line.specs.Sessions.{Meeting, Sessions, from_nothing, sabm_in, ua_in, how_many, sent_in, begun_by, asked, IsTimely, IsTimelyAt, AreTimely}
+use Rattle.x25_line.specs.laws.Sessions as links
+use Rattle.x25_line.specs.laws.Sessions.{Meeting, Sessions, from_nothing, sabm_in, ua_in, how_many, sent_in, begun_by, asked, IsTimely, IsTimelyAt, AreTimely}
 use Rattle.x25_line.specs.laws.SessionClaims.{octets_of}
-use Rattle.x25_line.specs.SessionNumbers.{Standing, standing_happens, standing_run, standing_at, EachUpStandsWith, StandingGoesAlong}
+use Rattle.x25_line.specs.laws.SessionNumbers.{Standing, standing_happens, standing_run, standing_at, EachUpStandsWith, StandingGoesAlong}
 use Rattle.x25_station.specs.declared.config.Cfg.{Cfg}
-use Rattle.x25_station.specs.Settings.{config_refusal}
+use Rattle.x25_station.specs.Config.{config_refusal}
 use Rattle.x25_station.specs.laws.KeepLaw.{ConnectKeeps}
 use Rattle.x25_world.specs.World.{World, Event, happens, after, run}
 use Rattle.x25_world.specs.laws.Claims.{AreInOctets, IsBeginning, link_of}
-use Rattle.x25_world.specs.WindowGoes.{all_at}
-use Rattle.x25_world.specs.SessionWindow.{StandsInWindow, SessionsGoAlong, SessionsStayInWindow}
+use Rattle.x25_world.specs.laws.WindowGoes.{all_at}
+use Rattle.x25_world.specs.laws.SessionWindow.{StandsInWindow, SessionsGoAlong, SessionsStayInWindow}
 use Rattle.x25_world.specs.laws.SessionClaims.{ThroughoutAlong}
 use Rattle.x25_world.proofs.Known.{IsConfigured, is_configured}
 use Rattle.x25_world.proofs.OneLink.{octets_append, octets_sent, octets_removed, octets_replaced}

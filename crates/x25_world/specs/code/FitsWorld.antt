@@ -5,7 +5,7 @@ use Rattle.x25_bits.specs.declared.role.Role.{Role}
 use Rattle.x25_bits.specs.declared.role.Role.TheVariants.{Dte, Dce}
 use Rattle.x25_station.specs.declared.config.Cfg.{Cfg}
 use Rattle.x25_station.specs.declared.error.StationError.{StationError}
-use Rattle.x25_station.specs.Settings.{settings_from, config_refusal}
+use Rattle.x25_station.specs.Config.{settings_from, config_refusal}
 use Rattle.x25_station.specs.code.FitsStation.{FitsStation}
 use Rattle.x25_world.specs.World.{OnTap, AtEnd, World, Event, Act, Loses, WorldOutcome, Happened, Declined, happens, refusal_of, after, run, AreAccepted, established}
 use Rattle.x25_world.specs.laws.Claims.{AreInOctets, IsUpOnce, IsUpAtMostOnce, SetsUpOnce, IsBeginning, NoneConnects}

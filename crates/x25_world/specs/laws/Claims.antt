@@ -2,27 +2,27 @@
 use Rattle.std.specs.Prelude.{◌≡◌, ◌≤◌, ◌⊎◌, Bool, ℕ, suc, true, List, [], ◌∷◌, ◌++◌, Option, Some, None, Result, Ok, Err}
 use Rattle.x25_bits.specs.declared.role.Role.{Role}
 use Rattle.x25_bits.specs.declared.role.Role.TheVariants.{Dte, Dce}
-use Rattle.x25_packet.specs.PlainPacket.{PlainPacket}
+use Rattle.x25_packet.specs.Packet.{PlainPacket}
 use Rattle.x25_packet.specs.Reading.{packet_of}
 use Rattle.x25_packet.specs.declared.error.PacketError.{PacketError}
-use Rattle.x25_frame.specs.PlainFrame.{PlainFrame, info, frmr}
+use Rattle.x25_frame.specs.Frame.{PlainFrame, info, frmr}
 use Rattle.x25_frame.specs.Reading.{frame_of}
 use Rattle.x25_frame.specs.declared.error.FrameError.{FrameError}
-use Rattle.x25_link.specs.LinkStation.{Settings as LinkSettings, is_up}
-use Rattle.x25_link.specs.MustSend.{other}
-use Rattle.x25_handshakes.specs.Names.{Name}
+use Rattle.x25_link.specs.Station.{Settings as LinkSettings, is_up}
+use Rattle.x25_link.specs.Hearing.{other}
+use Rattle.x25_handshakes.specs.laws.Names.{Name}
 use Rattle.x25_packet.specs.Spelling.{longest_user}
-use Rattle.x25_layer.specs.Transcript.{Entry, name_of}
+use Rattle.x25_layer.specs.laws.Transcript.{Entry, name_of}
 use Rattle.x25_layer.specs.laws.NameLaw.{first_name, counted}
-use Rattle.x25_layer.specs.Quiet.{IsQuietAt, AreNoFaults}
+use Rattle.x25_layer.specs.laws.Quiet.{IsQuietAt, AreNoFaults}
 use Rattle.x25_layer.specs.laws.Law.{HandsUpLawfully, HasAllOf}
 use Rattle.x25_station.specs.declared.config.Cfg.{Cfg}
-use Rattle.x25_station.specs.Settings.{settings_from, config_refusal, longest_packet, link_settings}
+use Rattle.x25_station.specs.Config.{settings_from, config_refusal, longest_packet, link_settings}
 use Rattle.x25_station.specs.Command.{Command, Requests, Connects, Disconnects}
-use Rattle.x25_station.specs.Entries.{StationEntry, link_up, layer_entries, layer_notices}
+use Rattle.x25_station.specs.Entry.{StationEntry, link_up, layer_entries, layer_notices}
 use Rattle.x25_station.specs.laws.ReadLaw.{RequestsOctets}
 use Rattle.x25_station.specs.Station.{Station}
-use Rattle.x25_station.specs.Told.{is_idle, stretch}
+use Rattle.x25_station.specs.Station.Told.{is_idle, stretch}
 use Rattle.x25_world.specs.declared.error.WorldError.{WorldError}
 use Rattle.x25_world.specs.World.{OnTap, AtEnd, World, Act, Commands, Receives, Event, happens, refusal_of, after, run, AreAccepted, start, connected, established}
 

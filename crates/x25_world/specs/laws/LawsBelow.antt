@@ -2,14 +2,14 @@
 use Rattle.std.specs.Prelude.{ℕ, Bool}
 use Rattle.x25_frame.specs.laws.ReadingLaw.{ReadsSpelled}
 use Rattle.x25_link.specs.laws.NoteLaw.{TakeTells, TakeHandsUp, TimerTells, PutTells, ConnectTells, DisconnectTells, AbandonTells}
-use Rattle.x25_link.specs.SetUp.{TakeWaits, TakeSetsUp}
+use Rattle.x25_link.specs.laws.SetUp.{TakeWaits, TakeSetsUp}
 use Rattle.x25_line.specs.laws.SessionClaims as line
 use Rattle.x25_line.specs.laws.SessionClaims.{MetAreInOrder, UnmetHandNothingUp, OnlyBegunHaveLists, EachMeetsLatest, IdleHasArrived, NoSessionSendsFrmr, AllSessionsSendWhole}
-use Rattle.x25_line.specs.SessionEvents.{EachEventHandsInSession, EachEventMeetsLatest}
-use Rattle.x25_line.specs.SessionNumbers.{StandingGoesAlong}
+use Rattle.x25_line.specs.laws.SessionEvents.{EachEventHandsInSession, EachEventMeetsLatest}
+use Rattle.x25_line.specs.laws.SessionNumbers.{StandingGoesAlong}
 use Rattle.x25_layer.specs.laws.Law.{KeepsOrder, IsQuietWorld, IsLawfulWorld, ArrivesAll}
 use Rattle.x25_layer.specs.laws.NameLaw.{NamesAreCounted}
-use Rattle.x25_layer.specs.Apart.{AlwaysApart}
+use Rattle.x25_layer.specs.laws.Apart.{AlwaysApart}
 use Rattle.x25_layer.specs.laws.ApartLaw.{IsOverLinks, RestartsFirst, BeginsAlone, OwnMovesDecide, EventsRunOn}
 use Rattle.x25_station.specs.laws.JoinLaw.{RequestIsJoined, ReceiveIsJoined, QuietIsJoined, DownIsJoined, UpIsJoined}
 use Rattle.x25_station.specs.laws.KeepLaw.{ConnectKeeps, TimerKeeps, CommandKeeps, ReceiveKeeps}

@@ -1,20 +1,20 @@
 -- What holds of two stations and the line between them after every list of events, over set-up and re-set-up at any moment.
 use Rattle.std.specs.Prelude.{◌≡◌, ◌≤◌, ◌<◌, ℕ, true, List, [], Some, None}
-use Rattle.x25_link.specs.MustSend.{other}
-use Rattle.x25_link.specs.LinkStation.{is_up}
+use Rattle.x25_link.specs.Hearing.{other}
+use Rattle.x25_link.specs.Station.{is_up}
 use Rattle.x25_bits.specs.declared.role.Role.{Role}
-use Rattle.x25_handshakes.specs.Names.{Name}
+use Rattle.x25_handshakes.specs.laws.Names.{Name}
 use Rattle.x25_layer.specs.laws.Law.{HandsUpLawfully, HasAllOf}
 use Rattle.x25_layer.specs.laws.NameLaw.{first_name, counted}
-use Rattle.x25_layer.specs.Transcript.{name_of}
+use Rattle.x25_layer.specs.laws.Transcript.{name_of}
 use Rattle.x25_station.specs.declared.config.Cfg.{Cfg}
-use Rattle.x25_station.specs.Settings.{settings_from, config_refusal}
-use Rattle.x25_station.specs.Entries.{layer_notices}
-use Rattle.x25_station.specs.Told.{is_idle, stretch}
+use Rattle.x25_station.specs.Config.{settings_from, config_refusal}
+use Rattle.x25_station.specs.Entry.{layer_notices}
+use Rattle.x25_station.specs.Station.Told.{is_idle, stretch}
 use Rattle.x25_world.specs.World.{World, Event, run}
 use Rattle.x25_world.specs.laws.Claims.{AreInOctets, IsBeginning, HasNoProcedureError, station_at}
-use Rattle.x25_world.specs.Sessions.{session_at, last_session, handed_in, meets}
-use Rattle.x25_world.specs.SessionWindow.{UpIsInWindow}
+use Rattle.x25_world.specs.laws.Sessions.{session_at, last_session, handed_in, meets}
+use Rattle.x25_world.specs.laws.SessionWindow.{UpIsInWindow}
 
 -- what holds after each list of events, of commands with `connect` at any moment, deliveries, losses, damage and timer T1, from where a run
 -- begins

@@ -2,21 +2,21 @@
 use Rattle.std.specs.Prelude.{◌≡◌, ℕ, List, true, false, Some}
 use Rattle.x25_bits.specs.declared.role.Role.{Role}
 use Rattle.x25_bits.specs.declared.role.Role.TheVariants.{Dte, Dce}
-use Rattle.x25_link.specs.MustSend.{other}
-use Rattle.x25_link.specs.Steps as link
+use Rattle.x25_link.specs.Hearing.{other}
+use Rattle.x25_link.specs.Link as link
 use Rattle.x25_circuit.specs.Circuit.{is_open, waits}
-use Rattle.x25_handshakes.specs.Names.{Name}
+use Rattle.x25_handshakes.specs.laws.Names.{Name}
 use Rattle.x25_layer.specs.Calls.{PullsAll}
-use Rattle.x25_layer.specs.Transcript.{Entry}
+use Rattle.x25_layer.specs.laws.Transcript.{Entry}
 use Rattle.x25_layer.specs.laws.Law.{HasAllOf}
 use Rattle.x25_layer.specs.laws.WaitLaw.{PullsNone}
 use Rattle.x25_station.specs.declared.config.Cfg.{Cfg}
-use Rattle.x25_station.specs.Settings.{settings_from, layer_settings}
+use Rattle.x25_station.specs.Config.{settings_from, layer_settings}
 use Rattle.x25_station.specs.Command.{Requests}
 use Rattle.x25_station.specs.Station.{Station}
-use Rattle.x25_station.specs.Told.{stretch}
+use Rattle.x25_station.specs.Station.Told.{stretch}
 use Rattle.x25_world.specs.World.{World, Event, Commands, Happened, happens, after}
-use Rattle.x25_world.specs.Sessions.{last_session, handed_in}
+use Rattle.x25_world.specs.laws.Sessions.{last_session, handed_in}
 use Rattle.x25_world.specs.laws.Claims.{station_at}
 
 -- the data packets that wait at an end are pulled

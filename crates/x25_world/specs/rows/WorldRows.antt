@@ -5,21 +5,21 @@ use Rattle.x25_bits.specs.declared.role.Role.TheVariants.{Dte, Dce}
 use Rattle.x25_link.specs.declared.error.LinkError.TheVariants as link_error
 use Rattle.x25_link.specs.declared.phase.Reason.TheVariants.{Local, Disc, Reset, Retries}
 use Rattle.x25_circuit.specs.Params.{default_params}
-use Rattle.x25_circuit.specs.Calls.{Accepts, Sends}
-use Rattle.x25_handshakes.specs.Names.{Name}
+use Rattle.x25_circuit.specs.Calling.{Accepts, Sends}
+use Rattle.x25_handshakes.specs.laws.Names.{Name}
 use Rattle.x25_layer.specs.Calls.{LayerRequest, Asks, Dials, Restarts}
-use Rattle.x25_layer.specs.Transcript.{under, messages_in}
+use Rattle.x25_layer.specs.laws.Transcript.{under, messages_in}
 use Rattle.x25_station.specs.declared.config.Cfg.{Cfg}
 use Rattle.x25_station.specs.declared.error.StationError.TheVariants as station_error
 use Rattle.x25_station.specs.Command.{Requests, Connects, Disconnects}
-use Rattle.x25_station.specs.Entries.{restart_asked, connect_asked, disconnect_asked, link_up, link_down, was_restarted}
-use Rattle.x25_station.specs.Settings.{settings_from}
-use Rattle.x25_station.specs.Told.{is_idle, stretch}
+use Rattle.x25_station.specs.Entry.{restart_asked, connect_asked, disconnect_asked, link_up, link_down, was_restarted}
+use Rattle.x25_station.specs.Config.{settings_from}
+use Rattle.x25_station.specs.Station.Told.{is_idle, stretch}
 use Rattle.x25_world.specs.declared.error.WorldError.TheVariants as error
 use Rattle.x25_world.specs.World.{AtEnd, World, Act, Commands, Receives, Fires, Loses, Damages, Event, happens, refusal_of, run, start, established}
 use Rattle.x25_world.specs.laws.Claims.{handed_at}
 use Rattle.x25_world.specs.Healing.{IsDrained, firing, AreReceiptsAndRequests, FreeThroughout, BothMayHeal}
-use Rattle.x25_world.specs.Sessions.{session_at, meets}
+use Rattle.x25_world.specs.laws.Sessions.{session_at, meets}
 
 abbrev pub two_channels : Cfg
 two_channels = record { k = 7; n2 = 10; channels = 2; long_data = false }

@@ -1,7 +1,7 @@
 use Rattle.std.proofs.Common.{◌∙◌, ◌<◌, ◌-◌, ◌^◌, [], ap, length, sym, subst}
 use Rattle.std.proofs.lemmas.Result.{err_from_is_err_and}
 use Rattle.x25_bits.specs.code.Fits.{Fits}
-use Rattle.x25_bit_line.specs.Deframed.{deframed}
+use Rattle.x25_bit_line.specs.Deframing.{deframed}
 use Rattle.x25_bit_line.proofs.ReadsLemmas.{reads_start}
 use Rattle.x25_bit_line.proofs.TellingLemmas.{nothing_written}
 use Rattle.x25_bit_line.proofs.deframing.deframe.Goals as goal

@@ -1,6 +1,6 @@
 use Rattle.std.proofs.Common.{◌<◌, ◌-◌, ◌^◌, length}
 use Rattle.std.proofs.lemmas.Result.{err_from_is_err_and}
-use Rattle.x25_bit_line.specs.Framed.{framed_octets}
+use Rattle.x25_bit_line.specs.Framing.{framed_octets}
 use Rattle.x25_bit_line.proofs.FramesLemmas.{begins}
 use Rattle.x25_bit_line.proofs.TellingLemmas.{nothing_written}
 use Rattle.x25_bit_line.proofs.framing.frame.Goals as goal

@@ -1,5 +1,5 @@
 use Rattle.std.proofs.Common.{◌≡◌, ◌-◌, ◌^◌, ◌<◌, take, drop}
-use Rattle.x25_bits.specs.Fcs.{number_of}
+use Rattle.x25_bits.specs.FrameCheck.{number_of}
 use Rattle.x25_bit_line.proofs.line_bits.octet_at.Given as goal
 
 -- the number of the last bits

@@ -1,11 +1,11 @@
 use Rattle.std.proofs.Common.{◌∙◌, ◌++◌, take, sym, subst, refl, arith}
 use Rattle.std.proofs.lemmas.List.{append-nil}
 use Rattle.std.proofs.lemmas.Result.{err_from_is_err_and}
-use Rattle.x25_bits.specs.Fcs.{bits_of}
-use Rattle.x25_bits.specs.SpanClass.{found_of}
+use Rattle.x25_bits.specs.FrameCheck.{bits_of}
+use Rattle.x25_bits.specs.Found.{found_of}
 use Rattle.x25_bits.specs.declared.role.Role.{Role}
 use Rattle.x25_io.specs.code.Written.{AppendsPrefix}
-use Rattle.x25_bit_line.specs.Deframed.{class_lines}
+use Rattle.x25_bit_line.specs.Deframing.{class_lines}
 use Rattle.x25_bit_line.specs.code.Reads.{Reads}
 use Rattle.x25_bit_line.proofs.ReadsLemmas.{all_bits, reads_next, rest_of_bits}
 use Rattle.x25_bit_line.proofs.spans.take_octets.Goals as goal

@@ -1,5 +1,5 @@
 use Rattle.std.proofs.Common.{◌≡◌, ◌++◌, ◌*◌, ◌-◌, ◌≤◌, ℕ, Bool, true, List, Option, length, take}
-use Rattle.x25_bits.specs.Fcs.{bits_of}
+use Rattle.x25_bits.specs.FrameCheck.{bits_of}
 use Rattle.x25_bits.specs.code.Fits.{has_buffer}
 use Rattle.x25_bit_line.specs.code.Reads.{Reads}
 use Rattle.x25_bit_line.proofs.spans.take_octets.Given as goal

@@ -1,11 +1,11 @@
 use Rattle.std.proofs.Common.{◌∙◌, ◌++◌, ◌∷◌, [], ap, sym, subst}
 use Rattle.std.proofs.lemmas.List.{append-nil}
 use Rattle.std.proofs.lemmas.Result.{err_from_is_err_and}
-use Rattle.x25_bits.specs.Fcs.{bits_of}
+use Rattle.x25_bits.specs.FrameCheck.{bits_of}
 use Rattle.x25_bits.specs.code.Plain.{listed_span, plain_span}
-use Rattle.x25_bits.specs.SpanClass.{found_of}
+use Rattle.x25_bits.specs.Found.{found_of}
 use Rattle.x25_io.specs.code.Written.{AppendsPrefix, Tells}
-use Rattle.x25_bit_line.specs.Deframed.{class_line, class_lines}
+use Rattle.x25_bit_line.specs.Deframing.{class_line, class_lines}
 use Rattle.x25_bit_line.proofs.ReadsLemmas.{told_more, told_part}
 use Rattle.x25_bit_line.proofs.spans.take_span.Goals as goal
 

@@ -1,5 +1,5 @@
 use Rattle.std.proofs.Common.{◌≤◌, length}
-use Rattle.x25_bits.specs.Prefix.{IsPrefix}
+use Rattle.x25_bits.specs.code.Prefix.{IsPrefix}
 use Rattle.x25_bits.proofs.bits.grow.Given as goal
 
 abbrev pub invariant-loop : goal.invariant-loop

@@ -1,6 +1,6 @@
 use Rattle.std.proofs.Common.{◌∙◌, ◌++◌, ◌∷◌, ◌/◌, ◌%◌, [], arith, ap}
 use Rattle.std.proofs.lemmas.List.{get_or_default}
-use Rattle.x25_bits.specs.Fcs.{low_bits}
+use Rattle.x25_bits.specs.FrameCheck.{low_bits}
 use Rattle.x25_bits.proofs.OctetLemmas.{place_written}
 use Rattle.x25_bits.proofs.bits.set_bit.Goals as goal
 

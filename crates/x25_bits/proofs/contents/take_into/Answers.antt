@@ -1,5 +1,5 @@
 use Rattle.std.proofs.Common.{◌≡◌, ◌<◌, ◌+◌, ◌-◌, ◌*◌, ◌++◌, ◌∙◌, get_or, length, take, refl, sym, subst, arith}
-use Rattle.x25_bits.specs.Fcs.{bits_of, low_bits}
+use Rattle.x25_bits.specs.FrameCheck.{bits_of, low_bits}
 use Rattle.x25_bits.specs.Passing.{PassesOn, kept_from}
 use Rattle.x25_bits.specs.code.Reading.{part}
 use Rattle.x25_bits.proofs.PassingLemmas.{passes_none, passes_more, kept_none, kept_more, octet_more}

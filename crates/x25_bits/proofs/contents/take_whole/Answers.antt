@@ -1,5 +1,5 @@
 use Rattle.std.proofs.Common.{◌∙◌, ◌++◌, ◌*◌, ◌<◌, ◌+◌, ◌-◌, ap, length, take, sym, arith}
-use Rattle.x25_bits.specs.Fcs.{bits_of}
+use Rattle.x25_bits.specs.FrameCheck.{bits_of}
 use Rattle.x25_bits.specs.Passing.{kept_from}
 use Rattle.x25_bits.specs.code.Reading.{part}
 use Rattle.x25_bits.proofs.OctetLemmas.{slice_written}

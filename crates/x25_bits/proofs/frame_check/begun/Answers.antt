@@ -1,6 +1,6 @@
 use Rattle.std.proofs.Common.{◌∙◌, ap, arith, length, sym, take}
-use Rattle.x25_bits.specs.Fcs.{bits_of}
-use Rattle.x25_bits.specs.Register.{fed}
+use Rattle.x25_bits.specs.FrameCheck.{bits_of}
+use Rattle.x25_bits.specs.code.Register.{fed}
 use Rattle.x25_bits.proofs.FoldLemmas.{begun_empty, begun_is, ones}
 use Rattle.x25_bits.proofs.frame_check.begun.Goals.{then-octets-lt8, else-octets-lt8}
 use Rattle.x25_bits.proofs.frame_check.begun.Goals as goal

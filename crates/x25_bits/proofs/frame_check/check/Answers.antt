@@ -1,10 +1,10 @@
 use Rattle.std.proofs.Common.{◌≡◌, ◌∙◌, ◌-◌, ◌+◌, length, ap, sym, arith, eq-eqb, le-leb, take, drop}
 use Rattle.std.proofs.lemmas.Bool.{eqb-true, lt-leb}
 use Rattle.std.proofs.lemmas.List.{get_or-drop}
-use Rattle.x25_bits.specs.Sealed.{is_sealed}
+use Rattle.x25_bits.specs.FrameCheck.Sealed.{is_sealed}
 use Rattle.std.specs.Prelude.{nat_le, slice_index, ℕ, ◌*◌, true, false, refl}
 use Rattle.byteorder.specs.Endian.{little_number}
-use Rattle.x25_bits.specs.Fcs.{fcs_of}
+use Rattle.x25_bits.specs.FrameCheck.{fcs_of}
 use Rattle.x25_bits.proofs.SealLemmas.{sealed_when, number_when}
 use Rattle.x25_bits.proofs.frame_check.check.Goals as goal
 

@@ -1,5 +1,5 @@
 use Rattle.std.proofs.Common.{◌∙◌, ap}
-use Rattle.x25_bits.specs.Fcs.{low_bits}
+use Rattle.x25_bits.specs.FrameCheck.{low_bits}
 use Rattle.x25_bits.proofs.FoldLemmas.{reduced_two_is}
 use Rattle.x25_bits.proofs.frame_check.reduced_two.Goals as goal
 

@@ -1,6 +1,6 @@
 use Rattle.std.proofs.Common.{◌∙◌, ap}
-use Rattle.x25_bits.specs.Fcs.{bits_of}
-use Rattle.x25_bits.specs.Register.{fed}
+use Rattle.x25_bits.specs.FrameCheck.{bits_of}
+use Rattle.x25_bits.specs.code.Register.{fed}
 use Rattle.x25_bits.proofs.FoldLemmas.{fed_halves}
 use Rattle.x25_bits.proofs.frame_check.through.Goals as goal
 

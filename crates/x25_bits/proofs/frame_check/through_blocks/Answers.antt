@@ -1,7 +1,7 @@
 use Rattle.std.proofs.Common.{◌*◌, ◌-◌, ◌∙◌, ap, arith, length, length-drop, drop}
 use Rattle.std.proofs.lemmas.List.{take_all}
-use Rattle.x25_bits.specs.Fcs.{bits_of}
-use Rattle.x25_bits.specs.Register.{fed}
+use Rattle.x25_bits.specs.FrameCheck.{bits_of}
+use Rattle.x25_bits.specs.code.Register.{fed}
 use Rattle.x25_bits.proofs.FoldLemmas.{fed_end}
 use Rattle.x25_bits.proofs.BlockLemmas.{words_begin, on_by_block}
 use Rattle.x25_bits.proofs.frame_check.through_blocks.Goals as goal

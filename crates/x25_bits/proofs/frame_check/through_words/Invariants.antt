@@ -1,6 +1,6 @@
 use Rattle.std.proofs.Common.{◌≡◌, ◌*◌, ◌<◌, ℕ, List, drop}
-use Rattle.x25_bits.specs.Fcs.{low_bits, bits_of}
-use Rattle.x25_bits.specs.Register.{fed}
+use Rattle.x25_bits.specs.FrameCheck.{low_bits, bits_of}
+use Rattle.x25_bits.specs.code.Register.{fed}
 use Rattle.x25_bits.proofs.frame_check.through_words.Given as goal
 
 -- what is left to feed leads to the same end

@@ -1,5 +1,5 @@
 use Rattle.std.proofs.Common.{◌≡◌}
-use Rattle.x25_bits.specs.Harmless.{first_content}
+use Rattle.x25_bits.specs.HarmlessBits.{first_content}
 use Rattle.x25_bits.specs.code.Plain.{plains}
 use Rattle.x25_bits.proofs.harmless_bits.content_in.Given as goal
 

@@ -1,5 +1,5 @@
 use Rattle.std.proofs.Common.{◌∙◌, ap, Bool, List, ◌++◌, []}
-use Rattle.x25_bits.specs.Spans.{flag}
+use Rattle.x25_bits.specs.Deframer.{flag}
 use Rattle.x25_bits.specs.code.Plain.{plains}
 use Rattle.x25_bits.proofs.HarmlessLemmas.{found_thrice}
 use Rattle.x25_bits.proofs.harmless_bits.found_between_flags.Goals as goal

@@ -1,7 +1,7 @@
 use Rattle.std.proofs.Common.{◌≡◌, ◌∙◌, ap, sym}
 use Rattle.x25_bits.specs.code.Plain.{plains}
-use Rattle.x25_bits.specs.SpanClass.{found_of}
-use Rattle.x25_bits.specs.Harmless.{between_flags}
+use Rattle.x25_bits.specs.Found.{found_of}
+use Rattle.x25_bits.specs.HarmlessBits.{between_flags}
 use Rattle.x25_bits.proofs.HarmlessLemmas.{tested_harmless, harmless_tested}
 use Rattle.x25_bits.proofs.harmless_bits.harmless.Goals as goal
 

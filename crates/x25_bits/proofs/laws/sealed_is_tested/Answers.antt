@@ -2,8 +2,8 @@ use Rattle.std.proofs.Common.{ℕ, ◌+◌, ◌*◌, ◌-◌, ◌≡◌, ◌≤�
 use Rattle.std.specs.Prelude.{◌==◌, nat_le, slice_index, All}
 use Rattle.std.proofs.lemmas.Bool.{eqb-true, leb-true, and_parts}
 use Rattle.std.proofs.lemmas.List.{get_or-drop}
-use Rattle.x25_bits.specs.Fcs.{fcs_of}
-use Rattle.x25_bits.specs.Sealed.{IsSealed, is_sealed}
+use Rattle.x25_bits.specs.FrameCheck.{fcs_of}
+use Rattle.x25_bits.specs.FrameCheck.Sealed.{IsSealed, is_sealed}
 use Rattle.x25_bits.proofs.SealLemmas.{sealed_when, number_when}
 use Rattle.x25_bits.proofs.laws.sealed_is_tested.Goals as goal
 

@@ -1,7 +1,7 @@
 use Rattle.std.proofs.Common.{◌≡◌, arith, rules}
 use Rattle.x25_bits.specs.Stuffing.{framed, filled}
-use Rattle.x25_bits.specs.SpanClass.{octets_of}
-use Rattle.x25_bits.specs.Fcs.{bits_of}
+use Rattle.x25_bits.specs.Found.{octets_of}
+use Rattle.x25_bits.specs.FrameCheck.{bits_of}
 use Rattle.x25_bits.proofs.LineLemmas.{line_is, line_found}
 use Rattle.x25_bits.proofs.line_octets.put_octets.Goals as goal
 

@@ -1,5 +1,5 @@
 use Rattle.std.proofs.Common.{◌+◌, ◌-◌, ◌*◌, ◌/◌, ◌%◌, ◌≡◌, ◌<◌, false, get_or, length, sym, subst, arith}
-use Rattle.x25_bits.specs.Fcs.{bits_of}
+use Rattle.x25_bits.specs.FrameCheck.{bits_of}
 use Rattle.x25_bits.specs.Passing.{Passes}
 use Rattle.x25_bits.specs.code.Reading.{part}
 use Rattle.x25_bits.proofs.OctetLemmas.{part_low}

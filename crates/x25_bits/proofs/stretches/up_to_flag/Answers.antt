@@ -1,5 +1,5 @@
 use Rattle.std.proofs.Common.{◌-◌, ◌*◌, ◌/◌, ◌≡◌, ◌∙◌, ◌<◌, get_or, length, ap, sym, subst, refl, arith}
-use Rattle.x25_bits.specs.Fcs.{low_bits}
+use Rattle.x25_bits.specs.FrameCheck.{low_bits}
 use Rattle.x25_bits.specs.Passing.{Passes}
 use Rattle.x25_bits.proofs.StretchLemmas.{part_first, ones_pass, flag_pass}
 use Rattle.x25_bits.proofs.stretches.up_to_flag.Goals as goal

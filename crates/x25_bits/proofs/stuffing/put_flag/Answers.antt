@@ -1,4 +1,4 @@
-use Rattle.x25_bits.specs.Fcs.{low_bits}
+use Rattle.x25_bits.specs.FrameCheck.{low_bits}
 use Rattle.x25_bits.proofs.stuffing.put_flag.Goals as goal
 
 pub returns-clause-ok : goal.returns-clause-ok

@@ -1,6 +1,6 @@
 use Rattle.std.proofs.Common.{◌≡◌, ◌<◌, ◌++◌, drop}
-use Rattle.x25_bits.specs.Prefix.{IsPrefix}
-use Rattle.x25_bits.specs.Fcs.{bits_of}
+use Rattle.x25_bits.specs.code.Prefix.{IsPrefix}
+use Rattle.x25_bits.specs.FrameCheck.{bits_of}
 use Rattle.x25_bits.specs.Stuffing.{stuffed_from}
 use Rattle.x25_bits.proofs.stuffing.put_stuffed.Given as goal
 

@@ -1,6 +1,6 @@
 use Rattle.std.proofs.Common.{◌∙◌, ◌++◌, ap, append_assoc, codes, sym}
 use Rattle.x25_frame.specs.Reading.{frame_of}
-use Rattle.x25_decode.specs.Decoded.{mark_of, n1}
+use Rattle.x25_decode.specs.Decoding.{mark_of, n1}
 use Rattle.x25_text.specs.FrameText.{reading_text}
 use Rattle.x25_decode.proofs.answer.push_answer.Goals as goal
 

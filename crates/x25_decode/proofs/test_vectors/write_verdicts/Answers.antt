@@ -4,7 +4,7 @@ use Rattle.std.specs.Io.KnownBytes.{Appends}
 use Rattle.std.specs.List.{flat_map}
 use Rattle.std.proofs.lemmas.Result.{err_from_is_err_and}
 use Rattle.std.proofs.KnownBytes.{Appends-trans}
-use Rattle.x25_decode.specs.Vectors.{is_check_right, stored, verdict, verdict_of}
+use Rattle.x25_decode.specs.TestVectors.{is_check_right, stored, verdict, verdict_of}
 use Rattle.x25_io.specs.code.Written.{AppendsPrefix}
 use Rattle.x25_decode.proofs.VerdictLemmas.{prefix_after, prefix_before}
 use Rattle.x25_decode.proofs.test_vectors.write_verdicts.Goals as goal

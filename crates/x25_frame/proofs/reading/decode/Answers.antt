@@ -1,9 +1,9 @@
 use Rattle.std.proofs.Common.{◌≡◌, ◌∙◌, arith, sym, Result, Ok, Err, IfOk, IfErr, IsOkAnd}
 use Rattle.x25_frame.specs.declared.frame.Frame.{Frame}
 use Rattle.x25_frame.specs.declared.error.FrameError.{FrameError}
-use Rattle.x25_frame.specs.PlainFrame.{PlainFrame, plain}
+use Rattle.x25_frame.specs.Frame.{PlainFrame, plain}
 use Rattle.x25_frame.specs.Spelling.{Spells}
-use Rattle.x25_frame.specs.FrameError.{IsFirstError}
+use Rattle.x25_frame.specs.Error.{IsFirstError}
 use Rattle.x25_frame.specs.Reading.{addressed_frame, Gives}
 use Rattle.x25_frame.proofs.KindLemmas.{ok_err, ok_same}
 use Rattle.x25_frame.proofs.FrameLemmas.{found_spells, only_found, error_is_first}

@@ -1,5 +1,5 @@
-use Rattle.x25_handshakes.specs.Layers.{pair_start}
-use Rattle.x25_handshakes.specs.Histories.{messages, interrupts, calls}
+use Rattle.x25_handshakes.specs.laws.Layers.{pair_start}
+use Rattle.x25_handshakes.specs.laws.Histories.{messages, interrupts, calls}
 use Rattle.x25_handshakes.proofs.TermsLemmas.{Laws}
 use Rattle.x25_handshakes.proofs.LayerLemmas.{Stands-run, Stands-start}
 use Rattle.x25_handshakes.proofs.LawLemmas.{in_order}

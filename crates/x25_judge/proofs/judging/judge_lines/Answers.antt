@@ -1,6 +1,6 @@
 use Rattle.std.proofs.Common.{◌<◌, ◌-◌, ◌^◌, length}
 use Rattle.std.proofs.lemmas.Result.{err_from_is_err_and}
-use Rattle.x25_judge.specs.Judged.{begins}
+use Rattle.x25_judge.specs.Judge.{begins}
 use Rattle.x25_judge.proofs.StreamLemmas.{input_begins, nothing_written}
 use Rattle.x25_judge.proofs.judging.judge_lines.Goals as goal
 

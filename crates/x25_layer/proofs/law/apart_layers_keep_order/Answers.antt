@@ -1,8 +1,8 @@
 use Rattle.std.proofs.Common.{ℕ, Bool}
-use Rattle.x25_layer.specs.TwoLayers.{TwoLayers}
+use Rattle.x25_layer.specs.laws.TwoLayers.{TwoLayers}
 use Rattle.x25_layer.specs.laws.Law.{Always, IsQuietWorld, IsLawfulWorld, ArrivesAll, KeepsOrder}
 use Rattle.x25_layer.specs.laws.NameLaw.{NamesAreCounted, NoClearComesInP1}
-use Rattle.x25_layer.specs.Apart.{AlwaysApart}
+use Rattle.x25_layer.specs.laws.Apart.{AlwaysApart}
 use Rattle.x25_layer.specs.laws.ApartLaw.{IsOverLinks}
 use Rattle.x25_layer.proofs.ApartLemmas.{apart_is_over_links, always_apart}
 use Rattle.x25_layer.proofs.FirstLemmas.{restarts_first}

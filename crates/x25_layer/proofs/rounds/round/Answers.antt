@@ -4,9 +4,9 @@ use Rattle.x25_circuit.specs.declared.circuit.Circuit as circuit_code
 use Rattle.x25_circuit.specs.code.FitsCircuit.{room_of}
 use Rattle.x25_layer.specs.Layer.{packet_on}
 use Rattle.x25_layer.specs.Room.{HaveRoom}
-use Rattle.x25_layer.specs.OverLink.{view_of, after_all}
+use Rattle.x25_layer.specs.code.OverLink.{view_of, after_all}
 use Rattle.x25_layer.specs.Rounds.{LinkView, Putting, round}
-use Rattle.x25_layer.specs.Pulling.{pulled_where, Stands}
+use Rattle.x25_layer.specs.code.Pulling.{pulled_where, Stands}
 use Rattle.x25_layer.proofs.FitLemmas.{written_back, all_changed, neither, either}
 use Rattle.x25_layer.proofs.PullLemmas.{stands_more, one_none}
 use Rattle.x25_layer.proofs.rounds.round.Goals as goal

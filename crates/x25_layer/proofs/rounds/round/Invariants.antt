@@ -1,8 +1,8 @@
 use Rattle.std.proofs.Common.{◌≡◌, ℕ, ◌+◌, ◌<◌, ◌≤◌, true, false}
 use Rattle.x25_layer.specs.Layer.{LayerSettings}
-use Rattle.x25_layer.specs.OverLink.{view_of}
+use Rattle.x25_layer.specs.code.OverLink.{view_of}
 use Rattle.x25_layer.specs.Rounds.{Putting, round}
-use Rattle.x25_layer.specs.Pulling.{Stands}
+use Rattle.x25_layer.specs.code.Pulling.{Stands}
 use Rattle.x25_layer.specs.Room.{HaveRoom}
 use Rattle.x25_layer.proofs.rounds.round.Given as goal
 

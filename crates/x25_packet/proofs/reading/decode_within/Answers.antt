@@ -1,11 +1,11 @@
 use Rattle.std.proofs.Common.{◌≡◌, ◌∙◌, arith, sym, Result, Ok, Err, IfOk, IfErr, IsOkAnd}
 use Rattle.x25_packet.specs.declared.packet.Packet.{Packet}
 use Rattle.x25_packet.specs.declared.error.PacketError.{PacketError}
-use Rattle.x25_packet.specs.PlainPacket.{PlainPacket, plain}
+use Rattle.x25_packet.specs.Packet.{PlainPacket, plain}
 use Rattle.x25_packet.specs.Spelling.{Spells}
 use Rattle.x25_packet.specs.Reading.{packet_of, Gives}
 use Rattle.x25_packet.proofs.FacilityLaws.{ok_err, ok_same}
-use Rattle.x25_packet.specs.FirstError.{IsFirstError}
+use Rattle.x25_packet.specs.Reading.FirstError.{IsFirstError}
 use Rattle.x25_packet.proofs.FaultLaws.{fault_first}
 use Rattle.x25_packet.proofs.PacketLaws.{found_spells, only_found}
 use Rattle.x25_packet.proofs.reading.decode_within.Goals as goal

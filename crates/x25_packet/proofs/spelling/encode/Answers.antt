@@ -1,7 +1,7 @@
 use Rattle.std.proofs.Common.{ℕ, ◌≡◌, ◌++◌, Result, Ok, Err, length, drop}
 use Rattle.std.specs.Prelude.{OnOk}
 use Rattle.x25_bits.specs.declared.no_memory.NoMemory.{NoMemory}
-use Rattle.x25_packet.specs.PlainPacket.{plain}
+use Rattle.x25_packet.specs.Packet.{plain}
 use Rattle.x25_packet.specs.Spelling.{IsInRange, spelling_of}
 use Rattle.x25_packet.specs.Reading.{packet_of}
 use Rattle.x25_packet.proofs.PacketLaws.{appended_again}

@@ -1,8 +1,8 @@
 use Rattle.std.proofs.Common.{◌∙◌, [], false}
 use Rattle.std.proofs.lemmas.Result.{err_from_is_err_and, on_ok_weaker}
-use Rattle.x25_station.specs.Settings.{settings_from}
+use Rattle.x25_station.specs.Config.{settings_from}
 use Rattle.x25_station.specs.Station.{new_station}
-use Rattle.x25_pipe.specs.Piped.{station_text}
+use Rattle.x25_pipe.specs.Pipe.{station_text}
 use Rattle.x25_pipe.proofs.PipeLemmas.{if_some, input_begins, mark_failed, nothing_written, stands_first}
 use Rattle.x25_pipe.proofs.running.station.Goals as goal
 

@@ -2,7 +2,7 @@ use Rattle.std.proofs.Common.{◌++◌, append_assoc, take, map, subst}
 use Rattle.std.proofs.lemmas.Result.{err_from_is_err_and}
 use Rattle.x25_io.specs.code.Written.{AppendsPrefix}
 use Rattle.x25_station.specs.code.PlainEntry.{plain_entry}
-use Rattle.x25_pipe.specs.Piped.{enters, saying_line, sayings_text}
+use Rattle.x25_pipe.specs.Pipe.{enters, saying_line, sayings_text}
 use Rattle.x25_io.proofs.ToldLemmas.{part_of_all}
 use Rattle.x25_pipe.proofs.SayingLemmas.{all_parts}
 use Rattle.x25_pipe.proofs.telling.tell_entries.Goals as goal

@@ -1,5 +1,5 @@
 use Rattle.std.proofs.Common.{◌≡◌, ◌++◌, ℕ, List, Option, take, map}
-use Rattle.x25_pipe.specs.Piped.{sends, sayings_text}
+use Rattle.x25_pipe.specs.Pipe.{sends, sayings_text}
 use Rattle.x25_io.specs.code.Written.{Tells}
 use Rattle.x25_pipe.proofs.telling.tell_frames.Given as goal
 

@@ -1,9 +1,9 @@
 use Rattle.std.proofs.Common.{◌≡◌, ◌∙◌, sym, IfSome, IsSomeAnd, Option, Some, None}
 use Rattle.std.proofs.lemmas.Option.{same_Some, none-some}
 use Rattle.x25_script.specs.declared.script_line.ScriptLine.{ScriptLine}
-use Rattle.x25_script.specs.PlainLine.{PlainLine, plain}
+use Rattle.x25_script.specs.ScriptLine.{PlainLine, plain}
 use Rattle.x25_script.specs.Reading.{line_in, GivesLine}
-use Rattle.x25_script.specs.Spelling.{Spells}
+use Rattle.x25_script.specs.Reading.Spelling.{Spells}
 use Rattle.x25_script.proofs.GrammarLemmas.{line_found}
 use Rattle.x25_script.proofs.AgainLemmas.{line_again}
 use Rattle.x25_script.proofs.reading.read_line.Goals as goal

@@ -1,5 +1,5 @@
 use Rattle.std.proofs.Common.{◌≡◌, ◌∙◌, ap, sym, arith, decimal, Some, None}
-use Rattle.x25_settings.specs.Choosing.{number_in}
+use Rattle.x25_settings.specs.Options.Choosing.{number_in}
 use Rattle.x25_settings.proofs.NumberLemmas.{number_read, number_refused, parsed}
 use Rattle.x25_settings.proofs.options.number.Goals.{else-n-ge1-via-then-n-ge1+then-n-most+else-is_decimal, else-n-ge1-via-then-n-ge1+else-n-most, else-n-ge1-via-else-n-ge1}
 use Rattle.x25_settings.proofs.options.number.Goals as goal

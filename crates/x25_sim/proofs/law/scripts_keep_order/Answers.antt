@@ -1,5 +1,5 @@
 use Rattle.x25_world.specs.laws.Claims.{ArrivesAll, HasNoProcedureError, IsLawful, IsNamed}
-use Rattle.x25_world.specs.WindowGoes.{StaysInWindow}
+use Rattle.x25_world.specs.laws.WindowGoes.{StaysInWindow}
 use Rattle.x25_sim.proofs.RunLemmas.{are_tapped, are_told, of_script, of_script_set_up, up_once}
 use Rattle.x25_sim.proofs.law.scripts_keep_order.Goals as goal
 

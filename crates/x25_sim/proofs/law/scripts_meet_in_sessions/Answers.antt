@@ -1,6 +1,6 @@
 use Rattle.x25_world.specs.laws.Claims.{HasNoProcedureError}
 use Rattle.x25_world.specs.laws.SessionClaims.{AllArrive, AreLawfulWhereMet, AreNamedInSessions, MeetInStep, OpenStretchesMeet, UnmetAreToldNothing}
-use Rattle.x25_world.specs.SessionWindow.{SessionsStayInWindow}
+use Rattle.x25_world.specs.laws.SessionWindow.{SessionsStayInWindow}
 use Rattle.x25_sim.proofs.RunLemmas.{of_all_scripts, of_all_runs}
 use Rattle.x25_sim.proofs.law.scripts_meet_in_sessions.Goals as goal
 

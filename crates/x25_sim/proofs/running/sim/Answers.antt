@@ -1,9 +1,9 @@
 use Rattle.std.proofs.lemmas.Result.{err_from_is_err_and, on_ok_weaker}
-use Rattle.x25_sim.specs.Simulated.{sim_text}
+use Rattle.x25_sim.specs.Stage.{sim_text}
 use Rattle.x25_sim.proofs.SimLemmas.{if_some, nothing_written}
 use Rattle.x25_sim.proofs.WritesLemmas.{all_of_scripts, written_in_sessions, written_once, written_set_up}
 use Rattle.x25_world.specs.laws.Claims.{ArrivesAll, HasNoProcedureError, IsLawful, IsNamed}
-use Rattle.x25_world.specs.WindowGoes.{IsInWindow}
+use Rattle.x25_world.specs.laws.WindowGoes.{IsInWindow}
 use Rattle.x25_sim.proofs.running.sim.Goals as goal
 
 pub returns-in_err-simulation-clause-fault : goal.returns-in_err-simulation-clause-fault

@@ -1,6 +1,6 @@
 use Rattle.std.proofs.Common.{◌≡◌, ◌++◌, ℕ, List, Option, take, map}
 use Rattle.x25_station.specs.code.PlainEntry.{plain_entry}
-use Rattle.x25_sim.specs.Sayings.{enters_at, sayings_text}
+use Rattle.x25_sim.specs.Telling.{enters_at, sayings_text}
 use Rattle.x25_io.specs.code.Written.{Tells}
 use Rattle.x25_sim.proofs.telling.tell_entries.Given as goal
 

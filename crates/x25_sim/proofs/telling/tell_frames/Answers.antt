@@ -2,7 +2,7 @@ use Rattle.std.proofs.Common.{◌++◌, append_assoc, take, map, subst}
 use Rattle.std.proofs.lemmas.Result.{err_from_is_err_and}
 use Rattle.x25_io.specs.code.Written.{AppendsPrefix}
 use Rattle.x25_world.specs.code.PlainTold.{plain_tapped}
-use Rattle.x25_sim.specs.Sayings.{taps, saying_line, sayings_text}
+use Rattle.x25_sim.specs.Telling.{taps, saying_line, sayings_text}
 use Rattle.x25_io.proofs.ToldLemmas.{part_of_all}
 use Rattle.x25_sim.proofs.SayingLemmas.{all_parts}
 use Rattle.x25_sim.proofs.telling.tell_frames.Goals as goal

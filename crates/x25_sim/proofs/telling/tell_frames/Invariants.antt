@@ -1,6 +1,6 @@
 use Rattle.std.proofs.Common.{◌≡◌, ◌++◌, ℕ, List, Option, take, map}
 use Rattle.x25_world.specs.code.PlainTold.{plain_tapped}
-use Rattle.x25_sim.specs.Sayings.{taps, sayings_text}
+use Rattle.x25_sim.specs.Telling.{taps, sayings_text}
 use Rattle.x25_io.specs.code.Written.{Tells}
 use Rattle.x25_sim.proofs.telling.tell_frames.Given as goal
 

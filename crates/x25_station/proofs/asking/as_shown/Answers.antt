@@ -1,6 +1,6 @@
 use Rattle.std.proofs.Common.{Some, ap, sym, ◌∙◌}
-use Rattle.x25_circuit.specs.Calls.{Accepts}
-use Rattle.x25_layer.specs.TwoLayers.{shown}
+use Rattle.x25_circuit.specs.Calling.{Accepts}
+use Rattle.x25_layer.specs.laws.TwoLayers.{shown}
 use Rattle.x25_station.specs.code.PlainEntry.{plain_asked}
 use Rattle.x25_station.proofs.ShownLemmas.{in_force, as_asked}
 use Rattle.x25_station.proofs.asking.as_shown.Goals as goal

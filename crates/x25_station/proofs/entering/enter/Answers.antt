@@ -1,7 +1,7 @@
 use Rattle.std.proofs.Common.{[], ◌∷◌, ◌++◌, ap, ◌∙◌, map}
 use Rattle.std.proofs.lemmas.List.{map-append}
-use Rattle.x25_layer.specs.Transcript.{name_of}
-use Rattle.x25_station.specs.Entries.{of_channel}
+use Rattle.x25_layer.specs.laws.Transcript.{name_of}
+use Rattle.x25_station.specs.Entry.{of_channel}
 use Rattle.x25_station.specs.code.PlainEntry.{plain_entry, plain_said}
 use Rattle.x25_station.specs.declared.entry.Entry.TheVariants.{OnChannel}
 use Rattle.x25_station.proofs.ToldLemmas.{named, not_unnamed}

@@ -1,8 +1,8 @@
 use Rattle.std.proofs.Common.{Bool, [], ◌∷◌, ◌++◌, map, if◌then◌else◌, ap, sym, ◌∙◌}
 use Rattle.std.proofs.lemmas.List.{append-nil}
-use Rattle.x25_circuit.specs.Notices.{PlainNotice, collided}
+use Rattle.x25_circuit.specs.Notice.{PlainNotice, collided}
 use Rattle.x25_layer.specs.Layer.{on_channel}
-use Rattle.x25_station.specs.Entries.{entry_told}
+use Rattle.x25_station.specs.Entry.{entry_told}
 use Rattle.x25_station.specs.code.PlainEntry.{plain_entry}
 use Rattle.x25_station.proofs.TellLemmas.{told_both, notice_tellable, first_tellable}
 use Rattle.x25_station.proofs.entering.enter_notices.Goals as goal

@@ -1,7 +1,7 @@
 use Rattle.std.proofs.Common.{◌++◌, map, ap, sym, subst, ◌∙◌}
 use Rattle.x25_layer.specs.declared.told.Told.{Told}
 use Rattle.x25_layer.specs.Told.{plain_told}
-use Rattle.x25_station.specs.Entries.{station_told}
+use Rattle.x25_station.specs.Entry.{station_told}
 use Rattle.x25_station.specs.code.PlainEntry.{plain_entry}
 use Rattle.x25_station.specs.Receiving.{AreTellable}
 use Rattle.x25_station.proofs.entering.enter_told.Goals as goal

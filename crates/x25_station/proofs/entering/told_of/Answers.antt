@@ -2,7 +2,7 @@ use Rattle.std.proofs.Common.{◌≡◌, ℕ, List, ap, sym, subst, ◌∙◌}
 use Rattle.std.proofs.lemmas.List.{take_all}
 use Rattle.x25_circuit.specs.declared.notice.Notice.{Notice}
 use Rattle.x25_circuit.specs.declared.params.Params.{Params}
-use Rattle.x25_circuit.specs.Notices.{incoming, interrupted}
+use Rattle.x25_circuit.specs.Notice.{incoming, interrupted}
 use Rattle.x25_circuit.specs.code.Replies.{plain_notice}
 use Rattle.x25_station.specs.Receiving.{IsShort}
 use Rattle.x25_station.proofs.entering.told_of.Goals as goal

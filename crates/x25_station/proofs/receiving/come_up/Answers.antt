@@ -1,9 +1,9 @@
 use Rattle.std.proofs.Common.{subst}
-use Rattle.x25_link.specs.code.Link.{FitsWhole}
-use Rattle.x25_link.specs.Steps.{alone}
+use Rattle.x25_link.specs.code.FitsLink.{FitsWhole}
+use Rattle.x25_link.specs.Link.{alone}
 use Rattle.x25_layer.specs.code.FitsLayer.{FitsLayer}
 use Rattle.x25_layer.specs.Rounds.{LinkView, comes_up}
-use Rattle.x25_station.specs.Settings.{link_settings, layer_settings}
+use Rattle.x25_station.specs.Config.{link_settings, layer_settings}
 use Rattle.x25_station.specs.Receiving.{kept_of}
 use Rattle.x25_station.specs.Station.{all_put}
 use Rattle.x25_station.proofs.AskLemmas.{after_puts}

@@ -1,12 +1,12 @@
 use Rattle.std.proofs.Common.{option_copied, ap, sym, subst, ◌∙◌}
-use Rattle.x25_link.specs.code.Link.{FitsWhole}
-use Rattle.x25_link.specs.Steps.{alone}
+use Rattle.x25_link.specs.code.FitsLink.{FitsWhole}
+use Rattle.x25_link.specs.Link.{alone}
 use Rattle.x25_layer.specs.code.FitsLayer.{FitsLayer}
 use Rattle.x25_layer.specs.Rounds.{Putting}
-use Rattle.x25_station.specs.Settings.{link_settings, layer_settings}
+use Rattle.x25_station.specs.Config.{link_settings, layer_settings}
 use Rattle.x25_station.specs.Receiving.{kept_of}
 use Rattle.x25_station.specs.Station.{all_put, view_of}
-use Rattle.x25_station.specs.Steps.{layer_down}
+use Rattle.x25_station.specs.Step.{layer_down}
 use Rattle.x25_station.proofs.FollowLemmas.{is_none, at_up, at_down, at_heard, at_quiet}
 use Rattle.x25_station.proofs.receiving.follow.Goals as goal
 

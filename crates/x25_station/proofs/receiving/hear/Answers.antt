@@ -1,15 +1,15 @@
 use Rattle.std.proofs.Common.{◌<◌, ◌++◌, map, List, All, arith, ap, sym, subst, ◌∙◌}
 use Rattle.std.proofs.lemmas.List.Elements.{All-from_get_or}
 use Rattle.x25_packet.specs.Reading.{packet_of}
-use Rattle.x25_link.specs.code.Link.{FitsWhole}
-use Rattle.x25_link.specs.Steps.{alone}
+use Rattle.x25_link.specs.code.FitsLink.{FitsWhole}
+use Rattle.x25_link.specs.Link.{alone}
 use Rattle.x25_layer.specs.code.FitsLayer.{FitsLayer}
 use Rattle.x25_layer.specs.Layer.{LayerNotice}
 use Rattle.x25_layer.specs.Rounds.{LinkView, begin, hears, answer_to}
 use Rattle.x25_packet.specs.Spelling.{longest_user}
-use Rattle.x25_station.specs.Entries.{station_told}
+use Rattle.x25_station.specs.Entry.{station_told}
 use Rattle.x25_station.specs.code.PlainEntry.{plain_entry}
-use Rattle.x25_station.specs.Settings.{link_settings, layer_settings}
+use Rattle.x25_station.specs.Config.{link_settings, layer_settings}
 use Rattle.x25_station.specs.Receiving.{kept_of, AreTellable}
 use Rattle.x25_station.specs.Station.{all_put, view_of}
 use Rattle.x25_station.proofs.AskLemmas.{after_puts}

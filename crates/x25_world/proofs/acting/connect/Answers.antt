@@ -1,5 +1,5 @@
 use Rattle.std.proofs.Common.{Ok, sym}
-use Rattle.x25_station.specs.Settings.{settings_from}
+use Rattle.x25_station.specs.Config.{settings_from}
 use Rattle.x25_world.proofs.SideLemmas.{leaves_on, shared_of, has_happened, is_refusal, side_stays}
 use Rattle.x25_world.proofs.acting.connect.Goals as goal
 

@@ -1,7 +1,7 @@
 use Rattle.std.proofs.Common.{Ok, ◌≡◌, ◌∙◌, Some, inr, slice_get, sym, ap}
-use Rattle.x25_world.specs.WorldError.{error_of}
-use Rattle.x25_station.specs.Settings.{settings_from}
-use Rattle.x25_station.specs.Steps.{Did, receives}
+use Rattle.x25_world.specs.Error.{error_of}
+use Rattle.x25_station.specs.Config.{settings_from}
+use Rattle.x25_station.specs.Step.{Did, receives}
 use Rattle.x25_world.proofs.SideLemmas.{leaves_on, shared_of, has_arrived, side_stays}
 use Rattle.x25_world.proofs.acting.deliver.Goals as goal
 

@@ -1,9 +1,9 @@
 -- Octets on the line to an end are lost or damaged, over set-up and re-set-up.
 use Rattle.std.proofs.Common.{◌≡◌, ℕ, List, length, remove, Bool, true, false, nat_lt, if◌then◌else◌, refl, ap, ◌∙◌}
 use Rattle.x25_bits.specs.declared.role.Role.{Role}
-use Rattle.x25_line.specs.Stations as line
-use Rattle.x25_line.specs.Stations.{is_visible}
-use Rattle.x25_line.specs.Sessions as links
+use Rattle.x25_line.specs.laws.Stations as line
+use Rattle.x25_line.specs.laws.Stations.{is_visible}
+use Rattle.x25_line.specs.laws.Sessions as links
 use Rattle.x25_line.specs.laws.SessionClaims.{octets_of}
 use Rattle.x25_station.specs.declared.config.Cfg.{Cfg}
 use Rattle.x25_world.specs.World.{World, Happened, Declined, Loses, Damages, on_line, lost, damaged, after}

@@ -4,33 +4,33 @@ use Rattle.std.proofs.Common.{◌≡◌, ℕ, zero, suc, ◌≤◌, ◌<◌, inl
 use Rattle.std.proofs.lemmas.List.{append_cancel_left, map-append}
 use Rattle.x25_bits.specs.declared.role.Role.{Role}
 use Rattle.x25_bits.specs.declared.role.Role.TheVariants.{Dte, Dce}
-use Rattle.x25_packet.specs.PlainPacket.{PlainPacket}
+use Rattle.x25_packet.specs.Packet.{PlainPacket}
 use Rattle.x25_packet.specs.Spelling.{spelling_of, longest_user}
 use Rattle.x25_packet.specs.Reading.{packet_of}
-use Rattle.x25_handshakes.specs.Histories.{IsPrefix}
-use Rattle.x25_link.specs.LinkStation.{LinkStation, is_up}
-use Rattle.x25_link.specs.MustSend.{other, Step as LinkStep}
+use Rattle.x25_handshakes.specs.laws.Histories.{IsPrefix}
+use Rattle.x25_link.specs.Station.{LinkStation, is_up}
+use Rattle.x25_link.specs.Hearing.{other, Step as LinkStep}
 use Rattle.x25_link.specs.laws.NoteLaw.{IsQuiet}
 use Rattle.x25_link.specs.declared.phase.Notes.{Notes}
-use Rattle.x25_link.specs.Steps.{take_step, abandon_step}
-use Rattle.x25_line.specs.Stations as line
-use Rattle.x25_line.specs.Sessions as links
-use Rattle.x25_line.specs.Sessions.{SessionEnd, Meeting, Sessions, begun_by}
+use Rattle.x25_link.specs.Link.{take_step, abandon_step}
+use Rattle.x25_line.specs.laws.Stations as line
+use Rattle.x25_line.specs.laws.Sessions as links
+use Rattle.x25_line.specs.laws.Sessions.{SessionEnd, Meeting, Sessions, begun_by}
 use Rattle.x25_line.specs.laws.SessionClaims as met
 use Rattle.x25_line.specs.laws.SessionClaims.{AllMet, SomeMet, IsNoEarlier, InStep, MetAreInOrder, UnmetHandNothingUp, octets_of}
-use Rattle.x25_line.specs.SessionEvents.{EachEventMeetsLatest, MeetsOne}
+use Rattle.x25_line.specs.laws.SessionEvents.{EachEventMeetsLatest, MeetsOne}
 use Rattle.x25_layer.specs.Layer.{Layer, LayerNotice}
 use Rattle.x25_layer.specs.code.FitsLayer.{is_full}
-use Rattle.x25_layer.specs.TwoLayers as layer
-use Rattle.x25_layer.specs.TwoLayers.{HandsUp}
+use Rattle.x25_layer.specs.laws.TwoLayers as layer
+use Rattle.x25_layer.specs.laws.TwoLayers.{HandsUp}
 use Rattle.x25_layer.specs.laws.RoundLaw.{moves_all, pulls_of}
-use Rattle.x25_layer.specs.Apart as apart
-use Rattle.x25_layer.specs.Apart.{OwnMove, Takes, Ends, own_run, apart_happens, AreInOrder}
+use Rattle.x25_layer.specs.laws.Apart as apart
+use Rattle.x25_layer.specs.laws.Apart.{OwnMove, Takes, Ends, own_run, apart_happens, AreInOrder}
 use Rattle.x25_layer.specs.laws.ApartLaw.{BeginsRestarted, IsToldFirst}
 use Rattle.x25_station.specs.declared.config.Cfg.{Cfg}
-use Rattle.x25_station.specs.Settings.{Settings, settings_from, layer_settings}
-use Rattle.x25_station.specs.Entries.{layer_notices}
-use Rattle.x25_station.specs.Steps.{Step, follows, abandons, receives}
+use Rattle.x25_station.specs.Config.{Settings, settings_from, layer_settings}
+use Rattle.x25_station.specs.Entry.{layer_notices}
+use Rattle.x25_station.specs.Step.{Step, follows, abandons, receives}
 use Rattle.x25_station.specs.laws.JoinLaw.{station_with, IsJoined}
 use Rattle.x25_station.specs.laws.KeepLaw.{IsKept}
 use Rattle.x25_station.specs.laws.ReadLaw.{AreReadable, IsReadable}

@@ -2,28 +2,28 @@
 use Rattle.std.proofs.Common.{◌≡◌, ℕ, suc, ◌==◌, ◌⊎◌, inl, inr, List, [], ◌∷◌, ◌++◌, map, Bool, true, refl, sym, ap, ◌∙◌, subst, append-nil, arith, false, if◌then◌else◌}
 use Rattle.std.proofs.lemmas.List.{append_cancel_left}
 use Rattle.x25_bits.specs.declared.role.Role.{Role}
-use Rattle.x25_frame.specs.PlainFrame.{PlainFrame}
+use Rattle.x25_frame.specs.Frame.{PlainFrame}
 use Rattle.x25_frame.specs.Spelling.{spelling_of}
-use Rattle.x25_packet.specs.PlainPacket.{PlainPacket}
+use Rattle.x25_packet.specs.Packet.{PlainPacket}
 use Rattle.x25_link.specs.Outgoing.{waits}
-use Rattle.x25_link.specs.LinkStation.{LinkStation, Side, is_up}
-use Rattle.x25_link.specs.Steps.{alone}
-use Rattle.x25_line.specs.Stations as line
-use Rattle.x25_line.specs.Sessions.{Meeting, Sessions}
+use Rattle.x25_link.specs.Station.{LinkStation, Side, is_up}
+use Rattle.x25_link.specs.Link.{alone}
+use Rattle.x25_line.specs.laws.Stations as line
+use Rattle.x25_line.specs.laws.Sessions.{Meeting, Sessions}
 use Rattle.x25_line.specs.laws.SessionClaims.{octets_of}
 use Rattle.x25_layer.specs.Layer.{Layer, LayerNotice}
 use Rattle.x25_layer.specs.Calls.{LayerRequest, layer_outcome}
-use Rattle.x25_layer.specs.Quiet.{AreNoFaults}
-use Rattle.x25_layer.specs.TwoLayers as layer
-use Rattle.x25_layer.specs.TwoLayers.{Requests as Requested}
+use Rattle.x25_layer.specs.laws.Quiet.{AreNoFaults}
+use Rattle.x25_layer.specs.laws.TwoLayers as layer
+use Rattle.x25_layer.specs.laws.TwoLayers.{Requests as Requested}
 use Rattle.x25_layer.specs.laws.RoundLaw.{moves_all, pulls_of}
-use Rattle.x25_layer.specs.Apart as apart
-use Rattle.x25_layer.specs.Apart.{OwnMove, Requests, apart_start, own_moves, own_run, AreInOrder}
+use Rattle.x25_layer.specs.laws.Apart as apart
+use Rattle.x25_layer.specs.laws.Apart.{OwnMove, Requests, apart_start, own_moves, own_run, AreInOrder}
 use Rattle.x25_station.specs.declared.config.Cfg.{Cfg}
-use Rattle.x25_station.specs.Settings.{Settings, settings_from, layer_settings, link_settings}
+use Rattle.x25_station.specs.Config.{Settings, settings_from, layer_settings, link_settings}
 use Rattle.x25_station.specs.Command as command
-use Rattle.x25_station.specs.Entries.{layer_notices, StationEntry}
-use Rattle.x25_station.specs.Steps.{Step, Outcome, Did, Refused, requests, did, entries_of_outcome}
+use Rattle.x25_station.specs.Entry.{layer_notices, StationEntry}
+use Rattle.x25_station.specs.Step.{Step, Outcome, Did, Refused, requests, did, entries_of_outcome}
 use Rattle.x25_station.specs.laws.JoinLaw.{station_with, IsJoined}
 use Rattle.x25_station.specs.laws.KeepLaw.{IsKept, KeptBy}
 use Rattle.x25_station.specs.laws.ReadLaw.{AreReadable, RequestsOctets}

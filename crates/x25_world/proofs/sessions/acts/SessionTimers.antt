@@ -4,27 +4,27 @@ use Rattle.std.specs.List.{list_any}
 use Rattle.x25_bits.specs.Role as bits
 use Rattle.x25_bits.specs.declared.role.Role.{Role}
 use Rattle.x25_bits.specs.declared.role.Role.TheVariants.{Dte, Dce}
-use Rattle.x25_frame.specs.PlainFrame.{PlainFrame, info, rr, rnr, rej, sabm, disc, ua, dm, frmr}
+use Rattle.x25_frame.specs.Frame.{PlainFrame, info, rr, rnr, rej, sabm, disc, ua, dm, frmr}
 use Rattle.x25_frame.specs.Reading.{frame_of}
 use Rattle.x25_frame.specs.declared.error.FrameError.{FrameError}
 use Rattle.x25_link.specs.declared.error.LinkError.{LinkError}
 use Rattle.x25_link.specs.declared.phase.Phase.{Phase}
 use Rattle.x25_link.specs.declared.phase.Phase.TheVariants.{Waiting, Down, Up, Closed}
-use Rattle.x25_link.specs.LinkStation.{LinkStation, awaits_ua, Settings as LinkSettings, with_near}
-use Rattle.x25_link.specs.MustSend.{other, Step as LinkStep, quiet, leaves}
+use Rattle.x25_link.specs.Station.{LinkStation, awaits_ua, Settings as LinkSettings, with_near}
+use Rattle.x25_link.specs.Hearing.{other, Step as LinkStep, quiet, leaves}
 use Rattle.x25_link.specs.laws.NoteLaw.{Tells}
-use Rattle.x25_link.specs.Steps.{timer_refusal, timer_step, connect_refusal, connect_step, disconnect_refusal, disconnect_step, alone, closed_by, asks_again}
-use Rattle.x25_line.specs.Stations as line
-use Rattle.x25_line.specs.Sessions as links
-use Rattle.x25_line.specs.Sessions.{Sessions, begun_by, sabm_in, ua_in, how_many, IsTimely}
+use Rattle.x25_link.specs.Link.{timer_refusal, timer_step, connect_refusal, connect_step, disconnect_refusal, disconnect_step, alone, closed_by, asks_again}
+use Rattle.x25_line.specs.laws.Stations as line
+use Rattle.x25_line.specs.laws.Sessions as links
+use Rattle.x25_line.specs.laws.Sessions.{Sessions, begun_by, sabm_in, ua_in, how_many, IsTimely}
 use Rattle.x25_line.specs.laws.SessionClaims.{octets_of}
 use Rattle.x25_station.specs.declared.config.Cfg.{Cfg}
-use Rattle.x25_station.specs.Settings.{settings_from, longest_packet}
+use Rattle.x25_station.specs.Config.{settings_from, longest_packet}
 use Rattle.x25_station.specs.Command.{Connects, Disconnects}
-use Rattle.x25_station.specs.Entries.{connect_asked, disconnect_asked}
-use Rattle.x25_station.specs.Steps.{Step, follows, led_by, fires, connects, connects_asked, disconnects, unless}
+use Rattle.x25_station.specs.Entry.{connect_asked, disconnect_asked}
+use Rattle.x25_station.specs.Step.{Step, follows, led_by, fires, connects, connects_asked, disconnects, unless}
 use Rattle.x25_station.specs.laws.KeepLaw.{IsKept, KeptBy, ConnectKeeps}
-use Rattle.x25_world.specs.SetUpFrames.{is_a, reads_as, carries}
+use Rattle.x25_world.specs.SetUp.{is_a, reads_as, carries}
 use Rattle.x25_world.specs.declared.set_up.SetUpFrame.{SetUpFrame}
 use Rattle.x25_world.specs.declared.set_up.SetUpFrame.TheVariants.{Sabm, Ua}
 use Rattle.x25_world.specs.declared.error.WorldError.TheVariants as error

@@ -2,26 +2,26 @@
 use Rattle.std.proofs.Common.{◌≡◌, ℕ, ◌≤◌, inl, inr, List, [], length, Bool, true, false, Some, refl, sym, ap, ◌∙◌, subst, arith, Option, None, if◌then◌else◌, ◌+◌, ◌==◌, zero, suc, nat_le}
 use Rattle.x25_bits.specs.declared.role.Role.{Role}
 use Rattle.x25_bits.specs.declared.role.Role.TheVariants.{Dte, Dce}
-use Rattle.x25_link.specs.MustSend.{other}
-use Rattle.x25_link.specs.Steps as link
-use Rattle.x25_link.specs.LinkStation.{LinkStation, is_up}
-use Rattle.x25_line.specs.Sessions.{Meeting}
+use Rattle.x25_link.specs.Hearing.{other}
+use Rattle.x25_link.specs.Link as link
+use Rattle.x25_link.specs.Station.{LinkStation, is_up}
+use Rattle.x25_line.specs.laws.Sessions.{Meeting}
 use Rattle.x25_line.specs.laws.SessionClaims.{EachMeetsLatest, IdleHasArrived}
 use Rattle.x25_circuit.specs.declared.state.State.{State}
 use Rattle.x25_circuit.specs.declared.state.State.TheVariants.{Open}
 use Rattle.x25_circuit.specs.Circuit.{is_free_in, is_open_in, is_open, Circuit, waits}
-use Rattle.x25_handshakes.specs.Names.{Name}
+use Rattle.x25_handshakes.specs.laws.Names.{Name}
 use Rattle.x25_layer.specs.Layer.{Layer, rested, is_channel}
-use Rattle.x25_layer.specs.Transcript.{Entry, name_of}
-use Rattle.x25_layer.specs.TwoLayers as layer
+use Rattle.x25_layer.specs.laws.Transcript.{Entry, name_of}
+use Rattle.x25_layer.specs.laws.TwoLayers as layer
 use Rattle.x25_layer.specs.laws.Law.{HasAllOf, IsIdleTo}
 use Rattle.x25_station.specs.declared.config.Cfg.{Cfg}
-use Rattle.x25_station.specs.Settings.{settings_from}
+use Rattle.x25_station.specs.Config.{settings_from}
 use Rattle.x25_station.specs.Station.{Station}
 use Rattle.x25_station.specs.laws.KeepLaw.{IsKept}
-use Rattle.x25_station.specs.Told.{is_idle, stretch}
+use Rattle.x25_station.specs.Station.Told.{is_idle, stretch}
 use Rattle.x25_world.specs.World.{World, swapped}
-use Rattle.x25_world.specs.Sessions.{Progress, last_session, handed_in, meets}
+use Rattle.x25_world.specs.laws.Sessions.{Progress, last_session, handed_in, meets}
 use Rattle.x25_world.specs.laws.SessionClaims.{OpenStretchesMeet, AllArrive}
 use Rattle.x25_world.proofs.Known.{IsConfigured, both_true, true_false}
 use Rattle.x25_world.proofs.Growing.{spelled, spelled_none}

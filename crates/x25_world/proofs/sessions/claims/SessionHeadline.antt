@@ -3,7 +3,7 @@ use Rattle.x25_station.specs.laws.KeepLaw.{ConnectKeeps}
 use Rattle.x25_world.specs.World.{run}
 use Rattle.x25_world.specs.laws.Claims.{HasNoProcedureError}
 use Rattle.x25_world.specs.laws.SessionClaims.{Throughout, MeetInStep, AreLawfulWhereMet, AreNamedInSessions, UnmetAreToldNothing, OpenStretchesMeet, AllArrive}
-use Rattle.x25_world.specs.TapOctets.{IsTapOfOctets}
+use Rattle.x25_world.specs.laws.TapOctets.{IsTapOfOctets}
 use Rattle.x25_world.proofs.Known.{is_configured}
 use Rattle.x25_world.specs.laws.LawsBelow.{SessionLaws}
 use Rattle.x25_world.proofs.sessions.claims.SessionMeets.{meet_in_step}

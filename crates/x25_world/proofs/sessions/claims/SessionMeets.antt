@@ -2,13 +2,13 @@
 use Rattle.std.proofs.Common.{◌≡◌, ℕ, ◌≤◌, ◌<◌, ◌⊎◌, inl, inr, List, [], ◌∷◌, Option, Some, None, sym, ap, ◌∙◌, subst, arith}
 use Rattle.x25_bits.specs.declared.role.Role.{Role}
 use Rattle.x25_bits.specs.declared.role.Role.TheVariants.{Dte, Dce}
-use Rattle.x25_link.specs.MustSend.{other}
-use Rattle.x25_line.specs.Sessions.{Meeting}
+use Rattle.x25_link.specs.Hearing.{other}
+use Rattle.x25_line.specs.laws.Sessions.{Meeting}
 use Rattle.x25_line.specs.laws.SessionClaims as line
 use Rattle.x25_line.specs.laws.SessionClaims.{AllMet, IsNoEarlier, InStep, OnlyBegunHaveLists}
 use Rattle.x25_station.specs.declared.config.Cfg.{Cfg}
 use Rattle.x25_world.specs.World.{World}
-use Rattle.x25_world.specs.Sessions.{Progress, last_session, meets}
+use Rattle.x25_world.specs.laws.Sessions.{Progress, last_session, meets}
 use Rattle.x25_world.specs.laws.SessionClaims.{MeetInStep}
 use Rattle.x25_world.proofs.Known.{IsConfigured}
 use Rattle.x25_world.proofs.sessions.SessionReaches.{Beginning, known_sessions}

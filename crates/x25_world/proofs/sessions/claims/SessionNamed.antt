@@ -2,15 +2,15 @@
 use Rattle.std.proofs.Common.{◌≡◌, ℕ, List, true, sym, ap, ◌∙◌, subst, arith}
 use Rattle.x25_bits.specs.declared.role.Role.{Role}
 use Rattle.x25_bits.specs.declared.role.Role.TheVariants.{Dte, Dce}
-use Rattle.x25_link.specs.LinkStation.{is_up}
+use Rattle.x25_link.specs.Station.{is_up}
 use Rattle.x25_layer.specs.Layer.{Layer, LayerNotice}
 use Rattle.x25_layer.specs.laws.NameLaw.{first_name, counted, IsCounted}
-use Rattle.x25_layer.specs.Transcript.{name_of}
-use Rattle.x25_layer.specs.TwoLayers as layer
+use Rattle.x25_layer.specs.laws.Transcript.{name_of}
+use Rattle.x25_layer.specs.laws.TwoLayers as layer
 use Rattle.x25_station.specs.declared.config.Cfg.{Cfg}
-use Rattle.x25_station.specs.Entries.{layer_notices}
+use Rattle.x25_station.specs.Entry.{layer_notices}
 use Rattle.x25_world.specs.World.{World, swapped}
-use Rattle.x25_world.specs.Sessions.{Progress, session_at, last_session}
+use Rattle.x25_world.specs.laws.Sessions.{Progress, session_at, last_session}
 use Rattle.x25_world.specs.laws.SessionClaims.{AreNamedInSessions}
 use Rattle.x25_world.proofs.Known.{IsConfigured}
 use Rattle.x25_world.proofs.sessions.SessionTrace.{Done, own, pair_in}

@@ -2,17 +2,17 @@
 use Rattle.std.proofs.Common.{ℕ, zero, suc, Bool, List, [], ◌∷◌, Contains, sym, subst, arith, ◌<◌}
 use Rattle.std.proofs.lemmas.List.Elements.{All-nil}
 use Rattle.x25_bits.specs.declared.role.Role.TheVariants.{Dte}
-use Rattle.x25_frame.specs.PlainFrame.{PlainFrame, info, rr, rnr, rej, sabm, disc, ua, dm, frmr}
+use Rattle.x25_frame.specs.Frame.{PlainFrame, info, rr, rnr, rej, sabm, disc, ua, dm, frmr}
 use Rattle.x25_frame.specs.Spelling.{information_of}
-use Rattle.x25_packet.specs.PlainPacket.{PlainPacket}
+use Rattle.x25_packet.specs.Packet.{PlainPacket}
 use Rattle.x25_line.specs.laws.StationClaims.{NoFrmr, IsWhole, AreWhole}
 use Rattle.x25_line.specs.laws.SessionClaims.{NoSessionSendsFrmr, AllSessionsSendWhole}
-use Rattle.x25_layer.specs.Quiet.{AreQuiet}
+use Rattle.x25_layer.specs.laws.Quiet.{AreQuiet}
 use Rattle.x25_station.specs.declared.config.Cfg.{Cfg}
-use Rattle.x25_station.specs.Settings.{longest_packet}
+use Rattle.x25_station.specs.Config.{longest_packet}
 use Rattle.x25_station.specs.laws.ReadLaw.{AreOctets, AreReadable}
 use Rattle.x25_world.specs.World.{OnTap, World}
-use Rattle.x25_world.specs.TapOctets.{AreOfFrame, AreOfFrames, IsTapOfOctets}
+use Rattle.x25_world.specs.laws.TapOctets.{AreOfFrame, AreOfFrames, IsTapOfOctets}
 use Rattle.x25_world.proofs.FrameOctets.{spelled_of_frame}
 use Rattle.x25_world.proofs.Growing.{spelled, AreOnTap}
 use Rattle.x25_world.proofs.Known.{IsConfigured}

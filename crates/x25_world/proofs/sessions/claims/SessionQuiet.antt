@@ -1,27 +1,27 @@
 -- Over set-up and re-set-up no error of procedure is ever put on the line, or told to a user.
 use Rattle.std.proofs.Common.{◌≡◌, ℕ, Bool, zero, suc, List, [], ◌∷◌, Result, Ok, Contains, sym, subst, arith, ◌≤◌, ◌<◌, ◌⊎◌, inl, inr}
 use Rattle.x25_bits.specs.declared.role.Role.{Role}
-use Rattle.x25_frame.specs.PlainFrame.{PlainFrame, info, rr, rnr, rej, sabm, disc, ua, dm, frmr}
+use Rattle.x25_frame.specs.Frame.{PlainFrame, info, rr, rnr, rej, sabm, disc, ua, dm, frmr}
 use Rattle.x25_frame.specs.Spelling.{spelling_of}
 use Rattle.x25_frame.specs.Reading.{frame_of}
 use Rattle.x25_frame.specs.laws.ReadingLaw.{ReadsSpelled}
 use Rattle.x25_frame.specs.declared.error.FrameError.{FrameError}
-use Rattle.x25_packet.specs.PlainPacket.{PlainPacket}
+use Rattle.x25_packet.specs.Packet.{PlainPacket}
 use Rattle.x25_packet.specs.Spelling as packet
 use Rattle.x25_packet.specs.Reading.{packet_of}
 use Rattle.x25_packet.specs.declared.error.PacketError.{PacketError}
 use Rattle.x25_line.specs.laws.StationClaims.{NoFrmr, IsWhole, AreWhole}
-use Rattle.x25_layer.specs.Quiet.{AreQuiet, AreNoFaults}
+use Rattle.x25_layer.specs.laws.Quiet.{AreQuiet, AreNoFaults}
 use Rattle.x25_packet.specs.Spelling.{longest_user}
-use Rattle.x25_station.specs.Settings.{longest_packet}
+use Rattle.x25_station.specs.Config.{longest_packet}
 use Rattle.x25_station.specs.laws.ReadLaw.{AreReadable}
 use Rattle.x25_world.specs.World.{OnTap, World, swapped}
 use Rattle.x25_world.proofs.Growing.{spelled, AreOnTap}
 use Rattle.x25_bits.specs.declared.role.Role.TheVariants.{Dte, Dce}
-use Rattle.x25_line.specs.Sessions.{Sessions}
+use Rattle.x25_line.specs.laws.Sessions.{Sessions}
 use Rattle.x25_line.specs.laws.SessionClaims.{OnlyBegunHaveLists, NoSessionSendsFrmr, AllSessionsSendWhole}
 use Rattle.x25_station.specs.declared.config.Cfg.{Cfg}
-use Rattle.x25_station.specs.Entries.{layer_notices}
+use Rattle.x25_station.specs.Entry.{layer_notices}
 use Rattle.x25_world.specs.laws.Claims.{IsQuietRead, IsQuietFrame, IsQuietTap, HasNoProcedureError, entries_at}
 use Rattle.x25_world.proofs.Known.{IsConfigured}
 use Rattle.x25_world.proofs.sessions.SessionTrace.{own}

@@ -4,36 +4,36 @@ use Rattle.std.proofs.lemmas.List.{length-map}
 use Rattle.std.proofs.lemmas.Bool.{eqb-true}
 use Rattle.x25_bits.specs.declared.role.Role.{Role}
 use Rattle.x25_bits.specs.declared.role.Role.TheVariants.{Dte, Dce}
-use Rattle.x25_packet.specs.PlainPacket.{PlainPacket}
+use Rattle.x25_packet.specs.Packet.{PlainPacket}
 use Rattle.x25_packet.specs.Spelling as packet
-use Rattle.x25_link.specs.MustSend.{other}
+use Rattle.x25_link.specs.Hearing.{other}
 use Rattle.x25_link.specs.Outgoing as outgoing
-use Rattle.x25_link.specs.Steps as link
-use Rattle.x25_link.specs.Steps.{alone}
-use Rattle.x25_link.specs.LinkStation.{LinkStation, is_up}
-use Rattle.x25_line.specs.Sessions.{Meeting}
+use Rattle.x25_link.specs.Link as link
+use Rattle.x25_link.specs.Link.{alone}
+use Rattle.x25_link.specs.Station.{LinkStation, is_up}
+use Rattle.x25_line.specs.laws.Sessions.{Meeting}
 use Rattle.x25_line.specs.laws.SessionClaims.{IdleHasArrived}
 use Rattle.x25_circuit.specs.Circuit.{is_open, waits}
-use Rattle.x25_handshakes.specs.Names.{Name}
+use Rattle.x25_handshakes.specs.laws.Names.{Name}
 use Rattle.x25_layer.specs.declared.error.LayerError.TheVariants as error
 use Rattle.x25_layer.specs.Layer.{Layer, is_channel, is_ready}
 use Rattle.x25_layer.specs.Calls.{PullsAll, outcome_in, layer_outcome}
 use Rattle.x25_layer.specs.Rounds.{LinkView, Putting, begin, rounds, Answered, Went, Refuses, went, calls}
-use Rattle.x25_layer.specs.Apart.{AlwaysApart, as_world}
-use Rattle.x25_layer.specs.Transcript.{Entry, name_of}
-use Rattle.x25_layer.specs.TwoLayers as layer
+use Rattle.x25_layer.specs.laws.Apart.{AlwaysApart, as_world}
+use Rattle.x25_layer.specs.laws.Transcript.{Entry, name_of}
+use Rattle.x25_layer.specs.laws.TwoLayers as layer
 use Rattle.x25_layer.specs.laws.Law.{HasAllOf, KeepsOrder}
 use Rattle.x25_layer.specs.laws.WaitLaw as wait
 use Rattle.x25_layer.specs.laws.WaitLaw.{PullsNone, RoundsLeaveNone, StillPullsNone, KeepsNoneClosed, OpensNoneInRestart, IsDrained, IsOpenAtBoth, WaitForUsersAlone}
 use Rattle.x25_station.specs.declared.config.Cfg.{Cfg}
-use Rattle.x25_station.specs.Settings.{Settings, settings_from, link_settings, layer_settings}
-use Rattle.x25_station.specs.Entries.{StationEntry}
+use Rattle.x25_station.specs.Config.{Settings, settings_from, link_settings, layer_settings}
+use Rattle.x25_station.specs.Entry.{StationEntry}
 use Rattle.x25_station.specs.Station.{Station, all_put, view_of}
-use Rattle.x25_station.specs.Steps.{did, requests}
-use Rattle.x25_station.specs.Told.{stretch}
+use Rattle.x25_station.specs.Step.{did, requests}
+use Rattle.x25_station.specs.Station.Told.{stretch}
 use Rattle.x25_station.specs.laws.KeepLaw.{ConnectKeeps}
 use Rattle.x25_world.specs.World.{World, swapped, WorldOutcome, Happened, Declined, of_station, swapped_back, after, run}
-use Rattle.x25_world.specs.Sessions.{last_session, handed_in}
+use Rattle.x25_world.specs.laws.Sessions.{last_session, handed_in}
 use Rattle.x25_world.specs.laws.SessionClaims.{Throughout}
 use Rattle.x25_world.specs.laws.WaitClaims.{WaitsForUser, Arrived, NotReady, MessagesWaitForUsers, ClosedKeepNone, PullsLeaveNone, UnpulledWaitForUsers}
 use Rattle.x25_world.specs.laws.LawsBelow.{SessionLaws}

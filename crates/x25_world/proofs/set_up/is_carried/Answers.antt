@@ -1,6 +1,6 @@
 use Rattle.std.proofs.Common.{sym, ap, subst, ◌<◌, ◌∙◌}
 use Rattle.x25_bits.specs.Role.{other}
-use Rattle.x25_world.specs.SetUpFrames.{reads_as}
+use Rattle.x25_world.specs.SetUp.{reads_as}
 use Rattle.x25_world.specs.code.ShownLine.{line_to}
 use Rattle.x25_world.proofs.SetUpLemmas.{found_at, not_found_yet, none_there}
 use Rattle.x25_world.proofs.set_up.is_carried.Goals as goal

@@ -1,7 +1,7 @@
 use Rattle.std.proofs.Common.{◌∙◌, sym, subst, refl}
 use Rattle.std.specs.Io.KnownBytes.{Appends}
 use Rattle.std.proofs.lemmas.List.{append-nil}
-use Rattle.x25_bit_line.specs.Deframed.{deframed}
+use Rattle.x25_bit_line.specs.Deframing.{deframed}
 use Rattle.x25_bit_line.proofs.TellingLemmas.{told_all}
 use Rattle.x25_bit_line.proofs.finder.FinderTextTaker.end.Goals as goal
 

@@ -1,9 +1,9 @@
 use Rattle.std.proofs.Common.{◌≡◌, ◌∙◌, ◌++◌, [], arith, ap, sym, subst, append_assoc}
-use Rattle.x25_bits.specs.Fcs.{bits_of}
-use Rattle.x25_bits.specs.SpanClass.{found_of}
+use Rattle.x25_bits.specs.FrameCheck.{bits_of}
+use Rattle.x25_bits.specs.Found.{found_of}
 use Rattle.x25_bits.specs.declared.role.Role.{Role}
 use Rattle.x25_io.specs.code.Written.{AppendsPrefix}
-use Rattle.x25_bit_line.specs.Deframed.{class_lines}
+use Rattle.x25_bit_line.specs.Deframing.{class_lines}
 use Rattle.x25_bit_line.specs.code.Reads.{Reads}
 use Rattle.std.proofs.lemmas.Bool.Decides.{nat_tests}
 use Rattle.x25_bit_line.proofs.TellingLemmas.{empty_is_nil}

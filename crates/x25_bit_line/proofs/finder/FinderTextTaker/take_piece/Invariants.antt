@@ -1,5 +1,5 @@
 use Rattle.std.proofs.Common.{◌≡◌, ◌++◌, ℕ, Bool, List, Option, length}
-use Rattle.x25_bits.specs.Fcs.{bits_of}
+use Rattle.x25_bits.specs.FrameCheck.{bits_of}
 use Rattle.x25_bit_line.specs.code.Reads.{Reads}
 use Rattle.x25_bit_line.proofs.finder.FinderTextTaker.take_piece.Given as goal
 

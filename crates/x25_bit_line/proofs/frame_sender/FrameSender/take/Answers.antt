@@ -1,6 +1,6 @@
 use Rattle.std.proofs.Common.{◌∙◌, ◌||◌, ap, sym, subst}
-use Rattle.x25_bit_line.specs.Framed.{line_bits}
-use Rattle.x25_bit_line.specs.Sending.{SendsLine}
+use Rattle.x25_bit_line.specs.Framing.{line_bits}
+use Rattle.x25_bit_line.specs.LineBits.{SendsLine}
 use Rattle.x25_bit_line.proofs.FrameLineLemmas.{sends_frame, sends_none, wrong_by_mark, stays_right}
 use Rattle.x25_bit_line.proofs.SendingLemmas.{sends_by, sends_nothing}
 use Rattle.x25_bit_line.proofs.frame_sender.FrameSender.take.Goals as goal

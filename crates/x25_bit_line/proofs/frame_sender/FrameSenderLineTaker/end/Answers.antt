@@ -2,7 +2,7 @@ use Rattle.std.proofs.Common.{◌≡◌, ◌∙◌, Bool, true, false, ap, refl,
 use Rattle.std.proofs.lemmas.Result.{err_from_is_err_and}
 use Rattle.std.specs.Io.KnownBytes.{Appends}
 use mir.Val.{bool_byte}
-use Rattle.x25_bits.specs.SpanClass.{octets_of}
+use Rattle.x25_bits.specs.Found.{octets_of}
 use Rattle.x25_bits.specs.Stuffing.{filled}
 use Rattle.x25_io.specs.code.Written.{AppendsPrefix}
 use Rattle.x25_bit_line.proofs.FramesLemmas.{none_left}

@@ -4,8 +4,8 @@ use Rattle.std.proofs.Math.Bool.{or-true}
 use Rattle.std.proofs.lemmas.Result.{MatchResult-weaker}
 use Rattle.x25_io.specs.HeldLine.{most_line}
 use Rattle.x25_io.proofs.ToldLemmas.{with_ok}
-use Rattle.x25_bit_line.specs.Framed.{is_wrong, line_bits}
-use Rattle.x25_bit_line.specs.Sending.{SendsLine}
+use Rattle.x25_bit_line.specs.Framing.{is_wrong, line_bits}
+use Rattle.x25_bit_line.specs.LineBits.{SendsLine}
 use Rattle.x25_bit_line.proofs.FrameLineLemmas.{long_is_wrong, sends_none}
 use Rattle.x25_bit_line.proofs.FramesLemmas.{line_lost, line_taken}
 use Rattle.x25_bit_line.proofs.SendingLemmas.{sends_nothing}

@@ -1,6 +1,6 @@
 use Rattle.std.proofs.Common.{◌∙◌, ◌++◌, ◌∷◌, [], ap, sym, subst, refl, arith}
 use Rattle.std.proofs.lemmas.List.{append-nil}
-use Rattle.x25_bits.specs.SpanClass.{octets_by}
+use Rattle.x25_bits.specs.Found.{octets_by}
 use Rattle.x25_io.specs.code.Written.{Tells}
 use Rattle.x25_bit_line.proofs.SendingLemmas.{octets_lost, octets_told}
 use Rattle.x25_bit_line.proofs.line_bits.LineBits.tell_octets.Goals as goal

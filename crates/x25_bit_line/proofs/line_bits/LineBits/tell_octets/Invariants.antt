@@ -1,5 +1,5 @@
 use Rattle.std.proofs.Common.{◌≡◌, ◌++◌, ℕ, List, Option}
-use Rattle.x25_bits.specs.SpanClass.{octets_by}
+use Rattle.x25_bits.specs.Found.{octets_by}
 use Rattle.x25_io.specs.code.Written.{Tells}
 use Rattle.x25_bit_line.proofs.line_bits.LineBits.tell_octets.Given as goal
 

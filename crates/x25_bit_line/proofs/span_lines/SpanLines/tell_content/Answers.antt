@@ -2,10 +2,10 @@ use Rattle.std.proofs.Common.{◌∙◌, ◌++◌, ◌∷◌, [], ap, sym, subst
 use Rattle.std.specs.Prelude.{MatchResult}
 use Rattle.std.specs.List.{flat_map}
 use Rattle.std.proofs.lemmas.Result.{err_from_is_err_and}
-use Rattle.x25_decode.specs.Decoded.{mark_of}
+use Rattle.x25_decode.specs.Decoding.{mark_of}
 use Rattle.x25_io.specs.code.Written.{AppendsPrefix, Tells}
 use Rattle.x25_io.proofs.ToldLemmas.{part_of_all}
-use Rattle.x25_text.specs.OctetText.{octet_text}
+use Rattle.x25_text.specs.Text.{octet_text}
 use Rattle.x25_bit_line.proofs.span_lines.SpanLines.tell_content.Goals as goal
 
 pub returns-in_err-tell-clause-tells : goal.returns-in_err-tell-clause-tells

@@ -1,7 +1,7 @@
 use Rattle.std.proofs.Common.{◌∙◌, ◌++◌, ap, sym, append_assoc}
 use Rattle.std.specs.List.{flat_map}
 use Rattle.std.proofs.lemmas.Result.{err_from_is_err_and}
-use Rattle.x25_text.specs.OctetText.{octet_text}
+use Rattle.x25_text.specs.Text.{octet_text}
 use Rattle.x25_bit_line.proofs.TellingLemmas.{lost_digits, more_digits}
 use Rattle.x25_bit_line.proofs.span_lines.SpanLines.tell_digits.Goals as goal
 

@@ -1,7 +1,7 @@
 use Rattle.std.proofs.Common.{◌≡◌, ◌++◌, ℕ, List, Option, length}
 use Rattle.std.specs.List.{flat_map}
 use Rattle.x25_io.specs.code.Written.{Tells}
-use Rattle.x25_text.specs.OctetText.{octet_text}
+use Rattle.x25_text.specs.Text.{octet_text}
 use Rattle.x25_bit_line.proofs.span_lines.SpanLines.tell_digits.Given as goal
 
 -- the digits of what isn't left are told

@@ -1,5 +1,5 @@
 use Rattle.std.proofs.Common.{◌≡◌, ◌∙◌, ◌++◌, ◌&&◌, ap, subst}
-use Rattle.x25_bits.specs.Fcs.{bits_of}
+use Rattle.x25_bits.specs.FrameCheck.{bits_of}
 use Rattle.x25_bits.specs.code.Held.{seen_of}
 use Rattle.x25_bits.specs.code.Keeping.{Keeping}
 use Rattle.x25_bits.specs.code.Plain.{plains}

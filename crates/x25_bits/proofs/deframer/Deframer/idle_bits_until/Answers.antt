@@ -1,4 +1,4 @@
-use Rattle.x25_bits.specs.Fcs.{bits_of}
+use Rattle.x25_bits.specs.FrameCheck.{bits_of}
 use Rattle.x25_bits.proofs.IdleLemmas.{none_more_seen, none_more_found}
 use Rattle.x25_bits.proofs.deframer.Deframer.idle_bits_until.Goals as goal
 

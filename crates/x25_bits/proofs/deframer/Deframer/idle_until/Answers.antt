@@ -1,5 +1,5 @@
 use Rattle.std.proofs.Common.{◌*◌, arith}
-use Rattle.x25_bits.specs.Fcs.{bits_of}
+use Rattle.x25_bits.specs.FrameCheck.{bits_of}
 use Rattle.x25_bits.proofs.IdleLemmas.{none_more_seen, none_more_found, one_more_seen, one_more_found}
 use Rattle.x25_bits.proofs.deframer.Deframer.idle_until.Goals as goal
 

@@ -1,5 +1,5 @@
 use Rattle.std.proofs.Common.{◌≤◌, ◌≡◌, ◌+◌, ◌∙◌, arith, ap, length, length-append}
-use Rattle.x25_bits.specs.Fcs.{low_bits}
+use Rattle.x25_bits.specs.FrameCheck.{low_bits}
 use Rattle.x25_bits.proofs.FcsLemmas.{length-low_bits}
 use Rattle.x25_bits.proofs.deframer.Deframer.keep_passed.Goals as goal
 

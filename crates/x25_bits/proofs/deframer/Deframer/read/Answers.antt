@@ -1,5 +1,5 @@
 use Rattle.std.proofs.Common.{◌+◌, ◌≡◌, ◌<◌, ◌≤◌, ◌∙◌, ◌++◌, sym, subst, arith}
-use Rattle.x25_bits.specs.Fcs.{bits_of}
+use Rattle.x25_bits.specs.FrameCheck.{bits_of}
 use Rattle.x25_bits.specs.code.Fits.{Fits}
 use Rattle.x25_bits.specs.code.FitsSeen.{FitsSeen}
 use Rattle.x25_bits.specs.code.Reading.{part}

@@ -1,5 +1,5 @@
 use Rattle.std.proofs.Common.{◌≡◌, ◌≤◌, ◌-◌, true}
-use Rattle.x25_bits.specs.Fcs.{bits_of}
+use Rattle.x25_bits.specs.FrameCheck.{bits_of}
 use Rattle.x25_bits.specs.code.Fits.{has_buffer}
 use Rattle.x25_bits.proofs.LendingLemmas.{Reads}
 use Rattle.x25_bits.proofs.deframer.Deframer.read.Given as goal

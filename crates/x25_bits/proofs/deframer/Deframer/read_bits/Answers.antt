@@ -1,6 +1,6 @@
 use Rattle.std.proofs.Common.{◌≡◌, ◌++◌, [], subst, arith}
 use Rattle.x25_bits.specs.laws.Cuts.{found_more}
-use Rattle.x25_bits.specs.Fcs.{bits_of}
+use Rattle.x25_bits.specs.FrameCheck.{bits_of}
 use Rattle.x25_bits.specs.code.Fits.{Fits}
 use Rattle.x25_bits.specs.code.Reading.{Lends}
 use Rattle.x25_bits.proofs.ReadingLemmas.{part_same}

@@ -1,5 +1,5 @@
 use Rattle.std.proofs.Common.{◌≡◌, ◌≤◌, ◌++◌, unwrap_or}
-use Rattle.x25_bits.specs.Prefix.{IsPrefix}
+use Rattle.x25_bits.specs.code.Prefix.{IsPrefix}
 use Rattle.x25_bits.specs.code.Held.{Seen, seen_from, found_from}
 use Rattle.x25_bits.specs.code.Reading.{part}
 use Rattle.x25_bits.specs.code.Plain.{plains}

@@ -1,6 +1,6 @@
 use Rattle.std.proofs.Common.{◌∙◌, ◌++◌, ◌∷◌, ◌≡◌, ◌<◌, ◌+◌, [], false, length, drop, unwrap_or, refl, ap, sym, subst, arith}
 use Rattle.std.proofs.lemmas.List.{append-nil, drop_all, drop_more}
-use Rattle.x25_bits.specs.Fcs.{bits_of}
+use Rattle.x25_bits.specs.FrameCheck.{bits_of}
 use Rattle.x25_bits.specs.code.FitsSeen.{FitsSeen}
 use Rattle.x25_bits.specs.code.Held.{seen_from, found_from}
 use Rattle.x25_bits.specs.code.Plain.{plains}
@@ -11,7 +11,7 @@ use Rattle.x25_bits.proofs.OctetLemmas.{length-bits_of}
 use Rattle.x25_bits.proofs.PassingLemmas.{passed_fits, passed_found}
 use Rattle.x25_bits.proofs.LeadsLemmas.{leads_bit, leads_bits, led_fits, led_found}
 use Rattle.x25_bits.proofs.StretchLemmas.{part_left, one_octet}
-use Rattle.x25_bits.specs.Prefix.{IsPrefix}
+use Rattle.x25_bits.specs.code.Prefix.{IsPrefix}
 use Rattle.x25_bits.specs.code.Keeping.{Keeping}
 use Rattle.x25_bits.specs.code.Skips.{Skips}
 use Rattle.x25_bits.proofs.SkippingLemmas.{skipped_fits}

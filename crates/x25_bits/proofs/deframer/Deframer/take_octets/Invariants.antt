@@ -1,6 +1,6 @@
 use Rattle.std.proofs.Common.{◌≡◌, ◌-◌, drop, length, unwrap_or}
-use Rattle.x25_bits.specs.Prefix.{IsPrefix}
-use Rattle.x25_bits.specs.Fcs.{bits_of}
+use Rattle.x25_bits.specs.code.Prefix.{IsPrefix}
+use Rattle.x25_bits.specs.FrameCheck.{bits_of}
 use Rattle.x25_bits.specs.code.Held.{Seen}
 use Rattle.x25_bits.specs.code.Plain.{plains}
 use Rattle.x25_bits.specs.code.FitsSeen.{FitsSeen}

@@ -1,7 +1,7 @@
 use Rattle.std.proofs.Common.{◌≤◌, ◌≡◌, ◌∙◌, ◌+◌, ◌-◌, ◌*◌, ◌++◌, ap, length, arith, take}
 use Rattle.std.proofs.lemmas.List.{length-take}
 use Rattle.std.proofs.lemmas.Result.{err_from_is_err_and}
-use Rattle.x25_bits.specs.Fcs.{bits_of}
+use Rattle.x25_bits.specs.FrameCheck.{bits_of}
 use Rattle.x25_bits.specs.Passing.{kept_from}
 use Rattle.x25_bits.specs.code.Keeping.{Keeping}
 use Rattle.x25_bits.specs.code.Reading.{part}

@@ -1,6 +1,6 @@
 use Rattle.std.proofs.Common.{◌≤◌, ◌≡◌, ◌∙◌, ◌+◌, ◌-◌, ◌*◌, ap, length, arith}
 use Rattle.std.proofs.lemmas.List.{length-take}
-use Rattle.x25_bits.specs.Fcs.{bits_of}
+use Rattle.x25_bits.specs.FrameCheck.{bits_of}
 use Rattle.x25_bits.specs.code.Keeping.{Keeping}
 use Rattle.x25_bits.proofs.KeepingLemmas.{count_of}
 use Rattle.x25_bits.proofs.kept.Kept.take_whole_within.Goals as goal

@@ -1,7 +1,7 @@
 use Rattle.std.proofs.Common.{◌≡◌, ◌∙◌, ◌/◌, ap, take}
-use Rattle.x25_bits.specs.Fcs.{bits_of}
+use Rattle.x25_bits.specs.FrameCheck.{bits_of}
 use Rattle.x25_bits.specs.code.Keeping.{Keeping}
-use Rattle.x25_bits.specs.SpanClass.{octets_by}
+use Rattle.x25_bits.specs.Found.{octets_by}
 use Rattle.x25_bits.proofs.OctetLemmas.{count_is}
 use Rattle.x25_bits.proofs.kept.Kept.whole_octets.Goals as goal
 

@@ -2,7 +2,7 @@ use Rattle.std.proofs.Common.{◌≡◌, refl, Bool, sym, subst, ◌∙◌, lit�
 use Rattle.x25_packet.specs.Facilities.{IsFacilityField}
 use Rattle.x25_circuit.specs.declared.params.Params.{Params}
 use Rattle.x25_circuit.specs.declared.state.State.TheVariants.{Calling}
-use Rattle.x25_circuit.specs.Calls.{may_call}
+use Rattle.x25_circuit.specs.Calling.{may_call}
 use Rattle.x25_circuit.specs.Circuit.{entered}
 use Rattle.x25_circuit.specs.code.FitsCircuit.{FitsCircuit}
 use Rattle.x25_circuit.specs.Params.{default_params, may_propose}

@@ -1,8 +1,8 @@
 use Rattle.std.proofs.Common.{ℕ, sym, ap, ◌∙◌, Some}
 use Rattle.std.proofs.lemmas.List.{length_push}
-use Rattle.x25_circuit.specs.Messages.{piece_of}
-use Rattle.x25_circuit.specs.Notices.{deliveries}
-use Rattle.x25_circuit.specs.Table.{status}
+use Rattle.x25_circuit.specs.Message.{piece_of}
+use Rattle.x25_circuit.specs.Notice.{deliveries}
+use Rattle.x25_circuit.specs.Hearing.{status}
 use Rattle.x25_circuit.specs.Circuit.{outgoing}
 use Rattle.x25_circuit.proofs.TalkLemmas.{with_transfer, same_transfer}
 use Rattle.x25_circuit.proofs.circuit.Circuit.join.Goals as goal

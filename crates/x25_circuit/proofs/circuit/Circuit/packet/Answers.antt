@@ -1,6 +1,6 @@
 use Rattle.std.proofs.Common.{subst}
 use Rattle.x25_circuit.specs.declared.state.State.{State}
-use Rattle.x25_circuit.specs.Table.{row_clear}
+use Rattle.x25_circuit.specs.Hearing.{row_clear}
 use Rattle.x25_circuit.specs.code.FitsCircuit.{FitsCircuit}
 use Rattle.x25_circuit.proofs.circuit.Circuit.packet.Goals as goal
 

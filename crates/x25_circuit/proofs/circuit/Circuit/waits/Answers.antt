@@ -1,5 +1,5 @@
 use Rattle.std.proofs.Common.{sym, ap, ◌∙◌}
-use Rattle.x25_circuit.specs.Messages.{wholes}
+use Rattle.x25_circuit.specs.Message.{wholes}
 use Rattle.x25_circuit.specs.Circuit.{outgoing}
 use Rattle.x25_circuit.specs.Queue.{waiting}
 use Rattle.x25_circuit.proofs.MessageLemmas.{wholes_all}

@@ -1,6 +1,6 @@
 use Rattle.std.proofs.Common.{◌∷◌, List, length, refl, sym, ap, ◌∙◌, arith}
 use Rattle.std.proofs.lemmas.List.{length_push}
-use Rattle.x25_circuit.specs.Messages.{Piece, piece_of, cut_all}
+use Rattle.x25_circuit.specs.Message.{Piece, piece_of, cut_all}
 use Rattle.x25_circuit.specs.Queue.{waiting}
 use Rattle.x25_circuit.specs.code.Cutter.{first_left}
 use Rattle.std.proofs.lemmas.Bool.{lt-ltb, and_from}

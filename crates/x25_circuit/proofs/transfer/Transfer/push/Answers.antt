@@ -1,5 +1,5 @@
 use Rattle.std.proofs.Common.{◌++◌, List, sym, ap, ◌∙◌}
-use Rattle.x25_circuit.specs.Messages.{Piece, cut, cut_all}
+use Rattle.x25_circuit.specs.Message.{Piece, cut, cut_all}
 use Rattle.x25_circuit.specs.Queue.{waiting}
 use Rattle.x25_circuit.proofs.MessageLemmas.{cut_all_push}
 use Rattle.x25_circuit.proofs.transfer.Transfer.push.Goals as goal

@@ -1,6 +1,6 @@
 use Rattle.std.proofs.Common.{length, sym, ap, ◌∙◌}
 use Rattle.std.proofs.lemmas.List.{length_push}
-use Rattle.x25_circuit.specs.Messages.{Partial, piece_of, joined, no_part}
+use Rattle.x25_circuit.specs.Message.{Partial, piece_of, joined, no_part}
 use Rattle.x25_circuit.proofs.MessageLemmas.{joining_push}
 use Rattle.x25_circuit.proofs.TalkLemmas.{taken_more}
 use Rattle.x25_circuit.proofs.transfer.Transfer.take.Goals as goal

@@ -1,5 +1,5 @@
 use Rattle.std.proofs.Common.{subst}
-use Rattle.x25_decode.specs.Decoded.{output_of}
+use Rattle.x25_decode.specs.Decoding.{output_of}
 use Rattle.x25_decode.specs.code.Stream.{WritesEnded}
 use Rattle.x25_io.proofs.ToldLemmas.{told_prefix}
 use Rattle.x25_decode.proofs.StreamLemmas.{ended_written, part_written, written}

@@ -1,5 +1,5 @@
 use Rattle.std.proofs.Common.{◌∙◌}
-use Rattle.x25_decode.specs.Decoded.{has_refused, output_of}
+use Rattle.x25_decode.specs.Decoding.{has_refused, output_of}
 use Rattle.x25_decode.proofs.StreamLemmas.{held_more, part_written, written}
 use Rattle.x25_decode.proofs.decoder.DecoderTextTaker.take_piece.Goals as goal
 

@@ -1,7 +1,7 @@
 use Rattle.std.proofs.Common.{◌≡◌, ◌∙◌, ◌++◌, sym, subst}
 use Rattle.std.specs.Prelude.{MatchResult}
 use Rattle.x25_io.specs.code.Written.{AppendsPrefix, Tells}
-use Rattle.x25_judge.specs.Judged.{answer_to}
+use Rattle.x25_judge.specs.Judge.{answer_to}
 use Rattle.x25_judge.proofs.answerer.Answerer.answer_line.Goals as goal
 
 pub returns-clause-tells : goal.returns-clause-tells

@@ -1,7 +1,7 @@
 use Rattle.std.proofs.Common.{◌≡◌, ◌∙◌, ◌<◌, ◌≤◌, ◌++◌, ap, sym, subst, codes, length}
 use Rattle.std.specs.Prelude.{MatchOption}
 use Rattle.x25_io.specs.HeldLine.{most_line}
-use Rattle.x25_judge.specs.Judged.{Answer, answer_to}
+use Rattle.x25_judge.specs.Judge.{Answer, answer_to}
 use Rattle.x25_judge.proofs.LineLemmas.{long_answer}
 use Rattle.x25_judge.proofs.answerer.Answerer.judge_line.Goals as goal
 

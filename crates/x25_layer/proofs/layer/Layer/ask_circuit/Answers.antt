@@ -1,8 +1,8 @@
 use Rattle.std.proofs.Common.{ℕ, ◌-◌, ◌≤◌, min, refl, sym, subst, arith}
 use Rattle.x25_circuit.specs.declared.circuit.Circuit as circuit_code
-use Rattle.x25_circuit.specs.Calls.{outcome}
+use Rattle.x25_circuit.specs.Calling.{outcome}
 use Rattle.x25_circuit.specs.code.FitsCircuit.{FitsCircuit, room_of}
-use Rattle.x25_circuit.specs.Requests.{plain_request}
+use Rattle.x25_circuit.specs.Request.{plain_request}
 use Rattle.x25_layer.proofs.CallLemmas.{found_at, asks_ok, asks_err, layer_kept}
 use Rattle.x25_layer.proofs.FitLemmas.{all_changed}
 use Rattle.x25_layer.proofs.HearLemmas.{read_there}

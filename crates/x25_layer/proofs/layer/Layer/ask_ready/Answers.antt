@@ -1,7 +1,7 @@
 use Rattle.std.proofs.Common.{rules, ◌∙◌, Ok, sym, subst, ap, arith}
-use Rattle.x25_circuit.specs.Calls.{Outcome, outcome}
-use Rattle.x25_circuit.specs.Requests.{plain_request}
-use Rattle.x25_layer.specs.OverLink.{view_of, LayerGives, LinkGives}
+use Rattle.x25_circuit.specs.Calling.{Outcome, outcome}
+use Rattle.x25_circuit.specs.Request.{plain_request}
+use Rattle.x25_layer.specs.code.OverLink.{view_of, LayerGives, LinkGives}
 use Rattle.x25_layer.specs.Rounds.{LinkView, Answered, begin, went}
 use Rattle.x25_layer.specs.declared.layer.Layer as code
 use Rattle.x25_layer.specs.Layer.{packet_on}

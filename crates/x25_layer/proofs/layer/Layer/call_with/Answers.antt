@@ -1,9 +1,9 @@
 use Rattle.std.proofs.Common.{rules, ◌≡◌, ℕ, ◌∙◌, Some, Err, sym, subst, true, false, arith}
 use Rattle.std.proofs.lemmas.Result.{err_from_is_err_and}
 use Rattle.x25_circuit.specs.declared.params.Params.{Params}
-use Rattle.x25_circuit.specs.Calls.{Calls, outcome}
+use Rattle.x25_circuit.specs.Calling.{Calls, outcome}
 use Rattle.x25_layer.specs.Calls.{free_channel, outcome_on}
-use Rattle.x25_layer.specs.OverLink.{view_of, LayerGives, LinkGives}
+use Rattle.x25_layer.specs.code.OverLink.{view_of, LayerGives, LinkGives}
 use Rattle.x25_layer.specs.Rounds.{Answered, LinkView, went}
 use Rattle.x25_layer.proofs.CallLemmas.{dial_goes, dial_err_layer, dial_err_link}
 use Rattle.x25_layer.proofs.layer.Layer.call_with.Goals as goal

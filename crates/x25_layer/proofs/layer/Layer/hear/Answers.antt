@@ -1,10 +1,10 @@
 use Rattle.std.proofs.Common.{rules, ℕ, ◌≡◌, ◌∙◌, Some, Ok, Err, length, option_to_list, OnOk, IfOk, sym, ap, subst, arith}
-use Rattle.x25_packet.specs.PlainPacket.{plain}
+use Rattle.x25_packet.specs.Packet.{plain}
 use Rattle.x25_packet.specs.Reading.{packet_of, channel_in}
 use Rattle.x25_packet.specs.Spelling.{HasChannel, longest_user}
 use Rattle.x25_layer.specs.Layer.{LayerSettings, Layer, LayerAnswer}
 use Rattle.x25_layer.specs.code.FitsLayer.{FitsLayer}
-use Rattle.x25_layer.specs.OverLink.{after_all}
+use Rattle.x25_layer.specs.code.OverLink.{after_all}
 use Rattle.x25_layer.specs.Rounds.{answer_to}
 use Rattle.x25_layer.specs.Told.{plain_told}
 use Rattle.x25_layer.specs.Receiving.{hears_on}

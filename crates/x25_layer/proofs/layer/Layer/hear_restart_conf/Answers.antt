@@ -1,5 +1,5 @@
 use Rattle.std.proofs.Common.{◌∙◌, Bool, sym, subst}
-use Rattle.x25_packet.specs.PlainPacket.{restart_conf}
+use Rattle.x25_packet.specs.Packet.{restart_conf}
 use Rattle.x25_layer.specs.Layer.{answers_in}
 use Rattle.x25_layer.specs.code.FitsLayer.{FitsLayer}
 use Rattle.x25_layer.proofs.layer.Layer.hear_restart_conf.Goals as goal

@@ -1,5 +1,5 @@
 use Rattle.std.proofs.Common.{◌≡◌, ◌≤◌, ℕ, Bool, true, length, if◌then◌else◌, sym, subst, arith}
-use Rattle.x25_circuit.specs.Messages.{no_part, joining}
+use Rattle.x25_circuit.specs.Message.{no_part, joining}
 use Rattle.x25_layer.specs.Layer.{is_channel}
 use Rattle.x25_layer.proofs.layer.Layer.octets_kept.Goals as goal
 

@@ -3,7 +3,7 @@ use Rattle.x25_packet.specs.Reading.{packet_of}
 use Rattle.x25_packet.specs.Spelling.{longest_user}
 use Rattle.x25_layer.specs.Layer.{LayerAnswer}
 use Rattle.x25_layer.specs.code.FitsLayer.{FitsLayer}
-use Rattle.x25_layer.specs.OverLink.{after_all}
+use Rattle.x25_layer.specs.code.OverLink.{after_all}
 use Rattle.x25_layer.specs.Rounds.{answer_to, begin}
 use Rattle.x25_layer.specs.Room.{HaveRoom}
 use Rattle.x25_layer.specs.Told.{plain_told}

@@ -1,6 +1,6 @@
 use Rattle.std.proofs.Common.{rules, ◌≡◌, ◌∙◌, None, Ok, sym, subst, true, false, arith}
 use Rattle.x25_layer.specs.declared.layer.Layer as code
-use Rattle.x25_layer.specs.OverLink.{view_of, LayerGives, LinkGives}
+use Rattle.x25_layer.specs.code.OverLink.{view_of, LayerGives, LinkGives}
 use Rattle.x25_layer.specs.Room.{HaveRoom}
 use Rattle.x25_layer.specs.Rounds.{Answered, LinkView, begin}
 use Rattle.x25_layer.proofs.FitLemmas.{on_err}

@@ -1,9 +1,9 @@
 use Rattle.std.proofs.Common.{◌≡◌, ◌∙◌, sym, ap, subst, arith}
 use Rattle.x25_layer.specs.Layer.{LayerSettings}
 use Rattle.x25_layer.specs.code.FitsLayer.{FitsLayer, FitsCircuits}
-use Rattle.x25_layer.specs.OverLink.{view_of, after_all}
+use Rattle.x25_layer.specs.code.OverLink.{view_of, after_all}
 use Rattle.x25_layer.specs.Rounds.{LinkView, Putting, round, rounds}
-use Rattle.x25_layer.specs.Pulling.{IsEnough, Stands}
+use Rattle.x25_layer.specs.code.Pulling.{IsEnough, Stands}
 use Rattle.x25_layer.proofs.PullLemmas.{KeepsRestarts, keeps_then, round_keeps}
 use Rattle.x25_layer.proofs.SettleLemmas.{rounds_behind, rounds_at_end}
 use Rattle.x25_layer.proofs.layer.Layer.pull_all.Given as given

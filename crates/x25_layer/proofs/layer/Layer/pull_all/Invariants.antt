@@ -1,8 +1,8 @@
 use Rattle.std.proofs.Common.{◌≡◌, ℕ, ◌+◌, ◌≤◌}
 use Rattle.x25_layer.specs.Layer.{LayerSettings}
-use Rattle.x25_layer.specs.OverLink.{view_of}
+use Rattle.x25_layer.specs.code.OverLink.{view_of}
 use Rattle.x25_layer.specs.Rounds.{Putting, rounds}
-use Rattle.x25_layer.specs.Pulling.{Stands}
+use Rattle.x25_layer.specs.code.Pulling.{Stands}
 use Rattle.x25_layer.specs.Room.{HaveRoom}
 use Rattle.x25_layer.proofs.PullLemmas.{KeepsRestarts}
 use Rattle.x25_layer.proofs.layer.Layer.pull_all.Given as goal

@@ -1,9 +1,9 @@
 use Rattle.std.proofs.Common.{rules, ◌≡◌, ◌∙◌, ℕ, Some, true, false, sym, subst, ap, arith}
-use Rattle.x25_circuit.specs.Calls.{Outcome, outcome}
-use Rattle.x25_circuit.specs.Requests.{plain_request, refusal_of}
+use Rattle.x25_circuit.specs.Calling.{Outcome, outcome}
+use Rattle.x25_circuit.specs.Request.{plain_request, refusal_of}
 use Rattle.x25_layer.specs.Layer.{is_channel}
 use Rattle.x25_layer.specs.Calls.{LayerOutcome, puts_at_once}
-use Rattle.x25_layer.specs.OverLink.{view_of}
+use Rattle.x25_layer.specs.code.OverLink.{view_of}
 use Rattle.x25_layer.specs.Rounds.{LinkView, went}
 use Rattle.x25_layer.proofs.CallLemmas.{asked_goes, declined_on}
 use Rattle.x25_layer.proofs.layer.Layer.refusal.Goals as goal

@@ -1,8 +1,8 @@
 use Rattle.std.proofs.Common.{rules, ◌≡◌, ◌∙◌, ℕ, true, false, sym, subst, ap}
-use Rattle.x25_circuit.specs.Calls.{Outcome, Sends}
+use Rattle.x25_circuit.specs.Calling.{Outcome, Sends}
 use Rattle.x25_layer.specs.Layer.{is_channel}
 use Rattle.x25_layer.specs.Calls.{outcome_on}
-use Rattle.x25_layer.specs.OverLink.{view_of}
+use Rattle.x25_layer.specs.code.OverLink.{view_of}
 use Rattle.x25_layer.specs.Rounds.{LinkView, went}
 use Rattle.x25_layer.proofs.CallLemmas.{asked_goes, closed_sends}
 use Rattle.x25_layer.proofs.layer.Layer.refuses_messages.Goals as goal

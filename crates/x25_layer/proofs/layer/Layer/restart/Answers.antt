@@ -1,5 +1,5 @@
 use Rattle.std.proofs.Common.{rules, ◌≡◌, ◌∙◌, Ok, sym, subst, true, false, arith}
-use Rattle.x25_layer.specs.OverLink.{view_of, LayerGives, LinkGives}
+use Rattle.x25_layer.specs.code.OverLink.{view_of, LayerGives, LinkGives}
 use Rattle.x25_layer.specs.Rounds.{Answered, LinkView}
 use Rattle.x25_layer.proofs.FitLemmas.{on_err}
 use Rattle.x25_layer.proofs.SettleLemmas.{restart_goes}

@@ -1,9 +1,9 @@
 use Rattle.std.proofs.Common.{◌≡◌, ◌∙◌, ℕ, refl, sym, subst}
-use Rattle.x25_packet.specs.PlainPacket.{restart}
+use Rattle.x25_packet.specs.Packet.{restart}
 use Rattle.x25_packet.specs.Spelling.{spelling_of}
 use Rattle.x25_layer.specs.Layer.{restart_cause}
 use Rattle.x25_layer.specs.code.FitsLayer.{FitsLayer}
-use Rattle.x25_layer.specs.OverLink.{view_of, after_all}
+use Rattle.x25_layer.specs.code.OverLink.{view_of, after_all}
 use Rattle.x25_layer.specs.Rounds.{Putting}
 use Rattle.x25_layer.proofs.FitLemmas.{on_err}
 use Rattle.x25_layer.proofs.SettleLemmas.{comes_up_alone}

@@ -1,6 +1,6 @@
 use Rattle.std.proofs.Common.{◌∙◌, sym}
-use Rattle.x25_circuit.specs.Calls.{outcome}
-use Rattle.x25_circuit.specs.Requests.{plain_request}
+use Rattle.x25_circuit.specs.Calling.{outcome}
+use Rattle.x25_circuit.specs.Request.{plain_request}
 use Rattle.x25_layer.proofs.CallLemmas.{refused_short, accepted_short}
 use Rattle.x25_layer.proofs.layer.Layer.without_memory.Goals as goal
 

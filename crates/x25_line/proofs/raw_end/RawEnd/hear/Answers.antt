@@ -1,7 +1,7 @@
 use Rattle.std.proofs.Common.{◌%◌, ◌∙◌, length, refl, ap, sym, subst}
-use Rattle.x25_window.specs.Modulo.{resolved}
-use Rattle.x25_window.specs.Window.{after}
-use Rattle.x25_window.specs.Window.Step.{Hear}
+use Rattle.x25_window.specs.code.Modulo.{resolved}
+use Rattle.x25_window.specs.laws.Window.{after}
+use Rattle.x25_window.specs.laws.Window.Step.{Hear}
 use Rattle.x25_line.specs.code.RawFitting.{FitsEnd, sending_of}
 use Rattle.x25_line.specs.code.RawShown.{ShownEnd}
 use Rattle.x25_line.proofs.RawActs.{fits_heard, fits_taken, fits_passed, fits_no_item}

@@ -2,7 +2,7 @@ use Rattle.std.proofs.Common.{◌≡◌, None, Err, OnOk, OnErr, refl, sym, ◌�
 use Rattle.std.proofs.Props.{props}
 use Rattle.std.proofs.Math.Logic.{∥∥₁_map, ∥∥₁_elim}
 use Rattle.x25_bits.specs.declared.role.Role.TheVariants.{Dte, Dce}
-use Rattle.x25_line.specs.RawMachine.{RawState, sides_swapped, end_of_event, happens, event_refusal}
+use Rattle.x25_line.specs.RawWorld.{RawState, sides_swapped, end_of_event, happens, event_refusal}
 use Rattle.x25_line.specs.code.RawShown.{ShownWorld}
 use Rattle.x25_line.specs.code.RawFitting.{FitsWorld, Run, run_of}
 use Rattle.x25_line.specs.declared.raw_error.RawError.TheVariants.{BadAck}

@@ -1,5 +1,5 @@
 use Rattle.std.proofs.Common.{List, []}
-use Rattle.x25_window.specs.Window.{fresh_end}
+use Rattle.x25_window.specs.laws.Window.{fresh_end}
 use Rattle.x25_line.specs.code.RawFitting.{FitsEnd}
 use Rattle.x25_line.specs.declared.raw_event.RawEvent.{RawEvent}
 use Rattle.x25_line.proofs.raw_world.RawWorld.new.Goals as goal

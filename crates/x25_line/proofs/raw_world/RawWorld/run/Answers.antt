@@ -1,7 +1,7 @@
 use Rattle.std.proofs.Common.{take, subst}
 use Rattle.std.proofs.lemmas.List.{take_more}
 use Rattle.x25_bits.specs.declared.role.Role.TheVariants.{Dte}
-use Rattle.x25_line.specs.RawMachine.{run}
+use Rattle.x25_line.specs.RawWorld.{run}
 use Rattle.x25_line.specs.code.RawShown.{ShownWorld}
 use Rattle.x25_line.specs.code.RawFitting.{Run}
 use Rattle.x25_line.specs.declared.raw_event.RawEvent.TheVariants.{Offer}

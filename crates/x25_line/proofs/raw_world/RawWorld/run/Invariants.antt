@@ -1,5 +1,5 @@
 use Rattle.std.proofs.Common.{take}
-use Rattle.x25_line.specs.RawMachine.{RawState, run, AllAccepted}
+use Rattle.x25_line.specs.RawWorld.{RawState, run, AllAccepted}
 use Rattle.x25_line.specs.code.RawFitting.{FitsWorld}
 use Rattle.x25_line.proofs.raw_world.RawWorld.run.Given as goal
 

@@ -1,9 +1,9 @@
 use Rattle.std.proofs.Common.{ap, [], sym, subst, refl, ◌∙◌}
 use Rattle.x25_link.specs.declared.phase.Reason.TheVariants.{Counts}
 use Rattle.std.specs.Prelude.{option_copied}
-use Rattle.x25_link.specs.code.Link.{ShownLink, FitsLink}
-use Rattle.x25_link.specs.MustSend.{Step, leaves}
-use Rattle.x25_link.specs.Steps.{alone}
+use Rattle.x25_link.specs.code.FitsLink.{ShownLink, FitsLink}
+use Rattle.x25_link.specs.Hearing.{Step, leaves}
+use Rattle.x25_link.specs.Link.{alone}
 use Rattle.x25_link.proofs.LinkLemmas.{closed_state, closed_out}
 use Rattle.x25_link.proofs.link.Link.abandon.Goals as goal
 

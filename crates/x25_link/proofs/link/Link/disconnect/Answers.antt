@@ -1,8 +1,8 @@
 use Rattle.std.proofs.Common.{ap, [], sym, subst, refl, ◌∙◌}
 use Rattle.std.specs.Prelude.{option_copied}
-use Rattle.x25_link.specs.code.Link.{ShownLink, FitsLink}
-use Rattle.x25_link.specs.MustSend.{Step}
-use Rattle.x25_link.specs.Steps.{alone, disconnects}
+use Rattle.x25_link.specs.code.FitsLink.{ShownLink, FitsLink}
+use Rattle.x25_link.specs.Hearing.{Step}
+use Rattle.x25_link.specs.Link.{alone, disconnects}
 use Rattle.x25_link.proofs.LinkLemmas.{closed_state, closed_out}
 use Rattle.x25_link.proofs.link.Link.disconnect.Goals as goal
 

@@ -1,5 +1,5 @@
 use Rattle.std.proofs.Common.{sym, subst, append-nil}
-use Rattle.x25_link.specs.code.Link.{ShownLink, FitsLink}
+use Rattle.x25_link.specs.code.FitsLink.{ShownLink, FitsLink}
 use Rattle.x25_link.proofs.EndLemmas.{with_packet, ended_settled, ended_calm}
 use Rattle.x25_link.proofs.link.Link.give.Goals as goal
 

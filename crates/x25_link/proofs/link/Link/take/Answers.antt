@@ -1,6 +1,6 @@
 use Rattle.std.proofs.Common.{ap, [], sym, subst, ◌∙◌}
 use Rattle.std.specs.Prelude.{option_copied}
-use Rattle.x25_link.specs.code.Link.{ShownLink, FitsLink}
+use Rattle.x25_link.specs.code.FitsLink.{ShownLink, FitsLink}
 use Rattle.x25_link.proofs.link.Link.take.Goals as goal
 
 pub returns-clause-state : goal.returns-clause-state

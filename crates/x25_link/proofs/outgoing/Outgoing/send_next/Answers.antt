@@ -1,5 +1,5 @@
 use Rattle.std.proofs.Common.{length, ℕ, ◌%◌, List, [], ◌∷◌, ◌++◌, false, sym, ap, ◌∙◌, arith}
-use Rattle.x25_frame.specs.PlainFrame.{PlainFrame, info}
+use Rattle.x25_frame.specs.Frame.{PlainFrame, info}
 use Rattle.x25_frame.specs.Spelling.{spelling_of}
 use Rattle.x25_link.specs.Outgoing.{next_packet}
 use Rattle.x25_link.specs.code.OutgoingHeld.{sending_of}

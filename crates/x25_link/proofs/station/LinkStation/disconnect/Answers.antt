@@ -1,7 +1,7 @@
 use Rattle.std.proofs.Common.{◌≡◌, Some, None, if◌then◌else◌, sym, ap, ◌∙◌, refl}
 use Rattle.x25_link.specs.declared.phase.Phase.TheVariants.{Closed}
 use Rattle.x25_link.specs.declared.phase.Reason.TheVariants.{Local}
-use Rattle.x25_link.specs.LinkStation.{is_up, with_near, with_nothing}
+use Rattle.x25_link.specs.Station.{is_up, with_near, with_nothing}
 use Rattle.x25_link.proofs.station.LinkStation.disconnect.Goals as goal
 use Rattle.x25_link.proofs.station.LinkStation.disconnect.Goals.{then-is_up, else-is_up}
 

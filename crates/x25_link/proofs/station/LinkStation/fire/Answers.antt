@@ -1,7 +1,7 @@
 use Rattle.std.proofs.Common.{◌≡◌, ◌+◌, true, false, refl, ap, arith}
 use Rattle.std.specs.Prelude.{nat_lt}
 use Rattle.std.proofs.lemmas.Bool.{lt-ltb, le-ltb}
-use Rattle.x25_link.specs.LinkStation.{with_near}
+use Rattle.x25_link.specs.Station.{with_near}
 use Rattle.x25_link.proofs.FitsLemmas.{tries_fits}
 use Rattle.x25_link.proofs.station.LinkStation.fire.Goals as goal
 

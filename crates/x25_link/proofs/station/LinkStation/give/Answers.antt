@@ -1,5 +1,5 @@
 use Rattle.std.proofs.Common.{◌≤◌, sym, ap, subst, arith}
-use Rattle.x25_link.specs.LinkStation.{Side}
+use Rattle.x25_link.specs.Station.{Side}
 use Rattle.x25_link.specs.code.Fits.{FitsSide}
 use Rattle.x25_link.proofs.OutgoingLemmas.{sent_length}
 use Rattle.x25_link.proofs.FitsLemmas.{with_outgoing}

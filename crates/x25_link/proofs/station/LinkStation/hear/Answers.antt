@@ -1,7 +1,7 @@
 use Rattle.std.proofs.Common.{sym, append-nil}
 use Rattle.x25_frame.specs.Reading.{frame_of}
-use Rattle.x25_link.specs.MustSend.{other}
-use Rattle.x25_link.specs.Steps.{alone, hears}
+use Rattle.x25_link.specs.Hearing.{other}
+use Rattle.x25_link.specs.Link.{alone, hears}
 use Rattle.x25_link.proofs.EndLemmas.{ended_settled}
 use Rattle.x25_link.proofs.station.LinkStation.hear.Goals as goal
 

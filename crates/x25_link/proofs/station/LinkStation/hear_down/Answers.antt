@@ -1,6 +1,6 @@
 use Rattle.std.proofs.Common.{refl}
-use Rattle.x25_frame.specs.PlainFrame.{ua}
-use Rattle.x25_link.specs.LinkStation.{sends}
+use Rattle.x25_frame.specs.Frame.{ua}
+use Rattle.x25_link.specs.Station.{sends}
 use Rattle.x25_link.proofs.station.LinkStation.hear_down.Goals as goal
 
 pub returns-in-Sabm-clause-step : goal.returns-in-Sabm-clause-step

@@ -1,5 +1,5 @@
 use Rattle.std.proofs.Common.{sym, refl, ◌∙◌}
-use Rattle.x25_link.specs.MustSend.{acknowledged}
+use Rattle.x25_link.specs.Hearing.{acknowledged}
 use Rattle.x25_link.proofs.FitsLemmas.{info_notes}
 use Rattle.x25_link.proofs.station.LinkStation.hear_i.Goals as goal
 

@@ -1,5 +1,5 @@
 use Rattle.std.proofs.Common.{sym, refl}
-use Rattle.x25_link.specs.MustSend.{takes}
+use Rattle.x25_link.specs.Hearing.{takes}
 use Rattle.x25_link.proofs.station.LinkStation.hear_info.Goals as goal
 
 pub returns-then-takes-clause-step : goal.returns-then-takes-clause-step

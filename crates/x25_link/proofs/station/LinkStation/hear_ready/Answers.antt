@@ -1,5 +1,5 @@
 use Rattle.std.proofs.Common.{sym, refl}
-use Rattle.x25_link.specs.MustSend.{acknowledged, peer_is}
+use Rattle.x25_link.specs.Hearing.{acknowledged, peer_is}
 use Rattle.x25_link.proofs.FitsLemmas.{peer_fits}
 use Rattle.x25_link.proofs.station.LinkStation.hear_ready.Goals as goal
 

@@ -1,5 +1,5 @@
 use Rattle.std.proofs.Common.{sym, refl, false}
-use Rattle.x25_link.specs.MustSend.{acknowledged, peer_is, goes_back}
+use Rattle.x25_link.specs.Hearing.{acknowledged, peer_is, goes_back}
 use Rattle.x25_link.proofs.FitsLemmas.{peer_fits, back_fits}
 use Rattle.x25_link.proofs.station.LinkStation.hear_rej.Goals as goal
 

@@ -1,5 +1,5 @@
 use Rattle.std.proofs.Common.{sym}
-use Rattle.x25_link.specs.LinkStation.{pumped_once}
+use Rattle.x25_link.specs.Station.{pumped_once}
 use Rattle.x25_link.proofs.EndLemmas.{pumped_first, pumped_none}
 use Rattle.x25_link.proofs.station.LinkStation.pump.Goals as goal
 

@@ -1,5 +1,5 @@
 use Rattle.std.proofs.Common.{◌≡◌, ◌∙◌, refl, arith}
-use Rattle.x25_link.specs.LinkStation.{pumped}
+use Rattle.x25_link.specs.Station.{pumped}
 use Rattle.x25_link.proofs.FitsLemmas.{pumped_more, room_kept}
 use Rattle.x25_link.proofs.station.LinkStation.pump_on.Goals as goal
 

@@ -1,5 +1,5 @@
 use Rattle.std.proofs.Common.{ℕ, ◌+◌, ◌≤◌, ◌≡◌, List}
-use Rattle.x25_link.specs.LinkStation.{Settings, Side, pumped}
+use Rattle.x25_link.specs.Station.{Settings, Side, pumped}
 use Rattle.x25_link.specs.code.OutgoingHeld.{window_of, before_in}
 use Rattle.x25_link.specs.code.Fits.{FitsSide}
 use Rattle.x25_link.proofs.station.LinkStation.pump_on.Given as goal

@@ -1,5 +1,5 @@
 use Rattle.std.proofs.Common.{sym, ap, ◌∙◌}
-use Rattle.x25_link.specs.LinkStation.{is_up}
+use Rattle.x25_link.specs.Station.{is_up}
 use Rattle.x25_link.proofs.FitsLemmas.{pump_fits, may_send_is}
 use Rattle.x25_link.proofs.station.LinkStation.pump_once.Goals as goal
 

@@ -1,5 +1,5 @@
 use Rattle.std.proofs.Common.{sym, true, false}
-use Rattle.x25_link.specs.LinkStation.{with_near}
+use Rattle.x25_link.specs.Station.{with_near}
 use Rattle.x25_link.proofs.FitsLemmas.{said}
 use Rattle.x25_link.proofs.station.LinkStation.ready.Goals as goal
 

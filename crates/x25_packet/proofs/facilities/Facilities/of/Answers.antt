@@ -2,7 +2,7 @@ use Rattle.std.proofs.Common.{◌≡◌, ◌∙◌, ap, sym, Result, Ok, Err, If
 use Rattle.x25_packet.specs.declared.error.PacketError.{PacketError}
 use Rattle.x25_packet.specs.declared.facilities.Facilities.{Facilities}
 use Rattle.x25_packet.specs.Facilities.{AreAllowed, facilities_of, field_of}
-use Rattle.x25_packet.specs.FirstError.{FieldError}
+use Rattle.x25_packet.specs.Reading.FirstError.{FieldError}
 use Rattle.x25_packet.proofs.FacilityFaults.{facilities_fault}
 use Rattle.x25_packet.proofs.FacilityLaws.{facilities_found, facilities_again}
 use Rattle.x25_packet.proofs.facilities.Facilities.of.Goals as goal

@@ -1,7 +1,7 @@
 use Rattle.std.proofs.Common.{◌≡◌, ◌∙◌, Bool, [], true, false, ap, refl, if◌then◌else◌}
 use Rattle.std.proofs.lemmas.Result.{err_from_is_err_and}
 use mir.Val.{bool_byte}
-use Rattle.x25_pipe.specs.Piped.{piped, turns}
+use Rattle.x25_pipe.specs.Pipe.{piped, turns}
 use Rattle.x25_pipe.proofs.StreamLemmas.{left_begun, left_written, whole_told}
 use Rattle.x25_pipe.proofs.answerer.PipeLineTaker.end.Goals as goal
 

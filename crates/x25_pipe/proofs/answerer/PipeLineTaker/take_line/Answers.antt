@@ -2,7 +2,7 @@ use Rattle.std.proofs.Common.{◌≡◌, ◌<◌, ◌≤◌, length, sym, subst}
 use Rattle.std.specs.Prelude.{MatchOption}
 use Rattle.std.proofs.lemmas.Result.{MatchResult-weaker}
 use Rattle.x25_io.specs.HeldLine.{most_line}
-use Rattle.x25_pipe.specs.Piped.{asked_turn, piped, turn}
+use Rattle.x25_pipe.specs.Pipe.{asked_turn, piped, turn}
 use Rattle.x25_pipe.specs.code.Stands.{Stood, Turns}
 use Rattle.x25_pipe.proofs.LineLemmas.{event_long}
 use Rattle.x25_pipe.proofs.StreamLemmas.{line_done, line_failed}

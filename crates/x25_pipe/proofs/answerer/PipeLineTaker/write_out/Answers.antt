@@ -1,7 +1,7 @@
 use Rattle.std.proofs.Common.{[], false}
 use Rattle.std.proofs.lemmas.Result.{MatchResult-weaker}
 use Rattle.x25_io.proofs.ToldLemmas.{with_ok}
-use Rattle.x25_pipe.specs.Piped.{piped, turns}
+use Rattle.x25_pipe.specs.Pipe.{piped, turns}
 use Rattle.x25_pipe.proofs.LeaveLemmas.{given_up}
 use Rattle.x25_pipe.proofs.StreamLemmas.{ended_written, left_begun, left_written}
 use Rattle.x25_pipe.proofs.answerer.PipeLineTaker.write_out.Goals as goal

@@ -3,7 +3,7 @@ use Rattle.std.proofs.lemmas.Result.{err_from_is_err_and}
 use Rattle.x25_station.specs.Command.{command_of}
 use Rattle.x25_station.specs.laws.TimerLaw.{Asks, outcome}
 use Rattle.x25_io.proofs.ToldLemmas.{told_more}
-use Rattle.x25_pipe.specs.Piped.{event_turn}
+use Rattle.x25_pipe.specs.Pipe.{event_turn}
 use Rattle.x25_pipe.specs.code.Stands.{Stood}
 use Rattle.x25_pipe.proofs.pipe.Pipe.command.Goals as goal
 

@@ -1,8 +1,8 @@
 use Rattle.std.proofs.Common.{◌∙◌, if◌then◌else◌, Some, None, sym, subst}
 use Rattle.x25_station.specs.laws.TimerLaw.{Asks}
-use Rattle.x25_script.specs.PlainLine.{plain_command}
+use Rattle.x25_script.specs.ScriptLine.{plain_command}
 use Rattle.x25_console.specs.Commands.{command_asked}
-use Rattle.x25_pipe.specs.Piped.{asked_turn}
+use Rattle.x25_pipe.specs.Pipe.{asked_turn}
 use Rattle.x25_pipe.specs.code.Stands.{Stood}
 use Rattle.x25_pipe.proofs.pipe.Pipe.command_at.Goals as goal
 

@@ -1,6 +1,6 @@
 use Rattle.std.proofs.Common.{◌∙◌, if◌then◌else◌, Some, None, sym, subst}
 use Rattle.x25_station.specs.laws.TimerLaw.{Fires}
-use Rattle.x25_pipe.specs.Piped.{asked_turn}
+use Rattle.x25_pipe.specs.Pipe.{asked_turn}
 use Rattle.x25_pipe.specs.code.Stands.{Stood}
 use Rattle.x25_pipe.proofs.pipe.Pipe.fire_at.Goals as goal
 

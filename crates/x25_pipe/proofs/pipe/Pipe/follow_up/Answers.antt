@@ -2,7 +2,7 @@ use Rattle.std.proofs.Common.{◌∙◌, sym, subst}
 use Rattle.std.proofs.lemmas.Result.{err_from_is_err_and}
 use Rattle.x25_io.specs.code.Written.{Tells}
 use Rattle.x25_io.proofs.ToldLemmas.{told_more}
-use Rattle.x25_pipe.specs.Piped.{with_pulls}
+use Rattle.x25_pipe.specs.Pipe.{with_pulls}
 use Rattle.x25_pipe.proofs.pipe.Pipe.follow_up.Goals as goal
 
 pub returns-in_err-both-clause-stood : goal.returns-in_err-both-clause-stood

@@ -1,6 +1,6 @@
 use Rattle.std.proofs.Common.{◌∙◌, take, if◌then◌else◌, Some, None, ap, sym, subst}
 use Rattle.x25_station.specs.laws.TimerLaw.{Comes}
-use Rattle.x25_pipe.specs.Piped.{asked_turn, is_same}
+use Rattle.x25_pipe.specs.Pipe.{asked_turn, is_same}
 use Rattle.x25_pipe.specs.code.Stands.{Stood}
 use Rattle.x25_pipe.proofs.pipe.Pipe.hear.Goals as goal
 

@@ -1,7 +1,7 @@
 use Rattle.std.proofs.Common.{◌∙◌, ap, refl}
 use Rattle.std.proofs.lemmas.Result.{err_from_is_err_and}
-use Rattle.x25_station.specs.Told.{is_idle}
-use Rattle.x25_pipe.specs.Piped.{marks, saying_line}
+use Rattle.x25_station.specs.Station.Told.{is_idle}
+use Rattle.x25_pipe.specs.Pipe.{marks, saying_line}
 use Rattle.x25_pipe.proofs.StandLemmas.{stands_marked, begins_told}
 use Rattle.x25_pipe.proofs.pipe.Pipe.mark.Goals as goal
 

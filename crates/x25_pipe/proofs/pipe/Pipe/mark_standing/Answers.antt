@@ -1,4 +1,4 @@
-use Rattle.x25_pipe.specs.Piped.{standing}
+use Rattle.x25_pipe.specs.Pipe.{standing}
 use Rattle.x25_pipe.proofs.pipe.Pipe.mark_standing.Goals as goal
 
 pub returns-clause-turns : goal.returns-clause-turns

@@ -1,5 +1,5 @@
 use Rattle.std.proofs.Common.{subst, None}
-use Rattle.x25_pipe.specs.Piped.{asked_turn, turn}
+use Rattle.x25_pipe.specs.Pipe.{asked_turn, turn}
 use Rattle.x25_pipe.specs.code.Stands.{Stood}
 use Rattle.x25_pipe.proofs.LineLemmas.{event_read_at}
 use Rattle.x25_pipe.proofs.pipe.Pipe.obey.Goals as goal

@@ -1,6 +1,6 @@
 use Rattle.std.proofs.Common.{sym, subst}
 use Rattle.std.specs.Prelude.{option_and_then}
-use Rattle.x25_pipe.specs.Piped.{asked_turn, script_event}
+use Rattle.x25_pipe.specs.Pipe.{asked_turn, script_event}
 use Rattle.x25_pipe.specs.code.Stands.{Stood}
 use Rattle.x25_pipe.proofs.pipe.Pipe.obey_script.Goals as goal
 

@@ -1,6 +1,6 @@
 use Rattle.std.proofs.Common.{refl, take}
 use Rattle.x25_station.specs.laws.TimerLaw.{Comes, outcome}
-use Rattle.x25_pipe.specs.Piped.{event_turn}
+use Rattle.x25_pipe.specs.Pipe.{event_turn}
 use Rattle.x25_pipe.proofs.pipe.Pipe.receive.Goals as goal
 
 pub returns-in-Ok-clause-turns : goal.returns-in-Ok-clause-turns

@@ -2,7 +2,7 @@ use Rattle.std.proofs.Common.{◌++◌, ◌∷◌, [], refl, sym, subst}
 use Rattle.std.proofs.lemmas.Result.{err_from_is_err_and, MatchResult-weaker}
 use Rattle.x25_io.specs.code.Written.{AppendsPrefix}
 use Rattle.x25_io.proofs.ToldLemmas.{told_more}
-use Rattle.x25_pipe.specs.Piped.{mark_turn, refuses, said, sayings_text, standing, turn_of, with_pulls}
+use Rattle.x25_pipe.specs.Pipe.{mark_turn, refuses, said, sayings_text, standing, turn_of, with_pulls}
 use Rattle.x25_pipe.specs.code.Stands.{Stood}
 use Rattle.x25_pipe.proofs.StandLemmas.{begins_before, begins_behind, begins_told, error_is, refusal_said, stands_behind, stands_refused}
 use Rattle.x25_pipe.proofs.pipe.Pipe.refuse.Goals as goal

@@ -3,7 +3,7 @@ use Rattle.std.proofs.lemmas.Result.{err_from_is_err_and, MatchResult-weaker}
 use Rattle.x25_io.specs.code.Written.{AppendsPrefix, Tells}
 use Rattle.x25_station.specs.code.PlainEntry.{plain_entry}
 use Rattle.x25_io.proofs.ToldLemmas.{part_of_all}
-use Rattle.x25_pipe.specs.Piped.{enters, sends, sayings_text}
+use Rattle.x25_pipe.specs.Pipe.{enters, sends, sayings_text}
 use Rattle.x25_pipe.proofs.SayingLemmas.{text-append, parts_text}
 use Rattle.x25_pipe.proofs.pipe.Pipe.tell_answer.Goals as goal
 

@@ -2,9 +2,9 @@ use Rattle.std.proofs.Common.{◌∙◌, ◌++◌, map, ap, sym, subst}
 use Rattle.std.proofs.lemmas.Result.{err_from_is_err_and, MatchResult-weaker}
 use Rattle.x25_io.specs.code.Written.{AppendsPrefix, Tells}
 use Rattle.x25_station.specs.code.PlainEntry.{plain_entry}
-use Rattle.x25_station.specs.Steps.{Did}
+use Rattle.x25_station.specs.Step.{Did}
 use Rattle.x25_station.specs.laws.TimerLaw.{mark, tells_up}
-use Rattle.x25_pipe.specs.Piped.{mark_turn, said, sayings_text, step_told, turn_of}
+use Rattle.x25_pipe.specs.Pipe.{mark_turn, said, sayings_text, step_told, turn_of}
 use Rattle.x25_pipe.specs.code.Stands.{IsStep, Stood, answer_told}
 use Rattle.x25_pipe.proofs.StandLemmas.{begins_before, begins_behind, begins_step, is_step, stands_behind, stands_told}
 use Rattle.x25_pipe.proofs.pipe.Pipe.tell_step.Goals as goal

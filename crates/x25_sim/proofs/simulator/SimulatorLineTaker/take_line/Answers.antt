@@ -2,7 +2,7 @@ use Rattle.std.proofs.Common.{◌≡◌, ◌<◌, ◌≤◌, length, sym, subst}
 use Rattle.std.specs.Prelude.{MatchOption}
 use Rattle.std.proofs.lemmas.Result.{MatchResult-weaker}
 use Rattle.x25_io.specs.HeldLine.{most_line}
-use Rattle.x25_sim.specs.Simulated.{asked_turn, simulated, turn}
+use Rattle.x25_sim.specs.Stage.{asked_turn, simulated, turn}
 use Rattle.x25_sim.specs.code.Stands.{Stood, Turns}
 use Rattle.x25_sim.proofs.StreamLemmas.{asks_nothing, line_done, line_failed}
 use Rattle.x25_sim.proofs.simulator.SimulatorLineTaker.take_line.Goals as goal

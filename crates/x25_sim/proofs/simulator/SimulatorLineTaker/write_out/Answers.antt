@@ -1,7 +1,7 @@
 use Rattle.std.proofs.Common.{[], false}
 use Rattle.std.proofs.lemmas.Result.{MatchResult-weaker}
 use Rattle.x25_io.proofs.ToldLemmas.{with_ok}
-use Rattle.x25_sim.specs.Simulated.{simulated, turns}
+use Rattle.x25_sim.specs.Stage.{simulated, turns}
 use Rattle.x25_sim.proofs.LeaveLemmas.{given_up}
 use Rattle.x25_sim.proofs.StreamLemmas.{ended_written, left_begun, left_written}
 use Rattle.x25_sim.proofs.simulator.SimulatorLineTaker.write_out.Goals as goal

@@ -2,7 +2,7 @@ use Rattle.std.proofs.Common.{refl}
 use Rattle.std.proofs.lemmas.Result.{MatchResult-weaker}
 use Rattle.x25_world.specs.World.{event_of, happens, after}
 use Rattle.x25_world.specs.code.FitsWorld.{all_of}
-use Rattle.x25_sim.specs.Simulated.{tried}
+use Rattle.x25_sim.specs.Stage.{tried}
 use Rattle.x25_io.proofs.ToldLemmas.{told_more, with_ok}
 use Rattle.x25_sim.proofs.StandLemmas.{stands_tried, begins_tried, stands_left_out, refusal_is}
 use Rattle.x25_sim.proofs.stage.Stage.attempt.Goals as goal

@@ -1,6 +1,6 @@
 use Rattle.std.proofs.lemmas.Result.{err_from_is_err_and, MatchResult-weaker}
 use Rattle.x25_world.specs.World.{World, event_of}
-use Rattle.x25_sim.specs.Simulated.{Turn, and_then, drained, most_times, tried}
+use Rattle.x25_sim.specs.Stage.{Turn, and_then, drained, most_times, tried}
 use Rattle.x25_sim.proofs.StandLemmas.{stands_behind, begins_behind, begins_before}
 use Rattle.x25_sim.proofs.stage.Stage.deliver_all_then.Goals as goal
 

@@ -3,7 +3,7 @@ use Rattle.std.proofs.lemmas.Result.{err_from_is_err_and}
 use Rattle.x25_bits.specs.Role.{end_of}
 use Rattle.x25_world.specs.World.{Receives}
 use Rattle.x25_world.specs.code.FitsWorld.{all_of}
-use Rattle.x25_sim.specs.Simulated.{drained, event_turn}
+use Rattle.x25_sim.specs.Stage.{drained, event_turn}
 use Rattle.x25_sim.proofs.LeaveLemmas.{none_left, part_done, part_failed}
 use Rattle.x25_sim.proofs.DrainLemmas.{drained_all, drained_empty, drained_more, line_is}
 use Rattle.x25_sim.proofs.stage.Stage.drain.Goals as goal

@@ -2,7 +2,7 @@ use Rattle.std.proofs.Common.{◌∙◌, ◌-◌, ◌+◌, ap, sym, arith}
 use Rattle.std.specs.Prelude.{is_none}
 use Rattle.std.proofs.lemmas.Result.{err_from_is_err_and}
 use Rattle.x25_world.specs.code.FitsWorld.{all_of}
-use Rattle.x25_sim.specs.Simulated.{emptied, most_times, pulled}
+use Rattle.x25_sim.specs.Stage.{emptied, most_times, pulled}
 use Rattle.x25_sim.proofs.LeaveLemmas.{none_left, left_as, part_done, part_failed}
 use Rattle.x25_sim.proofs.DrainLemmas.{line_is}
 use Rattle.x25_sim.proofs.HealLemmas.{one_less, left_behind, emptied_all, emptied_more, line_empty, line_filled}

@@ -1,7 +1,7 @@
 use Rattle.std.proofs.Common.{◌≡◌, ◌-◌, ℕ, Bool, List, Option}
 use Rattle.x25_station.specs.declared.config.Cfg.{Cfg}
 use Rattle.x25_world.specs.World.{World}
-use Rattle.x25_sim.specs.Simulated.{emptied, most_times}
+use Rattle.x25_sim.specs.Stage.{emptied, most_times}
 use Rattle.x25_sim.specs.code.Stands.{Stands}
 use Rattle.x25_sim.specs.code.Leaves.{Leaves}
 use Rattle.x25_sim.proofs.stage.Stage.empty.Given as goal

@@ -1,7 +1,7 @@
 use Rattle.std.proofs.Common.{◌++◌, map, subst}
 use Rattle.std.proofs.lemmas.Result.{err_from_is_err_and}
 use Rattle.x25_io.specs.code.Written.{AppendsPrefix, Tells}
-use Rattle.x25_sim.specs.Sayings.{taps, sayings_text}
+use Rattle.x25_sim.specs.Telling.{taps, sayings_text}
 use Rattle.x25_sim.proofs.stage.Stage.end_frames.Goals as goal
 
 pub returns-in_err-tell_frames-clause-tells : goal.returns-in_err-tell_frames-clause-tells

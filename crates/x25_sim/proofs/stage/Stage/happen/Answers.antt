@@ -1,7 +1,7 @@
 use Rattle.std.proofs.lemmas.Result.{MatchResult-weaker}
 use Rattle.x25_world.specs.World.{event_of, happens, after}
 use Rattle.x25_world.specs.code.FitsWorld.{all_of}
-use Rattle.x25_sim.specs.Simulated.{event_turn}
+use Rattle.x25_sim.specs.Stage.{event_turn}
 use Rattle.x25_io.proofs.ToldLemmas.{with_ok}
 use Rattle.x25_sim.proofs.StandLemmas.{stands_moved, begins_moved}
 use Rattle.x25_sim.proofs.stage.Stage.happen.Goals as goal

@@ -1,5 +1,5 @@
 use Rattle.std.proofs.lemmas.Result.{err_from_is_err_and, MatchResult-weaker}
-use Rattle.x25_sim.specs.Simulated.{emptied, fired, healed, most_times}
+use Rattle.x25_sim.specs.Stage.{emptied, fired, healed, most_times}
 use Rattle.x25_sim.proofs.StandLemmas.{stands_behind, begins_behind, begins_before}
 use Rattle.x25_sim.proofs.stage.Stage.heal.Goals as goal
 

@@ -1,4 +1,4 @@
-use Rattle.x25_sim.specs.Simulated.{both_tried, pulled}
+use Rattle.x25_sim.specs.Stage.{both_tried, pulled}
 use Rattle.x25_sim.proofs.stage.Stage.pull.Goals as goal
 
 pub returns-clause-turns : goal.returns-clause-turns

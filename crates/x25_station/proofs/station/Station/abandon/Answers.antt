@@ -1,10 +1,10 @@
 use Rattle.std.proofs.Common.{arith, ◌≤◌, length, [], ◌++◌, map, ap, ◌∙◌}
-use Rattle.x25_link.specs.MustSend.{Step as LinkStep}
-use Rattle.x25_link.specs.Steps.{abandon_step}
-use Rattle.x25_station.specs.Entries.{entries_down}
+use Rattle.x25_link.specs.Hearing.{Step as LinkStep}
+use Rattle.x25_link.specs.Link.{abandon_step}
+use Rattle.x25_station.specs.Entry.{entries_down}
 use Rattle.x25_station.specs.code.PlainEntry.{plain_entry}
-use Rattle.x25_station.specs.Settings.{link_settings, layer_settings}
-use Rattle.x25_station.specs.Steps.{Step, receives}
+use Rattle.x25_station.specs.Config.{link_settings, layer_settings}
+use Rattle.x25_station.specs.Step.{Step, receives}
 use Rattle.x25_station.proofs.DownLemmas.{fits_down, frames_down, entries_noted_down}
 use Rattle.x25_station.proofs.OutcomeLemmas.{still_meant}
 use Rattle.x25_station.proofs.TookLemmas.{gives_up}

@@ -1,4 +1,4 @@
-use Rattle.x25_station.specs.Settings.{link_settings}
+use Rattle.x25_station.specs.Config.{link_settings}
 use Rattle.x25_station.proofs.station.Station.acknowledged.Goals as goal
 
 pub returns : goal.returns

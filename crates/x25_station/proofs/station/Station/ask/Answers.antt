@@ -1,14 +1,14 @@
 use Rattle.std.proofs.Common.{arith, [], ◌∷◌, ◌++◌, ap, ◌∙◌, map, ◌≡◌}
-use Rattle.x25_circuit.specs.Requests.{plain_request}
+use Rattle.x25_circuit.specs.Request.{plain_request}
 use Rattle.x25_layer.specs.Calls.{Asks}
-use Rattle.x25_layer.specs.Transcript.{Asked, name_of}
+use Rattle.x25_layer.specs.laws.Transcript.{Asked, name_of}
 use Rattle.x25_station.specs.declared.entry.Said.TheVariants as said
 use Rattle.x25_station.specs.declared.step.Step as code_step
 use Rattle.x25_station.specs.Command.{Requests}
-use Rattle.x25_station.specs.Entries.{of_channel}
+use Rattle.x25_station.specs.Entry.{of_channel}
 use Rattle.x25_station.specs.code.PlainEntry.{plain_entry, plain_said}
-use Rattle.x25_station.specs.Settings.{layer_settings}
-use Rattle.x25_station.specs.Steps.{requests}
+use Rattle.x25_station.specs.Config.{layer_settings}
+use Rattle.x25_station.specs.Step.{requests}
 use Rattle.x25_station.proofs.OutcomeLemmas.{leaves_some, still_meant}
 use Rattle.x25_station.proofs.AskLemmas.{answers, still_fits}
 use Rattle.x25_station.proofs.DoesLemmas.{did_request, declines_request}

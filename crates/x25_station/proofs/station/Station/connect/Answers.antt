@@ -1,10 +1,10 @@
 use Rattle.std.proofs.Common.{arith, rules, ◌≤◌, length, ap, sym, subst, ◌∙◌, ◌≡◌}
-use Rattle.x25_link.specs.Steps.{connect_refusal, connect_step}
+use Rattle.x25_link.specs.Link.{connect_refusal, connect_step}
 use Rattle.x25_link.specs.declared.step.Step as link_step
 use Rattle.x25_station.specs.code.FitsParts.{FitsParts}
 use Rattle.x25_station.specs.declared.step.Step as code_step
-use Rattle.x25_station.specs.Settings.{link_settings}
-use Rattle.x25_station.specs.Steps.{follows, connects}
+use Rattle.x25_station.specs.Config.{link_settings}
+use Rattle.x25_station.specs.Step.{follows, connects}
 use Rattle.x25_station.proofs.DoesLemmas.{declines}
 use Rattle.x25_station.proofs.OutcomeLemmas.{leaves_unless, sends_unless, enters_unless, goes, goes_exactly, refused, refused_exactly, connect_named, still_meant, fits_unless}
 use Rattle.x25_station.proofs.TakeLemmas.{least_by_meaning, few_frames}

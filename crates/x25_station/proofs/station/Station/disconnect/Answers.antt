@@ -1,15 +1,15 @@
 use Rattle.std.proofs.Common.{arith, ◌≤◌, length, [], sym, subst, ◌∷◌, ap, ◌∙◌, ◌++◌, map}
-use Rattle.x25_link.specs.Steps.{disconnect_refusal, disconnect_step}
+use Rattle.x25_link.specs.Link.{disconnect_refusal, disconnect_step}
 use Rattle.x25_link.specs.declared.step.Step as link_step
 use Rattle.x25_station.specs.code.Aside.{IsFewAside}
 use Rattle.x25_station.specs.code.FitsParts.{AreMeant, FitsParts}
-use Rattle.x25_station.specs.Settings.{link_settings, layer_settings}
+use Rattle.x25_station.specs.Config.{link_settings, layer_settings}
 use Rattle.x25_station.specs.Command.{Disconnects}
-use Rattle.x25_station.specs.Entries.{entries_down, disconnect_asked}
+use Rattle.x25_station.specs.Entry.{entries_down, disconnect_asked}
 use Rattle.x25_station.specs.code.PlainEntry.{plain_entry}
 use Rattle.x25_station.specs.declared.entry.Entry.TheVariants.{DisconnectAsked}
 use Rattle.x25_station.specs.declared.step.Step as code_step
-use Rattle.x25_station.specs.Steps.{Step, unless, follows, led_by, disconnects}
+use Rattle.x25_station.specs.Step.{Step, unless, follows, led_by, disconnects}
 use Rattle.x25_station.proofs.DoesLemmas.{declines}
 use Rattle.x25_station.proofs.DownLemmas.{disconnect_down, leaves_down, frames_down, entries_noted_down}
 use Rattle.x25_station.proofs.OutcomeLemmas.{leaves_some, still_meant, sends_unless, enters_unless, goes, refused, disconnect_named}

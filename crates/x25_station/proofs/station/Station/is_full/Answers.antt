@@ -1,7 +1,7 @@
 use Rattle.std.proofs.Common.{Bool, ◌&&◌, ap, sym, ◌∙◌}
-use Rattle.x25_link.specs.LinkStation.{is_up}
+use Rattle.x25_link.specs.Station.{is_up}
 use Rattle.x25_layer.specs.code.FitsLayer.{is_full}
-use Rattle.x25_station.specs.Settings.{layer_settings}
+use Rattle.x25_station.specs.Config.{layer_settings}
 use Rattle.x25_station.proofs.station.Station.is_full.Goals as goal
 
 pub returns-clause-value : goal.returns-clause-value

@@ -1,5 +1,5 @@
 use Rattle.std.proofs.Common.{ap, refl, arith, ◌≡◌}
-use Rattle.x25_station.specs.Settings.{settings_from}
+use Rattle.x25_station.specs.Config.{settings_from}
 use Rattle.x25_station.specs.Station.{new_station}
 use Rattle.x25_station.proofs.station.Station.new.Goals as goal
 

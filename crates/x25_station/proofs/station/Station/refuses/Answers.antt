@@ -1,4 +1,4 @@
-use Rattle.x25_circuit.specs.Requests.{plain_request}
+use Rattle.x25_circuit.specs.Request.{plain_request}
 use Rattle.x25_layer.specs.Calls.{Asks}
 use Rattle.x25_station.proofs.AskLemmas.{refuses_before}
 use Rattle.x25_station.proofs.station.Station.refuses.Goals as goal

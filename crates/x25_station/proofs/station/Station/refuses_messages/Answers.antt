@@ -1,4 +1,4 @@
-use Rattle.x25_circuit.specs.Calls.{Sends}
+use Rattle.x25_circuit.specs.Calling.{Sends}
 use Rattle.x25_layer.specs.Calls.{Asks}
 use Rattle.x25_station.proofs.AskLemmas.{refuses_before}
 use Rattle.x25_station.proofs.station.Station.refuses_messages.Goals as goal

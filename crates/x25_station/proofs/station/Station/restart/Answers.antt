@@ -4,8 +4,8 @@ use Rattle.x25_station.specs.declared.entry.Entry.TheVariants.{RestartAsked}
 use Rattle.x25_station.specs.declared.step.Step as code_step
 use Rattle.x25_station.specs.Command.{Requests}
 use Rattle.x25_station.specs.code.PlainEntry.{plain_entry}
-use Rattle.x25_station.specs.Settings.{layer_settings}
-use Rattle.x25_station.specs.Steps.{requests}
+use Rattle.x25_station.specs.Config.{layer_settings}
+use Rattle.x25_station.specs.Step.{requests}
 use Rattle.x25_station.proofs.OutcomeLemmas.{leaves_some, still_meant}
 use Rattle.x25_station.proofs.AskLemmas.{answers, still_fits}
 use Rattle.x25_station.proofs.DoesLemmas.{did_request, declines_request}

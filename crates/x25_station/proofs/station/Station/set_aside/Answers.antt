@@ -1,6 +1,6 @@
 use Rattle.std.proofs.Common.{◌≡◌, ◌∙◌, false, Result, Ok, Err, OnOk, sym, arith}
 use Rattle.std.specs.Result.{is_err}
-use Rattle.x25_station.specs.Settings.{layer_settings}
+use Rattle.x25_station.specs.Config.{layer_settings}
 use Rattle.x25_station.proofs.OutcomeLemmas.{still_meant}
 use Rattle.x25_station.proofs.AskLemmas.{still_fits}
 use Rattle.x25_station.proofs.station.Station.set_aside.Goals as goal

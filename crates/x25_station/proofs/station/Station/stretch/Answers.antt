@@ -1,6 +1,6 @@
 use Rattle.std.proofs.Common.{sym, ◌∙◌}
-use Rattle.x25_layer.specs.Transcript.{name_of}
-use Rattle.x25_station.specs.Settings.{layer_settings}
+use Rattle.x25_layer.specs.laws.Transcript.{name_of}
+use Rattle.x25_station.specs.Config.{layer_settings}
 use Rattle.x25_station.proofs.ToldLemmas.{open_named, closed_none}
 use Rattle.x25_station.proofs.station.Station.stretch.Goals as goal
 

@@ -2,18 +2,18 @@ use Rattle.std.proofs.Common.{◌≡◌, ◌+◌, length-append, ◌<◌, ◌≤
 use Rattle.std.proofs.lemmas.List.{map-append}
 use Rattle.std.proofs.lemmas.List.Elements.{All-from_get_or}
 use Rattle.x25_link.specs.declared.phase.Notes.{Notes}
-use Rattle.x25_link.specs.MustSend.{Step as LinkStep}
-use Rattle.x25_link.specs.Steps.{alone, take_step}
-use Rattle.x25_link.specs.code.Link.{FitsWhole, up_of}
+use Rattle.x25_link.specs.Hearing.{Step as LinkStep}
+use Rattle.x25_link.specs.Link.{alone, take_step}
+use Rattle.x25_link.specs.code.FitsLink.{FitsWhole, up_of}
 use Rattle.x25_layer.specs.Room.{HasRoom, IsNotFull}
 use Rattle.x25_station.specs.code.Aside.{IsFewAside}
-use Rattle.x25_station.specs.Entries.{entries_noted}
+use Rattle.x25_station.specs.Entry.{entries_noted}
 use Rattle.x25_station.specs.code.FitsParts.{AreMeant}
 use Rattle.x25_station.specs.code.PlainEntry.{plain_entry}
 use Rattle.x25_station.specs.Receiving.{CanPut, kept_of}
-use Rattle.x25_station.specs.Settings.{link_settings, layer_settings}
+use Rattle.x25_station.specs.Config.{link_settings, layer_settings}
 use Rattle.x25_station.specs.Station.{all_put}
-use Rattle.x25_station.specs.Steps.{receives, entries_heard}
+use Rattle.x25_station.specs.Step.{receives, entries_heard}
 use Rattle.x25_station.proofs.FrameLemmas.{few_put}
 use Rattle.x25_station.proofs.OutcomeLemmas.{still_meant}
 use Rattle.x25_station.proofs.TakeLemmas.{handed_short, up_can_put, handed_can_put, handed_was_up, put_by_meaning, least_by_meaning, up_by_meaning, less_room, few_frames, if_some}

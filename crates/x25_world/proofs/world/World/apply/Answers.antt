@@ -1,8 +1,8 @@
 use Rattle.x25_world.proofs.WorldLemmas.{run_and_then, holds_after, holds_after_set_up, up_once_after, holds_throughout, goes_on_throughout, all_of_sessions}
 use Rattle.x25_world.specs.laws.Claims.{IsLawful, IsNamed, ArrivesAll, HasNoProcedureError}
-use Rattle.x25_world.specs.WindowGoes.{StaysInWindow}
+use Rattle.x25_world.specs.laws.WindowGoes.{StaysInWindow}
 use Rattle.x25_world.specs.laws.SessionClaims.{SessionsKeepOrder}
-use Rattle.x25_world.specs.SessionWindow.{SessionsStayInWindow}
+use Rattle.x25_world.specs.laws.SessionWindow.{SessionsStayInWindow}
 use Rattle.x25_world.proofs.world.World.apply.Goals as goal
 
 pub returns-clause-run : goal.returns-clause-run

@@ -1,8 +1,8 @@
 use Rattle.std.proofs.Common.{map, None, Err, Result, true, refl, sym, subst}
 use Rattle.x25_bits.specs.declared.role.Role.TheVariants.{Dte}
-use Rattle.x25_station.specs.Settings.{settings_from}
+use Rattle.x25_station.specs.Config.{settings_from}
 use Rattle.x25_station.specs.Station.{new_station}
-use Rattle.x25_station.specs.Steps.{connects}
+use Rattle.x25_station.specs.Step.{connects}
 use Rattle.x25_world.specs.World.{start, of_station}
 use Rattle.x25_world.specs.declared.error.WorldError.{WorldError}
 use Rattle.x25_world.specs.code.PlainTold.{plain_entered}

@@ -5,7 +5,7 @@ use Rattle.x25_world.specs.World.{connected}
 use Rattle.x25_world.specs.code.FitsWorld.{nothing_gone}
 use Rattle.x25_world.specs.laws.Claims.{IsLawful, IsNamed, ArrivesAll, HasNoProcedureError}
 use Rattle.x25_world.specs.laws.SessionClaims.{SessionsKeepOrder}
-use Rattle.x25_world.specs.SessionWindow.{SessionsStayInWindow}
+use Rattle.x25_world.specs.laws.SessionWindow.{SessionsStayInWindow}
 use Rattle.x25_world.proofs.world.World.connecting.Goals as goal
 
 pub returns-in_err-connect-clause-refused : goal.returns-in_err-connect-clause-refused

@@ -1,13 +1,13 @@
 use Rattle.std.proofs.Common.{◌≡◌, ◌∙◌, ◌<◌, List, ℕ, length, false, ap, sym, subst, arith}
 use Rattle.std.proofs.lemmas.Result.{err_from_is_err_and}
-use Rattle.x25_bits.specs.Sealed.{is_sealed}
+use Rattle.x25_bits.specs.FrameCheck.Sealed.{is_sealed}
 use Rattle.x25_world.specs.code.ShownWorld.{line_of}
 use Rattle.x25_world.specs.World.{Event}
 use Rattle.x25_world.specs.code.FitsWorld.{FitsRun, and_then}
 use Rattle.x25_world.specs.laws.Claims.{IsLawful, IsNamed, ArrivesAll, HasNoProcedureError}
-use Rattle.x25_world.specs.WindowGoes.{StaysInWindow}
+use Rattle.x25_world.specs.laws.WindowGoes.{StaysInWindow}
 use Rattle.x25_world.specs.laws.SessionClaims.{SessionsKeepOrder}
-use Rattle.x25_world.specs.SessionWindow.{SessionsStayInWindow}
+use Rattle.x25_world.specs.laws.SessionWindow.{SessionsStayInWindow}
 use Rattle.x25_world.proofs.BitDamageLemmas.{damage_is, refuses_bits}
 use Rattle.x25_world.proofs.WorldLemmas.{holds_after, holds_after_set_up, up_once_after, holds_throughout, goes_on_throughout, all_of_sessions}
 use Rattle.x25_world.proofs.world.World.damage_bits.Goals as goal

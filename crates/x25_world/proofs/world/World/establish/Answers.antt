@@ -4,9 +4,9 @@ use Rattle.x25_world.proofs.WorldLemmas.{in_range, new_run, holds_after, holds_a
 use Rattle.x25_world.specs.World.{established}
 use Rattle.x25_world.specs.code.FitsWorld.{nothing_gone}
 use Rattle.x25_world.specs.laws.Claims.{IsLawful, IsNamed, ArrivesAll, HasNoProcedureError}
-use Rattle.x25_world.specs.WindowGoes.{StaysInWindow}
+use Rattle.x25_world.specs.laws.WindowGoes.{StaysInWindow}
 use Rattle.x25_world.specs.laws.SessionClaims.{SessionsKeepOrder}
-use Rattle.x25_world.specs.SessionWindow.{SessionsStayInWindow}
+use Rattle.x25_world.specs.laws.SessionWindow.{SessionsStayInWindow}
 use Rattle.x25_world.proofs.world.World.establish.Goals as goal
 
 pub returns-in_err-set_up-clause-refused : goal.returns-in_err-set_up-clause-refused

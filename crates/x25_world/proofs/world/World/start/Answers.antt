@@ -1,11 +1,11 @@
 use Rattle.std.proofs.Common.{[], inl, refl, sym, ap, map}
-use Rattle.x25_station.specs.Settings.{config_refusal}
+use Rattle.x25_station.specs.Config.{config_refusal}
 use Rattle.x25_world.specs.code.PlainTold.{plain_entered}
 use Rattle.x25_world.specs.code.ShownLine.{ShownLine}
 use Rattle.x25_world.specs.World.{start}
 use Rattle.x25_world.specs.code.FitsWorld.{nothing_gone}
 use Rattle.x25_world.specs.laws.SessionClaims.{SessionsKeepOrder}
-use Rattle.x25_world.specs.SessionWindow.{SessionsStayInWindow}
+use Rattle.x25_world.specs.laws.SessionWindow.{SessionsStayInWindow}
 use Rattle.x25_world.proofs.WorldLemmas.{in_range, new_run, holds_throughout, goes_on_throughout, all_of_sessions}
 use Rattle.x25_world.proofs.world.World.start.Goals as goal
 

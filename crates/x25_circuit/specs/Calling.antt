@@ -1,0 +1,165 @@
+-- The calls of the user of a circuit, and which data packet may be sent. ITU-T X.25 (10/96), sections 4.1, 4.3 and 4.4. The
+-- refusals, the bounds on what waits, and cause and diagnostic 0 of the user's CLEAR and RESET are of the profile.
+use Rattle.std.specs.Prelude.{ℕ, ◌+◌, ◌%◌, List, [], ◌∷◌, ◌++◌, length, Option, Some, None, Bool, true, false, nat_lt, nat_le, ◌&&◌, if◌then◌else◌}
+use Rattle.std.specs.List.{list_all}
+use Rattle.x25_packet.specs.Digits.{digits_of_text, is_figure}
+use Rattle.x25_packet.specs.Packet.{PlainPacket, call, accept, clear, user_data, interrupt, reset}
+use Rattle.x25_packet.specs.Spelling.{longest_user}
+use Rattle.x25_circuit.specs.declared.error.CircuitError.{CircuitError}
+use Rattle.x25_circuit.specs.declared.error.CircuitError.TheVariants.{WrongState, Full, TooLong, InterruptOutstanding, BadParameter}
+use Rattle.x25_circuit.specs.declared.state.State.{State}
+use Rattle.x25_circuit.specs.declared.state.State.TheVariants.{Free, Calling, Arriving, Open, Resetting, Clearing}
+use Rattle.x25_circuit.specs.declared.params.Params.{Params}
+use Rattle.x25_circuit.specs.Params.{default_params, may_propose, may_answer, field_for}
+use Rattle.x25_circuit.specs.Message.{Piece, More, Last, cut}
+use Rattle.x25_circuit.specs.Circuit.{Settings, Talk, Circuit, entered, talking, outgoing, waits}
+use Rattle.x25_circuit.specs.Notice.{CallRequest}
+use Rattle.x25_circuit.specs.Hearing.{status}
+
+-- the circuit after the call, and the packet to send, where there is one; or why it is refused
+pub data Outcome : Type 0 where
+  Done : (next : Circuit) → (packet : Option PlainPacket) → Outcome
+  Refused : (error : CircuitError) → Outcome
+
+-- the addresses of a call are texts; an acceptance without packet sizes and windows accepts those that are proposed
+pub data Request : Type 0 where
+  Calls : (called : List ℕ) → (calling : List ℕ) → (user : List ℕ) → (params : Params) → Request
+  Accepts : (answer : Option Params) → Request
+  Clears : Request
+  Sends : (q : Bool) → (user : List ℕ) → Request
+  Interrupts : (user : List ℕ) → Request
+  Resets : Request
+  SaysReady : Request
+  SaysNotReady : Request
+
+-- to another state, in which nothing is kept
+abbrev pub does : Circuit → State → Params → Bool → PlainPacket → Outcome
+does x state params calls packet = Done (entered x state params calls) (Some packet)
+
+-- the state is as it was
+abbrev pub keeps_on : Circuit → Talk → Option PlainPacket → Outcome
+keeps_on x talk packet = Done (talking x talk) packet
+
+-- ---- setting up and clearing
+
+-- a text of 0 to 15 figures
+abbrev pub is_address_text : List ℕ → Bool
+is_address_text text = nat_le (length text) 15 && list_all is_figure text
+
+-- the digits of the texts, the user data, and what is proposed
+abbrev pub request_of : List ℕ → List ℕ → List ℕ → Params → CallRequest
+request_of called calling user params = record { called = digits_of_text called; calling = digits_of_text calling; user = user; params = params }
+
+-- what is the default isn't said
+abbrev pub call_sent : CallRequest → PlainPacket
+call_sent request = call 1 request.called request.calling (field_for default_params request.params) request.user
+
+-- both addresses are texts of digits, there is no more user data than a CALL has, and what is proposed is in range
+abbrev pub may_call : Bool → List ℕ → List ℕ → List ℕ → Params → Bool
+may_call long_data called calling user params =
+    is_address_text called && (is_address_text calling && (nat_le (length user) (longest_user long_data) && may_propose params))
+
+abbrev pub call_in : Settings → Circuit → State → List ℕ → List ℕ → List ℕ → Params → Outcome
+call_in c x Free called calling user params =
+    if may_call c.long_data called calling user params then does x Calling params true (call_sent (request_of called calling user params)) else Refused BadParameter
+call_in c x state called calling user params = Refused WrongState
+
+-- what is as proposed isn't said
+abbrev pub accept_with : Circuit → Option Params → Outcome
+accept_with x None = does x Open x.params false (accept 1 [])
+accept_with x (Some answer) = if may_answer x.params answer then does x Open answer false (accept 1 (field_for x.params answer)) else Refused BadParameter
+
+abbrev pub accept_in : Circuit → State → Option Params → Outcome
+accept_in x Arriving answer = accept_with x answer
+accept_in x state answer = Refused WrongState
+
+abbrev pub clear_in : Circuit → State → Outcome
+clear_in x Free = Refused WrongState
+clear_in x Clearing = Refused WrongState
+clear_in x state = does x Clearing default_params false (clear 1 0 0)
+
+-- ---- in p4 with d1
+
+-- a message of at most 65,535 octets waits behind at most seven others
+abbrev pub send_open : Settings → Circuit → Talk → Bool → List ℕ → Outcome
+send_open c x t q user =
+    if nat_le (length user) 65535
+    then (if nat_lt (waits x) 8
+    then keeps_on x (record { sent = t.sent; taken = t.taken; acked = t.acked; rest = t.rest ++ cut (outgoing x).size q user; int_out = t.int_out; peer_ready = t.peer_ready; own_ready = t.own_ready }) None
+    else Refused Full)
+    else Refused TooLong
+
+-- 1 to 32 octets, one interrupt at a time (section 4.3.7)
+abbrev pub interrupt_open : Circuit → Talk → List ℕ → Outcome
+interrupt_open x t user =
+    if nat_le 1 (length user) && nat_le (length user) 32
+    then (if t.int_out
+    then Refused InterruptOutstanding
+    else keeps_on x (record { sent = t.sent; taken = t.taken; acked = t.acked; rest = t.rest; int_out = true; peer_ready = t.peer_ready; own_ready = t.own_ready }) (Some (interrupt 1 user)))
+    else Refused BadParameter
+
+-- RR or RNR goes, also where this end was so before (section 4.4.1.5)
+abbrev pub ready_open : Circuit → Talk → Bool → Outcome
+ready_open x t is_ready =
+    keeps_on x (record { sent = t.sent; taken = t.taken; acked = t.acked; rest = t.rest; int_out = t.int_out; peer_ready = t.peer_ready; own_ready = is_ready })
+    (Some (status is_ready (length t.taken)))
+
+abbrev pub send_in : Settings → Circuit → State → Bool → List ℕ → Outcome
+send_in c x Open q user = send_open c x x.talk q user
+send_in c x state q user = Refused WrongState
+
+abbrev pub interrupt_in : Circuit → State → List ℕ → Outcome
+interrupt_in x Open user = interrupt_open x x.talk user
+interrupt_in x state user = Refused WrongState
+
+-- section 4.4.3.1
+abbrev pub reset_in : Circuit → State → Outcome
+reset_in x Open = does x Resetting x.params x.calls (reset 1 0 0)
+reset_in x state = Refused WrongState
+
+abbrev pub ready_in : Circuit → State → Bool → Outcome
+ready_in x Open is_ready = ready_open x x.talk is_ready
+ready_in x state is_ready = Refused WrongState
+
+-- ---- the calls
+
+abbrev pub outcome : Settings → Circuit → Request → Outcome
+outcome c x (Calls called calling user params) = call_in c x x.state called calling user params
+outcome c x (Accepts answer) = accept_in x x.state answer
+outcome c x Clears = clear_in x x.state
+outcome c x (Sends q user) = send_in c x x.state q user
+outcome c x (Interrupts user) = interrupt_in x x.state user
+outcome c x Resets = reset_in x x.state
+outcome c x SaysReady = ready_in x x.state true
+outcome c x SaysNotReady = ready_in x x.state false
+
+-- ---- the next data packet
+
+pub record Pulled : Type 0 where
+  pub next : Circuit
+  pub packet : Option PlainPacket
+
+abbrev pub pulls_nothing : Circuit → Pulled
+pulls_nothing x = record { next = x; packet = None }
+
+abbrev pub data_packet : ℕ → ℕ → Piece → PlainPacket
+data_packet ps pr (More q user) = user_data 1 q true ps pr user
+data_packet ps pr (Last q user) = user_data 1 q false ps pr user
+
+-- It is sent where the other end is ready and fewer than the window are unacknowledged (section 4.4.1.2), with P(S) and P(R).
+abbrev pub pull_open : Settings → Circuit → Talk → List Piece → Pulled
+pull_open c x t [] = pulls_nothing x
+pull_open c x t (piece ∷ rest) =
+    if t.peer_ready && nat_lt (length t.sent) (t.acked + (outgoing x).window)
+    then record {
+      next = talking x (record { sent = t.sent ++ piece ∷ []; taken = t.taken; acked = t.acked; rest = rest; int_out = t.int_out; peer_ready = t.peer_ready; own_ready = t.own_ready });
+      packet = Some (data_packet (length t.sent % 8) (length t.taken % 8) piece);
+    }
+    else pulls_nothing x
+
+abbrev pub pull_in : Settings → Circuit → State → Pulled
+pull_in c x Open = pull_open c x x.talk x.talk.rest
+pull_in c x state = pulls_nothing x
+
+abbrev pub pulled : Settings → Circuit → Pulled
+pulled c x = pull_in c x x.state

@@ -1,0 +1,48 @@
+-- What the user asks, as a value alone, and what the circuit answers.
+use Rattle.std.specs.Prelude.{◌≡◌, Option, Some, None, Result, Ok, Err, IsOkAnd}
+use denote.Ref.{Bor}
+use Rattle.x25_packet.specs.declared.packet.Packet.{Packet}
+use Rattle.x25_circuit.specs.declared.circuit.Circuit as circuit_code
+use Rattle.x25_circuit.specs.declared.error.CircuitError.{CircuitError}
+use Rattle.x25_circuit.specs.declared.params.Params.{Params}
+use Rattle.x25_circuit.specs.declared.request.Request as declared
+use Rattle.x25_circuit.specs.declared.request.Request.TheVariants as code
+use Rattle.x25_circuit.specs.Circuit.{Settings}
+use Rattle.x25_circuit.specs.Calling.{Outcome, Done, Refused, Request, Calls, Accepts, Clears, Sends, Interrupts, Resets, SaysReady, SaysNotReady}
+use Rattle.x25_circuit.specs.code.FitsCircuit.{FitsCircuit}
+use Rattle.x25_circuit.specs.code.Replies.{plain_sent}
+
+-- where there is one
+abbrev pub plain_answer : Option (Bor Params) → Option Params
+plain_answer None = None
+plain_answer (Some answer) = Some answer.now
+
+abbrev pub plain_request : declared.Request → Request
+plain_request (code.Call called calling user proposal) = Calls called.now calling.now user.now proposal.now
+plain_request (code.Accept answer) = Accepts (plain_answer answer)
+plain_request code.Clear = Clears
+plain_request (code.Send q user) = Sends q user.items
+plain_request (code.Interrupt user) = Interrupts user.now
+plain_request code.Reset = Resets
+plain_request code.Ready = SaysReady
+plain_request code.NotReady = SaysNotReady
+
+-- why it is refused, if it is
+abbrev pub refusal_of : Outcome → Option CircuitError
+refusal_of (Done next packet) = None
+refusal_of (Refused e) = Some e
+
+-- a packet that is sent is one that there may be
+abbrev pub with_packet : Result Packet CircuitError → Result (Option Packet) CircuitError
+with_packet (Ok packet) = Ok (Some packet)
+with_packet (Err e) = Err e
+
+-- a call that may have a packet to send
+abbrev pub AnswersRequest : Settings → circuit_code.Circuit → Result (Option Packet) CircuitError → Outcome → Type 0
+AnswersRequest c v result (Done next packet) = IsOkAnd result (λ p. FitsCircuit c v next × (plain_sent p ≡ packet))
+AnswersRequest c v result (Refused e) = result ≡ Err e
+
+-- a message waits, and there is no packet at once
+abbrev pub MayPut : Request → Option Packet → Type 0
+MayPut (Sends q user) packet = packet ≡ None
+MayPut request packet = Unit {0}

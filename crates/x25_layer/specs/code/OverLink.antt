@@ -1,0 +1,56 @@
+-- A layer over any link that keeps order: what it sees of the link, and the link after packets were put.
+use Rattle.std.specs.Prelude.{◌≡◌, ℕ, ◌<◌, ◌≤◌, ◌⊎◌, max, List, [], ◌∷◌, Bool, Result, Err, OnOk, OnErr, IsErrOf, MatchResult}
+use Rattle.x25_packet.specs.Packet.{PlainPacket}
+use Rattle.x25_packet.specs.Spelling.{spelling_of}
+use Rattle.x25_layer.specs.declared.error.LayerError.{LayerError}
+use Rattle.x25_layer.specs.declared.error.LayerError.TheVariants as error
+use Rattle.x25_layer.specs.declared.layer.Layer as code
+use Rattle.x25_link.specs.declared.ordered_link.OrderedLink.{Ghosts}
+use Rattle.x25_layer.specs.Layer.{LayerSettings, Layer}
+use Rattle.x25_layer.specs.Calls.{LayerRequest}
+use Rattle.x25_layer.specs.Room.{HasRoom, KeepsRoom}
+use Rattle.x25_layer.specs.code.FitsLayer.{FitsLayer}
+use Rattle.x25_layer.specs.Rounds.{LinkView, Answered, Went, Refuses, calls}
+
+-- the state of the link after these packets were put, by its state after one is
+abbrev pub after_all : {X : Type 0} → (X → List ℕ → X) → X → List PlainPacket → X
+after_all after x [] = x
+after_all after x (packet ∷ packets) = after_all after (after x (spelling_of packet)) packets
+
+-- by what a state says of being up and of the packets that wait
+abbrev pub view_of : {X : Type 0} → (X → Bool) → (X → ℕ) → (X → List ℕ → X) → X → LinkView
+view_of up_in waits_in after x = record { is_up = up_in x; waits = λ packets. waits_in (after_all after x packets) }
+
+-- ---- what a call of the user leaves and answers
+
+-- The layer is that of the step, or 70 is answered; or the call is refused so.
+abbrev pub LayerGives : {T : Type 0} → LayerSettings → code.Layer → Result T LayerError → Answered → Type 0
+LayerGives c v result (Went s) = MatchResult result (λ _. FitsLayer c v s.layer) (λ e. e ≡ error.NoMemory)
+LayerGives c v result (Refuses e) = result ≡ Err e
+
+-- An accepted call leaves a link that fits the state after the packets of the step.
+abbrev pub LinkGives : {T X : Type 0} → (X → Type 0) → (X → List ℕ → X) → X → Result T LayerError → Answered → Type 0
+LinkGives fits after x result (Went s) = OnOk result (fits (after_all after x s.put))
+LinkGives fits after x result (Refuses e) = result ≡ Err e
+
+-- memory for fewer packets than so many is set aside, in the layer or in its link
+abbrev pub LacksMemory : ℕ → code.Layer → ℕ → Type 0
+LacksMemory count v spares = (v.memory < count) ⊎ (spares < count)
+
+-- A call of the user does to a layer and to the link below it what the definition says of it, or it is refused and both are as before. 70 comes
+-- only where memory for fewer packets than so many is set aside; and of what was set aside no more than for 16 packets is kept, or what there was.
+pub record Does {D T : Type 0} (g : Ghosts D) (old : code.Layer) (below : D) (new : code.Layer) (below₂ : D) (result : Result T LayerError) (count : ℕ) (said : LinkView → LayerSettings → Layer → Answered) : Type 0 where
+  pub layer : (c : LayerSettings) (l : Layer) (x : g.State) → FitsLayer c old l → g.fits below x → LayerGives c new result (said (view_of g.up_in g.waits_in g.after_put x) c l)
+  pub link : (c : LayerSettings) (l : Layer) (x : g.State) → FitsLayer c old l → g.fits below x → LinkGives (g.fits below₂) g.after_put x result (said (view_of g.up_in g.waits_in g.after_put x) c l)
+  pub layer_stays : (c : LayerSettings) (l : Layer) → FitsLayer c old l → OnErr result (FitsLayer c new l)
+  pub link_stays : (x : g.State) → g.fits below x → OnErr result (g.fits below₂ x)
+  pub longest : g.longest below₂ ≡ g.longest below
+  pub missing : IsErrOf result error.NoMemory → LacksMemory count old (g.spares below)
+  pub most_memory : new.memory ≤ max old.memory 16
+  pub most_spares : g.spares below₂ ≤ max (g.spares below) 16
+  pub room : KeepsRoom old (g.spares below) new (g.spares below₂)
+  pub room_stays : (len : ℕ) → HasRoom len old (g.spares below) → OnErr result (HasRoom len new (g.spares below₂))
+
+-- .. what it says of this request
+abbrev pub Answers : {D T : Type 0} → Ghosts D → code.Layer → D → code.Layer → D → Result T LayerError → ℕ → LayerRequest → Type 0
+Answers g old below new below₂ result count request = Does g old below new below₂ result count (λ view c l. calls view c l request)

@@ -1,0 +1,179 @@
+-- Two link stations and the line between them, set up and set up again at any moment. A session of an end begins as it notes
+-- LinkUp. Each act is of the near end, or of the line to it. The far end's acts are those of the two ends swapped.
+use Rattle.std.specs.Prelude.{◌≡◌, ℕ, zero, suc, ◌+◌, ◌==◌, nat_le, Bool, true, false, if◌then◌else◌, List, [], ◌∷◌, ◌++◌, length, map, remove, Option, Some, None, option_to_list, Result, Ok, Err}
+use Rattle.x25_bits.specs.declared.role.Role.{Role}
+use Rattle.x25_frame.specs.Frame.{PlainFrame, sabm, disc, ua}
+use Rattle.x25_frame.specs.Spelling.{spelling_of}
+use Rattle.x25_frame.specs.Reading.{frame_of}
+use Rattle.x25_frame.specs.declared.error.FrameError.{FrameError}
+use Rattle.x25_link.specs.declared.error.LinkError.{LinkError}
+use Rattle.x25_link.specs.declared.phase.Phase.{Phase}
+use Rattle.x25_link.specs.declared.phase.Phase.TheVariants.{Down, Up, Waiting}
+use Rattle.x25_link.specs.Station.{Settings, LinkStation, is_up, with_nothing}
+use Rattle.x25_link.specs.Hearing.{Step, other}
+use Rattle.x25_link.specs.Link.{take_step, put_step, put_refusal, timer_step, timer_refusal, connect_step, connect_refusal, disconnect_step, disconnect_refusal, abandon_step}
+use Rattle.x25_line.specs.laws.Stations.{Act, Put, Deliver, T1, Connect, Disconnect, Abandon, Lose, Damage, Event, Near, Far, is_visible}
+use Rattle.x25_line.specs.laws.StationClaims.{number_in}
+
+-- octets on the line, and the session in which they were sent
+pub record Entry : Type 0 where
+  pub session : ℕ
+  pub octets : List ℕ
+
+-- A station, how many sessions it began, and what was handed down and up in each, by its number, the first being 1.
+pub record SessionEnd : Type 0 where
+  pub station : LinkStation
+  pub begun : ℕ
+  pub down : ℕ → List (List ℕ)
+  pub up : ℕ → List (List ℕ)
+
+-- a session of the near end and one of the far end, one of which heard a frame with an N(R) that was sent in the other
+pub record Meeting : Type 0 where
+  pub near : ℕ
+  pub far : ℕ
+
+-- The ends; the line from the near end and the line to it, front first; who heard whom, the latest first; and all frames ever
+-- sent.
+pub record Sessions : Type 0 where
+  pub near : SessionEnd
+  pub far : SessionEnd
+  pub out : List Entry
+  pub back : List Entry
+  pub met : List Meeting
+  pub sent : List PlainFrame
+
+abbrev pub turned : Meeting → Meeting
+turned m = record { near = m.far; far = m.near }
+
+abbrev pub swapped : Sessions → Sessions
+swapped w = record { near = w.far; far = w.near; out = w.back; back = w.out; met = map turned w.met; sent = w.sent }
+
+-- ---- acts
+
+abbrev pub sent_in : ℕ → Role → List PlainFrame → List Entry
+sent_in session from [] = []
+sent_in session from (frame ∷ frames) = record { session = session; octets = spelling_of from frame } ∷ sent_in session from frames
+
+-- more in one session
+abbrev pub extended : (ℕ → List (List ℕ)) → ℕ → List (List ℕ) → ℕ → List (List ℕ)
+extended lists session more n = if n == session then lists n ++ more else lists n
+
+-- one session more where LinkUp is noted
+abbrev pub begun_by : Bool → ℕ → ℕ
+begun_by true n = suc n
+begun_by false n = n
+
+-- after a step of the near end: `back` is what is left on the line to it, and `down` what was handed down
+abbrev pub after_step : Settings → Sessions → List Entry → List Meeting → List (List ℕ) → Step → Sessions
+after_step c w back met down step =
+    let session = begun_by step.notes.up w.near.begun in
+    record {
+      near = record { station = step.side.near; begun = session; down = extended w.near.down session down; up = extended w.near.up session (option_to_list step.packet) };
+      far = w.far;
+      out = w.out ++ sent_in session c.role step.side.out;
+      back = back;
+      met = met;
+      sent = w.sent ++ step.side.out;
+    }
+
+-- what is refused changes nothing
+abbrev pub unless : Option LinkError → Sessions → Sessions → Sessions
+unless (Some e) w done = w
+unless None w done = done
+
+-- a packet of at most N1 octets is handed down
+abbrev pub handed_down : Settings → List ℕ → Sessions → Sessions
+handed_down c packet w =
+    if nat_le (length packet) c.longest then unless (put_refusal w.near.station) w (after_step c w w.back w.met (packet ∷ []) (put_step c packet w.near.station)) else w
+
+-- an end that is Up hears a frame with an N(R)
+abbrev pub heard : Bool → Option PlainFrame → Meeting → List Meeting → List Meeting
+heard true (Some frame) m met = m ∷ met
+heard true None m met = met
+heard false read m met = met
+
+-- the front octets are taken off the line, and by the near end
+abbrev pub delivered : Settings → List Entry → Sessions → Sessions
+delivered c [] w = w
+delivered c (e ∷ back) w =
+    after_step c w back (heard (is_up w.near.station.phase) (number_in (frame_of (other c.role) c.longest e.octets)) (record { near = w.near.begun; far = e.session }) w.met) []
+    (take_step c e.octets w.near.station)
+
+abbrev pub replaced : List Entry → ℕ → List ℕ → List Entry
+replaced [] i octets = []
+replaced (e ∷ es) zero octets = record { session = e.session; octets = octets } ∷ es
+replaced (e ∷ es) (suc i) octets = e ∷ replaced es i octets
+
+abbrev pub acts : Settings → Act → Sessions → Sessions
+acts c (Put packet) w = handed_down c packet w
+acts c Deliver w = delivered c w.back w
+acts c T1 w = unless (timer_refusal w.near.station) w (after_step c w w.back w.met [] (timer_step c w.near.station))
+acts c Connect w = unless (connect_refusal w.near.station.phase) w (after_step c w w.back w.met [] (connect_step c w.near.station))
+acts c Disconnect w = unless (disconnect_refusal w.near.station.phase) w (after_step c w w.back w.met [] (disconnect_step c w.near.station))
+acts c Abandon w = if is_up w.near.station.phase then after_step c w w.back w.met [] (abandon_step c w.near.station) else w
+acts c (Lose i) w = record w { back = remove w.back i }
+acts c (Damage i octets) w = if is_visible octets then record w { back = replaced w.back i octets } else w
+
+-- ---- runs
+
+abbrev pub happens : Settings → Settings → Event → Sessions → Sessions
+happens c d (Near act) w = acts c act w
+happens c d (Far act) w = swapped (acts d act (swapped w))
+
+abbrev pub run : Settings → Settings → List Event → Sessions → Sessions
+run c d [] w = w
+run c d (e ∷ es) w = run c d es (happens c d e w)
+
+abbrev pub no_lists : ℕ → List (List ℕ)
+no_lists n = []
+
+abbrev pub start_with : Phase → ℕ → Sessions
+start_with phase begun =
+    let e : SessionEnd = record { station = with_nothing phase 0; begun = begun; down = no_lists; up = no_lists } in
+    record { near = e; far = e; out = []; back = []; met = []; sent = [] }
+
+-- nothing was set up yet, or both ends were just set up, each in its first session
+abbrev pub from_nothing : Sessions
+from_nothing = start_with Down 0
+
+abbrev pub from_set_up : Sessions
+from_set_up = start_with Up 1
+
+-- ---- timer T1 while UA is awaited
+
+abbrev pub sabm_in : Result PlainFrame FrameError → ℕ
+sabm_in (Ok (sabm p)) = 1
+sabm_in (Ok frame) = 0
+sabm_in (Err e) = 0
+
+abbrev pub ua_in : Result PlainFrame FrameError → ℕ
+ua_in (Ok (ua f)) = 1
+ua_in (Ok frame) = 0
+ua_in (Err e) = 0
+
+abbrev pub disc_in : Result PlainFrame FrameError → ℕ
+disc_in (Ok (disc p)) = 1
+disc_in (Ok frame) = 0
+disc_in (Err e) = 0
+
+-- how many frames of a kind are among the octets from an end in this role
+abbrev pub how_many : (Result PlainFrame FrameError → ℕ) → Role → ℕ → List Entry → ℕ
+how_many kind from n1 [] = 0
+how_many kind from n1 (e ∷ es) = kind (frame_of from n1 e.octets) + how_many kind from n1 es
+
+-- the SABMs of the near end and the UAs to it that are on the line
+abbrev pub asked : Settings → Settings → Sessions → ℕ
+asked c d w = how_many sabm_in (other d.role) d.longest w.out + how_many ua_in (other c.role) c.longest w.back
+
+-- T1 is longer than SABM and its UA are on the line: while UA is awaited it doesn't run out before
+abbrev pub IsTimely : Settings → Settings → Act → Sessions → Type 0
+IsTimely c d T1 w = w.near.station.phase ≡ Waiting → asked c d w ≡ 0
+IsTimely c d act w = Unit {0}
+
+abbrev pub IsTimelyAt : Settings → Settings → Event → Sessions → Type 0
+IsTimelyAt c d (Near act) w = IsTimely c d act w
+IsTimelyAt c d (Far act) w = IsTimely d c act (swapped w)
+
+abbrev pub AreTimely : Settings → Settings → List Event → Sessions → Type 0
+AreTimely c d [] w = Unit {0}
+AreTimely c d (e ∷ es) w = IsTimelyAt c d e w × AreTimely c d es (happens c d e w)

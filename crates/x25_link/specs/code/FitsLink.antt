@@ -1,0 +1,66 @@
+-- What contracts see of a link, and the states of the definition that it fits.
+use Rattle.std.specs.Prelude.{◌≡◌, ℕ, Bool, List, ◌++◌, length, map, false, option_copied}
+use Rattle.x25_frame.specs.Spelling.{spelling_of}
+use Rattle.x25_link.specs.declared.station.LinkStation.{LinkStation as StationCode}
+use Rattle.x25_link.specs.declared.step.Step as code
+use Rattle.x25_link.specs.OrderedLink.{Lists}
+use Rattle.x25_link.specs.code.Outbox.{ShownOutbox}
+use Rattle.x25_link.specs.Outgoing.{waits}
+use Rattle.x25_link.specs.Station.{Settings, LinkStation, lists_of, is_up, may_send, owes_ready}
+use Rattle.x25_link.specs.Hearing.{Step}
+use Rattle.x25_link.specs.Link.{put_step}
+use Rattle.x25_link.specs.code.Fits.{FitsStation}
+
+-- the variables of the station, and the frames that `sent` will hand out, with the memory set aside for further ones
+pub record ShownLink : Type 0 where
+  pub station : StationCode
+  pub outbox : ShownOutbox
+
+-- the most octets of a packet, whether the link is up, and how many packets wait
+abbrev pub limit_of : ShownLink → ℕ
+limit_of v = v.station.parameters.n1
+
+abbrev pub up_of : ShownLink → Bool
+up_of v = is_up v.station.phase
+
+abbrev pub waiting_of : ShownLink → ℕ
+waiting_of v = length v.station.outgoing.queue
+
+-- between calls nothing is left to be sent
+pub record FitsLink (c : Settings) (v : ShownLink) (s : LinkStation) : Type 0 where
+  pub near : FitsStation c v.station s
+  pub settled : may_send c.window s ≡ false
+  pub calm : owes_ready s ≡ false
+
+-- the answer of a call is that step's: the frames, as the octets that spell them, the packet and the notes
+pub record IsAnswer (c : Settings) (answer : code.Step) (step : Step) : Type 0 where
+  pub frames : map (λ frame. frame.items) answer.frames.items ≡ map (spelling_of c.role) step.side.out
+  pub packet : option_copied answer.packet ≡ step.packet
+  pub notes : answer.notes ≡ step.notes
+
+-- ---- a link as one that keeps order
+
+-- what it stands for: its settings, the station, and the frames that `sent` will hand out
+pub record LinkState : Type 0 where
+  pub settings : Settings
+  pub station : LinkStation
+  pub kept : List (List ℕ)
+
+pub record FitsWhole (v : ShownLink) (x : LinkState) : Type 0 where
+  pub link : FitsLink x.settings v x.station
+  pub kept : v.outbox.made ≡ x.kept
+
+abbrev pub lists_in : LinkState → Lists
+lists_in x = lists_of x.station
+
+abbrev pub waits_of : LinkState → ℕ
+waits_of x = waits x.station.outgoing
+
+abbrev pub up_at : LinkState → Bool
+up_at x = is_up x.station.phase
+
+-- the packet is handed down, and the frames that go are kept
+abbrev pub after_put_to : LinkState → List ℕ → LinkState
+after_put_to x packet =
+    let step = put_step x.settings packet x.station in
+    record { settings = x.settings; station = step.side.near; kept = x.kept ++ map (spelling_of x.settings.role) step.side.out }

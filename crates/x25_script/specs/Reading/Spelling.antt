@@ -1,0 +1,87 @@
+-- The grammar of a script's lines: which characters spell which line (profile).
+use Rattle.std.specs.Prelude.{ℕ, ◌≡◌, ◌≤◌, ◌∷◌, [], List, ◌++◌, Bool, true, false, codes, decimal, Option, Some, None, Ok}
+use Rattle.std.specs.Char.{is_ascii_digit}
+use Rattle.std.specs.List.{list_all}
+use Rattle.hex.specs.Hex.{decode_of}
+use Rattle.x25_bits.specs.declared.role.Role.{Role}
+use Rattle.x25_bits.specs.declared.role.Role.TheVariants.{Dte, Dce}
+use Rattle.x25_circuit.specs.declared.params.Params.{Params}
+use Rattle.x25_script.specs.ScriptLine.{PlainCommand, call, accept, clear, send, interrupt, reset, ready, not_ready, restart, pull, connect, disconnect, PlainLine, command, t1, deliver, lose, damage, drain, heal}
+
+-- an end
+abbrev pub end_text : Role → List ℕ
+end_text Dte = codes "dte"
+end_text Dce = codes "dce"
+
+-- the direction away from an end
+abbrev pub direction_text : Role → List ℕ
+direction_text Dte = codes ">"
+direction_text Dce = codes "<"
+
+-- Q
+abbrev pub q_text : Bool → List ℕ
+q_text false = codes "0"
+q_text true = codes "1"
+
+-- a number of 16 bits, written by `decimal`: without leading zeros
+abbrev pub IsNumber : ℕ → Type 0
+IsNumber n = n ≤ 65535
+
+-- an address: its digits, `-` where there are none
+abbrev pub address_text : List ℕ → List ℕ
+address_text [] = codes "-"
+address_text (digit ∷ digits) = digit ∷ digits
+
+abbrev pub IsAddress : List ℕ → Type 0
+IsAddress digits = list_all is_ascii_digit digits ≡ true
+
+-- octets: two hexadecimal digits of either case for each, `-` where there are none
+abbrev pub Writes : List ℕ → List ℕ → Type 0
+Writes text [] = text ≡ codes "-"
+Writes text (octet ∷ octets) = decode_of text ≡ Ok (octet ∷ octets)
+
+-- four numbers of 8 bits, or none
+abbrev pub AreParams : Option Params → Type 0
+AreParams None = Unit
+AreParams (Some p) = (p.size_called ≤ 255) × (p.size_calling ≤ 255) × (p.win_called ≤ 255) × (p.win_calling ≤ 255)
+
+-- each behind a blank
+abbrev pub params_text : Option Params → List ℕ
+params_text None = []
+params_text (Some p) = codes " " ++ (decimal p.size_called ++ (codes " " ++ (decimal p.size_calling
+    ++ (codes " " ++ (decimal p.win_called ++ (codes " " ++ decimal p.win_calling))))))
+
+-- what follows the end that is commanded
+abbrev pub SpellsCommand : PlainCommand → List ℕ → Type 0
+SpellsCommand (call called calling user params) text = IsAddress called × IsAddress calling × AreParams params
+    × ((digits : List ℕ) × Writes digits user
+    × (text ≡ codes "call " ++ (address_text called ++ (codes " " ++ (address_text calling
+    ++ (codes " " ++ (digits ++ params_text params)))))))
+SpellsCommand (accept channel params) text = IsNumber channel × AreParams params
+    × (text ≡ codes "accept " ++ (decimal channel ++ params_text params))
+SpellsCommand (clear channel) text = IsNumber channel × (text ≡ codes "clear " ++ decimal channel)
+SpellsCommand (send channel q user) text = IsNumber channel
+    × ((digits : List ℕ) × Writes digits user
+    × (text ≡ codes "send " ++ (decimal channel ++ (codes " " ++ (q_text q ++ (codes " " ++ digits))))))
+SpellsCommand (interrupt channel user) text = IsNumber channel
+    × ((digits : List ℕ) × Writes digits user
+    × (text ≡ codes "int " ++ (decimal channel ++ (codes " " ++ digits))))
+SpellsCommand (reset channel) text = IsNumber channel × (text ≡ codes "reset " ++ decimal channel)
+SpellsCommand (ready channel) text = IsNumber channel × (text ≡ codes "ready " ++ decimal channel)
+SpellsCommand (not_ready channel) text = IsNumber channel × (text ≡ codes "notready " ++ decimal channel)
+SpellsCommand restart text = text ≡ codes "restart"
+SpellsCommand pull text = text ≡ codes "pull"
+SpellsCommand connect text = text ≡ codes "connect"
+SpellsCommand disconnect text = text ≡ codes "disconnect"
+
+-- the characters spell the line
+abbrev pub Spells : PlainLine → List ℕ → Type 0
+Spells (command end asked) text = (rest : List ℕ) × (text ≡ end_text end ++ (codes " " ++ rest)) × SpellsCommand asked rest
+Spells (t1 end) text = text ≡ codes "t1 " ++ end_text end
+Spells (deliver from) text = text ≡ codes "deliver " ++ direction_text from
+Spells (lose from place) text = IsNumber place × (text ≡ codes "lose " ++ (direction_text from ++ (codes " " ++ decimal place)))
+Spells (damage from place octets) text = IsNumber place
+    × ((digits : List ℕ) × Writes digits octets
+    × (text ≡ codes "damage " ++ (direction_text from ++ (codes " " ++ (decimal place ++ (codes " " ++ digits))))))
+Spells (drain count) text = IsNumber count × (1 ≤ count) × (text ≡ codes "drain " ++ decimal count)
+Spells heal text = text ≡ codes "heal"

@@ -1,0 +1,139 @@
+-- The words behind `sim`, `station` and `judge`, those for an end, and what plain ones say (profile).
+use Rattle.std.specs.Prelude.{◌≡◌, ◌≤◌, ℕ, Bool, true, false, List, [], ◌∷◌, Option, Some, None, unwrap_or, codes, decimal}
+use Rattle.std.specs.List.{flat_map}
+use Rattle.x25_settings.specs.declared.options.Simulation.{Simulation}
+use Rattle.x25_settings.specs.declared.options.End.{End}
+use Rattle.x25_settings.specs.declared.options.End.TheVariants.{Dte, Dce}
+use Rattle.x25_settings.specs.declared.options.Judging.{Judging}
+use Rattle.x25_settings.specs.declared.options.Place.{Place}
+use Rattle.x25_settings.specs.declared.options.Chosen.{Chosen}
+use Rattle.x25_settings.specs.declared.options.Flag.{Flag}
+use Rattle.x25_settings.specs.declared.options.Flag.TheVariants.{Down, Long, Tap}
+use Rattle.x25_settings.specs.declared.options.Numbered.{Numbered}
+use Rattle.x25_settings.specs.declared.options.Numbered.TheVariants.{Window, Tries, Channels}
+pub mod Choosing
+
+abbrev pub flag_word : Flag → List ℕ
+flag_word Down = codes "--down"
+flag_word Long = codes "--long"
+flag_word Tap = codes "--tap"
+
+abbrev pub word_of : Numbered → List ℕ
+word_of Window = codes "--k"
+word_of Tries = codes "--n2"
+word_of Channels = codes "--channels"
+
+-- the most that it may be; the least is 1
+abbrev pub most_of : Numbered → ℕ
+most_of Window = 7
+most_of Tries = 255
+most_of Channels = 16
+
+-- what it is where nothing is said
+abbrev pub default_of : Numbered → ℕ
+default_of Window = 7
+default_of Tries = 10
+default_of Channels = 1
+
+-- an option, with its number where it has one
+pub data Choice : Type 0 where
+  flag : Flag → Choice
+  number : Numbered → ℕ → Choice
+
+abbrev pub words_of : Choice → List (List ℕ)
+words_of (flag x) = flag_word x ∷ []
+words_of (number x n) = word_of x ∷ decimal n ∷ []
+
+abbrev pub nothing : Chosen
+nothing = record { down = false; long = false; tap = false; k = None; n2 = None; channels = None }
+
+abbrev pub chosen_number : Chosen → Numbered → Option ℕ
+chosen_number c Window = c.k
+chosen_number c Tries = c.n2
+chosen_number c Channels = c.channels
+
+abbrev pub chosen_flag : Chosen → Flag → Bool
+chosen_flag c Down = c.down
+chosen_flag c Long = c.long
+chosen_flag c Tap = c.tap
+
+abbrev pub with_flag : Chosen → Flag → Chosen
+with_flag c Down = record { down = true; long = c.long; tap = c.tap; k = c.k; n2 = c.n2; channels = c.channels }
+with_flag c Long = record { down = c.down; long = true; tap = c.tap; k = c.k; n2 = c.n2; channels = c.channels }
+with_flag c Tap = record { down = c.down; long = c.long; tap = true; k = c.k; n2 = c.n2; channels = c.channels }
+
+abbrev pub with_number : Chosen → Numbered → ℕ → Chosen
+with_number c Window n = record { down = c.down; long = c.long; tap = c.tap; k = Some n; n2 = c.n2; channels = c.channels }
+with_number c Tries n = record { down = c.down; long = c.long; tap = c.tap; k = c.k; n2 = Some n; channels = c.channels }
+with_number c Channels n = record { down = c.down; long = c.long; tap = c.tap; k = c.k; n2 = c.n2; channels = Some n }
+
+abbrev pub with_choice : Chosen → Choice → Chosen
+with_choice c (flag x) = with_flag c x
+with_choice c (number x n) = with_number c x n
+
+abbrev pub IsInRange : Numbered → ℕ → Type 0
+IsInRange x n = (1 ≤ n) × (n ≤ most_of x)
+
+-- the option wasn't chosen before, and its number is in its range
+abbrev pub IsOpen : Chosen → Choice → Type 0
+IsOpen c (flag x) = chosen_flag c x ≡ false
+IsOpen c (number x n) = (chosen_number c x ≡ None) × IsInRange x n
+
+-- one after another, each once, in any order
+abbrev pub Leads : Chosen → List Choice → Chosen → Type 0
+Leads c [] end = end ≡ c
+Leads c (choice ∷ choices) end = IsOpen c choice × Leads (with_choice c choice) choices end
+
+abbrev pub chosen_or_default : Chosen → Numbered → ℕ
+chosen_or_default c x = unwrap_or (chosen_number c x) (default_of x)
+
+-- the defaults for the rest
+abbrev pub settled : Chosen → Simulation
+settled c = record { down = c.down; long = c.long; tap = c.tap; k = chosen_or_default c Window; n2 = chosen_or_default c Tries; channels = chosen_or_default c Channels }
+
+abbrev pub settled_at : End → Chosen → Place
+settled_at end c = record { end = end; long = c.long; k = chosen_or_default c Window; n2 = chosen_or_default c Tries; channels = chosen_or_default c Channels }
+
+abbrev pub judging_in : Chosen → Judging
+judging_in c = record { long = c.long; k = chosen_or_default c Window }
+
+-- these words choose this
+abbrev pub Choose : List (List ℕ) → Chosen → Type 0
+Choose words end = (choices : List Choice) × (words ≡ flat_map words_of choices) × Leads nothing choices end
+
+-- the words are plain, and they say this
+abbrev pub SaySimulation : List (List ℕ) → Simulation → Type 0
+SaySimulation words s = (end : Chosen) × Choose words end × (s ≡ settled end)
+
+abbrev pub end_word : End → List ℕ
+end_word Dte = codes "dte"
+end_word Dce = codes "dce"
+
+-- the first word is the end, and of the options `--down` and `--tap` are none
+pub record SayPlace (words : List (List ℕ)) (p : Place) : Type 0 where
+  pub rest : List (List ℕ)
+  pub end : Chosen
+  pub words_are : words ≡ end_word p.end ∷ rest
+  pub choose : Choose rest end
+  pub no_down : end.down ≡ false
+  pub no_tap : end.tap ≡ false
+  pub same : p ≡ settled_at p.end end
+
+-- of the options `--k` and `--long` are there alone
+pub record SayJudging (words : List (List ℕ)) (g : Judging) : Type 0 where
+  pub end : Chosen
+  pub choose : Choose words end
+  pub no_down : end.down ≡ false
+  pub no_tap : end.tap ≡ false
+  pub no_tries : end.n2 ≡ None
+  pub no_channels : end.channels ≡ None
+  pub same : g ≡ judging_in end
+
+abbrev pub JudgingIsInRange : Judging → Type 0
+JudgingIsInRange g = IsInRange Window g.k
+
+abbrev pub PlaceIsInRange : Place → Type 0
+PlaceIsInRange p = IsInRange Window p.k × IsInRange Tries p.n2 × IsInRange Channels p.channels
+
+abbrev pub AreInRange : Simulation → Type 0
+AreInRange s = IsInRange Window s.k × IsInRange Tries s.n2 × IsInRange Channels s.channels

@@ -1,0 +1,35 @@
+-- The settings of a station (profile), and with them those of its link and of its packet layer.
+use Rattle.std.specs.Prelude.{ℕ, Bool, nat_le, ◌&&◌, if◌then◌else◌, Option, Some, None}
+use Rattle.x25_bits.specs.declared.role.Role.{Role}
+use Rattle.x25_link.specs.Station.{Settings as LinkSettings}
+use Rattle.x25_layer.specs.Layer.{LayerSettings}
+use Rattle.x25_layer.specs.laws.TwoLayers.{settings_of}
+use Rattle.x25_station.specs.declared.config.Cfg.{Cfg}
+use Rattle.x25_station.specs.declared.error.StationError.{StationError}
+use Rattle.x25_station.specs.declared.error.StationError.TheVariants as error
+
+-- which end it is, k and N2 of the link (sections 2.4.8.6 and 2.4.8.4), how many channels are configured, and whether the user data of a
+-- CALL may be long
+pub record Settings : Type 0 where
+  pub role : Role
+  pub window : ℕ
+  pub retries : ℕ
+  pub channels : ℕ
+  pub long_data : Bool
+
+abbrev pub settings_from : Role → Cfg → Settings
+settings_from role cfg = record { role = role; window = cfg.k; retries = cfg.n2; channels = cfg.channels; long_data = cfg.long_data }
+
+-- k is 1 to 7, N2 1 to 255, and there are 1 to 16 channels
+abbrev pub config_refusal : Cfg → Option StationError
+config_refusal cfg = if nat_le 1 cfg.k && (nat_le cfg.k 7 && (nat_le 1 cfg.n2 && (nat_le 1 cfg.channels && nat_le cfg.channels 16))) then None else Some error.BadConfig
+
+-- N1 is 4,099 octets: the longest data packet, with its header of three octets
+abbrev pub longest_packet : ℕ
+longest_packet = 4099
+
+abbrev pub link_settings : Settings → LinkSettings
+link_settings c = record { role = c.role; window = c.window; longest = longest_packet; retries = c.retries }
+
+abbrev pub layer_settings : Settings → LayerSettings
+layer_settings c = settings_of c.role c.long_data c.channels

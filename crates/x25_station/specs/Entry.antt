@@ -1,0 +1,83 @@
+-- The entries of the transcript of a station (profile): what its user asked, what the link noted, and what the packet layer told.
+use Rattle.std.specs.Prelude.{ℕ, Bool, true, false, List, [], ◌∷◌, ◌++◌, Option, Some, None}
+use Rattle.x25_link.specs.declared.phase.Reason.{Reason}
+use Rattle.x25_link.specs.declared.phase.Notes.{Notes}
+use Rattle.x25_layer.specs.Layer.{LayerSettings, Layer, LayerNotice, on_channel, restarted, restart_done, layer_fault}
+use Rattle.x25_layer.specs.Calls.{LayerRequest, Asks, Dials, Restarts, PullsAll}
+use Rattle.x25_layer.specs.laws.Transcript.{Entry, Said, Asked, Told, name_of}
+use Rattle.x25_layer.specs.laws.TwoLayers.{entries_asked}
+
+pub data StationEntry : Type 0 where
+  -- what a channel's user asked or was told, under the name of the stretch
+  of_channel : (entry : Entry) → StationEntry
+  restart_asked : StationEntry
+  connect_asked : StationEntry
+  disconnect_asked : StationEntry
+  link_up : StationEntry
+  link_down : (reason : Reason) → StationEntry
+  was_restarted : (cause : ℕ) → (diagnostic : ℕ) → StationEntry
+  restart_confirmed : StationEntry
+  -- an error of procedure on channel 0
+  at_fault : (diagnostic : ℕ) → StationEntry
+
+-- ---- what the link notes: that it went down, and then that it went up
+
+abbrev pub entries_down : Option Reason → List StationEntry
+entries_down None = []
+entries_down (Some reason) = link_down reason ∷ []
+
+abbrev pub entries_up : Bool → List StationEntry
+entries_up false = []
+entries_up true = link_up ∷ []
+
+abbrev pub entries_noted : Notes → List StationEntry
+entries_noted notes = entries_down notes.down ++ entries_up notes.up
+
+-- ---- what the layer tells, under the name that stands then
+
+abbrev pub entry_told : Layer → LayerNotice → StationEntry
+entry_told l (on_channel h notice) = of_channel (record { channel = h; name = name_of l h; said = Told notice })
+entry_told l (restarted cause diagnostic) = was_restarted cause diagnostic
+entry_told l restart_done = restart_confirmed
+entry_told l (layer_fault diagnostic) = at_fault diagnostic
+
+abbrev pub station_told : Layer → List LayerNotice → List StationEntry
+station_told l [] = []
+station_told l (notice ∷ notices) = entry_told l notice ∷ station_told l notices
+
+-- ---- what was asked of the layer, and accepted, by the layer before and after it; pulls have no entry
+
+abbrev pub of_channels : List Entry → List StationEntry
+of_channels [] = []
+of_channels (e ∷ entries) = of_channel e ∷ of_channels entries
+
+abbrev pub station_asked : LayerSettings → Layer → Layer → LayerRequest → List StationEntry
+station_asked c l next (Asks h request) = of_channels (entries_asked c l next (Asks h request))
+station_asked c l next (Dials called calling user params) = of_channels (entries_asked c l next (Dials called calling user params))
+station_asked c l next Restarts = restart_asked ∷ []
+station_asked c l next PullsAll = []
+
+-- ---- the entries that the layer's own transcript has, and what its user was told
+
+abbrev pub in_layer : StationEntry → List Entry
+in_layer (of_channel e) = e ∷ []
+in_layer entry = []
+
+abbrev pub layer_entries : List StationEntry → List Entry
+layer_entries [] = []
+layer_entries (entry ∷ entries) = in_layer entry ++ layer_entries entries
+
+abbrev pub notice_of : ℕ → Said → List LayerNotice
+notice_of h (Asked request) = []
+notice_of h (Told notice) = on_channel h notice ∷ []
+
+abbrev pub notice_in : StationEntry → List LayerNotice
+notice_in (of_channel e) = notice_of e.channel e.said
+notice_in (was_restarted cause diagnostic) = restarted cause diagnostic ∷ []
+notice_in restart_confirmed = restart_done ∷ []
+notice_in (at_fault diagnostic) = layer_fault diagnostic ∷ []
+notice_in entry = []
+
+abbrev pub layer_notices : List StationEntry → List LayerNotice
+layer_notices [] = []
+layer_notices (entry ∷ entries) = notice_in entry ++ layer_notices entries

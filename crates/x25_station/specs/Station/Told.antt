@@ -1,0 +1,16 @@
+-- What a station tells of itself (profile).
+use Rattle.std.specs.Prelude.{ℕ, ◌==◌, Bool, ◌&&◌, if◌then◌else◌, Option, Some, None}
+use Rattle.x25_link.specs.Link as link
+use Rattle.x25_handshakes.specs.laws.Names.{Name}
+use Rattle.x25_layer.specs.laws.Transcript.{name_of}
+use Rattle.x25_layer.specs.code.FitsLayer.{is_open_at, waits_up_to}
+use Rattle.x25_station.specs.Config.{Settings, layer_settings}
+use Rattle.x25_station.specs.Station.{Station}
+
+-- the link is up, no packet waits in it, all that was sent is acknowledged, and no message waits in a circuit
+abbrev pub is_idle : Settings → Station → Bool
+is_idle c s = link.is_idle s.link && waits_up_to s.layer.circuits c.channels == 0
+
+-- the name of the stretch that is open on a channel, in p4 with d1
+abbrev pub stretch : Settings → Station → ℕ → Option Name
+stretch c s h = if is_open_at (layer_settings c) s.layer h then Some (name_of s.layer h) else None

@@ -1,0 +1,133 @@
+-- Each call of a station: when it is refused, and what it does. A call of the link is a step of the link, and then what the layer does at
+-- what that hands up or notes; a command to the layer is the layer's call. What the layer puts is handed down to the link in the same step.
+use Rattle.std.specs.Prelude.{ℕ, ◌==◌, Bool, true, false, ◌&&◌, if◌then◌else◌, List, [], ◌∷◌, ◌++◌, Option, Some, None}
+use Rattle.x25_packet.specs.Reading.{packet_of}
+use Rattle.x25_frame.specs.Frame.{PlainFrame}
+use Rattle.x25_packet.specs.Spelling.{longest_user}
+use Rattle.x25_link.specs.declared.error.LinkError.{LinkError}
+use Rattle.x25_link.specs.declared.phase.Reason.{Reason}
+use Rattle.x25_link.specs.Station.{LinkStation, Side, is_up}
+use Rattle.x25_link.specs.Hearing.{Step as LinkStep}
+use Rattle.x25_link.specs.Link.{alone, take_step, timer_refusal, timer_step, connect_refusal, connect_step, disconnect_refusal, disconnect_step, abandon_step}
+use Rattle.x25_layer.specs.Layer.{LayerSettings, Layer, LayerAnswer, rested}
+use Rattle.x25_layer.specs.Calls.{LayerRequest, LayerOutcome, Accepted, Declined, layer_outcome}
+use Rattle.x25_layer.specs.code.FitsLayer.{is_full}
+use Rattle.x25_layer.specs.Rounds.{LinkView, Putting, Answered, Went, Refuses, calls, hears, comes_up, answer_to}
+use Rattle.x25_station.specs.declared.error.StationError.{StationError}
+use Rattle.x25_station.specs.declared.error.StationError.TheVariants as error
+use Rattle.x25_station.specs.Config.{Settings, link_settings, layer_settings}
+use Rattle.x25_station.specs.Command.{Command, Requests, Connects, Disconnects}
+use Rattle.x25_station.specs.Entry.{StationEntry, connect_asked, disconnect_asked, entries_noted, station_told, station_asked}
+use Rattle.x25_station.specs.Station.{Station, all_put, view_of}
+
+-- the station after a step, the frames to send, in order, and the entries of the transcript
+pub record Step : Type 0 where
+  pub near : Station
+  pub out : List PlainFrame
+  pub entries : List StationEntry
+
+pub data Outcome : Type 0 where
+  Did : (step : Step) → Outcome
+  Refused : (error : StationError) → Outcome
+
+-- what the layer puts is handed down behind the link's own step
+abbrev pub with_puts : Settings → Side → Putting → List StationEntry → Step
+with_puts c t s entries =
+    let u = all_put (link_settings c) s.put t in
+    record { near = record { link = u.near; layer = s.layer }; out = u.out; entries = entries }
+
+-- ---- what the layer does at a step of the link
+
+-- nothing is put
+abbrev pub rests : Layer → Putting
+rests l = record { layer = l; put = [] }
+
+-- what LinkDown leaves of it
+abbrev pub layer_down : Layer → Option Reason → Layer
+layer_down l None = l
+layer_down l (Some reason) = rested l
+
+-- LinkDown; then LinkUp; else the packet that is handed up. Where there is none of these nothing is asked of the layer, so nothing is pulled.
+abbrev pub layer_at : LinkView → LayerSettings → Layer → Option (List ℕ) → Option Reason → Bool → Putting
+layer_at link c l packet down true = (comes_up link c).step
+layer_at link c l packet (Some reason) false = rests (rested l)
+layer_at link c l (Some octets) None false = (hears link c l octets).step
+layer_at link c l None None false = rests l
+
+-- what the layer answers to the octets of a packet
+abbrev pub layer_answer : LayerSettings → Layer → List ℕ → LayerAnswer
+layer_answer c l octets = answer_to c l octets (packet_of (longest_user c.circuit.long_data) octets)
+
+abbrev pub entries_of_answer : LayerAnswer → List StationEntry
+entries_of_answer a = station_told a.next a.notices
+
+-- what it tells of a packet
+abbrev pub entries_heard : LayerSettings → Layer → Option (List ℕ) → Option Reason → Bool → List StationEntry
+entries_heard c l packet down true = []
+entries_heard c l packet (Some reason) false = []
+entries_heard c l (Some octets) None false = entries_of_answer (layer_answer c l octets)
+entries_heard c l None None false = []
+
+-- a step of the link, and then the layer
+abbrev pub follows : Settings → Layer → LinkStep → Step
+follows c l k =
+    with_puts c k.side (layer_at (view_of (link_settings c) k.side.near) (layer_settings c) l k.packet k.notes.down k.notes.up)
+    (entries_noted k.notes ++ entries_heard (layer_settings c) l k.packet k.notes.down k.notes.up)
+
+-- ---- connect, disconnect, and timer T1: refused as the link's
+
+abbrev pub unless : Option LinkError → Step → Outcome
+unless None step = Did step
+unless (Some e) step = Refused (error.Link e)
+
+abbrev pub connects : Settings → Station → Outcome
+connects c s = unless (connect_refusal s.link.phase) (follows c s.layer (connect_step (link_settings c) s.link))
+
+abbrev pub fires : Settings → Station → Outcome
+fires c s = unless (timer_refusal s.link) (follows c s.layer (timer_step (link_settings c) s.link))
+
+-- the entry of an accepted command comes first
+abbrev pub led_by : List StationEntry → Step → Step
+led_by entries step = record { near = step.near; out = step.out; entries = entries ++ step.entries }
+
+-- connect as a command, which has an entry
+abbrev pub connects_asked : Settings → Station → Outcome
+connects_asked c s = unless (connect_refusal s.link.phase) (led_by (connect_asked ∷ []) (follows c s.layer (connect_step (link_settings c) s.link)))
+
+abbrev pub disconnects : Settings → Station → Outcome
+disconnects c s = unless (disconnect_refusal s.link.phase) (led_by (disconnect_asked ∷ []) (follows c s.layer (disconnect_step (link_settings c) s.link)))
+
+-- ---- octets that come
+
+-- where the link is up and a count of restarts, clears or resets is at its most, before the octets are looked at
+abbrev pub abandons : Settings → Station → Bool
+abandons c s = is_up s.link.phase && is_full (layer_settings c) s.layer
+
+abbrev pub link_receives : Settings → Station → List ℕ → LinkStep
+link_receives c s octets = if abandons c s then abandon_step (link_settings c) s.link else take_step (link_settings c) octets s.link
+
+abbrev pub receives : Settings → Station → List ℕ → Step
+receives c s octets = follows c s.layer (link_receives c s octets)
+
+-- ---- commands
+
+abbrev pub entries_of_outcome : LayerSettings → Layer → LayerRequest → LayerOutcome → List StationEntry
+entries_of_outcome c l request (Accepted next packet) = station_asked c l next request
+entries_of_outcome c l request (Declined e) = []
+
+-- the layer's call over the link
+abbrev pub did : Settings → Side → List StationEntry → Answered → Outcome
+did c t entries (Went s) = Did (with_puts c t s entries)
+did c t entries (Refuses e) = Refused (error.Layer e)
+
+abbrev pub requests_of : Settings → LinkStation → Layer → LinkView → LayerRequest → Outcome
+requests_of c link l view request =
+    did c (alone link) (entries_of_outcome (layer_settings c) l request (layer_outcome (layer_settings c) (view.waits [] == 256) l request)) (calls view (layer_settings c) l request)
+
+abbrev pub requests : Settings → Station → LayerRequest → Outcome
+requests c s request = requests_of c s.link s.layer (view_of (link_settings c) s.link) request
+
+abbrev pub commands : Settings → Station → Command → Outcome
+commands c s (Requests request) = requests c s request
+commands c s Connects = connects_asked c s
+commands c s Disconnects = disconnects c s
