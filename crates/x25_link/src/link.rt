@@ -1,4 +1,4 @@
-ghost use Rattle.std.specs.Prelude.{◌≡◌, ℕ, ◌+◌, ◌-◌, ◌%◌, ◌<◌, ◌≤◌, ◌↔◌, ◌++◌, List, [], length, map, max, vec_len, Bool, true, false, Some, None, IfOk, IfErr, OnOk, OnErr, IsOk, IsErrOf};
+ghost use Rattle.std.specs.Prelude.{◌≡◌, ℕ, ◌+◌, ◌-◌, ◌%◌, ◌<◌, ◌≤◌, ◌↔◌, ◌++◌, List, [], length, map, max, vec_len, Bool, true, false, Some, None, Ok, IfOk, IfErr, OnOk, OnErr, IsOk, IsErrOf};
 ghost use Rattle.x25_frame.specs.Spelling.{spelling_of};
 ghost use Rattle.x25_link.specs.LinkStation.{Settings, LinkStation as StationState, awaits_ua, with_nothing};
 ghost use Rattle.x25_link.specs.Steps.{Refuses, config_refusal, take_step, put_refusal, put_step, connect_refusal, connect_step, disconnect_refusal, disconnect_step, timer_refusal, timer_runs, timer_step, abandon_step, is_idle};
@@ -142,9 +142,7 @@ impl Link {
     /// Leaves Up without a frame, and notes LinkDown(counts) (profile). It takes no memory.
     pub fn abandon(&mut self) -> Step<'static>
         requires { up_of self.old ≡ true }
-        ensures state { (c : Settings) (s : StationState) → FitsLink c self.old s → FitsLink c self.new (abandon_step c s).side.near }
-        ensures answer { (c : Settings) (s : StationState) → FitsLink c self.old s → IsAnswer c result (abandon_step c s) }
-        ensures outbox { self.new.outbox ≡ self.old.outbox }
+        ensures { Does self.old self.new (Ok result) (λ s. None) abandon_step }
     {
         let heard = self.station.leave(Reason::Counts);
         self.answers.answered(heard)
