@@ -1,9 +1,9 @@
-ghost use Rattle.std.specs.Prelude.{◌≡◌, ℕ, ◌+◌, ◌-◌, ◌%◌, ◌<◌, ◌≤◌, ◌↔◌, ◌++◌, List, [], length, map, max, vec_len, Bool, true, false, Some, None, IfOk, IfErr, OnOk, OnErr, IsOk, IsErrOf};
+ghost use Rattle.std.specs.Prelude.{◌≡◌, ℕ, ◌+◌, ◌-◌, ◌%◌, ◌<◌, ◌≤◌, ◌↔◌, ◌++◌, List, [], length, map, max, vec_len, Bool, true, false, Some, None, Ok, IfOk, IfErr, OnOk, OnErr, IsOk, IsErrOf};
 ghost use Rattle.x25_frame.specs.Spelling.{spelling_of};
-ghost use Rattle.x25_link.specs.Station.{Settings, LinkStation as StationState, awaits_ua, with_nothing};
-ghost use Rattle.x25_link.specs.Link.{Refuses, config_refusal, take_step, put_refusal, put_step, connect_refusal, connect_step, disconnect_refusal, disconnect_step, timer_refusal, timer_runs, timer_step, abandon_step, is_idle};
-ghost use Rattle.x25_link.specs.Error.{RefusesPut};
-ghost use Rattle.x25_link.specs.code.FitsLink.{FitsLink, IsAnswer, limit_of, up_of, waiting_of};
+ghost use Rattle.x25_link.specs.LinkStation.{Settings, LinkStation as StationState, awaits_ua, with_nothing};
+ghost use Rattle.x25_link.specs.Steps.{Refuses, config_refusal, take_step, put_refusal, put_step, connect_refusal, connect_step, disconnect_refusal, disconnect_step, timer_refusal, timer_runs, timer_step, abandon_step, is_idle};
+ghost use Rattle.x25_link.specs.LinkError.{RefusesPut};
+ghost use Rattle.x25_link.specs.code.Link.{FitsLink, IsAnswer, Does, limit_of, up_of, waiting_of};
 ghost use Rattle.x25_link.specs.declared.phase.Phase.TheVariants.{Down};
 
 mod in_order;
@@ -84,11 +84,7 @@ impl Link {
     ///
     /// 12 where it is being set up, 13 where it is closed, 15 where it is up, then 70.
     pub fn connect(&mut self) -> Result<Step<'static>, LinkError>
-        ensures state { (c : Settings) (s : StationState) → FitsLink c self.old s → OnOk result (FitsLink c self.new (connect_step c s).side.near) }
-        ensures answer { (c : Settings) (s : StationState) → FitsLink c self.old s → IfOk result (λ answer. IsAnswer c answer (connect_step c s)) }
-        ensures refused { (c : Settings) (s : StationState) → FitsLink c self.old s → Refuses (connect_refusal s.phase) result }
-        ensures outbox { self.new.outbox ≡ self.old.outbox }
-        ensures err { OnErr result (self.new ≡ self.old) }
+        ensures { Does self.old self.new result (λ s. connect_refusal s.phase) connect_step }
     {
         match self.station.phase {
             Phase::Down => {}
@@ -105,11 +101,8 @@ impl Link {
     ///
     /// 70 alone.
     pub fn take<'a>(&mut self, octets: &'a [u8]) -> Result<Step<'a>, LinkError>
-        ensures state { (c : Settings) (s : StationState) → FitsLink c self.old s → OnOk result (FitsLink c self.new (take_step c octets.now s).side.near) }
-        ensures answer { (c : Settings) (s : StationState) → FitsLink c self.old s → IfOk result (λ answer. IsAnswer c answer (take_step c octets.now s)) }
+        ensures does { Does self.old self.new result (λ s. None) (λ c s. take_step c octets.now s) }
         ensures refused { IfErr result (λ e. e ≡ LinkError.NoMemory) }
-        ensures outbox { self.new.outbox ≡ self.old.outbox }
-        ensures err { OnErr result (self.new ≡ self.old) }
     {
         let window = self.station.outgoing.window() as usize;
         self.answers.reserve(window, SHORT_FRAMES)?;
@@ -121,11 +114,7 @@ impl Link {
     ///
     /// 13 where it is closed, then 70.
     pub fn disconnect(&mut self) -> Result<Step<'static>, LinkError>
-        ensures state { (c : Settings) (s : StationState) → FitsLink c self.old s → OnOk result (FitsLink c self.new (disconnect_step c s).side.near) }
-        ensures answer { (c : Settings) (s : StationState) → FitsLink c self.old s → IfOk result (λ answer. IsAnswer c answer (disconnect_step c s)) }
-        ensures refused { (c : Settings) (s : StationState) → FitsLink c self.old s → Refuses (disconnect_refusal s.phase) result }
-        ensures outbox { self.new.outbox ≡ self.old.outbox }
-        ensures err { OnErr result (self.new ≡ self.old) }
+        ensures { Does self.old self.new result (λ s. disconnect_refusal s.phase) disconnect_step }
     {
         match self.station.phase {
             Phase::Down | Phase::Waiting | Phase::Up => {}
@@ -140,11 +129,7 @@ impl Link {
     ///
     /// 11 where the timer doesn't run, then 70.
     pub fn t1(&mut self) -> Result<Step<'static>, LinkError>
-        ensures state { (c : Settings) (s : StationState) → FitsLink c self.old s → OnOk result (FitsLink c self.new (timer_step c s).side.near) }
-        ensures answer { (c : Settings) (s : StationState) → FitsLink c self.old s → IfOk result (λ answer. IsAnswer c answer (timer_step c s)) }
-        ensures refused { (c : Settings) (s : StationState) → FitsLink c self.old s → Refuses (timer_refusal s) result }
-        ensures outbox { self.new.outbox ≡ self.old.outbox }
-        ensures err { OnErr result (self.new ≡ self.old) }
+        ensures { Does self.old self.new result timer_refusal timer_step }
     {
         if !self.station.timer_runs() {
             return Err(LinkError::NotRunning);
@@ -157,9 +142,7 @@ impl Link {
     /// Leaves Up without a frame, and notes LinkDown(counts) (profile). It takes no memory.
     pub fn abandon(&mut self) -> Step<'static>
         requires { up_of self.old ≡ true }
-        ensures state { (c : Settings) (s : StationState) → FitsLink c self.old s → FitsLink c self.new (abandon_step c s).side.near }
-        ensures answer { (c : Settings) (s : StationState) → FitsLink c self.old s → IsAnswer c result (abandon_step c s) }
-        ensures outbox { self.new.outbox ≡ self.old.outbox }
+        ensures { Does self.old self.new (Ok result) (λ s. None) abandon_step }
     {
         let heard = self.station.leave(Reason::Counts);
         self.answers.answered(heard)

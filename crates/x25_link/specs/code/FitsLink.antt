@@ -1,14 +1,15 @@
 -- What contracts see of a link, and the states of the definition that it fits.
-use Rattle.std.specs.Prelude.{◌≡◌, ℕ, Bool, List, ◌++◌, length, map, false, option_copied}
+use Rattle.std.specs.Prelude.{◌≡◌, ℕ, Bool, List, Option, Result, ◌++◌, length, map, false, option_copied, IfOk, OnOk, OnErr}
 use Rattle.x25_frame.specs.Spelling.{spelling_of}
+use Rattle.x25_link.specs.declared.error.LinkError.{LinkError}
 use Rattle.x25_link.specs.declared.station.LinkStation.{LinkStation as StationCode}
 use Rattle.x25_link.specs.declared.step.Step as code
 use Rattle.x25_link.specs.OrderedLink.{Lists}
 use Rattle.x25_link.specs.code.Outbox.{ShownOutbox}
 use Rattle.x25_link.specs.Outgoing.{waits}
-use Rattle.x25_link.specs.Station.{Settings, LinkStation, lists_of, is_up, may_send, owes_ready}
-use Rattle.x25_link.specs.Hearing.{Step}
-use Rattle.x25_link.specs.Link.{put_step}
+use Rattle.x25_link.specs.LinkStation.{Settings, LinkStation, lists_of, is_up, may_send, owes_ready}
+use Rattle.x25_link.specs.MustSend.{Step}
+use Rattle.x25_link.specs.Steps.{Refuses, put_step}
 use Rattle.x25_link.specs.code.Fits.{FitsStation}
 
 -- the variables of the station, and the frames that `sent` will hand out, with the memory set aside for further ones
@@ -37,6 +38,15 @@ pub record IsAnswer (c : Settings) (answer : code.Step) (step : Step) : Type 0 w
   pub frames : map (λ frame. frame.items) answer.frames.items ≡ map (spelling_of c.role) step.side.out
   pub packet : option_copied answer.packet ≡ step.packet
   pub notes : answer.notes ≡ step.notes
+
+-- A call is refused as the definition says, or does its step: of each state that the link stood for it leaves that step's, with that step's
+-- answer. Where it is refused the link is as before. The frames that `sent` will hand out stay.
+pub record Does (old new : ShownLink) (result : Result code.Step LinkError) (refusal : LinkStation → Option LinkError) (step : Settings → LinkStation → Step) : Type 0 where
+  pub state : (c : Settings) (s : LinkStation) → FitsLink c old s → OnOk result (FitsLink c new (step c s).side.near)
+  pub answer : (c : Settings) (s : LinkStation) → FitsLink c old s → IfOk result (λ answer. IsAnswer c answer (step c s))
+  pub refused : (c : Settings) (s : LinkStation) → FitsLink c old s → Refuses (refusal s) result
+  pub outbox : new.outbox ≡ old.outbox
+  pub err : OnErr result (new ≡ old)
 
 -- ---- a link as one that keeps order
 

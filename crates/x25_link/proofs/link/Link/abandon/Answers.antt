@@ -1,4 +1,4 @@
-use Rattle.std.proofs.Common.{ap, [], sym, subst, refl, ◌∙◌}
+use Rattle.std.proofs.Common.{rules, ap, [], sym, subst, refl, ◌∙◌}
 use Rattle.x25_link.specs.declared.phase.Reason.TheVariants.{Counts}
 use Rattle.std.specs.Prelude.{option_copied}
 use Rattle.x25_link.specs.code.FitsLink.{ShownLink, FitsLink}
@@ -7,16 +7,19 @@ use Rattle.x25_link.specs.Link.{alone}
 use Rattle.x25_link.proofs.LinkLemmas.{closed_state, closed_out}
 use Rattle.x25_link.proofs.link.Link.abandon.Goals as goal
 
-pub returns-clause-state : goal.returns-clause-state
-returns-clause-state c = λ d s fits.
-    let inside = subst (λ (v : ShownLink). FitsLink d v s) (sym c.self.view_is) fits in
-    let heard = c.leave-heard.ensures.step d [] _ (alone s) (record { near = inside.near; out = c.self.invariant.0 }) in
-    let step : Step = leaves Counts (alone s) in
-    closed_state d _ step.side heard.side.near refl refl
-
-pub returns-clause-answer : goal.returns-clause-answer
-returns-clause-answer c = λ d s fits.
-    let inside = subst (λ (v : ShownLink). FitsLink d v s) (sym c.self.view_is) fits in
-    let heard = c.leave-heard.ensures.step d [] _ (alone s) (record { near = inside.near; out = c.self.invariant.0 }) in
-    let step : Step = leaves Counts (alone s) in
-    record { frames = closed_out d _ step.side refl refl (c.answered.ensures.frames ∙ heard.side.out); packet = ap option_copied c.answered.ensures.packet ∙ heard.packet; notes = c.answered.ensures.notes ∙ heard.notes }
+pub returns : goal.returns
+returns c = record {
+  state = λ d s fits.
+      let inside = subst (λ (v : ShownLink). FitsLink d v s) (sym c.self.view_is) fits in
+      let heard = c.leave-heard.ensures.step d [] _ (alone s) (record { near = inside.near; out = c.self.invariant.0 }) in
+      let step : Step = leaves Counts (alone s) in
+      closed_state d _ step.side heard.side.near refl refl;
+  answer = λ d s fits.
+      let inside = subst (λ (v : ShownLink). FitsLink d v s) (sym c.self.view_is) fits in
+      let heard = c.leave-heard.ensures.step d [] _ (alone s) (record { near = inside.near; out = c.self.invariant.0 }) in
+      let step : Step = leaves Counts (alone s) in
+      record { frames = closed_out d _ step.side refl refl (c.answered.ensures.frames ∙ heard.side.out); packet = ap option_copied c.answered.ensures.packet ∙ heard.packet; notes = c.answered.ensures.notes ∙ heard.notes };
+  refused = search rules;
+  outbox = search rules;
+  err = search rules;
+}

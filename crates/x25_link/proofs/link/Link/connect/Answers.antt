@@ -1,4 +1,4 @@
-use Rattle.std.proofs.Common.{ap, [], sym, subst, refl, ◌∙◌}
+use Rattle.std.proofs.Common.{rules, ap, [], sym, subst, refl, ◌∙◌}
 use Rattle.std.specs.Prelude.{option_copied}
 use Rattle.x25_link.specs.code.FitsLink.{ShownLink, FitsLink}
 use Rattle.x25_link.specs.Hearing.{Step}
@@ -6,16 +6,19 @@ use Rattle.x25_link.specs.Link.{alone, connects}
 use Rattle.x25_link.proofs.LinkLemmas.{closed_state, closed_out}
 use Rattle.x25_link.proofs.link.Link.connect.Goals as goal
 
-pub returns-clause-state : goal.returns-clause-state
-returns-clause-state c = λ d s fits.
-    let inside = subst (λ (v : ShownLink). FitsLink d v s) (sym c.self.view_is) fits in
-    let side = c.connect.ensures d [] (alone s) (record { near = inside.near; out = c.reserve.ensures.made ∙ c.self.invariant.0 }) in
-    let step : Step = connects (alone s) in
-    closed_state d _ step.side side.near refl refl
-
-pub returns-clause-answer : goal.returns-clause-answer
-returns-clause-answer c = λ d s fits.
-    let inside = subst (λ (v : ShownLink). FitsLink d v s) (sym c.self.view_is) fits in
-    let side = c.connect.ensures d [] (alone s) (record { near = inside.near; out = c.reserve.ensures.made ∙ c.self.invariant.0 }) in
-    let step : Step = connects (alone s) in
-    record { frames = closed_out d _ step.side refl refl (c.answered.ensures.frames ∙ side.out); packet = ap option_copied (c.answered.ensures.packet ∙ c.quiet.ensures.packet); notes = c.answered.ensures.notes ∙ c.quiet.ensures.notes }
+pub returns : goal.returns
+returns c = record {
+  state = λ d s fits.
+      let inside = subst (λ (v : ShownLink). FitsLink d v s) (sym c.self.view_is) fits in
+      let side = c.connect.ensures d [] (alone s) (record { near = inside.near; out = c.reserve.ensures.made ∙ c.self.invariant.0 }) in
+      let step : Step = connects (alone s) in
+      closed_state d _ step.side side.near refl refl;
+  answer = λ d s fits.
+      let inside = subst (λ (v : ShownLink). FitsLink d v s) (sym c.self.view_is) fits in
+      let side = c.connect.ensures d [] (alone s) (record { near = inside.near; out = c.reserve.ensures.made ∙ c.self.invariant.0 }) in
+      let step : Step = connects (alone s) in
+      record { frames = closed_out d _ step.side refl refl (c.answered.ensures.frames ∙ side.out); packet = ap option_copied (c.answered.ensures.packet ∙ c.quiet.ensures.packet); notes = c.answered.ensures.notes ∙ c.quiet.ensures.notes };
+  refused = search rules;
+  outbox = search rules;
+  err = search rules;
+}
