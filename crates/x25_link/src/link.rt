@@ -1,9 +1,9 @@
 ghost use Rattle.std.specs.Prelude.{◌≡◌, ℕ, ◌+◌, ◌-◌, ◌%◌, ◌<◌, ◌≤◌, ◌↔◌, ◌++◌, List, [], length, map, max, vec_len, Bool, true, false, Some, None, Ok, IfOk, IfErr, OnOk, OnErr, IsOk, IsErrOf};
 ghost use Rattle.x25_frame.specs.Spelling.{spelling_of};
-ghost use Rattle.x25_link.specs.LinkStation.{Settings, LinkStation as StationState, awaits_ua, with_nothing};
-ghost use Rattle.x25_link.specs.Steps.{Refuses, config_refusal, take_step, put_refusal, put_step, connect_refusal, connect_step, disconnect_refusal, disconnect_step, timer_refusal, timer_runs, timer_step, abandon_step, is_idle};
-ghost use Rattle.x25_link.specs.LinkError.{RefusesPut};
-ghost use Rattle.x25_link.specs.code.Link.{FitsLink, IsAnswer, Does, limit_of, up_of, waiting_of};
+ghost use Rattle.x25_link.specs.Station.{Settings, LinkStation as StationState, awaits_ua, with_nothing};
+ghost use Rattle.x25_link.specs.Link.{Refuses, config_refusal, take_step, put_refusal, put_step, connect_refusal, connect_step, disconnect_refusal, disconnect_step, timer_refusal, timer_runs, timer_step, abandon_step, is_idle};
+ghost use Rattle.x25_link.specs.Error.{RefusesPut};
+ghost use Rattle.x25_link.specs.code.FitsLink.{FitsLink, IsAnswer, Does, limit_of, up_of, waiting_of};
 ghost use Rattle.x25_link.specs.declared.phase.Phase.TheVariants.{Down};
 
 mod in_order;

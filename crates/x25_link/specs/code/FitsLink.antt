@@ -7,9 +7,9 @@ use Rattle.x25_link.specs.declared.step.Step as code
 use Rattle.x25_link.specs.OrderedLink.{Lists}
 use Rattle.x25_link.specs.code.Outbox.{ShownOutbox}
 use Rattle.x25_link.specs.Outgoing.{waits}
-use Rattle.x25_link.specs.LinkStation.{Settings, LinkStation, lists_of, is_up, may_send, owes_ready}
-use Rattle.x25_link.specs.MustSend.{Step}
-use Rattle.x25_link.specs.Steps.{Refuses, put_step}
+use Rattle.x25_link.specs.Station.{Settings, LinkStation, lists_of, is_up, may_send, owes_ready}
+use Rattle.x25_link.specs.Hearing.{Step}
+use Rattle.x25_link.specs.Link.{Refuses, put_step}
 use Rattle.x25_link.specs.code.Fits.{FitsStation}
 
 -- the variables of the station, and the frames that `sent` will hand out, with the memory set aside for further ones
