@@ -201,7 +201,7 @@ fn through_blocks(start: u64, octets: &[u8]) -> u64
     last_word(held)
 }
 
-/// The same: thirty-two at a time of sixty-four octets or more, of which eight at a time are taken first.
+/// The same: of sixty-four octets or more thirty-two at a time, behind those beyond a multiple of that; else eight at a time.
 #[inline(always)]
 fn through(start: u64, octets: &[u8]) -> u64
     requires { length octets.now % 8 ≡ 0 }
