@@ -1,17 +1,18 @@
 -- What octets are read as, and the channel that they name.
-use Rattle.std.proofs.Common.{◌≡◌, ◌≢◌, ℕ, ◌+◌, ◌*◌, ◌/◌, ◌%◌, ◌-◌, ◌<◌, ◌≤◌, ◌∙◌, List, [], ◌∷◌, length, Option, Some, None, Bool, true, false, Result, Ok, Err, if◌then◌else◌, slice_get, get_or, refl, sym, ap, subst, arith}
+use Rattle.std.proofs.Common.{◌≡◌, ◌≢◌, ℕ, ◌+◌, ◌*◌, ◌/◌, ◌%◌, ◌-◌, ◌<◌, ◌≤◌, ◌∙◌, List, [], ◌∷◌, length, Option, Some, None, Bool, true, false, Result, Ok, Err, if◌then◌else◌, IfOk, IfErr, slice_get, get_or, refl, sym, ap, subst, arith}
 use Rattle.std.proofs.lemmas.Option.{same_Some}
+use Rattle.x25_packet.specs.declared.packet.Packet.{Packet}
 use Rattle.x25_packet.specs.declared.error.PacketError.{PacketError}
 use Rattle.x25_packet.specs.declared.error.PacketError.TheVariants.{NoMemory}
-use Rattle.x25_packet.specs.Reading.FirstError.{FieldError, wrong_code, cut_off, out_of_range, BehindError, no_size, field_missing, in_field, user_long, CallError, no_lengths, digits_missing, wrong_digit, behind_digits, AcceptError, some_lengths, no_field, zero_size, behind_lengths, IsLengthError, IsBodyError, IsFirstError, no_header, wrong_format, no_packet, in_body}
-use Rattle.x25_packet.specs.Packet.{PlainPacket, call, accept, clear, clear_conf, user_data, rr, rnr, interrupt, interrupt_conf, reset, reset_conf, restart, restart_conf}
-use Rattle.x25_packet.specs.Reading.{packet_of, channel_in}
+use Rattle.x25_packet.specs.FirstError.{FieldError, wrong_code, cut_off, out_of_range, BehindError, no_size, field_missing, in_field, user_long, CallError, no_lengths, digits_missing, wrong_digit, behind_digits, AcceptError, some_lengths, no_field, zero_size, behind_lengths, IsLengthError, IsBodyError, IsFirstError, no_header, wrong_format, no_packet, in_body}
+use Rattle.x25_packet.specs.PlainPacket.{PlainPacket, plain, call, accept, clear, clear_conf, user_data, rr, rnr, interrupt, interrupt_conf, reset, reset_conf, restart, restart_conf}
+use Rattle.x25_packet.specs.Reading.{Gives, packet_of, channel_in}
 use Rattle.x25_packet.specs.Spelling.{HasChannel, channel_of, format_of, spelling_of, IsInRange, Spells}
 use Rattle.x25_circuit.specs.code.FitsCircuit.{user_octets}
 use Rattle.x25_layer.specs.Layer.{LayerSettings, Layer, LayerAnswer, answers_in, undecoded_in, is_channel, put_at, drops}
 use Rattle.x25_layer.specs.Rounds.{answer_to, undecoded_at}
 use Rattle.x25_layer.specs.Asking.{with_circuit}
-use Rattle.x25_layer.specs.Receiving.{circuit_hears, channel_hears, hears_on}
+use Rattle.x25_layer.specs.Receiving.{plain_read, IsOfChannel, brings, circuit_hears, channel_hears, hears_on}
 use Rattle.x25_layer.proofs.FitLemmas.{read_at}
 use Rattle.x25_layer.proofs.CallLemmas.{configured}
 use Rattle.x25_circuit.specs.declared.circuit.Circuit as circuit_code
@@ -147,6 +148,24 @@ pub hears_packet : (most : ℕ) (c : LayerSettings) (l : Layer) (octets : List �
 hears_packet most c l octets h v has spells at read =
     let same : channel_of v ≡ h = same_Some (channel_of v) h (sym (channel_named most v octets spells) ∙ at) in
     ap (λ (r : Result PlainPacket PacketError). answer_to c l octets r) read ∙ ready_hears c l v has l.restarting ∙ ap (λ (k : ℕ). hears_on c l l.restarting k (Ok v)) same
+
+-- what was read is of a channel, where it isn't RESTART or its confirmation
+pub of_channel : (most : ℕ) (octets : List ℕ) (read : Result Packet PacketError) → IfOk read (λ v. HasChannel (plain v)) → IfErr read (λ e. IsFirstError most octets e) → IsOfChannel (plain_read read)
+of_channel most octets (Ok packet) has fault = has
+of_channel most octets (Err e) has fault = error_reads most octets e fault
+
+-- .. by what was read
+pub hears_read : (most : ℕ) (c : LayerSettings) (l : Layer) (octets : List ℕ) (h : ℕ) (read : Result Packet PacketError) → IsOfChannel (plain_read read) → channel_in octets ≡ Some h → Gives read (packet_of most octets)
+    → IfOk read (λ v. Spells most (plain v) octets) → answer_to c l octets (packet_of most octets) ≡ hears_on c l l.restarting h (plain_read read)
+hears_read most c l octets h (Ok packet) has at exact found = hears_packet most c l octets h (plain packet) has found at exact
+hears_read most c l octets h (Err e) has at exact found = hears_error most c l octets h e at exact
+
+pub brings_few : (most : ℕ) (octets : List ℕ) (read : Result Packet PacketError) → IfOk read (λ v. Spells most (plain v) octets) → brings (plain_read read) ≤ length octets
+brings_few most octets (Ok packet) found =
+    let short = user_short (plain packet) in
+    let spelled = ap (λ (o : List ℕ). length o) found.spelling in
+    omega (arith, short, spelled)
+brings_few most octets (Err e) found = omega arith
 
 -- fewer than three octets are dropped
 pub hears_none : (most : ℕ) (c : LayerSettings) (l : Layer) (octets : List ℕ) → channel_in octets ≡ None → answer_to c l octets (packet_of most octets) ≡ drops l.restarting l.restarts l.circuits

@@ -27,20 +27,20 @@ use x25_packet::{Packet, PacketError, channel, decode_within, longest_user};
 // The circuit takes a packet, or octets that spell none, by their error.
 fn hear_circuit<'a>(
     circuit: &mut Circuit,
-    read: Result<Packet<'a>, PacketError>,
+    read: &Result<Packet<'a>, PacketError>,
 ) -> Result<Reply<'a>, CircuitError>
-    requires kind { IsOfChannel (plain_read read) }
+    requires kind { IsOfChannel (plain_read read.now) }
     requires left { HasCountsLeft circuit.old }
-    ensures next { (c : Settings) (x : Channel) → FitsCircuit c circuit.old x → OnOk result (FitsCircuit c circuit.new (circuit_hears c x (plain_read read.entry)).next) }
-    ensures says { (c : Settings) (x : Channel) → FitsCircuit c circuit.old x → IfOk result (λ reply. Says reply (circuit_hears c x (plain_read read.entry)).owed (circuit_hears c x (plain_read read.entry)).notices) }
+    ensures next { (c : Settings) (x : Channel) → FitsCircuit c circuit.old x → OnOk result (FitsCircuit c circuit.new (circuit_hears c x (plain_read read.now)).next) }
+    ensures says { (c : Settings) (x : Channel) → FitsCircuit c circuit.old x → IfOk result (λ reply. Says reply (circuit_hears c x (plain_read read.now)).owed (circuit_hears c x (plain_read read.now)).notices) }
     ensures range { IfOk result (λ reply. IsSendable (plain_owed reply.packet)) }
-    ensures missing { OnErr result (room_of circuit.old < min (brings (plain_read read.entry)) 4096) }
+    ensures missing { OnErr result (room_of circuit.old < min (brings (plain_read read.now)) 4096) }
     ensures unchanged { OnErr result (circuit.new ≡ circuit.old) }
     ensures room { IfOk result (λ reply. IfNone reply.packet (room_of circuit.old ≤ room_of circuit.new)) }
 {
     match read {
-        Ok(packet) => circuit.packet(&packet),
-        Err(error) => Ok(circuit.undecoded(error)),
+        Ok(packet) => circuit.packet(packet),
+        Err(error) => Ok(circuit.undecoded(*error)),
     }
 }
 
@@ -69,18 +69,18 @@ impl Layer {
     fn hear_channel<'a>(
         &mut self,
         channel: u16,
-        read: Result<Packet<'a>, PacketError>,
+        read: &Result<Packet<'a>, PacketError>,
     ) -> Result<Reply<'a>, LayerError>
         requires channel { is_channel (length self.old.circuits.items) channel ≡ true }
-        requires kind { IsOfChannel (plain_read read) }
+        requires kind { IsOfChannel (plain_read read.now) }
         requires left { HaveCountsLeft self.old.circuits.items }
-        ensures layer { (c : LayerSettings) (l : State) → FitsLayer c self.old l → OnOk result (FitsLayer c self.new (with_circuit l channel (circuit_hears c.circuit (l.circuits channel) (plain_read read.entry)).next)) }
-        ensures says { (c : LayerSettings) (l : State) → FitsLayer c self.old l → IfOk result (λ reply. Says reply (circuit_hears c.circuit (l.circuits channel) (plain_read read.entry)).owed (circuit_hears c.circuit (l.circuits channel) (plain_read read.entry)).notices) }
+        ensures layer { (c : LayerSettings) (l : State) → FitsLayer c self.old l → OnOk result (FitsLayer c self.new (with_circuit l channel (circuit_hears c.circuit (l.circuits channel) (plain_read read.now)).next)) }
+        ensures says { (c : LayerSettings) (l : State) → FitsLayer c self.old l → IfOk result (λ reply. Says reply (circuit_hears c.circuit (l.circuits channel) (plain_read read.now)).owed (circuit_hears c.circuit (l.circuits channel) (plain_read read.now)).notices) }
         ensures range { IfOk result (λ reply. IsSendable (plain_owed reply.packet)) }
         ensures memory { self.new.memory ≡ self.old.memory }
         ensures err { IfErr result (λ e. e ≡ LayerError.NoMemory) }
         ensures layer_stays { (c : LayerSettings) (l : State) → FitsLayer c self.old l → OnErr result (FitsLayer c self.new l) }
-        ensures enough { (len : ℕ) → brings (plain_read read.entry) ≤ len → HaveRoom len self.old.circuits.items → IsOk result }
+        ensures enough { (len : ℕ) → brings (plain_read read.now) ≤ len → HaveRoom len self.old.circuits.items → IsOk result }
         ensures room { (len : ℕ) → HaveRoom len self.old.circuits.items → IfOk result (λ reply. IfNone reply.packet (HaveRoom len self.new.circuits.items)) }
         ensures room_stays { (len : ℕ) → HaveRoom len self.old.circuits.items → OnErr result (HaveRoom len self.new.circuits.items) }
     {
@@ -97,18 +97,18 @@ impl Layer {
         &mut self,
         link: &mut L,
         channel: u16,
-        read: Result<Packet<'a>, PacketError>,
+        read: &Result<Packet<'a>, PacketError>,
     ) -> Result<Told<'a>, LayerError>
-        requires kind { IsOfChannel (plain_read read) }
+        requires kind { IsOfChannel (plain_read read.now) }
         requires left { HaveCountsLeft self.old.circuits.items }
         requires memory { 0 < self.old.memory }
         requires spares { 0 < L.spares link.old }
         requires up { L.up link.old ≡ true }
         requires free { L.waits link.old < 256 }
         requires longest { 4099 ≤ L.longest link.old }
-        ensures layer { (c : LayerSettings) (l : State) → FitsLayer c self.old l → OnOk result (FitsLayer c self.new (hears_on c l l.restarting channel (plain_read read.entry)).next) }
-        ensures link { (c : LayerSettings) (l : State) (x : L.State) → FitsLayer c self.old l → L.fits link.old x → OnOk result (L.fits link.new (after_all L.after_put x (option_to_list (hears_on c l l.restarting channel (plain_read read.entry)).owed))) }
-        ensures told { (c : LayerSettings) (l : State) → FitsLayer c self.old l → IfOk result (λ told. plain_told told ≡ (hears_on c l l.restarting channel (plain_read read.entry)).notices) }
+        ensures layer { (c : LayerSettings) (l : State) → FitsLayer c self.old l → OnOk result (FitsLayer c self.new (hears_on c l l.restarting channel (plain_read read.now)).next) }
+        ensures link { (c : LayerSettings) (l : State) (x : L.State) → FitsLayer c self.old l → L.fits link.old x → OnOk result (L.fits link.new (after_all L.after_put x (option_to_list (hears_on c l l.restarting channel (plain_read read.now)).owed))) }
+        ensures told { (c : LayerSettings) (l : State) → FitsLayer c self.old l → IfOk result (λ told. plain_told told ≡ (hears_on c l l.restarting channel (plain_read read.now)).notices) }
         ensures nothing { IfOk result (λ told. plain_told told ≡ [] → told ≡ Told.Nothing) }
         ensures memory { OnOk result (self.old.memory ≤ self.new.memory + 1) }
         ensures spares { OnOk result (L.spares link.old ≤ L.spares link.new + 1) }
@@ -119,7 +119,7 @@ impl Layer {
         ensures err { IfErr result (λ e. e ≡ LayerError.NoMemory) }
         ensures layer_stays { (c : LayerSettings) (l : State) → FitsLayer c self.old l → OnErr result (FitsLayer c self.new l) }
         ensures link_stays { (x : L.State) → L.fits link.old x → OnErr result (L.fits link.new x) }
-        ensures enough { (len : ℕ) → brings (plain_read read.entry) ≤ len → HaveRoom len self.old.circuits.items → IsOk result }
+        ensures enough { (len : ℕ) → brings (plain_read read.now) ≤ len → HaveRoom len self.old.circuits.items → IsOk result }
         ensures used { OnOk result (self.old.memory + L.spares link.new ≡ self.new.memory + L.spares link.old) }
         ensures room { (len : ℕ) → HaveRoom len self.old.circuits.items → L.spares link.new ≡ L.spares link.old → OnOk result (HaveRoom len self.new.circuits.items) }
         ensures memory_stays { OnErr result (self.new.memory ≡ self.old.memory) }
@@ -177,14 +177,15 @@ impl Layer {
         let Some(channel) = channel(octets) else {
             return Ok(Told::Nothing);
         };
-        let packet = match decode_within(longest_user(self.long_data), octets) {
-            Ok(packet) => packet,
-            Err(error) => return self.hear_on(link, channel, Err(error)),
-        };
-        match packet {
-            Packet::Restart { cause, diagnostic } => Ok(self.hear_restart(link, cause, diagnostic)),
-            Packet::RestartConf => Ok(self.hear_restart_conf(link)),
-            _ => self.hear_on(link, channel, Ok(packet)),
+        let read = decode_within(longest_user(self.long_data), octets);
+        match &read {
+            Ok(Packet::Restart { cause, diagnostic }) => Ok(self.hear_restart(
+                link,
+                *cause,
+                *diagnostic,
+            )),
+            Ok(Packet::RestartConf) => Ok(self.hear_restart_conf(link)),
+            _ => self.hear_on(link, channel, &read),
         }
     }
 

@@ -212,6 +212,7 @@ impl Station {
     }
 
     // Octets that the link takes.
+    #[inline(always)]
     fn take(&mut self, octets: &[u8]) -> Result<Step, StationError>
         requires left { up_of self.old.link ≡ true → IsNotFull self.old.layer }
         requires goes_on { (c : Settings) (s : State) → FitsStation c self.old s → abandons c s ≡ false }

@@ -14,7 +14,7 @@ hear_circuit-requires-clause-left c =
 pub returns-in-Ok-clause-layer : goal.returns-in-Ok-clause-layer
 returns-in-Ok-clause-layer c = λ s l fits.
     let at = found_at s c.args.self.now l c.args.channel c.from-place.result c.index_mut.result.now fits c.requires.channel c.from-place.ensures c.index_mut.ensures.value in
-    layer_put s c.args.self.now _ l c.args.channel (c.from-place.result - 1) c.hear_circuit.new.circuit (circuit_hears s.circuit (l.circuits c.args.channel) (plain_read c.args.read)).next fits at.0 (record { role = refl; long_data = refl; restarting = refl; restarts = refl }) refl
+    layer_put s c.args.self.now _ l c.args.channel (c.from-place.result - 1) c.hear_circuit.new.circuit (circuit_hears s.circuit (l.circuits c.args.channel) (plain_read c.args.read.now)).next fits at.0 (record { role = refl; long_data = refl; restarting = refl; restarts = refl }) refl
     (c.in-Ok.ensures.next s.circuit (l.circuits c.args.channel) at.1)
 
 pub returns-in-Ok-clause-says : goal.returns-in-Ok-clause-says

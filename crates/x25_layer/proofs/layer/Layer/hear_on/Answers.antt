@@ -12,7 +12,7 @@ returns-clause-layer g c = λ s l fits.
     let within : is_channel (length c.args.self.now.circuits.items) c.args.channel ≡ true = search rules in
     let is : is_channel s.channels c.args.channel ≡ true = subst (λ (n : ℕ). is_channel n c.args.channel ≡ true) fits.channels within in
     let ready : l.restarting ≡ false = sym fits.restarting ∙ c.if-self.false in
-    subst (λ (m : Layer). FitsLayer s c.put_owed.new.self m) (next_there s l c.args.channel (plain_read c.args.read) ready is)
+    subst (λ (m : Layer). FitsLayer s c.put_owed.new.self m) (next_there s l c.args.channel (plain_read c.args.read.now) ready is)
     (c.put_owed.ensures.fits s _ (c.in_ok-reply.ensures.layer s l fits))
 
 pub returns-clause-room : goal.returns-clause-room
