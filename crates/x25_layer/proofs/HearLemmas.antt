@@ -4,8 +4,8 @@ use Rattle.std.proofs.lemmas.Option.{same_Some}
 use Rattle.x25_packet.specs.declared.packet.Packet.{Packet}
 use Rattle.x25_packet.specs.declared.error.PacketError.{PacketError}
 use Rattle.x25_packet.specs.declared.error.PacketError.TheVariants.{NoMemory}
-use Rattle.x25_packet.specs.FirstError.{FieldError, wrong_code, cut_off, out_of_range, BehindError, no_size, field_missing, in_field, user_long, CallError, no_lengths, digits_missing, wrong_digit, behind_digits, AcceptError, some_lengths, no_field, zero_size, behind_lengths, IsLengthError, IsBodyError, IsFirstError, no_header, wrong_format, no_packet, in_body}
-use Rattle.x25_packet.specs.PlainPacket.{PlainPacket, plain, call, accept, clear, clear_conf, user_data, rr, rnr, interrupt, interrupt_conf, reset, reset_conf, restart, restart_conf}
+use Rattle.x25_packet.specs.Reading.FirstError.{FieldError, wrong_code, cut_off, out_of_range, BehindError, no_size, field_missing, in_field, user_long, CallError, no_lengths, digits_missing, wrong_digit, behind_digits, AcceptError, some_lengths, no_field, zero_size, behind_lengths, IsLengthError, IsBodyError, IsFirstError, no_header, wrong_format, no_packet, in_body}
+use Rattle.x25_packet.specs.Packet.{PlainPacket, plain, call, accept, clear, clear_conf, user_data, rr, rnr, interrupt, interrupt_conf, reset, reset_conf, restart, restart_conf}
 use Rattle.x25_packet.specs.Reading.{Gives, packet_of, channel_in}
 use Rattle.x25_packet.specs.Spelling.{HasChannel, channel_of, format_of, spelling_of, IsInRange, Spells}
 use Rattle.x25_circuit.specs.code.FitsCircuit.{user_octets}
