@@ -1,9 +1,10 @@
 -- Characters that are tested block by block, the last block over the one before it.
-use Rattle.std.proofs.Common.{ℕ, suc, ◌≡◌, ◌<◌, ◌≤◌, ◌+◌, ◌∙◌, Bool, true, false, cond, List, [], ◌∷◌, length, map, take, drop, get_or, refl, ap, sym, arith}
-use Rattle.std.specs.Prelude.{◌==◌, ◌&&◌, nat_lt}
+use Rattle.std.proofs.Common.{ℕ, suc, ◌≡◌, ◌<◌, ◌≤◌, ◌+◌, ◌%◌, ◌∙◌, Bool, true, false, cond, List, [], ◌∷◌, length, map, take, drop, get_or, refl, ap, sym, arith}
+use Rattle.std.specs.Prelude.{◌==◌, ◌&&◌, nat_le, nat_lt}
+use Rattle.std.specs.Simd.Lanes.{sel_l, top, zip2}
 use Rattle.std.specs.Char.{is_ascii_hexdigit}
 use Rattle.std.specs.List.{list_all}
-use Rattle.std.proofs.lemmas.Bool.{agree_below, agree_below_at, and_parts, eqb-true}
+use Rattle.std.proofs.lemmas.Bool.{agree_below, agree_below_at, and_parts, eqb-true, le-leb, leb-true, ltb-false, ltb-true}
 use Rattle.std.proofs.lemmas.List.{length-drop, take_all, take-append-drop, take-take}
 use Rattle.std.proofs.lemmas.List.Folds.{list_all-append}
 use Rattle.std.proofs.Math.Seq.{take-add}
@@ -19,6 +20,59 @@ digits_tested [] h = refl
 digits_tested (x ∷ v) h =
     let here : nat_lt (value_of x) 16 ≡ is_ascii_hexdigit x = agree_below_at (λ c. nat_lt (value_of c) 16) is_ascii_hexdigit 256 x all_tested (h 0) in
     λ i. here i && digits_tested v (λ j. h (suc j)) i
+
+-- .. by marks
+pub marks_tested : (f : ℕ → ℕ) (v : List ℕ) → agree_below (λ c. nat_le 246 (f c)) is_ascii_hexdigit 256 ≡ true → ((i : ℕ) → get_or v i 0 < 256)
+    → list_all (nat_le 246) (map f v) ≡ list_all is_ascii_hexdigit v
+marks_tested f [] t h = refl
+marks_tested f (x ∷ v) t h =
+    let here : nat_le 246 (f x) ≡ is_ascii_hexdigit x = agree_below_at (λ c. nat_le 246 (f c)) is_ascii_hexdigit 256 x t (h 0) in
+    λ i. here i && marks_tested f v t (λ j. h (suc j)) i
+
+all_turned : agree_below (λ m. nat_lt ((m + 10) % 256) 10) (nat_le 246) 256 ≡ true
+all_turned = refl
+
+-- marks that are turned so that those of digits are the least
+pub turned_tested : (v : List ℕ) → ((i : ℕ) → get_or v i 0 < 256) → list_all (λ x. nat_lt x 10) (map (λ x. (x + 10) % 256) v) ≡ list_all (nat_le 246) v
+turned_tested [] h = refl
+turned_tested (x ∷ v) h =
+    let here : nat_lt ((x + 10) % 256) 10 ≡ nat_le 246 x = agree_below_at (λ m. nat_lt ((m + 10) % 256) 10) (nat_le 246) 256 x all_turned (h 0) in
+    λ i. here i && turned_tested v (λ j. h (suc j)) i
+
+both_ways : (p q a b : Bool) → ((p && q) && (a && b)) ≡ ((p && a) && (q && b))
+both_ways true true a b = refl
+both_ways true false true b = refl
+both_ways true false false b = refl
+both_ways false q a b = refl
+
+no_more : (b : Bool) → (b && false) ≡ false
+no_more true = refl
+no_more false = refl
+
+lesser_passes : (x y : ℕ) → nat_le 246 (cond (top 7 (cond (nat_lt x y) 255 0)) x y) ≡ (nat_le 246 x && nat_le 246 y)
+lesser_passes x y = go (nat_lt x y) refl
+  where
+    first : (b : Bool) → x < y → nat_le 246 x ≡ b → nat_le 246 x ≡ (nat_le 246 x && nat_le 246 y)
+    first true h e = let large = leb-true 246 x e in e ∙ sym (λ i. e i && le-leb 246 y (omega (arith, large, h)) i)
+    first false h e = e ∙ sym (ap (λ b. b && nat_le 246 y) e)
+
+    second : (b : Bool) → y ≤ x → nat_le 246 y ≡ b → nat_le 246 y ≡ (nat_le 246 x && nat_le 246 y)
+    second true h e = let large = leb-true 246 y e in e ∙ sym (λ i. le-leb 246 x (omega (arith, large, h)) i && e i)
+    second false h e = e ∙ sym (no_more (nat_le 246 x)) ∙ ap (λ b. nat_le 246 x && b) (sym e)
+
+    go : (b : Bool) → nat_lt x y ≡ b → nat_le 246 (cond (top 7 (cond (nat_lt x y) 255 0)) x y) ≡ (nat_le 246 x && nat_le 246 y)
+    go true e = ap (λ b. nat_le 246 (cond (top 7 (cond b 255 0)) x y)) e ∙ first (nat_le 246 x) (ltb-true x y e) refl
+    go false e = ap (λ b. nat_le 246 (cond (top 7 (cond b 255 0)) x y)) e ∙ second (nat_le 246 y) (ltb-false x y e) refl
+
+-- the lesser marks are of digits where both are
+pub lesser_tested : (a b : List ℕ) → length a ≡ length b
+    → list_all (nat_le 246) (sel_l (map (top 7) (zip2 (λ x y. cond (nat_lt x y) 255 0) a b)) a b) ≡ (list_all (nat_le 246) a && list_all (nat_le 246) b)
+lesser_tested [] [] e = refl
+lesser_tested [] (y ∷ b) e = absurd (omega arith)
+lesser_tested (x ∷ a) [] e = absurd (omega arith)
+lesser_tested (x ∷ a) (y ∷ b) e =
+    (λ i. lesser_passes x y i && lesser_tested a b (omega arith) i)
+    ∙ both_ways (nat_le 246 x) (nat_le 246 y) (list_all (nat_le 246) a) (list_all (nat_le 246) b)
 
 tested : (b t : Bool) → b ≡ true → cond b t true ≡ true → t ≡ true
 tested true t p e = e
@@ -40,27 +94,15 @@ module _ (p : ℕ → Bool) where
   all_apart : (count : ℕ) (xs : List ℕ) → list_all p xs ≡ (list_all p (take count xs) && list_all p (drop count xs))
   all_apart count xs = ap (list_all p) (sym (take-append-drop count xs)) ∙ list_all-append p (take count xs) (drop count xs)
 
+  pub all_both : (count block : ℕ) (xs : List ℕ) → (list_all p (take count xs) && list_all p (take block (drop count xs))) ≡ list_all p (take (count + block) xs)
+  all_both count block xs = sym (ap (list_all p) (take-add count block xs) ∙ list_all-append p (take count xs) (take block (drop count xs)))
+
   -- a part of what passes
   pub all_part : (count block : ℕ) (xs : List ℕ) → list_all p xs ≡ true → list_all p (take block (drop count xs)) ≡ true
   all_part count block xs all =
       let rest = (and_parts (list_all p (take count xs)) (list_all p (drop count xs)) (sym (all_apart count xs) ∙ all)).1 in
       (and_parts (list_all p (take block (drop count xs))) (list_all p (drop block (drop count xs))) (sym (all_apart block (drop count xs)) ∙ rest)).0
 
-  and_false : (b : Bool) → (b && false) ≡ false
-  and_false true = refl
-  and_false false = refl
-
-  -- a block more
-  pub all_more : (count block : ℕ) (xs : List ℕ) → list_all p (take count xs) ≡ true → list_all p (take block (drop count xs)) ≡ true
-      → list_all p (take (count + block) xs) ≡ true
-  all_more count block xs before here =
-      ap (list_all p) (take-add count block xs) ∙ list_all-append p (take count xs) (take block (drop count xs)) ∙ (λ i. before i && here i)
-
-  -- a block that fails
-  pub all_fail : (count block : ℕ) (xs : List ℕ) → list_all p (take block (drop count xs)) ≡ false → list_all p xs ≡ false
-  all_fail count block xs here =
-      let rest : list_all p (drop count xs) ≡ false = all_apart block (drop count xs) ∙ ap (λ b. b && list_all p (drop block (drop count xs))) here in
-      all_apart count xs ∙ ap (λ b. list_all p (take count xs) && b) rest ∙ and_false (list_all p (take count xs))
 
   -- the last block
   pub all_last : (count place block : ℕ) (xs : List ℕ) → list_all p (take count xs) ≡ true → place ≤ count → place + block ≡ length xs
@@ -71,3 +113,14 @@ module _ (p : ℕ → Bool) where
       ∙ (and_parts (list_all p (take place (take count xs))) (list_all p (drop place (take count xs))) (sym (all_apart place (take count xs)) ∙ before)).0 in
       all_apart place xs ∙ ap (λ b. b && list_all p (drop place xs)) front
       ∙ ap (list_all p) (sym (take_all block (drop place xs) (omega (arith, length-drop place xs, end))))
+
+  -- .. whether it passes or not
+  pub all_over : (count place block : ℕ) (xs : List ℕ) → place ≤ count → place + block ≡ length xs
+      → (list_all p (take count xs) && list_all p (take block (drop place xs))) ≡ list_all p xs
+  all_over count place block xs le end = go (list_all p (take count xs)) refl
+    where
+      go : (b : Bool) → list_all p (take count xs) ≡ b → (list_all p (take count xs) && list_all p (take block (drop place xs))) ≡ list_all p xs
+      go true e = ap (λ b. b && list_all p (take block (drop place xs))) e ∙ sym (all_last count place block xs e le end)
+      go false e =
+          ap (λ b. b && list_all p (take block (drop place xs))) e
+          ∙ sym (all_apart count xs ∙ ap (λ b. b && list_all p (drop count xs)) e)

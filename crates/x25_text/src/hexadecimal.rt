@@ -1,5 +1,5 @@
 //! Octets from hexadecimal digits, and as such.
-ghost use Rattle.std.specs.Prelude.{◌≡◌, ◌==◌, ◌+◌, ◌*◌, ◌≤◌, ◌<◌, ◌++◌, ℕ, nat_lt, if◌then◌else◌, length, slice_index, take, drop, map, Some, None, IfSome, IsTrue};
+ghost use Rattle.std.specs.Prelude.{◌≡◌, ◌==◌, ◌&&◌, ◌+◌, ◌*◌, ◌≤◌, ◌<◌, ◌++◌, ℕ, nat_le, nat_lt, if◌then◌else◌, length, slice_index, take, drop, map, Some, None, IfSome, IsTrue};
 ghost use Rattle.std.specs.Char.{is_ascii_hexdigit};
 ghost use Rattle.std.specs.Int.{trailing_zeros, w64};
 ghost use Rattle.std.specs.List.{flat_map, list_all, prefix_len};
@@ -283,18 +283,54 @@ pub fn write_hexadecimal(octets: &[u8], digits: &mut [u8])
     write_eight(octets, digits, count - 8);
 }
 
-/// Whether the sixteen characters from a place on are digits.
-#[inline]
-fn sixteen_are_digits(text: &[u8], place: usize) -> bool
-    requires { place + 16 ≤ length text.now }
-    ensures { result ≡ list_all is_ascii_hexdigit (take 16 (drop place text.now)) }
+/// A mark for each of sixteen characters: 246 or more for a digit, less for another.
+#[inline(always)]
+fn marks(characters: u8x16) -> u8x16
+    ensures { list_all (nat_le 246) result ≡ list_all is_ascii_hexdigit characters }
 {
-    are_digits(values(u8x16::from_slice(&text[place..])))
+    let figures = characters + u8x16::splat(198);
+    // Of letters `A` to `F`, of either case, 250 and more, and then 246 and more.
+    let letters = (characters & u8x16::splat(0xdf)) + u8x16::splat(185);
+    let few = letters.simd_lt(u8x16::splat(4));
+    let letters = few.select(u8x16::splat(4), letters) - u8x16::splat(4);
+    figures.simd_lt(letters).select(letters, figures)
+}
+
+/// The marks of the sixteen characters from a place on.
+#[inline(always)]
+fn marks_at(text: &[u8], place: usize) -> u8x16
+    requires { place + 16 ≤ length text.now }
+    ensures { list_all (nat_le 246) result ≡ list_all is_ascii_hexdigit (take 16 (drop place text.now)) }
+{
+    marks(u8x16::from_slice(&text[place..]))
+}
+
+/// The lesser of two marks, sixteen times.
+#[inline(always)]
+fn lesser(first: u8x16, second: u8x16) -> u8x16
+    ensures { list_all (nat_le 246) result ≡ (list_all (nat_le 246) first && list_all (nat_le 246) second) }
+{
+    first.simd_lt(second).select(first, second)
+}
+
+#[inline(always)]
+fn are_below_ten(values: u8x16) -> bool
+    ensures { result ≡ list_all (λ value. nat_lt value 10) values }
+{
+    values.simd_lt(u8x16::splat(10)).all()
+}
+
+/// Whether all marks are of digits.
+#[inline(always)]
+fn are_of_digits(marks: u8x16) -> bool
+    ensures { result ≡ list_all (nat_le 246) marks }
+{
+    are_below_ten(marks + u8x16::splat(10))
 }
 
 /// Whether all characters are hexadecimal digits, of either case.
 ///
-/// Sixteen at a time; the last sixteen may be tested over some that were tested before.
+/// Sixteen at a time; the last sixteen may be tested over some that were tested before. The answer is taken of all marks at the end.
 pub fn is_hexadecimal(text: &[u8]) -> bool
     ensures { result ≡ list_all is_ascii_hexdigit text.now }
 {
@@ -302,10 +338,9 @@ pub fn is_hexadecimal(text: &[u8]) -> bool
     if count < 16 {
         return text.iter().all(|character| character.is_ascii_hexdigit());
     }
+    let mut least = u8x16::splat(255);
     for sixteen in 0..count / 16 {
-        if !sixteen_are_digits(text, 16 * sixteen) {
-            return false;
-        }
+        least = lesser(least, marks_at(text, 16 * sixteen));
     }
-    sixteen_are_digits(text, count - 16)
+    are_of_digits(lesser(least, marks_at(text, count - 16)))
 }

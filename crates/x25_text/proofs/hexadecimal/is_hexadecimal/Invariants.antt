@@ -1,8 +1,8 @@
-use Rattle.std.proofs.Common.{◌≡◌, ◌*◌, true, take}
+use Rattle.std.proofs.Common.{◌≡◌, ◌*◌, nat_le, take}
 use Rattle.std.specs.Char.{is_ascii_hexdigit}
 use Rattle.std.specs.List.{list_all}
 use Rattle.x25_text.proofs.hexadecimal.is_hexadecimal.Given as goal
 
--- the first characters are digits
+-- the least marks are of digits where the first characters are digits
 abbrev pub invariant-loop-sixteen : goal.invariant-loop-sixteen
-invariant-loop-sixteen l = list_all is_ascii_hexdigit (take (16 * l.sixteen) l.text) ≡ true
+invariant-loop-sixteen l = list_all (nat_le 246) l.least ≡ list_all is_ascii_hexdigit (take (16 * l.sixteen) l.text)
