@@ -51,7 +51,7 @@ told_with_frames cfg false told v w next at entries on f is = cc
 
 -- where frames aren't asked for none is held
 pub none_held : (cfg : Cfg) (tap : Bool) (v : ShownWorld) (w next : World) → tap ≡ false → FitsWorld cfg v next (gone_after tap w next) → FitsWorld cfg v next (all_of next)
-none_held cfg true v w next off f = cc
+none_held cfg true v w next off f = absurd (cc)
 none_held cfg false v w next off f = f
 
 -- of the first world, of which no entry tells

@@ -10,12 +10,12 @@ pub returns-in_err-tell_entries-clause-tells : goal.returns-in_err-tell_entries-
 returns-in_err-tell_entries-clause-tells g c = λ cfg old told w next f is h.
     let p = err_from_is_err_and c.from_residual.result c.from_residual.ensures.1 in
     let s = c.args.self.now in
-    rw p.1 (part_of_all old _ told _ _ _ (told_by s.tap w next c.args.at (map plain_entry s.told.items) is) (c.in_err-tell_entries.ensures.tells old told h))
+    rw p.1 (part_of_all old _ told _ _ _ (told_by s.tap w next c.args.at (map plain_entry s.told.items) is) (rw c.as_slice.ensures.value at (c.in_err-tell_entries.ensures.tells old told h)))
 
 pub returns-then-not-self-clause-tells : goal.returns-then-not-self-clause-tells
 returns-then-not-self-clause-tells g c = λ cfg old told w next f is h.
     let s = c.args.self.now in
-    subst (Tells old (g.W.Sink.contents c.tell_entries.new.writer) c.tell_entries.new.output) (told_alone s.tap told w next c.args.at (map plain_entry s.told.items) c.if-not-self.true is) (c.in_ok-tell_entries.ensures.tells old told h)
+    subst (Tells old (g.W.Sink.contents c.tell_entries.new.writer) c.tell_entries.new.output) (told_alone s.tap told w next c.args.at (map plain_entry s.told.items) c.if-not-self.true is) (rw c.as_slice.ensures.value at (c.in_ok-tell_entries.ensures.tells old told h))
 
 pub returns-then-not-self-clause-world : goal.returns-then-not-self-clause-world
 returns-then-not-self-clause-world g c = λ cfg w next f. none_held cfg c.args.self.now.tap c.args.self.now.world w next c.if-not-self.true f
@@ -24,7 +24,7 @@ pub returns-clause-tells : goal.returns-clause-tells
 returns-clause-tells g c = λ cfg old told w next f is h.
     let s = c.args.self.now in
     let both = told_with_frames cfg s.tap told s.world w next c.args.at (map plain_entry s.told.items) c.if-not-self.false f is in
-    MatchResult-weaker c.end_frames.result (c.end_frames.ensures.tells old _ (c.in_ok-tell_entries.ensures.tells old told h))
+    MatchResult-weaker c.end_frames.result (c.end_frames.ensures.tells old _ (rw c.as_slice.ensures.value at (c.in_ok-tell_entries.ensures.tells old told h)))
     (λ _ tells. subst (Tells old (g.W.Sink.contents c.end_frames.new.writer) c.end_frames.new.self.output) both tells)
     (λ _ begins. subst (AppendsPrefix old (g.W.Sink.contents c.end_frames.new.writer)) both begins)
 
