@@ -97,6 +97,7 @@ fn addressed<'a>(
 
 /// A CALL with at most `most` octets of user data: address lengths, digits, facility field and user data. Else the ground that is found
 /// first from its front on: 20 TooShort, 24 BadDigit, 25 and 26 of a facility, and 23 TooLong for more user data.
+#[inline(never)]
 pub fn call<'a>(most: usize, channel: u16, body: &'a [u8]) -> Result<Packet<'a>, PacketError>
     ensures { Gives result (call_of most channel body.now) }
 {

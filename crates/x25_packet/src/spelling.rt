@@ -144,6 +144,7 @@ fn append_digits(called: &Digits, calling: &Digits, octets: &mut Vec<u8>)
 }
 
 /// Appends what follows the type of a CALL.
+#[inline(never)]
 fn append_call(
     called: &Digits,
     calling: &Digits,
@@ -178,6 +179,7 @@ fn append_accept(facilities: &[u8], octets: &mut Vec<u8>)
 }
 
 /// Appends what follows the type.
+#[inline(always)]
 fn append_body(packet: &Packet, octets: &mut Vec<u8>)
     requires range { IsInRange 128 (plain packet.now) }
     requires room { vec_len octets.old + length (body_of (plain packet.now)) ≤ vec_capacity octets.old }
@@ -208,6 +210,7 @@ fn append_body(packet: &Packet, octets: &mut Vec<u8>)
     }
 }
 
+#[inline(always)]
 fn append_packet(packet: &Packet, octets: &mut Vec<u8>) -> Result<(), NoMemory>
     requires { IsInRange 128 (plain packet.now) }
     ensures ok { OnOk result (octets.new.items ≡ octets.old.items ++ spelling_of (plain packet.now)) }
@@ -227,6 +230,7 @@ fn append_packet(packet: &Packet, octets: &mut Vec<u8>) -> Result<(), NoMemory>
 /// The packet's fields are in their ranges, with at most 128 octets of user data in a CALL. It takes no memory where the
 /// capacity has room for the octets; else it is refused with `NoMemory` (70) where there is none. ITU-T X.25 (10/96),
 /// section 5.
+#[inline(always)]
 pub fn encode(packet: &Packet, octets: &mut Vec<u8>) -> Result<(), NoMemory>
     requires { IsInRange 128 (plain packet.now) }
     ensures ok { OnOk result (octets.new.items ≡ octets.old.items ++ spelling_of (plain packet.now)) }
