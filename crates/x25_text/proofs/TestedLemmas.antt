@@ -103,7 +103,6 @@ module _ (p : ℕ → Bool) where
       let rest = (and_parts (list_all p (take count xs)) (list_all p (drop count xs)) (sym (all_apart count xs) ∙ all)).1 in
       (and_parts (list_all p (take block (drop count xs))) (list_all p (drop block (drop count xs))) (sym (all_apart block (drop count xs)) ∙ rest)).0
 
-
   -- the last block
   pub all_last : (count place block : ℕ) (xs : List ℕ) → list_all p (take count xs) ≡ true → place ≤ count → place + block ≡ length xs
       → list_all p xs ≡ list_all p (take block (drop place xs))
