@@ -135,6 +135,37 @@ fn room<L: OrderedLink>(alloc: Global, layer: &mut Layer, link: &mut L) -> Resul
     Ok(format!(in alloc; "{enough}")?)
 }
 
+// Accepts by `ask`, where `refusal` foresees no refusal; else that is the answer.
+fn ask_to_accept<L: OrderedLink>(
+    layer: &mut Layer,
+    link: &mut L,
+    channel: u16,
+) -> Result<(), LayerError>
+    requires { 4099 ≤ L.longest link.old }
+{
+    let request = Request::Accept { answer: None };
+    if let Some(error) = layer.refusal(link, channel, &request) {
+        return Err(error);
+    }
+    layer.ask(link, channel, request)
+}
+
+// Sends a message, where `refuses_messages` foresees no refusal; else that is the answer.
+fn send<L: OrderedLink>(
+    layer: &mut Layer,
+    link: &mut L,
+    channel: u16,
+    q: bool,
+    user: Vec<u8>,
+) -> Result<(), LayerError>
+    requires { 4099 ≤ L.longest link.old }
+{
+    if let Some(error) = layer.refuses_messages(link, channel) {
+        return Err(error);
+    }
+    layer.send(link, channel, q, user)
+}
+
 // The user asks this, which answers no value. Of other events nothing happens.
 fn asks<L: OrderedLink>(layer: &mut Layer, link: &mut L, event: Event) -> Result<(), LayerError>
     requires { 4099 ≤ L.longest link.old }
@@ -145,7 +176,7 @@ fn asks<L: OrderedLink>(layer: &mut Layer, link: &mut L, event: Event) -> Result
         Pull => layer.pull(link),
         Accept(channel) => layer.accept(link, channel),
         AcceptWith(channel, values) => layer.accept_with(link, channel, params_of(values)),
-        AskToAccept(channel) => layer.ask(link, channel, Request::Accept { answer: None }),
+        AskToAccept(channel) => ask_to_accept(layer, link, channel),
         Clear(channel) => layer.clear(link, channel),
         Interrupt(channel, user) => layer.interrupt(link, channel, user),
         Reset(channel) => layer.reset(link, channel),
@@ -202,7 +233,7 @@ pub fn happens<L: OrderedLink>(
         }
         Send(channel, q, count) => {
             let user = vec![in alloc; 0u8; count]?;
-            done_text(alloc, layer.send(link, channel, q, user))
+            done_text(alloc, send(layer, link, channel, q, user))
         }
         _ => done_text(alloc, asks(layer, link, event)),
     };

@@ -1,5 +1,5 @@
 use std::test::Fail;
-use x25_text::{is_hexadecimal, read_hexadecimal, read_line, write_hexadecimal};
+use x25_text::{is_hexadecimal, read_digits, read_hexadecimal, read_line, write_hexadecimal};
 
 static DIGITS: [u8; 58] = *b"0123456789abcdefABCDEF0011223344556677889900aaBBccDDeeFF12";
 
@@ -11,6 +11,21 @@ fn reads_digits_as_hex_does(rt: HostRuntime) -> Result<(), Fail> {
         let wanted = hex::decode(rt.alloc(), digits)?;
         let mut octets = [0u8; 29];
         assert!(rt; read_hexadecimal(digits, &mut octets[..count]));
+        assert_eq!(rt; &octets[..count], wanted.as_slice());
+    }
+    Ok(())
+}
+
+/// For each number of octets, of characters that were tested before.
+#[test]
+fn reads_tested_digits_as_hex_does(rt: HostRuntime) -> Result<(), Fail> {
+    for count in 0..30usize {
+        let digits = &DIGITS[..2 * count];
+        let wanted = hex::decode(rt.alloc(), digits)?;
+        let mut octets = [0u8; 29];
+        if is_hexadecimal(digits) {
+            read_digits(digits, &mut octets[..count]);
+        }
         assert_eq!(rt; &octets[..count], wanted.as_slice());
     }
     Ok(())

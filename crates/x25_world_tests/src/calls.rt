@@ -1,7 +1,7 @@
 //! The calls of a world without their claims: a body that makes one of the world's own carries all that it promises.
 
 use std::alloc::Global;
-use x25_station::Cfg;
+use x25_station::{Cfg, Entry};
 use x25_world::{Bits, Direction, Event, Role, World, WorldError, WorldRefused};
 
 /// The number of a refusal, that of the station where it refuses.
@@ -37,6 +37,16 @@ pub fn establish(alloc: Global, cfg: Cfg) -> Result<Box<World>, WorldError> {
 
 pub fn apply(world: &mut World, event: Event) -> Result<(), WorldError> {
     world.apply(event)
+}
+
+/// The event happens; its entries come into the list, and its frames onto the tap with `taps` alone.
+pub fn step(
+    world: &mut World,
+    event: Event,
+    taps: bool,
+    told: &mut Vec<Entry>,
+) -> Result<(), WorldError> {
+    world.step(event, taps, told)
 }
 
 pub fn run(world: &mut World, events: &[Event]) -> Result<(), WorldRefused> {

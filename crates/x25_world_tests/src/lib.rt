@@ -19,3 +19,5 @@ mod refusals;
 mod rows;
 #[cfg(test)]
 mod set_ups;
+#[cfg(test)]
+mod steps;
