@@ -1,4 +1,4 @@
-"""Tests of the order in which `make x25` proves the libraries, with a stand-in for `rt`."""
+"""Tests of how `make x25` proves the libraries side by side, with a stand-in for `rt`."""
 
 import os
 import shutil
@@ -7,14 +7,18 @@ import subprocess
 import support
 from support import ToolCase
 
-# Refuses a library whose file `false` is there, and one before those that it stands on.
+# Refuses a library whose file `false` is there, one before those that it stands on, and one in a folder where it works already. What it
+# proved in one copy of the crates stands for all, as with rt.
 RT = b"""#!/bin/sh
 [ "$1" = lib ] || exit 2
 [ -e false ] && { echo "an open goal"; exit 1; }
 for low in $(cat stands_on); do
-    [ -e ../$low/proved ] || { echo "before $low"; exit 1; }
+    [ -e "$KEPT/$low" ] || { echo "before $low"; exit 1; }
 done
-touch proved
+mkdir ../locked || { echo "another run works here"; exit 1; }
+sleep 0.05
+rmdir ../locked
+touch "$KEPT/$(basename "$PWD")" out
 """
 
 CRATES = {"low": "", "left": "low", "right": "low", "high": "left right low", "apart": "", "program": "high low"}
@@ -33,7 +37,9 @@ class Prove(ToolCase):
         os.makedirs(f"{self.folder}/.ci")
         shutil.copy(f"{support.ROOT}/.ci/prove", f"{self.folder}/.ci")
         os.chmod(self.file("rt", RT), 0o755)
-        environment = dict(os.environ, PATH=f"{self.folder}:{os.environ['PATH']}")
+        os.makedirs(f"{self.folder}/kept")
+        self.file("HANDLES", b"Handles allowed: none.\n")
+        environment = dict(os.environ, PATH=f"{self.folder}:{os.environ['PATH']}", KEPT=f"{self.folder}/kept")
         ran = subprocess.run([f"{self.folder}/.ci/prove", name], env=environment, capture_output=True, text=True)
         return ran.returncode, [line.partition(":")[0] for line in ran.stdout.splitlines()], ran.stderr
 
@@ -41,6 +47,11 @@ class Prove(ToolCase):
         status, proved, said = self.proves("program")
         self.assertEqual((status, sorted(proved), said), (0, ["high", "left", "low", "right"], ""))
         self.assertEqual((proved[0], proved[-1]), ("low", "high"))
+
+    def test_all_is_built_in_this_checkout_and_the_copies_go(self):
+        self.proves("program")
+        built = [crate for crate in CRATES if os.path.exists(f"{self.folder}/crates/{crate}/out")]
+        self.assertEqual((built, os.listdir(f"{self.folder}/build")), (["low", "left", "right", "high"], []))
 
     def test_nothing_is_below(self):
         self.assertEqual(self.proves("apart"), (0, [], ""))
