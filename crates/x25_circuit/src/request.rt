@@ -58,6 +58,7 @@ impl Circuit {
     /// Does what is asked, as the call of that name. It answers the packet to send, where there is one.
     ///
     /// Refused as that call, by 30, 31, 32, 33 or 34, and then the circuit is as before.
+    #[inline(always)]
     pub fn ask<'a>(&mut self, request: Request<'a>) -> Result<Option<Packet<'a>>, CircuitError>
         ensures outcome { (c : Settings) (x : Channel) → FitsCircuit c self.old x → AnswersRequest c self.new result (outcome c x (plain_request request.entry)) }
         ensures range { IfOk result (λ packet. IsSendable (plain_sent packet)) }

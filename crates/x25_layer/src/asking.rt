@@ -28,6 +28,7 @@ fn puts_at_once(request: &Request<'_>) -> bool
 
 impl Layer {
     // The circuit of a channel does what is asked.
+    #[inline(always)]
     fn ask_circuit<'a>(
         &mut self,
         channel: u16,
@@ -64,6 +65,7 @@ impl Layer {
     }
 
     /// Asks the circuit of a configured channel, where neither the link nor a restart nor a full queue refuses it.
+    #[inline(always)]
     pub(crate) fn ask_ready<L: OrderedLink>(
         &mut self,
         link: &mut L,
@@ -137,6 +139,8 @@ impl Layer {
     /// Asks the circuit of a channel, puts its packet, where there is one, and pulls: all calls with a channel in one.
     ///
     /// 9 NotUp, 40 Restarting, 42 NoSuchChannel, 10 QueueFull but for a message, then as the circuit refuses it, and else 70 alone.
+    // It and what it calls stand in their callers' place, where the kind of the request is known and it needn't be copied whole.
+    #[inline(always)]
     pub fn ask<L: OrderedLink>(
         &mut self,
         link: &mut L,

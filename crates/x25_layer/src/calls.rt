@@ -132,6 +132,7 @@ impl Layer {
     ///
     /// 9 NotUp, 40 Restarting, 42 NoSuchChannel, then 30 WrongState of the circuit outside of p4 with d1, 32 TooLong and 31 Full
     /// where 8 messages wait, and else 70 alone. That 256 packets wait in the link doesn't refuse it.
+    #[inline(always)]
     pub fn send<L: OrderedLink>(
         &mut self,
         link: &mut L,

@@ -51,6 +51,7 @@ fn copied_text(alloc: Global, text: &str) -> Result<String, StationError>
 }
 
 // What is asked of a channel, for an entry. Which packet sizes and windows an acceptance shows is known once it is done.
+#[inline(always)]
 fn asked_of(alloc: Global, request: &Request<'_>) -> Result<Asked, StationError>
     ensures ok { IfOk result (λ asked. (x : Circuit) → shown x (plain_asked asked) ≡ shown x (plain_request request.now)) }
     ensures err { IfErr result (λ e. e ≡ StationError.NoMemory) }
@@ -102,6 +103,7 @@ fn asked_call(
 }
 
 // An acceptance shows the packet sizes and windows in force on its channel.
+#[inline(always)]
 fn as_shown(layer: &Layer, channel: u16, asked: Asked) -> Asked
     ensures { (c : LayerSettings) (l : LayerState) → FitsLayer c layer.now l → is_channel c.channels channel ≡ true → plain_asked result ≡ shown (l.circuits channel) (plain_asked asked) }
 {
@@ -121,12 +123,13 @@ impl Station {
     /// 40 while a restart is under way; one with a channel then with 42 where it isn't configured and a call with 41 where no
     /// channel is free; then, but for a message, with 10 where 256 packets wait; and then as the circuit refuses it, with 30 to 34.
     /// Else 70 alone, and 70 may come in place of each of these. The station is as before then.
+    #[inline(always)]
     pub fn command(&mut self, command: Cmd<'_>) -> Result<Step, StationError>
         ensures { Does self.old self.new result (λ c s. commands c s (command_of command.entry)) }
     {
         match self.refusal(&command) {
             Some(error) => Err(StationError::Layer(error)),
-            None => self.carry_out(command),
+            None => self.carry_out(&command),
         }
     }
 
@@ -168,8 +171,8 @@ impl Station {
 
     // Does what the user asks.
     #[inline(never)]
-    fn carry_out(&mut self, command: Cmd<'_>) -> Result<Step, StationError>
-        ensures { Does self.old self.new result (λ c s. commands c s (command_of command.entry)) }
+    fn carry_out(&mut self, command: &Cmd<'_>) -> Result<Step, StationError>
+        ensures { Does self.old self.new result (λ c s. commands c s (command_of command.now)) }
     {
         match command {
             Cmd::Call {
@@ -182,15 +185,15 @@ impl Station {
                 calling,
                 user,
                 params,
-            } => self.call(called, calling, user, params),
-            Cmd::Accept { channel } => self.ask(channel, Request::Accept { answer: None }),
-            Cmd::AcceptWith { channel, params } => self.accept_with(channel, params),
-            Cmd::Clear { channel } => self.ask(channel, Request::Clear),
-            Cmd::Send { channel, q, user } => self.send(channel, q, user),
-            Cmd::Interrupt { channel, user } => self.ask(channel, Request::Interrupt { user }),
-            Cmd::Reset { channel } => self.ask(channel, Request::Reset),
-            Cmd::Ready { channel } => self.ask(channel, Request::Ready),
-            Cmd::NotReady { channel } => self.ask(channel, Request::NotReady),
+            } => self.call(called, calling, user, *params),
+            Cmd::Accept { channel } => self.ask(*channel, Request::Accept { answer: None }),
+            Cmd::AcceptWith { channel, params } => self.accept_with(*channel, *params),
+            Cmd::Clear { channel } => self.ask(*channel, Request::Clear),
+            Cmd::Send { channel, q, user } => self.send(*channel, *q, user),
+            Cmd::Interrupt { channel, user } => self.ask(*channel, Request::Interrupt { user }),
+            Cmd::Reset { channel } => self.ask(*channel, Request::Reset),
+            Cmd::Ready { channel } => self.ask(*channel, Request::Ready),
+            Cmd::NotReady { channel } => self.ask(*channel, Request::NotReady),
             Cmd::Restart => self.restart(),
             Cmd::Pull => self.pull(),
             Cmd::Connect => self.connect_asked(),
@@ -266,6 +269,7 @@ impl Station {
     }
 
     // A message, which is handed to the layer as a copy.
+    #[inline(always)]
     fn send(&mut self, channel: u16, q: bool, user: &[u8]) -> Result<Step, StationError>
         ensures { Does self.old self.new result (λ c s. requests c s (Asks channel (CircuitSends q user.now))) }
     {
@@ -274,6 +278,7 @@ impl Station {
     }
 
     // What is asked of the circuit of a channel.
+    #[inline(always)]
     fn ask(&mut self, channel: u16, request: Request<'_>) -> Result<Step, StationError>
         ensures { Does self.old self.new result (λ c s. requests c s (Asks channel (plain_request request.entry))) }
     {

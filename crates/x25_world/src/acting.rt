@@ -78,6 +78,7 @@ fn act(
 }
 
 // The user of the end asks for something.
+#[inline(always)]
 fn command(
     at: Role,
     near: &mut Station,
