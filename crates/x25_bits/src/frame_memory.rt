@@ -137,11 +137,13 @@ impl<const ROOM: usize, const MOST: usize> Blanks<ROOM, MOST> {
         self.reserve_more(count)
     }
 
-    /// Promises memory for at least so many frames, where blanks for them are kept. It says whether it did.
+    /// Promises memory for at least so many frames, where blanks for them are kept. It says whether it did: always where no more are asked
+    /// for than are promised.
     #[inline(always)]
     pub fn promises(&mut self, count: usize) -> bool
         ensures promised { result ≡ true → self.new ≡ max self.old count }
         ensures same { result ≡ false → self.new ≡ self.old }
+        ensures more { result ≡ false → self.old < count }
     {
         let is_kept = count <= self.blanks.len();
         if is_kept {

@@ -4,6 +4,8 @@
 #[cfg(test)]
 mod deframing;
 #[cfg(test)]
+mod frame_memory;
+#[cfg(test)]
 mod harmless_bits;
 #[cfg(test)]
 mod idle_lines;

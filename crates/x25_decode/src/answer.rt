@@ -5,13 +5,10 @@ ghost use Rattle.x25_decode.specs.Decoding.{answer_to, is_refused, mark_of, n1, 
 ghost use Rattle.x25_decode.specs.code.Front.{StandsInFront};
 ghost use Rattle.x25_text.specs.FrameText.{reading_text};
 
-use x25_frame::{Role, decode};
+use x25_frame::{N1, Role, decode};
 use x25_text::{
     MOST_OCTETS, MOST_TEXT, ROOM, Text, push_fault, push_frame, read_hexadecimal, read_line,
 };
-
-/// The most octets of information in an I frame.
-const N1: usize = 4_099;
 
 /// The most characters of an answer, with its mark, a space and its line feed.
 pub const MOST_ANSWER: usize = MOST_TEXT + 3;

@@ -13,7 +13,7 @@ mod spelling;
 
 pub use address::command_address;
 pub use error::FrameError;
-pub use frame::Frame;
+pub use frame::{Frame, N1};
 pub use law::{reading_is_the_grammar, reads_what_is_spelled};
 pub use reading::decode;
 pub use spelling::encode;

@@ -13,12 +13,9 @@ use crate::rule_text::{MOST_RULE, push_rule};
 use crate::sides::{End, Sides};
 use std::alloc::{AllocError, Global};
 use x25_decode::read_sent;
-use x25_frame::{Frame, Role, decode};
+use x25_frame::{Frame, N1, Role, decode};
 use x25_packet_judge::{Book, PacketRule};
 use x25_text::{MOST_OCTETS, MOST_TEXT, ROOM, Text, push_fault, push_frame};
-
-/// The most octets of information in an I frame.
-const N1: usize = 4_099;
 
 /// The most characters of the rule that a frame breaks, and of the end in front of it; no note has as many.
 const MOST_REMARK: usize = MOST_RULE + 8;

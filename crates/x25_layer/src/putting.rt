@@ -10,14 +10,14 @@ ghost use Rattle.x25_packet.specs.Spelling.{IsInRange, spelling_of};
 use crate::error::LayerError;
 use crate::layer::Layer;
 use x25_bits::Blanks;
-use x25_link::{LONGEST_PACKET, OrderedLink};
+use x25_link::{N1, OrderedLink};
 use x25_packet::{Packet, encode};
 
 /// The most packets that a call puts: its own, and the data packets pulled behind it.
 pub(crate) const MOST_PUT: usize = 16;
 
 /// Memory for packets that are put. No more blanks are kept than a call puts, or than are promised.
-pub(crate) type PacketMemory = Blanks<LONGEST_PACKET, MOST_PUT>;
+pub(crate) type PacketMemory = Blanks<N1, MOST_PUT>;
 
 impl Layer {
     /// Sets memory aside, here and in the link, for so many packets.

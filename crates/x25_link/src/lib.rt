@@ -25,9 +25,9 @@ pub use law::{
     sets_up_by_rows, tells_whether_busy,
 };
 pub use link::Link;
-pub use octets::LONGEST_PACKET;
 pub use ordered_link::OrderedLink;
 pub use phase::{Notes, Phase, Reason};
 pub use plain_link::PlainLink;
 pub use step::Step;
 pub use x25_bits::Role;
+pub use x25_frame::N1;

@@ -10,7 +10,7 @@ mod in_order;
 
 use crate::error::LinkError;
 use crate::heard::Heard;
-use crate::octets::{LONGEST_PACKET, Octets};
+use crate::octets::Octets;
 use crate::outbox::Outbox;
 use crate::outgoing::Outgoing;
 use crate::phase::{Phase, Reason};
@@ -20,6 +20,7 @@ use crate::waiting_packets::PLACES;
 use std::alloc::Global;
 use std::marker::Model;
 use x25_bits::{Role, Seq};
+use x25_frame::N1;
 use x25_window::Receiver;
 
 /// The most other frames that one call sends.
@@ -56,7 +57,7 @@ impl Link {
         ensures none_kept { IfOk result (λ l. l.outbox ≡ record { made = []; long = 0; short = 0 }) }
         ensures refused { Refuses (config_refusal k n1 n2) result }
     {
-        if k < 1 || k > FRAMES || n1 < 1 || n1 > LONGEST_PACKET || n2 < 1 {
+        if k < 1 || k > FRAMES || n1 < 1 || n1 > N1 || n2 < 1 {
             return Err(LinkError::BadConfig);
         }
         let Some(outgoing) = Outgoing::new(alloc, k)? else {

@@ -3,11 +3,12 @@ ghost use Rattle.x25_link.specs.OrderedLink.{Lists, no_packets, acked_more};
 ghost use Rattle.x25_link.specs.PlainLink.{ShownPlain, FitsPlain};
 
 use crate::error::LinkError;
-use crate::octets::{LONGEST_PACKET, Octets};
+use crate::octets::Octets;
 use crate::ordered_link::OrderedLink;
 use crate::waiting_packets::{PLACES, WaitingPackets};
 use std::alloc::Global;
 use std::marker::Model;
+use x25_frame::N1;
 
 /// A link that is always up and loses nothing: what is put comes out, in order (profile).
 #[derive(Drop)]
@@ -90,7 +91,7 @@ impl OrderedLink for PlainLink {
     ghost spares = { λ l. l.spare };
 
     fn limit(&self) -> usize {
-        LONGEST_PACKET
+        N1
     }
 
     fn waiting(&self) -> usize {

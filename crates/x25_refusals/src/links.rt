@@ -10,7 +10,7 @@ use crate::lines::{Lines, end_name};
 use crate::stations::end_of;
 use crate::wire::Wire;
 use std::alloc::{AllocError, Global};
-use x25_link::{LONGEST_PACKET, Link, LinkError, OrderedLink, Reason, Step};
+use x25_link::{Link, LinkError, N1, OrderedLink, Reason, Step};
 use x25_station::{Cfg, Cmd, Role};
 use x25_world::{Direction, Event};
 
@@ -35,7 +35,7 @@ pub(crate) struct Links {
 fn made(alloc: Global, role: Role, cfg: Cfg) -> Result<Box<Link>, LinkError> {
     boxed(
         alloc,
-        Link::new(alloc, role, cfg.k, LONGEST_PACKET, cfg.n2)?,
+        Link::new(alloc, role, cfg.k, N1, cfg.n2)?,
     )
     .ok_or(LinkError::NoMemory)
 }

@@ -24,4 +24,4 @@ pub use law::{
 pub use station::Station;
 pub use step::{MOST_ENTRIES, MOST_FRAMES, Step};
 pub use x25_bits::Role;
-pub use x25_link::LONGEST_PACKET;
+pub use x25_frame::N1;

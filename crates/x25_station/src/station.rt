@@ -8,8 +8,9 @@ use crate::lists::Lists;
 use crate::step::Step;
 use std::alloc::Global;
 use x25_bits::{Blanks, Role, Seq};
+use x25_frame::N1;
 use x25_layer::{Layer, LayerError, Stretch};
-use x25_link::{LONGEST_PACKET, Link, LinkError};
+use x25_link::{Link, LinkError};
 
 /// A station of X.25, DTE or DCE: its link and its packet layer.
 ///
@@ -48,7 +49,7 @@ impl Station {
         if cfg.channels < 1 || cfg.channels > 16 {
             return Err(StationError::BadConfig);
         }
-        let link = match Link::new(alloc, role, cfg.k, LONGEST_PACKET, cfg.n2) {
+        let link = match Link::new(alloc, role, cfg.k, N1, cfg.n2) {
             Ok(link) => link,
             Err(LinkError::BadConfig) => return Err(StationError::BadConfig),
             Err(_) => return Err(StationError::NoMemory),

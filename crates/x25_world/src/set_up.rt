@@ -7,8 +7,7 @@ ghost use Rattle.x25_world.specs.declared.set_up.SetUpFrame.{SetUpFrame};
 
 use crate::line::Line;
 use x25_bits::Role;
-use x25_frame::{Frame, decode};
-use x25_station::LONGEST_PACKET;
+use x25_frame::{Frame, N1, decode};
 
 /// A frame by which a link is set up: SABM, or the UA that answers it.
 #[derive(Clone, Copy)]
@@ -42,7 +41,7 @@ fn is_carried(frame: SetUpFrame, to: Role, line: &Line) -> bool
 fn reads_as(frame: SetUpFrame, from: Role, octets: &[u8]) -> bool
     ensures { result ≡ reads_as frame from octets.now }
 {
-    match decode(from, LONGEST_PACKET, octets) {
+    match decode(from, N1, octets) {
         Ok(Frame::Sabm { .. }) => matches!(frame, SetUpFrame::Sabm),
         Ok(Frame::Ua { .. }) => matches!(frame, SetUpFrame::Ua),
         _ => false,
