@@ -35,7 +35,7 @@ pub data PlainLine : Type 0 where
 
 abbrev pub plain_command : Command → PlainCommand
 plain_command (command_code.Call called calling user params) = call called.now calling.now user params
-plain_command (command_code.Accept channel params) = accept channel params
+plain_command (command_code.Accept params channel) = accept channel params
 plain_command (command_code.Clear channel) = clear channel
 plain_command (command_code.Send channel q user) = send channel q user
 plain_command (command_code.Interrupt channel user) = interrupt channel user

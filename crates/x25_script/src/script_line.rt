@@ -16,9 +16,10 @@ pub enum Command<'a> {
         user: HexDigits<'a>,
         params: Option<Params>,
     },
+    // The channel stands last: so the fields lie in the first eight octets, as those of the other variants do, and the value is copied by whole words.
     Accept {
-        channel: u16,
         params: Option<Params>,
+        channel: u16,
     },
     Clear {
         channel: u16,

@@ -105,6 +105,7 @@ fn command(
 }
 
 // The front frame on the line to the end arrives.
+#[inline(always)]
 fn deliver(
     at: Role,
     near: &mut Station,
@@ -145,6 +146,7 @@ fn give_back(near: &mut Station, octets: Option<Vec<u8>>)
 }
 
 // Timer T1 of the end runs out, which it doesn't while UA is awaited and can still come.
+#[inline(always)]
 fn fire(
     at: Role,
     near: &mut Station,
