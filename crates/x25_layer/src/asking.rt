@@ -9,7 +9,7 @@ ghost use Rattle.x25_layer.specs.Calls.{Asks, puts_at_once, outcome_on};
 ghost use Rattle.x25_layer.specs.Rounds.{Refuses, calls, went};
 ghost use Rattle.x25_layer.specs.code.FitsLayer.{FitsLayer};
 ghost use Rattle.x25_layer.specs.code.OverLink.{Answers, Does, view_of};
-ghost use Rattle.x25_layer.specs.Asking.{AsksCircuit, error_without_memory};
+ghost use Rattle.x25_layer.specs.Asking.{AsksCircuit, error_without_memory, call_refusal, messages_refusal};
 ghost use Rattle.x25_layer.specs.Room.{HaveRoom};
 
 use crate::error::LayerError;
@@ -96,7 +96,8 @@ impl Layer {
         channel: u16,
         request: &Request<'_>,
     ) -> Option<LayerError>
-        ensures { (c : LayerSettings) (l : State) (x : L.State) → FitsLayer c self.now l → L.fits link.now x → IfSome result (λ e. calls (view_of L.up_in L.waits_in L.after_put x) c l (Asks channel (plain_request request.now)) ≡ Refuses e) }
+        ensures value { (c : LayerSettings) (l : State) (x : L.State) → FitsLayer c self.now l → L.fits link.now x → result ≡ call_refusal (calls (view_of L.up_in L.waits_in L.after_put x) c l (Asks channel (plain_request request.now))) }
+        ensures refused { (c : LayerSettings) (l : State) (x : L.State) → FitsLayer c self.now l → L.fits link.now x → IfSome result (λ e. calls (view_of L.up_in L.waits_in L.after_put x) c l (Asks channel (plain_request request.now)) ≡ Refuses e) }
     {
         if !link.is_up() {
             return Some(LayerError::NotUp);
@@ -116,10 +117,12 @@ impl Layer {
         }
     }
 
-    /// Why `ask` would refuse any message on a channel now, if it would.
+    /// Why `ask` would refuse any message on a channel now, if it would. Where it wouldn't, a message is still refused where it is too
+    /// long, or where eight wait.
     #[inline(always)]
     pub fn refuses_messages<L: OrderedLink>(&self, link: &L, channel: u16) -> Option<LayerError>
-        ensures { (c : LayerSettings) (l : State) (x : L.State) (q : Bool) (user : List ℕ) → FitsLayer c self.now l → L.fits link.now x → IfSome result (λ e. calls (view_of L.up_in L.waits_in L.after_put x) c l (Asks channel (Sends q user)) ≡ Refuses e) }
+        ensures value { (c : LayerSettings) (l : State) (x : L.State) (q : Bool) (user : List ℕ) → FitsLayer c self.now l → L.fits link.now x → result ≡ messages_refusal (calls (view_of L.up_in L.waits_in L.after_put x) c l (Asks channel (Sends q user))) }
+        ensures refused { (c : LayerSettings) (l : State) (x : L.State) (q : Bool) (user : List ℕ) → FitsLayer c self.now l → L.fits link.now x → IfSome result (λ e. calls (view_of L.up_in L.waits_in L.after_put x) c l (Asks channel (Sends q user)) ≡ Refuses e) }
     {
         if !link.is_up() {
             return Some(LayerError::NotUp);

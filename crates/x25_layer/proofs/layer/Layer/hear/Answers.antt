@@ -1,6 +1,6 @@
-use Rattle.std.proofs.Common.{rules, ℕ, ◌≡◌, ◌≤◌, ◌∙◌, Some, length, option_to_list, OnOk, IfOk, sym, ap, subst, arith}
+use Rattle.std.proofs.Common.{rules, ℕ, ◌≡◌, ◌∙◌, option_to_list, OnOk, IfOk, sym, ap, subst, arith}
 use Rattle.x25_packet.specs.Packet.{plain}
-use Rattle.x25_packet.specs.Reading.{packet_of, channel_in}
+use Rattle.x25_packet.specs.Reading.{packet_of}
 use Rattle.x25_packet.specs.Spelling.{HasChannel, longest_user}
 use Rattle.x25_layer.specs.Layer.{LayerSettings, Layer, LayerAnswer}
 use Rattle.x25_layer.specs.code.FitsLayer.{FitsLayer}
