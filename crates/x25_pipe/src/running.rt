@@ -51,7 +51,11 @@ pub fn station<R: Source, W: Sink>(
     let mut piece = vec![in alloc; 0u8; PIECE]?;
     let held = HeldLine::new(alloc)?;
     let mut pipe = Pipe::new(alloc, end, cfg)?;
-    pipe.mark_standing(writer)?;
+    if let Err(fault) = pipe.mark_standing(writer) {
+        // By one call: as its scope ends a body lets go of the station part by part, which the prover follows.
+        drop(pipe);
+        return Err(fault);
+    }
     let lines = LineByLine::new(held, pipe);
     take_text(lines, piece.as_mut_slice(), reader, writer)
 }

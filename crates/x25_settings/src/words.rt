@@ -147,16 +147,39 @@ fn read_task<S: AsStr>(words: &[S]) -> Option<Task>
 const NOT_PLAIN: &str =
     "each option is one word, and its number the next one, without a sign and leading zeros: `--k 3`";
 
-/// The usage fault of words that aren't plain: the parser's, or one for words that the parser takes, as `--k=3`.
+/// What the parser says of words, `None` where it takes them.
+fn parser_fault<'a, S: AsStr>(
+    alloc: Global,
+    words: &'a [S],
+) -> Result<Option<clap::Error>, AllocError> {
+    match command(alloc)?.try_get_matches_from(words) {
+        Ok(matches) => {
+            drop(matches);
+            Ok(None)
+        }
+        Err(error) => Ok(Some(error)),
+    }
+}
+
+/// The fault of words that the parser takes and that aren't plain, as `--k=3`.
+fn not_plain(alloc: Global) -> Result<clap::Error, AllocError> {
+    let mut program = command(alloc)?;
+    let error = program.error(ErrorKind::UnknownArgument, NOT_PLAIN);
+    drop(program);
+    error
+}
+
+/// The parser's fault of words that aren't plain, or that of words that it takes.
+fn fault_of<'a, S: AsStr>(alloc: Global, words: &'a [S]) -> Result<clap::Error, AllocError> {
+    match parser_fault(alloc, words)? {
+        Some(error) => Ok(error),
+        None => not_plain(alloc),
+    }
+}
+
+/// The usage fault of words that aren't plain.
 fn usage_fault<'a, S: AsStr>(alloc: Global, words: &'a [S]) -> SettingsError {
-    let (Ok(parser), Ok(mut program)) = (command(alloc), command(alloc)) else {
-        return SettingsError::NoMemory;
-    };
-    let error = match parser.try_get_matches_from(words) {
-        Ok(_) => program.error(ErrorKind::UnknownArgument, NOT_PLAIN),
-        Err(error) => Ok(error),
-    };
-    match error {
+    match fault_of(alloc, words) {
         Ok(error) if error.kind() != ErrorKind::OutOfMemory => SettingsError::Usage(error),
         _ => SettingsError::NoMemory,
     }

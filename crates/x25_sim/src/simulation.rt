@@ -62,7 +62,11 @@ impl Simulation {
         ensures write { IsErrOf result Fault.Write → W.is_marked writer.new ≡ true }
         ensures memory { IsErrOf result Fault.NoMemory → (R.is_marked reader.new ≡ R.is_marked reader.old) × (W.is_marked writer.new ≡ W.is_marked writer.old) }
     {
-        self.stage.open(writer)?;
+        if let Err(fault) = self.stage.open(writer) {
+            // By one call: as its scope ends a body lets go of the stations part by part, which the prover follows.
+            drop(self);
+            return Err(fault);
+        }
         let simulator = Simulator::new(self.octets, self.stage);
         let lines = LineByLine::new(self.held, simulator);
         take_text(lines, self.piece.as_mut_slice(), reader, writer)

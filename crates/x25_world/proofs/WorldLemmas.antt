@@ -1,5 +1,5 @@
 -- An end that acts, in its world: the other end is as it was. And lists of events, one more at a time.
-use Rattle.std.proofs.Common.{◌≡◌, ℕ, ◌+◌, ◌<◌, ◌≤◌, nat_lt, ◌&&◌, Bool, true, false, if◌then◌else◌, List, [], ◌∷◌, ◌++◌, length, map, take, Option, Some, None, Result, Ok, Err, OnOk, OnErr, IfErr, ◌⊎◌, inl, inr, refl, ap, sym, ◌∙◌, subst, append_assoc, arith}
+use Rattle.std.proofs.Common.{◌≡◌, IfOk, ℕ, ◌+◌, ◌<◌, ◌≤◌, nat_lt, ◌&&◌, Bool, true, false, if◌then◌else◌, List, [], ◌∷◌, ◌++◌, length, map, take, Option, Some, None, Result, Ok, Err, OnOk, OnErr, IfErr, ◌⊎◌, inl, inr, refl, ap, sym, ◌∙◌, subst, append_assoc, arith}
 use Rattle.std.specs.List.{take-map}
 use Rattle.std.proofs.Math.ListN.{get_or}
 use Rattle.std.proofs.lemmas.Option.{slice_get-get_or}
@@ -283,6 +283,12 @@ goes_on_from Holds begin v cfg gone law begins h =
 -- a world that was just made
 pub new_run : (cfg : Cfg) (from : World) (v : ShownWorld) → config_refusal cfg ≡ None → FitsWorld cfg v from nothing_gone → FitsRun cfg from v [] nothing_gone
 new_run cfg from v fine fits = record { settings = fine; octets = tt; accepted = tt; fits = fits }
+
+-- .. where one was made
+pub made_world : (cfg : Cfg) (from : World) (P : ShownWorld → Type 0) (made : Result ShownWorld WorldError) → RefusesConfig made (config_refusal cfg) → IfOk made (λ v. FitsWorld cfg v from nothing_gone)
+    → ((v : ShownWorld) → FitsRun cfg from v [] nothing_gone → P v) → IfOk made P
+made_world cfg from P (Ok v) refused fits holds = holds v (new_run cfg from v (in_range (config_refusal cfg) v refused) fits)
+made_world cfg from P (Err e) refused fits holds = tt
 
 -- the claims on sessions together
 pub all_of_sessions : Throughout MeetInStep → Throughout AreLawfulWhereMet → Throughout AreNamedInSessions → Throughout AllArrive → Throughout UnmetAreToldNothing → Throughout OpenStretchesMeet → Throughout HasNoProcedureError → ThroughoutAlong SessionsStayInWindow

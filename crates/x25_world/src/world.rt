@@ -70,13 +70,29 @@ impl World {
     {
         two_stations_keep_order();
         stations_meet_in_sessions();
-        Ok(World {
-            dte: new_station(alloc, Role::Dte, cfg)?,
-            dce: new_station(alloc, Role::Dce, cfg)?,
-            line: Line::new(alloc),
-            transcript: Vec::new(alloc),
-            told: Vec::new(alloc),
-        })
+        World::down(alloc, cfg)
+    }
+
+    // The world of `start`. What is refused here and below is let go of by one call: as its scope ends a body does it part by part, which the
+    // prover follows.
+    fn down(alloc: Global, cfg: Cfg) -> Result<World, WorldError>
+        ensures fits { IfOk result (λ v. FitsWorld cfg v start nothing_gone) }
+        ensures refused { RefusesConfig result (config_refusal cfg) }
+    {
+        let dte = new_station(alloc, Role::Dte, cfg)?;
+        match new_station(alloc, Role::Dce, cfg) {
+            Ok(dce) => Ok(World {
+                dte,
+                dce,
+                line: Line::new(alloc),
+                transcript: Vec::new(alloc),
+                told: Vec::new(alloc),
+            }),
+            Err(error) => {
+                drop(dte);
+                Err(error)
+            }
+        }
     }
 
     /// Two stations whose links are down, and the DTE has asked that the link be set up: its SABM is on the line. No transcript tells of it.
@@ -95,9 +111,22 @@ impl World {
     {
         two_stations_keep_order();
         stations_meet_in_sessions();
-        let mut world = World::start(alloc, cfg)?;
-        world.connect()?;
-        Ok(world)
+        World::asking(alloc, cfg)
+    }
+
+    // The world of `connecting`.
+    fn asking(alloc: Global, cfg: Cfg) -> Result<World, WorldError>
+        ensures fits { IfOk result (λ v. FitsWorld cfg v (connected cfg) nothing_gone) }
+        ensures refused { RefusesConfig result (config_refusal cfg) }
+    {
+        let mut world = World::down(alloc, cfg)?;
+        match world.connect() {
+            Ok(()) => Ok(world),
+            Err(error) => {
+                drop(world);
+                Err(error)
+            }
+        }
     }
 
     // The DTE, whose link is down, asks that it be set up.
@@ -140,9 +169,22 @@ impl World {
     {
         two_stations_keep_order();
         stations_meet_in_sessions();
-        let mut world = World::connecting(alloc, cfg)?;
-        world.set_up()?;
-        Ok(world)
+        World::up(alloc, cfg)
+    }
+
+    // The world of `establish`.
+    fn up(alloc: Global, cfg: Cfg) -> Result<World, WorldError>
+        ensures fits { IfOk result (λ v. FitsWorld cfg v (established cfg) nothing_gone) }
+        ensures refused { RefusesConfig result (config_refusal cfg) }
+    {
+        let mut world = World::asking(alloc, cfg)?;
+        match world.set_up() {
+            Ok(()) => Ok(world),
+            Err(error) => {
+                drop(world);
+                Err(error)
+            }
+        }
     }
 
     // SABM and UA are delivered.

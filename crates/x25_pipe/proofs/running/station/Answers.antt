@@ -18,19 +18,18 @@ returns-in_err-pipe-clause-fault g c =
     rw p.1 (if_some (g.R.Source.remaining c.args.reader.now) _
     (λ input is few. nothing_written (g.W.Sink.contents c.args.writer.now) (station_text c.args.end c.args.cfg input)))
 
-pub returns-in_err-mark_standing-clause-fault : goal.returns-in_err-mark_standing-clause-fault
-returns-in_err-mark_standing-clause-fault g c =
-    let p = err_from_is_err_and c.from_residual-in_err-mark_standing.result c.from_residual-in_err-mark_standing.ensures.1 in
-    rw p.1 (if_some (g.R.Source.remaining c.args.reader.now) _
+pub returns-in-Err-clause-fault : goal.returns-in-Err-clause-fault
+returns-in-Err-clause-fault g c =
+    if_some (g.R.Source.remaining c.args.reader.now) _
     (λ input is few.
     let k = settings_from c.args.end c.args.cfg in
     let written = g.W.Sink.contents c.args.writer.now in
     let first = c.in_ok-pipe.ensures in
     mark_failed k written (g.W.Sink.contents c.mark_standing.new.writer) c.mark_standing.new.self input
-    (c.in_err-mark_standing.ensures.turns k written new_station [] false (stands_first k written c.in_ok-pipe.pipe first.fits first.role first.empty first.is_refused))))
+    (c.in-Err.ensures.turns k written new_station [] false (stands_first k written c.in_ok-pipe.pipe first.fits first.role first.empty first.is_refused)))
 
 pub returns-clause-clean : goal.returns-clause-clean
-returns-clause-clean g c = on_ok_weaker c.take_text.result (λ clean. (clean.0, clean.1 ∙ c.in_ok-mark_standing.ensures.faults.kept)) c.take_text.ensures.clean
+returns-clause-clean g c = on_ok_weaker c.take_text.result (λ clean. (clean.0, clean.1 ∙ c.in_default.ensures.faults.kept)) c.take_text.ensures.clean
 
 pub returns-clause-text : goal.returns-clause-text
 returns-clause-text g c =
@@ -40,7 +39,7 @@ returns-clause-text g c =
     c.take_text.ensures.text k written
     (λ input. input_begins k written (g.W.Sink.contents c.mark_standing.new.writer) c.mark_standing.new.self input c.new-lines.result.taker c.new-lines.result.held c.in_ok-held.held
     c.new-lines.ensures.held c.new-lines.ensures.taker c.in_ok-held.ensures
-    (c.in_ok-mark_standing.ensures.turns k written new_station [] false (stands_first k written c.in_ok-pipe.pipe first.fits first.role first.empty first.is_refused)))
+    (c.in_default.ensures.turns k written new_station [] false (stands_first k written c.in_ok-pipe.pipe first.fits first.role first.empty first.is_refused)))
 
 pub returns-clause-status : goal.returns-clause-status
 returns-clause-status g c =
@@ -50,7 +49,7 @@ returns-clause-status g c =
     c.take_text.ensures.status k written
     (λ input. input_begins k written (g.W.Sink.contents c.mark_standing.new.writer) c.mark_standing.new.self input c.new-lines.result.taker c.new-lines.result.held c.in_ok-held.held
     c.new-lines.ensures.held c.new-lines.ensures.taker c.in_ok-held.ensures
-    (c.in_ok-mark_standing.ensures.turns k written new_station [] false (stands_first k written c.in_ok-pipe.pipe first.fits first.role first.empty first.is_refused)))
+    (c.in_default.ensures.turns k written new_station [] false (stands_first k written c.in_ok-pipe.pipe first.fits first.role first.empty first.is_refused)))
 
 pub returns-clause-fault : goal.returns-clause-fault
 returns-clause-fault g c =
@@ -60,7 +59,7 @@ returns-clause-fault g c =
     c.take_text.ensures.fault k written
     (λ input. input_begins k written (g.W.Sink.contents c.mark_standing.new.writer) c.mark_standing.new.self input c.new-lines.result.taker c.new-lines.result.held c.in_ok-held.held
     c.new-lines.ensures.held c.new-lines.ensures.taker c.in_ok-held.ensures
-    (c.in_ok-mark_standing.ensures.turns k written new_station [] false (stands_first k written c.in_ok-pipe.pipe first.fits first.role first.empty first.is_refused)))
+    (c.in_default.ensures.turns k written new_station [] false (stands_first k written c.in_ok-pipe.pipe first.fits first.role first.empty first.is_refused)))
 
 pub returns-clause-ended : goal.returns-clause-ended
 returns-clause-ended g c =
@@ -70,4 +69,4 @@ returns-clause-ended g c =
     c.take_text.ensures.ended k written
     (λ input. input_begins k written (g.W.Sink.contents c.mark_standing.new.writer) c.mark_standing.new.self input c.new-lines.result.taker c.new-lines.result.held c.in_ok-held.held
     c.new-lines.ensures.held c.new-lines.ensures.taker c.in_ok-held.ensures
-    (c.in_ok-mark_standing.ensures.turns k written new_station [] false (stands_first k written c.in_ok-pipe.pipe first.fits first.role first.empty first.is_refused)))
+    (c.in_default.ensures.turns k written new_station [] false (stands_first k written c.in_ok-pipe.pipe first.fits first.role first.empty first.is_refused)))

@@ -1,5 +1,5 @@
 use Rattle.std.proofs.Common.{◌∙◌, ℕ, Bool, List}
-use Rattle.std.proofs.lemmas.Result.{err_from_is_err_and, on_ok_weaker}
+use Rattle.std.proofs.lemmas.Result.{on_ok_weaker}
 use Rattle.x25_station.specs.declared.config.Cfg.{Cfg}
 use Rattle.x25_io.proofs.ToldLemmas.{none_told}
 use Rattle.x25_sim.specs.code.Ready.{IsReady}
@@ -9,21 +9,20 @@ use Rattle.x25_sim.proofs.SimLemmas.{if_some, opening_failed, script_begins}
 use Rattle.x25_sim.proofs.simulation.Simulation.play.Given as given
 use Rattle.x25_sim.proofs.simulation.Simulation.play.Goals as goal
 
-pub returns-in_err-open-clause-fault : goal.returns-in_err-open-clause-fault
-returns-in_err-open-clause-fault g c = λ cfg down tap ready.
+pub returns-in-Err-clause-fault : goal.returns-in-Err-clause-fault
+returns-in-Err-clause-fault g c = λ cfg down tap ready.
     let s = c.args.self in
-    let p = err_from_is_err_and c.from_residual.result c.from_residual.ensures.1 in
-    rw p.1 (if_some (g.R.Source.remaining c.args.reader.now) _
+    if_some (g.R.Source.remaining c.args.reader.now) _
     (λ script is few.
     let written = g.W.Sink.contents c.args.writer.now in
     opening_failed cfg down tap s.stage.tap ready.tapped written (g.W.Sink.contents c.open.new.writer) c.open.new.self script
-    (c.in_err-open.ensures.stood cfg down written ready.opening ready.unrefused (none_told written s.stage.output ready.empty))))
+    (c.in-Err.ensures.stood cfg down written ready.opening ready.unrefused (none_told written s.stage.output ready.empty)))
 
 pub returns-clause-clean : goal.returns-clause-clean
-returns-clause-clean g c = on_ok_weaker c.take_text.result (λ clean. (clean.0, clean.1 ∙ c.in_ok-open.ensures.faults.kept)) c.take_text.ensures.clean
+returns-clause-clean g c = on_ok_weaker c.take_text.result (λ clean. (clean.0, clean.1 ∙ c.in_default.ensures.faults.kept)) c.take_text.ensures.clean
 
 -- the script is still to come
-begins : (g : given.Over) (c : goal.After-drop-self-2 g) (cfg : Cfg) (down tap : Bool) → IsReady cfg down tap c.args.self → (script : List ℕ)
+begins : (g : given.Over) (c : goal.After-drop-self g) (cfg : Cfg) (down tap : Bool) → IsReady cfg down tap c.args.self → (script : List ℕ)
     → LinesLead (λ lines. Simulates (record { cfg = cfg; down = down; tap = tap }) c.new-lines.result.taker (g.W.Sink.contents c.args.writer.now) (g.W.Sink.contents c.open.new.writer) lines script)
     c.new-lines.result.held script
 begins g c cfg down tap ready script =
@@ -31,7 +30,7 @@ begins g c cfg down tap ready script =
     let written = g.W.Sink.contents c.args.writer.now in
     script_begins cfg down tap s.stage.tap ready.tapped written (g.W.Sink.contents c.open.new.writer) c.open.new.self script c.new-lines.result.taker c.new-simulator.result c.new-lines.result.held s.held
     c.new-lines.ensures.held c.new-lines.ensures.taker c.new-simulator.ensures ready.held
-    (c.in_ok-open.ensures.stood cfg down written ready.opening ready.unrefused (none_told written s.stage.output ready.empty))
+    (c.in_default.ensures.stood cfg down written ready.opening ready.unrefused (none_told written s.stage.output ready.empty))
 
 pub returns-clause-text : goal.returns-clause-text
 returns-clause-text g c = λ cfg down tap ready.
