@@ -145,6 +145,7 @@ impl Stage {
     }
 
     /// Tells that an event is refused; want of memory is a fault.
+    #[inline(always)]
     fn refuse<W: Sink>(&mut self, error: WorldError, writer: &mut W) -> Result<(), Fault>
         ensures stood { (cfg : Settings) (tap : Bool) (old : Option (List ℕ)) (w : State) (outcome : WorldOutcome) (told : List ℕ) (refused : Bool)
             → Stands cfg tap old (W.contents writer.old) self.old w told refused → ((refusal_of outcome ≡ Some error) ⊎ (error ≡ WorldError.NoMemory))

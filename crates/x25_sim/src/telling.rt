@@ -1,5 +1,5 @@
 //! What is told of a step: a line for each entry, and for each frame where frames are asked for.
-ghost use Rattle.std.specs.Prelude.{◌≡◌, map};
+ghost use Rattle.std.specs.Prelude.{◌≡◌, IfSome, map};
 ghost use Rattle.x25_io.specs.code.MarksFaults.{MarksFaults};
 ghost use Rattle.x25_io.specs.code.Written.{TellsMore};
 ghost use Rattle.x25_station.specs.code.PlainEntry.{plain_entry};
@@ -14,6 +14,7 @@ use x25_transcript::{Line, write_entry};
 use x25_world::{Role, Tapped, WorldError};
 
 /// The number of a refusal, the station's own where the station refuses.
+#[inline(always)]
 fn refusal_number(error: WorldError) -> u8
     ensures { result ≡ number_of_refusal error }
 {
@@ -83,7 +84,24 @@ pub(crate) fn tell_frames<W: Sink>(
     Ok(())
 }
 
+/// The line of a refusal that scripts meet often: one that lies ready is told with less work than one that is written.
+#[inline(always)]
+fn common_refusal(number: u8) -> Option<&'static [u8]>
+    ensures { IfSome result (λ text. text.now ≡ line_of_refusal number) }
+{
+    match number {
+        11 => Some(b"! 11\n"),
+        30 => Some(b"! 30\n"),
+        41 => Some(b"! 41\n"),
+        42 => Some(b"! 42\n"),
+        50 => Some(b"! 50\n"),
+        51 => Some(b"! 51\n"),
+        _ => None,
+    }
+}
+
 /// Tells that an event is refused.
+#[inline(always)]
 pub(crate) fn tell_refusal<W: Sink>(
     line: &mut Line,
     error: WorldError,
@@ -93,6 +111,10 @@ pub(crate) fn tell_refusal<W: Sink>(
     ensures tells { TellsMore result (W.contents writer.old) (W.contents writer.new) output.old output.new (line_of_refusal (number_of_refusal error)) }
     ensures faults { MarksFaults W.Sink writer.old writer.new result }
 {
-    write_refusal(refusal_number(error), line)?;
+    let number = refusal_number(error);
+    if let Some(text) = common_refusal(number) {
+        return tell(text, output, writer);
+    }
+    write_refusal(number, line)?;
     tell(line.as_slice(), output, writer)
 }
