@@ -1,4 +1,4 @@
-ghost use Rattle.std.specs.Prelude.{◌≡◌, ℕ, ◌+◌, ◌<◌, ◌≤◌, ◌++◌, length, min, max, replicate, vec_len, vec_capacity, IfOk, IfNone, IfSome, Option, IsOk, OnOk, OnErr, option_to_list};
+ghost use Rattle.std.specs.Prelude.{◌≡◌, ℕ, ◌+◌, ◌<◌, ◌≤◌, ◌++◌, length, min, max, nat_le, replicate, vec_len, vec_capacity, IfOk, IfNone, IfSome, Option, IsOk, OnOk, OnErr, option_to_list};
 
 use crate::codes::{MIXED_QUALIFIERS, PACKET_TOO_LONG};
 use crate::message::Message;
@@ -96,6 +96,13 @@ impl PartialMessage {
             Some(begun) if begun != q => Some(MIXED_QUALIFIERS),
             _ => None,
         }
+    }
+
+    /// Whether memory is set aside for so many octets.
+    pub fn has_room(&self, count: usize) -> bool
+        ensures { result ≡ nat_le count self.now.room }
+    {
+        count <= self.places.len() - self.filled
     }
 
     /// Sets memory aside for at least so many octets, but for no more than those of the longest data packet. Err: no memory; all is as it was

@@ -117,7 +117,7 @@ hears_error most c l octets h e at read =
     by true = refl
     by false = refl
 
-ready_hears : (c : LayerSettings) (l : Layer) (v : PlainPacket) → HasChannel v → (b : Bool) → answers_in c b l.restarts l.circuits v ≡ hears_on c l b (channel_of v) (Ok v)
+pub ready_hears : (c : LayerSettings) (l : Layer) (v : PlainPacket) → HasChannel v → (b : Bool) → answers_in c b l.restarts l.circuits v ≡ hears_on c l b (channel_of v) (Ok v)
 ready_hears c l (call channel called calling facilities user) has true = refl
 ready_hears c l (call channel called calling facilities user) has false = refl
 ready_hears c l (accept channel facilities) has true = refl
