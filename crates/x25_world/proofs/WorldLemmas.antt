@@ -167,6 +167,15 @@ pub in_range : {T : Type 0} (o : Option StationError) (x : T) → RefusesConfig 
 in_range None x made = refl
 in_range (Some d) x made = cc
 
+-- what else is made, or refused by the same error, says the same of them
+pub made_as : {T U : Type 0} (o : Option StationError) (x : T) (y : U) → RefusesConfig (let made : Result T WorldError = Ok x in made) o → RefusesConfig (let made : Result U WorldError = Ok y in made) o
+made_as None x y made = tt
+made_as (Some d) x y made = cc
+
+pub refused_as : (T U : Type 0) (o : Option StationError) (e : WorldError) → RefusesConfig (let made : Result T WorldError = Err e in made) o → RefusesConfig (let made : Result U WorldError = Err e in made) o
+refused_as T U None e memory = memory
+refused_as T U (Some d) e bad = cc
+
 -- the settings are in their ranges, so that only want of memory is left
 pub refused_later : {T : Type 0} (U : Type 0) (o : Option StationError) (x : T) (e : WorldError) → RefusesConfig (let made : Result T WorldError = Ok x in made) o → e ≡ error.NoMemory
     → RefusesConfig (let made : Result U WorldError = Err e in made) o

@@ -1,0 +1,28 @@
+use Rattle.std.proofs.Common.{sym, ap, map}
+use Rattle.std.proofs.lemmas.Result.{err_from_is_err_and}
+use Rattle.x25_station.specs.Config.{config_refusal}
+use Rattle.x25_world.specs.code.PlainTold.{plain_entered}
+use Rattle.x25_world.specs.code.ShownLine.{ShownLine}
+use Rattle.x25_world.proofs.WorldLemmas.{made_as, refused_as}
+use Rattle.x25_world.proofs.world.World.down.Goals as goal
+
+pub returns-in_err-dte-clause-refused : goal.returns-in_err-dte-clause-refused
+returns-in_err-dte-clause-refused c =
+    let p = err_from_is_err_and c.from_residual.result c.from_residual.ensures.1 in
+    rw (p.1, p.2) (refused_as _ _ (config_refusal c.args.cfg) c.in_err-dte.field-0.0 c.in_err-dte.ensures.refused)
+
+pub returns-in-Err-clause-refused : goal.returns-in-Err-clause-refused
+returns-in-Err-clause-refused c = refused_as _ _ (config_refusal c.args.cfg) c.in-Err.error c.in-Err.ensures.refused
+
+pub returns-in-Ok-clause-refused : goal.returns-in-Ok-clause-refused
+returns-in-Ok-clause-refused c = made_as (config_refusal c.args.cfg) c.in-Ok.dce _ c.in-Ok.ensures.refused
+
+pub returns-in-Ok-clause-fits : goal.returns-in-Ok-clause-fits
+returns-in-Ok-clause-fits c = record {
+  dte = c.in_ok-dte.ensures.fits;
+  dce = c.in-Ok.ensures.fits;
+  to_dce = ap (λ (l : ShownLine). l.to_dce) c.new.ensures;
+  to_dte = ap (λ (l : ShownLine). l.to_dte) c.new.ensures;
+  tap = sym (ap (λ (l : ShownLine). l.tap) c.new.ensures);
+  transcript = sym (ap (map plain_entered) c.new-in-Ok.ensures.items);
+}
