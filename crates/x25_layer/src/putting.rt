@@ -1,5 +1,5 @@
 //! Packets that a layer puts into its link.
-ghost use Rattle.std.specs.Prelude.{◌≡◌, ℕ, ◌+◌, ◌-◌, ◌<◌, ◌≤◌, length, max, true, IfErr, OnOk, OnErr};
+ghost use Rattle.std.specs.Prelude.{◌≡◌, ℕ, ◌+◌, ◌-◌, ◌<◌, ◌≤◌, [], length, max, vec_capacity, true, IfErr, OnOk, OnErr};
 ghost use Rattle.x25_layer.specs.Layer.{LayerSettings};
 ghost use Rattle.x25_layer.specs.Layer.{Layer as State};
 ghost use Rattle.x25_layer.specs.code.FitsLayer.{FitsLayer};
@@ -100,7 +100,26 @@ pub(crate) fn put<L: OrderedLink>(
     ensures up { L.up link.new ≡ L.up link.old }
     ensures waits { L.waits link.new ≤ L.waits link.old + 1 }
 {
-    let mut octets = memory.take(most);
+    let mut octets = packet_memory(memory, link, most);
     encode(packet, &mut octets).unwrap();
     link.put(octets).unwrap();
+}
+
+// Memory for a packet of so many octets: that of one that the link no longer keeps, or else what was set aside.
+#[inline(always)]
+fn packet_memory<L: OrderedLink>(memory: &mut PacketMemory, link: &mut L, most: usize) -> Vec<u8>
+    requires memory { 0 < memory.old }
+    requires short { most ≤ 4099 }
+    ensures empty { result.items ≡ [] }
+    ensures room { most ≤ vec_capacity result }
+    ensures fewer { memory.new + 1 ≡ memory.old }
+    ensures link { link.new ≡ link.old }
+{
+    match link.spent_memory(most) {
+        Some(octets) => {
+            memory.limit(memory.promised() - 1);
+            octets
+        }
+        None => memory.take(most),
+    }
 }

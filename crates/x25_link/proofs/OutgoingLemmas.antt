@@ -4,7 +4,7 @@ use Rattle.std.specs.Prelude.{nat_lt}
 use Rattle.std.proofs.lemmas.List.{length-take-le, take_more, drop_more, length-drop, get_or-take}
 use Rattle.std.proofs.lemmas.Bool.{lt-ltb, ltb-true, ltb-false, eq-eqb}
 use Rattle.x25_window.specs.code.Held.{Held, Fits}
-use Rattle.x25_window.specs.Sender.{offered, moved_on}
+use Rattle.x25_window.specs.Sender.{Sending, acknowledged, offered, moved_on}
 use Rattle.x25_frame.specs.Frame.{info}
 use Rattle.x25_link.specs.declared.outgoing.Outgoing.{Outgoing as OutgoingCode}
 use Rattle.x25_link.specs.Outgoing.{moved_on as sent_on}
@@ -34,7 +34,7 @@ again_is k b o fits test =
     }
 
 pub again_fits : (k : ℕ) (b : OutgoingCode) (h : Held (List ℕ)) (o : Outgoing) → FitsOutgoing k b o → o.place < o.sent → Fits h (moved_on (sending_of k o))
-    → FitsOutgoing k (record { sender = h; queue = b.queue }) (sent_on o)
+    → FitsOutgoing k (record { sender = h; queue = b.queue; spent = b.spent }) (sent_on o)
 again_fits k b h o fits below sender =
     let same : max o.sent (o.place + 1) ≡ o.sent = omega arith in
     record { sender = rw same sender; queue = rw same (fits.queue); sent = rw same (fits.sent); few = fits.few }
@@ -48,7 +48,7 @@ all_sent k b o fits test =
     let high = fits.sender.sound.place_high in
     omega arith
 
-pub same_fits : (k : ℕ) (b : OutgoingCode) (h : Held (List ℕ)) (o : Outgoing) → FitsOutgoing k b o → Fits h (sending_of k o) → FitsOutgoing k (record { sender = h; queue = b.queue }) o
+pub same_fits : (k : ℕ) (b : OutgoingCode) (h : Held (List ℕ)) (o : Outgoing) → FitsOutgoing k b o → Fits h (sending_of k o) → FitsOutgoing k (record { sender = h; queue = b.queue; spent = b.spent }) o
 same_fits k b h o fits sender = record { sender = sender; queue = fits.queue; sent = fits.sent; few = fits.few }
 
 pub empty_waits : (k : ℕ) (b : OutgoingCode) (o : Outgoing) → FitsOutgoing k b o → b.queue ≡ [] → length o.given ≤ o.sent
@@ -72,7 +72,7 @@ next_is k b o x rest fits queue =
     record { below = below; packet = cc; left = cc }
 
 pub new_fits : (k : ℕ) (b : OutgoingCode) (h : Held (List ℕ)) (o : Outgoing) (x : List ℕ) (rest : List (List ℕ)) → FitsOutgoing k b o → o.place ≡ o.sent → Next o x rest → length rest ≤ 256
-    → Fits h (offered (sending_of k o) x) → FitsOutgoing k (record { sender = h; queue = rest }) (sent_on o)
+    → Fits h (offered (sending_of k o) x) → FitsOutgoing k (record { sender = h; queue = rest; spent = b.spent }) (sent_on o)
 new_fits k b h o x rest fits place next few sender =
     let l = sent_length k b o fits in
     let same : max o.sent (o.place + 1) ≡ o.sent + 1 = omega arith in
@@ -103,3 +103,19 @@ below_of n m le differs = by_test (nat_lt n m) refl
     by_test : (b : Bool) → nat_lt n m ≡ b → n < m
     by_test true e = ltb-true n m e
     by_test false e = let above = ltb-false n m e in absurd (never (differs (omega arith)))
+
+-- ---- packets that are acknowledged, one by one
+
+pub none_released : (h : Held (List ℕ)) (w : Sending (List ℕ)) → Fits h w → Fits h (acknowledged w (w.acked + 0))
+none_released h w fits =
+    let low = fits.sound.place_low in
+    let same : max w.place (w.acked + 0) ≡ w.place = omega arith in
+    let none : w.acked + 0 ≡ w.acked = omega arith in
+    rw same (rw none fits)
+
+pub one_released : (h : Held (List ℕ)) (w : Sending (List ℕ)) (n : ℕ) → Fits h (acknowledged (acknowledged w (w.acked + n)) (w.acked + n + 1))
+    → Fits h (acknowledged w (w.acked + (n + 1)))
+one_released h w n fits =
+    let place : max (max w.place (w.acked + n)) (w.acked + n + 1) ≡ max w.place (w.acked + n + 1) = omega arith in
+    let number : w.acked + (n + 1) ≡ w.acked + n + 1 = omega arith in
+    rw number (rw place at fits)

@@ -1,4 +1,4 @@
-ghost use Rattle.std.specs.Prelude.{◌≡◌, ℕ, ◌+◌, ◌-◌, ◌<◌, ◌≤◌, ◌↔◌, List, length, max, vec_len, Bool, true, false, IfErr, OnOk, OnErr, IsOk, IsErrOf};
+ghost use Rattle.std.specs.Prelude.{◌≡◌, ℕ, ◌+◌, ◌-◌, ◌<◌, ◌≤◌, ◌↔◌, List, [], length, max, vec_len, vec_capacity, Bool, true, false, IfErr, IfSome, OnOk, OnErr, IsOk, IsErrOf};
 ghost use Rattle.x25_link.specs.Error.{RefusesPut};
 ghost use Rattle.x25_link.specs.OrderedLink.{Lists, handed_down};
 
@@ -70,6 +70,12 @@ pub trait OrderedLink {
         ensures refused { IfErr result (λ e. e ≡ LinkError.NoMemory) }
         ensures missing { OnErr result (spares self.old < count) }
         ensures err { OnErr result (self.new ≡ self.old) };
+
+    /// Memory of a packet that is no longer kept, for one of so many octets, where there is some. The link is as before.
+    fn spent_memory(&mut self, length: usize) -> Option<Vec<u8>>
+        ensures same { self.new ≡ self.old }
+        ensures empty { IfSome result (λ octets. octets.items ≡ []) }
+        ensures room { IfSome result (λ octets. length ≤ vec_capacity octets) };
 
     /// Hands a packet of at most `limit()` octets down.
     ///

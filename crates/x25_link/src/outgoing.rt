@@ -1,6 +1,6 @@
-ghost use Rattle.std.specs.Prelude.{◌≡◌, ℕ, ◌+◌, ◌%◌, ◌<◌, ◌≤◌, ◌&&◌, nat_lt, max, List, [], ◌∷◌, ◌++◌, length, slice_get, slice_index_or, IfOk, IfErr, OnOk, OnErr, MatchOption, true, false, if◌then◌else◌};
+ghost use Rattle.std.specs.Prelude.{◌≡◌, ℕ, ◌+◌, ◌%◌, ◌<◌, ◌≤◌, ◌&&◌, nat_lt, max, List, [], ◌∷◌, ◌++◌, length, slice_get, slice_index_or, IfOk, IfErr, IfSome, OnOk, OnErr, MatchOption, vec_capacity, true, false, if◌then◌else◌};
 ghost use Rattle.x25_window.specs.code.Modulo.{resolved};
-ghost use Rattle.x25_window.specs.Sender.{Sending, moved_on, offered};
+ghost use Rattle.x25_window.specs.Sender.{Sending, acknowledged, moved_on, offered};
 ghost use Rattle.x25_window.specs.code.Held.{Fits, with_item};
 ghost use Rattle.x25_frame.specs.Frame.{info};
 ghost use Rattle.x25_frame.specs.Spelling.{spelling_of};
@@ -12,14 +12,20 @@ use crate::octets::Octets;
 use crate::outbox::Outbox;
 use crate::waiting_packets::WaitingPackets;
 use std::alloc::Global;
-use x25_bits::{Role, Seq};
+use x25_bits::{Blanks, Role, Seq};
+use x25_frame::N1;
 use x25_window::{Sender, WindowError};
 
-/// The packets handed down that aren't acknowledged: those that were sent, and behind them those that wait.
+/// The most buffers of packets that are kept: so many packets one call of a packet layer puts.
+const MOST_SPENT: usize = 16;
+
+/// The packets handed down that aren't acknowledged: those that were sent, and behind them those that wait. And the memory of some that
+/// were acknowledged, for later ones.
 #[derive(Drop)]
 pub struct Outgoing {
     pub sender: Sender<Octets>,
     pub queue: WaitingPackets,
+    pub spent: Blanks<N1, MOST_SPENT>,
 }
 
 impl Outgoing {
@@ -34,7 +40,11 @@ impl Outgoing {
             return Ok(None);
         };
         let queue = WaitingPackets::new(alloc)?;
-        Ok(Some(Outgoing { sender, queue }))
+        Ok(Some(Outgoing {
+            sender,
+            queue,
+            spent: Blanks::new(alloc),
+        }))
     }
 
     /// How many packets wait.
@@ -99,7 +109,32 @@ impl Outgoing {
         ensures window { window_of self.new ≡ window_of self.old }
         ensures err { OnErr result (self.new ≡ self.old) }
     {
-        self.sender.ack(nr)
+        let count = self.sender.acknowledges(nr)?;
+        self.release(count);
+        Ok(count)
+    }
+
+    // Takes the first packets as acknowledged, and keeps their memory.
+    fn release(&mut self, count: u8)
+        requires { count ≤ length self.old.sender.items }
+        ensures sender { (w : Sending (List ℕ)) → Fits self.old.sender w → Fits self.new.sender (acknowledged w (w.acked + count)) }
+        ensures queue { self.new.queue ≡ self.old.queue }
+        ensures window { window_of self.new ≡ window_of self.old }
+    {
+        for _packet in 0..count {
+            let packet = self.sender.release();
+            self.spent.give_back(packet.into_vec());
+        }
+    }
+
+    /// Memory of a packet that was acknowledged, for one of so many octets, where there is some. What is too small for them is let
+    /// go of.
+    pub fn spent_memory(&mut self, length: usize) -> Option<Vec<u8>>
+        ensures same { self.new ≡ self.old }
+        ensures empty { IfSome result (λ octets. octets.items ≡ []) }
+        ensures room { IfSome result (λ octets. length ≤ vec_capacity octets) }
+    {
+        self.spent.again(length)
     }
 
     /// Moves the place to send from back to the first frame that isn't acknowledged.

@@ -113,6 +113,11 @@ impl OrderedLink for PlainLink {
         Ok(())
     }
 
+    // It keeps no memory.
+    fn spent_memory(&mut self, _length: usize) -> Option<Vec<u8>> {
+        None
+    }
+
     fn put(&mut self, packet: Vec<u8>) -> Result<(), LinkError> {
         if self.queue.len() == PLACES {
             return Err(LinkError::QueueFull);

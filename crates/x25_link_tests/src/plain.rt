@@ -40,6 +40,7 @@ fn is_empty(rt: &impl Abort, link: &mut PlainLink) {
     assert!(rt; link.is_up());
     assert_eq!(rt; link.limit(), 4099);
     assert_eq!(rt; link.out().is_none(), true);
+    assert_eq!(rt; link.spent_memory(0).is_none(), true);
 }
 
 #[test]

@@ -43,13 +43,15 @@ pub enum Event<'a> {
     Ask,
     /// Nothing happens. The text says whether T1 runs, and the number of the first frame that isn't acknowledged.
     Timer,
+    /// Memory of a packet of one octet that was acknowledged is taken. The text says whether there was some.
+    Reuse,
     /// Nothing happens. The text says how many frames are on the line to this station.
     Count,
 }
 
 use Event::{
     Abandon, Ask, Connect, Count, Deliver, Disconnect, HearDisc, HearLong, HearRej, HearRr,
-    HearSabm, Look, Lose, Put, PutMany, Reply, T1, Take, Timer,
+    HearSabm, Look, Lose, Put, PutMany, Reply, Reuse, T1, Take, Timer,
 };
 
 /// What an event shows, and the frames to send.
@@ -174,6 +176,7 @@ impl End {
             Lose => self.lose(alloc),
             Look(place) => self.look(alloc, place),
             Ask => self.ask(alloc),
+            Reuse => self.reuse(alloc),
             Timer => self.timer(alloc),
             Count => self.count(alloc),
         }
@@ -249,6 +252,15 @@ impl End {
             "is off"
         };
         silent(alloc, format!(in alloc; "T1 {runs}, {first}")?)
+    }
+
+    fn reuse(&mut self, alloc: Global) -> Result<Shown, Fail> {
+        let text = match self.link.spent_memory(1) {
+            Some(octets) if octets.is_empty() => "memory",
+            Some(_) => "memory with octets",
+            None => "no memory",
+        };
+        silent(alloc, format!(in alloc; "{text}")?)
     }
 
     fn ask(&self, alloc: Global) -> Result<Shown, Fail> {

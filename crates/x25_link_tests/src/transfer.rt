@@ -1,7 +1,9 @@
 //! Packets that are transferred, lost and sent again.
 
 use crate::pair::{DCE, DTE, Row, play_up};
-use crate::station::Event::{Ask, Count, Deliver, HearRej, HearRr, Look, Lose, Put, Reply, T1};
+use crate::station::Event::{
+    Ask, Count, Deliver, HearRej, HearRr, Look, Lose, Put, Reply, Reuse, T1,
+};
 use std::test::Fail;
 
 static LOST_FRAME: [Row; 52] = [
@@ -128,4 +130,21 @@ static FINAL: [Row; 3] = [
 #[test]
 fn a_response_with_f_sends_all_again(rt: HostRuntime) -> Result<(), Fail> {
     play_up(&rt, rt.alloc(), 7, FINAL.as_slice())
+}
+
+/// The memory of two packets can be taken once they are acknowledged, and that of a third not yet.
+static ACKNOWLEDGED: [Row; 8] = [
+    (DTE, Put(7), "I cmd P=0 S=0 R=0"),
+    (DTE, Put(8), "I cmd P=0 S=1 R=0"),
+    (DTE, Put(9), "I cmd P=0 S=2 R=0"),
+    (DTE, Reuse, "no memory"),
+    (DTE, HearRr(2, false), ""),
+    (DTE, Reuse, "memory"),
+    (DTE, Reuse, "memory"),
+    (DTE, Reuse, "no memory"),
+];
+
+#[test]
+fn memory_of_acknowledged_packets_is_used_again(rt: HostRuntime) -> Result<(), Fail> {
+    play_up(&rt, rt.alloc(), 7, ACKNOWLEDGED.as_slice())
 }

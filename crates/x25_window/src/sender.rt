@@ -167,6 +167,26 @@ impl<T> Sender<T> {
         self.items.get(self.before as usize - 1).unwrap()
     }
 
+    /// How many items a received N(R) acknowledges: all below the number that it stands for.
+    ///
+    /// 7 BadAck exactly where the N(R) stands for no number from the first that isn't acknowledged to the highest ever
+    /// sent plus one.
+    #[tactic(auto, using(crate::proofs::Fitting::Fits_length))]
+    pub fn acknowledges(&self, number: Seq) -> Result<u8, WindowError>
+        ensures stands_for { (w : Sending T) → Fits self.now w → IfOk result (λ count. Acknowledges w number.number (w.acked + count)) }
+        ensures bad { (w : Sending T) → Fits self.now w → OnErr result ((n : ℕ) → ¬ Acknowledges w number.number n) }
+        ensures resolves { (w : Sending T) → Fits self.now w → IfOk result (λ count. w.acked + count ≡ resolved w.acked number.number) }
+        ensures beyond { (w : Sending T) → Fits self.now w → OnErr result (length w.given < resolved w.acked number.number) }
+        ensures held { IfOk result (λ count. (count ≤ length self.now.items) × ((self.now.first + count) % 8 ≡ number.number)) }
+        ensures error { IfErr result (λ error. error ≡ WindowError.BadAck) }
+    {
+        let count = (number.get() + 8 - self.first.get()) % 8;
+        if count > self.unacked() {
+            return Err(WindowError::BadAck);
+        }
+        Ok(count)
+    }
+
     /// Takes a received N(R): all items below the number that it stands for are acknowledged and dropped, and their count
     /// is answered. The place to send from is lifted where it was below.
     ///
@@ -187,14 +207,26 @@ impl<T> Sender<T> {
         ensures error { IfErr result (λ error. error ≡ WindowError.BadAck) }
         ensures unchanged { OnErr result (self.new ≡ self.old) }
     {
-        let count = (number.get() + 8 - self.first.get()) % 8;
-        if count > self.unacked() {
-            return Err(WindowError::BadAck);
-        }
+        let count = self.acknowledges(number)?;
         drop_front(&mut self.items, count);
         self.first = number;
         self.before = self.before.saturating_sub(count);
         Ok(count)
+    }
+
+    /// Takes the first item that isn't acknowledged as acknowledged, and hands it out. There is one. The place to send from is
+    /// lifted where it was below.
+    #[tactic(auto, using(crate::proofs::Fitting::Fits_length))]
+    pub fn release(&mut self) -> T
+        requires { 0 < length self.old.items }
+        ensures step { (w : Sending T) → Fits self.old w → Fits self.new (acknowledged w (w.acked + 1)) }
+        ensures item { slice_get self.old.items 0 ≡ Some result }
+        ensures held { self.new ≡ without self.old 1 ((self.old.first + 1) % 8) }
+    {
+        let item = self.items.pop_front().unwrap();
+        self.first = self.first.next();
+        self.before = self.before.saturating_sub(1);
+        item
     }
 
     /// Drops all items: nothing was sent, and the next number is 0. The room is kept.

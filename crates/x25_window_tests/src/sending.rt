@@ -8,7 +8,9 @@ enum Call {
     Offer(u8),
     Next,
     Again,
+    Acknowledges(u8),
     Ack(u8),
+    Release,
     Clear,
 }
 
@@ -18,6 +20,7 @@ enum Answer {
     Number(u8),
     Item(u8, u8),
     Count(u8),
+    Released(u8),
     Refused(WindowError),
 }
 
@@ -39,6 +42,16 @@ fn play(sender: &mut Sender<u8>, call: Call) -> Answer {
             Ok(count) => Answer::Count(count),
             Err(error) => Answer::Refused(error),
         },
+        Call::Acknowledges(number) => match sender.acknowledges(Seq::modulo(number)) {
+            Ok(count) => Answer::Count(count),
+            Err(error) => Answer::Refused(error),
+        },
+        Call::Release => {
+            if sender.unacked() == 0 {
+                return Answer::Nothing;
+            }
+            Answer::Released(sender.release())
+        }
         Call::Clear => {
             sender.clear();
             Answer::Nothing
@@ -95,9 +108,31 @@ const AGAIN: Run = Run {
     ],
 };
 
+/// Items are handed out as they are acknowledged, one by one.
+const RELEASED: Run = Run {
+    window: 2,
+    calls: &[
+        (Call::Offer(1), Answer::Number(0), 1),
+        (Call::Offer(2), Answer::Number(1), 2),
+        (
+            Call::Acknowledges(3),
+            Answer::Refused(WindowError::BadAck),
+            2,
+        ),
+        (Call::Acknowledges(2), Answer::Count(2), 2),
+        (Call::Again, Answer::Nothing, 2),
+        (Call::Release, Answer::Released(1), 1),
+        (Call::Acknowledges(2), Answer::Count(1), 1),
+        (Call::Next, Answer::Item(1, 2), 1),
+        (Call::Release, Answer::Released(2), 0),
+        (Call::Release, Answer::Nothing, 0),
+        (Call::Offer(3), Answer::Number(2), 1),
+    ],
+};
+
 #[test]
 fn sends_and_sends_again(rt: HostRuntime) -> Result<(), Fail> {
-    for run in [FULL, AGAIN] {
+    for run in [FULL, AGAIN, RELEASED] {
         let mut sender = Sender::new(rt.alloc(), run.window)?.ok_or("a window")?;
         for (call, wanted, unacked) in run.calls {
             assert_eq!(rt; play(&mut sender, *call), *wanted, "{call:?}");

@@ -64,6 +64,10 @@ impl OrderedLink for Link {
         Ok(())
     }
 
+    fn spent_memory(&mut self, length: usize) -> Option<Vec<u8>> {
+        self.station.outgoing.spent_memory(length)
+    }
+
     fn put(&mut self, packet: Vec<u8>) -> Result<(), LinkError> {
         self.give(packet)
     }

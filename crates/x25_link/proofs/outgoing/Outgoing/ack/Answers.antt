@@ -1,23 +1,23 @@
-use Rattle.std.proofs.Common.{arith}
-use Rattle.std.proofs.lemmas.Result.{MatchResult-weaker}
+use Rattle.std.proofs.Common.{OnErr, Result, Ok, Err, ◌∙◌, arith}
 use Rattle.x25_link.specs.code.OutgoingHeld.{sending_of}
 use Rattle.x25_link.proofs.OutgoingLemmas.{sent_length}
 use Rattle.x25_link.proofs.outgoing.Outgoing.ack.Goals as goal
 
+said_anyway : {A E : Type 0} (result : Result A E) {said : Type 0} → said → OnErr result said
+said_anyway (Ok value) s = tt
+said_anyway (Err error) s = s
+
+pub returns-in_err-count-clause-beyond : goal.returns-in_err-count-clause-beyond
+returns-in_err-count-clause-beyond c = λ k o fits.
+    let l = sent_length k _ o fits in
+    let above = c.in_err-count.ensures.beyond (sending_of k o) fits.sender in
+    said_anyway c.from_residual.result (omega (arith, l, above))
+
 pub returns-clause-step : goal.returns-clause-step
 returns-clause-step c = λ k o fits.
-    MatchResult-weaker c.ack.result (c.ack.ensures.step (sending_of k o) fits.sender)
-    (λ count sender. record { sender = sender; queue = fits.queue; sent = fits.sent; few = fits.few }) (λ _ _. tt)
-
-pub returns-clause-number : goal.returns-clause-number
-returns-clause-number c = λ k o fits. c.ack.ensures.resolves (sending_of k o) fits.sender
-
-pub returns-clause-within : goal.returns-clause-within
-returns-clause-within c = λ k o fits.
-    let l = sent_length k _ o fits in
-    MatchResult-weaker c.ack.result (c.ack.ensures.stands_for (sending_of k o) fits.sender) (λ count stands. omega (arith, stands.high)) (λ _ _. tt)
-
-pub returns-clause-beyond : goal.returns-clause-beyond
-returns-clause-beyond c = λ k o fits.
-    let l = sent_length k _ o fits in
-    MatchResult-weaker c.ack.result (c.ack.ensures.beyond (sending_of k o) fits.sender) (λ _ _. tt) (λ _ above. omega (arith, above))
+    record {
+      sender = c.release.ensures.sender (sending_of k o) fits.sender;
+      queue = c.release.ensures.queue ∙ fits.queue;
+      sent = fits.sent;
+      few = rw (c.release.ensures.queue) (fits.few);
+    }
