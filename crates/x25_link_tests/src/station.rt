@@ -255,12 +255,11 @@ impl End {
     }
 
     fn reuse(&mut self, alloc: Global) -> Result<Shown, Fail> {
-        let text = match self.link.spent_memory(1) {
-            Some(octets) if octets.is_empty() => "memory",
-            Some(_) => "memory with octets",
-            None => "no memory",
+        let Some(octets) = self.link.spent_memory(1) else {
+            return silent(alloc, format!(in alloc; "no memory")?);
         };
-        silent(alloc, format!(in alloc; "{text}")?)
+        let count = octets.len();
+        silent(alloc, format!(in alloc; "memory with {count} octets")?)
     }
 
     fn ask(&self, alloc: Global) -> Result<Shown, Fail> {

@@ -139,8 +139,8 @@ static ACKNOWLEDGED: [Row; 8] = [
     (DTE, Put(9), "I cmd P=0 S=2 R=0"),
     (DTE, Reuse, "no memory"),
     (DTE, HearRr(2, false), ""),
-    (DTE, Reuse, "memory"),
-    (DTE, Reuse, "memory"),
+    (DTE, Reuse, "memory with 0 octets"),
+    (DTE, Reuse, "memory with 0 octets"),
     (DTE, Reuse, "no memory"),
 ];
 
