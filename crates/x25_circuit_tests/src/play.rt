@@ -7,7 +7,7 @@ use std::alloc::{AllocError, Global};
 use std::process::Abort;
 use std::test::Fail;
 use x25_circuit::{
-    Circuit, CircuitError, DataPacket, Flow, Notice, Params, Proposal, Reply, Role, Taken,
+    Circuit, CircuitError, DataPacket, Flow, Message, Notice, Params, Proposal, Reply, Role, Taken,
 };
 use x25_packet::{Digits, Packet, PacketError, Seq, decode};
 
@@ -140,6 +140,11 @@ fn values_text(alloc: Global, params: Params) -> Result<String, AllocError> {
     format!(in alloc; " size={size_called},{size_calling} win={win_called},{win_calling}")
 }
 
+fn message_text(alloc: Global, message: &Message) -> Result<String, AllocError> {
+    let q = u8::from(message.q);
+    format!(in alloc; "message q={q} {}", message.user.as_slice().len())
+}
+
 fn notice_text(alloc: Global, notice: &Notice) -> Result<String, AllocError> {
     match notice {
         Notice::Incoming {
@@ -166,10 +171,7 @@ fn notice_text(alloc: Global, notice: &Notice) -> Result<String, AllocError> {
             "wasreset cause={cause} diag={diagnostic}"
         ),
         Notice::ResetDone => format!(in alloc; "resetdone"),
-        Notice::Delivered(message) => {
-            let q = u8::from(message.q);
-            format!(in alloc; "message q={q} {}", message.user.as_slice().len())
-        }
+        Notice::Delivered(message) => message_text(alloc, message),
         Notice::Interrupted { user } => format!(in alloc; "interrupt {}", user.len()),
         Notice::InterruptDone => format!(in alloc; "intdone"),
         Notice::Fault { diagnostic } => format!(in alloc; "fault {diagnostic}"),
@@ -199,17 +201,16 @@ fn reply_text(alloc: Global, reply: &Reply) -> Result<String, AllocError> {
     Ok(text)
 }
 
-fn taken_text(alloc: Global, taken: Taken) -> Result<String, AllocError> {
-    let notice = match taken.message {
-        Some(message) => Some(Notice::Delivered(message)),
-        None => None,
-    };
-    let reply = Reply {
-        packet: taken.owed,
-        collided: false,
-        notice,
-    };
-    reply_text(alloc, &reply)
+/// What the user is told of a message that ended, and the packet owed.
+fn taken_text(alloc: Global, taken: &Taken) -> Result<String, AllocError> {
+    let mut text = String::new(alloc);
+    if let Some(message) = &taken.message {
+        append(&mut text, message_text(alloc, message)?.as_str())?;
+    }
+    if let Some(packet) = &taken.owed {
+        append(&mut text, packet_text(alloc, &packet.packet(1))?.as_str())?;
+    }
+    Ok(text)
 }
 
 fn sent_text(alloc: Global, sent: Result<Packet, CircuitError>) -> Result<String, AllocError> {
@@ -281,7 +282,7 @@ impl Player {
 
     fn pass(&mut self, packet: &Flow) -> Result<String, AllocError> {
         match self.circuit.take(packet) {
-            Some(taken) => taken_text(self.alloc, taken),
+            Some(taken) => taken_text(self.alloc, &taken),
             None => format!(in self.alloc; "none"),
         }
     }

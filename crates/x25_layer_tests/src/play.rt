@@ -137,7 +137,7 @@ fn delivery_text(alloc: Global, delivery: Option<Delivery>) -> Result<String, Al
         return format!(in alloc; "none");
     };
     let channel = delivery.channel;
-    match delivery.message {
+    match &delivery.message {
         Some(message) => format!(in alloc; "{channel}: message {}", message.user.as_slice().len()),
         None => format!(in alloc; "{channel}"),
     }
