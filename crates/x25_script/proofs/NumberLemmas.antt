@@ -1,5 +1,5 @@
 -- A number and its decimal text.
-use Rattle.std.proofs.Common.{ℕ, zero, suc, ◌+◌, ◌-◌, ◌*◌, ◌^◌, ◌<◌, ◌≤◌, ◌≡◌, ◌∙◌, Bool, true, false, List, [], ◌∷◌, length, get_or, drop, Option, Some, None, nat_lt, refl, ap, sym, subst, arith, rules, add-one}
+use Rattle.std.proofs.Common.{ℕ, zero, suc, ◌+◌, ◌-◌, ◌*◌, ◌^◌, ◌<◌, ◌≤◌, ◌≡◌, ◌∙◌, Bool, true, false, List, ◌∷◌, length, get_or, drop, Option, Some, None, nat_lt, refl, ap, sym, subst, arith, rules, add-one}
 use Rattle.std.specs.Prelude.{cond, decimal, ◌==◌, ◌&&◌, if◌then◌else◌}
 use Rattle.std.specs.Char.{digit_value, is_ascii_digit}
 use Rattle.std.specs.List.{list_all}

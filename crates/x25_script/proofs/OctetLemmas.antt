@@ -1,5 +1,5 @@
 -- Octets and the hexadecimal digits that write them.
-use Rattle.std.proofs.Common.{ℕ, Bool, ◌*◌, ◌%◌, ◌≡◌, ◌∙◌, true, false, List, [], ◌∷◌, length, Option, Some, None, Result, Ok, Err, refl, ap, sym, arith}
+use Rattle.std.proofs.Common.{ℕ, ◌*◌, ◌%◌, ◌≡◌, ◌∙◌, true, false, List, [], ◌∷◌, length, Option, Some, None, Result, Ok, Err, refl, ap, sym, arith}
 use Rattle.std.specs.Prelude.{◌&&◌, is_some, unwrap_or}
 use Rattle.std.specs.Char.{is_ascii_hexdigit}
 use Rattle.std.specs.List.{list_all, AllPass}

@@ -1,5 +1,5 @@
 -- A simulation whose buffers are made, before the first line of a script.
-use Rattle.std.specs.Prelude.{◌≡◌, Bool, false, [], length}
+use Rattle.std.specs.Prelude.{◌≡◌, Bool, false, []}
 use Rattle.x25_station.specs.declared.config.Cfg.{Cfg}
 use Rattle.x25_io.specs.HeldLine.{HoldsLine}
 use Rattle.x25_sim.specs.code.Stands.{IsOpening}

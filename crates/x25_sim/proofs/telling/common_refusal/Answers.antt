@@ -1,4 +1,4 @@
-use Rattle.std.proofs.Common.{◌≡◌, refl}
+use Rattle.std.proofs.Common.{refl}
 use Rattle.std.specs.Fmt.{digits}
 use Rattle.x25_console.specs.Telling.{refusal_line}
 use Rattle.x25_sim.proofs.telling.common_refusal.Goals as goal

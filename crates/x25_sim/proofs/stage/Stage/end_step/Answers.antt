@@ -1,4 +1,4 @@
-use Rattle.std.proofs.Common.{◌++◌, map, subst}
+use Rattle.std.proofs.Common.{map, subst}
 use Rattle.std.proofs.lemmas.Result.{err_from_is_err_and, MatchResult-weaker}
 use Rattle.x25_io.specs.code.Written.{AppendsPrefix, Tells}
 use Rattle.x25_io.proofs.ToldLemmas.{part_of_all}

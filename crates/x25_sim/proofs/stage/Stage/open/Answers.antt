@@ -1,6 +1,5 @@
 use Rattle.std.proofs.Common.{◌∙◌, [], false, subst}
 use Rattle.std.proofs.lemmas.Result.{err_from_is_err_and, MatchResult-weaker}
-use Rattle.x25_world.specs.World.{start}
 use Rattle.x25_sim.specs.code.Stands.{IsOpening, opening}
 use Rattle.x25_sim.proofs.StandLemmas.{StandsAt, BeginsAt, begins_before, begins_behind, deliveries, first_turn, opens, stands_behind, stands_first}
 use Rattle.x25_sim.proofs.stage.Stage.open.Goals as goal
