@@ -118,7 +118,7 @@ fn simulate<R: Source, W: Sink>(
     ensures write { IsErrOf result Fault.Write → W.is_marked writer.new ≡ true }
     ensures memory { IsErrOf result Fault.NoMemory → (R.is_marked reader.new ≡ R.is_marked reader.old) × (W.is_marked writer.new ≡ W.is_marked writer.old) }
 {
-    let Simulation { down, tap, .. } = simulation;
+    let (down, tap) = (simulation.down, simulation.tap);
     sim(alloc, down, settings_of(simulation), tap, reader, writer)
 }
 
