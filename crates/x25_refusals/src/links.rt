@@ -33,11 +33,7 @@ pub(crate) struct Links {
 // The calls of a link without their claims: a body that makes one of the link's own carries all that it promises.
 
 fn made(alloc: Global, role: Role, cfg: Cfg) -> Result<Box<Link>, LinkError> {
-    boxed(
-        alloc,
-        Link::new(alloc, role, cfg.k, N1, cfg.n2)?,
-    )
-    .ok_or(LinkError::NoMemory)
+    boxed(alloc, Link::new(alloc, role, cfg.k, N1, cfg.n2)?).ok_or(LinkError::NoMemory)
 }
 
 fn connect(link: &mut Link) -> Result<Step<'static>, LinkError> {
