@@ -42,10 +42,12 @@ def allocations(words, given=b"", statuses=(0,)):
     return int(re.search(rb"total heap usage: ([\d,]+) allocs", done.stderr).group(1).replace(b",", b""))
 
 
-def instructions(words):
-    """How many instructions a run of the words takes, by callgrind."""
+def instructions(words, given=subprocess.DEVNULL, statuses=(0,)):
+    """How many instructions a run of the words takes on this file, by callgrind."""
     done = subprocess.run(["valgrind", "--tool=callgrind", "--callgrind-out-file=/dev/null", *words],
-                          stdout=subprocess.DEVNULL, stderr=subprocess.PIPE, check=True)
+                          stdin=given, stdout=subprocess.DEVNULL, stderr=subprocess.PIPE)
+    if done.returncode not in statuses:
+        sys.exit(f"{words[0]} ended with status {done.returncode}")
     return int(re.search(rb"Collected : (\d+)", done.stderr).group(1))
 
 
