@@ -1,4 +1,4 @@
-ghost use Rattle.std.specs.Prelude.{◌≡◌, ℕ, ◌+◌, ◌<◌, ◌≤◌, false, length, min, max, IfOk, IfErr, OnOk, OnErr};
+ghost use Rattle.std.specs.Prelude.{◌≡◌, ℕ, ◌+◌, ◌<◌, ◌≤◌, false, length, min, max, IfOk, IfErr, IfSome, OnOk, OnErr, [], vec_capacity};
 ghost use Rattle.x25_circuit.specs.declared.state.State.{State};
 ghost use Rattle.x25_circuit.specs.Message.{no_part, joining};
 ghost use Rattle.x25_circuit.specs.Params.{default_params};
@@ -180,6 +180,17 @@ impl Circuit {
     {
         self.transfer.partial.reserve(count)?;
         Ok(())
+    }
+
+    /// Memory of a message whose packets were all cut off, for one of so many octets that is sent later, where there is some: for at most 4,096. What is
+    /// too small for them is let go of. The circuit is as before.
+    pub fn spent_memory(&mut self, length: usize) -> Option<Vec<u8>>
+        ensures fits { (c : Settings) (x : Channel) → FitsCircuit c self.old x → FitsCircuit c self.new x }
+        ensures aside { room_of self.new ≡ room_of self.old }
+        ensures empty { IfSome result (λ memory. memory.items ≡ []) }
+        ensures room { IfSome result (λ memory. length ≤ vec_capacity memory) }
+    {
+        self.transfer.queue.spent_memory(length)
     }
 
     /// Goes to this state, with these packet sizes and windows, and nothing kept.

@@ -1,9 +1,13 @@
-ghost use Rattle.std.specs.Prelude.{◌≡◌, ◌<◌, ◌≤◌, [], ◌∷◌, length, true, false};
+ghost use Rattle.std.specs.Prelude.{◌≡◌, ◌<◌, ◌≤◌, [], ◌∷◌, length, true, false, vec_capacity, IfSome};
 
 use crate::message::Message;
 use crate::octets::Octets;
 use std::alloc::Global;
 use std::marker::Model;
+use std::mem;
+
+/// The most octets of memory that serves for another message.
+const MOST_AGAIN: usize = 4096;
 
 /// The marks of a data packet: the qualifier, and the more data mark.
 #[derive(Clone, Copy)]
@@ -106,6 +110,27 @@ impl Cutter {
                 m: true,
             }
         }
+    }
+
+    /// Memory of a message that was cut to its end, for one of so many octets, where there is some. What is too small for them, or for more than
+    /// 4,096, is let go of. The packet cut last isn't lent any more.
+    pub fn spent_memory(&mut self, length: usize) -> Option<Vec<u8>>
+        ensures left { self.new.left ≡ self.old.left }
+        ensures empty { IfSome result (λ memory. memory.items ≡ []) }
+        ensures room { IfSome result (λ memory. length ≤ vec_capacity memory) }
+    {
+        if !self.is_cut {
+            return None;
+        }
+        self.lent = 0;
+        self.start = 0;
+        let spent = mem::replace(&mut self.message.user, Octets::of(Vec::new(self.alloc)));
+        let mut memory = spent.into_vec();
+        if memory.capacity() < length || memory.capacity() > MOST_AGAIN {
+            return None;
+        }
+        memory.clear();
+        Some(memory)
     }
 
     /// The user data of the packet cut last.

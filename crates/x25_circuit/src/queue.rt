@@ -1,4 +1,4 @@
-ghost use Rattle.std.specs.Prelude.{◌≡◌, ℕ, ◌+◌, ◌<◌, ◌≤◌, [], ◌∷◌, ◌++◌, length, IfOk, IfSome, IfNone, true, false};
+ghost use Rattle.std.specs.Prelude.{◌≡◌, ℕ, ◌+◌, ◌<◌, ◌≤◌, [], ◌∷◌, ◌++◌, length, IfOk, IfSome, IfNone, true, false, vec_capacity};
 
 use crate::cutter::{Cutter, Marks};
 use crate::message::Message;
@@ -88,6 +88,15 @@ impl Queue {
             return None;
         }
         Some(self.cutter.cut(size))
+    }
+
+    /// Memory of a message that was cut to its end, for one of so many octets, where there is some, as `Cutter::spent_memory`.
+    pub fn spent_memory(&mut self, length: usize) -> Option<Vec<u8>>
+        ensures same { waiting self.new ≡ waiting self.old }
+        ensures empty { IfSome result (λ memory. memory.items ≡ []) }
+        ensures room { IfSome result (λ memory. length ≤ vec_capacity memory) }
+    {
+        self.cutter.spent_memory(length)
     }
 
     /// The user data of the packet cut last.

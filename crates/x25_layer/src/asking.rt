@@ -1,5 +1,5 @@
 //! What the user asks of the circuit of a channel: the steps that all calls with a channel share.
-ghost use Rattle.std.specs.Prelude.{◌≡◌, ◌≢◌, ℕ, ◌<◌, ◌≤◌, ◌&&◌, ◌==◌, length, List, Bool, true, false, IfErr, IfOk, IfSome, OnErr};
+ghost use Rattle.std.specs.Prelude.{◌≡◌, ◌≢◌, ℕ, ◌<◌, ◌≤◌, ◌&&◌, ◌==◌, length, List, [], Bool, true, false, vec_capacity, IfErr, IfOk, IfSome, OnErr};
 ghost use Rattle.x25_circuit.specs.Calling.{outcome, Sends};
 ghost use Rattle.x25_circuit.specs.code.Replies.{IsSendable, plain_sent};
 ghost use Rattle.x25_circuit.specs.Request.{plain_request, MayPut};
@@ -86,6 +86,32 @@ impl Layer {
         self.put_sent(link, channel, packet);
         self.pull_all(link);
         Ok(())
+    }
+
+    /// Memory of a message of a channel whose packets were all handed down, for one of so many octets that is sent later, where there is some: for at
+    /// most 4,096. What is too small for them is let go of. The layer is as before.
+    pub fn spent_memory(&mut self, channel: u16, count: usize) -> Option<Vec<u8>>
+        ensures layer { (c : LayerSettings) (l : State) → FitsLayer c self.old l → FitsLayer c self.new l }
+        ensures aside { self.new.memory ≡ self.old.memory }
+        ensures empty { IfSome result (λ memory. memory.items ≡ []) }
+        ensures room { IfSome result (λ memory. count ≤ vec_capacity memory) }
+    {
+        if self.circuit(channel).is_none() {
+            return None;
+        }
+        self.spent_memory_on(channel, count)
+    }
+
+    // .. of a configured channel.
+    fn spent_memory_on(&mut self, channel: u16, count: usize) -> Option<Vec<u8>>
+        requires { is_channel (length self.old.circuits.items) channel ≡ true }
+        ensures layer { (c : LayerSettings) (l : State) → FitsLayer c self.old l → FitsLayer c self.new l }
+        ensures aside { self.new.memory ≡ self.old.memory }
+        ensures empty { IfSome result (λ memory. memory.items ≡ []) }
+        ensures room { IfSome result (λ memory. count ≤ vec_capacity memory) }
+    {
+        let place = usize::from(channel) - 1;
+        self.circuits[place].spent_memory(count)
     }
 
     /// Why `ask` would refuse this now, if it would.
