@@ -10,7 +10,7 @@ ghost use Rattle.x25_layer.specs.laws.Transcript.{name_of};
 ghost use Rattle.x25_layer.specs.laws.TwoLayers.{shown};
 ghost use Rattle.x25_station.specs.Command.{command_of};
 ghost use Rattle.x25_station.specs.Entry.{of_channel};
-ghost use Rattle.x25_station.specs.code.FitsStation.{FitsStation, Does, RefusesExactly};
+ghost use Rattle.x25_station.specs.code.FitsStation.{FitsStation, Does, answered, RefusesExactly};
 ghost use Rattle.x25_station.specs.code.PlainEntry.{plain_entry, plain_asked, plain_said};
 ghost use Rattle.x25_station.specs.Config.{Settings};
 ghost use Rattle.x25_station.specs.Station.{Station as State};
@@ -21,6 +21,7 @@ use crate::entering::enter;
 use crate::entry::{Asked, Entry, Said};
 use crate::error::StationError;
 use crate::law::steps_keep_bounds;
+use crate::linking::{moved, sent_into};
 use crate::station::Station;
 use crate::step::Step;
 use std::alloc::Global;
@@ -127,9 +128,34 @@ impl Station {
     pub fn command(&mut self, command: Cmd<'_>) -> Result<Step, StationError>
         ensures { Does self.old self.new result (λ c s. commands c s (command_of command.entry)) }
     {
+        let mut step = self.lists.step();
+        match self.command_into(command, &mut step.frames, &mut step.entries) {
+            Ok(()) => Ok(step),
+            Err(error) => {
+                let _ = self.lists.give_back(step);
+                Err(error)
+            }
+        }
+    }
+
+    /// Does what the user asks, as `command`. Frames and entries come into lists that the caller keeps, and that are empty before; where
+    /// it is refused they stay empty.
+    #[inline(always)]
+    pub fn command_into(
+        &mut self,
+        command: Cmd<'_>,
+        frames: &mut Vec<Vec<u8>>,
+        entries: &mut Vec<Entry>,
+    ) -> Result<(), StationError>
+        requires frames { frames.old.items ≡ [] }
+        requires entries { entries.old.items ≡ [] }
+        ensures does { Does self.old self.new (answered (record { frames = frames.new; entries = entries.new }) result) (λ c s. commands c s (command_of command.entry)) }
+        ensures no_frames { OnErr result (frames.new.items ≡ []) }
+        ensures no_entries { OnErr result (entries.new.items ≡ []) }
+    {
         match self.refusal(&command) {
             Some(error) => Err(StationError::Layer(error)),
-            None => self.carry_out(&command),
+            None => self.carry_out(&command, frames, entries),
         }
     }
 
@@ -171,33 +197,60 @@ impl Station {
 
     // Does what the user asks.
     #[inline(never)]
-    fn carry_out(&mut self, command: &Cmd<'_>) -> Result<Step, StationError>
-        ensures { Does self.old self.new result (λ c s. commands c s (command_of command.now)) }
+    fn carry_out(
+        &mut self,
+        command: &Cmd<'_>,
+        frames: &mut Vec<Vec<u8>>,
+        entries: &mut Vec<Entry>,
+    ) -> Result<(), StationError>
+        requires frames { frames.old.items ≡ [] }
+        requires entries { entries.old.items ≡ [] }
+        ensures does { Does self.old self.new (answered (record { frames = frames.new; entries = entries.new }) result) (λ c s. commands c s (command_of command.now)) }
+        ensures no_frames { OnErr result (frames.new.items ≡ []) }
+        ensures no_entries { OnErr result (entries.new.items ≡ []) }
     {
         match command {
+            Cmd::Accept { channel } => self.ask(
+                *channel,
+                Request::Accept { answer: None },
+                frames,
+                entries,
+            ),
+            Cmd::AcceptWith { channel, params } => {
+                self.accept_with(*channel, *params, frames, entries)
+            }
+            Cmd::Clear { channel } => self.ask(*channel, Request::Clear, frames, entries),
+            Cmd::Send { channel, q, user } => self.send(*channel, *q, user, frames, entries),
+            Cmd::Interrupt { channel, user } => self.ask(
+                *channel,
+                Request::Interrupt { user },
+                frames,
+                entries,
+            ),
+            Cmd::Reset { channel } => self.ask(*channel, Request::Reset, frames, entries),
+            Cmd::Ready { channel } => self.ask(*channel, Request::Ready, frames, entries),
+            Cmd::NotReady { channel } => self.ask(*channel, Request::NotReady, frames, entries),
             Cmd::Call {
                 called,
                 calling,
                 user,
-            } => self.call(called, calling, user, Params::default()),
+            } => self.call(called, calling, user, Params::default(), frames, entries),
             Cmd::CallWith {
                 called,
                 calling,
                 user,
                 params,
-            } => self.call(called, calling, user, *params),
-            Cmd::Accept { channel } => self.ask(*channel, Request::Accept { answer: None }),
-            Cmd::AcceptWith { channel, params } => self.accept_with(*channel, *params),
-            Cmd::Clear { channel } => self.ask(*channel, Request::Clear),
-            Cmd::Send { channel, q, user } => self.send(*channel, *q, user),
-            Cmd::Interrupt { channel, user } => self.ask(*channel, Request::Interrupt { user }),
-            Cmd::Reset { channel } => self.ask(*channel, Request::Reset),
-            Cmd::Ready { channel } => self.ask(*channel, Request::Ready),
-            Cmd::NotReady { channel } => self.ask(*channel, Request::NotReady),
-            Cmd::Restart => self.restart(),
-            Cmd::Pull => self.pull(),
-            Cmd::Connect => self.connect_asked(),
-            Cmd::Disconnect => self.disconnect(),
+            } => self.call(called, calling, user, *params, frames, entries),
+            Cmd::Restart => self.restart(frames, entries),
+            Cmd::Pull => {
+                let answer = self.pull();
+                moved(answer, frames, entries)
+            }
+            Cmd::Connect => {
+                let answer = self.connect_asked();
+                moved(answer, frames, entries)
+            }
+            Cmd::Disconnect => self.disconnect(frames, entries),
         }
     }
 
@@ -227,8 +280,18 @@ impl Station {
     }
 
     // An acceptance, with packet sizes and windows of its own.
-    fn accept_with(&mut self, channel: u16, params: Params) -> Result<Step, StationError>
-        ensures { Does self.old self.new result (λ c s. requests c s (Asks channel (Accepts (Some params)))) }
+    fn accept_with(
+        &mut self,
+        channel: u16,
+        params: Params,
+        frames: &mut Vec<Vec<u8>>,
+        entries: &mut Vec<Entry>,
+    ) -> Result<(), StationError>
+        requires frames { frames.old.items ≡ [] }
+        requires entries { entries.old.items ≡ [] }
+        ensures does { Does self.old self.new (answered (record { frames = frames.new; entries = entries.new }) result) (λ c s. requests c s (Asks channel (Accepts (Some params)))) }
+        ensures no_frames { OnErr result (frames.new.items ≡ []) }
+        ensures no_entries { OnErr result (entries.new.items ≡ []) }
     {
         let answer = Proposal::new(params);
         self.ask(
@@ -236,6 +299,8 @@ impl Station {
             Request::Accept {
                 answer: Some(&answer),
             },
+            frames,
+            entries,
         )
     }
 
@@ -246,23 +311,29 @@ impl Station {
         calling: &str,
         user: &[u8],
         params: Params,
-    ) -> Result<Step, StationError>
-        ensures { Does self.old self.new result (λ c s. requests c s (Dials called.now calling.now user.now params)) }
+        frames: &mut Vec<Vec<u8>>,
+        entries: &mut Vec<Entry>,
+    ) -> Result<(), StationError>
+        requires frames { frames.old.items ≡ [] }
+        requires entries { entries.old.items ≡ [] }
+        ensures does { Does self.old self.new (answered (record { frames = frames.new; entries = entries.new }) result) (λ c s. requests c s (Dials called.now calling.now user.now params)) }
+        ensures no_frames { OnErr result (frames.new.items ≡ []) }
+        ensures no_entries { OnErr result (entries.new.items ≡ []) }
     {
         steps_keep_bounds();
         holds_few();
         let asked = asked_call(self.alloc, called, calling, user, params)?;
-        let Ok(mut entries) = self.lists.entries() else {
+        if entries.reserve(1).is_err() {
             return Err(StationError::NoMemory);
-        };
+        }
         match self
             .layer
             .call_with(&mut self.link, called, calling, user, params)
         {
             Ok(channel) => {
-                enter(&self.layer, &mut entries, channel, Said::Asked(asked));
-                let frames = self.link.sent();
-                Ok(Step { frames, entries })
+                enter(&self.layer, entries, channel, Said::Asked(asked));
+                sent_into(&mut self.link, frames);
+                Ok(())
             }
             Err(error) => Err(StationError::of_layer(error)),
         }
@@ -270,52 +341,78 @@ impl Station {
 
     // A message, which is handed to the layer as a copy.
     #[inline(always)]
-    fn send(&mut self, channel: u16, q: bool, user: &[u8]) -> Result<Step, StationError>
-        ensures { Does self.old self.new result (λ c s. requests c s (Asks channel (CircuitSends q user.now))) }
+    fn send(
+        &mut self,
+        channel: u16,
+        q: bool,
+        user: &[u8],
+        frames: &mut Vec<Vec<u8>>,
+        entries: &mut Vec<Entry>,
+    ) -> Result<(), StationError>
+        requires frames { frames.old.items ≡ [] }
+        requires entries { entries.old.items ≡ [] }
+        ensures does { Does self.old self.new (answered (record { frames = frames.new; entries = entries.new }) result) (λ c s. requests c s (Asks channel (CircuitSends q user.now))) }
+        ensures no_frames { OnErr result (frames.new.items ≡ []) }
+        ensures no_entries { OnErr result (entries.new.items ≡ []) }
     {
         let user = copied(self.alloc, user)?;
-        self.ask(channel, Request::Send { q, user })
+        self.ask(channel, Request::Send { q, user }, frames, entries)
     }
 
     // What is asked of the circuit of a channel.
     #[inline(always)]
-    fn ask(&mut self, channel: u16, request: Request<'_>) -> Result<Step, StationError>
-        ensures { Does self.old self.new result (λ c s. requests c s (Asks channel (plain_request request.entry))) }
+    fn ask(
+        &mut self,
+        channel: u16,
+        request: Request<'_>,
+        frames: &mut Vec<Vec<u8>>,
+        entries: &mut Vec<Entry>,
+    ) -> Result<(), StationError>
+        requires frames { frames.old.items ≡ [] }
+        requires entries { entries.old.items ≡ [] }
+        ensures does { Does self.old self.new (answered (record { frames = frames.new; entries = entries.new }) result) (λ c s. requests c s (Asks channel (plain_request request.entry))) }
+        ensures no_frames { OnErr result (frames.new.items ≡ []) }
+        ensures no_entries { OnErr result (entries.new.items ≡ []) }
     {
         steps_keep_bounds();
         holds_few();
         let asked = asked_of(self.alloc, &request)?;
-        let Ok(mut entries) = self.lists.entries() else {
+        if entries.reserve(1).is_err() {
             return Err(StationError::NoMemory);
-        };
+        }
         match self.layer.ask(&mut self.link, channel, request) {
             Ok(()) => {
                 let asked = as_shown(&self.layer, channel, asked);
-                enter(&self.layer, &mut entries, channel, Said::Asked(asked));
-                let frames = self.link.sent();
-                Ok(Step { frames, entries })
+                enter(&self.layer, entries, channel, Said::Asked(asked));
+                sent_into(&mut self.link, frames);
+                Ok(())
             }
-            Err(error) => {
-                self.lists.give_back_entries(entries);
-                Err(StationError::of_layer(error))
-            }
+            Err(error) => Err(StationError::of_layer(error)),
         }
     }
 
     // A restart of the packet layer.
-    fn restart(&mut self) -> Result<Step, StationError>
-        ensures { Does self.old self.new result (λ c s. requests c s Restarts) }
+    fn restart(
+        &mut self,
+        frames: &mut Vec<Vec<u8>>,
+        entries: &mut Vec<Entry>,
+    ) -> Result<(), StationError>
+        requires frames { frames.old.items ≡ [] }
+        requires entries { entries.old.items ≡ [] }
+        ensures does { Does self.old self.new (answered (record { frames = frames.new; entries = entries.new }) result) (λ c s. requests c s Restarts) }
+        ensures no_frames { OnErr result (frames.new.items ≡ []) }
+        ensures no_entries { OnErr result (entries.new.items ≡ []) }
     {
         steps_keep_bounds();
         holds_few();
-        let Ok(mut entries) = self.lists.entries() else {
+        if entries.reserve(1).is_err() {
             return Err(StationError::NoMemory);
-        };
+        }
         match self.layer.restart(&mut self.link) {
             Ok(()) => {
                 entries.push_reserved(Entry::RestartAsked);
-                let frames = self.link.sent();
-                Ok(Step { frames, entries })
+                sent_into(&mut self.link, frames);
+                Ok(())
             }
             Err(error) => Err(StationError::of_layer(error)),
         }

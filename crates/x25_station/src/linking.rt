@@ -1,10 +1,10 @@
 //! Calls that the link alone answers, and at LinkDown the packet layer.
-ghost use Rattle.std.specs.Prelude.{◌≡◌, ℕ, ◌+◌, ◌<◌, ◌≤◌, ◌++◌, map, None, vec_len, vec_capacity, IfOk, OnErr};
+ghost use Rattle.std.specs.Prelude.{◌≡◌, ℕ, ◌+◌, ◌<◌, ◌≤◌, ◌++◌, [], map, None, vec_len, vec_capacity, IfOk, OnErr};
 ghost use Rattle.x25_layer.specs.Layer.{Layer as LayerState, LayerSettings};
 ghost use Rattle.x25_layer.specs.code.FitsLayer.{FitsLayer};
 ghost use Rattle.x25_layer.specs.Room.{HasRoom};
 ghost use Rattle.x25_station.specs.Entry.{entries_down};
-ghost use Rattle.x25_station.specs.code.FitsStation.{FitsStation, Does, RefusesExactly};
+ghost use Rattle.x25_station.specs.code.FitsStation.{FitsStation, Does, answered, RefusesExactly};
 ghost use Rattle.x25_station.specs.code.PlainEntry.{plain_entry};
 ghost use Rattle.x25_station.specs.Config.{Settings};
 ghost use Rattle.x25_station.specs.Station.{Station as State};
@@ -15,8 +15,9 @@ use crate::error::StationError;
 use crate::law::steps_keep_bounds;
 use crate::station::Station;
 use crate::step::Step;
+use std::mem;
 use x25_layer::Layer;
-use x25_link::{Reason, holds_few};
+use x25_link::{Link, Reason, holds_few};
 
 impl Station {
     /// Begins to set the link up. No entry is made.
@@ -52,46 +53,91 @@ impl Station {
         })
     }
 
+    /// Begins to set the link up, as `connect` does. Frames and entries come into lists that the caller keeps, and that are empty before;
+    /// where it is refused they stay empty.
+    pub fn connect_into(
+        &mut self,
+        frames: &mut Vec<Vec<u8>>,
+        entries: &mut Vec<Entry>,
+    ) -> Result<(), StationError>
+        requires frames { frames.old.items ≡ [] }
+        requires entries { entries.old.items ≡ [] }
+        ensures does { Does self.old self.new (answered (record { frames = frames.new; entries = entries.new }) result) connects }
+        ensures exactly { (c : Settings) (s : State) → FitsStation c self.old s → RefusesExactly (answered (record { frames = frames.new; entries = entries.new }) result) (connects c s) }
+        ensures no_frames { OnErr result (frames.new.items ≡ []) }
+        ensures no_entries { OnErr result (entries.new.items ≡ []) }
+    {
+        let answer = self.connect();
+        moved(answer, frames, entries)
+    }
+
     /// A firing of timer T1 of the link.
     ///
     /// 11 where the timer doesn't run, and else 70 alone; 70 may come in place of 11. The station is as before then.
     pub fn t1(&mut self) -> Result<Step, StationError>
         ensures { Does self.old self.new result fires }
     {
+        let mut step = self.lists.step();
+        match self.t1_into(&mut step.frames, &mut step.entries) {
+            Ok(()) => Ok(step),
+            Err(error) => {
+                let _ = self.lists.give_back(step);
+                Err(error)
+            }
+        }
+    }
+
+    /// A firing of timer T1 of the link, as `t1`. Frames and entries come into lists that the caller keeps, and that are empty before;
+    /// where it is refused they stay empty.
+    pub fn t1_into(
+        &mut self,
+        frames: &mut Vec<Vec<u8>>,
+        entries: &mut Vec<Entry>,
+    ) -> Result<(), StationError>
+        requires frames { frames.old.items ≡ [] }
+        requires entries { entries.old.items ≡ [] }
+        ensures does { Does self.old self.new (answered (record { frames = frames.new; entries = entries.new }) result) fires }
+        ensures no_frames { OnErr result (frames.new.items ≡ []) }
+        ensures no_entries { OnErr result (entries.new.items ≡ []) }
+    {
         steps_keep_bounds();
         holds_few();
-        let Ok(mut entries) = self.lists.entries() else {
+        if entries.reserve(1).is_err() {
             return Err(StationError::NoMemory);
-        };
+        }
         match self.link.t1() {
             Ok(step) => {
-                note_down(&mut self.layer, step.notes.down, &mut entries);
-                Ok(Step {
-                    frames: step.frames,
-                    entries,
-                })
+                exchange(&mut self.link, frames, step.frames);
+                note_down(&mut self.layer, step.notes.down, entries);
+                Ok(())
             }
             Err(error) => Err(StationError::of_link(error)),
         }
     }
 
     /// Disconnects the link, for good.
-    pub(crate) fn disconnect(&mut self) -> Result<Step, StationError>
-        ensures { Does self.old self.new result disconnects }
+    pub(crate) fn disconnect(
+        &mut self,
+        frames: &mut Vec<Vec<u8>>,
+        entries: &mut Vec<Entry>,
+    ) -> Result<(), StationError>
+        requires frames { frames.old.items ≡ [] }
+        requires entries { entries.old.items ≡ [] }
+        ensures does { Does self.old self.new (answered (record { frames = frames.new; entries = entries.new }) result) disconnects }
+        ensures no_frames { OnErr result (frames.new.items ≡ []) }
+        ensures no_entries { OnErr result (entries.new.items ≡ []) }
     {
         steps_keep_bounds();
         holds_few();
-        let Ok(mut entries) = Vec::with_capacity(self.alloc, 2) else {
+        if entries.reserve(2).is_err() {
             return Err(StationError::NoMemory);
-        };
+        }
         match self.link.disconnect() {
             Ok(step) => {
                 entries.push_reserved(Entry::DisconnectAsked);
-                note_down(&mut self.layer, step.notes.down, &mut entries);
-                Ok(Step {
-                    frames: step.frames,
-                    entries,
-                })
+                exchange(&mut self.link, frames, step.frames);
+                note_down(&mut self.layer, step.notes.down, entries);
+                Ok(())
             }
             Err(error) => Err(StationError::of_link(error)),
         }
@@ -112,5 +158,48 @@ pub(crate) fn note_down(layer: &mut Layer, down: Option<Reason>, entries: &mut V
     if let Some(reason) = down {
         layer.down();
         entries.push_reserved(Entry::LinkDown(reason));
+    }
+}
+
+/// Frames that were made come into the list, whose memory serves later frames of the link.
+#[inline(always)]
+pub(crate) fn exchange(link: &mut Link, frames: &mut Vec<Vec<u8>>, made: Vec<Vec<u8>>)
+    ensures link { link.new ≡ link.old }
+    ensures frames { frames.new ≡ made }
+{
+    let used = mem::replace(frames, made);
+    link.give_back_list(used);
+}
+
+/// The frames that the link made of the layer's packets come into the list, whose memory serves later frames of the link.
+#[inline(always)]
+pub(crate) fn sent_into(link: &mut Link, frames: &mut Vec<Vec<u8>>)
+    ensures frames { map (λ f. f.items) frames.new.items ≡ link.old.outbox.made }
+    ensures outbox { link.new.outbox ≡ record { made = []; long = 0; short = 0 } }
+    ensures station { link.new.station ≡ link.old.station }
+{
+    let made = link.sent();
+    exchange(link, frames, made);
+}
+
+/// What a call answered comes into lists, which are empty before.
+pub(crate) fn moved(
+    answer: Result<Step, StationError>,
+    frames: &mut Vec<Vec<u8>>,
+    entries: &mut Vec<Entry>,
+) -> Result<(), StationError>
+    requires frames { frames.old.items ≡ [] }
+    requires entries { entries.old.items ≡ [] }
+    ensures answer { answered (record { frames = frames.new; entries = entries.new }) result ≡ answer }
+    ensures no_frames { OnErr result (frames.new.items ≡ []) }
+    ensures no_entries { OnErr result (entries.new.items ≡ []) }
+{
+    match answer {
+        Ok(step) => {
+            *frames = step.frames;
+            *entries = step.entries;
+            Ok(())
+        }
+        Err(error) => Err(error),
     }
 }

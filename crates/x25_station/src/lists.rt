@@ -1,9 +1,9 @@
 //! Lists of frames and of entries that were given back, for those that later calls answer.
-ghost use Rattle.std.specs.Prelude.{◌≡◌, ◌≤◌, [], vec_len, vec_capacity, IfOk};
+ghost use Rattle.std.specs.Prelude.{◌≡◌, ◌≤◌, [], vec_capacity};
 
 use crate::entry::Entry;
-use crate::step::{MOST_ENTRIES, MOST_FRAMES, Step};
-use std::alloc::{AllocError, Global};
+use crate::step::{MOST_FRAMES, Step};
+use std::alloc::Global;
 use std::mem;
 
 /// The most places of a list that is kept.
@@ -19,22 +19,17 @@ pub(crate) struct Lists {
     alloc: Global,
 }
 
-// An empty list with room for so many: the one that is kept, or a new one where that has less.
+// The list that is kept, empty.
 #[inline(always)]
-fn emptied<T: Drop>(kept: &mut Vec<T>, alloc: Global, room: usize) -> Result<Vec<T>, AllocError>
-    ensures items { IfOk result (λ list. list.items ≡ []) }
-    ensures len { IfOk result (λ list. vec_len list ≡ 0) }
-    ensures capacity { IfOk result (λ list. room ≤ vec_capacity list) }
+fn emptied<T: Drop>(kept: &mut Vec<T>, alloc: Global) -> Vec<T>
+    ensures items { result.items ≡ [] }
     ensures none { vec_capacity kept.new ≡ 0 }
 {
     let mut list = mem::replace(kept, Vec::new(alloc));
-    if list.capacity() < room {
-        return Vec::with_capacity(alloc, room);
-    }
     if !list.is_empty() {
         list.clear();
     }
-    Ok(list)
+    list
 }
 
 impl Lists {
@@ -46,29 +41,21 @@ impl Lists {
         }
     }
 
-    /// A list with room for the frames that a call answers.
+    /// Empty lists, for a call to answer into.
     #[inline(always)]
-    pub(crate) fn frames(&mut self) -> Result<Vec<Vec<u8>>, AllocError>
-        ensures items { IfOk result (λ list. list.items ≡ []) }
-        ensures len { IfOk result (λ list. vec_len list ≡ 0) }
-        ensures capacity { IfOk result (λ list. 17 ≤ vec_capacity list) }
+    pub(crate) fn step(&mut self) -> Step
+        ensures frames { result.frames.items ≡ [] }
+        ensures entries { result.entries.items ≡ [] }
     {
-        emptied(&mut self.frames, self.alloc, MOST_FRAMES)
+        Step {
+            frames: emptied(&mut self.frames, self.alloc),
+            entries: emptied(&mut self.entries, self.alloc),
+        }
     }
 
-    /// A list with room for the entries that a call makes.
+    // Takes a list of entries back, where it has more room than the one that is kept.
     #[inline(always)]
-    pub(crate) fn entries(&mut self) -> Result<Vec<Entry>, AllocError>
-        ensures items { IfOk result (λ list. list.items ≡ []) }
-        ensures len { IfOk result (λ list. vec_len list ≡ 0) }
-        ensures capacity { IfOk result (λ list. 3 ≤ vec_capacity list) }
-    {
-        emptied(&mut self.entries, self.alloc, MOST_ENTRIES)
-    }
-
-    /// Takes a list of entries back, where it has more room than the one that is kept.
-    #[inline(always)]
-    pub(crate) fn give_back_entries(&mut self, entries: Vec<Entry>) {
+    fn give_back_entries(&mut self, entries: Vec<Entry>) {
         let mut entries = entries;
         if self.entries.capacity() < entries.capacity() && entries.capacity() <= MOST_PLACES {
             if !entries.is_empty() {

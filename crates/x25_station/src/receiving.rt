@@ -8,7 +8,7 @@ ghost use Rattle.x25_layer.specs.code.FitsLayer.{FitsLayer};
 ghost use Rattle.x25_layer.specs.Room.{HasRoom, HaveAtMost, IsNotFull};
 ghost use Rattle.x25_layer.specs.Rounds.{Putting, hears, comes_up};
 ghost use Rattle.x25_station.specs.Entry.{entries_up, entries_noted};
-ghost use Rattle.x25_station.specs.code.FitsStation.{FitsStation, Does};
+ghost use Rattle.x25_station.specs.code.FitsStation.{FitsStation, Does, answered};
 ghost use Rattle.x25_station.specs.code.PlainEntry.{plain_entry};
 ghost use Rattle.x25_station.specs.Receiving.{kept_of, CanPut};
 ghost use Rattle.x25_station.specs.Config.{Settings, link_settings, layer_settings};
@@ -19,9 +19,9 @@ use crate::entering::{MOST_TEXTS, TextMemory, enter_message, enter_told};
 use crate::entry::Entry;
 use crate::error::StationError;
 use crate::law::steps_keep_bounds;
-use crate::linking::note_down;
+use crate::linking::{exchange, note_down};
 use crate::station::Station;
-use crate::step::Step;
+use crate::step::{MOST_ENTRIES, MOST_FRAMES, Step};
 use x25_frame::reading_is_the_grammar as reads_frames;
 use x25_layer::Layer;
 use x25_link::{Link, Notes, OrderedLink, holds_few, notes_what_changes};
@@ -172,10 +172,35 @@ impl Station {
         ensures does { Does self.old self.new result (λ c s. Did (receives c s octets.now)) }
         ensures refused { IfErr result (λ e. e ≡ StationError.NoMemory) }
     {
-        if self.is_full() {
-            return self.abandon(octets);
+        let mut step = self.lists.step();
+        match self.receive_into(octets, &mut step.frames, &mut step.entries) {
+            Ok(()) => Ok(step),
+            Err(error) => {
+                let _ = self.lists.give_back(step);
+                Err(error)
+            }
         }
-        self.take(octets)
+    }
+
+    /// Takes octets as `receive` does. Frames and entries come into lists that the caller keeps, and that are empty before; where it is
+    /// refused they stay empty.
+    pub fn receive_into(
+        &mut self,
+        octets: &[u8],
+        frames: &mut Vec<Vec<u8>>,
+        entries: &mut Vec<Entry>,
+    ) -> Result<(), StationError>
+        requires frames { frames.old.items ≡ [] }
+        requires entries { entries.old.items ≡ [] }
+        ensures does { Does self.old self.new (answered (record { frames = frames.new; entries = entries.new }) result) (λ c s. Did (receives c s octets.now)) }
+        ensures refused { IfErr result (λ e. e ≡ StationError.NoMemory) }
+        ensures no_frames { OnErr result (frames.new.items ≡ []) }
+        ensures no_entries { OnErr result (entries.new.items ≡ []) }
+    {
+        if self.is_full() {
+            return self.abandon(octets, frames, entries);
+        }
+        self.take(octets, frames, entries)
     }
 
     // Whether the link is up and a count is at its most.
@@ -192,87 +217,108 @@ impl Station {
     }
 
     // A count is at its most: the octets are dropped, and the link goes down.
-    fn abandon(&mut self, octets: &[u8]) -> Result<Step, StationError>
+    fn abandon(
+        &mut self,
+        octets: &[u8],
+        frames: &mut Vec<Vec<u8>>,
+        entries: &mut Vec<Entry>,
+    ) -> Result<(), StationError>
         requires up { up_of self.old.link ≡ true }
         requires full { (c : Settings) (s : State) → FitsStation c self.old s → abandons c s ≡ true }
-        ensures does { Does self.old self.new result (λ c s. Did (receives c s octets.now)) }
+        requires frames { frames.old.items ≡ [] }
+        requires entries { entries.old.items ≡ [] }
+        ensures does { Does self.old self.new (answered (record { frames = frames.new; entries = entries.new }) result) (λ c s. Did (receives c s octets.now)) }
         ensures refused { IfErr result (λ e. e ≡ StationError.NoMemory) }
+        ensures no_frames { OnErr result (frames.new.items ≡ []) }
+        ensures no_entries { OnErr result (entries.new.items ≡ []) }
     {
         steps_keep_bounds();
         holds_few();
-        let Ok(mut entries) = Vec::with_capacity(self.alloc, 1) else {
+        if entries.reserve(1).is_err() {
             return Err(StationError::NoMemory);
-        };
+        }
         let step = self.link.abandon();
-        note_down(&mut self.layer, step.notes.down, &mut entries);
-        Ok(Step {
-            frames: step.frames,
-            entries,
-        })
+        exchange(&mut self.link, frames, step.frames);
+        note_down(&mut self.layer, step.notes.down, entries);
+        Ok(())
     }
 
     // Sets memory aside for all that octets may bring: room for frames and entries, and their texts. However long the octets are,
     // it is for 16 packets, 3 texts and 4,096 octets a circuit, or for what was before.
-    fn set_aside(&mut self, len: usize) -> Result<(Vec<Vec<u8>>, Vec<Entry>), StationError>
+    fn set_aside(
+        &mut self,
+        len: usize,
+        frames: &mut Vec<Vec<u8>>,
+        entries: &mut Vec<Entry>,
+    ) -> Result<(), StationError>
         ensures fits { (c : Settings) (s : State) → FitsStation c self.old s → FitsStation c self.new s }
         ensures left { IsNotFull self.old.layer → IsNotFull self.new.layer }
         ensures room { OnOk result (HasRoom len self.new.layer self.new.link.outbox.long) }
         ensures texts { OnOk result (3 ≤ self.new.texts) }
-        ensures frames { IfOk result (λ made. made.0.items ≡ []) }
-        ensures frames_room { IfOk result (λ made. 17 ≤ vec_capacity made.0) }
-        ensures entries { IfOk result (λ made. made.1.items ≡ []) }
-        ensures entries_room { IfOk result (λ made. 3 ≤ vec_capacity made.1) }
+        ensures frames { frames.new.items ≡ frames.old.items }
+        ensures frames_room { OnOk result (vec_len frames.new + 17 ≤ vec_capacity frames.new) }
+        ensures entries { entries.new.items ≡ entries.old.items }
+        ensures entries_room { OnOk result (vec_len entries.new + 3 ≤ vec_capacity entries.new) }
         ensures refused { IfErr result (λ e. e ≡ StationError.NoMemory) }
         ensures most_texts { self.new.texts ≤ max self.old.texts 3 }
         ensures most_memory { self.new.layer.memory ≤ max self.old.layer.memory 16 }
         ensures most_spares { self.new.link.outbox.long ≤ max self.old.link.outbox.long 16 }
         ensures most_circuits { (bound : ℕ) → 4096 ≤ bound → HaveAtMost bound self.old.layer.circuits.items → HaveAtMost bound self.new.layer.circuits.items }
     {
-        let Ok(frames) = self.lists.frames() else {
+        if frames.reserve(MOST_FRAMES).is_err() {
             return Err(StationError::NoMemory);
-        };
-        let Ok(entries) = self.lists.entries() else {
+        }
+        if entries.reserve(MOST_ENTRIES).is_err() {
             return Err(StationError::NoMemory);
-        };
+        }
         if self.texts.reserve(MOST_TEXTS).is_err() {
             return Err(StationError::NoMemory);
         }
         match self.layer.room(&mut self.link, len) {
-            Ok(()) => Ok((frames, entries)),
+            Ok(()) => Ok(()),
             Err(error) => Err(StationError::of_layer(error)),
         }
     }
 
     // Octets that the link takes.
     #[inline(always)]
-    fn take(&mut self, octets: &[u8]) -> Result<Step, StationError>
+    fn take(
+        &mut self,
+        octets: &[u8],
+        frames: &mut Vec<Vec<u8>>,
+        entries: &mut Vec<Entry>,
+    ) -> Result<(), StationError>
         requires left { up_of self.old.link ≡ true → IsNotFull self.old.layer }
         requires goes_on { (c : Settings) (s : State) → FitsStation c self.old s → abandons c s ≡ false }
-        ensures does { Does self.old self.new result (λ c s. Did (receives c s octets.now)) }
+        requires frames { frames.old.items ≡ [] }
+        requires entries { entries.old.items ≡ [] }
+        ensures does { Does self.old self.new (answered (record { frames = frames.new; entries = entries.new }) result) (λ c s. Did (receives c s octets.now)) }
         ensures refused { IfErr result (λ e. e ≡ StationError.NoMemory) }
+        ensures no_frames { OnErr result (frames.new.items ≡ []) }
+        ensures no_entries { OnErr result (entries.new.items ≡ []) }
     {
         steps_keep_bounds();
         notes_what_changes();
         holds_few();
         reads_frames();
-        let (mut frames, mut entries) = self.set_aside(octets.len())?;
+        self.set_aside(octets.len(), frames, entries)?;
         match self.link.take(octets) {
             Ok(step) => {
                 let mut used = step.frames;
-                append(&mut frames, &mut used);
+                append(frames, &mut used);
                 follow(
                     &mut self.layer,
                     &mut self.link,
                     &mut self.texts,
                     step.notes,
                     step.packet,
-                    &mut entries,
+                    entries,
                 );
                 let mut kept = self.link.sent();
-                append(&mut frames, &mut kept);
+                append(frames, &mut kept);
                 self.link.give_back_list(used);
                 self.link.give_back_list(kept);
-                Ok(Step { frames, entries })
+                Ok(())
             }
             Err(error) => Err(StationError::of_link(error)),
         }

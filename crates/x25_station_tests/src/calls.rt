@@ -1,5 +1,7 @@
 //! The calls of a station without their claims: a body that makes one of the station's own carries all that it promises.
 
+ghost use Rattle.std.specs.Prelude.{◌≡◌, []};
+
 use std::alloc::Global;
 use x25_station::{Cfg, Cmd, Role, Station, StationError, Step};
 
@@ -31,4 +33,42 @@ pub fn receive(station: &mut Station, octets: &[u8]) -> Result<Step, StationErro
 
 pub fn ask(station: &mut Station, command: Cmd<'_>) -> Result<Step, StationError> {
     station.command(command)
+}
+
+// Lists of a step are emptied, for a call to answer into.
+fn empty(lists: &mut Step)
+    ensures frames { lists.new.frames.items ≡ [] }
+    ensures entries { lists.new.entries.items ≡ [] }
+{
+    lists.frames.clear();
+    lists.entries.clear();
+}
+
+/// The lists of `lists` are kept from call to call.
+pub fn connect_into(station: &mut Station, lists: &mut Step) -> Result<(), StationError> {
+    empty(lists);
+    station.connect_into(&mut lists.frames, &mut lists.entries)
+}
+
+pub fn fire_into(station: &mut Station, lists: &mut Step) -> Result<(), StationError> {
+    empty(lists);
+    station.t1_into(&mut lists.frames, &mut lists.entries)
+}
+
+pub fn receive_into(
+    station: &mut Station,
+    octets: &[u8],
+    lists: &mut Step,
+) -> Result<(), StationError> {
+    empty(lists);
+    station.receive_into(octets, &mut lists.frames, &mut lists.entries)
+}
+
+pub fn ask_into(
+    station: &mut Station,
+    command: Cmd<'_>,
+    lists: &mut Step,
+) -> Result<(), StationError> {
+    empty(lists);
+    station.command_into(command, &mut lists.frames, &mut lists.entries)
 }

@@ -14,6 +14,8 @@ mod given_back;
 #[cfg(test)]
 mod hearing;
 #[cfg(test)]
+mod kept_lists;
+#[cfg(test)]
 mod linking;
 #[cfg(test)]
 mod long_data;

@@ -20,12 +20,11 @@ use crate::event::Event;
 use crate::line::Line;
 use crate::set_up::is_on_line;
 use crate::told::Entered;
-use std::mem;
 use x25_bits::{Role, check};
-use x25_station::{Cmd, Entry, MOST_ENTRIES, MOST_FRAMES, Station, Step};
+use x25_station::{Cmd, Entry, MOST_ENTRIES, MOST_FRAMES, Station};
 
-/// The event happens at its end, or on the line to it, and what it tells comes into the list, which is empty before. With `taps` its frames are put on
-/// the tap. Refused with the one ground that applies, 50, 51, 52, 53 or 54, or with 70; all is as before then.
+/// The event happens at its end, or on the line to it, and what it tells comes into the list, which is empty before, as is the list by which its frames
+/// come on the line. With `taps` they are put on the tap. Refused with the one ground that applies, 50, 51, 52, 53 or 54, or with 70; all is as before then.
 #[inline(always)]
 pub fn act_at_end(
     dte: &mut Station,
@@ -33,9 +32,11 @@ pub fn act_at_end(
     line: &mut Line,
     taps: bool,
     told: &mut Vec<Entry>,
+    frames: &mut Vec<Vec<u8>>,
     event: Event,
 ) -> Result<(), WorldError>
     requires empty { told.old.items ≡ [] }
+    requires unsent { frames.old.items ≡ [] }
     requires untapped { taps ≡ false → line.old.tap ≡ [] }
     ensures few { vec_len told.new ≤ most_told (event_of event.entry).act }
     ensures memory { IsErrOf result WorldError.NoMemory → TakesMemory (event_of event.entry).act }
@@ -44,8 +45,8 @@ pub fn act_at_end(
         HasActedAt cfg taps (record { dte = dte.new; dce = dce.new; line = line.new; transcript = before }) (entered (event_of event.entry).at (map plain_entry told.new.items)) result w gone (event_of event.entry) }
 {
     match event.at() {
-        Role::Dte => act(Role::Dte, dte, line, taps, told, event),
-        Role::Dce => act(Role::Dce, dce, line, taps, told, event),
+        Role::Dte => act(Role::Dte, dte, line, taps, told, frames, event),
+        Role::Dce => act(Role::Dce, dce, line, taps, told, frames, event),
     }
 }
 
@@ -58,9 +59,11 @@ fn act(
     line: &mut Line,
     taps: bool,
     told: &mut Vec<Entry>,
+    frames: &mut Vec<Vec<u8>>,
     event: Event,
 ) -> Result<(), WorldError>
     requires empty { told.old.items ≡ [] }
+    requires unsent { frames.old.items ≡ [] }
     requires untapped { taps ≡ false → line.old.tap ≡ [] }
     ensures few { vec_len told.new ≤ most_told (event_of event.entry).act }
     ensures memory { IsErrOf result WorldError.NoMemory → TakesMemory (event_of event.entry).act }
@@ -69,11 +72,11 @@ fn act(
         HasActed cfg at taps (record { near = near.new; line = line.new; transcript = before }) (entered at (map plain_entry told.new.items)) result w gone (acts (settings_from at cfg) w (event_of event.entry).act) }
 {
     match event {
-        Event::Command(_, cmd) => command(at, near, line, taps, told, cmd),
-        Event::Deliver(_) => deliver(at, near, line, taps, told),
+        Event::Command(_, cmd) => command(at, near, line, taps, told, frames, cmd),
+        Event::Deliver(_) => deliver(at, near, line, taps, told, frames),
         Event::Lose(_, place) => lose(at, line, place),
         Event::Damage(_, place, octets) => damage(at, line, place, octets),
-        Event::T1(_) => fire(at, near, line, taps, told),
+        Event::T1(_) => fire(at, near, line, taps, told, frames),
     }
 }
 
@@ -85,9 +88,11 @@ fn command(
     line: &mut Line,
     taps: bool,
     told: &mut Vec<Entry>,
+    frames: &mut Vec<Vec<u8>>,
     cmd: Cmd,
 ) -> Result<(), WorldError>
     requires empty { told.old.items ≡ [] }
+    requires unsent { frames.old.items ≡ [] }
     requires untapped { taps ≡ false → line.old.tap ≡ [] }
     ensures few { vec_len told.new ≤ 3 }
     ensures acted { (cfg : Cfg) (w : definition.World) (gone : Gone) (before : List AtEnd) →
@@ -95,9 +100,9 @@ fn command(
         HasActed cfg at taps (record { near = near.new; line = line.new; transcript = before }) (entered at (map plain_entry told.new.items)) result w gone (of_station (settings_from at cfg) w (commands (settings_from at cfg) w.near (command_of cmd.entry))) }
 {
     make_room(line)?;
-    match near.command(cmd) {
-        Ok(step) => {
-            tell(at, near, line, taps, told, step);
+    match near.command_into(cmd, frames, told) {
+        Ok(()) => {
+            line.put(at, taps, frames);
             Ok(())
         }
         Err(error) => Err(WorldError::of_station(error)),
@@ -112,8 +117,10 @@ fn deliver(
     line: &mut Line,
     taps: bool,
     told: &mut Vec<Entry>,
+    frames: &mut Vec<Vec<u8>>,
 ) -> Result<(), WorldError>
     requires empty { told.old.items ≡ [] }
+    requires unsent { frames.old.items ≡ [] }
     requires untapped { taps ≡ false → line.old.tap ≡ [] }
     ensures few { vec_len told.new ≤ 3 }
     ensures acted { (cfg : Cfg) (w : definition.World) (gone : Gone) (before : List AtEnd) →
@@ -124,11 +131,11 @@ fn deliver(
     let Some(octets) = line.get(at, 0) else {
         return Err(WorldError::Empty);
     };
-    match near.receive(octets) {
-        Ok(step) => {
+    match near.receive_into(octets, frames, told) {
+        Ok(()) => {
             let octets = line.remove(at, 0);
             give_back(near, octets);
-            tell(at, near, line, taps, told, step);
+            line.put(at, taps, frames);
             Ok(())
         }
         Err(error) => Err(WorldError::of_station(error)),
@@ -153,8 +160,10 @@ fn fire(
     line: &mut Line,
     taps: bool,
     told: &mut Vec<Entry>,
+    frames: &mut Vec<Vec<u8>>,
 ) -> Result<(), WorldError>
     requires empty { told.old.items ≡ [] }
+    requires unsent { frames.old.items ≡ [] }
     requires untapped { taps ≡ false → line.old.tap ≡ [] }
     ensures few { vec_len told.new ≤ 3 }
     ensures acted { (cfg : Cfg) (w : definition.World) (gone : Gone) (before : List AtEnd) →
@@ -165,9 +174,9 @@ fn fire(
         return Err(WorldError::OnLine);
     }
     make_room(line)?;
-    match near.t1() {
-        Ok(step) => {
-            tell(at, near, line, taps, told, step);
+    match near.t1_into(frames, told) {
+        Ok(()) => {
+            line.put(at, taps, frames);
             Ok(())
         }
         Err(error) => Err(WorldError::of_station(error)),
@@ -189,8 +198,10 @@ pub fn connect(
     line: &mut Line,
     taps: bool,
     told: &mut Vec<Entry>,
+    frames: &mut Vec<Vec<u8>>,
 ) -> Result<(), WorldError>
     requires empty { told.old.items ≡ [] }
+    requires unsent { frames.old.items ≡ [] }
     requires untapped { taps ≡ false → line.old.tap ≡ [] }
     ensures few { vec_len told.new ≤ 3 }
     ensures acted { (cfg : Cfg) (w : definition.World) (gone : Gone) (before : List AtEnd) →
@@ -198,9 +209,9 @@ pub fn connect(
         HasActed cfg at taps (record { near = near.new; line = line.new; transcript = before }) (entered at (map plain_entry told.new.items)) result w gone (of_station (settings_from at cfg) w (connects (settings_from at cfg) w.near)) }
 {
     make_room(line)?;
-    match near.connect() {
-        Ok(step) => {
-            tell(at, near, line, taps, told, step);
+    match near.connect_into(frames, told) {
+        Ok(()) => {
+            line.put(at, taps, frames);
             Ok(())
         }
         Err(error) => Err(WorldError::of_station(error)),
@@ -217,27 +228,6 @@ fn make_room(line: &mut Line) -> Result<(), WorldError>
         return Err(WorldError::NoMemory);
     }
     Ok(())
-}
-
-// What a step answers goes on the line, with `taps` on the tap too, in room that there is, and its entries into the list. Its lists are given back.
-#[inline(always)]
-fn tell(
-    at: Role,
-    near: &mut Station,
-    line: &mut Line,
-    taps: bool,
-    told: &mut Vec<Entry>,
-    mut step: Step,
-)
-    requires frames { vec_len step.frames ≤ line.old.room }
-    requires untapped { taps ≡ false → line.old.tap ≡ [] }
-    ensures line { line.new ≡ put_by taps line.old at (map (λ frame. frame.items) step.frames.items) }
-    ensures told { told.new ≡ step.entries }
-    ensures near { (c : Settings) (s : StationState) → FitsStation c near.old s → FitsStation c near.new s }
-{
-    line.put(at, taps, &mut step.frames);
-    mem::swap(told, &mut step.entries);
-    near.give_back(step);
 }
 
 /// Room for what an event tells, for which what is lost takes none.

@@ -88,7 +88,22 @@ impl Line {
     }
 
     /// An end puts frames on the line, with `taps` on the tap too, in room that there is, and leaves their list empty.
+    #[inline(always)]
     pub fn put(&mut self, from: Role, taps: bool, frames: &mut Vec<Vec<u8>>)
+        requires room { vec_len frames.old ≤ self.old.room }
+        requires untapped { taps ≡ false → self.old.tap ≡ [] }
+        ensures { self.new ≡ put_by taps self.old from (map (λ frame. frame.items) frames.old.items) }
+    {
+        if frames.len() == 1 {
+            if let Some(octets) = frames.pop() {
+                self.put_one(from, taps, octets);
+            }
+            return;
+        }
+        self.put_all(from, taps, frames);
+    }
+
+    fn put_all(&mut self, from: Role, taps: bool, frames: &mut Vec<Vec<u8>>)
         requires room { vec_len frames.old ≤ self.old.room }
         requires untapped { taps ≡ false → self.old.tap ≡ [] }
         ensures { self.new ≡ put_by taps self.old from (map (λ frame. frame.items) frames.old.items) }

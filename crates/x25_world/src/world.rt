@@ -41,6 +41,8 @@ pub struct World {
     transcript: Vec<Entered>,
     // What the event that happens tells.
     told: Vec<Entry>,
+    // Frames on their way from a station to the line. It is empty between calls.
+    frames: Vec<Vec<u8>>,
 }
 
 impl Model for World {
@@ -87,6 +89,7 @@ impl World {
                 line: Line::new(alloc),
                 transcript: Vec::new(alloc),
                 told: Vec::new(alloc),
+                frames: Vec::new(alloc),
             }),
             Err(error) => {
                 drop(dte);
@@ -138,12 +141,14 @@ impl World {
             return Err(WorldError::NoMemory);
         }
         self.told.clear();
+        empty(&mut self.frames);
         if let Err(error) = connect(
             Role::Dte,
             &mut self.dte,
             &mut self.line,
             true,
             &mut self.told,
+            &mut self.frames,
         ) {
             return Err(error);
         }
@@ -276,12 +281,14 @@ impl World {
     {
         make_room_to_enter(&mut self.transcript, event)?;
         self.told.clear();
+        empty(&mut self.frames);
         if let Err(error) = act_at_end(
             &mut self.dte,
             &mut self.dce,
             &mut self.line,
             true,
             &mut self.told,
+            &mut self.frames,
             event,
         ) {
             return Err(error);
@@ -335,12 +342,14 @@ impl World {
         ensures stays { (cfg : Cfg) (w : definition.World) → FitsWorld cfg self.old w (all_of w) → OnErr result (FitsWorld cfg self.new w (all_of w)) }
         ensures memory { IsErrOf result WorldError.NoMemory → TakesMemory (event_of event.entry).act }
     {
+        empty(&mut self.frames);
         act_at_end(
             &mut self.dte,
             &mut self.dce,
             &mut self.line,
             taps,
             told,
+            &mut self.frames,
             event,
         )
     }
@@ -434,11 +443,11 @@ impl World {
 
 // A list that is empty isn't cleared.
 #[inline(always)]
-fn empty(told: &mut Vec<Entry>)
-    ensures { told.new.items ≡ [] }
+fn empty<T: Drop>(list: &mut Vec<T>)
+    ensures { list.new.items ≡ [] }
 {
-    if !told.is_empty() {
-        told.clear();
+    if !list.is_empty() {
+        list.clear();
     }
 }
 

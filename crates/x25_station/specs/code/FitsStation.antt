@@ -1,5 +1,5 @@
 -- Which states of the definition a station stands for, and what its calls answer.
-use Rattle.std.specs.Prelude.{◌≡◌, ◌≤◌, ◌⊎◌, map, vec_len, Option, Some, None, Result, Err, OnOk, OnErr, IfOk, IfErr, IsErrAnd}
+use Rattle.std.specs.Prelude.{◌≡◌, ◌≤◌, ◌⊎◌, map, vec_len, Option, Some, None, Result, Ok, Err, OnOk, OnErr, IfOk, IfErr, IsErrAnd}
 use Rattle.x25_frame.specs.Spelling.{spelling_of}
 use Rattle.x25_link.specs.code.FitsLink.{ShownLink}
 use Rattle.x25_layer.specs.declared.layer.Layer as layer_code
@@ -56,6 +56,11 @@ pub record Does (old new : code.Station) (result : Result code_step.Step Station
   pub stays : (c : Settings) (s : Station) → FitsStation c old s → OnErr result (FitsStation c new s)
   pub few_frames : IfOk result (λ answer. vec_len answer.frames ≤ 17)
   pub few_entries : IfOk result (λ answer. vec_len answer.entries ≤ 3)
+
+-- What a call answers whose frames and entries come into lists that its caller keeps, and that are empty before: these lists, or its refusal.
+abbrev pub answered : {T : Type 0} → code_step.Step → Result T StationError → Result code_step.Step StationError
+answered lists (Ok u) = Ok lists
+answered lists (Err e) = Err e
 
 -- a call that makes a station is refused with this, or else with 70 alone
 abbrev pub RefusesWith : {T : Type 0} → Result T StationError → Option StationError → Type 0

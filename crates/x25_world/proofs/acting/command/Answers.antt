@@ -1,16 +1,16 @@
-use Rattle.std.proofs.Common.{Ok, sym}
+use Rattle.std.proofs.Common.{sym}
 use Rattle.x25_station.specs.Config.{settings_from}
-use Rattle.x25_world.proofs.SideLemmas.{leaves_on, shared_of, has_happened, is_refusal, side_stays}
+use Rattle.x25_world.proofs.SideLemmas.{shared_of, has_happened, is_refusal, side_stays}
 use Rattle.x25_world.proofs.acting.command.Goals as goal
 
 pub returns-in-Ok-clause-acted : goal.returns-in-Ok-clause-acted
 returns-in-Ok-clause-acted c = λ cfg w gone before side.
     let fits = side.near in
     let shared = rw (sym c.make_room.ensures.line) at (shared_of cfg c.args.at c.args.taps _ c.args.line.now before w gone c.make_room.new.line.room side) in
-    let called = c.in-Ok.ensures in
+    let called = c.in-Ok.ensures.does in
     record {
-      happened = rw (c.tell.ensures.line, c.tell.ensures.told)
-          (has_happened cfg c.args.at c.args.taps _ _ before w gone _ c.in-Ok.step shared (leaves_on (settings_from c.args.at cfg) c.command.new.self c.tell.new.near (Ok c.in-Ok.step) _ c.tell.ensures.near (called.state _ _ fits)) (called.frames _ _ fits) (called.entries _ _ fits) (called.refused _ _ fits));
+      happened = rw c.put.ensures
+          (has_happened cfg c.args.at c.args.taps _ _ before w gone _ (record { frames = c.command_into.new.frames; entries = c.command_into.new.entries }) shared (called.state _ _ fits) (called.frames _ _ fits) (called.entries _ _ fits) (called.refused _ _ fits));
       refused = tt;
       stays = tt;
     }
@@ -18,7 +18,7 @@ returns-in-Ok-clause-acted c = λ cfg w gone before side.
 pub returns-in-Err-clause-acted : goal.returns-in-Err-clause-acted
 returns-in-Err-clause-acted c = λ cfg w gone before side.
     let fits = side.near in
-    let called = c.in-Err.ensures in
+    let called = c.in-Err.ensures.does in
     record {
       happened = tt;
       refused = rw c.of_station.ensures (is_refusal cfg c.args.at w _ c.in-Err.error (called.refused _ _ fits));

@@ -1,6 +1,6 @@
-use Rattle.std.proofs.Common.{Ok, sym}
+use Rattle.std.proofs.Common.{sym}
 use Rattle.x25_station.specs.Config.{settings_from}
-use Rattle.x25_world.proofs.SideLemmas.{leaves_on, shared_of, has_happened, is_refusal, side_stays}
+use Rattle.x25_world.proofs.SideLemmas.{shared_of, has_happened, is_refusal, side_stays}
 use Rattle.x25_world.proofs.acting.connect.Goals as goal
 
 pub returns-in-Ok-clause-acted : goal.returns-in-Ok-clause-acted
@@ -9,8 +9,8 @@ returns-in-Ok-clause-acted c = λ cfg w gone before side.
     let shared = rw (sym c.make_room.ensures.line) at (shared_of cfg c.args.at c.args.taps _ c.args.line.now before w gone c.make_room.new.line.room side) in
     let called = c.in-Ok.ensures.does in
     record {
-      happened = rw (c.tell.ensures.line, c.tell.ensures.told)
-          (has_happened cfg c.args.at c.args.taps _ _ before w gone _ c.in-Ok.step shared (leaves_on (settings_from c.args.at cfg) c.connect.new.self c.tell.new.near (Ok c.in-Ok.step) _ c.tell.ensures.near (called.state _ _ fits)) (called.frames _ _ fits) (called.entries _ _ fits) (called.refused _ _ fits));
+      happened = rw c.put.ensures
+          (has_happened cfg c.args.at c.args.taps _ _ before w gone _ (record { frames = c.connect_into.new.frames; entries = c.connect_into.new.entries }) shared (called.state _ _ fits) (called.frames _ _ fits) (called.entries _ _ fits) (called.refused _ _ fits));
       refused = tt;
       stays = tt;
     }

@@ -12,8 +12,8 @@ returns-in-Ok-clause-acted c = λ cfg w gone before side.
     let called = c.in-Ok.ensures.does in
     let front : Some c.in-Some.octets.now ≡ slice_get w.back 0 = c.in-Some.ensures ∙ ap (λ l. slice_get l 0) shared.back in
     record {
-      happened = rw (c.tell.ensures.line, c.tell.ensures.told, c.remove-octets.ensures)
-          (has_arrived cfg c.args.at c.args.taps _ c.make_room.new.line before w w.back gone c.in-Some.octets.now c.in-Ok.step shared front (leaves_on (settings_from c.args.at cfg) c.receive.new.self c.tell.new.near (Ok c.in-Ok.step) (Did (receives (settings_from c.args.at cfg) w.near c.in-Some.octets.now)) (λ k s f. c.tell.ensures.near k s (c.give_back.ensures k s f)) (called.state _ _ fits)) (called.frames _ _ fits) (called.entries _ _ fits));
+      happened = rw (c.put.ensures, c.remove-octets.ensures)
+          (has_arrived cfg c.args.at c.args.taps _ c.make_room.new.line before w w.back gone c.in-Some.octets.now (record { frames = c.receive_into.new.frames; entries = c.receive_into.new.entries }) shared front (leaves_on (settings_from c.args.at cfg) c.receive_into.new.self c.give_back.new.near (Ok (record { frames = c.receive_into.new.frames; entries = c.receive_into.new.entries })) (Did (receives (settings_from c.args.at cfg) w.near c.in-Some.octets.now)) c.give_back.ensures (called.state _ _ fits)) (called.frames _ _ fits) (called.entries _ _ fits));
       refused = tt;
       stays = tt;
     }

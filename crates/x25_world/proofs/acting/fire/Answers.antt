@@ -1,7 +1,7 @@
-use Rattle.std.proofs.Common.{Ok, sym, ap, inl, ◌∙◌}
+use Rattle.std.proofs.Common.{sym, ap, inl, ◌∙◌}
 use Rattle.x25_station.specs.Config.{settings_from}
 use Rattle.x25_world.specs.World.{refusal_of}
-use Rattle.x25_world.proofs.SideLemmas.{leaves_on, shared_of, has_happened, is_refusal, side_stays, holds_back, lets_fire}
+use Rattle.x25_world.proofs.SideLemmas.{shared_of, has_happened, is_refusal, side_stays, holds_back, lets_fire}
 use Rattle.x25_world.proofs.acting.fire.Goals as goal
 
 pub returns-then-awaits_frames-clause-acted : goal.returns-then-awaits_frames-clause-acted
@@ -14,10 +14,10 @@ returns-in-Ok-clause-acted c = λ cfg w gone before side.
     let fires = lets_fire (settings_from c.args.at cfg) w (sym (c.awaits_frames.ensures cfg w _ _ gone side) ∙ c.if-awaits_frames.false) in
     let fits = side.near in
     let shared = rw (sym c.make_room.ensures.line) at (shared_of cfg c.args.at c.args.taps _ c.args.line.now before w gone c.make_room.new.line.room side) in
-    let called = c.in-Ok.ensures in
+    let called = c.in-Ok.ensures.does in
     record {
-      happened = rw (fires, c.tell.ensures.line, c.tell.ensures.told)
-          (has_happened cfg c.args.at c.args.taps _ _ before w gone _ c.in-Ok.step shared (leaves_on (settings_from c.args.at cfg) c.t1.new.self c.tell.new.near (Ok c.in-Ok.step) _ c.tell.ensures.near (called.state _ _ fits)) (called.frames _ _ fits) (called.entries _ _ fits) (called.refused _ _ fits));
+      happened = rw (fires, c.put.ensures)
+          (has_happened cfg c.args.at c.args.taps _ _ before w gone _ (record { frames = c.t1_into.new.frames; entries = c.t1_into.new.entries }) shared (called.state _ _ fits) (called.frames _ _ fits) (called.entries _ _ fits) (called.refused _ _ fits));
       refused = tt;
       stays = tt;
     }
@@ -26,7 +26,7 @@ pub returns-in-Err-clause-acted : goal.returns-in-Err-clause-acted
 returns-in-Err-clause-acted c = λ cfg w gone before side.
     let fires = lets_fire (settings_from c.args.at cfg) w (sym (c.awaits_frames.ensures cfg w _ _ gone side) ∙ c.if-awaits_frames.false) in
     let fits = side.near in
-    let called = c.in-Err.ensures in
+    let called = c.in-Err.ensures.does in
     record {
       happened = tt;
       refused = rw (fires, c.of_station.ensures) (is_refusal cfg c.args.at w _ c.in-Err.error (called.refused _ _ fits));

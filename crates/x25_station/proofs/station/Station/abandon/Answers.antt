@@ -1,6 +1,7 @@
-use Rattle.std.proofs.Common.{arith, ◌≤◌, length, [], ◌++◌, map, ap, ◌∙◌}
+use Rattle.std.proofs.Common.{arith, ◌≤◌, length, [], ◌++◌, map, vec_len, ap, sym, subst, ◌∙◌}
 use Rattle.x25_link.specs.Hearing.{Step as LinkStep}
 use Rattle.x25_link.specs.Link.{abandon_step}
+use Rattle.x25_link.specs.code.FitsLink.{FitsLink}
 use Rattle.x25_station.specs.Entry.{entries_down}
 use Rattle.x25_station.specs.code.PlainEntry.{plain_entry}
 use Rattle.x25_station.specs.Config.{link_settings, layer_settings}
@@ -21,9 +22,9 @@ invariant_of-self c = record {
         step.near,
         fits_down c' _ _ s.layer k step _ (ap (λ (x : Step). x.near) (gives_up c' s c.args.octets.now (c.requires.full c' s fits)))
             (ap (λ n. n.down) (c.abandon-step.ensures.answer (link_settings c') s.link fits.link).notes)
-            (c.abandon-step.ensures.state (link_settings c') s.link fits.link)
+            (subst (λ l. FitsLink (link_settings c') l k.side.near) (sym c.exchange.ensures.link) (c.abandon-step.ensures.state (link_settings c') s.link fits.link))
             (c.note_down.ensures.layer (layer_settings c') s.layer fits.layer)
-            (ap (λ o. o.made) c.abandon-step.ensures.outbox ∙ fits.sent)
+            (ap (λ l. l.outbox.made) c.exchange.ensures.link ∙ ap (λ o. o.made) c.abandon-step.ensures.outbox ∙ fits.sent)
             (c.steps_keep_bounds.ensures.receive c' s c.args.octets.now fits.kept),
       ));
   aside =
@@ -31,7 +32,7 @@ invariant_of-self c = record {
       let low = before.packets in
       let few = before.spares in
       let memory = c.note_down.ensures.memory in
-      let same = ap (λ o. o.long) c.abandon-step.ensures.outbox in
+      let same = ap (λ l. l.outbox.long) c.exchange.ensures.link ∙ ap (λ o. o.long) c.abandon-step.ensures.outbox in
       record { packets = omega (arith, memory, low); spares = omega (arith, same, few); texts = before.texts };
 }
 
@@ -42,24 +43,25 @@ returns-clause-does c = record {
       let step : Step = receives c' s c.args.octets.now in
       fits_down c' _ _ s.layer k step _ (ap (λ (x : Step). x.near) (gives_up c' s c.args.octets.now (c.requires.full c' s fits)))
       (ap (λ n. n.down) (c.abandon-step.ensures.answer (link_settings c') s.link fits.link).notes)
-      (c.abandon-step.ensures.state (link_settings c') s.link fits.link)
+      (subst (λ l. FitsLink (link_settings c') l k.side.near) (sym c.exchange.ensures.link) (c.abandon-step.ensures.state (link_settings c') s.link fits.link))
       (c.note_down.ensures.layer (layer_settings c') s.layer fits.layer)
-      (ap (λ o. o.made) c.abandon-step.ensures.outbox ∙ fits.sent)
+      (ap (λ l. l.outbox.made) c.exchange.ensures.link ∙ ap (λ o. o.made) c.abandon-step.ensures.outbox ∙ fits.sent)
       (c.steps_keep_bounds.ensures.receive c' s c.args.octets.now fits.kept);
   frames = λ c' s fits.
       let k : LinkStep = abandon_step (link_settings c') s.link in
-      frames_down c' s.layer k _ (receives c' s c.args.octets.now) (gives_up c' s c.args.octets.now (c.requires.full c' s fits)) (c.abandon-step.ensures.answer (link_settings c') s.link fits.link).frames;
+      ap (λ made. map (λ frame. frame.items) made.items) c.exchange.ensures.frames
+      ∙ frames_down c' s.layer k _ (receives c' s c.args.octets.now) (gives_up c' s c.args.octets.now (c.requires.full c' s fits)) (c.abandon-step.ensures.answer (link_settings c') s.link fits.link).frames;
   entries = λ c' s fits.
       let k : LinkStep = abandon_step (link_settings c') s.link in
       let answer = c.abandon-step.ensures.answer (link_settings c') s.link fits.link in
       entries_noted_down s.layer k [] _ _ (receives c' s c.args.octets.now) (gives_up c' s c.args.octets.now (c.requires.full c' s fits)) (ap (λ n. n.down) answer.notes)
-      (c.note_down.ensures.entries ∙ ap (λ es. map plain_entry es ++ entries_down c.abandon-step.result.notes.down) c.in-Ok.ensures.items);
+      (c.note_down.ensures.entries ∙ ap (λ es. map plain_entry es ++ entries_down c.abandon-step.result.notes.down) (c.reserve.ensures.items ∙ c.requires.entries));
   refused = λ c' s fits. tt;
   stays = λ c' s fits. tt;
   few_frames = let few : length c.abandon-step.result.frames.items ≤ 9 = least_by_meaning _ _ (length c.abandon-step.result.frames.items) 9 c.args.self.now.meant (λ c' s fits.
       let lk = link_settings c' in
       few_frames c'.role c.abandon-step.result.frames.items (λ frame. frame.items) (abandon_step lk s.link).side.out 9 (c.abandon-step.ensures.answer lk s.link fits.link).frames
       (abandon_few lk s.link (c.holds_few.ensures.window lk c.args.self.now.link s.link fits.link))) in
-      grind (arith, few, c.abandon-step.result.frames.ok);
-  few_entries = grind (arith, c.note_down.ensures.length, c.in-Ok.ensures.len);
+      subst (λ made. vec_len made ≤ 17) (sym c.exchange.ensures.frames) (grind (arith, few, c.abandon-step.result.frames.ok));
+  few_entries = grind (arith, c.note_down.ensures.length, c.reserve.ensures.len, c.requires.entries, c.args.entries.now.ok);
 }

@@ -14,24 +14,24 @@ use Rattle.x25_station.proofs.DoesLemmas.{did_request, declines_request}
 use Rattle.x25_station.proofs.EnteredLemmas.{dialled_enters}
 use Rattle.x25_station.proofs.station.Station.call.Goals as goal
 
-pub invariant_of-self-in-Ok-call_with : goal.invariant_of-self-in-Ok-call_with
-invariant_of-self-in-Ok-call_with c = record {
+pub invariant_of-self : goal.invariant_of-self
+invariant_of-self c = record {
   meant = still_meant _ _ _ _ c.args.self.now.meant (λ c' s fits.
       let request = Dials c.args.called.now c.args.calling.now c.args.user.now c.args.params in
-      let a = answers c.in-Ok-call_with.channel c' _ c.call_with.new.link c.sent-frames.new.self _ c.call_with.new.self (record { frames = c.sent-frames.result; entries = c.enter.new.entries }) s request fits
-      c.in-Ok-call_with.ensures.does.layer c.in-Ok-call_with.ensures.does.link c.sent-frames.ensures.station (ap (λ o. o.made) c.sent-frames.ensures.outbox) c.sent-frames.ensures.frames
+      let a = answers c.in-Ok.channel c' _ c.call_with.new.link c.sent_into.new.link _ c.call_with.new.self (record { frames = c.sent_into.new.frames; entries = c.enter.new.entries }) s request fits
+      c.in-Ok.ensures.does.layer c.in-Ok.ensures.does.link c.sent_into.ensures.station (ap (λ o. o.made) c.sent_into.ensures.outbox) c.sent_into.ensures.frames
       (c.steps_keep_bounds.ensures.command c' s (Requests request) fits.kept) in
-      leaves_some c' _ _ (record { frames = c.sent-frames.result; entries = c.enter.new.entries }) (requests c' s request) a.state a.refused);
+      leaves_some c' _ _ (record { frames = c.sent_into.new.frames; entries = c.enter.new.entries }) (requests c' s request) a.state a.refused);
   aside =
       let before = c.args.self.now.aside in
-      let packets = c.in-Ok-call_with.ensures.does.most_memory in
+      let packets = c.in-Ok.ensures.does.most_memory in
       let low = before.packets in
-      let spares : c.sent-frames.new.self.outbox.long ≡ 0 = ap (λ o. o.long) c.sent-frames.ensures.outbox in
+      let spares : c.sent_into.new.link.outbox.long ≡ 0 = ap (λ o. o.long) c.sent_into.ensures.outbox in
       record { packets = omega (arith, packets, low); spares = omega (arith, spares); texts = before.texts };
 }
 
-pub invariant_of-self-in-Err-call_with : goal.invariant_of-self-in-Err-call_with
-invariant_of-self-in-Err-call_with c = record {
+pub invariant_of-self-in-Err-1 : goal.invariant_of-self-in-Err-1
+invariant_of-self-in-Err-1 c = record {
   meant = still_meant _ _ _ _ c.args.self.now.meant (λ c' s fits.
       (c', s, still_fits c' c.args.self.now.link c.call_with.new.link _ c.call_with.new.self s fits (c.in-Err.ensures.does.layer_stays (layer_settings c') s.layer fits.layer) c.in-Err.ensures.does.link_stays));
   aside =
@@ -43,19 +43,19 @@ invariant_of-self-in-Err-call_with c = record {
       record { packets = omega (arith, packets, low); spares = omega (arith, spares, few); texts = before.texts };
 }
 
-pub returns-in-Ok-call_with : goal.returns-in-Ok-call_with
-returns-in-Ok-call_with c =
+pub returns-in-Ok-clause-does : goal.returns-in-Ok-clause-does
+returns-in-Ok-clause-does c =
     let request = Dials c.args.called.now c.args.calling.now c.args.user.now c.args.params in
-    let r : code_step.Step = record { frames = c.sent-frames.result; entries = c.enter.new.entries } in
-    did_request c.in-Ok-call_with.channel c.args.self.now _ c.call_with.new.link r request c.in-Ok-call_with.ensures.does.layer c.in-Ok-call_with.ensures.does.link c.sent-frames.ensures.station (ap (λ o. o.made) c.sent-frames.ensures.outbox) c.sent-frames.ensures.frames
+    let r : code_step.Step = record { frames = c.sent_into.new.frames; entries = c.enter.new.entries } in
+    did_request c.in-Ok.channel c.args.self.now _ c.call_with.new.link r request c.in-Ok.ensures.does.layer c.in-Ok.ensures.does.link c.sent_into.ensures.station (ap (λ o. o.made) c.sent_into.ensures.outbox) c.sent_into.ensures.frames
     c.steps_keep_bounds.ensures.command c.holds_few.ensures.window c.holds_few.ensures.stand
     (λ c' s fits.
-    let h = c.in-Ok-call_with.channel in
-    dialled_enters c' _ _ c.call_with.new.self s r h c.args.called.now c.args.calling.now c.args.user.now c.args.params fits c.in-Ok-call_with.ensures.does.layer (c.in-Ok-call_with.ensures.channel (layer_settings c') s.layer fits.layer) (λ k after configured.
+    let h = c.in-Ok.channel in
+    dialled_enters c' _ _ c.call_with.new.self s r h c.args.called.now c.args.calling.now c.args.user.now c.args.params fits c.in-Ok.ensures.does.layer (c.in-Ok.ensures.channel (layer_settings c') s.layer fits.layer) (λ k after configured.
     c.enter.ensures.entered (layer_settings c') k after configured
-    ∙ ap (λ es. map plain_entry es ++ of_channel (record { channel = h; name = name_of k h; said = plain_said (said.Asked c.in_ok-asked.asked) }) ∷ []) c.in-Ok.ensures.items
+    ∙ ap (λ es. map plain_entry es ++ of_channel (record { channel = h; name = name_of k h; said = plain_said (said.Asked c.in_ok-asked.asked) }) ∷ []) (c.reserve.ensures.items ∙ c.requires.entries)
     ∙ ap (λ q. of_channel (record { channel = h; name = name_of k h; said = Asked q }) ∷ []) c.in_ok-asked.ensures.ok))
-    (grind (arith, c.enter.ensures.length, c.in-Ok.ensures.len))
+    (grind (arith, c.enter.ensures.length, c.reserve.ensures.len, c.requires.entries, c.args.entries.now.ok))
 
-pub returns-in-Err : goal.returns-in-Err
-returns-in-Err c = declines_request _ c.in-Err.error _ c.args.self.now _ (Dials c.args.called.now c.args.calling.now c.args.user.now c.args.params) c.of_layer.ensures c.in-Err.ensures.does.layer c.in-Err.ensures.does.layer_stays c.in-Err.ensures.does.link_stays
+pub returns-in-Err-clause-does : goal.returns-in-Err-clause-does
+returns-in-Err-clause-does c = declines_request _ c.in-Err.error _ c.args.self.now _ (Dials c.args.called.now c.args.calling.now c.args.user.now c.args.params) c.of_layer.ensures c.in-Err.ensures.does.layer c.in-Err.ensures.does.layer_stays c.in-Err.ensures.does.link_stays

@@ -12,24 +12,24 @@ use Rattle.x25_station.proofs.DoesLemmas.{did_request, declines_request}
 use Rattle.x25_station.proofs.EnteredLemmas.{restart_enters}
 use Rattle.x25_station.proofs.station.Station.restart.Goals as goal
 
-pub invariant_of-self-in-Ok-restart : goal.invariant_of-self-in-Ok-restart
-invariant_of-self-in-Ok-restart c = record {
+pub invariant_of-self : goal.invariant_of-self
+invariant_of-self c = record {
   meant = still_meant _ _ _ _ c.args.self.now.meant (λ c' s fits.
       let request = Restarts in
-      let a = answers c.in-Ok-restart.field-0 c' _ c.restart.new.link c.sent-frames.new.self _ c.restart.new.self (record { frames = c.sent-frames.result; entries = c.push_reserved.new.self }) s request fits
-      c.in-Ok-restart.ensures.layer c.in-Ok-restart.ensures.link c.sent-frames.ensures.station (ap (λ o. o.made) c.sent-frames.ensures.outbox) c.sent-frames.ensures.frames
+      let a = answers c.in-Ok.field-0 c' _ c.restart.new.link c.sent_into.new.link _ c.restart.new.self (record { frames = c.sent_into.new.frames; entries = c.push_reserved.new.self }) s request fits
+      c.in-Ok.ensures.layer c.in-Ok.ensures.link c.sent_into.ensures.station (ap (λ o. o.made) c.sent_into.ensures.outbox) c.sent_into.ensures.frames
       (c.steps_keep_bounds.ensures.command c' s (Requests request) fits.kept) in
-      leaves_some c' _ _ (record { frames = c.sent-frames.result; entries = c.push_reserved.new.self }) (requests c' s request) a.state a.refused);
+      leaves_some c' _ _ (record { frames = c.sent_into.new.frames; entries = c.push_reserved.new.self }) (requests c' s request) a.state a.refused);
   aside =
       let before = c.args.self.now.aside in
-      let packets = c.in-Ok-restart.ensures.most_memory in
+      let packets = c.in-Ok.ensures.most_memory in
       let low = before.packets in
-      let spares : c.sent-frames.new.self.outbox.long ≡ 0 = ap (λ o. o.long) c.sent-frames.ensures.outbox in
+      let spares : c.sent_into.new.link.outbox.long ≡ 0 = ap (λ o. o.long) c.sent_into.ensures.outbox in
       record { packets = omega (arith, packets, low); spares = omega (arith, spares); texts = before.texts };
 }
 
-pub invariant_of-self-in-Err-restart : goal.invariant_of-self-in-Err-restart
-invariant_of-self-in-Err-restart c = record {
+pub invariant_of-self-in-Err-1 : goal.invariant_of-self-in-Err-1
+invariant_of-self-in-Err-1 c = record {
   meant = still_meant _ _ _ _ c.args.self.now.meant (λ c' s fits.
       (c', s, still_fits c' c.args.self.now.link c.restart.new.link _ c.restart.new.self s fits (c.in-Err.ensures.layer_stays (layer_settings c') s.layer fits.layer) c.in-Err.ensures.link_stays));
   aside =
@@ -41,15 +41,15 @@ invariant_of-self-in-Err-restart c = record {
       record { packets = omega (arith, packets, low); spares = omega (arith, spares, few); texts = before.texts };
 }
 
-pub returns-in-Ok-restart : goal.returns-in-Ok-restart
-returns-in-Ok-restart c =
+pub returns-in-Ok-clause-does : goal.returns-in-Ok-clause-does
+returns-in-Ok-clause-does c =
     let request = Restarts in
-    let r : code_step.Step = record { frames = c.sent-frames.result; entries = c.push_reserved.new.self } in
-    did_request c.in-Ok-restart.field-0 c.args.self.now _ c.restart.new.link r request c.in-Ok-restart.ensures.layer c.in-Ok-restart.ensures.link c.sent-frames.ensures.station (ap (λ o. o.made) c.sent-frames.ensures.outbox) c.sent-frames.ensures.frames
+    let r : code_step.Step = record { frames = c.sent_into.new.frames; entries = c.push_reserved.new.self } in
+    did_request c.in-Ok.field-0 c.args.self.now _ c.restart.new.link r request c.in-Ok.ensures.layer c.in-Ok.ensures.link c.sent_into.ensures.station (ap (λ o. o.made) c.sent_into.ensures.outbox) c.sent_into.ensures.frames
     c.steps_keep_bounds.ensures.command c.holds_few.ensures.window c.holds_few.ensures.stand
     (λ c' s fits.
-    restart_enters c' s r (ap (λ es. map plain_entry es) (c.push_reserved.ensures.items ∙ ap (λ es. es ++ RestartAsked ∷ []) c.in-Ok.ensures.items)))
-    (grind (arith, c.push_reserved.ensures.len, c.in-Ok.ensures.len))
+    restart_enters c' s r (ap (λ es. map plain_entry es) (c.push_reserved.ensures.items ∙ ap (λ es. es ++ RestartAsked ∷ []) (c.reserve.ensures.items ∙ c.requires.entries))))
+    (grind (arith, c.push_reserved.ensures.len, c.reserve.ensures.len, c.requires.entries, c.args.entries.now.ok))
 
-pub returns-in-Err : goal.returns-in-Err
-returns-in-Err c = declines_request _ c.in-Err.error _ c.args.self.now _ (Restarts) c.of_layer.ensures c.in-Err.ensures.layer c.in-Err.ensures.layer_stays c.in-Err.ensures.link_stays
+pub returns-in-Err-clause-does : goal.returns-in-Err-clause-does
+returns-in-Err-clause-does c = declines_request _ c.in-Err.error _ c.args.self.now _ (Restarts) c.of_layer.ensures c.in-Err.ensures.layer c.in-Err.ensures.layer_stays c.in-Err.ensures.link_stays

@@ -25,28 +25,28 @@ append-requires c =
     let few : length c.in-Ok.step.frames.items ≤ 9 = least_by_meaning _ _ (length c.in-Ok.step.frames.items) 9 c.args.self.now.meant (λ c' s fits.
     let lk = link_settings c' in
     few_frames c'.role c.in-Ok.step.frames.items (λ frame. frame.items) (take_step lk c.args.octets.now s.link).side.out 9
-    (c.in-Ok.ensures.does.answer lk s.link (c.in_ok-frames.ensures.fits c' s fits).link).frames (c.holds_few.ensures.take lk c.args.octets.now s.link)) in
-    grind (arith, few, c.in_ok-frames.ensures.frames, c.in_ok-frames.ensures.frames_room, c.in_ok-frames.frames.ok, c.in-Ok.step.frames.ok)
+    (c.in-Ok.ensures.does.answer lk s.link (c.in_ok-set_aside.ensures.fits c' s fits).link).frames (c.holds_few.ensures.take lk c.args.octets.now s.link)) in
+    grind (arith, few, c.in_ok-set_aside.ensures.frames_room, c.set_aside.new.frames.ok, c.in-Ok.step.frames.ok)
 
 pub follow-requires-clause-up : goal.follow-requires-clause-up
 follow-requires-clause-up c = λ is. put_by_meaning _ c.take.new.self _ c.args.self.now.meant (λ c' s fits.
     let lk = link_settings c' in
-    let before = (c.in_ok-frames.ensures.fits c' s fits).link in
+    let before = (c.in_ok-set_aside.ensures.fits c' s fits).link in
     up_can_put c.notes_what_changes.ensures.take c' c.take.new.self c.args.octets.now s.link (c.in-Ok.ensures.does.state lk s.link before) (sym (ap (λ (n : Notes). n.up) (c.in-Ok.ensures.does.answer lk s.link before).notes) ∙ is))
 
 pub follow-requires-clause-put : goal.follow-requires-clause-put
 follow-requires-clause-put c = if_some c.in-Ok.step.packet (λ x. CanPut c.take.new.self) (λ p is. put_by_meaning _ c.take.new.self _ c.args.self.now.meant (λ c' s fits.
     let lk = link_settings c' in
-    let before = (c.in_ok-frames.ensures.fits c' s fits).link in
+    let before = (c.in_ok-set_aside.ensures.fits c' s fits).link in
     handed_can_put c.notes_what_changes.ensures.take c.notes_what_changes.ensures.take_hands_up c' c.take.new.self c.args.octets.now s.link p.now (c.in-Ok.ensures.does.state lk s.link before)
     (sym (c.in-Ok.ensures.does.answer lk s.link before).packet ∙ ap option_copied is)))
 
 pub follow-requires-clause-left : goal.follow-requires-clause-left
 follow-requires-clause-left c = if_some c.in-Ok.step.packet (λ x. IsNotFull c.set_aside.new.self.layer) (λ p is.
-    c.in_ok-frames.ensures.left (c.requires.left (up_by_meaning _ _ (up_of c.args.self.now.link) c.args.self.now.meant (λ c' s fits.
+    c.in_ok-set_aside.ensures.left (c.requires.left (up_by_meaning _ _ (up_of c.args.self.now.link) c.args.self.now.meant (λ c' s fits.
     let lk = link_settings c' in
     handed_was_up c.notes_what_changes.ensures.take_hands_up c' c.args.self.now.link c.args.octets.now s.link p.now fits.link
-    (sym (c.in-Ok.ensures.does.answer lk s.link (c.in_ok-frames.ensures.fits c' s fits).link).packet ∙ ap option_copied is)))))
+    (sym (c.in-Ok.ensures.does.answer lk s.link (c.in_ok-set_aside.ensures.fits c' s fits).link).packet ∙ ap option_copied is)))))
 
 pub follow-requires-clause-room : goal.follow-requires-clause-room
 follow-requires-clause-room c =
@@ -56,33 +56,33 @@ follow-requires-clause-room c =
     (least_by_meaning _ _ (length p.now) (length c.args.octets.now) c.args.self.now.meant (λ c' s fits.
     let lk = link_settings c' in
     handed_short c.reading_is_the_grammar.ensures.spelled c.notes_what_changes.ensures.take_hands_up lk c.args.octets.now s.link p.now bytes
-    (sym (c.in-Ok.ensures.does.answer lk s.link (c.in_ok-frames.ensures.fits c' s fits).link).packet ∙ ap option_copied is)))
-    (sym (ap (λ o. o.long) c.in-Ok.ensures.does.outbox)) c.in_ok-frames.ensures.room)
+    (sym (c.in-Ok.ensures.does.answer lk s.link (c.in_ok-set_aside.ensures.fits c' s fits).link).packet ∙ ap option_copied is)))
+    (sym (ap (λ o. o.long) c.in-Ok.ensures.does.outbox)) c.in_ok-set_aside.ensures.room)
 
 pub append-requires-in-Ok : goal.append-requires-in-Ok
 append-requires-in-Ok c =
     let few : length c.in-Ok.step.frames.items ≤ 9 = least_by_meaning _ _ (length c.in-Ok.step.frames.items) 9 c.args.self.now.meant (λ c' s fits.
     let lk = link_settings c' in
     few_frames c'.role c.in-Ok.step.frames.items (λ frame. frame.items) (take_step lk c.args.octets.now s.link).side.out 9
-    (c.in-Ok.ensures.does.answer lk s.link (c.in_ok-frames.ensures.fits c' s fits).link).frames (c.holds_few.ensures.take lk c.args.octets.now s.link)) in
+    (c.in-Ok.ensures.does.answer lk s.link (c.in_ok-set_aside.ensures.fits c' s fits).link).frames (c.holds_few.ensures.take lk c.args.octets.now s.link)) in
     let more : length c.sent-kept.result.items ≤ 8 = least_by_meaning _ _ (length c.sent-kept.result.items) 8 c.args.self.now.meant (λ c' s fits.
     let lk = link_settings c' in
     let k : LinkStep = take_step lk c.args.octets.now s.link in
-    let before = c.in_ok-frames.ensures.fits c' s fits in
+    let before = c.in_ok-set_aside.ensures.fits c' s fits in
     let answer = c.in-Ok.ensures.does.answer lk s.link before.link in
     let whole : FitsWhole c.take.new.self (kept_of lk (alone k.side.near)) = record { link = c.in-Ok.ensures.does.state lk s.link before.link; kept = ap (λ o. o.made) c.in-Ok.ensures.does.outbox ∙ before.sent } in
     let step = put_behind c' s k (option_copied c.in-Ok.step.packet) c.in-Ok.step.notes in
     let link = c.follow.ensures.link c' s.layer k.side before.layer whole in
     few_frames c'.role c.sent-kept.result.items (λ frame. frame.items) (all_put lk step.put (alone k.side.near)).out 8 (c.sent-kept.ensures.frames ∙ link.kept)
     (few_put lk step.put k.side.near (c.holds_few.ensures.window lk c.take.new.self k.side.near whole.link) (c.holds_few.ensures.stand lk c.take.new.self k.side.near whole.link).place_low)) in
-    grind (arith, few, more, c.in_ok-frames.ensures.frames, c.in_ok-frames.ensures.frames_room, c.append.ensures.items, c.append.ensures.capacity, c.in_ok-frames.frames.ok, c.in-Ok.step.frames.ok, c.append.new.frames.ok, c.sent-kept.result.ok)
+    grind (arith, few, more, c.in_ok-set_aside.ensures.frames_room, c.append.ensures.items, c.append.ensures.capacity, c.set_aside.new.frames.ok, c.in-Ok.step.frames.ok, c.append.new.frames.ok, c.sent-kept.result.ok)
 
 pub invariant_of-self : goal.invariant_of-self
 invariant_of-self c = record {
   meant = still_meant _ _ _ _ c.args.self.now.meant (λ c' s fits.
       let lk = link_settings c' in
       let k : LinkStep = take_step lk c.args.octets.now s.link in
-      let before = c.in_ok-frames.ensures.fits c' s fits in
+      let before = c.in_ok-set_aside.ensures.fits c' s fits in
       let answer = c.in-Ok.ensures.does.answer lk s.link before.link in
       let whole : FitsWhole c.take.new.self (kept_of lk (alone k.side.near)) = record { link = c.in-Ok.ensures.does.state lk s.link before.link; kept = ap (λ o. o.made) c.in-Ok.ensures.does.outbox ∙ before.sent } in (
         c',
@@ -109,7 +109,7 @@ returns-in-Ok-clause-does c = record {
   state = λ c' s fits.
       let lk = link_settings c' in
       let k : LinkStep = take_step lk c.args.octets.now s.link in
-      let before = c.in_ok-frames.ensures.fits c' s fits in
+      let before = c.in_ok-set_aside.ensures.fits c' s fits in
       let answer = c.in-Ok.ensures.does.answer lk s.link before.link in
       let whole : FitsWhole c.take.new.self (kept_of lk (alone k.side.near)) = record { link = c.in-Ok.ensures.does.state lk s.link before.link; kept = ap (λ o. o.made) c.in-Ok.ensures.does.outbox ∙ before.sent } in
       took_fits c' s c.args.octets.now (option_copied c.in-Ok.step.packet) c.in-Ok.step.notes c.follow.new.link c.give_back_list-in-Ok.new.self c.follow.new.layer (c.requires.goes_on c' s fits) (answer.packet, answer.notes)
@@ -118,44 +118,44 @@ returns-in-Ok-clause-does c = record {
   frames = λ c' s fits.
       let lk = link_settings c' in
       let k : LinkStep = take_step lk c.args.octets.now s.link in
-      let before = c.in_ok-frames.ensures.fits c' s fits in
+      let before = c.in_ok-set_aside.ensures.fits c' s fits in
       let answer = c.in-Ok.ensures.does.answer lk s.link before.link in
       let whole : FitsWhole c.take.new.self (kept_of lk (alone k.side.near)) = record { link = c.in-Ok.ensures.does.state lk s.link before.link; kept = ap (λ o. o.made) c.in-Ok.ensures.does.outbox ∙ before.sent } in
       let link = c.follow.ensures.link c' s.layer k.side before.layer whole in
       let a = c.in-Ok.step.frames.items in
       let b = c.sent-kept.result.items in
-      ap (λ frames. map (λ frame. frame.items) frames) (c.append-in-Ok.ensures.items ∙ ap (λ frames. frames ++ b) (c.append.ensures.items ∙ ap (λ frames. frames ++ a) c.in_ok-frames.ensures.frames))
+      ap (λ frames. map (λ frame. frame.items) frames) (c.append-in-Ok.ensures.items ∙ ap (λ frames. frames ++ b) (c.append.ensures.items ∙ ap (λ frames. frames ++ a) (c.set_aside.ensures.frames ∙ c.requires.frames)))
       ∙ map-append (λ frame. frame.items) a b
       ∙ took_sends c' s c.args.octets.now (option_copied c.in-Ok.step.packet) c.in-Ok.step.notes _ _ (c.requires.goes_on c' s fits) (answer.packet, answer.notes) answer.frames (c.sent-kept.ensures.frames ∙ link.kept);
   entries = λ c' s fits.
       let lk = link_settings c' in
       let k : LinkStep = take_step lk c.args.octets.now s.link in
-      let before = c.in_ok-frames.ensures.fits c' s fits in
+      let before = c.in_ok-set_aside.ensures.fits c' s fits in
       let answer = c.in-Ok.ensures.does.answer lk s.link before.link in
       let whole : FitsWhole c.take.new.self (kept_of lk (alone k.side.near)) = record { link = c.in-Ok.ensures.does.state lk s.link before.link; kept = ap (λ o. o.made) c.in-Ok.ensures.does.outbox ∙ before.sent } in
       let noted = entries_noted c.in-Ok.step.notes ++ entries_heard (layer_settings c') s.layer (option_copied c.in-Ok.step.packet) c.in-Ok.step.notes.down c.in-Ok.step.notes.up in
       took_enters c' s c.args.octets.now (option_copied c.in-Ok.step.packet) c.in-Ok.step.notes _ (c.requires.goes_on c' s fits) (answer.packet, answer.notes)
-      (c.follow.ensures.entries c' s.layer k.side before.layer whole ∙ ap (λ es. map plain_entry es ++ noted) c.in_ok-frames.ensures.entries);
+      (c.follow.ensures.entries c' s.layer k.side before.layer whole ∙ ap (λ es. map plain_entry es ++ noted) (c.set_aside.ensures.entries ∙ c.requires.entries));
   refused = λ c' s fits. tt;
   stays = λ c' s fits. tt;
   few_frames = let few : length c.in-Ok.step.frames.items ≤ 9 = least_by_meaning _ _ (length c.in-Ok.step.frames.items) 9 c.args.self.now.meant (λ c' s fits.
       let lk = link_settings c' in
       few_frames c'.role c.in-Ok.step.frames.items (λ frame. frame.items) (take_step lk c.args.octets.now s.link).side.out 9
-      (c.in-Ok.ensures.does.answer lk s.link (c.in_ok-frames.ensures.fits c' s fits).link).frames (c.holds_few.ensures.take lk c.args.octets.now s.link)) in
+      (c.in-Ok.ensures.does.answer lk s.link (c.in_ok-set_aside.ensures.fits c' s fits).link).frames (c.holds_few.ensures.take lk c.args.octets.now s.link)) in
       let more : length c.sent-kept.result.items ≤ 8 = least_by_meaning _ _ (length c.sent-kept.result.items) 8 c.args.self.now.meant (λ c' s fits.
       let lk = link_settings c' in
       let k : LinkStep = take_step lk c.args.octets.now s.link in
-      let before = c.in_ok-frames.ensures.fits c' s fits in
+      let before = c.in_ok-set_aside.ensures.fits c' s fits in
       let answer = c.in-Ok.ensures.does.answer lk s.link before.link in
       let whole : FitsWhole c.take.new.self (kept_of lk (alone k.side.near)) = record { link = c.in-Ok.ensures.does.state lk s.link before.link; kept = ap (λ o. o.made) c.in-Ok.ensures.does.outbox ∙ before.sent } in
       let step = put_behind c' s k (option_copied c.in-Ok.step.packet) c.in-Ok.step.notes in
       let link = c.follow.ensures.link c' s.layer k.side before.layer whole in
       few_frames c'.role c.sent-kept.result.items (λ frame. frame.items) (all_put lk step.put (alone k.side.near)).out 8 (c.sent-kept.ensures.frames ∙ link.kept)
       (few_put lk step.put k.side.near (c.holds_few.ensures.window lk c.take.new.self k.side.near whole.link) (c.holds_few.ensures.stand lk c.take.new.self k.side.near whole.link).place_low)) in
-      let none : length c.in_ok-frames.frames.items ≡ 0 = ap length c.in_ok-frames.ensures.frames in
-      let own : length c.append.new.frames.items ≡ length c.in_ok-frames.frames.items + length c.in-Ok.step.frames.items = ap length c.append.ensures.items ∙ length-append _ _ in
+      let none : length c.set_aside.new.frames.items ≡ 0 = ap length (c.set_aside.ensures.frames ∙ c.requires.frames) in
+      let own : length c.append.new.frames.items ≡ length c.set_aside.new.frames.items + length c.in-Ok.step.frames.items = ap length c.append.ensures.items ∙ length-append _ _ in
       let all : length c.append-in-Ok.new.frames.items ≡ length c.append.new.frames.items + length c.sent-kept.result.items = ap length c.append-in-Ok.ensures.items ∙ length-append _ _ in
       let held = c.append-in-Ok.new.frames.ok.0 in
       omega (arith, few, more, none, own, all, held);
-  few_entries = grind (arith, c.follow.ensures.length, c.in_ok-frames.ensures.entries, c.in_ok-frames.entries.ok);
+  few_entries = grind (arith, c.follow.ensures.length, c.set_aside.ensures.entries, c.requires.entries, c.set_aside.new.entries.ok);
 }

@@ -1,6 +1,6 @@
 use Rattle.std.proofs.Common.{◌≡◌, false, [], map}
 use Rattle.x25_world.specs.code.ShownLine.{put_by}
-use Rattle.x25_world.proofs.line.Line.put.Given as goal
+use Rattle.x25_world.proofs.line.Line.put_all.Given as goal
 
 -- the frames so far were put
 abbrev pub invariant-loop-octets : goal.invariant-loop-octets
