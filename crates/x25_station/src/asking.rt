@@ -355,8 +355,22 @@ impl Station {
         ensures no_frames { OnErr result (frames.new.items ≡ []) }
         ensures no_entries { OnErr result (entries.new.items ≡ []) }
     {
-        let user = copied(self.alloc, user)?;
+        let user = self.copied_for(channel, user)?;
         self.ask(channel, Request::Send { q, user }, frames, entries)
+    }
+
+    // A copy of the user data of a message, in the memory of an earlier one of the channel where that has room. The station is as before.
+    #[inline(always)]
+    fn copied_for(&mut self, channel: u16, user: &[u8]) -> Result<Vec<u8>, StationError>
+        ensures fits { (c : Settings) (s : State) → FitsStation c self.old s → FitsStation c self.new s }
+        ensures ok { IfOk result (λ copy. copy.items ≡ user.now) }
+        ensures err { IfErr result (λ e. e ≡ StationError.NoMemory) }
+    {
+        let Some(mut copy) = self.layer.spent_memory(channel, user.len()) else {
+            return copied(self.alloc, user);
+        };
+        copy.extend_from_slice(user).unwrap();
+        Ok(copy)
     }
 
     // What is asked of the circuit of a channel.
