@@ -182,15 +182,26 @@ impl Circuit {
         Ok(())
     }
 
-    /// Memory of a message whose packets were all cut off, for one of so many octets that is sent later, where there is some: for at most 4,096. What is
-    /// too small for them is let go of. The circuit is as before.
+    /// Memory of a message that is needed no more, for one of so many octets, where there is some: of one whose packets were all cut off, or that was given
+    /// back, and for at most 4,096. What is too small is let go of. The circuit is as before.
     pub fn spent_memory(&mut self, length: usize) -> Option<Vec<u8>>
         ensures fits { (c : Settings) (x : Channel) → FitsCircuit c self.old x → FitsCircuit c self.new x }
         ensures aside { room_of self.new ≡ room_of self.old }
         ensures empty { IfSome result (λ memory. memory.items ≡ []) }
         ensures room { IfSome result (λ memory. length ≤ vec_capacity memory) }
     {
-        self.transfer.queue.spent_memory(length)
+        if let Some(memory) = self.transfer.queue.spent_memory(length) {
+            return Some(memory);
+        }
+        self.transfer.partial.again(length)
+    }
+
+    /// Takes the memory of a message back, for one that comes or is sent later. It is let go of where it is for more than 4,096 octets, and where two are
+    /// kept. The circuit is as before.
+    pub fn give_back(&mut self, memory: Vec<u8>)
+        ensures { self.new ≡ self.old }
+    {
+        self.transfer.partial.give_back(memory);
     }
 
     /// Goes to this state, with these packet sizes and windows, and nothing kept.

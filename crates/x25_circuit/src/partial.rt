@@ -1,4 +1,4 @@
-ghost use Rattle.std.specs.Prelude.{◌≡◌, ℕ, ◌+◌, ◌<◌, ◌≤◌, ◌++◌, length, min, max, nat_le, replicate, vec_len, vec_capacity, IfOk, IfNone, IfSome, Option, IsOk, OnOk, OnErr, option_to_list};
+ghost use Rattle.std.specs.Prelude.{◌≡◌, ℕ, ◌+◌, ◌<◌, ◌≤◌, ◌++◌, [], length, min, max, nat_le, replicate, vec_len, vec_capacity, IfOk, IfNone, IfSome, Option, IsOk, OnOk, OnErr, option_to_list};
 
 use crate::codes::{MIXED_QUALIFIERS, PACKET_TOO_LONG};
 use crate::message::Message;
@@ -6,9 +6,13 @@ use crate::octets::{LONGEST_MESSAGE, Octets};
 use std::alloc::{AllocError, Global};
 use std::marker::Model;
 use std::mem;
+use x25_bits::Blanks;
 
 /// The most octets of user data in a data packet.
 const LONGEST_DATA: usize = 4096;
+
+/// The most buffers that were given back and stay: for the message that comes next, and for one that is sent or told beside it.
+const MOST_SPARE: usize = 2;
 
 /// The most octets of memory that are kept for a message in part: those of the longest message, and of one more packet.
 const MOST_KEPT: usize = LONGEST_MESSAGE + LONGEST_DATA;
@@ -21,6 +25,8 @@ pub struct PartialMessage {
     places: Vec<u8>,
     /// How many octets have come.
     filled: usize,
+    /// Memory of messages that was given back.
+    spare: Blanks<LONGEST_DATA, MOST_SPARE>,
     alloc: Global,
 }
 
@@ -64,6 +70,7 @@ impl PartialMessage {
             begun: None,
             places: Vec::new(alloc),
             filled: 0,
+            spare: Blanks::new(alloc),
             alloc,
         }
     }
@@ -171,24 +178,36 @@ impl PartialMessage {
         ensures message { result ≡ record { q = q; user = self.old.part.user } }
         ensures part { self.new.part ≡ no_part }
     {
-        let user = match self.copied() {
-            Some(octets) => octets,
-            None => self.handed_over(),
-        };
+        let user = self.taken_out();
         self.begun = None;
         self.filled = 0;
-        Message {
-            q,
-            user: Octets::of(user),
+        Message { q, user }
+    }
+
+    // .. the octets that have come, and what is left of them isn't said.
+    fn taken_out(&mut self) -> Octets
+        ensures { result ≡ self.old.part.user }
+    {
+        if let Some(octets) = self.copied() {
+            return Octets::of(octets);
         }
+        Octets::of(self.handed_over())
     }
 
     // The octets that have come, in memory of their own: where no more are kept than those of the longest packet, and memory isn't refused.
-    fn copied(&self) -> Option<Vec<u8>>
-        ensures { IfSome result (λ octets. octets.items ≡ self.now.part.user) }
+    fn copied(&mut self) -> Option<Vec<u8>>
+        ensures same { self.new ≡ self.old }
+        ensures octets { IfSome result (λ octets. octets.items ≡ self.old.part.user) }
+        ensures short { IfSome result (λ octets. vec_len octets ≤ 65535) }
     {
         if self.places.len() > LONGEST_DATA {
             return None;
+        }
+        if let Some(mut octets) = self.spare.again(self.filled) {
+            octets
+                .extend_from_slice(&self.places[..self.filled])
+                .unwrap();
+            return Some(octets);
         }
         match Vec::from_slice(self.alloc, &self.places[..self.filled]) {
             Ok(octets) => Some(octets),
@@ -196,9 +215,26 @@ impl PartialMessage {
         }
     }
 
+    /// Takes memory of a message back, for a later one. It is let go of where it is for more than 4,096 octets, and where two are kept.
+    pub fn give_back(&mut self, memory: Vec<u8>)
+        ensures { self.new ≡ self.old }
+    {
+        self.spare.give_back(memory);
+    }
+
+    /// Memory that was given back, for a message of so many octets, where there is some. What is too small for them is let go of.
+    pub fn again(&mut self, count: usize) -> Option<Vec<u8>>
+        ensures same { self.new ≡ self.old }
+        ensures empty { IfSome result (λ memory. memory.items ≡ []) }
+        ensures room { IfSome result (λ memory. count ≤ vec_capacity memory) }
+    {
+        self.spare.again(count)
+    }
+
     // The octets that have come, with all memory that is kept.
     fn handed_over(&mut self) -> Vec<u8>
-        ensures { result.items ≡ self.old.part.user }
+        ensures octets { result.items ≡ self.old.part.user }
+        ensures short { vec_len result ≤ 65535 }
     {
         let mut octets = mem::replace(&mut self.places, Vec::new(self.alloc));
         octets.truncate(self.filled);

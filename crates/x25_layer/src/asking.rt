@@ -88,8 +88,8 @@ impl Layer {
         Ok(())
     }
 
-    /// Memory of a message of a channel whose packets were all handed down, for one of so many octets that is sent later, where there is some: for at
-    /// most 4,096. What is too small for them is let go of. The layer is as before.
+    /// Memory of a message of a channel that is needed no more, for one of so many octets, where there is some: of one whose packets were all handed
+    /// down, or that was given back, and for at most 4,096. What is too small is let go of. The layer is as before.
     pub fn spent_memory(&mut self, channel: u16, count: usize) -> Option<Vec<u8>>
         ensures layer { (c : LayerSettings) (l : State) → FitsLayer c self.old l → FitsLayer c self.new l }
         ensures aside { self.new.memory ≡ self.old.memory }
@@ -112,6 +112,27 @@ impl Layer {
     {
         let place = usize::from(channel) - 1;
         self.circuits[place].spent_memory(count)
+    }
+
+    /// Takes the memory of a message back, for one of this channel that comes or is sent later. It is let go of where the channel isn't configured, where
+    /// it is for more than 4,096 octets, and where two of the channel are kept. The layer is as before.
+    pub fn give_back(&mut self, channel: u16, memory: Vec<u8>)
+        ensures layer { (c : LayerSettings) (l : State) → FitsLayer c self.old l → FitsLayer c self.new l }
+        ensures aside { self.new.memory ≡ self.old.memory }
+    {
+        if self.circuit(channel).is_some() {
+            self.give_back_on(channel, memory);
+        }
+    }
+
+    // .. of a configured channel.
+    fn give_back_on(&mut self, channel: u16, memory: Vec<u8>)
+        requires { is_channel (length self.old.circuits.items) channel ≡ true }
+        ensures layer { (c : LayerSettings) (l : State) → FitsLayer c self.old l → FitsLayer c self.new l }
+        ensures aside { self.new.memory ≡ self.old.memory }
+    {
+        let place = usize::from(channel) - 1;
+        self.circuits[place].give_back(memory);
     }
 
     /// Why `ask` would refuse this now, if it would.

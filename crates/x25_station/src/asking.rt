@@ -355,8 +355,10 @@ impl Station {
         ensures no_frames { OnErr result (frames.new.items ≡ []) }
         ensures no_entries { OnErr result (entries.new.items ≡ []) }
     {
+        let shown = self.copied_for(channel, user)?;
         let user = self.copied_for(channel, user)?;
-        self.ask(channel, Request::Send { q, user }, frames, entries)
+        let asked = Asked::Send { q, user: shown };
+        self.ask_as(channel, Request::Send { q, user }, asked, frames, entries)
     }
 
     // A copy of the user data of a message, in the memory of an earlier one of the channel where that has room. The station is as before.
@@ -388,9 +390,29 @@ impl Station {
         ensures no_frames { OnErr result (frames.new.items ≡ []) }
         ensures no_entries { OnErr result (entries.new.items ≡ []) }
     {
+        let asked = asked_of(self.alloc, &request)?;
+        self.ask_as(channel, request, asked, frames, entries)
+    }
+
+    // .. which the entry shows so.
+    #[inline(always)]
+    fn ask_as(
+        &mut self,
+        channel: u16,
+        request: Request<'_>,
+        asked: Asked,
+        frames: &mut Vec<Vec<u8>>,
+        entries: &mut Vec<Entry>,
+    ) -> Result<(), StationError>
+        requires shown { (x : Circuit) → shown x (plain_asked asked) ≡ shown x (plain_request request) }
+        requires frames { frames.old.items ≡ [] }
+        requires entries { entries.old.items ≡ [] }
+        ensures does { Does self.old self.new (answered (record { frames = frames.new; entries = entries.new }) result) (λ c s. requests c s (Asks channel (plain_request request.entry))) }
+        ensures no_frames { OnErr result (frames.new.items ≡ []) }
+        ensures no_entries { OnErr result (entries.new.items ≡ []) }
+    {
         steps_keep_bounds();
         holds_few();
-        let asked = asked_of(self.alloc, &request)?;
         if entries.reserve(1).is_err() {
             return Err(StationError::NoMemory);
         }

@@ -11,6 +11,7 @@ mod law;
 mod linking;
 mod lists;
 mod receiving;
+mod spent;
 mod station;
 mod step;
 

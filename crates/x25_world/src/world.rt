@@ -354,6 +354,19 @@ impl World {
         )
     }
 
+    /// Takes the entries of a step of an end back, once they were read, and leaves their list empty: the memory of a message that was sent or delivered
+    /// serves a later one. The world is as before.
+    #[inline(always)]
+    pub fn give_back(&mut self, at: Role, told: &mut Vec<Entry>)
+        ensures fits { (cfg : Cfg) (w : definition.World) (gone : Gone) → FitsWorld cfg self.old w gone → FitsWorld cfg self.new w gone }
+        ensures empty { told.new.items ≡ [] }
+    {
+        match at {
+            Role::Dte => self.dte.give_back_entries(told),
+            Role::Dce => self.dce.give_back_entries(told),
+        }
+    }
+
     /// Lets the events happen in order, as by `apply`, up to the first that is refused. The events before it were accepted, and stand.
     /// Refused with 70 only at an event that takes memory.
     pub fn run(&mut self, events: &[Event]) -> Result<(), WorldRefused>

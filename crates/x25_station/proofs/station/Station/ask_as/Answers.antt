@@ -13,7 +13,7 @@ use Rattle.x25_station.proofs.OutcomeLemmas.{leaves_some, still_meant}
 use Rattle.x25_station.proofs.AskLemmas.{answers, still_fits}
 use Rattle.x25_station.proofs.DoesLemmas.{did_request, declines_request}
 use Rattle.x25_station.proofs.EnteredLemmas.{asked_enters}
-use Rattle.x25_station.proofs.station.Station.ask.Goals as goal
+use Rattle.x25_station.proofs.station.Station.ask_as.Goals as goal
 
 pub invariant_of-self : goal.invariant_of-self
 invariant_of-self c = record {
@@ -55,7 +55,7 @@ returns-in-Ok-clause-does c =
     asked_enters c.in-Ok.field-0 c' _ _ c.ask.new.self s r h (plain_request c.args.request) fits c.in-Ok.ensures.layer (λ k after configured.
     c.enter.ensures.entered (layer_settings c') k after configured
     ∙ ap (λ es. map plain_entry es ++ of_channel (record { channel = h; name = name_of k h; said = plain_said (said.Asked c.as_shown-asked.result) }) ∷ []) (c.reserve.ensures.items ∙ c.requires.entries)
-    ∙ ap (λ q. of_channel (record { channel = h; name = name_of k h; said = Asked q }) ∷ []) (c.as_shown-asked.ensures (layer_settings c') k after configured ∙ c.in_ok-asked.ensures.ok (k.circuits h))))
+    ∙ ap (λ q. of_channel (record { channel = h; name = name_of k h; said = Asked q }) ∷ []) (c.as_shown-asked.ensures (layer_settings c') k after configured ∙ c.requires.shown (k.circuits h))))
     (grind (arith, c.enter.ensures.length, c.reserve.ensures.len, c.requires.entries, c.args.entries.now.ok))
 
 pub returns-in-Err-clause-does : goal.returns-in-Err-clause-does
