@@ -1,14 +1,19 @@
 -- How many frames a step sends: one for what it hears, seven by the sending rule, and the RR that ends an RNR.
-use Rattle.std.proofs.Common.{◌≡◌, ℕ, zero, suc, ◌+◌, ◌≤◌, List, [], ◌∷◌, ◌++◌, length, Bool, true, false, not, if◌then◌else◌, Result, Ok, Err, refl, ap, arith, length-append, subst, sym}
+use Rattle.std.proofs.Common.{◌≡◌, ℕ, zero, suc, ◌+◌, ◌≤◌, List, [], ◌∷◌, ◌++◌, length, map, Bool, true, false, not, if◌then◌else◌, Result, Ok, Err, refl, ap, arith, length-append, subst, sym}
+use Rattle.std.proofs.Math.Logic.{∥∥₁_elim}
+use Rattle.std.proofs.Props.{props}
+use Rattle.std.proofs.lemmas.List.{length-map}
 use Rattle.x25_frame.specs.Frame.{PlainFrame, info, rr, rnr, rej, sabm, disc, ua, dm, frmr}
 use Rattle.x25_frame.specs.Reading.{frame_of}
 use Rattle.x25_frame.specs.declared.error.FrameError.{FrameError}
 use Rattle.x25_frame.specs.declared.error.FrameError.TheVariants.{Short, BadFcs, BadAddress, Undefined, NoInfoAllowed, TooLong}
 use Rattle.x25_link.specs.declared.phase.Phase.{Phase}
 use Rattle.x25_link.specs.declared.phase.Phase.TheVariants.{Down, Waiting, Up, Closed}
+use Rattle.x25_frame.specs.Spelling.{spelling_of}
 use Rattle.x25_link.specs.Station.{Settings, LinkStation, Side, is_busy, wanted, next_frame, sends, ready, send_next, may_send, pumped, owes_ready, ended}
 use Rattle.x25_link.specs.Hearing.{Step, quiet, other, is_valid, acknowledged, is_taken, takes, answers, passes_over, hears_info, peer_is, goes_back, polls, numbered, rejects, reject_of, row_of_frame, row_of}
-use Rattle.x25_link.specs.Link.{alone, hears, when_down, when_waiting}
+use Rattle.x25_link.specs.Link.{alone, hears, when_down, when_waiting, take_step}
+use Rattle.x25_link.specs.code.FitsLink.{ShownLink, FitsLink, IsMeant}
 use Rattle.x25_link.specs.code.Bounds.{TakeSendsFew, PutSendsOne}
 use Rattle.x25_link.proofs.OutgoingLemmas.{sent_length}
 use Rattle.x25_link.proofs.EndLemmas.{with_packet, put_once}
@@ -143,6 +148,23 @@ pub take_sends_few : TakeSendsFew
 take_sends_few c octets s =
     let step = hears c octets (frame_of (other c.role) c.longest octets) s.phase (alone s) in
     omega (arith, ended_count c.window step.side, hears_few c octets (frame_of (other c.role) c.longest octets) s.phase s)
+
+-- .. of a link that stands for some state
+pub made_few : (v : ShownLink) (octets : List ℕ) (made : List (List ℕ)) → IsMeant v
+    → ((c : Settings) (s : LinkStation) → FitsLink c v s → made ≡ map (spelling_of c.role) (take_step c octets s).side.out) → length made ≤ 9
+made_few v octets made meant out = ∥∥₁_elim meant (hlevel props) (λ w.
+    let all = ap length (out w.0 w.1 w.2) in
+    let few = take_sends_few w.0 octets w.1 in
+    let same = length-map (take_step w.0 octets w.1).side.out (spelling_of w.0.role) in
+    omega (arith, all, few, same))
+
+pub made_behind : {X : Type 0} (before after : List X) (octets_of : X → List ℕ) (made : List (List ℕ)) → map octets_of after ≡ map octets_of before ++ made → length after ≡ length before + length made
+made_behind before after octets_of made is =
+    let all = ap (λ (xs : List (List ℕ)). length xs) is in
+    let parts = length-append (map octets_of before) made in
+    let old = length-map before octets_of in
+    let new = length-map after octets_of in
+    omega (arith, all, parts, old, new)
 
 pub put_sends_one : PutSendsOne
 put_sends_one c v s packet fits =

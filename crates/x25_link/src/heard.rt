@@ -11,7 +11,7 @@ pub struct Heard<'a> {
 
 impl<'a> Heard<'a> {
     /// Nothing.
-    pub fn quiet() -> Heard<'a>
+    pub(crate) fn quiet() -> Heard<'a>
         ensures packet { result.packet ≡ None }
         ensures notes { result.notes ≡ record { down = None; up = false } }
     {
@@ -19,7 +19,7 @@ impl<'a> Heard<'a> {
     }
 
     /// The link went down.
-    pub fn down(reason: Reason) -> Heard<'a>
+    pub(crate) fn down(reason: Reason) -> Heard<'a>
         ensures packet { result.packet ≡ None }
         ensures notes { result.notes ≡ record { down = Some reason; up = false } }
     {
@@ -27,7 +27,7 @@ impl<'a> Heard<'a> {
     }
 
     /// The link went down for this reason, if any, and then up, if it did.
-    pub fn noted(down: Option<Reason>, up: bool) -> Heard<'a>
+    pub(crate) fn noted(down: Option<Reason>, up: bool) -> Heard<'a>
         ensures packet { result.packet ≡ None }
         ensures notes { result.notes ≡ record { down = down; up = up } }
     {

@@ -20,6 +20,7 @@ mod step;
 mod waiting_packets;
 
 pub use error::LinkError;
+pub use heard::Heard;
 pub use law::{
     asks_and_answers, comes_to_rest, follows_the_window, holds_few, notes_what_changes,
     sets_up_by_rows, tells_whether_busy,

@@ -1,9 +1,9 @@
-ghost use Rattle.std.specs.Prelude.{◌≡◌, ℕ, ◌+◌, ◌-◌, ◌%◌, ◌<◌, ◌≤◌, ◌↔◌, ◌++◌, List, [], length, map, max, vec_len, Bool, true, false, Some, None, Ok, IfOk, IfErr, OnOk, OnErr, IsOk, IsErrOf};
+ghost use Rattle.std.specs.Prelude.{◌≡◌, ℕ, ◌+◌, ◌-◌, ◌%◌, ◌<◌, ◌≤◌, ◌↔◌, ◌++◌, List, [], length, map, max, vec_len, vec_capacity, Bool, true, false, Some, None, Ok, IfOk, IfErr, OnOk, OnErr, IsOk, IsErrOf};
 ghost use Rattle.x25_frame.specs.Spelling.{spelling_of};
 ghost use Rattle.x25_link.specs.Station.{Settings, LinkStation as StationState, awaits_ua, with_nothing};
 ghost use Rattle.x25_link.specs.Link.{Refuses, config_refusal, take_step, put_refusal, put_step, connect_refusal, connect_step, disconnect_refusal, disconnect_step, timer_refusal, timer_runs, timer_step, abandon_step, is_idle};
 ghost use Rattle.x25_link.specs.Error.{RefusesPut};
-ghost use Rattle.x25_link.specs.code.FitsLink.{FitsLink, IsAnswer, Does, limit_of, up_of, waiting_of};
+ghost use Rattle.x25_link.specs.code.FitsLink.{FitsLink, IsAnswer, IsMeant, Does, DoesInto, limit_of, up_of, waiting_of};
 ghost use Rattle.x25_link.specs.declared.phase.Phase.TheVariants.{Down};
 
 mod in_order;
@@ -54,6 +54,7 @@ impl Link {
     /// 14 where one is out of its range, then 70.
     pub fn new(alloc: Global, role: Role, k: u8, n1: usize, n2: u8) -> Result<Link, LinkError>
         ensures state { IfOk result (λ l. FitsLink (record { role = role; window = k; longest = n1; retries = n2 }) l (with_nothing Down 0)) }
+        ensures meant { IfOk result IsMeant }
         ensures none_kept { IfOk result (λ l. l.outbox ≡ record { made = []; long = 0; short = 0 }) }
         ensures refused { Refuses (config_refusal k n1 n2) result }
     {
@@ -109,6 +110,31 @@ impl Link {
         self.answers.reserve(window, SHORT_FRAMES)?;
         let heard = self.station.hear(octets, &mut self.answers);
         Ok(self.answers.answered(heard))
+    }
+
+    /// As `take`, of a link that stands for some state: it puts the frames behind others, in room for nine, and answers what the octets
+    /// brought.
+    ///
+    /// 70 alone.
+    #[inline(always)]
+    pub fn take_into<'a>(
+        &mut self,
+        octets: &'a [u8],
+        frames: &mut Vec<Vec<u8>>,
+    ) -> Result<Heard<'a>, LinkError>
+        requires meant { IsMeant self.old }
+        requires room { vec_len frames.old + 9 ≤ vec_capacity frames.old }
+        ensures does { DoesInto self.old self.new (map (λ f. f.items) frames.old.items) (map (λ f. f.items) frames.new.items) result (λ c s. take_step c octets.now s) }
+        ensures few { vec_len frames.new ≤ vec_len frames.old + 9 }
+        ensures capacity { vec_capacity frames.old ≤ vec_capacity frames.new }
+        ensures refused { IfErr result (λ e. e ≡ LinkError.NoMemory) }
+        ensures err { OnErr result (frames.new ≡ frames.old) }
+    {
+        let long = self.station.outgoing.window() as usize;
+        self.answers.reserve(long, SHORT_FRAMES)?;
+        let heard = self.station.hear(octets, &mut self.answers);
+        self.answers.drain_into(frames);
+        Ok(heard)
     }
 
     /// Disconnects this end, for good: DISC with P=1. It notes LinkDown(local) where the link was up.
@@ -177,6 +203,18 @@ impl Link {
         ensures station { self.new.station ≡ self.old.station }
     {
         self.outbox.drain()
+    }
+
+    /// As `sent`: it puts the frames behind others, in room for them.
+    #[inline(always)]
+    pub fn sent_into(&mut self, frames: &mut Vec<Vec<u8>>)
+        requires { vec_len frames.old + length self.old.outbox.made ≤ vec_capacity frames.old }
+        ensures frames { map (λ f. f.items) frames.new.items ≡ map (λ f. f.items) frames.old.items ++ self.old.outbox.made }
+        ensures capacity { vec_capacity frames.old ≤ vec_capacity frames.new }
+        ensures outbox { self.new.outbox ≡ record { made = []; long = 0; short = 0 } }
+        ensures station { self.new.station ≡ self.old.station }
+    {
+        self.outbox.drain_into(frames);
     }
 
     /// Whether the link is up, nothing waits and all that was sent is acknowledged.

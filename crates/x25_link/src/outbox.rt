@@ -210,12 +210,33 @@ impl Outbox {
         ensures made { map (λ v. v.items) result.items ≡ self.old.made }
         ensures empty { self.new ≡ record { made = []; long = 0; short = 0 } }
     {
-        self.long.limit(0);
-        self.short.limit(0);
+        self.promise_none();
         if self.made.is_empty() {
             return Vec::new(self.alloc);
         }
         mem::replace(&mut self.made, Vec::new(self.alloc))
+    }
+
+    // Memory that was set aside is no longer promised.
+    #[inline(always)]
+    fn promise_none(&mut self)
+        ensures { self.new ≡ record self.old { long = 0; short = 0 } }
+    {
+        self.long.limit(0);
+        self.short.limit(0);
+    }
+
+    /// Puts the frames that were made behind others, in memory that was set aside, and keeps its own list. No memory is promised for
+    /// further ones.
+    #[inline(always)]
+    pub fn drain_into(&mut self, frames: &mut Vec<Vec<u8>>)
+        requires room { vec_len frames.old + length self.old.made ≤ vec_capacity frames.old }
+        ensures made { map (λ v. v.items) frames.new.items ≡ map (λ v. v.items) frames.old.items ++ self.old.made }
+        ensures capacity { vec_capacity frames.old ≤ vec_capacity frames.new }
+        ensures empty { self.new ≡ record { made = []; long = 0; short = 0 } }
+    {
+        self.promise_none();
+        append(frames, &mut self.made);
     }
 
     /// Takes memory of a frame back, for a later one.
@@ -239,6 +260,25 @@ impl Outbox {
             return list;
         }
         mem::replace(&mut self.made, list)
+    }
+}
+
+// Puts frames behind others, in memory that was set aside, and leaves their list empty.
+#[inline(always)]
+fn append(frames: &mut Vec<Vec<u8>>, more: &mut Vec<Vec<u8>>)
+    requires { vec_len frames.old + vec_len more.old ≤ vec_capacity frames.old }
+    ensures items { frames.new.items ≡ frames.old.items ++ more.old.items }
+    ensures capacity { vec_capacity frames.old ≤ vec_capacity frames.new }
+    ensures empty { more.new.items ≡ [] }
+{
+    if more.len() == 1 {
+        if let Some(frame) = more.pop() {
+            frames.push_reserved(frame);
+        }
+        return;
+    }
+    if !more.is_empty() {
+        frames.append(more).unwrap();
     }
 }
 

@@ -10,6 +10,8 @@ mod errors;
 #[cfg(test)]
 mod given_back;
 #[cfg(test)]
+mod into_a_list;
+#[cfg(test)]
 mod pair;
 #[cfg(test)]
 mod phases;

@@ -1,11 +1,17 @@
 -- A call does what the definition says of it, by what the calls of its link or of its layer did.
-use Rattle.std.proofs.Common.{◌≡◌, ◌≤◌, [], length, map, vec_len, Result, Ok, Err, inr, refl, arith}
-use Rattle.x25_link.specs.code.FitsLink.{ShownLink, LinkState, FitsWhole}
+use Rattle.std.proofs.Common.{◌≡◌, ◌≤◌, [], length, map, vec_len, Result, Ok, Err, inr, refl, ap, arith}
+use Rattle.std.proofs.lemmas.List.{length-map}
+use Rattle.x25_link.specs.Station.{LinkStation}
+use Rattle.x25_link.specs.Link.{alone}
+use Rattle.x25_link.specs.code.FitsLink.{ShownLink, LinkState, FitsWhole, after_put_to}
 use Rattle.x25_link.specs.code.Bounds.{WindowIsSmall, FewStand}
 use Rattle.x25_layer.specs.Layer.{LayerSettings, Layer}
 use Rattle.x25_layer.specs.Calls.{LayerRequest}
 use Rattle.x25_layer.specs.declared.error.LayerError.{LayerError}
+use Rattle.x25_layer.specs.Rounds.{Answered, Went, Refuses as LayerRefuses}
+use Rattle.x25_layer.specs.code.OverLink.{LinkGives}
 use Rattle.x25_layer.specs.code.FitsLayer.{FitsLayer}
+use Rattle.x25_layer.specs.declared.layer.Layer as layer_code
 use Rattle.x25_station.specs.declared.error.StationError.{StationError}
 use Rattle.x25_station.specs.declared.error.StationError.TheVariants as error
 use Rattle.x25_station.specs.declared.station.Station as code
@@ -13,13 +19,16 @@ use Rattle.x25_station.specs.declared.step.Step as code_step
 use Rattle.x25_station.specs.Error.{of_layer}
 use Rattle.x25_station.specs.Command.{Requests}
 use Rattle.x25_station.specs.Config.{Settings, link_settings, layer_settings}
-use Rattle.x25_station.specs.Station.{Station}
+use Rattle.x25_station.specs.Station.{Station, all_put}
+use Rattle.x25_station.specs.Receiving.{kept_of}
+use Rattle.x25_station.specs.code.FitsParts.{AreMeant}
 use Rattle.x25_station.specs.Step.{Outcome, Did, Refused, requests}
 use Rattle.x25_station.specs.laws.KeepLaw.{CommandKeeps}
 use Rattle.x25_station.specs.code.FitsStation.{FitsStation, Does, Leaves, Sends, Enters, Refuses}
-use Rattle.x25_station.proofs.AskLemmas.{Layers, Links, Answers, answers, refuses, still_fits}
-use Rattle.x25_station.proofs.TakeLemmas.{least_by_meaning}
-use Rattle.x25_station.proofs.FewLemmas.{few_asked}
+use Rattle.x25_station.proofs.AskLemmas.{Layers, Links, Answers, answers, answered_by, link_gives, after_puts, refuses, still_fits}
+use Rattle.x25_station.proofs.TakeLemmas.{least_by_meaning, few_made}
+use Rattle.x25_station.proofs.FrameLemmas.{few_put}
+use Rattle.x25_station.proofs.ResultLemmas.{ok_err}
 
 -- ---- a refused call: nothing is left, sent or entered
 
@@ -59,6 +68,16 @@ lacks_memory v said = declines v v error.NoMemory said (λ c s fits. wants_memor
 
 -- ---- a command to the layer
 
+-- what the layer put became eight frames at most
+puts_few : {T : Type 0} (u : T) (c : Settings) (s : LinkStation) (m : ShownLink) (a : Answered) → (link_settings c).window ≤ 7 → s.outgoing.acked ≤ s.outgoing.place
+    → LinkGives (FitsWhole m) after_put_to (kept_of (link_settings c) (alone s)) (Ok u) a → length m.outbox.made ≤ 8
+puts_few u c s m (Went p) small low link = few_made c.role m.outbox.made (all_put (link_settings c) p.put (alone s)).out 8 (after_puts (link_settings c) m p.put (alone s) link).kept (few_put (link_settings c) p.put s small low)
+puts_few u c s m (LayerRefuses e) small low link = absurd (ok_err u e link)
+
+pub made_few : {T : Type 0} (u : T) (l m : ShownLink) (y : layer_code.Layer) (request : LayerRequest) → AreMeant l y → Links l m y (Ok u) request → WindowIsSmall → FewStand → length m.outbox.made ≤ 8
+made_few u l m y request h links small stand = least_by_meaning l y (length m.outbox.made) 8 h (λ c s fits.
+    puts_few u c s.link m (answered_by c s request) (small (link_settings c) l s.link fits.link) (stand (link_settings c) l s.link fits.link).place_low (link_gives (Ok u) c l m y s request fits links))
+
 -- From the link and the layer of the old station its call led to the link m, from which the frames were taken, and to the layer of the new one.
 pub did_request : {T : Type 0} (u : T) (old new : code.Station) (m : ShownLink) (r : code_step.Step) (request : LayerRequest) → Layers old.link old.layer new.layer (Ok u) request → Links old.link m old.layer (Ok u) request
     → new.link.station ≡ m.station → new.link.outbox.made ≡ [] → map (λ frame. frame.items) r.frames.items ≡ m.outbox.made → CommandKeeps → WindowIsSmall → FewStand
@@ -66,8 +85,10 @@ pub did_request : {T : Type 0} (u : T) (old new : code.Station) (m : ShownLink) 
 did_request u old new m r request layers links same none made keeps small stand entered few =
     let parts : (c : Settings) (s : Station) → FitsStation c old s → Answers c new.link new.layer r (requests c s request) =
     λ c s fits. answers u c old.link m new.link old.layer new.layer r s request fits layers links same none made (keeps c s (Requests request) fits.kept) in
-    let short : length r.frames.items ≤ 8 = least_by_meaning old.link old.layer (length r.frames.items) 8 old.meant (λ c s fits.
-    few_asked c s request r (small (link_settings c) old.link s.link fits.link) (stand (link_settings c) old.link s.link fits.link).place_low (parts c s fits).frames (parts c s fits).refused) in
+    let put = made_few u old.link m old.layer request old.meant links small stand in
+    let same : length (map (λ frame. frame.items) r.frames.items) ≡ length m.outbox.made = ap length made in
+    let count = length-map r.frames.items (λ frame. frame.items) in
+    let short : length r.frames.items ≤ 8 = omega (arith, put, same, count) in
     let few_out : vec_len r.frames ≤ 17 = grind (arith, short, r.frames.ok) in
     record {
       state = λ c s fits. (parts c s fits).state;

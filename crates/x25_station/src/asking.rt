@@ -21,7 +21,8 @@ use crate::entering::enter;
 use crate::entry::{Asked, Entry, Said};
 use crate::error::StationError;
 use crate::law::steps_keep_bounds;
-use crate::linking::{moved, sent_into};
+use crate::linking::moved;
+use crate::lists::make_room;
 use crate::station::Station;
 use crate::step::Step;
 use std::alloc::Global;
@@ -323,16 +324,14 @@ impl Station {
         steps_keep_bounds();
         holds_few();
         let asked = asked_call(self.alloc, called, calling, user, params)?;
-        if entries.reserve(1).is_err() {
-            return Err(StationError::NoMemory);
-        }
+        make_room(frames, entries)?;
         match self
             .layer
             .call_with(&mut self.link, called, calling, user, params)
         {
             Ok(channel) => {
                 enter(&self.layer, entries, channel, Said::Asked(asked));
-                sent_into(&mut self.link, frames);
+                self.link.sent_into(frames);
                 Ok(())
             }
             Err(error) => Err(StationError::of_layer(error)),
@@ -413,14 +412,12 @@ impl Station {
     {
         steps_keep_bounds();
         holds_few();
-        if entries.reserve(1).is_err() {
-            return Err(StationError::NoMemory);
-        }
+        make_room(frames, entries)?;
         match self.layer.ask(&mut self.link, channel, request) {
             Ok(()) => {
                 let asked = as_shown(&self.layer, channel, asked);
                 enter(&self.layer, entries, channel, Said::Asked(asked));
-                sent_into(&mut self.link, frames);
+                self.link.sent_into(frames);
                 Ok(())
             }
             Err(error) => Err(StationError::of_layer(error)),
@@ -441,13 +438,11 @@ impl Station {
     {
         steps_keep_bounds();
         holds_few();
-        if entries.reserve(1).is_err() {
-            return Err(StationError::NoMemory);
-        }
+        make_room(frames, entries)?;
         match self.layer.restart(&mut self.link) {
             Ok(()) => {
                 entries.push_reserved(Entry::RestartAsked);
-                sent_into(&mut self.link, frames);
+                self.link.sent_into(frames);
                 Ok(())
             }
             Err(error) => Err(StationError::of_layer(error)),

@@ -171,17 +171,6 @@ pub(crate) fn exchange(link: &mut Link, frames: &mut Vec<Vec<u8>>, made: Vec<Vec
     link.give_back_list(used);
 }
 
-/// The frames that the link made of the layer's packets come into the list, whose memory serves later frames of the link.
-#[inline(always)]
-pub(crate) fn sent_into(link: &mut Link, frames: &mut Vec<Vec<u8>>)
-    ensures frames { map (λ f. f.items) frames.new.items ≡ link.old.outbox.made }
-    ensures outbox { link.new.outbox ≡ record { made = []; long = 0; short = 0 } }
-    ensures station { link.new.station ≡ link.old.station }
-{
-    let made = link.sent();
-    exchange(link, frames, made);
-}
-
 /// What a call answered comes into lists, which are empty before.
 pub(crate) fn moved(
     answer: Result<Step, StationError>,

@@ -1,8 +1,9 @@
 //! Lists of frames and of entries that were given back, for those that later calls answer.
-ghost use Rattle.std.specs.Prelude.{◌≡◌, ◌≤◌, [], vec_capacity};
+ghost use Rattle.std.specs.Prelude.{◌≡◌, ◌+◌, ◌≤◌, [], vec_len, vec_capacity, OnOk, IfErr};
 
 use crate::entry::Entry;
-use crate::step::{MOST_FRAMES, Step};
+use crate::error::StationError;
+use crate::step::{MOST_ENTRIES, MOST_FRAMES, Step};
 use std::alloc::Global;
 use std::mem;
 
@@ -30,6 +31,27 @@ fn emptied<T: Drop>(kept: &mut Vec<T>, alloc: Global) -> Vec<T>
         list.clear();
     }
     list
+}
+
+/// Room for what a call answers, in lists of its caller.
+#[inline(always)]
+pub(crate) fn make_room(
+    frames: &mut Vec<Vec<u8>>,
+    entries: &mut Vec<Entry>,
+) -> Result<(), StationError>
+    ensures frames { frames.new.items ≡ frames.old.items }
+    ensures frames_room { OnOk result (vec_len frames.new + 17 ≤ vec_capacity frames.new) }
+    ensures entries { entries.new.items ≡ entries.old.items }
+    ensures entries_room { OnOk result (vec_len entries.new + 3 ≤ vec_capacity entries.new) }
+    ensures refused { IfErr result (λ e. e ≡ StationError.NoMemory) }
+{
+    if frames.reserve(MOST_FRAMES).is_err() {
+        return Err(StationError::NoMemory);
+    }
+    if entries.reserve(MOST_ENTRIES).is_err() {
+        return Err(StationError::NoMemory);
+    }
+    Ok(())
 }
 
 impl Lists {

@@ -20,28 +20,13 @@ use crate::entry::Entry;
 use crate::error::StationError;
 use crate::law::steps_keep_bounds;
 use crate::linking::{exchange, note_down};
+use crate::lists::make_room;
 use crate::station::Station;
-use crate::step::{MOST_ENTRIES, MOST_FRAMES, Step};
+use crate::step::Step;
 use x25_frame::reading_is_the_grammar as reads_frames;
 use x25_layer::Layer;
 use x25_link::{Link, Notes, OrderedLink, holds_few, notes_what_changes};
 use x25_packet::reading_is_the_grammar;
-
-// Puts frames behind others, in memory that was set aside, and leaves their list empty.
-#[inline(always)]
-fn append(frames: &mut Vec<Vec<u8>>, more: &mut Vec<Vec<u8>>)
-    requires { vec_len frames.old + vec_len more.old ≤ vec_capacity frames.old }
-    ensures items { frames.new.items ≡ frames.old.items ++ more.old.items }
-    ensures capacity { vec_capacity frames.old ≤ vec_capacity frames.new }
-{
-    if more.len() == 1 {
-        if let Some(frame) = more.pop() {
-            frames.push_reserved(frame);
-        }
-        return;
-    }
-    frames.append(more).unwrap();
-}
 
 // What the layer does at LinkUp.
 fn come_up(layer: &mut Layer, link: &mut Link, entries: &mut Vec<Entry>)
@@ -265,12 +250,7 @@ impl Station {
         ensures most_spares { self.new.link.outbox.long ≤ max self.old.link.outbox.long 16 }
         ensures most_circuits { (bound : ℕ) → 4096 ≤ bound → HaveAtMost bound self.old.layer.circuits.items → HaveAtMost bound self.new.layer.circuits.items }
     {
-        if frames.reserve(MOST_FRAMES).is_err() {
-            return Err(StationError::NoMemory);
-        }
-        if entries.reserve(MOST_ENTRIES).is_err() {
-            return Err(StationError::NoMemory);
-        }
+        make_room(frames, entries)?;
         if self.texts.reserve(MOST_TEXTS).is_err() {
             return Err(StationError::NoMemory);
         }
@@ -302,22 +282,17 @@ impl Station {
         holds_few();
         reads_frames();
         self.set_aside(octets.len(), frames, entries)?;
-        match self.link.take(octets) {
-            Ok(step) => {
-                let mut used = step.frames;
-                append(frames, &mut used);
+        match self.link.take_into(octets, frames) {
+            Ok(heard) => {
                 follow(
                     &mut self.layer,
                     &mut self.link,
                     &mut self.texts,
-                    step.notes,
-                    step.packet,
+                    heard.notes,
+                    heard.packet,
                     entries,
                 );
-                let mut kept = self.link.sent();
-                append(frames, &mut kept);
-                self.link.give_back_list(used);
-                self.link.give_back_list(kept);
+                self.link.sent_into(frames);
                 Ok(())
             }
             Err(error) => Err(StationError::of_link(error)),

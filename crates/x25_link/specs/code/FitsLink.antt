@@ -2,6 +2,7 @@
 use Rattle.std.specs.Prelude.{◌≡◌, ℕ, Bool, List, Option, Result, ◌++◌, length, map, false, option_copied, IfOk, OnOk, OnErr}
 use Rattle.x25_frame.specs.Spelling.{spelling_of}
 use Rattle.x25_link.specs.declared.error.LinkError.{LinkError}
+use Rattle.x25_link.specs.declared.heard.Heard.{Heard}
 use Rattle.x25_link.specs.declared.station.LinkStation.{LinkStation as StationCode}
 use Rattle.x25_link.specs.declared.step.Step as code
 use Rattle.x25_link.specs.OrderedLink.{Lists}
@@ -45,6 +46,19 @@ pub record Does (old new : ShownLink) (result : Result code.Step LinkError) (ref
   pub state : (c : Settings) (s : LinkStation) → FitsLink c old s → OnOk result (FitsLink c new (step c s).side.near)
   pub answer : (c : Settings) (s : LinkStation) → FitsLink c old s → IfOk result (λ answer. IsAnswer c answer (step c s))
   pub refused : (c : Settings) (s : LinkStation) → FitsLink c old s → Refuses (refusal s) result
+  pub outbox : new.outbox ≡ old.outbox
+  pub err : OnErr result (new ≡ old)
+
+-- the link stands for some state
+abbrev pub IsMeant : ShownLink → Type 0
+IsMeant v = ∥ ((c : Settings) × (s : LinkStation) × FitsLink c v s) ∥₁
+
+-- .. where the call puts the frames behind others, and answers what was heard alone
+pub record DoesInto (old new : ShownLink) (before after : List (List ℕ)) (result : Result Heard LinkError) (step : Settings → LinkStation → Step) : Type 0 where
+  pub state : (c : Settings) (s : LinkStation) → FitsLink c old s → OnOk result (FitsLink c new (step c s).side.near)
+  pub frames : (c : Settings) (s : LinkStation) → FitsLink c old s → OnOk result (after ≡ before ++ map (spelling_of c.role) (step c s).side.out)
+  pub packet : (c : Settings) (s : LinkStation) → FitsLink c old s → IfOk result (λ heard. option_copied heard.packet ≡ (step c s).packet)
+  pub notes : (c : Settings) (s : LinkStation) → FitsLink c old s → IfOk result (λ heard. heard.notes ≡ (step c s).notes)
   pub outbox : new.outbox ≡ old.outbox
   pub err : OnErr result (new ≡ old)
 

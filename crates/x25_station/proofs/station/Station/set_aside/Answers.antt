@@ -19,7 +19,7 @@ invariant_of-self-2 c = record {
       let low = before.packets in
       let few = before.spares in
       let short = before.texts in
-      let reserved = kept_ok c.reserve-3.result (sym c.is_err-3.ensures.value ∙ c.if-is_err-3.false) c.reserve-3.ensures.ok in
+      let reserved = kept_ok c.reserve.result (sym c.is_err.ensures.value ∙ c.if-is_err.false) c.reserve.ensures.ok in
       let packets = c.room.ensures.most_memory in
       let spares = c.room.ensures.most_spares in
       record { packets = omega (arith, packets, low); spares = omega (arith, spares, few); texts = omega (arith, reserved, short) };
