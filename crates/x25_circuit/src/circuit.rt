@@ -2,6 +2,7 @@ ghost use Rattle.std.specs.Prelude.{◌≡◌, ℕ, ◌+◌, ◌<◌, ◌≤◌,
 ghost use Rattle.x25_circuit.specs.declared.state.State.{State};
 ghost use Rattle.x25_circuit.specs.Message.{no_part, joining};
 ghost use Rattle.x25_circuit.specs.Params.{default_params};
+ghost use Rattle.x25_circuit.specs.Calling.{pulled, pulls_nothing};
 ghost use Rattle.x25_circuit.specs.Circuit.{Settings, begun, entered, forgotten, zeroed, is_free, is_open, waits, outgoing, incoming};
 ghost use Rattle.x25_circuit.specs.Circuit.{Circuit as Channel};
 
@@ -141,6 +142,7 @@ impl Circuit {
     /// How many messages wait, at most 8. Each has at most 65,535 octets.
     pub fn waits(&self) -> usize
         ensures value { (c : Settings) (x : Channel) → FitsCircuit c self.now x → result ≡ waits x }
+        ensures none { (c : Settings) (x : Channel) → FitsCircuit c self.now x → result ≡ 0 → pulled c x ≡ pulls_nothing x }
         ensures few { result ≤ 8 }
     {
         self.transfer.queue.len()

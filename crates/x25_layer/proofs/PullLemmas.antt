@@ -136,6 +136,18 @@ one_none link c h t none = room (nat_lt (link.waits t.put) 8) none
     room true is = ap (λ (o : Option PlainPacket). with_pulled t (layer_pulled c t.layer h) (packet_on h o)) is
     room false is = refl
 
+-- a circuit that gives none, wherever the link has room
+pub where_nothing : (b : Bool) (c : Settings) (x : Circuit) → pulled c x ≡ pulls_nothing x → pulled_where b c x ≡ pulls_nothing x
+where_nothing true c x none = none
+where_nothing false c x none = refl
+
+-- a round over a link that takes no packet
+pub round_shut : (link : LinkView) (c : LayerSettings) (n : ℕ) (t : Putting) → nat_lt (link.waits t.put) 8 ≡ false → round link c n t ≡ t
+round_shut link c zero t shut = refl
+round_shut link c (suc n) t shut =
+    ap (λ (u : Putting). pull_one link c (suc n) u) (round_shut link c n t shut)
+    ∙ ap (λ (b : Bool). if b then with_pulled t (layer_pulled c t.layer (suc n)) (layer_pulled c t.layer (suc n)).packet else t) shut
+
 -- A round keeps whether a restart is under way, and how many were done.
 pub record KeepsRestarts (s t : Putting) : Type 0 where
   pub restarting : t.layer.restarting ≡ s.layer.restarting

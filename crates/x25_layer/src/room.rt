@@ -28,11 +28,12 @@ fn any_full(circuits: &[Circuit]) -> bool
     ensures value { (c : LayerSettings) (f : ℕ → Channel) → FitsCircuits c circuits.now f → result ≡ full_up_to f (length circuits.now) }
     ensures left { result ≡ false → HaveCountsLeft circuits.now }
 {
-    let mut any = false;
     for circuit in circuits.iter() {
-        any |= is_full(circuit);
+        if is_full(circuit) {
+            return true;
+        }
     }
-    any
+    false
 }
 
 // Sets memory aside in each circuit for so many octets of user data of a packet, but for no more than the longest has.

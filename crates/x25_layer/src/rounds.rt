@@ -56,6 +56,35 @@ fn pull_one<L: OrderedLink>(
     ensures longest { L.longest link.new ≡ L.longest link.old }
     ensures up { L.up link.new ≡ L.up link.old }
 {
+    if circuit.waits() == 0 {
+        return false;
+    }
+    pull_waiting(circuit, channel, link, memory)
+}
+
+// .. in which a message waits.
+#[inline(never)]
+fn pull_waiting<L: OrderedLink>(
+    circuit: &mut Circuit,
+    channel: u16,
+    link: &mut L,
+    memory: &mut PacketMemory,
+) -> bool
+    requires channel { IsChannel channel }
+    requires up { L.up link.old ≡ true }
+    requires longest { 4099 ≤ L.longest link.old }
+    ensures circuit { (c : Settings) (x : Channel) (y : L.State) → FitsCircuit c circuit.old x → L.fits link.old y → IsEnough (L.lists y) memory.old → IsEnough (L.lists y) (L.spares link.old) → FitsCircuit c circuit.new (pulled_where (nat_lt (L.waits_in y) 8) c x).next }
+    ensures link { (c : Settings) (x : Channel) (y : L.State) → FitsCircuit c circuit.old x → L.fits link.old y → IsEnough (L.lists y) memory.old → IsEnough (L.lists y) (L.spares link.old) → L.fits link.new (after_all L.after_put y (option_to_list (packet_on channel (pulled_where (nat_lt (L.waits_in y) 8) c x).packet))) }
+    ensures none { (c : Settings) (x : Channel) (y : L.State) → FitsCircuit c circuit.old x → L.fits link.old y → IsEnough (L.lists y) memory.old → IsEnough (L.lists y) (L.spares link.old) → result ≡ false → (pulled_where (nat_lt (L.waits_in y) 8) c x).packet ≡ None }
+    ensures memory { (c : Settings) (x : Channel) (y : L.State) → FitsCircuit c circuit.old x → L.fits link.old y → IsEnough (L.lists y) memory.old → IsEnough (L.lists y) (L.spares link.old) → memory.old ≤ memory.new + length (option_to_list (pulled_where (nat_lt (L.waits_in y) 8) c x).packet) }
+    ensures spares { (c : Settings) (x : Channel) (y : L.State) → FitsCircuit c circuit.old x → L.fits link.old y → IsEnough (L.lists y) memory.old → IsEnough (L.lists y) (L.spares link.old) → L.spares link.old ≤ L.spares link.new + length (option_to_list (pulled_where (nat_lt (L.waits_in y) 8) c x).packet) }
+    ensures no_more { memory.new ≤ memory.old }
+    ensures used { memory.old + L.spares link.new ≡ memory.new + L.spares link.old }
+    ensures room { room_of circuit.old ≤ room_of circuit.new }
+    ensures fewer { result ≡ true → memory.new < memory.old }
+    ensures longest { L.longest link.new ≡ L.longest link.old }
+    ensures up { L.up link.new ≡ L.up link.old }
+{
     if !may_pull(link, memory) {
         return false;
     }
@@ -67,9 +96,37 @@ fn pull_one<L: OrderedLink>(
     true
 }
 
-// One round: whether a packet was put.
+// One round: whether a packet was put. Where the link takes none, no circuit is asked.
 #[inline(always)]
 fn round<L: OrderedLink>(
+    circuits: &mut Vec<Circuit>,
+    link: &mut L,
+    memory: &mut PacketMemory,
+) -> bool
+    requires few { length circuits.old.items ≤ 16 }
+    requires up { L.up link.old ≡ true }
+    requires longest { 4099 ≤ L.longest link.old }
+    ensures stands { (c : LayerSettings) (x : L.State) (s : Putting) → Stands (L.fits link.old) L.lists L.after_put c circuits.old.items memory.old (L.spares link.old) x s →
+        Stands (L.fits link.new) L.lists L.after_put c circuits.new.items memory.new (L.spares link.new) x (round (view_of L.up_in L.waits_in L.after_put x) c c.channels s) }
+    ensures none { (c : LayerSettings) (x : L.State) (s : Putting) → Stands (L.fits link.old) L.lists L.after_put c circuits.old.items memory.old (L.spares link.old) x s →
+        result ≡ false → round (view_of L.up_in L.waits_in L.after_put x) c c.channels s ≡ s }
+    ensures count { length circuits.new.items ≡ length circuits.old.items }
+    ensures room { (len : ℕ) → HaveRoom len circuits.old.items → HaveRoom len circuits.new.items }
+    ensures no_more { memory.new ≤ memory.old }
+    ensures used { memory.old + L.spares link.new ≡ memory.new + L.spares link.old }
+    ensures fewer { result ≡ true → memory.new < memory.old }
+    ensures longest { L.longest link.new ≡ L.longest link.old }
+    ensures up { L.up link.new ≡ L.up link.old }
+{
+    if !may_pull(link, memory) {
+        return false;
+    }
+    go_round(circuits, link, memory)
+}
+
+// .. of all circuits.
+#[inline(always)]
+fn go_round<L: OrderedLink>(
     circuits: &mut Vec<Circuit>,
     link: &mut L,
     memory: &mut PacketMemory,
@@ -124,6 +181,7 @@ impl Layer {
     ///
     /// There are at most 15: each is pulled where fewer than 8 packets wait, and of those that don't wait at most 7 aren't
     /// acknowledged.
+    #[inline(always)]
     pub(crate) fn pull_all<L: OrderedLink>(&mut self, link: &mut L)
         requires up { L.up link.old ≡ true }
         requires longest { 4099 ≤ L.longest link.old }

@@ -85,6 +85,15 @@ pub pumped_none : (n k : ℕ) (t : Side) → may_send k t.near ≡ false → pum
 unfolding pumped
 pumped_none n k t h = ap (pumped_once k) (pumped_stays n k t h)
 
+-- where nothing may be sent any more, the others send nothing
+pub pumped_settled : (d i k : ℕ) (t : Side) → may_send k (pumped i k t).near ≡ false → pumped (d + i) k t ≡ pumped i k t
+unfolding pumped
+pumped_settled zero i k t h = let same : zero + i ≡ i = omega arith in rw same refl
+pumped_settled (suc d) i k t h = let next : suc d + i ≡ suc (d + i) = omega arith in rw next (ap (pumped_once k) (pumped_settled d i k t h) ∙ (rw h refl))
+
+pub once_none : (k : ℕ) (t : Side) → may_send k t.near ≡ false → pumped_once k t ≡ t
+once_none k t h = rw h refl
+
 -- ---- the RR that ends an RNR
 
 pub ready_sends : (k : ℕ) (b : Bool) (command pf : Bool) (t : Side) → is_busy t.near ≡ b → may_send k (ready command pf t).near ≡ may_send k t.near

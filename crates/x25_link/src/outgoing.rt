@@ -101,6 +101,7 @@ impl Outgoing {
     /// Takes a received N(R), and says how many frames it acknowledges. 7 BadAck where it is none from the first frame that isn't
     /// acknowledged to V(S) at its highest; nothing changes then.
     #[tactic(auto, using(crate::proofs::OutgoingLemmas::sent_length))]
+    #[inline(always)]
     pub fn ack(&mut self, nr: Seq) -> Result<u8, WindowError>
         ensures step { (k : ℕ) (o : OutgoingState) → FitsOutgoing k self.old o → IfOk result (λ count. FitsOutgoing k self.new (acknowledged_to (o.acked + count) o)) }
         ensures number { (k : ℕ) (o : OutgoingState) → FitsOutgoing k self.old o → IfOk result (λ count. o.acked + count ≡ resolved o.acked nr.number) }
@@ -110,11 +111,15 @@ impl Outgoing {
         ensures err { OnErr result (self.new ≡ self.old) }
     {
         let count = self.sender.acknowledges(nr)?;
+        if count == 0 {
+            return Ok(0);
+        }
         self.release(count);
         Ok(count)
     }
 
     // Takes the first packets as acknowledged, and keeps their memory.
+    #[inline(never)]
     fn release(&mut self, count: u8)
         requires { count ≤ length self.old.sender.items }
         ensures sender { (w : Sending (List ℕ)) → Fits self.old.sender w → Fits self.new.sender (acknowledged w (w.acked + count)) }

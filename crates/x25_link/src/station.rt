@@ -112,7 +112,9 @@ impl LinkStation {
         ensures short { out.new.short ≡ out.old.short }
     {
         for _frame in 0..FRAMES - 1 {
-            self.pump_once(out);
+            if !self.pump_once(out) {
+                return;
+            }
         }
     }
 

@@ -6,8 +6,9 @@ use Rattle.x25_layer.specs.code.FitsLayer.{FitsCircuits, full_up_to}
 use Rattle.x25_layer.specs.Room.{HasCountsLeft}
 use Rattle.x25_layer.proofs.room.any_full.Given as goal
 
+-- no count of the circuits so far is at its most
 abbrev pub invariant-loop-circuit : goal.invariant-loop-circuit
 invariant-loop-circuit l = record {
-  value : (c : LayerSettings) (f : ℕ → Circuit) → FitsCircuits c l.circuits f → l.any ≡ full_up_to f l.circuit-index;
-  left : l.any ≡ false → (k : ℕ) (v : circuit_code.Circuit) → k < l.circuit-index → slice_get l.circuits k ≡ Some v → HasCountsLeft v;
+  value : (c : LayerSettings) (f : ℕ → Circuit) → FitsCircuits c l.circuits f → full_up_to f l.circuit-index ≡ false;
+  left : (k : ℕ) (v : circuit_code.Circuit) → k < l.circuit-index → slice_get l.circuits k ≡ Some v → HasCountsLeft v;
 }

@@ -1,6 +1,8 @@
-use Rattle.std.proofs.Common.{◌≡◌, ◌∙◌, refl, arith}
-use Rattle.x25_link.specs.Station.{pumped}
+use Rattle.std.proofs.Common.{ℕ, ◌≡◌, ◌<◌, ◌+◌, ◌-◌, ◌∙◌, refl, sym, ap, subst, arith}
+use Rattle.x25_link.specs.Station.{Side, pumped}
+use Rattle.x25_link.specs.code.Fits.{FitsSide}
 use Rattle.x25_link.proofs.FitsLemmas.{pumped_more, room_kept}
+use Rattle.x25_link.proofs.EndLemmas.{pumped_settled, once_none}
 use Rattle.x25_link.proofs.station.LinkStation.pump_on.Goals as goal
 
 pub loop-frame-init : goal.loop-frame-init
@@ -23,3 +25,14 @@ returns c = record {
       rw six at (c.loop-frame.invariant.step d before t fits);
   short = c.loop-frame.invariant.short;
 }
+
+pub returns-then-not-pump_once-clause-step : goal.returns-then-not-pump_once-clause-step
+returns-then-not-pump_once-clause-step c = λ d before t fits.
+    let i : ℕ = c.loop-frame._frame in
+    let k : ℕ = d.window in
+    let low : i < 6 = omega arith in
+    let six : 6 ≡ (6 - i) + i = omega (arith, low) in
+    let now = c.loop-frame.invariant.step d before t fits in
+    let none = sym (c.if-not-pump_once.ensures.sent d (pumped i k t).near now.near) in
+    let all = ap (λ (n : ℕ). pumped n k t) six ∙ pumped_settled (6 - i) i k t none in
+    subst (λ (u : Side). FitsSide d c.pump_once.new.self before c.pump_once.new.out.made u) (once_none k (pumped i k t) none ∙ sym all) (c.if-not-pump_once.ensures.step d before (pumped i k t) now)

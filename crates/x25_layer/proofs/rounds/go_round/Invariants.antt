@@ -4,7 +4,7 @@ use Rattle.x25_layer.specs.code.OverLink.{view_of}
 use Rattle.x25_layer.specs.Rounds.{Putting, round}
 use Rattle.x25_layer.specs.code.Pulling.{Stands}
 use Rattle.x25_layer.specs.Room.{HaveRoom}
-use Rattle.x25_layer.proofs.rounds.round.Given as goal
+use Rattle.x25_layer.proofs.rounds.go_round.Given as goal
 
 abbrev pub invariant-loop-circuit : goal.invariant-loop-circuit
 invariant-loop-circuit g l = record {
