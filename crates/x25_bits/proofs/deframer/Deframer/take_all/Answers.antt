@@ -26,3 +26,12 @@ returns-clause-alloc c = c.in_ok-take_from.ensures.alloc ∙ c.in_ok-take_octets
 
 pub returns-clause-last : goal.returns-clause-last
 returns-clause-last c = c.in_ok-take_from.ensures.last ∙ c.in_ok-take_octets.ensures.last
+
+pub returns-in_err-take_from-clause-roomy : goal.returns-in_err-take_from-clause-roomy
+returns-in_err-take_from-clause-roomy c = c.take_from.ensures.roomy ∙ c.take_octets.ensures.roomy
+
+pub returns-in_err-take_from-clause-alloc : goal.returns-in_err-take_from-clause-alloc
+returns-in_err-take_from-clause-alloc c = c.take_from.ensures.alloc ∙ c.take_octets.ensures.alloc
+
+pub returns-in_err-take_from-clause-last : goal.returns-in_err-take_from-clause-last
+returns-in_err-take_from-clause-last c = c.take_from.ensures.last ∙ c.take_octets.ensures.last
