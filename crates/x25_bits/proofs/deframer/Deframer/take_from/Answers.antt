@@ -51,3 +51,33 @@ returns-clause-fits c = λ v h.
 pub returns-clause-found : goal.returns-clause-found
 returns-clause-found c = λ v h.
     c.loop-place.invariant.found v h ∙ ap (λ l. plains c.args.out.now.items ++ found_from v l) (part_rest c.args.from c.loop-place.place c.args.bits.now (omega arith))
+
+pub returns-clause-undo : goal.returns-clause-undo
+returns-clause-undo c = c.loop-place.invariant.undo
+
+pub returns-clause-roomy : goal.returns-clause-roomy
+returns-clause-roomy c = c.loop-place.invariant.roomy
+
+pub returns-clause-begins : goal.returns-clause-begins
+returns-clause-begins c = c.loop-place.invariant.begins
+
+pub returns-clause-alloc : goal.returns-clause-alloc
+returns-clause-alloc c = c.loop-place.invariant.alloc
+
+pub returns-clause-last : goal.returns-clause-last
+returns-clause-last c = c.loop-place.invariant.last
+
+pub returns-in_err-take-clause-undo : goal.returns-in_err-take-clause-undo
+returns-in_err-take-clause-undo c = prefix_more _ _ _ c.loop-place.invariant.undo c.take.ensures.undo
+
+pub returns-in_err-take-clause-roomy : goal.returns-in_err-take-clause-roomy
+returns-in_err-take-clause-roomy c = c.take.ensures.roomy ∙ c.loop-place.invariant.roomy
+
+pub returns-in_err-take-clause-begins : goal.returns-in_err-take-clause-begins
+returns-in_err-take-clause-begins c = prefix_more _ _ _ c.loop-place.invariant.begins c.take.ensures.begins
+
+pub returns-in_err-take-clause-alloc : goal.returns-in_err-take-clause-alloc
+returns-in_err-take-clause-alloc c = c.take.ensures.alloc ∙ c.loop-place.invariant.alloc
+
+pub returns-in_err-take-clause-last : goal.returns-in_err-take-clause-last
+returns-in_err-take-clause-last c = c.take.ensures.last ∙ c.loop-place.invariant.last

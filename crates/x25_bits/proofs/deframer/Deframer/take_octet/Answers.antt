@@ -95,3 +95,42 @@ returns-clause-found c = λ v h.
     let all = bits_of (c.args.octet ∷ []) in
     let size : length all ≡ 8 = length-bits_of (c.args.octet ∷ []) in
     led_found _ _ _ _ _ _ (c.loop-place.invariant.leads v h) (drop_all c.loop-place.place all (omega arith)) ∙ ap (λ l. plains c.args.out.now.items ++ found_from v l) (one_octet c.args.octet)
+
+pub returns-clause-undo : goal.returns-clause-undo
+returns-clause-undo c = c.loop-place.invariant.undo
+
+pub returns-clause-roomy : goal.returns-clause-roomy
+returns-clause-roomy c = c.loop-place.invariant.roomy
+
+pub returns-clause-begins : goal.returns-clause-begins
+returns-clause-begins c = c.loop-place.invariant.begins
+
+pub returns-clause-alloc : goal.returns-clause-alloc
+returns-clause-alloc c = c.loop-place.invariant.alloc
+
+pub returns-clause-last : goal.returns-clause-last
+returns-clause-last c = c.loop-place.invariant.last
+
+pub returns-in_err-keep_passed-clause-begins : goal.returns-in_err-keep_passed-clause-begins
+returns-in_err-keep_passed-clause-begins c = c.loop-place.invariant.begins
+
+pub returns-in_err-keep_passed-clause-alloc : goal.returns-in_err-keep_passed-clause-alloc
+returns-in_err-keep_passed-clause-alloc c = c.keep_passed.ensures.alloc ∙ c.loop-place.invariant.alloc
+
+pub returns-in_err-keep_passed-clause-last : goal.returns-in_err-keep_passed-clause-last
+returns-in_err-keep_passed-clause-last c = c.keep_passed.ensures.last ∙ c.loop-place.invariant.last
+
+pub returns-in_err-take-clause-undo : goal.returns-in_err-take-clause-undo
+returns-in_err-take-clause-undo c = prefix_more _ _ _ c.loop-place.invariant.undo c.take.ensures.undo
+
+pub returns-in_err-take-clause-roomy : goal.returns-in_err-take-clause-roomy
+returns-in_err-take-clause-roomy c = c.take.ensures.roomy ∙ c.loop-place.invariant.roomy
+
+pub returns-in_err-take-clause-begins : goal.returns-in_err-take-clause-begins
+returns-in_err-take-clause-begins c = prefix_more _ _ _ c.loop-place.invariant.begins c.take.ensures.begins
+
+pub returns-in_err-take-clause-alloc : goal.returns-in_err-take-clause-alloc
+returns-in_err-take-clause-alloc c = c.take.ensures.alloc ∙ c.loop-place.invariant.alloc
+
+pub returns-in_err-take-clause-last : goal.returns-in_err-take-clause-last
+returns-in_err-take-clause-last c = c.take.ensures.last ∙ c.loop-place.invariant.last

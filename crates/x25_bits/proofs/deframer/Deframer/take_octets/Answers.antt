@@ -104,3 +104,43 @@ returns-clause-fits c = λ v h.
 pub returns-clause-found : goal.returns-clause-found
 returns-clause-found c = λ v h.
     led_found _ _ _ _ _ _ (c.loop-place.invariant.leads v h) (ap bits_of (drop_all _ _ c.loop-place-test.false))
+
+pub returns-clause-undo : goal.returns-clause-undo
+returns-clause-undo c = c.loop-place.invariant.undo
+
+pub returns-clause-roomy : goal.returns-clause-roomy
+returns-clause-roomy c = c.loop-place.invariant.roomy
+
+pub returns-clause-begins : goal.returns-clause-begins
+returns-clause-begins c = c.loop-place.invariant.begins
+
+pub returns-clause-alloc : goal.returns-clause-alloc
+returns-clause-alloc c = c.loop-place.invariant.alloc
+
+pub returns-clause-last : goal.returns-clause-last
+returns-clause-last c = c.loop-place.invariant.last
+
+pub returns-in_err-behind-clause-begins : goal.returns-in_err-behind-clause-begins
+returns-in_err-behind-clause-begins c = c.loop-place.invariant.begins
+
+pub returns-in_err-behind-clause-alloc : goal.returns-in_err-behind-clause-alloc
+returns-in_err-behind-clause-alloc c = c.take_content.ensures.alloc ∙ c.loop-place.invariant.alloc
+
+pub returns-in_err-behind-clause-last : goal.returns-in_err-behind-clause-last
+returns-in_err-behind-clause-last c = c.take_content.ensures.last ∙ c.loop-place.invariant.last
+
+pub returns-in_err-take_octet-clause-undo : goal.returns-in_err-take_octet-clause-undo
+returns-in_err-take_octet-clause-undo c =
+    prefix_more _ _ _ (prefix_more _ _ _ c.loop-place.invariant.undo (aside_begins c.loop-place.aside _ _ c.take_content.ensures.begins)) c.take_octet.ensures.undo
+
+pub returns-in_err-take_octet-clause-roomy : goal.returns-in_err-take_octet-clause-roomy
+returns-in_err-take_octet-clause-roomy c = c.take_octet.ensures.roomy ∙ aside_roomy c.loop-place.aside _ _ c.take_content.ensures.roomy ∙ c.loop-place.invariant.roomy
+
+pub returns-in_err-take_octet-clause-begins : goal.returns-in_err-take_octet-clause-begins
+returns-in_err-take_octet-clause-begins c = prefix_more _ _ _ c.loop-place.invariant.begins c.take_octet.ensures.begins
+
+pub returns-in_err-take_octet-clause-alloc : goal.returns-in_err-take_octet-clause-alloc
+returns-in_err-take_octet-clause-alloc c = c.take_octet.ensures.alloc ∙ c.take_content.ensures.alloc ∙ c.loop-place.invariant.alloc
+
+pub returns-in_err-take_octet-clause-last : goal.returns-in_err-take_octet-clause-last
+returns-in_err-take_octet-clause-last c = c.take_octet.ensures.last ∙ c.take_content.ensures.last ∙ c.loop-place.invariant.last
