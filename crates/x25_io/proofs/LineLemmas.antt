@@ -1,7 +1,9 @@
 -- The lines of a text, and the place of the first line feed.
-use Rattle.std.proofs.Common.{◌≡◌, ◌≢◌, ◌<◌, ◌-◌, ℕ, zero, suc, false, List, [], ◌∷◌, ◌++◌, length, take, drop, Some, None, ap, arith, get_or, eq-eqb, eqb-true, add-one, ◌∙◌, sym, ◌+◌, nat_eq, refl}
+use Rattle.std.proofs.Common.{◌≡◌, ◌≢◌, ◌<◌, ◌≤◌, ◌-◌, ℕ, zero, suc, Bool, true, false, not, List, [], ◌∷◌, ◌++◌, length, take, drop, Some, None, ap, arith, get_or, get_or-take, eq-eqb, eqb-true, add-one, ◌∙◌, sym, ◌+◌, nat_eq, refl}
 use Rattle.std.proofs.lemmas.Bool.{ne_eqb}
-use Rattle.std.proofs.lemmas.List.{append-nil, take_rest}
+use Rattle.std.specs.List.{prefix_len}
+use Rattle.std.proofs.lemmas.List.{append-nil, length-take-le, take_rest}
+use Rattle.std.proofs.lemmas.List.Sums.{prefix_len_passes, prefix_len_stops}
 use Rattle.memchr.specs.Find.{IsFirstByte, is_byte}
 use Rattle.x25_io.specs.Lines.{IsOpen, lines_of}
 
@@ -27,6 +29,26 @@ cut_line at left h =
 
 pub no_line : (left : List ℕ) → IsFirstByte (is_byte 10) left None → IsOpen left
 no_line left h = open_all left (λ k lt e. h k (omega arith) lt (eq-eqb (get_or left k 0) 10 e))
+
+-- by the first sixteen
+pub first_of_sixteen : (left : List ℕ) (at : ℕ) → 16 ≤ length left → at ≡ prefix_len (λ octet. not (is_byte 10 octet)) (take 16 left) → at < 16
+    → IsFirstByte (is_byte 10) left (Some at)
+first_of_sixteen left at long is few =
+    let p : ℕ → Bool = λ octet. not (is_byte 10 octet) in
+    let size : length (take 16 left) ≡ 16 = length-take-le 16 left long in
+    let stops : p (get_or (take 16 left) (prefix_len p (take 16 left)) 0) ≡ false = prefix_len_stops p (take 16 left) 0 (omega (arith, is, few, size)) in
+    let here : p (get_or left at 0) ≡ false = ap p (sym (get_or-take 16 left at 0 few)) ∙ ap (λ k. p (get_or (take 16 left) k 0)) is ∙ stops in
+    let before : (k : ℕ) → k < at → p (get_or left k 0) ≡ true =
+    λ k lt. ap p (sym (get_or-take 16 left k 0 (omega (arith, lt, few)))) ∙ prefix_len_passes p (take 16 left) k 0 (omega (arith, lt, is)) in
+    (record { low = omega arith; high = omega (arith, few, long); before = λ k low lt e. both_ways (is_byte 10 (get_or left k 0)) e (before k lt) }, not-false (is_byte 10 (get_or left at 0)) here)
+  where
+    both_ways : (b : Bool) → b ≡ true → not b ≡ true → ⊥
+    both_ways true e h = absurd (cc h)
+    both_ways false e h = absurd (cc e)
+
+    not-false : (b : Bool) → not b ≡ false → b ≡ true
+    not-false true h = refl
+    not-false false h = absurd (cc h)
 
 -- ---- the lines of a text
 

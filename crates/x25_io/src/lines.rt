@@ -1,15 +1,54 @@
-ghost use Rattle.std.specs.Prelude.{◌≡◌, ◌<◌, ◌++◌, ◌∷◌, IfSome, MatchOption, length};
+ghost use Rattle.std.specs.Prelude.{◌≡◌, ◌==◌, ◌<◌, ◌++◌, ◌∷◌, not, IfSome, MatchOption, if◌then◌else◌, length};
+ghost use Rattle.std.specs.Int.{trailing_zeros, w64};
+ghost use Rattle.std.specs.List.{prefix_len};
+ghost use Rattle.memchr.specs.Find.{IsFirstByte, is_byte};
 ghost use Rattle.x25_io.specs.Lines.{IsOpen};
 
 use memchr::memchr;
+use std::simd::prelude::*;
+
+/// The place of the lowest bit that is set, 16 where none is.
+#[inline(always)]
+fn lowest_set(mask: u64) -> usize
+    ensures { result ≡ (if mask == 0 then 16 else trailing_zeros w64 mask) }
+{
+    if mask == 0 {
+        16
+    } else {
+        mask.trailing_zeros() as usize
+    }
+}
+
+/// The place of the first line feed of sixteen octets, 16 where there is none.
+#[inline(always)]
+fn first_line_feed(octets: u8x16) -> usize
+    ensures { result ≡ prefix_len (λ octet. not (is_byte 10 octet)) octets }
+{
+    lowest_set(octets.simd_eq(u8x16::splat(b'\n')).to_bitmask())
+}
+
+/// The place of the first line feed. Where one stands in the first sixteen octets it is found by these alone.
+#[inline(always)]
+fn line_end(octets: &[u8]) -> Option<usize>
+    ensures { IsFirstByte (is_byte 10) octets.now result }
+{
+    if octets.len() >= 16 {
+        let at = first_line_feed(u8x16::from_slice(octets));
+        if at < 16 {
+            return Some(at);
+        }
+    }
+    memchr(b'\n', octets)
+}
 
 /// The octets before the first line feed and those behind it, where there is one.
+#[inline(always)]
 pub fn split_line(octets: &[u8]) -> Option<(&[u8], &[u8])>
     ensures parts { MatchOption result (IsOpen octets.now)
         (λ parts. IsOpen parts.0.now × (octets.now ≡ parts.0.now ++ 10 ∷ parts.1.now)) }
     ensures shorter { IfSome result (λ parts. length parts.1.now < length octets.now) }
 {
-    match memchr(b'\n', octets) {
+    match line_end(octets) {
         Some(at) => Some((&octets[..at], &octets[at + 1..])),
         None => None,
     }

@@ -1,10 +1,11 @@
 //! What the user of an end asks for.
-ghost use Rattle.std.specs.Prelude.{◌≡◌, IfSome};
+ghost use Rattle.std.specs.Prelude.{◌≡◌, IfSome, Some, None};
+ghost use Rattle.x25_script.specs.ScriptLine.{accept, send};
 ghost use Rattle.x25_script.specs.Reading.{accept_in, bare_command_in, call_in, command_in, interrupt_in, send_in, with_fields, GivesCommand};
 
 use crate::fields::{address, is, number, octets, q, split_blank, verb};
 use crate::params::with_params;
-use crate::script_line::Command;
+use crate::script_line::{Command, Sent};
 use crate::words::Verb;
 
 #[tactic(auto, unfolding(crate::specs::Reading::call_in))]
@@ -61,6 +62,20 @@ fn send(text: &[u8]) -> Option<Command<'_>>
         q: q(mark)?,
         user: octets(user)?,
     })
+}
+
+/// What is to be sent, where the channel has one digit.
+#[inline(always)]
+fn sent(text: &[u8]) -> Option<Sent<'_>>
+    ensures { IfSome result (λ s. send_in text.now ≡ Some (send s.channel s.q s.user)) }
+{
+    if text.len() < 4 || text[1] != b' ' || text[3] != b' ' {
+        return None;
+    }
+    let channel = number(&text[..1])?;
+    let q = q(&text[2..3])?;
+    let user = octets(&text[4..])?;
+    Some(Sent { channel, q, user })
 }
 
 #[tactic(auto, unfolding(crate::specs::Reading::interrupt_in))]
@@ -144,6 +159,15 @@ fn behind_send(text: &[u8]) -> Option<&[u8]>
     }
 }
 
+/// What a command asks to send, where the channel has one digit. `None` says nothing of the command. It takes no memory. Profile.
+#[inline(always)]
+pub fn read_send(text: &[u8]) -> Option<Sent<'_>>
+    ensures { IfSome result (λ s. command_in text.now ≡ Some (send s.channel s.q s.user)) }
+{
+    let fields = behind_send(text)?;
+    sent(fields)
+}
+
 /// What follows the word `accept` and its blank.
 #[inline(always)]
 #[tactic(auto, unfolding(crate::specs::Reading::command_in, crate::specs::Reading::with_fields, crate::specs::Reading::parts_of))]
@@ -154,6 +178,15 @@ fn behind_accept(text: &[u8]) -> Option<&[u8]>
         [b'a', b'c', b'c', b'e', b'p', b't', b' ', fields @ ..] => Some(fields),
         _ => None,
     }
+}
+
+/// The channel whose call a command accepts as it was proposed. `None` says nothing of the command. It takes no memory. Profile.
+#[inline(always)]
+pub fn read_accept(text: &[u8]) -> Option<u16>
+    ensures { IfSome result (λ channel. command_in text.now ≡ Some (accept channel None)) }
+{
+    let channel = behind_accept(text)?;
+    number(channel)
 }
 
 /// The command that follows the name of its end. The words that most commands have are tried first.

@@ -1,7 +1,7 @@
 //! A line of a script read from its characters.
-ghost use Rattle.std.specs.Prelude.{◌≡◌, IfSome, IsSomeAnd};
-ghost use Rattle.x25_script.specs.ScriptLine.{PlainLine, plain};
-ghost use Rattle.x25_script.specs.Reading.{after, bare_line_in, damage_in, drain_in, line_in, lose_in, GivesLine};
+ghost use Rattle.std.specs.Prelude.{◌≡◌, IfSome, IsSomeAnd, Some, option_map};
+ghost use Rattle.x25_script.specs.ScriptLine.{PlainLine, command, deliver, plain};
+ghost use Rattle.x25_script.specs.Reading.{after, bare_line_in, command_in, damage_in, drain_in, line_in, lose_in, GivesLine};
 ghost use Rattle.x25_script.specs.Reading.Spelling.{Spells};
 ghost use Rattle.x25_script.specs.declared.words.Keyword.TheVariants.{Deliver, End};
 
@@ -158,6 +158,24 @@ fn read(line: &[u8]) -> Option<ScriptLine<'_>>
     // In a place of its own, so that the lines above needn't go through memory.
     let other = any_line(line);
     other
+}
+
+/// The end from which a line asks that the next frame arrive. `None` says nothing of the line. It takes no memory. Profile.
+#[inline(always)]
+pub fn read_deliver(line: &[u8]) -> Option<Role>
+    ensures { IfSome result (λ end. line_in line.now ≡ Some (deliver end)) }
+{
+    let direction = behind_deliver(line)?;
+    let end = from(direction)?;
+    Some(end)
+}
+
+/// The end that a line commands, and the command. `None` says nothing of the line. Profile.
+#[inline(always)]
+pub fn read_end(line: &[u8]) -> Option<(Role, &[u8])>
+    ensures { IfSome result (λ parts. line_in line.now ≡ option_map (command parts.0) (command_in parts.1.now)) }
+{
+    commanded_end(line)
 }
 
 /// The line of a script that the characters spell, without a line feed, where they spell one. It takes no memory. Profile.

@@ -48,6 +48,14 @@ pub enum Command<'a> {
     Disconnect,
 }
 
+/// A message that the user of an end asks to send. Its octets are borrowed from its line.
+#[derive(Debug, Drop)]
+pub struct Sent<'a> {
+    pub channel: u16,
+    pub q: bool,
+    pub user: HexDigits<'a>,
+}
+
 /// A line of a script. Addresses and octets are borrowed from it.
 ///
 /// A direction is named by the end that it leads away from. `place` counts the frames on the line in this direction from

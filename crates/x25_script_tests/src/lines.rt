@@ -1,6 +1,9 @@
 use crate::shown::shown;
 use std::test::Fail;
-use x25_script::{lines_are_in_octets, read_line, reading_is_the_grammar};
+use x25_script::{
+    Role, lines_are_in_octets, read_accept, read_deliver, read_end, read_line, read_send,
+    reading_is_the_grammar,
+};
 
 /// Lines of a script, and what they say.
 const LINES: [(&[u8], &str); 43] = [
@@ -286,4 +289,72 @@ fn others_are_no_lines(rt: HostRuntime) {
     for line in OTHERS {
         assert!(rt; read_line(line).is_none(), "{line:?}");
     }
+}
+
+/// Lines, and the end from which they ask that a frame arrive.
+const DELIVERIES: [(&[u8], Option<Role>); 5] = [
+    (b"deliver >", Some(Role::Dte)),
+    (b"deliver <", Some(Role::Dce)),
+    (b"deliver", None),
+    (b"deliver =", None),
+    (b"deliver > ", None),
+];
+
+/// Lines, and the end that they command.
+const COMMANDED: [(&[u8], Option<Role>); 5] = [
+    (b"dte restart", Some(Role::Dte)),
+    (b"dce ", Some(Role::Dce)),
+    (b"dte", None),
+    (b"dxe restart", None),
+    (b"t1 dte", None),
+];
+
+/// Commands, and the channel whose call they accept as it was proposed.
+const ACCEPTANCES: [(&[u8], Option<u16>); 6] = [
+    (b"accept 0", Some(0)),
+    (b"accept 65535", Some(65535)),
+    (b"accept 65536", None),
+    (b"accept 01", None),
+    (b"accept 1 7 7 2 2", None),
+    (b"accepts 1", None),
+];
+
+/// Commands, and whether they are read as messages that are to be sent, by a channel of one digit.
+const MESSAGES: [(&[u8], bool); 9] = [
+    (b"send 0 0 -", true),
+    (b"send 9 1 00FF", true),
+    (b"send 10 0 00", false),
+    (b"send 1 2 00", false),
+    (b"send 1 0 0", false),
+    (b"send 1 0 0g", false),
+    (b"send 1 0 ", false),
+    (b"send   0 00", false),
+    (b"sent 1 0 00", false),
+];
+
+#[test]
+fn some_lines_are_read_by_themselves(rt: HostRuntime) {
+    for (line, end) in DELIVERIES {
+        assert_eq!(rt; read_deliver(line), end);
+    }
+    for (line, end) in COMMANDED {
+        assert_eq!(rt; read_end(line).map(|(end, _)| end), end);
+    }
+}
+
+#[test]
+fn some_commands_are_read_by_themselves(rt: HostRuntime) -> Result<(), Fail> {
+    for (text, channel) in ACCEPTANCES {
+        assert_eq!(rt; read_accept(text), channel);
+    }
+    for (text, is_read) in MESSAGES {
+        assert_eq!(rt; read_send(text).is_some(), is_read);
+    }
+    let sent = read_send(b"send 9 1 00FF").ok_or("it is a message")?;
+    assert_eq!(rt; sent.channel, 9);
+    assert!(rt; sent.q);
+    let mut octets = [1, 1];
+    sent.user.write_to(&mut octets);
+    assert_eq!(rt; octets, [0, 255]);
+    Ok(())
 }

@@ -1,16 +1,20 @@
 -- A script, line by line.
-use Rattle.std.proofs.Common.{◌≡◌, ◌∙◌, ◌<◌, ℕ, Bool, false, List, [], ◌∷◌, ◌++◌, length, Option, None, append_assoc, ap, sym, subst, refl, if◌then◌else◌}
+use Rattle.std.proofs.Common.{◌≡◌, ◌∙◌, ◌<◌, ◌≤◌, ℕ, Bool, false, List, [], ◌∷◌, ◌++◌, length, Option, Some, None, Result, append_assoc, ap, sym, subst, refl, if◌then◌else◌}
+use Rattle.std.specs.Prelude.{option_map}
 use Rattle.std.specs.Io.KnownBytes.{Appends}
-use Rattle.std.proofs.lemmas.Bool.{lt-leb}
+use Rattle.std.proofs.lemmas.Bool.{le-leb, lt-leb}
 use Rattle.std.proofs.lemmas.List.{append-nil}
 use Rattle.x25_io.specs.HeldLine.{most_line}
 use Rattle.x25_io.specs.code.Written.{AppendsPrefix}
-use Rattle.x25_script.specs.Reading.{line_in}
+use Rattle.x25_io.specs.declared.fault.Fault.{Fault}
+use Rattle.x25_bits.specs.declared.role.Role.{Role}
+use Rattle.x25_script.specs.ScriptLine.{PlainCommand, PlainLine, command}
+use Rattle.x25_script.specs.Reading.{command_in, line_in}
 use Rattle.x25_station.specs.declared.config.Cfg.{Cfg}
 use Rattle.x25_world.specs.World.{World}
 use Rattle.x25_sim.specs.Telling.{sayings_text, has_refusal}
-use Rattle.x25_sim.specs.Stage.{Turn, quiet, and_then, asked_in, turn, turns}
-use Rattle.x25_sim.specs.code.Stands.{Stands}
+use Rattle.x25_sim.specs.Stage.{Turn, quiet, and_then, asked_in, asked_turn, line_turn, turn, turns}
+use Rattle.x25_sim.specs.code.Stands.{Stands, Stood, Turns}
 use Rattle.x25_sim.specs.code.Leaves.{Leaves}
 use Rattle.x25_sim.specs.code.Stream.{WritesLines}
 use Rattle.x25_sim.specs.declared.stage.Stage.{Stage}
@@ -65,3 +69,23 @@ whole_told cfg tap old now s whole l empty =
     let h = none_left cfg tap old now old s s [] false whole (turns cfg tap []) l (turns_none cfg tap l.at) in
     let text : h.tells.written ≡ sayings_text whole.sayings = sym (append-nil h.tells.written) ∙ ap (λ t. h.tells.written ++ t) (sym empty) ∙ h.tells.same in
     (subst (Appends old now) text h.tells.appends, h.status)
+
+-- ---- what a line asks for
+
+asks : (line : List ℕ) (asked : PlainLine) → length line ≤ most_line → line_in line ≡ Some asked → asked_in line ≡ Some asked
+unfolding asked_in
+asks line asked few e = ap (λ b. if b then line_in line else None) (le-leb (length line) most_line few) ∙ e
+
+-- a line that isn't too long is obeyed, where what it asks for happens
+pub obeyed : (cfg : Cfg) (tap : Bool) (old now next : Option (List ℕ)) (s u : Stage) (result : Result Unit Fault) (line : List ℕ) (asked : PlainLine) → length line ≤ most_line
+    → line_in line ≡ Some asked → Turns cfg tap old now next s u result (line_turn cfg tap asked) → Turns cfg tap old now next s u result (turn cfg tap line)
+unfolding turn
+obeyed cfg tap old now next s u result line asked few e h = λ w told refused stands.
+    subst (λ read. Stood cfg tap old next u told refused result (asked_turn cfg tap w read)) (sym (asks line asked few e)) (h w told refused stands)
+
+-- .. as a command of an end
+pub obeyed_at : (cfg : Cfg) (tap : Bool) (old now next : Option (List ℕ)) (s u : Stage) (result : Result Unit Fault) (line text : List ℕ) (end : Role) (asked : PlainCommand)
+    → length line ≤ most_line → line_in line ≡ option_map (command end) (command_in text) → command_in text ≡ Some asked
+    → Turns cfg tap old now next s u result (line_turn cfg tap (command end asked)) → Turns cfg tap old now next s u result (turn cfg tap line)
+obeyed_at cfg tap old now next s u result line text end asked few e f h =
+    obeyed cfg tap old now next s u result line (command end asked) few (e ∙ ap (option_map (command end)) f) h

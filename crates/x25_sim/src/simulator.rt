@@ -6,7 +6,7 @@ ghost use Rattle.x25_sim.specs.Stage.{asked_in};
 
 use crate::stage::Stage;
 use x25_io::{Fault, LineTaker, Sink};
-use x25_script::{ScriptLine, read_line};
+use x25_script::{ScriptLine, read_accept, read_deliver, read_end, read_line, read_send};
 
 /// The octets of a line, and the stations.
 #[derive(Drop)]
@@ -37,8 +37,9 @@ impl Simulator {
     }
 
     /// What a line asks for happens.
+    #[inline(always)]
     #[tactic(auto, unfolding(crate::specs::Stage::turn))]
-    fn obey<W: Sink>(&mut self, line: &[u8], writer: &mut W) -> Result<(), Fault>
+    fn obey_any<W: Sink>(&mut self, line: &[u8], writer: &mut W) -> Result<(), Fault>
         ensures turns { length line.now ≤ most_line → (cfg : Settings) (tap : Bool) (old : Option (List ℕ))
             → Turns cfg tap old (W.contents writer.old) (W.contents writer.new) self.old.stage self.new.stage result (turn cfg tap line.now) }
         ensures faults { MarksFaults W.Sink writer.old writer.new result }
@@ -46,6 +47,37 @@ impl Simulator {
         match script_line(line) {
             Some(asked) => self.stage.obey(asked, &mut self.octets, writer),
             None => self.stage.read_nothing(writer),
+        }
+    }
+
+    /// What a line asks for happens, where no frame is delivered.
+    #[inline(never)]
+    fn obey_other<W: Sink>(&mut self, line: &[u8], writer: &mut W) -> Result<(), Fault>
+        ensures turns { length line.now ≤ most_line → (cfg : Settings) (tap : Bool) (old : Option (List ℕ))
+            → Turns cfg tap old (W.contents writer.old) (W.contents writer.new) self.old.stage self.new.stage result (turn cfg tap line.now) }
+        ensures faults { MarksFaults W.Sink writer.old writer.new result }
+    {
+        if let Some((end, text)) = read_end(line) {
+            if let Some(message) = read_send(text) {
+                return self.stage.send(end, message, &mut self.octets, writer);
+            }
+            if let Some(channel) = read_accept(text) {
+                return self.stage.accept(end, channel, writer);
+            }
+        }
+        self.obey_any(line, writer)
+    }
+
+    /// What a line asks for happens. The lines that most scripts have most of are tried first.
+    #[inline(always)]
+    fn obey<W: Sink>(&mut self, line: &[u8], writer: &mut W) -> Result<(), Fault>
+        ensures turns { length line.now ≤ most_line → (cfg : Settings) (tap : Bool) (old : Option (List ℕ))
+            → Turns cfg tap old (W.contents writer.old) (W.contents writer.new) self.old.stage self.new.stage result (turn cfg tap line.now) }
+        ensures faults { MarksFaults W.Sink writer.old writer.new result }
+    {
+        match read_deliver(line) {
+            Some(end) => self.stage.deliver(end, writer),
+            None => self.obey_other(line, writer),
         }
     }
 }

@@ -9,7 +9,7 @@ use crate::telling::{tell_entries, tell_frames, tell_refusal};
 use std::alloc::Global;
 use x25_console::{read_octets, read_user, station_command, tell_nothing};
 use x25_io::{Fault, Output, Sink};
-use x25_script::{Command, ScriptLine};
+use x25_script::{Command, ScriptLine, Sent};
 use x25_station::{Cfg, Cmd, Entry};
 use x25_transcript::Line;
 use x25_world::{
@@ -71,7 +71,7 @@ fn away_from(end: Role) -> Direction
 
 impl Stage {
     ghost use Rattle.std.specs.Prelude.{◌≡◌, ◌⊎◌, ◌++◌, true, ℕ, List, Bool, Option, Some, None, [], false, OnOk, OnErr, IfErr, MatchResult, is_none, option_map};
-    ghost use Rattle.x25_script.specs.ScriptLine.{plain, plain_command};
+    ghost use Rattle.x25_script.specs.ScriptLine.{accept, command, deliver, plain, plain_command, send};
     ghost use Rattle.x25_io.specs.code.MarksFaults.{MarksFaults};
     ghost use Rattle.x25_io.specs.code.Written.{AppendsPrefix, Tells, TellsMore};
     ghost use Rattle.x25_station.specs.declared.config.Cfg.{Cfg as Settings};
@@ -121,6 +121,7 @@ impl Stage {
     }
 
     /// Tells the step of an end: its entries, and behind these its frames where they are asked for, of which it lets go.
+    #[inline(always)]
     fn end_step<W: Sink>(&mut self, at: Role, writer: &mut W) -> Result<(), Fault>
         ensures tells { (cfg : Settings) (old : Option (List ℕ)) (told : List ℕ) (w next : State) → FitsWorld cfg self.old.world next (gone_after self.old.tap w next)
             → next.transcript ≡ w.transcript ++ entered at (map plain_entry self.old.told.items)
@@ -325,6 +326,57 @@ impl Stage {
         read_user(&command, octets)?;
         let command = station_command(&command, octets.as_slice());
         self.happen(Event::Command(end, command), writer)
+    }
+
+    /// The next frame from an end arrives.
+    #[inline(never)]
+    #[tactic(auto, unfolding(crate::specs::Stage::line_turn))]
+    pub(crate) fn deliver<W: Sink>(&mut self, from: Role, writer: &mut W) -> Result<(), Fault>
+        ensures turns { (cfg : Settings) (tap : Bool) (old : Option (List ℕ))
+            → Turns cfg tap old (W.contents writer.old) (W.contents writer.new) self.old self.new result (line_turn cfg tap (deliver from)) }
+        ensures faults { MarksFaults W.Sink writer.old writer.new result }
+    {
+        self.happen(Event::Deliver(away_from(from)), writer)
+    }
+
+    /// A call is accepted as it was proposed.
+    #[inline(always)]
+    #[tactic(auto, unfolding(crate::specs::Stage::line_turn))]
+    pub(crate) fn accept<W: Sink>(
+        &mut self,
+        end: Role,
+        channel: u16,
+        writer: &mut W,
+    ) -> Result<(), Fault>
+        ensures turns { (cfg : Settings) (tap : Bool) (old : Option (List ℕ))
+            → Turns cfg tap old (W.contents writer.old) (W.contents writer.new) self.old self.new result (line_turn cfg tap (command end (accept channel None))) }
+        ensures faults { MarksFaults W.Sink writer.old writer.new result }
+    {
+        self.happen(Event::Command(end, Cmd::Accept { channel }), writer)
+    }
+
+    /// A message is sent. The user data is read into the list.
+    #[inline(always)]
+    #[tactic(auto, unfolding(crate::specs::Stage::line_turn))]
+    pub(crate) fn send<W: Sink>(
+        &mut self,
+        end: Role,
+        message: Sent,
+        octets: &mut Vec<u8>,
+        writer: &mut W,
+    ) -> Result<(), Fault>
+        ensures turns { (cfg : Settings) (tap : Bool) (old : Option (List ℕ))
+            → Turns cfg tap old (W.contents writer.old) (W.contents writer.new) self.old self.new result
+            (line_turn cfg tap (command end (send message.entry.channel message.entry.q message.entry.user))) }
+        ensures faults { MarksFaults W.Sink writer.old writer.new result }
+    {
+        read_octets(&message.user, octets)?;
+        let sent = Cmd::Send {
+            channel: message.channel,
+            q: message.q,
+            user: octets.as_slice(),
+        };
+        self.happen(Event::Command(end, sent), writer)
     }
 
     /// What a line of the script asks for happens. The octets that it has are read into the list.

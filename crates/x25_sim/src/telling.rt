@@ -1,7 +1,9 @@
 //! What is told of a step: a line for each entry, and for each frame where frames are asked for.
-ghost use Rattle.std.specs.Prelude.{◌≡◌, IfSome, map};
+ghost use Rattle.std.specs.Prelude.{◌≡◌, ◌≤◌, ◌+◌, ℕ, List, Option, IfSome, OnOk, MatchResult, length, map};
+ghost use Rattle.x25_text.specs.declared.text.TheConstants.{ROOM};
+ghost use Rattle.x25_transcript.specs.declared.message_line.TheConstants.{SHORT_LINE};
 ghost use Rattle.x25_io.specs.code.MarksFaults.{MarksFaults};
-ghost use Rattle.x25_io.specs.code.Written.{TellsMore};
+ghost use Rattle.x25_io.specs.code.Written.{AppendsPrefix, Tells, TellsMore};
 ghost use Rattle.x25_station.specs.code.PlainEntry.{plain_entry};
 ghost use Rattle.x25_world.specs.code.PlainTold.{plain_tapped};
 ghost use Rattle.x25_console.specs.Telling.{refusal_line as line_of_refusal};
@@ -10,7 +12,7 @@ ghost use Rattle.x25_sim.specs.Telling.{enters_at, taps, refusal_number as numbe
 use x25_console::{tell, write_frame, write_refusal};
 use x25_io::{Fault, Output, Sink};
 use x25_station::Entry;
-use x25_transcript::{Line, write_entry};
+use x25_transcript::{Line, SHORT_LINE, push_message, write_entry};
 use x25_world::{Role, Tapped, WorldError};
 
 /// The number of a refusal, the station's own where the station refuses.
@@ -25,7 +27,7 @@ fn refusal_number(error: WorldError) -> u8
 }
 
 #[tactic(auto, unfolding(crate::specs::Telling::saying_line))]
-fn tell_entry<W: Sink>(
+fn tell_any_entry<W: Sink>(
     line: &mut Line,
     at: Role,
     entry: &Entry,
@@ -37,6 +39,38 @@ fn tell_entry<W: Sink>(
 {
     write_entry(at, entry, line)?;
     tell(line.as_slice(), output, writer)
+}
+
+/// Makes room for a line that is written where it waits.
+#[inline(always)]
+fn make_room<W: Sink>(output: &mut Output, writer: &mut W) -> Result<(), Fault>
+    ensures tells { (old : Option (List ℕ)) (told : List ℕ) → Tells old (W.contents writer.old) output.old told
+        → MatchResult result (λ _. Tells old (W.contents writer.new) output.new told) (λ _. AppendsPrefix old (W.contents writer.new) told) }
+    ensures room { OnOk result (length output.new + SHORT_LINE ≤ ROOM) }
+    ensures faults { MarksFaults W.Sink writer.old writer.new result }
+{
+    match output.make_room(SHORT_LINE, writer) {
+        Ok(()) => Ok(()),
+        Err(_) => Err(Fault::Write),
+    }
+}
+
+/// The lines of messages, which most entries are, are written where they wait.
+fn tell_entry<W: Sink>(
+    line: &mut Line,
+    at: Role,
+    entry: &Entry,
+    output: &mut Output,
+    writer: &mut W,
+) -> Result<(), Fault>
+    ensures tells { TellsMore result (W.contents writer.old) (W.contents writer.new) output.old output.new (saying_line (enters_at at (plain_entry entry.now))) }
+    ensures faults { MarksFaults W.Sink writer.old writer.new result }
+{
+    make_room(output, writer)?;
+    if push_message(at, entry, output.text()) {
+        return Ok(());
+    }
+    tell_any_entry(line, at, entry, output, writer)
 }
 
 #[tactic(auto, unfolding(crate::specs::Telling::saying_line))]
@@ -53,7 +87,8 @@ fn tell_frame<W: Sink>(
     tell(line.as_slice(), output, writer)
 }
 
-pub(crate) fn tell_entries<W: Sink>(
+#[inline(never)]
+fn tell_each<W: Sink>(
     line: &mut Line,
     at: Role,
     entries: &[Entry],
@@ -67,6 +102,23 @@ pub(crate) fn tell_entries<W: Sink>(
         tell_entry(line, at, entry, output, writer)?;
     }
     Ok(())
+}
+
+#[inline(always)]
+pub(crate) fn tell_entries<W: Sink>(
+    line: &mut Line,
+    at: Role,
+    entries: &[Entry],
+    output: &mut Output,
+    writer: &mut W,
+) -> Result<(), Fault>
+    ensures tells { TellsMore result (W.contents writer.old) (W.contents writer.new) output.old output.new (sayings_text (map (enters_at at) (map plain_entry entries.now))) }
+    ensures faults { MarksFaults W.Sink writer.old writer.new result }
+{
+    if entries.is_empty() {
+        return Ok(());
+    }
+    tell_each(line, at, entries, output, writer)
 }
 
 pub(crate) fn tell_frames<W: Sink>(

@@ -20,7 +20,7 @@ fn push_channel(channel: u16, line: &mut Line) -> Result<(), AllocError>
 
 /// Whether a channel and the numbers of its stretch have one digit each.
 #[inline(always)]
-fn is_short(channel: u16, name: &Stretch) -> bool
+pub(crate) fn is_short(channel: u16, name: &Stretch) -> bool
     ensures channel { IsTrue result → channel < 10 }
     ensures restarts { IsTrue result → name.now.restarts < 10 }
     ensures clears { IsTrue result → name.now.clears < 10 }

@@ -1,6 +1,8 @@
 use std::test::Fail;
-use x25_station::{Entry, Role};
-use x25_transcript::{Line, write_entry};
+use x25_layer::Stretch;
+use x25_station::{Asked, Entry, Role, Said};
+use x25_text::Text;
+use x25_transcript::{Line, push_message, write_entry};
 
 #[test]
 fn grows(rt: HostRuntime) -> Result<(), Fail> {
@@ -41,5 +43,29 @@ fn holds_what_is_written_anew(rt: HostRuntime) -> Result<(), Fail> {
         write_entry(Role::Dce, &entry, &mut line)?;
         assert_eq!(rt; line.as_slice(), shown.as_bytes());
     }
+    Ok(())
+}
+
+/// A message is written at once, and another entry isn't.
+#[test]
+fn writes_messages_at_once(rt: HostRuntime) -> Result<(), Fail> {
+    let mut text = Text::new(rt.alloc())?;
+    assert!(rt; !push_message(Role::Dce, &Entry::LinkUp, &mut text));
+    let user = Vec::from_slice(rt.alloc(), &[0, 171])?;
+    let name = Stretch {
+        restarts: 1,
+        clears: 0,
+        resets: 2,
+    };
+    let entry = Entry::OnChannel {
+        channel: 3,
+        name,
+        said: Said::Asked(Asked::Send { q: true, user }),
+    };
+    assert!(rt; push_message(Role::Dce, &entry, &mut text));
+    assert_eq!(rt;
+        text.as_slice(),
+        b"dce send ch=3 at 1.0.2 q=1 data=00ab\n".as_slice()
+    );
     Ok(())
 }

@@ -1,8 +1,18 @@
+use Rattle.std.proofs.Common.{◌∙◌, ◌++◌, ap}
 use Rattle.std.proofs.lemmas.Result.{err_from_is_err_and}
-use Rattle.x25_io.proofs.ToldLemmas.{told_more}
+use Rattle.x25_io.proofs.ToldLemmas.{more_waits, prefix_more}
+use Rattle.x25_station.specs.code.PlainEntry.{plain_entry}
+use Rattle.x25_transcript.specs.EntryText.{entry_line}
+use Rattle.x25_sim.specs.Telling.{saying_line}
 use Rattle.x25_sim.proofs.telling.tell_entry.Goals as goal
 
-pub returns-in_err-write_entry-clause-tells : goal.returns-in_err-write_entry-clause-tells
-returns-in_err-write_entry-clause-tells g c = λ old told h.
+pub returns-in_err-make_room-clause-tells : goal.returns-in_err-make_room-clause-tells
+returns-in_err-make_room-clause-tells g c = λ old told h.
     let p = err_from_is_err_and c.from_residual.result c.from_residual.ensures.1 in
-    rw p.1 (told_more _ _ _ told _ h)
+    rw p.1 (prefix_more _ _ told _ (c.in_err-make_room.ensures.tells old told h))
+
+pub returns-then-push_message-clause-tells : goal.returns-then-push_message-clause-tells
+unfolding saying_line
+returns-then-push_message-clause-tells g c = λ old told h.
+    more_waits old _ c.make_room.new.output _ told _ (c.in_ok-make_room.ensures.tells old told h)
+    (c.push_message.ensures.text c.if-push_message.true ∙ ap (λ waits. waits ++ entry_line c.args.at (plain_entry c.args.entry.now)) c.text.ensures.value)

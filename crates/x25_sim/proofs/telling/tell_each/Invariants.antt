@@ -2,7 +2,7 @@ use Rattle.std.proofs.Common.{◌≡◌, ◌++◌, ℕ, List, Option, take, map}
 use Rattle.x25_station.specs.code.PlainEntry.{plain_entry}
 use Rattle.x25_sim.specs.Telling.{enters_at, sayings_text}
 use Rattle.x25_io.specs.code.Written.{Tells}
-use Rattle.x25_sim.proofs.telling.tell_entries.Given as goal
+use Rattle.x25_sim.proofs.telling.tell_each.Given as goal
 
 -- the first ones are told
 abbrev pub invariant-loop-entry : goal.invariant-loop-entry

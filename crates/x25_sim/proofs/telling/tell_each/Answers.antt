@@ -5,7 +5,7 @@ use Rattle.x25_station.specs.code.PlainEntry.{plain_entry}
 use Rattle.x25_sim.specs.Telling.{enters_at, saying_line, sayings_text}
 use Rattle.x25_io.proofs.ToldLemmas.{part_of_all}
 use Rattle.x25_sim.proofs.SayingLemmas.{all_parts}
-use Rattle.x25_sim.proofs.telling.tell_entries.Goals as goal
+use Rattle.x25_sim.proofs.telling.tell_each.Goals as goal
 
 pub returns-in_err-tell_entry-clause-tells : goal.returns-in_err-tell_entry-clause-tells
 returns-in_err-tell_entry-clause-tells g c = λ old told h.

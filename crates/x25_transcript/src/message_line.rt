@@ -1,0 +1,153 @@
+//! Lines of messages, as most entries are, each written into a text at once.
+ghost use Rattle.std.specs.Prelude.{◌≡◌, ◌<◌, ◌≤◌, ◌+◌, ◌*◌, ◌++◌, ◌∷◌, [], codes, decimal, IsTrue, false, length};
+ghost use Rattle.x25_packet.specs.Spelling.{bit};
+ghost use Rattle.x25_text.specs.Text.{octets_text};
+ghost use Rattle.x25_text.specs.declared.text.TheConstants.{ROOM};
+ghost use Rattle.x25_transcript.specs.EntryText.{end_text, entry_line as line_of};
+ghost use Rattle.x25_transcript.specs.declared.message_line.TheConstants.{MOST_USER, SHORT_LINE};
+ghost use Rattle.x25_circuit.specs.Notice.{delivered};
+ghost use Rattle.x25_circuit.specs.Calling.{Sends};
+ghost use Rattle.x25_layer.specs.laws.Transcript.{Asked as asks, Told as tells};
+ghost use Rattle.x25_station.specs.Entry.{of_channel};
+ghost use Rattle.x25_station.specs.code.PlainEntry.{plain_entry, plain_name, plain_said};
+
+use crate::entry_text::is_short;
+use x25_circuit::Message;
+use x25_layer::Stretch;
+use x25_station::{Asked, Entry, Role, Said, Told};
+use x25_text::{Text, digit};
+
+/// The most octets of user data of a message whose line is written at once.
+const MOST_USER: usize = 1_024;
+
+/// The characters that such a line needs room for.
+pub const SHORT_LINE: usize = 2_085;
+
+/// The letter by which the names of the ends differ.
+#[inline(always)]
+fn end_letter(at: Role) -> u8
+    ensures { end_text at ≡ 100 ∷ result ∷ 101 ∷ 32 ∷ [] }
+{
+    match at {
+        Role::Dte => b't',
+        Role::Dce => b'c',
+    }
+}
+
+/// A bit as a character.
+#[inline(always)]
+fn bit_digit(is_set: bool) -> u8
+    ensures { decimal (bit is_set) ≡ result ∷ [] }
+{
+    digit(u8::from(is_set))
+}
+
+/// Appends octets and a line feed.
+#[inline(always)]
+fn push_user(user: &[u8], text: &mut Text)
+    requires few { length user.now ≤ MOST_USER }
+    requires room { length text.old + (2 * length user.now + 2) ≤ ROOM }
+    ensures { text.new ≡ text.old ++ (octets_text user.now ++ codes "\n") }
+{
+    text.push_octets(user);
+    text.push(b"\n");
+}
+
+/// Appends the line of a message that is to be sent.
+#[inline(always)]
+#[tactic(auto, unfolding(crate::specs::EntryText::entry_line))]
+fn push_sent(at: Role, channel: u16, name: &Stretch, q: bool, user: &[u8], text: &mut Text)
+    requires channel { channel < 10 }
+    requires restarts { name.now.restarts < 10 }
+    requires clears { name.now.clears < 10 }
+    requires resets { name.now.resets < 10 }
+    requires few { length user.now ≤ MOST_USER }
+    requires room { length text.old + SHORT_LINE ≤ ROOM }
+    ensures { text.new ≡ text.old ++ line_of at (of_channel (record { channel = channel; name = plain_name name.now; said = asks (Sends q user.now) })) }
+{
+    let mut head = *b"d_e send ch=_ at _._._ q=_ data=";
+    head[1] = end_letter(at);
+    head[12] = digit(channel as u8);
+    head[17] = digit(name.restarts as u8);
+    head[19] = digit(name.clears as u8);
+    head[21] = digit(name.resets as u8);
+    head[25] = bit_digit(q);
+    text.push(&head);
+    push_user(user, text);
+}
+
+/// Appends the line of a message that was delivered.
+#[inline(always)]
+#[tactic(auto, unfolding(crate::specs::EntryText::entry_line))]
+fn push_delivered(at: Role, channel: u16, name: &Stretch, message: &Message, text: &mut Text)
+    requires channel { channel < 10 }
+    requires restarts { name.now.restarts < 10 }
+    requires clears { name.now.clears < 10 }
+    requires resets { name.now.resets < 10 }
+    requires few { length message.now.user ≤ MOST_USER }
+    requires room { length text.old + SHORT_LINE ≤ ROOM }
+    ensures { text.new ≡ text.old ++ line_of at (of_channel (record { channel = channel; name = plain_name name.now; said = tells (delivered message.now) })) }
+{
+    let mut head = *b"d_e message ch=_ at _._._ q=_ data=";
+    head[1] = end_letter(at);
+    head[15] = digit(channel as u8);
+    head[20] = digit(name.restarts as u8);
+    head[22] = digit(name.clears as u8);
+    head[24] = digit(name.resets as u8);
+    head[28] = bit_digit(message.q);
+    text.push(&head);
+    push_user(message.user.as_slice(), text);
+}
+
+/// Appends the line of what is said on a channel, where that is a message that isn't long, and says whether it is.
+#[inline(always)]
+fn push_said(at: Role, channel: u16, name: &Stretch, said: &Said, text: &mut Text) -> bool
+    requires channel { channel < 10 }
+    requires restarts { name.now.restarts < 10 }
+    requires clears { name.now.clears < 10 }
+    requires resets { name.now.resets < 10 }
+    requires room { length text.old + SHORT_LINE ≤ ROOM }
+    ensures text { IsTrue result → text.new ≡ text.old ++ line_of at (of_channel (record { channel = channel; name = plain_name name.now; said = plain_said said.now })) }
+    ensures unchanged { result ≡ false → text.new ≡ text.old }
+{
+    match said {
+        Said::Asked(Asked::Send { q, user }) => {
+            if user.len() > MOST_USER {
+                return false;
+            }
+            push_sent(at, channel, name, *q, user.as_slice(), text);
+            true
+        }
+        Said::Told(Told::Delivered(message)) => {
+            if message.user.as_slice().len() > MOST_USER {
+                return false;
+            }
+            push_delivered(at, channel, name, message, text);
+            true
+        }
+        _ => false,
+    }
+}
+
+/// Appends the line of an entry at an end, with its line feed, where the entry is a message of at most 1,024 octets that is to be sent or was
+/// delivered, and its channel and the numbers of its stretch have one digit each, and says whether it is.
+#[inline(always)]
+pub fn push_message(at: Role, entry: &Entry, text: &mut Text) -> bool
+    requires room { length text.old + SHORT_LINE ≤ ROOM }
+    ensures text { IsTrue result → text.new ≡ text.old ++ line_of at (plain_entry entry.now) }
+    ensures unchanged { result ≡ false → text.new ≡ text.old }
+{
+    match entry {
+        Entry::OnChannel {
+            channel,
+            name,
+            said,
+        } => {
+            if !is_short(*channel, name) {
+                return false;
+            }
+            push_said(at, *channel, name, said, text)
+        }
+        _ => false,
+    }
+}
