@@ -122,7 +122,7 @@ impl Stage {
 
     /// Tells the step of an end: its entries, and behind these its frames where they are asked for, of which it lets go.
     #[inline(always)]
-    fn end_step<W: Sink>(&mut self, at: Role, writer: &mut W) -> Result<(), Fault>
+    fn tell_step<W: Sink>(&mut self, at: Role, writer: &mut W) -> Result<(), Fault>
         ensures tells { (cfg : Settings) (old : Option (List ℕ)) (told : List ℕ) (w next : State) → FitsWorld cfg self.old.world next (gone_after self.old.tap w next)
             → next.transcript ≡ w.transcript ++ entered at (map plain_entry self.old.told.items)
             → Tells old (W.contents writer.old) self.old.output told → let sayings = told_between self.old.tap w next in
@@ -143,6 +143,23 @@ impl Stage {
             return Ok(());
         }
         self.end_frames(writer)
+    }
+
+    /// .. and gives its entries back then.
+    #[inline(always)]
+    fn end_step<W: Sink>(&mut self, at: Role, writer: &mut W) -> Result<(), Fault>
+        ensures tells { (cfg : Settings) (old : Option (List ℕ)) (told : List ℕ) (w next : State) → FitsWorld cfg self.old.world next (gone_after self.old.tap w next)
+            → next.transcript ≡ w.transcript ++ entered at (map plain_entry self.old.told.items)
+            → Tells old (W.contents writer.old) self.old.output told → let sayings = told_between self.old.tap w next in
+            MatchResult result (λ _. Tells old (W.contents writer.new) self.new.output (told ++ sayings_text sayings)) (λ _. AppendsPrefix old (W.contents writer.new) (told ++ sayings_text sayings)) }
+        ensures world { (cfg : Settings) (w next : State) → FitsWorld cfg self.old.world next (gone_after self.old.tap w next) → OnOk result (FitsWorld cfg self.new.world next (all_of next)) }
+        ensures tap { self.new.tap ≡ self.old.tap }
+        ensures is_refused { self.new.is_refused ≡ self.old.is_refused }
+        ensures faults { MarksFaults W.Sink writer.old writer.new result }
+    {
+        self.tell_step(at, writer)?;
+        self.world.give_back(at, &mut self.told);
+        Ok(())
     }
 
     /// Tells that an event is refused; want of memory is a fault.

@@ -4,7 +4,7 @@ use Rattle.x25_io.specs.code.Written.{AppendsPrefix, Tells}
 use Rattle.x25_io.proofs.ToldLemmas.{part_of_all}
 use Rattle.x25_station.specs.code.PlainEntry.{plain_entry}
 use Rattle.x25_sim.proofs.StepLemmas.{told_by, told_alone, told_with_frames, none_held}
-use Rattle.x25_sim.proofs.stage.Stage.end_step.Goals as goal
+use Rattle.x25_sim.proofs.stage.Stage.tell_step.Goals as goal
 
 pub returns-in_err-tell_entries-clause-tells : goal.returns-in_err-tell_entries-clause-tells
 returns-in_err-tell_entries-clause-tells g c = λ cfg old told w next f is h.
