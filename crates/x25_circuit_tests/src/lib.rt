@@ -8,4 +8,6 @@ mod play;
 #[cfg(test)]
 mod requests;
 #[cfg(test)]
+mod spent;
+#[cfg(test)]
 mod tests;

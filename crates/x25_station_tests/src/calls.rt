@@ -3,7 +3,7 @@
 ghost use Rattle.std.specs.Prelude.{◌≡◌, []};
 
 use std::alloc::Global;
-use x25_station::{Cfg, Cmd, Role, Station, StationError, Step};
+use x25_station::{Cfg, Cmd, Entry, Role, Station, StationError, Step};
 
 // A station in a place of its own: a body that holds the box lets go of it by one call, and not of each part of the station.
 fn boxed(alloc: Global, station: Station) -> Result<Box<Station>, StationError> {
@@ -71,4 +71,9 @@ pub fn ask_into(
 ) -> Result<(), StationError> {
     empty(lists);
     station.command_into(command, &mut lists.frames, &mut lists.entries)
+}
+
+/// The station takes entries back that were read.
+pub fn give_back_entries(station: &mut Station, entries: &mut Vec<Entry>) {
+    station.give_back_entries(entries);
 }

@@ -26,4 +26,6 @@ mod peer;
 #[cfg(test)]
 mod rows;
 #[cfg(test)]
+mod spent;
+#[cfg(test)]
 mod texts;

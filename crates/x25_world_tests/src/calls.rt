@@ -49,6 +49,11 @@ pub fn step(
     world.step(event, taps, told)
 }
 
+/// Entries of a step of an end that were read are given back.
+pub fn give_back(world: &mut World, at: Role, told: &mut Vec<Entry>) {
+    world.give_back(at, told);
+}
+
 pub fn run(world: &mut World, events: &[Event]) -> Result<(), WorldRefused> {
     world.run(events)
 }

@@ -1,6 +1,6 @@
-//! Steps, whose entries the caller takes, beside the same events applied.
+//! Steps, whose entries the caller takes and gives back, beside the same events applied.
 
-use crate::calls::{apply, establish, number_of, on_line, step};
+use crate::calls::{apply, establish, give_back, number_of, on_line, step};
 use crate::play::USUAL;
 use std::alloc::Global;
 use std::process::Abort;
@@ -84,6 +84,8 @@ fn plays(rt: &impl Abort, alloc: Global, taps: bool) -> Result<(), Fail> {
         let held = if taps { applied.tap().len() } else { 0 };
         assert_eq!(rt; stepped.tap().len(), held);
         assert_eq!(rt; on_line(&stepped), on_line(&applied));
+        give_back(&mut stepped, event.at(), &mut told);
+        assert_eq!(rt; told.is_empty(), true);
     }
     Ok(())
 }
