@@ -12,14 +12,27 @@ impl Station {
     /// last entry, serves a later one of its channel. The station is as before.
     ///
     /// It is let go of where it is for more than 4,096 octets, and where two of the channel are kept.
+    #[inline(always)]
     pub fn give_back_entries(&mut self, entries: &mut Vec<Entry>)
+        ensures fits { (c : Settings) (s : State) → FitsStation c self.old s → FitsStation c self.new s }
+        ensures empty { entries.new.items ≡ [] }
+    {
+        if !entries.is_empty() {
+            self.take_all_back(entries);
+        }
+    }
+
+    // .. where there are some.
+    fn take_all_back(&mut self, entries: &mut Vec<Entry>)
         ensures fits { (c : Settings) (s : State) → FitsStation c self.old s → FitsStation c self.new s }
         ensures empty { entries.new.items ≡ [] }
     {
         if let Some(last) = entries.pop() {
             self.take_back(last);
         }
-        entries.clear();
+        if !entries.is_empty() {
+            entries.clear();
+        }
     }
 
     // .. that of an entry.
