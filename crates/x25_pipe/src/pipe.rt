@@ -204,7 +204,7 @@ impl Pipe {
         }
     }
 
-    /// Pulls what waits behind a step of the station, which stood as `before` says, and tells both.
+    /// Pulls what waits behind a step of the station, which stood as `before` says, and tells both. Its lists and frames are given back.
     fn follow_up<W: Sink>(
         &mut self,
         before: Watch,
@@ -220,7 +220,9 @@ impl Pipe {
         ensures faults { MarksFaults W.Sink writer.old writer.new result }
     {
         let both = self.pull_behind(step)?;
-        self.tell_step(before, is_firing, &both, writer)
+        self.tell_step(before, is_firing, &both, writer)?;
+        self.station.give_back(both);
+        Ok(())
     }
 
     /// Tells that an event is refused; want of memory is a fault.
