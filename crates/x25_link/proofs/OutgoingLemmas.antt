@@ -1,14 +1,14 @@
 -- The two lists of a outgoing, the packets sent and those that wait, as one.
-use Rattle.std.proofs.Common.{◌≡◌, ℕ, ◌+◌, ◌%◌, ◌<◌, ◌≤◌, List, [], ◌∷◌, length, take, drop, slice_index_or, max, Bool, true, false, refl, sym, ap, ◌∙◌, arith}
+use Rattle.std.proofs.Common.{◌≡◌, ℕ, ◌+◌, ◌%◌, ◌<◌, ◌≤◌, ◌&&◌, List, [], ◌∷◌, ◌++◌, length, length-append, take, drop, slice_index_or, max, Bool, true, false, refl, sym, ap, ◌∙◌, arith}
 use Rattle.std.specs.Prelude.{nat_lt}
-use Rattle.std.proofs.lemmas.List.{length-take-le, take_more, drop_more, length-drop, get_or-take}
+use Rattle.std.proofs.lemmas.List.{length-take-le, take-append-le, drop-append-le, take_more, drop_more, length-drop, get_or-take}
 use Rattle.std.proofs.lemmas.Bool.{lt-ltb, ltb-true, ltb-false, eq-eqb}
 use Rattle.x25_window.specs.code.Held.{Held, Fits}
 use Rattle.x25_window.specs.Sender.{Sending, acknowledged, offered, moved_on}
 use Rattle.x25_frame.specs.Frame.{info}
 use Rattle.x25_link.specs.declared.outgoing.Outgoing.{Outgoing as OutgoingCode}
 use Rattle.x25_link.specs.Outgoing.{moved_on as sent_on}
-use Rattle.x25_link.specs.Outgoing.{Outgoing, is_open, next_packet}
+use Rattle.x25_link.specs.Outgoing.{Outgoing, added, is_open, next_packet}
 use Rattle.x25_link.specs.code.OutgoingHeld.{FitsOutgoing, sending_of}
 
 pub sent_length : (k : ℕ) (b : OutgoingCode) (o : Outgoing) → FitsOutgoing k b o → length (take o.sent o.given) ≡ o.sent
@@ -119,3 +119,46 @@ one_released h w n fits =
     let place : max (max w.place (w.acked + n)) (w.acked + n + 1) ≡ max w.place (w.acked + n + 1) = omega arith in
     let number : w.acked + (n + 1) ≡ w.acked + n + 1 = omega arith in
     rw number (rw place at fits)
+
+-- ---- a packet that is handed down where nothing may be sent
+
+pub added_fits : (k : ℕ) (b : OutgoingCode) (o : Outgoing) (packet : List ℕ) → FitsOutgoing k b o → length b.queue < 256
+    → FitsOutgoing k (record { sender = b.sender; queue = b.queue ++ packet ∷ []; spent = b.spent }) (added packet o)
+added_fits k b o packet fits few = record {
+  sender = rw (take-append-le o.sent o.given (packet ∷ []) fits.sent) (fits.sender);
+  queue = ap (λ (q : List (List ℕ)). q ++ packet ∷ []) fits.queue ∙ sym (drop-append-le o.sent o.given (packet ∷ []) fits.sent);
+  sent = omega (arith, fits.sent, length-append o.given (packet ∷ []));
+  few = omega (arith, few, length-append b.queue (packet ∷ []));
+}
+
+-- .. and the window is open: all was sent, so that none waits
+pub record Rests (k : ℕ) (b : OutgoingCode) (o : Outgoing) : Type 0 where
+  pub place : o.place ≡ o.sent
+  pub none : b.queue ≡ []
+  pub room : o.sent < o.acked + k
+
+nothing_left : (xs : List (List ℕ)) → length xs ≡ 0 → xs ≡ []
+nothing_left [] e = refl
+nothing_left (x ∷ xs) e = absurd (omega arith)
+
+pub rests : (k : ℕ) (b : OutgoingCode) (o : Outgoing) → FitsOutgoing k b o → is_open k o ≡ false → length (take o.sent o.given) < o.acked + k → Rests k b o
+rests k b o fits shut free =
+    let l = sent_length k b o fits in
+    let low : o.place < o.acked + k = (let high = fits.sender.sound.place_high in omega (arith, l, free, high)) in
+    let all = ltb-false o.place (length o.given) (sym (ap (λ (t : Bool). t && nat_lt o.place (length o.given)) (lt-ltb o.place (o.acked + k) low)) ∙ shut) in
+    let high = fits.sender.sound.place_high in
+    record {
+      place = omega (arith, l, all, high, fits.sent);
+      none = nothing_left b.queue (let q = ap length fits.queue in omega (arith, q, length-drop o.sent o.given, l, all, high));
+      room = omega (arith, l, free);
+    }
+
+-- .. and it isn't
+pub full_shut : (k : ℕ) (b : OutgoingCode) (o : Outgoing) → FitsOutgoing k b o → is_open k o ≡ false → length (take o.sent o.given) ≡ o.acked + k → o.acked + k ≤ o.place
+full_shut k b o fits shut full = by_test (nat_lt o.place (o.acked + k)) refl
+  where
+    by_test : (t : Bool) → nat_lt o.place (o.acked + k) ≡ t → o.acked + k ≤ o.place
+    by_test false e = ltb-false o.place (o.acked + k) e
+    by_test true e =
+        let all = ltb-false o.place (length o.given) (sym (ap (λ (t : Bool). t && nat_lt o.place (length o.given)) e) ∙ shut) in
+        omega (arith, sent_length k b o fits, full, all, fits.sent)

@@ -24,8 +24,13 @@ impl LinkStation {
         ensures long { out.new.long + 1 ≡ out.old.long }
         ensures short { out.new.short ≡ out.old.short }
     {
-        self.outgoing.add(packet);
-        if !self.pump_once(out) {
+        if !self.phase.is_up() || self.recovery || self.peer_busy {
+            self.outgoing.add(packet);
+            out.discard();
+            return;
+        }
+        let nr = self.receiver.wanted();
+        if !self.outgoing.send_at_once(packet, self.role, nr, out) {
             out.discard();
         }
     }

@@ -97,9 +97,6 @@ impl Outbox {
         ensures missing { OnErr result ((self.old.long < long) ⊎ (self.old.short < short)) }
         ensures err { OnErr result (self.new ≡ self.old) }
     {
-        if long <= self.long.promised() && short <= self.short.promised() {
-            return Ok(());
-        }
         if self.promises(long, short) {
             return Ok(());
         }

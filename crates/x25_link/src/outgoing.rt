@@ -159,6 +159,28 @@ impl Outgoing {
         self.queue.clear();
     }
 
+    /// As `add` and then `send_next`, where before it nothing may be sent: so where the window is open no packet waits, and this one goes
+    /// at once. It says whether it did.
+    #[inline(always)]
+    pub fn send_at_once(&mut self, packet: Octets, from: Role, nr: Seq, out: &mut Outbox) -> bool
+        requires few { length self.old.queue < 256 }
+        requires long { 0 < out.old.long }
+        ensures sent { (k : ℕ) (o : OutgoingState) → FitsOutgoing k self.old o → is_open k o ≡ false → result ≡ is_open k (added packet o) }
+        ensures step { (k : ℕ) (o : OutgoingState) → FitsOutgoing k self.old o → is_open k o ≡ false → FitsOutgoing k self.new (if result then sent_on (added packet o) else added packet o) }
+        ensures made { (k : ℕ) (o : OutgoingState) → FitsOutgoing k self.old o → is_open k o ≡ false →
+            out.new.made ≡ (if result then out.old.made ++ spelling_of from (info (o.place % 8) nr.number false (next_packet (added packet o))) ∷ [] else out.old.made) }
+        ensures queue { length self.new.queue ≤ length self.old.queue + 1 }
+        ensures long { out.old.long ≡ (if result then out.new.long + 1 else out.new.long) }
+        ensures short { out.new.short ≡ out.old.short }
+    {
+        if self.sender.is_full() {
+            self.queue.push(packet);
+            return false;
+        }
+        send_new(&mut self.sender, packet, from, nr, out);
+        true
+    }
+
     /// Sends the next packet, again or new, where the window is open and there is one. It says whether it did.
     #[inline(always)]
     pub fn send_next(&mut self, from: Role, nr: Seq, out: &mut Outbox) -> bool
