@@ -5,12 +5,19 @@ use x25_io::{HeldLine, split_line};
 const MOST_LINE: usize = 131_200;
 
 /// A text, its first line, and what stands behind the line feed of that.
-static TEXTS: [(&str, &str, &str); 4] = [
+static TEXTS: [(&str, &str, &str); 8] = [
     ("\n", "", ""),
     ("a\nb", "a", "b"),
     ("a\n\nb\n", "a", "\nb\n"),
     ("> 01\n< 02", "> 01", "< 02"),
+    ("dte send 1 0 aa\n", "dte send 1 0 aa", ""),
+    ("deliver >\ndeliver <\n", "deliver >", "deliver <\n"),
+    ("dte send 1 0 aabb\na", "dte send 1 0 aabb", "a"),
+    ("dte send 1 0 aa0\na\n", "dte send 1 0 aa0", "a\n"),
 ];
+
+/// Texts without a line feed.
+static OPEN: [&str; 3] = ["", "a", "dte send 1 0 aabbccddeeff"];
 
 #[test]
 fn splits_at_the_first_line_feed(rt: HostRuntime) {
@@ -20,7 +27,9 @@ fn splits_at_the_first_line_feed(rt: HostRuntime) {
             Some((line.as_bytes(), rest.as_bytes()))
         );
     }
-    assert!(rt; split_line(b"a").is_none());
+    for text in OPEN {
+        assert!(rt; split_line(text.as_bytes()).is_none());
+    }
 }
 
 /// How many characters a line has, and whether it is held.

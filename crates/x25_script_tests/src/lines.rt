@@ -343,18 +343,22 @@ fn some_lines_are_read_by_themselves(rt: HostRuntime) {
 }
 
 #[test]
-fn some_commands_are_read_by_themselves(rt: HostRuntime) -> Result<(), Fail> {
+fn some_commands_are_read_by_themselves(rt: HostRuntime) {
     for (text, channel) in ACCEPTANCES {
         assert_eq!(rt; read_accept(text), channel);
     }
     for (text, is_read) in MESSAGES {
         assert_eq!(rt; read_send(text).is_some(), is_read);
     }
+}
+
+#[test]
+fn a_message_has_its_fields(rt: HostRuntime) -> Result<(), Fail> {
     let sent = read_send(b"send 9 1 00FF").ok_or("it is a message")?;
     assert_eq!(rt; sent.channel, 9);
     assert!(rt; sent.q);
-    let mut octets = [1, 1];
-    sent.user.write_to(&mut octets);
-    assert_eq!(rt; octets, [0, 255]);
+    let mut octets = vec![in rt.alloc(); 1u8; sent.user.len()]?;
+    sent.user.write_to(octets.as_mut_slice());
+    assert_eq!(rt; octets.as_slice(), [0, 255].as_slice());
     Ok(())
 }
