@@ -13,7 +13,8 @@ use x25_bits::fcs;
 
 /// The poll or final bit, in its place in the control.
 fn poll_bit(pf: bool) -> u8
-    ensures { result ≡ 16 * bit pf }
+    ensures value { result ≡ 16 * bit pf }
+    ensures few { result ≤ 16 }
 {
     if pf { 0x10 } else { 0 }
 }
