@@ -96,10 +96,10 @@ impl Layer {
         ensures empty { IfSome result (λ memory. memory.items ≡ []) }
         ensures room { IfSome result (λ memory. count ≤ vec_capacity memory) }
     {
-        if self.circuit(channel).is_none() {
-            return None;
+        if self.circuit(channel).is_some() {
+            return self.spent_memory_on(channel, count);
         }
-        self.spent_memory_on(channel, count)
+        None
     }
 
     // .. of a configured channel.
