@@ -14,22 +14,12 @@
 
 x25: build/x25
 
-# By itself rt gives the proof of a program two jobs.
-JOBS = $(shell nproc | awk '{ print ($$1 < 4) ? $$1 : 4 }')
-
-# The libraries are proved lowest first. rt then proves, builds and runs the program; the run reads nothing and is thrown away.
 build/x25: crates.txt $(shell find crates -path '*/out' -prune -o -type f -print) | kit
 	.ci/prove x25
-	cd crates/x25 && rt run --jobs $(JOBS) -- decode < /dev/null > /dev/null
-	mkdir -p build
-	cp crates/x25/out/x25 build/x25
 
-# The player of scripts whose calls are refused memory, proved and built the same way.
+# The player of scripts whose calls are refused memory.
 build/x25_refusals: crates.txt $(shell find crates -path '*/out' -prune -o -type f -print) | kit
 	.ci/prove x25_refusals
-	cd crates/x25_refusals && rt run --jobs $(JOBS) > /dev/null
-	mkdir -p build
-	cp crates/x25_refusals/out/x25_refusals build/x25_refusals
 
 demo: build/x25
 	@for trace in examples/*.trace; do \

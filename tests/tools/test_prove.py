@@ -1,4 +1,4 @@
-"""Tests of how `make x25` proves the libraries side by side, with a stand-in for `rt`."""
+"""Tests of how `make x25` has a program proved with all that it stands on, with a stand-in for `rt`."""
 
 import os
 import shutil
@@ -7,21 +7,23 @@ import subprocess
 import support
 from support import ToolCase
 
-# Refuses a library whose file `false` is there, one before those that it stands on, and one in a folder where it works already. What it
-# proved in one copy of the crates stands for all, as with rt.
+# Proves the crates of the rows in order, but for one with a file `false`, and those that come behind it; and builds a program of each. It
+# refuses a copy with wrong bodies, or with what was built before.
 RT = b"""#!/bin/sh
-[ "$1" = lib ] || exit 2
-[ -e false ] && { echo "an open goal"; exit 1; }
-for low in $(cat stands_on); do
-    [ -e "$KEPT/$low" ] || { echo "before $low"; exit 1; }
+[ "$1" = ci ] && [ -e HANDLES ] || exit 2
+for crate in $(sed "s/:.*//" crates.txt); do
+    [ -e crates/$crate/must-fail ] || [ -e crates/$crate/out ] && exit 2
+    echo "== $crate"
+    [ -e crates/$crate/false ] && { echo "an open goal"; echo "rt: $crate NOT PROVED"; exit 1; }
+    echo "fn $crate::f: proved"
+    if [ $crate = kept ]; then echo "rt: kept is kept: an earlier run proved it"; else echo "rt: $crate proved"; fi
+    mkdir crates/$crate/out
+    echo "$(ls crates)" > crates/$crate/out/$crate
 done
-mkdir ../locked || { echo "another run works here"; exit 1; }
-sleep 0.05
-rmdir ../locked
-touch "$KEPT/$(basename "$PWD")" out
+echo "5 passed, 0 failed"
 """
 
-CRATES = {"low": "", "left": "low", "right": "low", "high": "left right low", "apart": "", "program": "high low"}
+CRATES = {"low": "", "kept": "low", "right": "low", "high": "kept right low", "apart": "", "program": "high low"}
 
 
 class Prove(ToolCase):
@@ -29,37 +31,35 @@ class Prove(ToolCase):
         """The status, the crates that are said to be proved, and what is said of an error, in a repository of CRATES."""
         rows = "".join(f"{crate}: {low} thiserror\n" for crate, low in CRATES.items())
         self.file("crates.txt", f"# lowest first\n{rows}".encode())
-        for crate, low in CRATES.items():
-            os.makedirs(f"{self.folder}/crates/{crate}")
-            self.file(f"crates/{crate}/stands_on", low.encode())
+        for crate in CRATES:
+            os.makedirs(f"{self.folder}/crates/{crate}/must-fail")
+            os.makedirs(f"{self.folder}/crates/{crate}/out")
             if crate in broken:
                 self.file(f"crates/{crate}/false", b"")
         os.makedirs(f"{self.folder}/.ci")
         shutil.copy(f"{support.ROOT}/.ci/prove", f"{self.folder}/.ci")
         os.chmod(self.file("rt", RT), 0o755)
-        os.makedirs(f"{self.folder}/kept")
         self.file("HANDLES", b"Handles allowed: none.\n")
-        environment = dict(os.environ, PATH=f"{self.folder}:{os.environ['PATH']}", KEPT=f"{self.folder}/kept")
+        environment = dict(os.environ, PATH=f"{self.folder}:{os.environ['PATH']}")
         ran = subprocess.run([f"{self.folder}/.ci/prove", name], env=environment, capture_output=True, text=True)
         return ran.returncode, [line.partition(":")[0] for line in ran.stdout.splitlines()], ran.stderr
 
-    def test_lowest_first_and_what_it_stands_on_alone(self):
-        status, proved, said = self.proves("program")
-        self.assertEqual((status, sorted(proved), said), (0, ["high", "left", "low", "right"], ""))
-        self.assertEqual((proved[0], proved[-1]), ("low", "high"))
+    def test_what_it_stands_on_and_itself(self):
+        self.assertEqual(self.proves("program"), (0, ["low", "kept", "right", "high", "program"], ""))
 
-    def test_all_is_built_in_this_checkout_and_the_copies_go(self):
+    def test_the_program_is_left_in_build(self):
         self.proves("program")
-        built = [crate for crate in CRATES if os.path.exists(f"{self.folder}/crates/{crate}/out")]
-        self.assertEqual((built, os.listdir(f"{self.folder}/build")), (["low", "left", "right", "high"], []))
+        self.assertEqual(os.listdir(f"{self.folder}/build"), ["program"])
+        with open(f"{self.folder}/build/program") as file:
+            self.assertEqual(file.read().split(), ["high", "kept", "low", "program", "right"])
 
     def test_nothing_is_below(self):
-        self.assertEqual(self.proves("apart"), (0, [], ""))
+        self.assertEqual(self.proves("apart"), (0, ["apart"], ""))
 
     def test_one_is_not_proved(self):
-        status, proved, said = self.proves("program", broken=["left"])
-        self.assertEqual((status, said), (1, "an open goal\nleft: not proved\n"))
-        self.assertNotIn("high", proved)
+        status, proved, said = self.proves("program", broken=["right"])
+        self.assertEqual((status, proved, said), (1, ["low", "kept"], "== right\nan open goal\nrt: right NOT PROVED\n"))
+        self.assertFalse(os.path.exists(f"{self.folder}/build"))
 
     def test_no_such_crate(self):
         self.assertEqual(self.proves("other"), (2, [], "There is no crate other.\n"))

@@ -1,4 +1,4 @@
-ghost use Rattle.std.specs.Prelude.{◌≡◌, ℕ, ◌+◌, ◌<◌, ◌≤◌, ◌++◌, [], length, min, max, nat_le, replicate, vec_len, vec_capacity, IfOk, IfNone, IfSome, Option, IsOk, OnOk, OnErr, option_to_list};
+ghost use Rattle.std.specs.Prelude.{◌≡◌, ◌+◌, ◌<◌, ◌≤◌, ◌++◌, [], length, min, max, nat_le, replicate, vec_len, vec_capacity, IfNone, IfSome, Option, OnOk, OnErr, option_to_list};
 
 use crate::codes::{MIXED_QUALIFIERS, PACKET_TOO_LONG};
 use crate::message::Message;
@@ -13,9 +13,6 @@ const LONGEST_DATA: usize = 4096;
 
 /// The most buffers that were given back and stay: for the message that comes next, and for one that is sent or told beside it.
 const MOST_SPARE: usize = 2;
-
-/// The most octets of memory that are kept for a message in part: those of the longest message, and of one more packet.
-const MOST_KEPT: usize = LONGEST_MESSAGE + LONGEST_DATA;
 
 /// The message of which some packets were taken: its qualifier, where it has begun, and its octets so far.
 #[derive(Drop)]
@@ -41,22 +38,18 @@ impl Model for PartialMessage {
     ghost invariant = { λ p. (p.filled ≤ vec_len p.places) × (p.filled ≤ 65535) × (vec_capacity p.places ≤ 69631) };
 }
 
-// Octets, and behind them so many places, in memory of their length.
-fn with_places(alloc: Global, octets: &[u8], more: usize) -> Result<Vec<u8>, AllocError>
-    requires { length octets.now + more ≤ 69631 }
-    ensures items { IfOk result (λ v. v.items ≡ octets.now ++ replicate more 0) }
-    ensures len { IfOk result (λ v. vec_len v ≡ length octets.now + more) }
-    ensures kept { IfOk result (λ v. vec_capacity v ≤ 69631) }
+// Octets, and behind them so many places, in memory that there is.
+fn with_places(octets: Vec<u8>, more: usize) -> Vec<u8>
+    requires { vec_len octets + more ≤ vec_capacity octets }
+    ensures items { result.items ≡ octets.items ++ replicate more 0 }
+    ensures len { vec_len result ≡ vec_len octets + more }
+    ensures capacity { vec_capacity result ≡ vec_capacity octets }
 {
-    let len = octets.len() + more;
-    let mut places = Vec::with_capacity(alloc, len)?;
-    places.extend_from_slice(octets)?;
-    places.resize(len, 0)?;
-    // A vector that had room has grown no larger. Its contract doesn't say so.
-    if places.capacity() > MOST_KEPT {
-        return Err(AllocError);
+    let mut places = octets;
+    for _place in 0..more {
+        places.push_reserved(0);
     }
-    Ok(places)
+    places
 }
 
 impl PartialMessage {
@@ -142,7 +135,10 @@ impl PartialMessage {
     {
         // It doubles, up to steps of the longest packet, so that a message of short packets isn't copied for each of them.
         let step = count.max(self.filled.min(LONGEST_DATA));
-        self.places = with_places(self.alloc, &self.places[..self.filled], step)?;
+        let more = self.filled + step - self.places.len();
+        self.places.reserve_exact(more)?;
+        let places = mem::replace(&mut self.places, Vec::new(self.alloc));
+        self.places = with_places(places, more);
         Ok(())
     }
 
