@@ -36,7 +36,8 @@ fn any_full(circuits: &[Circuit]) -> bool
     false
 }
 
-// Sets memory aside in each circuit for so many octets of user data of a packet, but for no more than the longest has.
+// Sets memory aside in each circuit for so many octets of user data of a packet, but for no more than the longest has. For none no circuit
+// is asked.
 fn room_in_all(circuits: &mut Vec<Circuit>, len: usize) -> Result<(), LayerError>
     ensures fits { (c : LayerSettings) (f : ℕ → Channel) → FitsCircuits c circuits.old.items f → FitsCircuits c circuits.new.items f }
     ensures count { length circuits.new.items ≡ length circuits.old.items }
@@ -46,6 +47,9 @@ fn room_in_all(circuits: &mut Vec<Circuit>, len: usize) -> Result<(), LayerError
     ensures enough { HaveRoom len circuits.old.items → IsOk result }
     ensures most { (bound : ℕ) → 4096 ≤ bound → HaveAtMost bound circuits.old.items → HaveAtMost bound circuits.new.items }
 {
+    if len == 0 {
+        return Ok(());
+    }
     for circuit in circuits.iter_mut() {
         if circuit.room(len).is_err() {
             return Err(LayerError::NoMemory);
@@ -63,9 +67,10 @@ impl Layer {
         self.restarts == u64::MAX || any_full(&self.circuits)
     }
 
-    /// Sets memory aside, here and in the link, for one `packet` of at most `len` octets, or for `up`, or for `down` and then
-    /// `up`, which are then not refused with 70. It changes nothing else. However long the octets are, and however often it is
-    /// asked, memory is set aside for 16 packets that are put, and in each circuit for 4,096 octets, or for what was before.
+    /// Sets memory aside, here and in the link, for one `packet` with at most `len` octets of user data, which are those behind its
+    /// header of three, or for `up`, or for `down` and then `up`, which are then not refused with 70. It changes nothing else. However
+    /// much is asked, and however often, memory is set aside for 16 packets that are put, and in each circuit for 4,096 octets, or for
+    /// what was before.
     ///
     /// 70 alone, and only where less was set aside.
     pub fn room<L: OrderedLink>(&mut self, link: &mut L, len: usize) -> Result<(), LayerError>

@@ -46,6 +46,11 @@ loop-circuit-preserved c =
           (kept_ok c.room.result (sym c.is_err.ensures.value ∙ c.if-is_err.false) c.room.ensures.ok);
     }
 
+-- ---- for none
+
+pub returns-then-len-eq0-clause-room : goal.returns-then-len-eq0-clause-room
+returns-then-len-eq0-clause-room c = λ k v at. (let none = c.if-len-eq0.true in omega (arith, none))
+
 -- ---- at a refusal
 
 pub returns-then-is_err-clause-fits : goal.returns-then-is_err-clause-fits
