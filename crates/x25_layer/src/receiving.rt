@@ -84,6 +84,7 @@ impl Layer {
         ensures room { (len : ℕ) → HaveRoom len self.old.circuits.items → IfOk result (λ reply. IfNone reply.packet (HaveRoom len self.new.circuits.items)) }
         ensures room_stays { (len : ℕ) → HaveRoom len self.old.circuits.items → OnErr result (HaveRoom len self.new.circuits.items) }
     {
+        self.quiet = false;
         let place = usize::from(channel) - 1;
         match hear_circuit(&mut self.circuits[place], read) {
             Ok(reply) => Ok(reply),

@@ -6,6 +6,7 @@ ghost use Rattle.x25_circuit.specs.code.FitsCircuit.{FitsCircuit};
 ghost use Rattle.x25_layer.specs.Layer.{LayerSettings};
 ghost use Rattle.x25_layer.specs.Layer.{Layer as State};
 ghost use Rattle.x25_layer.specs.code.FitsLayer.{FitsLayer, FitsCircuits, is_most, full_up_to, is_full};
+ghost use Rattle.x25_layer.specs.code.Waiting.{NoneWaits};
 ghost use Rattle.x25_layer.specs.Room.{HasCountsLeft, HaveCountsLeft, IsNotFull, HaveRoom, HasRoom, HaveAtMost};
 
 use crate::error::LayerError;
@@ -42,6 +43,7 @@ fn room_in_all(circuits: &mut Vec<Circuit>, len: usize) -> Result<(), LayerError
     ensures fits { (c : LayerSettings) (f : ℕ → Channel) → FitsCircuits c circuits.old.items f → FitsCircuits c circuits.new.items f }
     ensures count { length circuits.new.items ≡ length circuits.old.items }
     ensures left { HaveCountsLeft circuits.old.items → HaveCountsLeft circuits.new.items }
+    ensures still { NoneWaits circuits.old.items → NoneWaits circuits.new.items }
     ensures room { OnOk result (HaveRoom len circuits.new.items) }
     ensures err { IfErr result (λ e. e ≡ LayerError.NoMemory) }
     ensures enough { HaveRoom len circuits.old.items → IsOk result }
