@@ -1,3 +1,4 @@
 -- What the laws of this crate say (src/law.rt), and the machines that they are about.
 pub mod ParamsLaws
 pub mod MessageLaws
+pub mod PullLaw

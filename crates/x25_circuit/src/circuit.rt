@@ -33,7 +33,7 @@ pub struct Circuit {
 }
 
 impl Circuit {
-    ghost use Rattle.x25_circuit.specs.code.FitsCircuit.{FitsCircuit, room_of, clears_of, resets_of};
+    ghost use Rattle.x25_circuit.specs.code.FitsCircuit.{FitsCircuit, room_of, clears_of, resets_of, waits_of};
 
     /// A channel that was never used: p1. A call has at most 16 octets of user data.
     ///
@@ -143,6 +143,7 @@ impl Circuit {
     pub fn waits(&self) -> usize
         ensures value { (c : Settings) (x : Channel) → FitsCircuit c self.now x → result ≡ waits x }
         ensures none { (c : Settings) (x : Channel) → FitsCircuit c self.now x → result ≡ 0 → pulled c x ≡ pulls_nothing x }
+        ensures held { result ≡ waits_of self.now }
         ensures few { result ≤ 8 }
     {
         self.transfer.queue.len()
@@ -174,6 +175,7 @@ impl Circuit {
         ensures ok { OnOk result (min count 4096 ≤ room_of self.new) }
         ensures clears { clears_of self.new ≡ clears_of self.old }
         ensures resets { resets_of self.new ≡ resets_of self.old }
+        ensures waits { waits_of self.new ≡ waits_of self.old }
         ensures grows { room_of self.old ≤ room_of self.new }
         ensures most { room_of self.new ≤ max (room_of self.old) 4096 }
         ensures missing { OnErr result (room_of self.old < min count 4096) }
@@ -189,6 +191,9 @@ impl Circuit {
     pub fn spent_memory(&mut self, length: usize) -> Option<Vec<u8>>
         ensures fits { (c : Settings) (x : Channel) → FitsCircuit c self.old x → FitsCircuit c self.new x }
         ensures aside { room_of self.new ≡ room_of self.old }
+        ensures clears { clears_of self.new ≡ clears_of self.old }
+        ensures resets { resets_of self.new ≡ resets_of self.old }
+        ensures waits { waits_of self.new ≡ waits_of self.old }
         ensures empty { IfSome result (λ memory. memory.items ≡ []) }
         ensures room { IfSome result (λ memory. length ≤ vec_capacity memory) }
     {
@@ -223,6 +228,7 @@ impl Circuit {
         ensures fits { (c : Settings) (x : Channel) → FitsCircuit c self.old x → FitsCircuit c self.new (entered x state default_params false) }
         ensures role { self.new.role ≡ self.old.role }
         ensures clears { clears_of self.new ≡ clears_of self.old }
+        ensures resets { resets_of self.new ≡ resets_of self.old }
         ensures room { room_of self.old ≤ room_of self.new }
     {
         self.enter(state, FlowControl::usual(), false);
@@ -232,6 +238,7 @@ impl Circuit {
     pub(crate) fn begin_stretch(&mut self, state: State)
         ensures fits { (c : Settings) (x : Channel) → FitsCircuit c self.old x → FitsCircuit c self.new (entered x state x.params x.calls) }
         ensures role { self.new.role ≡ self.old.role }
+        ensures clears { clears_of self.new ≡ clears_of self.old }
         ensures resets { resets_of self.new ≡ resets_of self.old }
         ensures room { room_of self.old ≤ room_of self.new }
     {

@@ -1,4 +1,5 @@
 ghost use Rattle.x25_circuit.specs.laws.MessageLaws.{CutCarries, CutIsSound, SendAdds, SendStaysWhole, TakeAdds};
+ghost use Rattle.x25_circuit.specs.laws.PullLaw.{PullsWhatWaits};
 ghost use Rattle.x25_circuit.specs.laws.ParamsLaws.{FieldIsSaid, NoFieldIsKnown, KnownIsNoField, FieldIsAllowed, SaidIsAllowed, ProposalIsAnswer, DefaultIsAnswer, AnswerIsAllowed, TermsAreAllowed};
 
 /// What the packets sent, and behind them those that wait, carry are the messages of `send`, and what the packets taken
@@ -23,4 +24,9 @@ pub fn values_are_agreed()
     ensures usual { DefaultIsAnswer }
     ensures answer { AnswerIsAllowed }
     ensures terms { TermsAreAllowed }
+{}
+
+/// Where no message waits in a circuit, no data packet may be sent. ITU-T X.25 (10/96), section 4.4.1.
+pub fn what_waits_is_pulled()
+    ensures { PullsWhatWaits }
 {}

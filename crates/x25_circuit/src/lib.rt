@@ -28,7 +28,7 @@ mod transfer;
 
 pub use circuit::Circuit;
 pub use error::CircuitError;
-pub use law::{messages_are_carried, values_are_agreed};
+pub use law::{messages_are_carried, values_are_agreed, what_waits_is_pulled};
 pub use message::Message;
 pub use notice::{Notice, Reply, Taken};
 pub use octets::{LONGEST_MESSAGE, Octets};

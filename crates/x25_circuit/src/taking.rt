@@ -8,7 +8,7 @@ ghost use Rattle.x25_circuit.specs.Circuit.{Circuit as Channel};
 ghost use Rattle.x25_circuit.specs.Message.{piece_of};
 ghost use Rattle.x25_circuit.specs.Notice.{deliveries};
 ghost use Rattle.x25_circuit.specs.Hearing.{unless, number_ground, hears_status, takes, status, row_open, answers};
-ghost use Rattle.x25_circuit.specs.code.FitsCircuit.{FitsCircuit, room_of, user_octets};
+ghost use Rattle.x25_circuit.specs.code.FitsCircuit.{FitsCircuit, room_of, clears_of, resets_of, waits_of, user_octets};
 ghost use Rattle.x25_circuit.specs.code.Replies.{IsSendable, packet_owed, plain_owed};
 ghost use Rattle.x25_circuit.specs.code.Taking.{plain_flow, SaysTaken};
 
@@ -56,6 +56,8 @@ impl Circuit {
         ensures next { (c : Settings) (x : Channel) → FitsCircuit c self.old x → result ≡ true → FitsCircuit c self.new (hears_status x x.talk is_ready pr.number).next }
         ensures valid { (c : Settings) (x : Channel) → FitsCircuit c self.old x → number_ground x.talk pr.number ≡ (if result then None else Some 2) }
         ensures unchanged { result ≡ false → self.new ≡ self.old }
+        ensures kept { self.new ≡ record self.old { transfer = self.new.transfer } }
+        ensures queue { self.new.transfer.queue ≡ self.old.transfer.queue }
         ensures room { room_of self.old ≤ room_of self.new }
     {
         if !self.transfer.ack(pr) {
@@ -85,6 +87,8 @@ impl Circuit {
         ensures valid { (c : Settings) (x : Channel) → FitsCircuit c self.old x → OnSome result (number_ground x.talk pr.number ≡ None) }
         ensures invalid { (c : Settings) (x : Channel) → FitsCircuit c self.old x → IfNone result (number_ground x.talk pr.number ≡ Some 2) }
         ensures unchanged { IfNone result (self.new ≡ self.old) }
+        ensures kept { self.new ≡ record self.old { transfer = self.new.transfer } }
+        ensures queue { self.new.transfer.queue ≡ self.old.transfer.queue }
     {
         if !self.transfer.ack(pr) {
             return None;
@@ -105,6 +109,8 @@ impl Circuit {
         ensures range { IfSome result (λ taken. IsSendable (plain_owed taken.owed)) }
         ensures wrong { (c : Settings) (x : Channel) (h : ℕ) → FitsCircuit c self.old x → IfNone result ((is_open (row_open c x x.talk (user_data h q m ps.number pr.number user.now)).next ≡ false) ⊎ (room_of self.old < length user.now)) }
         ensures unchanged { IfNone result (self.new ≡ self.old) }
+        ensures kept { self.new ≡ record self.old { transfer = self.new.transfer } }
+        ensures queue { self.new.transfer.queue ≡ self.old.transfer.queue }
     {
         match self
             .transfer
@@ -128,6 +134,8 @@ impl Circuit {
         ensures range { IfSome result (λ taken. IsSendable (plain_owed taken.owed)) }
         ensures wrong { (c : Settings) (x : Channel) → FitsCircuit c self.old x → IfNone result (is_open (unless c x (number_ground x.talk pr.number) (hears_status x x.talk is_ready pr.number)).next ≡ false) }
         ensures unchanged { IfNone result (self.new ≡ self.old) }
+        ensures kept { self.new ≡ record self.old { transfer = self.new.transfer } }
+        ensures queue { self.new.transfer.queue ≡ self.old.transfer.queue }
     {
         if !self.take_status(pr, is_ready) {
             return None;
@@ -146,6 +154,8 @@ impl Circuit {
         ensures range { IfSome result (λ taken. IsSendable (plain_owed taken.owed)) }
         ensures wrong { (c : Settings) (x : Channel) (h : ℕ) → FitsCircuit c self.old x → IfNone result ((is_open (row_open c x x.talk (plain_flow h packet.now)).next ≡ false) ⊎ (room_of self.old < length (user_octets (plain_flow h packet.now)))) }
         ensures unchanged { IfNone result (self.new ≡ self.old) }
+        ensures kept { self.new ≡ record self.old { transfer = self.new.transfer } }
+        ensures queue { self.new.transfer.queue ≡ self.old.transfer.queue }
     {
         match packet {
             Flow::Data { q, m, ps, pr, user } => self.take_right(*q, *m, *ps, *pr, user),
@@ -155,7 +165,7 @@ impl Circuit {
     }
 
     /// Takes a data packet, RR or RNR that came for this channel, where it is in p4 with d1 and nothing is wrong with the packet, and
-    /// answers as `packet` does. It takes no memory.
+    /// answers as `packet` does. It takes no memory, counts no clear and no reset, and what waits goes on waiting.
     ///
     /// None, and all is as before, only where by the table the circuit isn't in p4 with d1 behind the packet, or where memory is set
     /// aside for fewer octets than it has: `packet` answers it then.
@@ -166,6 +176,9 @@ impl Circuit {
         ensures range { IfSome result (λ taken. IsSendable (plain_owed taken.owed)) }
         ensures wrong { (c : Settings) (x : Channel) (h : ℕ) → FitsCircuit c self.old x → IfNone result ((is_open (answers c x (plain_flow h packet.now)).next ≡ false) ⊎ (room_of self.old < length (user_octets (plain_flow h packet.now)))) }
         ensures unchanged { IfNone result (self.new ≡ self.old) }
+        ensures clears { clears_of self.new ≡ clears_of self.old }
+        ensures resets { resets_of self.new ≡ resets_of self.old }
+        ensures waits { waits_of self.new ≡ waits_of self.old }
     {
         match self.state {
             State::Open => self.take_open(packet),

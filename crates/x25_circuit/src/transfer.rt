@@ -97,6 +97,7 @@ impl Transfer {
         ensures fits { (size : ℕ) (t : Talk) → FitsTalk size self.old t → result ≡ true → FitsTalk size self.new (with_acked (resolved t.acked pr.number) t) }
         ensures partial { self.new.partial ≡ self.old.partial }
         ensures receiver { self.new.receiver ≡ self.old.receiver }
+        ensures queue { self.new.queue ≡ self.old.queue }
         ensures unchanged { result ≡ false → self.new ≡ self.old }
     {
         self.sender.ack(pr).is_ok()
@@ -122,6 +123,7 @@ impl Transfer {
         requires short { length self.old.partial.part.user + length user.now ≤ 65535 }
         ensures fits { (size : ℕ) (t : Talk) → FitsTalk size self.old t → FitsTalk size self.new (with_taken (piece_of q m user.now) t) }
         ensures message { (size : ℕ) (t : Talk) → FitsTalk size self.old t → option_to_list result ≡ completed (joining no_part t.taken) (piece_of q m user.now) }
+        ensures queue { self.new.queue ≡ self.old.queue }
     {
         self.receiver.accept(ps);
         self.partial.join(q, m, user)

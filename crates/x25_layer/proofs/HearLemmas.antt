@@ -92,7 +92,8 @@ channel_named most v octets spells =
 
 -- ---- how many octets a packet brings
 
-pub user_short : (v : PlainPacket) → length (user_octets v) ≤ length (spelling_of v)
+-- behind its header of three
+pub user_short : (v : PlainPacket) → length (user_octets v) ≤ length (spelling_of v) - 3
 user_short (user_data channel q m ps pr user) = omega arith
 user_short (call channel called calling facilities user) = omega arith
 user_short (accept channel facilities) = omega arith
@@ -160,7 +161,7 @@ pub hears_read : (most : ℕ) (c : LayerSettings) (l : Layer) (octets : List ℕ
 hears_read most c l octets h (Ok packet) has at exact found = hears_packet most c l octets h (plain packet) has found at exact
 hears_read most c l octets h (Err e) has at exact found = hears_error most c l octets h e at exact
 
-pub brings_few : (most : ℕ) (octets : List ℕ) (read : Result Packet PacketError) → IfOk read (λ v. Spells most (plain v) octets) → brings (plain_read read) ≤ length octets
+pub brings_few : (most : ℕ) (octets : List ℕ) (read : Result Packet PacketError) → IfOk read (λ v. Spells most (plain v) octets) → brings (plain_read read) ≤ length octets - 3
 brings_few most octets (Ok packet) found =
     let short = user_short (plain packet) in
     let spelled = ap (λ (o : List ℕ). length o) found.spelling in

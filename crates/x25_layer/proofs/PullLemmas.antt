@@ -1,5 +1,5 @@
 -- Rounds of pulls, one circuit after another.
-use Rattle.std.proofs.Common.{◌≡◌, ℕ, zero, suc, ◌+◌, ◌≤◌, List, [], ◌∷◌, ◌++◌, length, Option, Some, None, Bool, true, false, nat_lt, ◌==◌, ◌&&◌, if◌then◌else◌, set, slice_get, option_to_list, refl, sym, ap, subst, ◌∙◌, ◌⊎◌, inl, inr, arith, eq-eqb, length-append, length-set}
+use Rattle.std.proofs.Common.{◌≡◌, ℕ, zero, suc, ◌+◌, ◌<◌, ◌≤◌, List, [], ◌∷◌, ◌++◌, length, Option, Some, None, Bool, true, false, nat_lt, ◌==◌, ◌&&◌, if◌then◌else◌, set, slice_get, option_to_list, refl, sym, ap, subst, ◌∙◌, ◌⊎◌, inl, inr, arith, eq-eqb, length-append, length-set}
 use Rattle.std.proofs.lemmas.Option.{none-some}
 use Rattle.x25_link.specs.OrderedLink.{Lists, handed_down}
 use Rattle.x25_packet.specs.Packet.{PlainPacket}
@@ -11,9 +11,11 @@ use Rattle.x25_circuit.specs.Message.{Piece}
 use Rattle.x25_circuit.specs.Circuit.{Settings, Talk, Circuit, outgoing}
 use Rattle.x25_circuit.specs.Calling.{Pulled, pulls_nothing, pull_open, pull_in, pulled}
 use Rattle.x25_circuit.specs.code.FitsCircuit.{FitsCircuit}
+use Rattle.x25_circuit.specs.laws.PullLaw.{PullsWhatWaits}
 use Rattle.x25_layer.specs.Layer.{LayerSettings, put_at, packet_on}
 use Rattle.x25_layer.specs.Calls.{layer_pulled}
 use Rattle.x25_layer.specs.code.FitsLayer.{FitsCircuits}
+use Rattle.x25_layer.specs.code.Waiting.{NoneWaits}
 use Rattle.x25_layer.specs.code.OverLink.{after_all, view_of}
 use Rattle.x25_layer.specs.Rounds.{LinkView, Putting, with_pulled, pull_one, round}
 use Rattle.x25_layer.specs.code.Pulling.{IsEnough, pulled_where, Stands}
@@ -147,6 +149,21 @@ round_shut link c zero t shut = refl
 round_shut link c (suc n) t shut =
     ap (λ (u : Putting). pull_one link c (suc n) u) (round_shut link c n t shut)
     ∙ ap (λ (b : Bool). if b then with_pulled t (layer_pulled c t.layer (suc n)) (layer_pulled c t.layer (suc n)).packet else t) shut
+
+-- a round where no message waits
+there : {X : Type 0} (xs : List X) (i : ℕ) → i < length xs → (x : X) × (slice_get xs i ≡ Some x)
+there [] i low = absurd (omega (arith, low))
+there (x ∷ xs) zero low = (x, refl)
+there (x ∷ xs) (suc i) low = there xs i (let e : i < length xs = omega (arith, low) in e)
+
+pub round_still : PullsWhatWaits → (link : LinkView) (c : LayerSettings) (vs : List circuit_code.Circuit) (n : ℕ) (t : Putting) → n ≤ length vs → FitsCircuits c vs t.layer.circuits → NoneWaits vs → round link c n t ≡ t
+round_still pulls link c vs zero t low fits none = refl
+round_still pulls link c vs (suc n) t low fits none =
+    let found = there vs n (let e : n < length vs = omega (arith, low) in e) in
+    let x : Circuit = t.layer.circuits (suc n) in
+    let nothing : pulled c.circuit x ≡ pulls_nothing x = pulls c.circuit found.0 x (fits n found.0 found.1) (none n found.0 found.1) in
+    ap (λ (u : Putting). pull_one link c (suc n) u) (round_still pulls link c vs n t (let e : n ≤ length vs = omega (arith, low) in e) fits none)
+    ∙ one_none link c (suc n) t (ap (λ (p : Pulled). p.packet) (where_nothing (nat_lt (link.waits t.put) 8) c.circuit x nothing))
 
 -- A round keeps whether a restart is under way, and how many were done.
 pub record KeepsRestarts (s t : Putting) : Type 0 where

@@ -1,4 +1,5 @@
 -- What the code's values stand for: contracts and proofs need it, and a reader of the claims doesn't.
+pub mod Waiting
 pub mod FitsLayer
 pub mod OverLink
 pub mod Pulling

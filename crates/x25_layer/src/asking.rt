@@ -43,6 +43,7 @@ impl Layer {
         ensures fits { (c : LayerSettings) (l : State) → FitsLayer c self.old l → OnErr result (FitsLayer c self.new l) }
         ensures kinds { IfErr result (λ e. e ≢ LayerError.NoMemory) }
     {
+        self.quiet = false;
         let place = usize::from(channel) - 1;
         match self.circuits[place].ask(request) {
             Ok(packet) => Ok(packet),

@@ -1,4 +1,5 @@
 ghost use Rattle.std.specs.Prelude.{◌≡◌, ℕ, ◌≤◌, ◌↔◌, length, max, true, false, IfOk, IfErr, IfSome, IfNone, IsErrOf};
+ghost use Rattle.x25_layer.specs.code.Waiting.{NoneWaits};
 
 use crate::circuits::{begun_circuits, forget_all};
 use crate::error::LayerError;
@@ -26,6 +27,9 @@ pub struct Layer {
     /// The first is on channel 1.
     pub(crate) circuits: Vec<Circuit>,
     ghost few: { length circuits.items ≤ 16 },
+    /// It is known that no message waits in any circuit, so that there is nothing to pull.
+    pub(crate) quiet: bool,
+    ghost still: { quiet ≡ true → NoneWaits circuits.items },
     /// Memory for packets that are sent.
     pub(crate) memory: PacketMemory,
 }
@@ -74,6 +78,7 @@ impl Layer {
             restarting: false,
             restarts: 0,
             circuits,
+            quiet: false,
             memory: Blanks::new(alloc),
         })
     }
@@ -163,6 +168,7 @@ impl Layer {
         ensures memory { self.new.memory ≡ self.old.memory }
     {
         self.restarting = false;
+        self.quiet = false;
         forget_all(&mut self.circuits);
     }
 

@@ -84,6 +84,7 @@ impl Layer {
         ensures room { (len : ℕ) → HaveRoom len self.old.circuits.items → IfOk result (λ reply. IfNone reply.packet (HaveRoom len self.new.circuits.items)) }
         ensures room_stays { (len : ℕ) → HaveRoom len self.old.circuits.items → OnErr result (HaveRoom len self.new.circuits.items) }
     {
+        self.quiet = false;
         let place = usize::from(channel) - 1;
         match hear_circuit(&mut self.circuits[place], read) {
             Ok(reply) => Ok(reply),
@@ -167,7 +168,7 @@ impl Layer {
         ensures err { IfErr result (λ e. e ≡ LayerError.NoMemory) }
         ensures layer_stays { (c : LayerSettings) (l : State) → FitsLayer c self.old l → OnErr result (FitsLayer c self.new l) }
         ensures link_stays { (x : L.State) → L.fits link.old x → OnErr result (L.fits link.new x) }
-        ensures enough { (len : ℕ) → length octets.now ≤ len → HaveRoom len self.old.circuits.items → IsOk result }
+        ensures enough { (len : ℕ) → length octets.now ≤ len + 3 → HaveRoom len self.old.circuits.items → IsOk result }
         ensures used { OnOk result (self.old.memory + L.spares link.new ≡ self.new.memory + L.spares link.old) }
         ensures room { (len : ℕ) → HaveRoom len self.old.circuits.items → L.spares link.new ≡ L.spares link.old → OnOk result (HaveRoom len self.new.circuits.items) }
         ensures memory_stays { OnErr result (self.new.memory ≡ self.old.memory) }
@@ -196,7 +197,7 @@ impl Layer {
     /// spell no packet go to the channel that the first two name. They are dropped where they name no configured channel, and,
     /// but for RESTART and its confirmation, while this end's restart isn't confirmed.
     ///
-    /// 70 alone, and not where `room` set memory aside. The layer and the link are as before then. Of what `room` set aside a call
+    /// 70 alone, and not where `room` set memory aside for the octets behind the first three. The layer and the link are as before then. Of what `room` set aside a call
     /// takes as much here as in the link: for each packet that it puts. Where it puts none, the promise stands.
     pub fn packet<'a, L: OrderedLink>(
         &mut self,
@@ -213,7 +214,7 @@ impl Layer {
         ensures nothing { IfOk result (λ told. plain_told told ≡ [] → told ≡ Told.Nothing) }
         ensures longest { L.longest link.new ≡ L.longest link.old }
         ensures err { IfErr result (λ e. e ≡ LayerError.NoMemory) }
-        ensures enough { (len : ℕ) → length octets.now ≤ len → HasRoom len self.old (L.spares link.old) → IsOk result }
+        ensures enough { (len : ℕ) → length octets.now ≤ len + 3 → HasRoom len self.old (L.spares link.old) → IsOk result }
         ensures most_memory { self.new.memory ≤ max self.old.memory 16 }
         ensures most_spares { L.spares link.new ≤ max (L.spares link.old) 16 }
         ensures layer_stays { (c : LayerSettings) (l : State) → FitsLayer c self.old l → OnErr result (FitsLayer c self.new l) }

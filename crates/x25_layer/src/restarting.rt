@@ -71,6 +71,7 @@ impl Layer {
         self.set_aside(link, 1)?;
         self.restarting = true;
         self.restarts = 0;
+        self.quiet = false;
         begin_all(&mut self.circuits);
         let packet = Packet::Restart {
             cause: restart_cause(self.role),
@@ -119,6 +120,7 @@ impl Layer {
         ensures room { (len : ℕ) → HaveRoom len self.old.circuits.items → HaveRoom len self.new.circuits.items }
     {
         self.restarting = true;
+        self.quiet = false;
         forget_all(&mut self.circuits);
         let packet = Packet::Restart { cause, diagnostic };
         self.put(link, &packet, RESTART_OCTETS);
@@ -133,6 +135,7 @@ impl Layer {
     {
         self.restarting = false;
         self.restarts += 1;
+        self.quiet = false;
         begin_all(&mut self.circuits);
     }
 

@@ -6,6 +6,7 @@ ghost use Rattle.x25_circuit.specs.code.FitsCircuit.{FitsCircuit};
 ghost use Rattle.x25_layer.specs.Layer.{LayerSettings};
 ghost use Rattle.x25_layer.specs.Layer.{Layer as State};
 ghost use Rattle.x25_layer.specs.code.FitsLayer.{FitsLayer, FitsCircuits, is_most, full_up_to, is_full};
+ghost use Rattle.x25_layer.specs.code.Waiting.{NoneWaits};
 ghost use Rattle.x25_layer.specs.Room.{HasCountsLeft, HaveCountsLeft, IsNotFull, HaveRoom, HasRoom, HaveAtMost};
 
 use crate::error::LayerError;
@@ -36,16 +37,21 @@ fn any_full(circuits: &[Circuit]) -> bool
     false
 }
 
-// Sets memory aside in each circuit for so many octets of user data of a packet, but for no more than the longest has.
+// Sets memory aside in each circuit for so many octets of user data of a packet, but for no more than the longest has. For none no circuit
+// is asked.
 fn room_in_all(circuits: &mut Vec<Circuit>, len: usize) -> Result<(), LayerError>
     ensures fits { (c : LayerSettings) (f : ℕ → Channel) → FitsCircuits c circuits.old.items f → FitsCircuits c circuits.new.items f }
     ensures count { length circuits.new.items ≡ length circuits.old.items }
     ensures left { HaveCountsLeft circuits.old.items → HaveCountsLeft circuits.new.items }
+    ensures still { NoneWaits circuits.old.items → NoneWaits circuits.new.items }
     ensures room { OnOk result (HaveRoom len circuits.new.items) }
     ensures err { IfErr result (λ e. e ≡ LayerError.NoMemory) }
     ensures enough { HaveRoom len circuits.old.items → IsOk result }
     ensures most { (bound : ℕ) → 4096 ≤ bound → HaveAtMost bound circuits.old.items → HaveAtMost bound circuits.new.items }
 {
+    if len == 0 {
+        return Ok(());
+    }
     for circuit in circuits.iter_mut() {
         if circuit.room(len).is_err() {
             return Err(LayerError::NoMemory);
@@ -63,9 +69,10 @@ impl Layer {
         self.restarts == u64::MAX || any_full(&self.circuits)
     }
 
-    /// Sets memory aside, here and in the link, for one `packet` of at most `len` octets, or for `up`, or for `down` and then
-    /// `up`, which are then not refused with 70. It changes nothing else. However long the octets are, and however often it is
-    /// asked, memory is set aside for 16 packets that are put, and in each circuit for 4,096 octets, or for what was before.
+    /// Sets memory aside, here and in the link, for one `packet` with at most `len` octets of user data, which are those behind its
+    /// header of three, or for `up`, or for `down` and then `up`, which are then not refused with 70. It changes nothing else. However
+    /// much is asked, and however often, memory is set aside for 16 packets that are put, and in each circuit for 4,096 octets, or for
+    /// what was before.
     ///
     /// 70 alone, and only where less was set aside.
     pub fn room<L: OrderedLink>(&mut self, link: &mut L, len: usize) -> Result<(), LayerError>

@@ -3,7 +3,7 @@ ghost use Rattle.std.specs.Prelude.{◌≡◌, ℕ, ◌+◌, ◌<◌, ◌≤◌,
 ghost use Rattle.x25_packet.specs.Spelling.{IsChannel};
 ghost use Rattle.x25_circuit.specs.Circuit.{Settings};
 ghost use Rattle.x25_circuit.specs.Circuit.{Circuit as Channel};
-ghost use Rattle.x25_circuit.specs.code.FitsCircuit.{FitsCircuit, room_of};
+ghost use Rattle.x25_circuit.specs.code.FitsCircuit.{FitsCircuit, room_of, waits_of};
 ghost use Rattle.x25_layer.specs.Layer.{LayerSettings, packet_on};
 ghost use Rattle.x25_layer.specs.code.FitsLayer.{FitsLayer};
 ghost use Rattle.x25_layer.specs.code.OverLink.{view_of, after_all, Answers};
@@ -11,12 +11,13 @@ ghost use Rattle.x25_layer.specs.Calls.{PullsAll};
 ghost use Rattle.x25_layer.specs.Rounds.{Putting, round, rounds};
 ghost use Rattle.x25_layer.specs.code.Pulling.{IsEnough, pulled_where, Stands};
 ghost use Rattle.x25_layer.specs.Room.{HaveRoom};
+ghost use Rattle.x25_layer.specs.code.Waiting.{NoneWaits};
 
 use crate::error::LayerError;
 use crate::layer::Layer;
 use crate::putting::{MOST_PUT, PacketMemory, put};
 use crate::sending::DATA_HEADER;
-use x25_circuit::Circuit;
+use x25_circuit::{Circuit, what_waits_is_pulled};
 use x25_link::OrderedLink;
 
 /// A data packet is pulled where fewer packets than these wait in the link.
@@ -33,13 +34,15 @@ fn may_pull<L: OrderedLink>(link: &L, memory: &PacketMemory) -> bool
     link.waiting() < FEW && memory.promised() > 0 && link.spare() > 0
 }
 
-// Puts the next data packet of a circuit, where it may send one and fewer than 8 packets wait in the link: whether it did.
+// Puts the next data packet of a circuit, where it may send one and fewer than 8 packets wait in the link: whether it did. It isn't quiet where
+// a message waits then.
 #[inline(always)]
 fn pull_one<L: OrderedLink>(
     circuit: &mut Circuit,
     channel: u16,
     link: &mut L,
     memory: &mut PacketMemory,
+    quiet: &mut bool,
 ) -> bool
     requires channel { IsChannel channel }
     requires up { L.up link.old ≡ true }
@@ -55,11 +58,15 @@ fn pull_one<L: OrderedLink>(
     ensures fewer { result ≡ true → memory.new < memory.old }
     ensures longest { L.longest link.new ≡ L.longest link.old }
     ensures up { L.up link.new ≡ L.up link.old }
+    ensures before { quiet.new ≡ true → quiet.old ≡ true }
+    ensures still { quiet.new ≡ true → waits_of circuit.new ≡ 0 }
 {
     if circuit.waits() == 0 {
         return false;
     }
-    pull_waiting(circuit, channel, link, memory)
+    let is_put = pull_waiting(circuit, channel, link, memory);
+    *quiet &= circuit.waits() == 0;
+    is_put
 }
 
 // .. in which a message waits.
@@ -96,15 +103,17 @@ fn pull_waiting<L: OrderedLink>(
     true
 }
 
-// One round: whether a packet was put. Where the link takes none, no circuit is asked.
+// One round: whether a packet was put. Where it is known that no message waits, and where the link takes none, no circuit is asked.
 #[inline(always)]
 fn round<L: OrderedLink>(
     circuits: &mut Vec<Circuit>,
     link: &mut L,
     memory: &mut PacketMemory,
+    quiet: &mut bool,
 ) -> bool
     requires few { length circuits.old.items ≤ 16 }
     requires up { L.up link.old ≡ true }
+    requires still { quiet.old ≡ true → NoneWaits circuits.old.items }
     requires longest { 4099 ≤ L.longest link.old }
     ensures stands { (c : LayerSettings) (x : L.State) (s : Putting) → Stands (L.fits link.old) L.lists L.after_put c circuits.old.items memory.old (L.spares link.old) x s →
         Stands (L.fits link.new) L.lists L.after_put c circuits.new.items memory.new (L.spares link.new) x (round (view_of L.up_in L.waits_in L.after_put x) c c.channels s) }
@@ -117,19 +126,25 @@ fn round<L: OrderedLink>(
     ensures fewer { result ≡ true → memory.new < memory.old }
     ensures longest { L.longest link.new ≡ L.longest link.old }
     ensures up { L.up link.new ≡ L.up link.old }
+    ensures still { quiet.new ≡ true → NoneWaits circuits.new.items }
 {
+    what_waits_is_pulled();
+    if *quiet {
+        return false;
+    }
     if !may_pull(link, memory) {
         return false;
     }
-    go_round(circuits, link, memory)
+    go_round(circuits, link, memory, quiet)
 }
 
-// .. of all circuits.
+// .. of all circuits: then it is known whether a message waits in one.
 #[inline(always)]
 fn go_round<L: OrderedLink>(
     circuits: &mut Vec<Circuit>,
     link: &mut L,
     memory: &mut PacketMemory,
+    quiet: &mut bool,
 ) -> bool
     requires few { length circuits.old.items ≤ 16 }
     requires up { L.up link.old ≡ true }
@@ -145,12 +160,14 @@ fn go_round<L: OrderedLink>(
     ensures fewer { result ≡ true → memory.new < memory.old }
     ensures longest { L.longest link.new ≡ L.longest link.old }
     ensures up { L.up link.new ≡ L.up link.old }
+    ensures still { quiet.new ≡ true → NoneWaits circuits.new.items }
 {
     let mut channel = 0;
     let mut is_put = false;
+    *quiet = true;
     for circuit in circuits.iter_mut() {
         channel += 1;
-        is_put |= pull_one(circuit, channel, link, memory);
+        is_put |= pull_one(circuit, channel, link, memory, quiet);
     }
     is_put
 }
@@ -194,6 +211,6 @@ impl Layer {
         ensures used { self.old.memory + L.spares link.new ≡ self.new.memory + L.spares link.old }
         ensures longest { L.longest link.new ≡ L.longest link.old }
     {
-        while round(&mut self.circuits, link, &mut self.memory) {}
+        while round(&mut self.circuits, link, &mut self.memory, &mut self.quiet) {}
     }
 }

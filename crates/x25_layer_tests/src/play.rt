@@ -157,9 +157,9 @@ fn transfer<L: OrderedLink>(
     Ok(delivery_text(alloc, layer.transfer(link, octets.as_slice()))?)
 }
 
-// Sets memory aside for packets of 4,099 octets.
+// Sets memory aside for packets with 4,096 octets of user data.
 fn room<L: OrderedLink>(alloc: Global, layer: &mut Layer, link: &mut L) -> Result<String, Fail> {
-    layer.room(link, 4099)?;
+    layer.room(link, 4096)?;
     let enough = link.spare() >= 16;
     Ok(format!(in alloc; "{enough}")?)
 }

@@ -76,7 +76,8 @@ row_informs c octets (Err (Undefined control)) t p is = absurd (none-some p is)
 row_informs c octets (Err (NoInfoAllowed control)) t p is = absurd (none-some p is)
 row_informs c octets (Err TooLong) t p is = absurd (none-some p is)
 
-pub handed_short : ReadsWhatIsSpelled → TakeHandsUp → (c : LinkSettings) (octets : List ℕ) (s : LinkStation) (p : List ℕ) → All (λ octet. octet < 256) octets → (take_step c octets s).packet ≡ Some p → length p ≤ length octets
+-- .. beside address, control and frame check sequence
+pub handed_short : ReadsWhatIsSpelled → TakeHandsUp → (c : LinkSettings) (octets : List ℕ) (s : LinkStation) (p : List ℕ) → All (λ octet. octet < 256) octets → (take_step c octets s).packet ≡ Some p → length p + 4 ≤ length octets
 handed_short reads hands c octets s p bytes is =
     let read : Result PlainFrame FrameError = frame_of (other c.role) c.longest octets in
     let up : s.phase ≡ Up = (hands c octets s).up p is in

@@ -1,5 +1,5 @@
 //! Octets that come: the step of the link, and what the packet layer does at it.
-ghost use Rattle.std.specs.Prelude.{◌≡◌, ℕ, ◌+◌, ◌<◌, ◌≤◌, ◌++◌, List, [], length, max, map, true, false, None, option_copied, vec_len, vec_capacity, IfSome, IfOk, IfErr, OnOk, OnErr};
+ghost use Rattle.std.specs.Prelude.{◌≡◌, ℕ, ◌+◌, ◌-◌, ◌<◌, ◌≤◌, ◌++◌, List, [], length, max, map, true, false, None, option_copied, vec_len, vec_capacity, IfSome, IfOk, IfErr, OnOk, OnErr};
 ghost use Rattle.x25_link.specs.Station.{Side};
 ghost use Rattle.x25_link.specs.Link.{alone};
 ghost use Rattle.x25_link.specs.code.FitsLink.{FitsWhole, up_of};
@@ -27,6 +27,9 @@ use x25_frame::reading_is_the_grammar as reads_frames;
 use x25_layer::Layer;
 use x25_link::{Link, Notes, OrderedLink, holds_few, notes_what_changes};
 use x25_packet::reading_is_the_grammar;
+
+/// The octets of an I frame but for the user data of its packet: address, control and frame check sequence, and the header of the packet.
+const HEADERS: usize = 2 + 2 + 3;
 
 // What the layer does at LinkUp.
 fn come_up(layer: &mut Layer, link: &mut Link, entries: &mut Vec<Entry>)
@@ -57,7 +60,7 @@ fn hear_other(
 )
     requires put { CanPut link.old }
     requires left { IsNotFull layer.old }
-    requires room { HasRoom (length packet.now) layer.old link.old.outbox.long }
+    requires room { HasRoom (length packet.now - 3) layer.old link.old.outbox.long }
     requires texts { 3 ≤ texts.old }
     requires entries { vec_len entries.old + 2 ≤ vec_capacity entries.old }
     ensures layer { (c : Settings) (l : LayerState) (t : Side) → FitsLayer (layer_settings c) layer.old l → FitsWhole link.old (kept_of (link_settings c) (alone t.near)) →
@@ -86,7 +89,7 @@ fn hear(
 )
     requires put { CanPut link.old }
     requires left { IsNotFull layer.old }
-    requires room { HasRoom (length packet.now) layer.old link.old.outbox.long }
+    requires room { HasRoom (length packet.now - 3) layer.old link.old.outbox.long }
     requires texts { 3 ≤ texts.old }
     requires entries { vec_len entries.old + 2 ≤ vec_capacity entries.old }
     ensures layer { (c : Settings) (l : LayerState) (t : Side) → FitsLayer (layer_settings c) layer.old l → FitsWhole link.old (kept_of (link_settings c) (alone t.near)) →
@@ -120,7 +123,7 @@ fn follow(
     requires put { IfSome packet (λ _. CanPut link.old) }
     requires left { IfSome packet (λ _. IsNotFull layer.old) }
     requires begun { HasRoom 0 layer.old link.old.outbox.long }
-    requires room { IfSome packet (λ p. HasRoom (length p.now) layer.old link.old.outbox.long) }
+    requires room { IfSome packet (λ p. HasRoom (length p.now - 3) layer.old link.old.outbox.long) }
     requires texts { 3 ≤ texts.old }
     requires entries { vec_len entries.old + 3 ≤ vec_capacity entries.old }
     ensures layer { (c : Settings) (l : LayerState) (t : Side) → FitsLayer (layer_settings c) layer.old l → FitsWhole link.old (kept_of (link_settings c) (alone t.near)) →
@@ -228,8 +231,8 @@ impl Station {
         Ok(())
     }
 
-    // Sets memory aside for all that octets may bring: room for frames and entries, and their texts. However long the octets are,
-    // it is for 16 packets, 3 texts and 4,096 octets a circuit, or for what was before.
+    // Sets memory aside for all that octets may bring, with so many of user data: room for frames and entries, and their texts. However
+    // many they are, it is for 16 packets, 3 texts and 4,096 octets a circuit, or for what was before.
     fn set_aside(
         &mut self,
         len: usize,
@@ -281,7 +284,7 @@ impl Station {
         notes_what_changes();
         holds_few();
         reads_frames();
-        self.set_aside(octets.len(), frames, entries)?;
+        self.set_aside(octets.len().saturating_sub(HEADERS), frames, entries)?;
         match self.link.take_into(octets, frames) {
             Ok(heard) => {
                 follow(

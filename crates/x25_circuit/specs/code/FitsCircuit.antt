@@ -1,10 +1,11 @@
 -- Which states of the definition a circuit stands for, and what its calls mean.
-use Rattle.std.specs.Prelude.{◌≡◌, ℕ, List, [], Some, None, Result, Err, IsOkAnd}
+use Rattle.std.specs.Prelude.{◌≡◌, ℕ, List, [], length, Some, None, Result, Err, IsOkAnd}
 use Rattle.x25_packet.specs.declared.packet.Packet.{Packet}
 use Rattle.x25_packet.specs.Packet.{PlainPacket, plain, user_data}
 use Rattle.x25_circuit.specs.declared.circuit.Circuit as code
 use Rattle.x25_circuit.specs.declared.error.CircuitError.{CircuitError}
 use Rattle.x25_circuit.specs.Circuit.{Settings, Circuit, outgoing}
+use Rattle.x25_circuit.specs.Queue.{waiting}
 use Rattle.x25_circuit.specs.code.Fits.{FitsTalk}
 use Rattle.x25_circuit.specs.Calling.{Outcome, Done, Refused}
 
@@ -21,6 +22,10 @@ pub record FitsCircuit (c : Settings) (v : code.Circuit) (x : Circuit) : Type 0 
 -- for how many octets of user data of a packet memory is set aside
 abbrev pub room_of : code.Circuit → ℕ
 room_of v = v.transfer.partial.room
+
+-- how many messages wait
+abbrev pub waits_of : code.Circuit → ℕ
+waits_of v = length (waiting v.transfer.queue)
 
 -- the counts
 abbrev pub clears_of : code.Circuit → ℕ

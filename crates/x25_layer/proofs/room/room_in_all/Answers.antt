@@ -3,8 +3,9 @@ use Rattle.std.specs.Result.{is_err}
 use Rattle.std.proofs.lemmas.List.{length-set}
 use Rattle.std.proofs.lemmas.Option.{slice_get_within, slice_get-get_or}
 use Rattle.x25_circuit.specs.declared.circuit.Circuit as circuit_code
-use Rattle.x25_circuit.specs.code.FitsCircuit.{FitsCircuit, room_of, clears_of, resets_of}
+use Rattle.x25_circuit.specs.code.FitsCircuit.{FitsCircuit, room_of, clears_of, resets_of, waits_of}
 use Rattle.x25_layer.specs.code.FitsLayer.{FitsCircuits}
+use Rattle.x25_layer.specs.code.Waiting.{NoneWaits}
 use Rattle.x25_layer.specs.Room.{HasCountsLeft, HaveCountsLeft, HaveRoom, HaveAtMost}
 use Rattle.x25_layer.proofs.FitLemmas.{refused_with, written_back, all_changed, below_changed}
 use Rattle.x25_layer.proofs.room.room_in_all.Goals as goal
@@ -32,6 +33,9 @@ loop-circuit-preserved c =
       left = λ all.
           let before = c.loop-circuit.invariant.left all in
           all_changed (λ (k : ℕ) (v : circuit_code.Circuit). HasCountsLeft v) c.loop-circuit.circuit-items i c.room.new.self before (counts_left _ c.room.new.self c.room.ensures.clears c.room.ensures.resets (before i _ found));
+      still = λ all.
+          let before = c.loop-circuit.invariant.still all in
+          all_changed (λ (k : ℕ) (v : circuit_code.Circuit). waits_of v ≡ 0) c.loop-circuit.circuit-items i c.room.new.self before (c.room.ensures.waits ∙ before i _ found);
       enough = λ all.
           let before = c.loop-circuit.invariant.enough all in
           let here = before i _ found in
@@ -45,6 +49,11 @@ loop-circuit-preserved c =
       room = below_changed (λ (v : circuit_code.Circuit). min c.args.len 4096 ≤ room_of v) c.loop-circuit.circuit-items i c.room.new.self c.loop-circuit.invariant.room
           (kept_ok c.room.result (sym c.is_err.ensures.value ∙ c.if-is_err.false) c.room.ensures.ok);
     }
+
+-- ---- for none
+
+pub returns-then-len-eq0-clause-room : goal.returns-then-len-eq0-clause-room
+returns-then-len-eq0-clause-room c = λ k v at. (let none = c.if-len-eq0.true in omega (arith, none))
 
 -- ---- at a refusal
 
@@ -71,6 +80,18 @@ returns-then-is_err-clause-left c =
     let before = c.loop-circuit.invariant.left (subst (λ (vs : List circuit_code.Circuit). HaveCountsLeft vs) (sym c.deref_mut-circuit-items.ensures.value) left) in
     subst (λ (vs : List circuit_code.Circuit). HaveCountsLeft vs) (sym all)
     (all_changed (λ (k : ℕ) (v : circuit_code.Circuit). HasCountsLeft v) c.loop-circuit.circuit-items i c.room.new.self before (counts_left _ c.room.new.self c.room.ensures.clears c.room.ensures.resets (before i _ found)))
+
+pub returns-then-is_err-clause-still : goal.returns-then-is_err-clause-still
+returns-then-is_err-clause-still c =
+    let i : ℕ = c.loop-circuit.circuit-index in
+    let items : List circuit_code.Circuit = set c.loop-circuit.circuit-items i c.room.new.self in
+    let found = slice_get-get_or c.loop-circuit.circuit-items i c.circuit-item.result (omega arith) in
+    let long : length items ≡ length c.loop-circuit.circuit-items = length-set c.loop-circuit.circuit-items i c.room.new.self in
+    let all = written_back c.args.circuits.now.len c.args.circuits.now.items items (omega arith) (omega (arith, long)) in
+    λ none.
+    let before = c.loop-circuit.invariant.still (subst (λ (vs : List circuit_code.Circuit). NoneWaits vs) (sym c.deref_mut-circuit-items.ensures.value) none) in
+    subst (λ (vs : List circuit_code.Circuit). NoneWaits vs) (sym all)
+    (all_changed (λ (k : ℕ) (v : circuit_code.Circuit). waits_of v ≡ 0) c.loop-circuit.circuit-items i c.room.new.self before (c.room.ensures.waits ∙ before i _ found))
 
 pub returns-then-is_err-clause-most : goal.returns-then-is_err-clause-most
 returns-then-is_err-clause-most c =
@@ -109,6 +130,12 @@ returns-clause-left c =
     let all = written_back c.args.circuits.now.len c.args.circuits.now.items c.loop-circuit.circuit-items (omega arith) (omega arith) in
     λ left. subst (λ (vs : List circuit_code.Circuit). HaveCountsLeft vs) (sym all)
     (c.loop-circuit.invariant.left (subst (λ (vs : List circuit_code.Circuit). HaveCountsLeft vs) (sym c.deref_mut-circuit-items.ensures.value) left))
+
+pub returns-clause-still : goal.returns-clause-still
+returns-clause-still c =
+    let all = written_back c.args.circuits.now.len c.args.circuits.now.items c.loop-circuit.circuit-items (omega arith) (omega arith) in
+    λ none. subst (λ (vs : List circuit_code.Circuit). NoneWaits vs) (sym all)
+    (c.loop-circuit.invariant.still (subst (λ (vs : List circuit_code.Circuit). NoneWaits vs) (sym c.deref_mut-circuit-items.ensures.value) none))
 
 pub returns-clause-most : goal.returns-clause-most
 returns-clause-most c =

@@ -1,13 +1,14 @@
 use Rattle.std.proofs.Common.{◌≡◌, ℕ, min, suc, ◌+◌, ◌<◌, ◌≤◌, ◌∙◌, ◌⊎◌, inl, inr, List, length, true, set, nat_lt, option_to_list, sym, ap, subst, arith}
-use Rattle.std.proofs.lemmas.Option.{slice_get-get_or}
+use Rattle.std.proofs.lemmas.Option.{slice_get_within, slice_get-get_or}
 use Rattle.x25_circuit.specs.declared.circuit.Circuit as circuit_code
-use Rattle.x25_circuit.specs.code.FitsCircuit.{room_of}
+use Rattle.x25_circuit.specs.code.FitsCircuit.{room_of, waits_of}
 use Rattle.x25_layer.specs.Layer.{packet_on}
 use Rattle.x25_layer.specs.Room.{HaveRoom}
+use Rattle.x25_layer.specs.code.Waiting.{NoneWaits}
 use Rattle.x25_layer.specs.code.OverLink.{view_of, after_all}
 use Rattle.x25_layer.specs.Rounds.{LinkView, Putting, round}
 use Rattle.x25_layer.specs.code.Pulling.{pulled_where, Stands}
-use Rattle.x25_layer.proofs.FitLemmas.{written_back, all_changed, neither, either}
+use Rattle.x25_layer.proofs.FitLemmas.{written_back, all_changed, below_changed, neither, either}
 use Rattle.x25_layer.proofs.PullLemmas.{stands_more, one_none}
 use Rattle.x25_layer.proofs.rounds.go_round.Goals as goal
 
@@ -55,6 +56,7 @@ loop-circuit-preserved g c =
       fewer = λ is. by (either c.loop-circuit.is_put c.pull_one-is_put.result is);
       longest = p.longest ∙ c.loop-circuit.invariant.longest;
       up = p.up ∙ c.loop-circuit.invariant.up;
+      still = λ is. below_changed (λ (v : circuit_code.Circuit). waits_of v ≡ 0) c.loop-circuit.circuit-items i c.pull_one-is_put.new.circuit (c.loop-circuit.invariant.still (p.before is)) (p.still is);
     }
   where
     by : (c.loop-circuit.is_put ≡ true) ⊎ (c.pull_one-is_put.result ≡ true) → c.pull_one-is_put.new.memory < c.args.memory.now
@@ -68,6 +70,16 @@ returns-clause-room g c = λ len have.
     let all = written_back c.args.circuits.now.len c.args.circuits.now.items c.loop-circuit.circuit-items high count in
     subst (λ (vs : List circuit_code.Circuit). HaveRoom len vs) (sym all)
     (c.loop-circuit.invariant.room len (subst (λ (vs : List circuit_code.Circuit). HaveRoom len vs) (sym c.deref_mut-circuit-items.ensures.value) have))
+
+pub returns-clause-still : goal.returns-clause-still
+returns-clause-still g c = λ is.
+    let high : length c.args.circuits.now.items ≤ c.args.circuits.now.len = omega arith in
+    let count : length c.loop-circuit.circuit-items ≡ length c.args.circuits.now.items = omega arith in
+    let all = written_back c.args.circuits.now.len c.args.circuits.now.items c.loop-circuit.circuit-items high count in
+    subst (λ (vs : List circuit_code.Circuit). NoneWaits vs) (sym all)
+    (λ k v at.
+    let low = slice_get_within c.loop-circuit.circuit-items k v at in
+    c.loop-circuit.invariant.still is k v (let e : k < c.loop-circuit.circuit-index = omega (arith, low) in e) at)
 
 pub returns-clause-stands : goal.returns-clause-stands
 returns-clause-stands g c = λ s x t before.

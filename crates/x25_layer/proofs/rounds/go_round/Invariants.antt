@@ -1,4 +1,6 @@
-use Rattle.std.proofs.Common.{◌≡◌, ℕ, ◌+◌, ◌<◌, ◌≤◌, true, false}
+use Rattle.std.proofs.Common.{◌≡◌, ℕ, ◌+◌, ◌<◌, ◌≤◌, Some, true, false, slice_get}
+use Rattle.x25_circuit.specs.declared.circuit.Circuit as circuit_code
+use Rattle.x25_circuit.specs.code.FitsCircuit.{waits_of}
 use Rattle.x25_layer.specs.Layer.{LayerSettings}
 use Rattle.x25_layer.specs.code.OverLink.{view_of}
 use Rattle.x25_layer.specs.Rounds.{Putting, round}
@@ -20,4 +22,5 @@ invariant-loop-circuit g l = record {
   fewer : l.is_put ≡ true → l.memory < l.initial.memory;
   longest : g.L.OrderedLink.longest l.link ≡ g.L.OrderedLink.longest l.initial.link;
   up : g.L.OrderedLink.up l.link ≡ g.L.OrderedLink.up l.initial.link;
+  still : l.quiet ≡ true → (k : ℕ) (v : circuit_code.Circuit) → k < l.circuit-index → slice_get l.circuit-items k ≡ Some v → waits_of v ≡ 0;
 }

@@ -1,4 +1,4 @@
-use Rattle.std.proofs.Common.{◌<◌, ◌++◌, map, List, All, arith, ap, sym, subst, ◌∙◌}
+use Rattle.std.proofs.Common.{◌-◌, ◌<◌, ◌++◌, length, map, List, All, arith, ap, sym, subst, ◌∙◌}
 use Rattle.std.proofs.lemmas.List.Elements.{All-from_get_or}
 use Rattle.x25_packet.specs.Reading.{packet_of}
 use Rattle.x25_link.specs.code.FitsLink.{FitsWhole}
@@ -18,6 +18,9 @@ use Rattle.x25_station.proofs.NameLemmas.{rounds_name}
 use Rattle.x25_station.proofs.TellLemmas.{same_told, told_is}
 use Rattle.x25_station.proofs.ShortLemmas.{told_tellable}
 use Rattle.x25_station.proofs.receiving.hear_other.Goals as goal
+
+pub unwrap-told-requires : goal.unwrap-told-requires
+unwrap-told-requires c = c.packet.ensures.enough (length c.args.packet.now - 3) (omega arith) c.requires.room
 
 pub returns-clause-layer : goal.returns-clause-layer
 returns-clause-layer c = λ c' l t fits link.

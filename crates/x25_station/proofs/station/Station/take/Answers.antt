@@ -1,4 +1,4 @@
-use Rattle.std.proofs.Common.{◌≡◌, ◌<◌, ◌≤◌, ◌++◌, length, map, All, option_copied, arith, ap, sym, subst, ◌∙◌}
+use Rattle.std.proofs.Common.{◌≡◌, ◌+◌, ◌-◌, ◌<◌, ◌≤◌, ◌++◌, length, map, All, option_copied, arith, ap, sym, subst, ◌∙◌}
 use Rattle.std.proofs.lemmas.List.Elements.{All-from_get_or}
 use Rattle.x25_frame.specs.Spelling.{spelling_of}
 use Rattle.x25_link.specs.declared.phase.Notes.{Notes}
@@ -46,12 +46,13 @@ follow-requires-clause-left c = if_some c.in-Ok.heard.packet (λ x. IsNotFull c.
 pub follow-requires-clause-room : goal.follow-requires-clause-room
 follow-requires-clause-room c =
     let bytes : All (λ octet. octet < 256) c.args.octets.now = All-from_get_or (λ octet. octet < 256) c.args.octets.now 0 (λ i low. omega (arith, c.type_inv.octets i)) in
-    if_some c.in-Ok.heard.packet (λ p. HasRoom (length p.now) c.set_aside.new.self.layer c.take_into.new.self.outbox.long) (λ p is.
-    less_room (length p.now) (length c.args.octets.now) c.set_aside.new.self.layer c.set_aside.new.self.link.outbox.long c.take_into.new.self.outbox.long
-    (least_by_meaning _ _ (length p.now) (length c.args.octets.now) c.args.self.now.meant (λ c' s fits.
+    if_some c.in-Ok.heard.packet (λ p. HasRoom (length p.now - 3) c.set_aside.new.self.layer c.take_into.new.self.outbox.long) (λ p is.
+    let short : length p.now + 4 ≤ length c.args.octets.now = least_by_meaning _ _ (length p.now + 4) (length c.args.octets.now) c.args.self.now.meant (λ c' s fits.
     let lk = link_settings c' in
     handed_short c.reading_is_the_grammar.ensures.spelled c.notes_what_changes.ensures.take_hands_up lk c.args.octets.now s.link p.now bytes
-    (sym (c.in-Ok.ensures.does.packet lk s.link (c.in_ok-set_aside.ensures.fits c' s fits).link) ∙ ap option_copied is)))
+    (sym (c.in-Ok.ensures.does.packet lk s.link (c.in_ok-set_aside.ensures.fits c' s fits).link) ∙ ap option_copied is)) in
+    less_room (length p.now - 3) c.saturating_sub.result c.set_aside.new.self.layer c.set_aside.new.self.link.outbox.long c.take_into.new.self.outbox.long
+    (omega (arith, short, c.saturating_sub.ensures))
     (sym (ap (λ o. o.long) c.in-Ok.ensures.does.outbox)) c.in_ok-set_aside.ensures.room)
 
 pub sent_into-requires : goal.sent_into-requires
