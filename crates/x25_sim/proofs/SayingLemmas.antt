@@ -1,8 +1,11 @@
 -- The text of what is said, one saying after another.
-use Rattle.std.proofs.Common.{◌≡◌, ◌∙◌, ◌+◌, ◌<◌, ℕ, List, [], ◌∷◌, ◌++◌, length, take, drop, map, get_or, ap, sym}
+use Rattle.std.proofs.Common.{◌≡◌, ◌∙◌, ◌+◌, ◌<◌, ◌≤◌, ℕ, List, [], ◌∷◌, ◌++◌, Some, None, slice_get, length, take, drop, map, get_or, ap, sym, arith}
 use Rattle.std.proofs.lemmas.Grind.{flat_map-append}
-use Rattle.std.proofs.lemmas.List.{append-nil, map-append, take_more, take-append-drop}
-use Rattle.x25_sim.specs.Telling.{Saying, saying_line, sayings_text}
+use Rattle.std.proofs.lemmas.List.{append-nil, map-append, take_more, take-append-drop, drop-append-le, length-take-le}
+use Rattle.std.proofs.lemmas.Option.{get_or_from_slice_get, slice_get-get_or}
+use Rattle.x25_bits.specs.declared.role.Role.{Role}
+use Rattle.x25_world.specs.World.{OnTap, tapped}
+use Rattle.x25_sim.specs.Telling.{Saying, taps, saying_line, sayings_text}
 
 pub text-append : (xs ys : List Saying) → sayings_text (xs ++ ys) ≡ sayings_text xs ++ sayings_text ys
 text-append xs ys = flat_map-append saying_line xs ys
@@ -31,3 +34,52 @@ module _ {X Y : Type 0} (plain : X → Y) (says : Y → Saying) where
   all_parts xs i x inside is =
       ap text_of_all (sym (take-append-drop (i + 1) xs)) ∙ all-append (take (i + 1) xs) (drop (i + 1) xs)
       ∙ ap (λ t. t ++ text_of_all (drop (i + 1) xs)) (all_more xs i x inside is)
+
+-- ---- frames on the line, which an end put behind so many that were there before
+
+-- the octets at this place
+at_place : (frames : List (List ℕ)) (place : ℕ) (octets : List ℕ) → Some octets ≡ slice_get frames place → get_or frames place octets ≡ octets
+at_place frames place octets is = get_or_from_slice_get frames place octets octets (sym is)
+
+put_more : (frames : List (List ℕ)) (before place : ℕ) (octets : List ℕ) → before ≤ place → place < length frames → Some octets ≡ slice_get frames place
+    → drop before (take (place + 1) frames) ≡ drop before (take place frames) ++ octets ∷ []
+put_more frames before place octets behind within is =
+    let len : length (take place frames) ≡ place = length-take-le place frames (omega arith) in
+    ap (drop before) (take_more frames place octets within) ∙ drop-append-le before (take place frames) (get_or frames place octets ∷ []) (omega arith)
+    ∙ ap (λ (o : List ℕ). drop before (take place frames) ++ o ∷ []) (at_place frames place octets is)
+
+put_parts : (frames : List (List ℕ)) (before place : ℕ) → before ≤ place → place < length frames
+    → drop before frames ≡ drop before (take (place + 1) frames) ++ drop (place + 1) frames
+put_parts frames before place behind within =
+    let len : length (take (place + 1) frames) ≡ place + 1 = length-take-le (place + 1) frames (omega arith) in
+    ap (drop before) (sym (take-append-drop (place + 1) frames)) ∙ drop-append-le before (take (place + 1) frames) (drop (place + 1) frames) (omega arith)
+
+-- something stands at each place
+pub none_there : {A : Type 0} (frames : List (List ℕ)) (place : ℕ) → place < length frames → None ≡ slice_get frames place → A
+none_there {A} frames place within none = absurd (never (none ∙ slice_get-get_or frames place [] within))
+  where
+    never : {x : List ℕ} → None ≡ Some x → ⊥
+    never e = cc
+
+module _ (from : Role) where
+  abbrev frame_put : List ℕ → OnTap
+  frame_put octets = record { from = from; octets = octets }
+
+  -- what is said of frames
+  abbrev pub frames_text : List (List ℕ) → List ℕ
+  frames_text frames = sayings_text (map taps (tapped from frames))
+
+  module _ (frames : List (List ℕ)) (before : ℕ) where
+    -- of one more
+    pub frame_more : (place : ℕ) (octets : List ℕ) → before ≤ place → place < length frames → Some octets ≡ slice_get frames place
+        → frames_text (drop before (take (place + 1) frames)) ≡ frames_text (drop before (take place frames)) ++ saying_line (taps (frame_put octets))
+    frame_more place octets behind within is =
+        ap frames_text (put_more frames before place octets behind within is) ∙ all-append frame_put taps (drop before (take place frames)) (octets ∷ [])
+        ∙ ap (λ t. frames_text (drop before (take place frames)) ++ t) (one frame_put taps octets)
+
+    -- of those before a place, of the one there, and of the rest
+    pub frame_parts : (place : ℕ) (octets : List ℕ) → before ≤ place → place < length frames → Some octets ≡ slice_get frames place
+        → frames_text (drop before frames) ≡ (frames_text (drop before (take place frames)) ++ saying_line (taps (frame_put octets))) ++ frames_text (drop (place + 1) frames)
+    frame_parts place octets behind within is =
+        ap frames_text (put_parts frames before place behind within) ∙ all-append frame_put taps (drop before (take (place + 1) frames)) (drop (place + 1) frames)
+        ∙ ap (λ t. t ++ frames_text (drop (place + 1) frames)) (frame_more place octets behind within is)

@@ -7,15 +7,15 @@ use Rattle.x25_bits.specs.declared.role.Role.{Role}
 use Rattle.x25_bits.specs.declared.role.Role.TheVariants.{Dte}
 use Rattle.x25_station.specs.declared.config.Cfg.{Cfg}
 use Rattle.x25_station.specs.Entry.{StationEntry}
-use Rattle.x25_world.specs.World.{World, start, entered, OnTap, AtEnd, WorldOutcome, Happened, Declined, refusal_of, after}
-use Rattle.x25_world.specs.code.ShownWorld.{ShownWorld}
-use Rattle.x25_world.specs.code.FitsWorld.{FitsWorld, all_of, gone_after, nothing_gone}
+use Rattle.x25_world.specs.World.{World, start, entered, tapped, OnTap, AtEnd, WorldOutcome, Happened, Declined, refusal_of, after}
+use Rattle.x25_world.specs.code.ShownWorld.{ShownWorld, line_from}
+use Rattle.x25_world.specs.code.FitsWorld.{FitsWorld, nothing_gone}
 use Rattle.x25_world.specs.declared.error.WorldError.{WorldError}
 use Rattle.x25_sim.specs.Telling.{enters, enters_at, taps, refuses, sayings_text, saying_line, refusal_number, has_refusal}
 use Rattle.x25_console.specs.Telling.{refusal_line}
 use Rattle.x25_sim.specs.Stage.{quiet, frames_told, step_told, told_between, turn_of, tried_of}
 use Rattle.x25_sim.specs.code.Stands.{opening}
-use Rattle.x25_world.proofs.Established.{connected_tells}
+use Rattle.x25_world.proofs.Established.{connected_tells, connected_taps}
 use Rattle.x25_sim.proofs.SayingLemmas.{text-append}
 
 entries_first : (tap : Bool) (entries : List AtEnd) (frames : List OnTap)
@@ -27,7 +27,7 @@ enters_all : (at : Role) (entries : List StationEntry) → map enters (entered a
 enters_all at [] = refl
 enters_all at (e ∷ entries) = ap (λ l. enters_at at e ∷ l) (enters_all at entries)
 
--- the entries that a step handed over, and behind them what is held of the tap
+-- the entries that a step handed over, and behind them what is new on the tap
 pub told_by : (tap : Bool) (w next : World) (at : Role) (entries : List StationEntry) → next.transcript ≡ w.transcript ++ entered at entries
     → sayings_text (told_between tap w next) ≡ sayings_text (map (enters_at at) entries) ++ sayings_text (frames_told tap (drop (length w.tap) next.tap))
 told_by tap w next at entries told =
@@ -40,28 +40,30 @@ pub told_alone : (tap : Bool) (told : List ℕ) (w next : World) (at : Role) (en
 told_alone true told w next at entries off is = cc
 told_alone false told w next at entries off is = ap (λ t. told ++ t) (sym (told_by false w next at entries is ∙ append-nil (sayings_text (map (enters_at at) entries))))
 
-pub told_with_frames : (cfg : Cfg) (tap : Bool) (told : List ℕ) (v : ShownWorld) (w next : World) (at : Role) (entries : List StationEntry) → tap ≡ true → FitsWorld cfg v next (gone_after tap w next)
-    → next.transcript ≡ w.transcript ++ entered at entries
-    → (told ++ sayings_text (map (enters_at at) entries)) ++ sayings_text (map taps v.tap) ≡ told ++ sayings_text (told_between tap w next)
-told_with_frames cfg true told v w next at entries on f is =
-    let frames = ap (drop (length w.tap)) f.tap ∙ drop-append_seam w.tap v.tap in
-    append_assoc told (sayings_text (map (enters_at at) entries)) (sayings_text (map taps v.tap))
+pub told_with_frames : (tap : Bool) (told : List ℕ) (w next : World) (at : Role) (entries : List StationEntry) (put : List (List ℕ)) → tap ≡ true
+    → next.transcript ≡ w.transcript ++ entered at entries → next.tap ≡ w.tap ++ tapped at put
+    → (told ++ sayings_text (map (enters_at at) entries)) ++ sayings_text (map taps (tapped at put)) ≡ told ++ sayings_text (told_between tap w next)
+told_with_frames true told w next at entries put on is behind =
+    let frames = ap (drop (length w.tap)) behind ∙ drop-append_seam w.tap (tapped at put) in
+    append_assoc told (sayings_text (map (enters_at at) entries)) (sayings_text (map taps (tapped at put)))
     ∙ ap (λ t. told ++ t) (ap (λ fs. sayings_text (map (enters_at at) entries) ++ sayings_text (map taps fs)) (sym frames) ∙ sym (told_by true w next at entries is))
-told_with_frames cfg false told v w next at entries on f is = cc
-
--- where frames aren't asked for none is held
-pub none_held : (cfg : Cfg) (tap : Bool) (v : ShownWorld) (w next : World) → tap ≡ false → FitsWorld cfg v next (gone_after tap w next) → FitsWorld cfg v next (all_of next)
-none_held cfg true v w next off f = absurd (cc)
-none_held cfg false v w next off f = f
+told_with_frames false told w next at entries put on is behind = cc
 
 -- of the first world, of which no entry tells
 first_told : (cfg : Cfg) (down : Bool) → (opening cfg down).transcript ≡ []
 first_told cfg true = refl
 first_told cfg false = connected_tells cfg
 
+-- .. and whose frames are on the line to the DCE
+first_put : (cfg : Cfg) (down : Bool) → (opening cfg down).tap ≡ tapped Dte (opening cfg down).out
+first_put cfg true = refl
+first_put cfg false = connected_taps cfg
+
 pub first_frames : (cfg : Cfg) (tap down : Bool) (told : List ℕ) (v : ShownWorld) → tap ≡ true → FitsWorld cfg v (opening cfg down) nothing_gone
-    → told ++ sayings_text (map taps v.tap) ≡ told ++ sayings_text (told_between tap start (opening cfg down))
-first_frames cfg true down told v on f = ap (λ t. told ++ t) (sym (told_by true start (opening cfg down) Dte [] (first_told cfg down) ∙ ap (λ fs. sayings_text (map taps fs)) f.tap))
+    → told ++ sayings_text (map taps (tapped Dte (drop 0 (line_from v Dte)))) ≡ told ++ sayings_text (told_between tap start (opening cfg down))
+first_frames cfg true down told v on f =
+    let frames = first_put cfg down ∙ ap (λ frames. tapped Dte frames) (sym f.to_dce) in
+    ap (λ t. told ++ t) (sym (told_by true start (opening cfg down) Dte [] (first_told cfg down) ∙ ap (λ fs. sayings_text (map taps fs)) frames))
 first_frames cfg false down told v on f = cc
 
 pub first_alone : (cfg : Cfg) (tap down : Bool) (told : List ℕ) → tap ≡ false → told ≡ told ++ sayings_text (told_between tap start (opening cfg down))

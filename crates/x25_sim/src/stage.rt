@@ -1,8 +1,9 @@
 //! Two stations, a line between them, and what is told of them.
-ghost use Rattle.std.specs.Prelude.{◌≡◌, ◌≢◌, ◌↔◌, IfErr, IfOk, IsTrue, OnOk, map};
+ghost use Rattle.std.specs.Prelude.{◌≡◌, ◌≢◌, ◌↔◌, IfErr, IfOk, IsTrue, OnOk, drop, length, map};
 ghost use Rattle.x25_station.specs.code.PlainEntry.{plain_entry};
 ghost use Rattle.x25_bits.specs.Role.{end_of, other};
-ghost use Rattle.x25_world.specs.code.FitsWorld.{FitsWorld, gone_after, nothing_gone};
+ghost use Rattle.x25_world.specs.code.FitsWorld.{FitsWorld, nothing_gone};
+ghost use Rattle.x25_world.specs.code.ShownWorld.{ShownWorld, line_from, line_of};
 ghost use Rattle.x25_sim.specs.code.Stands.{opening};
 
 use crate::telling::{tell_entries, tell_frames, tell_refusal};
@@ -61,7 +62,8 @@ fn unless_memory(error: WorldError) -> Result<(), Fault>
 
 /// The direction that leads away from an end.
 fn away_from(end: Role) -> Direction
-    ensures { end_of result ≡ other end }
+    ensures end { end_of result ≡ other end }
+    ensures line { (v : ShownWorld) → line_of v result ≡ line_from v end }
 {
     match end {
         Role::Dte => Direction::ToDce,
@@ -75,7 +77,7 @@ impl Stage {
     ghost use Rattle.x25_io.specs.code.MarksFaults.{MarksFaults};
     ghost use Rattle.x25_io.specs.code.Written.{AppendsPrefix, Tells, TellsMore};
     ghost use Rattle.x25_station.specs.declared.config.Cfg.{Cfg as Settings};
-    ghost use Rattle.x25_world.specs.World.{World as State, start, entered, Commands, WorldOutcome, event_of, refusal_of};
+    ghost use Rattle.x25_world.specs.World.{World as State, start, entered, tapped, Commands, WorldOutcome, event_of, refusal_of};
     ghost use Rattle.x25_world.specs.code.FitsWorld.{Gone, all_of};
     ghost use Rattle.x25_world.specs.Healing.{next_end};
     ghost use Rattle.x25_sim.specs.Telling.{taps, sayings_text};
@@ -107,27 +109,34 @@ impl Stage {
         })
     }
 
-    /// Tells the frames that the world holds, and lets go of them.
-    fn end_frames<W: Sink>(&mut self, writer: &mut W) -> Result<(), Fault>
-        ensures tells { TellsMore result (W.contents writer.old) (W.contents writer.new) self.old.output self.new.output (sayings_text (map taps self.old.world.tap)) }
-        ensures world { (cfg : Settings) (w : State) (gone : Gone) → FitsWorld cfg self.old.world w gone → OnOk result (FitsWorld cfg self.new.world w (all_of w)) }
+    /// Tells the frames on the line from an end that stand behind so many that were there before.
+    fn tell_put<W: Sink>(&mut self, at: Role, before: usize, writer: &mut W) -> Result<(), Fault>
+        ensures tells { TellsMore result (W.contents writer.old) (W.contents writer.new) self.old.output self.new.output (sayings_text (map taps (tapped at (drop before (line_from self.old.world at))))) }
+        ensures world { self.new.world ≡ self.old.world }
         ensures tap { self.new.tap ≡ self.old.tap }
         ensures is_refused { self.new.is_refused ≡ self.old.is_refused }
         ensures faults { MarksFaults W.Sink writer.old writer.new result }
     {
-        tell_frames(&mut self.line, self.world.tap(), &mut self.output, writer)?;
-        self.world.let_go();
-        Ok(())
+        let away = away_from(at);
+        tell_frames(
+            &mut self.line,
+            at,
+            &self.world,
+            away,
+            before,
+            &mut self.output,
+            writer,
+        )
     }
 
-    /// Tells the step of an end: its entries, and behind these its frames where they are asked for, of which it lets go.
+    /// Tells the step of an end: its entries, and behind these its frames where they are asked for, which stand on the line behind so many.
     #[inline(always)]
-    fn tell_step<W: Sink>(&mut self, at: Role, writer: &mut W) -> Result<(), Fault>
-        ensures tells { (cfg : Settings) (old : Option (List ℕ)) (told : List ℕ) (w next : State) → FitsWorld cfg self.old.world next (gone_after self.old.tap w next)
-            → next.transcript ≡ w.transcript ++ entered at (map plain_entry self.old.told.items)
+    fn tell_step<W: Sink>(&mut self, at: Role, before: usize, writer: &mut W) -> Result<(), Fault>
+        ensures tells { (old : Option (List ℕ)) (told : List ℕ) (w next : State) → next.transcript ≡ w.transcript ++ entered at (map plain_entry self.old.told.items)
+            → next.tap ≡ w.tap ++ tapped at (drop before (line_from self.old.world at))
             → Tells old (W.contents writer.old) self.old.output told → let sayings = told_between self.old.tap w next in
             MatchResult result (λ _. Tells old (W.contents writer.new) self.new.output (told ++ sayings_text sayings)) (λ _. AppendsPrefix old (W.contents writer.new) (told ++ sayings_text sayings)) }
-        ensures world { (cfg : Settings) (w next : State) → FitsWorld cfg self.old.world next (gone_after self.old.tap w next) → OnOk result (FitsWorld cfg self.new.world next (all_of next)) }
+        ensures world { self.new.world ≡ self.old.world }
         ensures tap { self.new.tap ≡ self.old.tap }
         ensures is_refused { self.new.is_refused ≡ self.old.is_refused }
         ensures faults { MarksFaults W.Sink writer.old writer.new result }
@@ -142,24 +151,35 @@ impl Stage {
         if !self.tap {
             return Ok(());
         }
-        self.end_frames(writer)
+        self.tell_put(at, before, writer)
     }
 
     /// .. and gives its entries back then.
     #[inline(always)]
-    fn end_step<W: Sink>(&mut self, at: Role, writer: &mut W) -> Result<(), Fault>
-        ensures tells { (cfg : Settings) (old : Option (List ℕ)) (told : List ℕ) (w next : State) → FitsWorld cfg self.old.world next (gone_after self.old.tap w next)
-            → next.transcript ≡ w.transcript ++ entered at (map plain_entry self.old.told.items)
+    fn end_step<W: Sink>(&mut self, at: Role, before: usize, writer: &mut W) -> Result<(), Fault>
+        ensures tells { (old : Option (List ℕ)) (told : List ℕ) (w next : State) → next.transcript ≡ w.transcript ++ entered at (map plain_entry self.old.told.items)
+            → next.tap ≡ w.tap ++ tapped at (drop before (line_from self.old.world at))
             → Tells old (W.contents writer.old) self.old.output told → let sayings = told_between self.old.tap w next in
             MatchResult result (λ _. Tells old (W.contents writer.new) self.new.output (told ++ sayings_text sayings)) (λ _. AppendsPrefix old (W.contents writer.new) (told ++ sayings_text sayings)) }
-        ensures world { (cfg : Settings) (w next : State) → FitsWorld cfg self.old.world next (gone_after self.old.tap w next) → OnOk result (FitsWorld cfg self.new.world next (all_of next)) }
+        ensures world { (cfg : Settings) (w : State) (gone : Gone) → FitsWorld cfg self.old.world w gone → OnOk result (FitsWorld cfg self.new.world w gone) }
         ensures tap { self.new.tap ≡ self.old.tap }
         ensures is_refused { self.new.is_refused ≡ self.old.is_refused }
         ensures faults { MarksFaults W.Sink writer.old writer.new result }
     {
-        self.tell_step(at, writer)?;
+        self.tell_step(at, before, writer)?;
         self.world.give_back(at, &mut self.told);
         Ok(())
+    }
+
+    /// How many frames are on the line from an end.
+    #[inline(always)]
+    fn sent(&self, end: Role) -> usize
+        ensures { result ≡ length (line_from self.now.world end) }
+    {
+        match end {
+            Role::Dte => self.world.on_line(Direction::ToDce),
+            Role::Dce => self.world.on_line(Direction::ToDte),
+        }
     }
 
     /// Tells that an event is refused; want of memory is a fault.
@@ -184,8 +204,10 @@ impl Stage {
             → Turns cfg tap old (W.contents writer.old) (W.contents writer.new) self.old self.new result (event_turn cfg tap (event_of event.entry)) }
         ensures faults { MarksFaults W.Sink writer.old writer.new result }
     {
-        match self.world.step(event, self.tap, &mut self.told) {
-            Ok(()) => self.end_step(event.at(), writer),
+        let at = event.at();
+        let before = self.sent(at);
+        match self.world.step(event, &mut self.told) {
+            Ok(()) => self.end_step(at, before, writer),
             Err(error) => self.refuse(error, writer),
         }
     }
@@ -231,10 +253,12 @@ impl Stage {
             → Turns cfg tap old (W.contents writer.old) (W.contents writer.new) self.old self.new result (tried cfg tap (event_of event.entry)) }
         ensures faults { MarksFaults W.Sink writer.old writer.new result }
     {
-        if let Err(error) = self.world.step(event, self.tap, &mut self.told) {
+        let at = event.at();
+        let before = self.sent(at);
+        if let Err(error) = self.world.step(event, &mut self.told) {
             return unless_memory(error);
         }
-        self.end_step(event.at(), writer)
+        self.end_step(at, before, writer)
     }
 
     /// Two events happen, each where it isn't refused.
@@ -453,7 +477,7 @@ impl Stage {
         }
     }
 
-    /// Tells the frames of the first world where they are asked for, and lets go of them.
+    /// Tells the frames of the first world where they are asked for, and the world lets go of them.
     fn begin<W: Sink>(&mut self, writer: &mut W) -> Result<(), Fault>
         ensures tells { (cfg : Settings) (down : Bool) (old : Option (List ℕ)) (told : List ℕ) → FitsWorld cfg self.old.world (opening cfg down) nothing_gone
             → Tells old (W.contents writer.old) self.old.output told → let sayings = told_between self.old.tap start (opening cfg down) in
@@ -464,7 +488,9 @@ impl Stage {
         ensures faults { MarksFaults W.Sink writer.old writer.new result }
     {
         if self.tap {
-            return self.end_frames(writer);
+            self.tell_put(Role::Dte, 0, writer)?;
+            self.world.let_go();
+            return Ok(());
         }
         self.world.let_go();
         Ok(())

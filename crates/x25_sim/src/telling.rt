@@ -1,11 +1,12 @@
 //! What is told of a step: a line for each entry, and for each frame where frames are asked for.
-ghost use Rattle.std.specs.Prelude.{◌≡◌, ◌≤◌, ◌+◌, ℕ, List, Option, IfSome, OnOk, MatchResult, length, map};
+ghost use Rattle.std.specs.Prelude.{◌≡◌, ◌≤◌, ◌+◌, ℕ, List, Option, IfSome, OnOk, MatchResult, drop, length, map};
 ghost use Rattle.x25_text.specs.declared.text.TheConstants.{ROOM};
 ghost use Rattle.x25_transcript.specs.declared.message_line.TheConstants.{SHORT_LINE};
 ghost use Rattle.x25_io.specs.code.MarksFaults.{MarksFaults};
 ghost use Rattle.x25_io.specs.code.Written.{AppendsPrefix, Tells, TellsMore};
 ghost use Rattle.x25_station.specs.code.PlainEntry.{plain_entry};
-ghost use Rattle.x25_world.specs.code.PlainTold.{plain_tapped};
+ghost use Rattle.x25_world.specs.World.{tapped};
+ghost use Rattle.x25_world.specs.code.ShownWorld.{line_of};
 ghost use Rattle.x25_console.specs.Telling.{refusal_line as line_of_refusal};
 ghost use Rattle.x25_sim.specs.Telling.{enters_at, taps, refusal_number as number_of_refusal, saying_line, sayings_text};
 
@@ -13,7 +14,7 @@ use x25_console::{tell, write_frame, write_refusal};
 use x25_io::{Fault, Output, Sink};
 use x25_station::Entry;
 use x25_transcript::{Line, SHORT_LINE, push_message, write_entry};
-use x25_world::{Role, Tapped, WorldError};
+use x25_world::{Direction, Role, World, WorldError};
 
 /// The number of a refusal, the station's own where the station refuses.
 #[inline(always)]
@@ -76,14 +77,15 @@ fn tell_entry<W: Sink>(
 #[tactic(auto, unfolding(crate::specs::Telling::saying_line))]
 fn tell_frame<W: Sink>(
     line: &mut Line,
-    frame: &Tapped,
+    from: Role,
+    octets: &[u8],
     output: &mut Output,
     writer: &mut W,
 ) -> Result<(), Fault>
-    ensures tells { TellsMore result (W.contents writer.old) (W.contents writer.new) output.old output.new (saying_line (taps (plain_tapped frame.now))) }
+    ensures tells { TellsMore result (W.contents writer.old) (W.contents writer.new) output.old output.new (saying_line (taps (record { from = from; octets = octets.now }))) }
     ensures faults { MarksFaults W.Sink writer.old writer.new result }
 {
-    write_frame(frame.from, frame.octets.as_slice(), line)?;
+    write_frame(from, octets, line)?;
     tell(line.as_slice(), output, writer)
 }
 
@@ -121,17 +123,23 @@ pub(crate) fn tell_entries<W: Sink>(
     tell_each(line, at, entries, output, writer)
 }
 
+/// Tells the frames on the line that an end put behind so many that were there before.
 pub(crate) fn tell_frames<W: Sink>(
     line: &mut Line,
-    frames: &[Tapped],
+    from: Role,
+    world: &World,
+    direction: Direction,
+    before: usize,
     output: &mut Output,
     writer: &mut W,
 ) -> Result<(), Fault>
-    ensures tells { TellsMore result (W.contents writer.old) (W.contents writer.new) output.old output.new (sayings_text (map taps (map plain_tapped frames.now))) }
+    ensures tells { TellsMore result (W.contents writer.old) (W.contents writer.new) output.old output.new (sayings_text (map taps (tapped from (drop before (line_of world.now direction))))) }
     ensures faults { MarksFaults W.Sink writer.old writer.new result }
 {
-    for frame in frames {
-        tell_frame(line, frame, output, writer)?;
+    for place in before..world.on_line(direction) {
+        if let Some(octets) = world.frame(direction, place) {
+            tell_frame(line, from, octets, output, writer)?;
+        }
     }
     Ok(())
 }

@@ -19,7 +19,7 @@ use Rattle.x25_station.specs.Entry.{StationEntry, link_up, entries_noted}
 use Rattle.x25_station.specs.Station.{Station, new_station}
 use Rattle.x25_station.specs.Step.{Step, follows, receives}
 use Rattle.x25_station.specs.laws.KeepLaw.{IsKept}
-use Rattle.x25_world.specs.World.{World, swapped, entered, after_step, delivered, after, Event, Receives, happens, refusal_of, AreAccepted, connected, established}
+use Rattle.x25_world.specs.World.{World, swapped, entered, tapped, after_step, delivered, after, Event, Receives, happens, refusal_of, AreAccepted, connected, established}
 use Rattle.x25_world.specs.laws.Claims.{link_of}
 use Rattle.x25_world.specs.laws.WindowGoes.{restart_of, two_links}
 use Rattle.x25_world.proofs.sessions.SessionTrace.{layer_of}
@@ -73,6 +73,10 @@ connected_is cfg = refl
 -- no transcript tells of it
 pub connected_tells : (cfg : Cfg) → (connected cfg).transcript ≡ []
 connected_tells cfg = ap (λ (w : World). w.transcript) (connected_is cfg)
+
+-- its tap is what is on the line
+pub connected_taps : (cfg : Cfg) → (connected cfg).tap ≡ tapped Dte (connected cfg).out
+connected_taps cfg = ap (λ (w : World). w.tap) (connected_is cfg) ∙ sym (ap (λ (w : World). tapped Dte w.out) (connected_is cfg))
 
 pub kept_new : IsKept new_station
 kept_new = record { few = omega arith; rests = λ off. refl }

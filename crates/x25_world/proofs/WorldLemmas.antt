@@ -1,29 +1,31 @@
 -- An end that acts, in its world: the other end is as it was. And lists of events, one more at a time.
-use Rattle.std.proofs.Common.{◌≡◌, IfOk, ℕ, ◌+◌, ◌<◌, ◌≤◌, nat_lt, ◌&&◌, Bool, true, false, if◌then◌else◌, List, [], ◌∷◌, ◌++◌, length, map, take, Option, Some, None, Result, Ok, Err, OnOk, OnErr, IfErr, ◌⊎◌, inl, inr, refl, ap, sym, ◌∙◌, subst, append_assoc, arith}
-use Rattle.std.specs.List.{take-map}
+use Rattle.std.proofs.Common.{◌≡◌, IfOk, ℕ, ◌+◌, ◌<◌, ◌≤◌, nat_lt, ◌&&◌, Bool, true, false, if◌then◌else◌, List, [], ◌∷◌, ◌++◌, length, map, drop, take, Option, Some, None, Result, Ok, Err, OnOk, OnErr, IfErr, ◌⊎◌, inl, inr, refl, ap, sym, ◌∙◌, subst, append_assoc, arith}
+use Rattle.std.specs.List.{take-map, remove}
 use Rattle.std.proofs.Math.ListN.{get_or}
 use Rattle.std.proofs.lemmas.Option.{slice_get-get_or}
-use Rattle.std.proofs.lemmas.List.{append-nil, take_more, map-append, take_all, length-map, get_or-map}
+use Rattle.std.proofs.Math.Seq.{drop-append_seam}
+use Rattle.std.proofs.lemmas.List.{append-nil, drop_all, take_more, map-append, take_all, length-map, get_or-map}
 use Rattle.x25_bits.specs.declared.role.Role.{Role}
 use Rattle.x25_bits.specs.declared.role.Role.TheVariants.{Dte, Dce}
+use Rattle.x25_frame.specs.Spelling.{spelling_of}
 use Rattle.x25_link.specs.Station.{awaits_ua}
-use Rattle.x25_line.specs.laws.Stations.{is_visible}
+use Rattle.x25_line.specs.laws.Stations.{is_visible, replaced}
 use Rattle.x25_station.specs.declared.config.Cfg.{Cfg}
 use Rattle.x25_station.specs.declared.error.StationError.{StationError}
 use Rattle.x25_station.specs.declared.station.Station as code
 use Rattle.x25_station.specs.code.FitsStation.{FitsStation}
 use Rattle.x25_station.specs.Config.{Settings, settings_from, config_refusal}
-use Rattle.x25_station.specs.Step.{Outcome, Did, Refused, commands, fires}
+use Rattle.x25_station.specs.Step.{Step, Outcome, Did, Refused, commands, fires, receives}
 use Rattle.x25_world.specs.declared.event.Event as code_event
 use Rattle.x25_world.specs.declared.error.WorldError.{WorldError}
 use Rattle.x25_world.specs.declared.error.WorldError.TheVariants as error
-use Rattle.x25_world.specs.World.{World, swapped, Event, Act, Commands, Receives, Fires, Loses, Damages, WorldOutcome, Happened, Declined, of_station, delivered, is_on_line, acts, swapped_back, event_of, AtEnd, happens, after, refusal_of, run, AreAccepted, connected, established, start}
+use Rattle.x25_world.specs.World.{World, swapped, Event, Act, Commands, Receives, Fires, Loses, Damages, WorldOutcome, Happened, Declined, after_step, of_station, delivered, on_line, is_on_line, acts, acts_at, tapped, swapped_back, event_of, AtEnd, happens, after, refusal_of, run, AreAccepted, connected, established, start}
 use Rattle.x25_world.specs.laws.Claims.{ActsInOctets, AreInOctets, entries_at, ups_in, IsUpOnce, IsUpAtMostOnce, IsBeginning, NoneConnects, SetsUpOnce, UpOnceUnlessConnected, Always, UntilSecondUp, HasNoProcedureError}
 use Rattle.x25_world.proofs.Established.{connected_tells}
 use Rattle.x25_world.specs.laws.SessionClaims.{Throughout, ThroughoutAlong, MeetInStep, AreLawfulWhereMet, AreNamedInSessions, AllArrive, UnmetAreToldNothing, OpenStretchesMeet, SessionsKeepOrder}
 use Rattle.x25_world.specs.laws.SessionWindow.{SessionsStayInWindow}
-use Rattle.x25_world.specs.code.ShownWorld.{ShownWorld, ShownSide, ShownParts}
-use Rattle.x25_world.specs.code.FitsWorld.{Gone, all_of, gone_after, nothing_gone, FitsWorld, FitsRun, Leaves, with_gone, and_then, FitsSide, FitsParts, HasHappened, IsRefusal, StopsAt, RefusesConfig}
+use Rattle.x25_world.specs.code.ShownWorld.{ShownWorld, ShownSide, ShownParts, line_from}
+use Rattle.x25_world.specs.code.FitsWorld.{Gone, all_of, nothing_gone, FitsWorld, FitsRun, Leaves, with_gone, and_then, FitsSide, FitsParts, HasHappened, IsRefusal, StopsAt, RefusesConfig}
 
 -- ---- the far end is as it was
 
@@ -50,6 +52,64 @@ acts_keep_far c w Fires = keeps_if w (awaits_ua w.near.link.phase && is_on_line 
 acts_keep_far c w (Loses place) = keeps_if w (nat_lt place (length w.back)) _ _ refl tt
 acts_keep_far c w (Damages place octets) = keeps_if w (nat_lt place (length w.back)) _ _ (keeps_if w (is_visible octets) _ _ refl tt) tt
 
+-- ---- what an end put on the line is the last there
+
+-- .. of the near end
+abbrev PutsLast : Role → World → World → Type 0
+PutsLast at w next = next.tap ≡ w.tap ++ tapped at (drop (length w.out) next.out)
+
+puts_none : (at : Role) (w next : World) → next.tap ≡ w.tap → next.out ≡ w.out → PutsLast at w next
+puts_none at w next tap out = tap ∙ sym (append-nil w.tap) ∙ ap (λ frames. w.tap ++ tapped at frames) (sym (ap (drop (length w.out)) out ∙ drop_all (length w.out) w.out (omega arith)))
+
+step_puts : (c : Settings) (w : World) (back : List (List ℕ)) (step : Step) → PutsLast c.role w (after_step c w back step)
+step_puts c w back step = ap (λ frames. w.tap ++ tapped c.role frames) (sym (drop-append_seam w.out (map (spelling_of c.role) step.out)))
+
+station_puts : (c : Settings) (w : World) (o : Outcome) → PutsLast c.role w (after w (of_station c w o))
+station_puts c w (Did step) = step_puts c w w.back step
+station_puts c w (Refused e) = puts_none c.role w w refl refl
+
+delivered_puts : (c : Settings) (w : World) (back : List (List ℕ)) → PutsLast c.role w (after w (delivered c w back))
+delivered_puts c w [] = puts_none c.role w w refl refl
+delivered_puts c w (octets ∷ back) = step_puts c w back (receives c w.near octets)
+
+puts_if : (at : Role) (w : World) (b : Bool) (u v : WorldOutcome) → PutsLast at w (after w u) → PutsLast at w (after w v) → PutsLast at w (after w (if b then u else v))
+puts_if at w true u v f g = f
+puts_if at w false u v f g = g
+
+acts_put : (c : Settings) (w : World) (a : Act) → PutsLast c.role w (after w (acts c w a))
+acts_put c w (Commands command) = station_puts c w (commands c w.near command)
+acts_put c w Receives = delivered_puts c w w.back
+acts_put c w Fires = puts_if c.role w (awaits_ua w.near.link.phase && is_on_line c w) _ _ (puts_none c.role w w refl refl) (station_puts c w (fires c w.near))
+acts_put c w (Loses place) = puts_if c.role w (nat_lt place (length w.back)) _ _ (puts_none c.role w (on_line w (remove w.back place)) refl refl) (puts_none c.role w w refl refl)
+acts_put c w (Damages place octets) =
+    puts_if c.role w (nat_lt place (length w.back)) _ _ (puts_if c.role w (is_visible octets) _ _ (puts_none c.role w (on_line w (replaced w.back place octets)) refl refl) (puts_none c.role w w refl refl)) (puts_none c.role w w refl refl)
+
+-- .. of both ends
+abbrev out_from : World → Role → List (List ℕ)
+out_from w Dte = w.out
+out_from w Dce = w.back
+
+event_puts : (cfg : Cfg) (w : World) (at : Role) (a : Act) → (let next = after w (acts_at cfg w at a) in next.tap ≡ w.tap ++ tapped at (drop (length (out_from w at)) (out_from next at)))
+event_puts cfg w Dte a = acts_put (settings_from Dte cfg) w a
+event_puts cfg w Dce a = go (acts (settings_from Dce cfg) (swapped w) a) (acts_put (settings_from Dce cfg) (swapped w) a)
+  where
+    go : (o : WorldOutcome) → PutsLast Dce (swapped w) (after (swapped w) o)
+        → (let next = after w (swapped_back o) in next.tap ≡ w.tap ++ tapped Dce (drop (length (out_from w Dce)) (out_from next Dce)))
+    go (Happened next) h = h
+    go (Declined e) h = h
+
+shown_from : (cfg : Cfg) (v : ShownWorld) (w : World) (gone : Gone) (at : Role) → FitsWorld cfg v w gone → line_from v at ≡ out_from w at
+shown_from cfg v w gone Dte f = f.to_dce
+shown_from cfg v w gone Dce f = f.to_dte
+
+-- .. where it was accepted
+pub put_last : (cfg : Cfg) (old new : ShownWorld) (w : World) (gone : Gone) (e : Event) (r : Result (Unit {0}) WorldError) → FitsWorld cfg old w gone
+    → (let next = after w (happens cfg w e) in OnOk r (FitsWorld cfg new next (all_of next)))
+    → OnOk r ((after w (happens cfg w e)).tap ≡ w.tap ++ tapped e.at (drop (length (line_from old e.at)) (line_from new e.at)))
+put_last cfg old new w gone e (Ok x) f g =
+    rw (shown_from cfg old w gone e.at f, shown_from cfg new (after w (happens cfg w e)) (all_of (after w (happens cfg w e))) e.at g) (event_puts cfg w e.at e.act)
+put_last cfg old new w gone e (Err error) f g = tt
+
 -- ---- the parts of a world
 
 abbrev pub world_with : ShownParts → ShownWorld
@@ -59,31 +119,28 @@ pub world_of : (cfg : Cfg) (v : ShownParts) (w : World) (gone : Gone) → FitsPa
 world_of cfg v w gone f = record { dte = f.dte; dce = f.dce; to_dce = f.to_dce; to_dte = f.to_dte; tap = f.tap; transcript = f.transcript }
 
 -- where nothing is held of what was told before
-pub new_parts : (cfg : Cfg) (taps : Bool) (v : ShownParts) (w : World) → v.line.tap ≡ [] → FitsWorld cfg (world_with v) w (all_of w) → FitsParts cfg taps v w (all_of w)
-new_parts cfg true v w empty f = record { dte = f.dte; dce = f.dce; to_dce = f.to_dce; to_dte = f.to_dte; tap = f.tap; transcript = f.transcript }
-new_parts cfg false v w empty f = record { dte = f.dte; dce = f.dce; to_dce = f.to_dce; to_dte = f.to_dte; tap = empty; transcript = f.transcript }
+pub new_parts : (cfg : Cfg) (v : ShownParts) (w : World) → v.line.tap ≡ [] → FitsWorld cfg (world_with v) w (all_of w) → FitsParts cfg false v w (all_of w)
+new_parts cfg v w empty f = record { dte = f.dte; dce = f.dce; to_dce = f.to_dce; to_dte = f.to_dte; tap = empty; transcript = f.transcript }
 
 -- .. and what is told is handed over
-pub handed_over : (cfg : Cfg) (taps : Bool) (v : ShownParts) (before told : List AtEnd) (w next : World) → before ≡ [] → FitsParts cfg taps (record { dte = v.dte; dce = v.dce; line = v.line; transcript = before ++ told }) next (all_of w)
-    → FitsWorld cfg (world_with (record { dte = v.dte; dce = v.dce; line = v.line; transcript = before })) next (gone_after taps w next)
-handed_over cfg true v before told w next none f = record { dte = f.dte; dce = f.dce; to_dce = f.to_dce; to_dte = f.to_dte; tap = f.tap; transcript = rw none (sym (append-nil next.transcript)) }
-handed_over cfg false v before told w next none f = record { dte = f.dte; dce = f.dce; to_dce = f.to_dce; to_dte = f.to_dte; tap = rw f.tap (sym (append-nil next.tap)); transcript = rw none (sym (append-nil next.transcript)) }
+handed_over : (cfg : Cfg) (v : ShownParts) (before told : List AtEnd) (w next : World) → before ≡ [] → FitsParts cfg false (record { dte = v.dte; dce = v.dce; line = v.line; transcript = before ++ told }) next (all_of w)
+    → FitsWorld cfg (world_with (record { dte = v.dte; dce = v.dce; line = v.line; transcript = before })) next (all_of next)
+handed_over cfg v before told w next none f = record { dte = f.dte; dce = f.dce; to_dce = f.to_dce; to_dte = f.to_dte; tap = rw f.tap (sym (append-nil next.tap)); transcript = rw none (sym (append-nil next.transcript)) }
 
-pub hands_over : (cfg : Cfg) (taps : Bool) (v : ShownParts) (before told : List AtEnd) (w next : World) (r : Result (Unit {0}) WorldError) → before ≡ []
-    → OnOk r (FitsParts cfg taps (record { dte = v.dte; dce = v.dce; line = v.line; transcript = before ++ told }) next (all_of w))
-    → OnOk r (FitsWorld cfg (world_with (record { dte = v.dte; dce = v.dce; line = v.line; transcript = before })) next (gone_after taps w next))
-hands_over cfg taps v before told w next (Ok x) none f = handed_over cfg taps v before told w next none f
-hands_over cfg taps v before told w next (Err e) none f = tt
+pub hands_over : (cfg : Cfg) (v : ShownParts) (before told : List AtEnd) (w next : World) (r : Result (Unit {0}) WorldError) → before ≡ []
+    → OnOk r (FitsParts cfg false (record { dte = v.dte; dce = v.dce; line = v.line; transcript = before ++ told }) next (all_of w))
+    → OnOk r (FitsWorld cfg (world_with (record { dte = v.dte; dce = v.dce; line = v.line; transcript = before })) next (all_of next))
+hands_over cfg v before told w next (Ok x) none f = handed_over cfg v before told w next none f
+hands_over cfg v before told w next (Err e) none f = tt
 
-pub hands_told : (cfg : Cfg) (taps : Bool) (v : ShownParts) (before told : List AtEnd) (w next : World) (r : Result (Unit {0}) WorldError) → before ≡ []
-    → OnOk r (FitsParts cfg taps (record { dte = v.dte; dce = v.dce; line = v.line; transcript = before ++ told }) next (all_of w)) → OnOk r (next.transcript ≡ w.transcript ++ told)
-hands_told cfg taps v before told w next (Ok x) none f = f.transcript ∙ ap (λ l. w.transcript ++ (l ++ told)) none
-hands_told cfg taps v before told w next (Err e) none f = tt
+pub hands_told : (cfg : Cfg) (v : ShownParts) (before told : List AtEnd) (w next : World) (r : Result (Unit {0}) WorldError) → before ≡ []
+    → OnOk r (FitsParts cfg false (record { dte = v.dte; dce = v.dce; line = v.line; transcript = before ++ told }) next (all_of w)) → OnOk r (next.transcript ≡ w.transcript ++ told)
+hands_told cfg v before told w next (Ok x) none f = f.transcript ∙ ap (λ l. w.transcript ++ (l ++ told)) none
+hands_told cfg v before told w next (Err e) none f = tt
 
-pub world_stays : (cfg : Cfg) (taps : Bool) (v : ShownParts) (w : World) (r : Result (Unit {0}) WorldError) → OnErr r (FitsParts cfg taps v w (all_of w)) → OnErr r (FitsWorld cfg (world_with v) w (all_of w))
-world_stays cfg taps v w (Ok x) f = tt
-world_stays cfg true v w (Err e) f = world_of cfg v w (all_of w) f
-world_stays cfg false v w (Err e) f = record { dte = f.dte; dce = f.dce; to_dce = f.to_dce; to_dte = f.to_dte; tap = rw f.tap (sym (append-nil w.tap)); transcript = f.transcript }
+pub world_stays : (cfg : Cfg) (v : ShownParts) (w : World) (r : Result (Unit {0}) WorldError) → OnErr r (FitsParts cfg false v w (all_of w)) → OnErr r (FitsWorld cfg (world_with v) w (all_of w))
+world_stays cfg v w (Ok x) f = tt
+world_stays cfg v w (Err e) f = record { dte = f.dte; dce = f.dce; to_dce = f.to_dce; to_dte = f.to_dte; tap = rw f.tap (sym (append-nil w.tap)); transcript = f.transcript }
 
 -- ---- the DTE
 

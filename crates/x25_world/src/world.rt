@@ -1,4 +1,4 @@
-ghost use Rattle.std.specs.Prelude.{◌≡◌, List, [], ◌++◌, length, map, slice_get, OnOk, OnErr, IfOk, IfErr, IfSome, IsErrOf};
+ghost use Rattle.std.specs.Prelude.{◌≡◌, List, [], ◌++◌, drop, length, map, option_copied, slice_get, OnOk, OnErr, IfOk, IfErr, IfSome, IsErrOf};
 ghost use Rattle.x25_station.specs.declared.config.Cfg.{Cfg};
 ghost use Rattle.x25_station.specs.code.FitsStation.{FitsStation};
 ghost use Rattle.x25_station.specs.code.PlainEntry.{plain_entry};
@@ -7,14 +7,14 @@ ghost use Rattle.x25_station.specs.Station as station;
 ghost use Rattle.x25_bits.specs.HarmlessBits.{IsHarmless};
 ghost use Rattle.x25_world.specs.BitDamage.{bit_damage, RefusesBits};
 ghost use Rattle.x25_world.specs.code.PlainTold.{plain_tapped, plain_entered};
-ghost use Rattle.x25_world.specs.code.ShownWorld.{line_of, station_of};
-ghost use Rattle.x25_world.specs.code.FitsWorld.{Gone, all_of, gone_after, nothing_gone, FitsWorld, FitsRun, Leaves, and_then, and_all, HoldsAfter, HoldsAfterSetUp, HoldsThroughout, GoesOnThroughout, UpOnceAfter, IsRefusal, TakesMemory, StopsAt, RefusesConfig};
+ghost use Rattle.x25_world.specs.code.ShownWorld.{line_from, line_of, station_of};
+ghost use Rattle.x25_world.specs.code.FitsWorld.{Gone, all_of, nothing_gone, FitsWorld, FitsRun, Leaves, and_then, and_all, HoldsAfter, HoldsAfterSetUp, HoldsThroughout, GoesOnThroughout, UpOnceAfter, IsRefusal, TakesMemory, StopsAt, RefusesConfig};
 ghost use Rattle.x25_world.specs.laws.Claims.{IsLawful, IsNamed, ArrivesAll, HasNoProcedureError, IsUpOnce};
 ghost use Rattle.x25_world.specs.laws.WindowGoes.{StaysInWindow};
 ghost use Rattle.x25_world.specs.laws.SessionClaims.{SessionsKeepOrder};
 ghost use Rattle.x25_world.specs.laws.SessionWindow.{SessionsStayInWindow};
 ghost use Rattle.x25_world.specs.World as definition;
-ghost use Rattle.x25_world.specs.World.{entered, event_of, happens, after, refusal_of, run, AreAccepted, start, connected, established};
+ghost use Rattle.x25_world.specs.World.{entered, tapped, event_of, happens, after, refusal_of, run, AreAccepted, start, connected, established};
 
 use crate::acting::{act_at_end, connect, enter, make_room_to_enter};
 use crate::bit_damage::octets_of_damage;
@@ -298,20 +298,17 @@ impl World {
     }
 
     /// Lets go of what was told, as `let_go` does, and then lets the event happen, as `apply` does; but the entries that it tells come into the list, in
-    /// place of what was there and of the transcript, and its frames are held on the tap with `taps` alone.
+    /// place of what was there and of the transcript, and no tap holds its frames: on the line from its end they stand behind those that were there.
     ///
     /// Refused as by `apply`; only what was told is let go of then.
     #[inline(always)]
-    pub fn step(
-        &mut self,
-        event: Event,
-        taps: bool,
-        told: &mut Vec<Entry>,
-    ) -> Result<(), WorldError>
+    pub fn step(&mut self, event: Event, told: &mut Vec<Entry>) -> Result<(), WorldError>
         ensures step { (cfg : Cfg) (w : definition.World) (gone : Gone) → FitsWorld cfg self.old w gone →
-            (let next = after w (happens cfg w (event_of event.entry)) in OnOk result (FitsWorld cfg self.new next (gone_after taps w next))) }
+            (let next = after w (happens cfg w (event_of event.entry)) in OnOk result (FitsWorld cfg self.new next (all_of next))) }
         ensures told { (cfg : Cfg) (w : definition.World) (gone : Gone) → FitsWorld cfg self.old w gone →
             OnOk result ((after w (happens cfg w (event_of event.entry))).transcript ≡ w.transcript ++ entered (event_of event.entry).at (map plain_entry told.new.items)) }
+        ensures put { (cfg : Cfg) (w : definition.World) (gone : Gone) → FitsWorld cfg self.old w gone →
+            (let at = (event_of event.entry).at in OnOk result ((after w (happens cfg w (event_of event.entry))).tap ≡ w.tap ++ tapped at (drop (length (line_from self.old at)) (line_from self.new at)))) }
         ensures accepted { (cfg : Cfg) (w : definition.World) (gone : Gone) → FitsWorld cfg self.old w gone → OnOk result (refusal_of (happens cfg w (event_of event.entry)) ≡ None) }
         ensures refused { (cfg : Cfg) (w : definition.World) (gone : Gone) → FitsWorld cfg self.old w gone → IfErr result (IsRefusal cfg w (event_of event.entry)) }
         ensures stays { (cfg : Cfg) (w : definition.World) (gone : Gone) → FitsWorld cfg self.old w gone → OnErr result (FitsWorld cfg self.new w (all_of w)) }
@@ -319,22 +316,17 @@ impl World {
     {
         self.let_go();
         empty(told);
-        self.happen_untold(event, taps, told)
+        self.happen_untold(event, told)
     }
 
     // The event happens where nothing is held of what was told before, and what it tells comes into the list, which is empty before.
     #[inline(always)]
-    fn happen_untold(
-        &mut self,
-        event: Event,
-        taps: bool,
-        told: &mut Vec<Entry>,
-    ) -> Result<(), WorldError>
+    fn happen_untold(&mut self, event: Event, told: &mut Vec<Entry>) -> Result<(), WorldError>
         requires empty { told.old.items ≡ [] }
         requires untapped { self.old.tap ≡ [] }
         requires untold { self.old.transcript ≡ [] }
         ensures step { (cfg : Cfg) (w : definition.World) → FitsWorld cfg self.old w (all_of w) →
-            (let next = after w (happens cfg w (event_of event.entry)) in OnOk result (FitsWorld cfg self.new next (gone_after taps w next))) }
+            (let next = after w (happens cfg w (event_of event.entry)) in OnOk result (FitsWorld cfg self.new next (all_of next))) }
         ensures told { (cfg : Cfg) (w : definition.World) → FitsWorld cfg self.old w (all_of w) →
             OnOk result ((after w (happens cfg w (event_of event.entry))).transcript ≡ w.transcript ++ entered (event_of event.entry).at (map plain_entry told.new.items)) }
         ensures accepted { (cfg : Cfg) (w : definition.World) → FitsWorld cfg self.old w (all_of w) → OnOk result (refusal_of (happens cfg w (event_of event.entry)) ≡ None) }
@@ -347,7 +339,7 @@ impl World {
             &mut self.dte,
             &mut self.dce,
             &mut self.line,
-            taps,
+            false,
             told,
             &mut self.frames,
             event,
@@ -438,6 +430,13 @@ impl World {
         ensures { result ≡ length (line_of self.now direction) }
     {
         self.line.len(direction.end())
+    }
+
+    /// The octets of the frame at this place on the line in this direction, 0 at the front, as they lie there.
+    pub fn frame(&self, direction: Direction, place: usize) -> Option<&[u8]>
+        ensures { option_copied result ≡ slice_get (line_of self.now direction) place }
+    {
+        self.line.get(direction.end(), place)
     }
 
     /// Lets go of what was told: tap and transcript begin anew. The line and the stations are as before.

@@ -39,14 +39,9 @@ pub fn apply(world: &mut World, event: Event) -> Result<(), WorldError> {
     world.apply(event)
 }
 
-/// The event happens; its entries come into the list, and its frames onto the tap with `taps` alone.
-pub fn step(
-    world: &mut World,
-    event: Event,
-    taps: bool,
-    told: &mut Vec<Entry>,
-) -> Result<(), WorldError> {
-    world.step(event, taps, told)
+/// The event happens, and its entries come into the list.
+pub fn step(world: &mut World, event: Event, told: &mut Vec<Entry>) -> Result<(), WorldError> {
+    world.step(event, told)
 }
 
 /// Entries of a step of an end that were read are given back.
@@ -77,6 +72,11 @@ pub fn on_line(world: &World) -> (usize, usize) {
     let to_dce = world.on_line(Direction::ToDce);
     let to_dte = world.on_line(Direction::ToDte);
     (to_dce, to_dte)
+}
+
+/// The frame at this place on the line in this direction.
+pub fn frame(world: &World, direction: Direction, place: usize) -> Option<&[u8]> {
+    world.frame(direction, place)
 }
 
 /// Whether timer T1 runs at this end.

@@ -1,6 +1,6 @@
 //! Steps, whose entries the caller takes and gives back, beside the same events applied.
 
-use crate::calls::{apply, establish, give_back, number_of, on_line, step};
+use crate::calls::{apply, establish, frame, give_back, number_of, on_line, step};
 use crate::play::USUAL;
 use std::alloc::Global;
 use std::process::Abort;
@@ -10,7 +10,7 @@ use x25_transcript::entry_line;
 use x25_world::Direction::{ToDce, ToDte};
 use x25_world::Event::{Command, Deliver, Lose, T1};
 use x25_world::Role::{Dce, Dte};
-use x25_world::{Event, World, WorldError};
+use x25_world::{Event, Role, World, WorldError};
 
 const CALLS: Event = Command(
     Dte,
@@ -71,18 +71,40 @@ fn same_lines(rt: &impl Abort, alloc: Global, world: &World, told: &[Entry]) -> 
     Ok(())
 }
 
-fn plays(rt: &impl Abort, alloc: Global, taps: bool) -> Result<(), Fail> {
+// What the event put on the tap of the one world is the last on the line of the other, behind so many frames that were there.
+fn same_frames(
+    rt: &impl Abort,
+    applied: &World,
+    stepped: &World,
+    at: Role,
+    before: (usize, usize),
+) -> Result<(), Fail> {
+    let now = on_line(stepped);
+    let (away, places) = match at {
+        Dte => (ToDce, before.0..now.0),
+        Dce => (ToDte, before.1..now.1),
+    };
+    assert_eq!(rt; places.len(), applied.tap().len());
+    for (place, tapped) in places.zip(applied.tap().iter()) {
+        assert_eq!(rt; tapped.from, at);
+        assert_eq!(rt; frame(stepped, away, place), Some(tapped.octets.as_slice()));
+    }
+    Ok(())
+}
+
+fn plays(rt: &impl Abort, alloc: Global) -> Result<(), Fail> {
     let mut applied = establish(alloc, USUAL)?;
     let mut stepped = establish(alloc, USUAL)?;
     let mut told = Vec::new(alloc);
     for event in &EVENTS {
         applied.let_go();
+        let before = on_line(&stepped);
         let wanted = refused(apply(&mut applied, *event));
-        let answered = refused(step(&mut stepped, *event, taps, &mut told));
+        let answered = refused(step(&mut stepped, *event, &mut told));
         assert_eq!(rt; answered, wanted);
         same_lines(rt, alloc, &applied, &told)?;
-        let held = if taps { applied.tap().len() } else { 0 };
-        assert_eq!(rt; stepped.tap().len(), held);
+        same_frames(rt, &applied, &stepped, event.at(), before)?;
+        assert_eq!(rt; stepped.tap().len(), 0);
         assert_eq!(rt; on_line(&stepped), on_line(&applied));
         give_back(&mut stepped, event.at(), &mut told);
         assert_eq!(rt; told.is_empty(), true);
@@ -92,6 +114,5 @@ fn plays(rt: &impl Abort, alloc: Global, taps: bool) -> Result<(), Fail> {
 
 #[test]
 fn a_step_hands_over_what_an_event_tells(rt: HostRuntime) -> Result<(), Fail> {
-    plays(&rt, rt.alloc(), false)?;
-    plays(&rt, rt.alloc(), true)
+    plays(&rt, rt.alloc())
 }

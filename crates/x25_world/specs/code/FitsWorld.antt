@@ -49,11 +49,6 @@ abbrev pub most_told : Act → ℕ
 most_told (Loses place) = 0
 most_told act = 3
 
--- what was let go of behind a step whose entries were handed over, and whose frames are held with `taps` alone
-abbrev pub gone_after : Bool → World → World → Gone
-gone_after true w next = record { tap = w.tap; transcript = next.transcript }
-gone_after false w next = all_of next
-
 -- the events before the one that was refused were accepted and have happened
 pub record StopsAt (cfg : Cfg) (events : List Event) (w : World) (gone : Gone) (v : ShownWorld) (refused : WorldRefused) : Type 0 where
   pub accepted : AreAccepted cfg (take refused.index events) w

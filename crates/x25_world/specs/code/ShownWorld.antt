@@ -21,6 +21,11 @@ abbrev pub line_of : ShownWorld → Direction → List (List ℕ)
 line_of v ToDce = v.to_dce
 line_of v ToDte = v.to_dte
 
+-- .. and from an end
+abbrev pub line_from : ShownWorld → Role → List (List ℕ)
+line_from v Dte = v.to_dce
+line_from v Dce = v.to_dte
+
 abbrev pub station_of : ShownWorld → Role → Station
 station_of v Dte = v.dte
 station_of v Dce = v.dce

@@ -1,5 +1,4 @@
 use Rattle.std.proofs.Common.{sym}
-use Rattle.x25_station.specs.Config.{settings_from}
 use Rattle.x25_world.proofs.SideLemmas.{shared_of, has_happened, is_refusal, side_stays}
 use Rattle.x25_world.proofs.acting.connect.Goals as goal
 

@@ -13,9 +13,11 @@ returns-clause-turns g c = λ cfg tap old w told refused h.
     let o = happens cfg w (event_of c.args.event) in
     let fits = c.in_default.ensures.step cfg w (all_of w) h.fits in
     let entries = c.in_default.ensures.told cfg w (all_of w) h.fits in
+    let put = c.in_default.ensures.put cfg w (all_of w) h.fits in
     let accepted = c.in_default.ensures.accepted cfg w (all_of w) h.fits in
     MatchResult-weaker c.end_step.result
-    (with_ok c.end_step.result _ _ _ (c.end_step.ensures.tells cfg old told w (after w o) fits (rw c.at.ensures entries) h.tells) (c.end_step.ensures.world cfg w (after w o) fits))
+    (with_ok c.end_step.result _ _ _ (c.end_step.ensures.tells old told w (after w o) (rw c.at-at.ensures entries) (rw (c.sent-before.ensures, c.at-at.ensures) put) h.tells)
+    (c.end_step.ensures.world cfg (after w o) (all_of (after w o)) fits))
     (λ _ told_all. stands_tried cfg tap old _ _ c.args.self.now c.end_step.new.self w o told refused h accepted told_all.1 c.end_step.ensures.tap c.end_step.ensures.is_refused told_all.0)
     (λ _ begins. begins_tried cfg tap old _ _ c.args.self.now c.end_step.new.self w o told refused h accepted begins)
 

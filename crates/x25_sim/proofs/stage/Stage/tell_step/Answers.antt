@@ -1,32 +1,27 @@
-use Rattle.std.proofs.Common.{map, subst}
+use Rattle.std.proofs.Common.{drop, map, subst}
 use Rattle.std.proofs.lemmas.Result.{err_from_is_err_and, MatchResult-weaker}
 use Rattle.x25_io.specs.code.Written.{AppendsPrefix, Tells}
 use Rattle.x25_io.proofs.ToldLemmas.{part_of_all}
 use Rattle.x25_station.specs.code.PlainEntry.{plain_entry}
-use Rattle.x25_sim.proofs.StepLemmas.{told_by, told_alone, told_with_frames, none_held}
+use Rattle.x25_world.specs.code.ShownWorld.{line_from}
+use Rattle.x25_sim.proofs.StepLemmas.{told_by, told_alone, told_with_frames}
 use Rattle.x25_sim.proofs.stage.Stage.tell_step.Goals as goal
 
 pub returns-in_err-tell_entries-clause-tells : goal.returns-in_err-tell_entries-clause-tells
-returns-in_err-tell_entries-clause-tells g c = λ cfg old told w next f is h.
+returns-in_err-tell_entries-clause-tells g c = λ old told w next is put h.
     let p = err_from_is_err_and c.from_residual.result c.from_residual.ensures.1 in
     let s = c.args.self.now in
     rw p.1 (part_of_all old _ told _ _ _ (told_by s.tap w next c.args.at (map plain_entry s.told.items) is) (rw c.as_slice.ensures.value at (c.in_err-tell_entries.ensures.tells old told h)))
 
 pub returns-then-not-self-clause-tells : goal.returns-then-not-self-clause-tells
-returns-then-not-self-clause-tells g c = λ cfg old told w next f is h.
+returns-then-not-self-clause-tells g c = λ old told w next is put h.
     let s = c.args.self.now in
     subst (Tells old (g.W.Sink.contents c.tell_entries.new.writer) c.tell_entries.new.output) (told_alone s.tap told w next c.args.at (map plain_entry s.told.items) c.if-not-self.true is) (rw c.as_slice.ensures.value at (c.in_ok-tell_entries.ensures.tells old told h))
 
-pub returns-then-not-self-clause-world : goal.returns-then-not-self-clause-world
-returns-then-not-self-clause-world g c = λ cfg w next f. none_held cfg c.args.self.now.tap c.args.self.now.world w next c.if-not-self.true f
-
 pub returns-clause-tells : goal.returns-clause-tells
-returns-clause-tells g c = λ cfg old told w next f is h.
+returns-clause-tells g c = λ old told w next is put h.
     let s = c.args.self.now in
-    let both = told_with_frames cfg s.tap told s.world w next c.args.at (map plain_entry s.told.items) c.if-not-self.false f is in
-    MatchResult-weaker c.end_frames.result (c.end_frames.ensures.tells old _ (rw c.as_slice.ensures.value at (c.in_ok-tell_entries.ensures.tells old told h)))
-    (λ _ tells. subst (Tells old (g.W.Sink.contents c.end_frames.new.writer) c.end_frames.new.self.output) both tells)
-    (λ _ begins. subst (AppendsPrefix old (g.W.Sink.contents c.end_frames.new.writer)) both begins)
-
-pub returns-clause-world : goal.returns-clause-world
-returns-clause-world g c = λ cfg w next f. c.end_frames.ensures.world cfg next _ f
+    let both = told_with_frames s.tap told w next c.args.at (map plain_entry s.told.items) (drop c.args.before (line_from s.world c.args.at)) c.if-not-self.false is put in
+    MatchResult-weaker c.tell_put.result (c.tell_put.ensures.tells old _ (rw c.as_slice.ensures.value at (c.in_ok-tell_entries.ensures.tells old told h)))
+    (λ _ tells. subst (Tells old (g.W.Sink.contents c.tell_put.new.writer) c.tell_put.new.self.output) both tells)
+    (λ _ begins. subst (AppendsPrefix old (g.W.Sink.contents c.tell_put.new.writer)) both begins)

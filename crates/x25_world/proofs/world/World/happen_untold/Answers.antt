@@ -11,9 +11,9 @@ returns-clause-step c = λ cfg w fits.
     let empty : c.self.inside.line.tap ≡ [] = rw (← c.self.view_is) at c.requires.untapped in
     let none : map plain_entered c.self.inside.transcript.items ≡ [] = rw (← c.self.view_is) at c.requires.untold in
     let before = map plain_entered c.self.inside.transcript.items in
-    let parts = new_parts cfg c.args.taps (record { dte = c.self.inside.dte; dce = c.self.inside.dce; line = c.self.inside.line; transcript = before }) w empty inside in
+    let parts = new_parts cfg (record { dte = c.self.inside.dte; dce = c.self.inside.dce; line = c.self.inside.line; transcript = before }) w empty inside in
     let h = c.act_at_end.ensures.acted cfg w (all_of w) before parts in
-    hands_over cfg c.args.taps (record { dte = c.act_at_end.new.dte; dce = c.act_at_end.new.dce; line = c.act_at_end.new.line; transcript = before }) before _ w _ c.act_at_end.result none h.happened
+    hands_over cfg (record { dte = c.act_at_end.new.dte; dce = c.act_at_end.new.dce; line = c.act_at_end.new.line; transcript = before }) before _ w _ c.act_at_end.result none h.happened
 
 pub returns-clause-told : goal.returns-clause-told
 returns-clause-told c = λ cfg w fits.
@@ -21,9 +21,9 @@ returns-clause-told c = λ cfg w fits.
     let empty : c.self.inside.line.tap ≡ [] = rw (← c.self.view_is) at c.requires.untapped in
     let none : map plain_entered c.self.inside.transcript.items ≡ [] = rw (← c.self.view_is) at c.requires.untold in
     let before = map plain_entered c.self.inside.transcript.items in
-    let parts = new_parts cfg c.args.taps (record { dte = c.self.inside.dte; dce = c.self.inside.dce; line = c.self.inside.line; transcript = before }) w empty inside in
+    let parts = new_parts cfg (record { dte = c.self.inside.dte; dce = c.self.inside.dce; line = c.self.inside.line; transcript = before }) w empty inside in
     let h = c.act_at_end.ensures.acted cfg w (all_of w) before parts in
-    hands_told cfg c.args.taps (record { dte = c.act_at_end.new.dte; dce = c.act_at_end.new.dce; line = c.act_at_end.new.line; transcript = before }) before _ w _ c.act_at_end.result none h.happened
+    hands_told cfg (record { dte = c.act_at_end.new.dte; dce = c.act_at_end.new.dce; line = c.act_at_end.new.line; transcript = before }) before _ w _ c.act_at_end.result none h.happened
 
 pub returns-clause-accepted : goal.returns-clause-accepted
 returns-clause-accepted c = λ cfg w fits.
@@ -31,7 +31,7 @@ returns-clause-accepted c = λ cfg w fits.
     let empty : c.self.inside.line.tap ≡ [] = rw (← c.self.view_is) at c.requires.untapped in
     let none : map plain_entered c.self.inside.transcript.items ≡ [] = rw (← c.self.view_is) at c.requires.untold in
     let before = map plain_entered c.self.inside.transcript.items in
-    let parts = new_parts cfg c.args.taps (record { dte = c.self.inside.dte; dce = c.self.inside.dce; line = c.self.inside.line; transcript = before }) w empty inside in
+    let parts = new_parts cfg (record { dte = c.self.inside.dte; dce = c.self.inside.dce; line = c.self.inside.line; transcript = before }) w empty inside in
     let h = c.act_at_end.ensures.acted cfg w (all_of w) before parts in
     h.accepted
 
@@ -41,7 +41,7 @@ returns-clause-refused c = λ cfg w fits.
     let empty : c.self.inside.line.tap ≡ [] = rw (← c.self.view_is) at c.requires.untapped in
     let none : map plain_entered c.self.inside.transcript.items ≡ [] = rw (← c.self.view_is) at c.requires.untold in
     let before = map plain_entered c.self.inside.transcript.items in
-    let parts = new_parts cfg c.args.taps (record { dte = c.self.inside.dte; dce = c.self.inside.dce; line = c.self.inside.line; transcript = before }) w empty inside in
+    let parts = new_parts cfg (record { dte = c.self.inside.dte; dce = c.self.inside.dce; line = c.self.inside.line; transcript = before }) w empty inside in
     let h = c.act_at_end.ensures.acted cfg w (all_of w) before parts in
     h.refused
 
@@ -51,6 +51,6 @@ returns-clause-stays c = λ cfg w fits.
     let empty : c.self.inside.line.tap ≡ [] = rw (← c.self.view_is) at c.requires.untapped in
     let none : map plain_entered c.self.inside.transcript.items ≡ [] = rw (← c.self.view_is) at c.requires.untold in
     let before = map plain_entered c.self.inside.transcript.items in
-    let parts = new_parts cfg c.args.taps (record { dte = c.self.inside.dte; dce = c.self.inside.dce; line = c.self.inside.line; transcript = before }) w empty inside in
+    let parts = new_parts cfg (record { dte = c.self.inside.dte; dce = c.self.inside.dce; line = c.self.inside.line; transcript = before }) w empty inside in
     let h = c.act_at_end.ensures.acted cfg w (all_of w) before parts in
-    world_stays cfg c.args.taps (record { dte = c.act_at_end.new.dte; dce = c.act_at_end.new.dce; line = c.act_at_end.new.line; transcript = before }) w c.act_at_end.result h.stays
+    world_stays cfg (record { dte = c.act_at_end.new.dte; dce = c.act_at_end.new.dce; line = c.act_at_end.new.line; transcript = before }) w c.act_at_end.result h.stays

@@ -1,3 +1,4 @@
+use Rattle.x25_world.proofs.WorldLemmas.{put_last}
 use Rattle.x25_world.proofs.world.World.step.Goals as goal
 
 pub returns-clause-step : goal.returns-clause-step
@@ -5,6 +6,10 @@ returns-clause-step c = λ cfg w gone fits. c.happen_untold.ensures.step cfg w (
 
 pub returns-clause-told : goal.returns-clause-told
 returns-clause-told c = λ cfg w gone fits. c.happen_untold.ensures.told cfg w (c.let_go.ensures.fits cfg w gone fits)
+
+pub returns-clause-put : goal.returns-clause-put
+returns-clause-put c = λ cfg w gone fits.
+    put_last cfg c.args.self.now c.happen_untold.new.self w gone _ c.happen_untold.result fits (c.happen_untold.ensures.step cfg w (c.let_go.ensures.fits cfg w gone fits))
 
 pub returns-clause-accepted : goal.returns-clause-accepted
 returns-clause-accepted c = λ cfg w gone fits. c.happen_untold.ensures.accepted cfg w (c.let_go.ensures.fits cfg w gone fits)
