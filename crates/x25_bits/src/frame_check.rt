@@ -227,9 +227,6 @@ fn register_of_two(octets: &[u8]) -> u16
 fn register(octets: &[u8]) -> u16
     ensures { low_bits 16 result ≡ fed (low_bits 16 65535) (bits_of octets.now) }
 {
-    if octets.len() == 2 {
-        return register_of_two(octets);
-    }
     if octets.len() < 8 {
         return reduced(begun(octets, octets.len()));
     }
@@ -240,15 +237,28 @@ fn register(octets: &[u8]) -> u16
     reduced(last)
 }
 
-/// The frame check sequence of the octets.
-pub fn fcs(octets: &[u8]) -> u16
+/// The frame check sequence of octets, however many they are.
+#[inline(never)]
+fn fcs_of_any(octets: &[u8]) -> u16
     ensures { result ≡ fcs_of octets.now }
 {
     !register(octets)
 }
 
+/// The frame check sequence of the octets.
+#[inline(always)]
+pub fn fcs(octets: &[u8]) -> u16
+    ensures { result ≡ fcs_of octets.now }
+{
+    if octets.len() == 2 {
+        return !register_of_two(octets);
+    }
+    fcs_of_any(octets)
+}
+
 /// Whether the last two octets are the frame check sequence of the octets before them, the low octet first.
 /// Fewer than two octets aren't.
+#[inline(always)]
 pub fn check(octets: &[u8]) -> bool
     ensures sealed { IsTrue result ↔ IsSealed octets.now }
     ensures value { result ≡ is_sealed octets.now }
