@@ -58,24 +58,6 @@ sum = plus (plus last (right 5 last)) (right 12 last)
 abbrev pub reduced : Linear
 reduced = right 48 sum
 
--- of a number below 2^16, in the highest bits
-abbrev sum_of_two : Linear
-sum_of_two = let two_last = doubly (left 48 given) in plus (plus two_last (right 5 two_last)) (right 12 two_last)
-
-abbrev pub reduced_two : Linear
-reduced_two = right 48 sum_of_two
-
-reduced_two_tests : agree_to (λ x. low_bits 16 (reduced_two.0 x)) (λ x. fed none (low_bits 64 ((left 48 given).0 x))) 16 ≡ true
-unfolding fed stepped low_bits add divisor agree_to same
-reduced_two_tests = refl
-
-pub reduced_two_is : (x : ℕ) → x < 2 ^ 16 → low_bits 16 (reduced_two.0 x) ≡ fed none (low_bits 64 (x * 2 ^ 48))
-reduced_two_is x h =
-    let whole : x * 2 ^ 48 % 2 ^ 64 ≡ x * 2 ^ 48 = omega (arith, h) in
-    agree (λ x. low_bits 16 (reduced_two.0 x)) (λ x. fed none (low_bits 64 ((left 48 given).0 x)))
-    (additive_bits 16 reduced_two.0 reduced_two.1.0) (additive_fed 64 (left 48 given).0 (left 48 given).1.0) 16 reduced_two_tests x h
-    ∙ ap (λ n. fed none (low_bits 64 n)) whole
-
 reduced_tests : agree_to (λ x. low_bits 16 (reduced.0 x)) (λ x. fed none (low_bits 64 x)) 64 ≡ true
 unfolding fed stepped low_bits add divisor agree_to same
 reduced_tests = refl
@@ -85,7 +67,7 @@ reduced_is x h =
     agree (λ x. low_bits 16 (reduced.0 x)) (λ x. fed none (low_bits 64 x)) (additive_bits 16 reduced.0 reduced.1.0) (additive_fed 64 given.0 given.1.0) 64 reduced_tests x h
 
 -- the sum of two numbers leaves what they leave
-sum_leaves : (a b : ℕ) → fed none (low_bits 64 (bit_xor a b)) ≡ add (fed none (low_bits 64 a)) (fed none (low_bits 64 b))
+pub sum_leaves : (a b : ℕ) → fed none (low_bits 64 (bit_xor a b)) ≡ add (fed none (low_bits 64 a)) (fed none (low_bits 64 b))
 sum_leaves a b = additive_fed 64 given.0 given.1.0 a b
 
 -- eight octets more

@@ -6,6 +6,7 @@ ghost use Rattle.x25_bits.specs.FrameCheck.{bits_of, fcs_of, low_bits};
 ghost use Rattle.x25_bits.specs.code.Register.{fed, words_leave};
 ghost use Rattle.x25_bits.specs.FrameCheck.Sealed.{seal_of, is_sealed, IsSealed};
 
+use crate::frame_check_table::LEFT;
 use crate::no_memory::NoMemory;
 use byteorder::{ByteOrder, LittleEndian};
 
@@ -79,42 +80,38 @@ fn last_word(held: Block) -> u64
     folded(third) ^ held.fourth
 }
 
-/// The highest sixteen bits.
-#[inline]
-fn highest(word: u64) -> u16
-    ensures { result ≡ word / 2 ^ 48 }
+/// What an octet leaves at this place of eight, the others 0.
+#[inline(always)]
+fn left(place: usize, octet: u8) -> u16
+    requires { place < 8 }
+    ensures { low_bits 16 result ≡ fed (low_bits 16 0) (low_bits 64 (octet * 256 ^ place)) }
 {
-    (word >> 48) as u16
+    LEFT[place * 256 + octet as usize]
 }
 
 /// The register that eight octets leave of which the first six are 0, and the last two these.
-#[inline]
+#[inline(always)]
 fn reduced_two(octets: u64) -> u16
     requires { octets < 2 ^ 16 }
     ensures { low_bits 16 result ≡ fed (low_bits 16 0) (low_bits 64 (octets * 2 ^ 48)) }
 {
-    let held = octets << 48;
-    let near = held ^ (held << 4);
-    let last = near ^ (near << 8) ^ (held << 11);
-    highest(last ^ (last >> 5) ^ (last >> 12))
+    let seven = left(6, (octets % 256) as u8);
+    left(7, (octets >> 8) as u8) ^ seven
 }
 
-/// The register that eight octets leave, by the divisor's square x^32 + x^24 + x^10 + 1 and then by the divisor itself.
-#[inline]
+/// The register that eight octets leave: what they leave each by itself, added.
+#[inline(always)]
 fn reduced(held: u64) -> u16
     ensures { low_bits 16 result ≡ fed (low_bits 16 0) (low_bits 64 held) }
 {
-    let first = held << 32;
-    let near_first = first ^ (first << 8);
-    let four = near_first ^ (near_first << 16) ^ (first << 22);
-    let next = (held ^ four ^ (four >> 10) ^ (four >> 24)) >> 32 << 32;
-    let second = next << 16;
-    let near_second = second ^ (second << 4);
-    let two = near_second ^ (near_second << 8) ^ (second << 11);
-    let third = (next ^ two ^ (two >> 5) ^ (two >> 12)) >> 48 << 48;
-    let near_third = third ^ (third << 4);
-    let last = near_third ^ (near_third << 8) ^ (third << 11);
-    highest(last ^ (last >> 5) ^ (last >> 12))
+    let one = left(0, (held % 256) as u8);
+    let two = left(1, ((held >> 8) % 256) as u8) ^ one;
+    let three = left(2, ((held >> 16) % 256) as u8) ^ two;
+    let four = left(3, ((held >> 24) % 256) as u8) ^ three;
+    let five = left(4, ((held >> 32) % 256) as u8) ^ four;
+    let six = left(5, ((held >> 40) % 256) as u8) ^ five;
+    let seven = left(6, ((held >> 48) % 256) as u8) ^ six;
+    left(7, ((held >> 56) % 256) as u8) ^ seven
 }
 
 /// What eight octets hold after fewer than eight: a register of ones, fed so many octets of 0.
@@ -230,8 +227,8 @@ fn register_of_two(octets: &[u8]) -> u16
 fn register(octets: &[u8]) -> u16
     ensures { low_bits 16 result ≡ fed (low_bits 16 65535) (bits_of octets.now) }
 {
-    if octets.len() == 2 {
-        return register_of_two(octets);
+    if octets.len() < 8 {
+        return reduced(begun(octets, octets.len()));
     }
     let count = octets.len() % 8;
     let held = begun(octets, count);
@@ -240,15 +237,28 @@ fn register(octets: &[u8]) -> u16
     reduced(last)
 }
 
-/// The frame check sequence of the octets.
-pub fn fcs(octets: &[u8]) -> u16
+/// The frame check sequence of octets, however many they are.
+#[inline(never)]
+fn fcs_of_any(octets: &[u8]) -> u16
     ensures { result ≡ fcs_of octets.now }
 {
     !register(octets)
 }
 
+/// The frame check sequence of the octets.
+#[inline(always)]
+pub fn fcs(octets: &[u8]) -> u16
+    ensures { result ≡ fcs_of octets.now }
+{
+    if octets.len() == 2 {
+        return !register_of_two(octets);
+    }
+    fcs_of_any(octets)
+}
+
 /// Whether the last two octets are the frame check sequence of the octets before them, the low octet first.
 /// Fewer than two octets aren't.
+#[inline(always)]
 pub fn check(octets: &[u8]) -> bool
     ensures sealed { IsTrue result ↔ IsSealed octets.now }
     ensures value { result ≡ is_sealed octets.now }

@@ -20,6 +20,7 @@ struct Returned<const ROOM: usize> {
 }
 
 // Memory that was given back, for so many octets. What is too small for them is let go of.
+#[inline(always)]
 fn again<const ROOM: usize>(returned: &mut Vec<Returned<ROOM>>, length: usize) -> Option<Vec<u8>>
     ensures empty { IfSome result (λ octets. octets.items ≡ []) }
     ensures room { IfSome result (λ octets. length ≤ vec_capacity octets) }
@@ -64,6 +65,14 @@ fn make_up<const ROOM: usize>(
         blanks.push(Blank { octets })?;
     }
     Ok(())
+}
+
+// Lets go of the blanks beyond so many.
+#[inline(never)]
+fn shorten<const ROOM: usize>(blanks: &mut Vec<Blank<ROOM>>, most: usize)
+    ensures { vec_len blanks.new ≡ min (vec_len blanks.old) most }
+{
+    blanks.truncate(most);
 }
 
 /// Memory for frames of at most ROOM octets each. Contracts see for how many frames it is promised.
@@ -181,7 +190,9 @@ impl<const ROOM: usize, const MOST: usize> Blanks<ROOM, MOST> {
         self.promised -= 1;
         match memory(&mut self.returned, self.alloc, length) {
             Ok(octets) => {
-                self.blanks.truncate(self.promised.max(MOST));
+                if self.blanks.len() > MOST {
+                    shorten(&mut self.blanks, self.promised.max(MOST));
+                }
                 octets
             }
             Err(AllocError) => self.blanks.pop().unwrap().octets,
@@ -189,14 +200,18 @@ impl<const ROOM: usize, const MOST: usize> Blanks<ROOM, MOST> {
     }
 
     /// Takes the promise back beyond that for so many frames.
+    #[inline(always)]
     pub fn limit(&mut self, count: usize)
         ensures { self.new ≡ min self.old count }
     {
         self.promised = self.promised.min(count);
-        self.blanks.truncate(self.promised.max(MOST));
+        if self.blanks.len() > MOST {
+            shorten(&mut self.blanks, self.promised.max(MOST));
+        }
     }
 
     /// Memory that was given back, for so many octets, where there is some. What is too small for them is let go of.
+    #[inline(always)]
     pub fn again(&mut self, length: usize) -> Option<Vec<u8>>
         ensures same { self.new ≡ self.old }
         ensures empty { IfSome result (λ octets. octets.items ≡ []) }
@@ -207,6 +222,7 @@ impl<const ROOM: usize, const MOST: usize> Blanks<ROOM, MOST> {
 
     /// Takes memory back that isn't in use any more, for a later frame. It is let go of where it is for more than ROOM octets, where
     /// MOST are kept, and where keeping it takes memory that is refused.
+    #[inline(always)]
     pub fn give_back(&mut self, mut octets: Vec<u8>)
         ensures { self.new ≡ self.old }
     {

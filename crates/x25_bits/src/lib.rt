@@ -7,6 +7,7 @@ mod deframer;
 mod direction;
 mod found;
 mod frame_check;
+mod frame_check_table;
 mod frame_memory;
 mod harmless_bits;
 mod idling;

@@ -11,6 +11,7 @@ use crate::{Frame, FrameError, Role, Seq};
 use x25_bits::check;
 
 /// The frame, where it has no information.
+#[inline(always)]
 fn read_bare<'a>(control: u8, info: &[u8], frame: Frame<'a>) -> Result<Frame<'a>, FrameError>
     ensures { Gives result (bare control info.now (plain frame.entry)) }
 {
@@ -20,6 +21,7 @@ fn read_bare<'a>(control: u8, info: &[u8], frame: Frame<'a>) -> Result<Frame<'a>
     }
 }
 
+#[inline(always)]
 fn read_unnumbered<'a>(
     command: bool,
     control: u8,
@@ -44,6 +46,7 @@ fn read_unnumbered<'a>(
     }
 }
 
+#[inline(always)]
 fn read_kind<'a>(
     n1: usize,
     command: bool,
@@ -77,6 +80,7 @@ fn read_kind<'a>(
     }
 }
 
+#[inline(always)]
 fn read_addressed<'a>(from: Role, n1: usize, octets: &'a [u8]) -> Result<Frame<'a>, FrameError>
     requires { 4 ≤ length octets.now }
     ensures { Gives result (addressed_frame from n1 octets.now) }
@@ -91,16 +95,12 @@ fn read_addressed<'a>(from: Role, n1: usize, octets: &'a [u8]) -> Result<Frame<'
     }
 }
 
-/// The frame that the octets spell, sent by `from`: address, control, information and frame check sequence.
-///
-/// `n1` is the most octets of information that an I frame may have. An octet list spells at most one frame, and the
-/// error is the first that applies, 1 to 6. ITU-T X.25 (10/96), sections 2.2 and 2.3.
+// .. of any length.
+#[inline(never)]
 #[tactic(auto, unfolding(crate::specs::Reading::frame_of))]
-pub fn decode<'a>(from: Role, n1: usize, octets: &'a [u8]) -> Result<Frame<'a>, FrameError>
+fn decode_any<'a>(from: Role, n1: usize, octets: &'a [u8]) -> Result<Frame<'a>, FrameError>
     ensures exact { Gives result (frame_of from n1 octets.now) }
-    // What is read is spelled so.
     ensures found { IfOk result (λ v. Spells from n1 (plain v) octets.now) }
-    // What is spelled so is read.
     ensures only { (v : PlainFrame) → Spells from n1 v octets.now → IsOkAnd result (λ w. plain w ≡ v) }
     ensures error { IfErr result (λ e. IsFirstError from n1 octets.now e) }
 {
@@ -111,4 +111,28 @@ pub fn decode<'a>(from: Role, n1: usize, octets: &'a [u8]) -> Result<Frame<'a>, 
         return Err(FrameError::BadFcs);
     }
     read_addressed(from, n1, octets)
+}
+
+/// The frame that the octets spell, sent by `from`: address, control, information and frame check sequence.
+///
+/// `n1` is the most octets of information that an I frame may have. An octet list spells at most one frame, and the
+/// error is the first that applies, 1 to 6. ITU-T X.25 (10/96), sections 2.2 and 2.3.
+#[inline(always)]
+#[tactic(auto, unfolding(crate::specs::Reading::frame_of))]
+pub fn decode<'a>(from: Role, n1: usize, octets: &'a [u8]) -> Result<Frame<'a>, FrameError>
+    ensures exact { Gives result (frame_of from n1 octets.now) }
+    // What is read is spelled so.
+    ensures found { IfOk result (λ v. Spells from n1 (plain v) octets.now) }
+    // What is spelled so is read.
+    ensures only { (v : PlainFrame) → Spells from n1 v octets.now → IsOkAnd result (λ w. plain w ≡ v) }
+    ensures error { IfErr result (λ e. IsFirstError from n1 octets.now e) }
+{
+    if octets.len() != 4 {
+        return decode_any(from, n1, octets);
+    }
+    // A frame without information: all that is asked of it stands in the caller's place.
+    if check(octets) {
+        return read_addressed(from, n1, octets);
+    }
+    Err(FrameError::BadFcs)
 }

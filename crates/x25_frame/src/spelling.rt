@@ -19,6 +19,7 @@ fn poll_bit(pf: bool) -> u8
     if pf { 0x10 } else { 0 }
 }
 
+#[inline(always)]
 fn control(frame: &Frame) -> u8
     ensures { result ≡ control_of (plain frame.now) }
 {
@@ -35,6 +36,7 @@ fn control(frame: &Frame) -> u8
     }
 }
 
+#[inline(always)]
 fn information<'a>(frame: &'a Frame<'a>) -> &'a [u8]
     ensures { result.now ≡ information_of (plain frame.now) }
 {
@@ -70,6 +72,7 @@ pub fn encode(from: Role, frame: &Frame, octets: &mut Vec<u8>) -> Result<(), NoM
 }
 
 /// .. of a frame without information, which has this address and control.
+#[inline(always)]
 fn encode_bare(address: u8, control: u8, octets: &mut Vec<u8>) -> Result<(), NoMemory>
     ensures ok { OnOk result (octets.new.items ≡ octets.old.items ++ (address ∷ control ∷ [] ++ seal_of (address ∷ control ∷ []))) }
     ensures err { OnErr result (VecUnchanged octets.old octets.new) }

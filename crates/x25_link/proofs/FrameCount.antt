@@ -1,5 +1,5 @@
 -- How many frames a step sends: one for what it hears, seven by the sending rule, and the RR that ends an RNR.
-use Rattle.std.proofs.Common.{◌≡◌, ℕ, zero, suc, ◌+◌, ◌≤◌, List, [], ◌∷◌, ◌++◌, length, map, Bool, true, false, not, if◌then◌else◌, Result, Ok, Err, refl, ap, arith, length-append, subst, sym}
+use Rattle.std.proofs.Common.{◌≡◌, ℕ, zero, suc, ◌+◌, ◌≤◌, List, [], ◌∷◌, ◌++◌, length, map, Bool, true, false, not, if◌then◌else◌, nat_lt, Result, Ok, Err, refl, ap, arith, length-append, subst, sym}
 use Rattle.std.proofs.Math.Logic.{∥∥₁_elim}
 use Rattle.std.proofs.Props.{props}
 use Rattle.std.proofs.lemmas.List.{length-map}
@@ -9,14 +9,16 @@ use Rattle.x25_frame.specs.declared.error.FrameError.{FrameError}
 use Rattle.x25_frame.specs.declared.error.FrameError.TheVariants.{Short, BadFcs, BadAddress, Undefined, NoInfoAllowed, TooLong}
 use Rattle.x25_link.specs.declared.phase.Phase.{Phase}
 use Rattle.x25_link.specs.declared.phase.Phase.TheVariants.{Down, Waiting, Up, Closed}
+use Rattle.x25_link.specs.declared.phase.Reason.TheVariants.{Retries}
 use Rattle.x25_frame.specs.Spelling.{spelling_of}
-use Rattle.x25_link.specs.Station.{Settings, LinkStation, Side, is_busy, wanted, next_frame, sends, ready, send_next, may_send, pumped, owes_ready, ended}
-use Rattle.x25_link.specs.Hearing.{Step, quiet, other, is_valid, acknowledged, is_taken, takes, answers, passes_over, hears_info, peer_is, goes_back, polls, numbered, rejects, reject_of, row_of_frame, row_of}
-use Rattle.x25_link.specs.Link.{alone, hears, when_down, when_waiting, take_step}
+use Rattle.x25_link.specs.Station.{Settings, LinkStation, Side, with_near, is_busy, wanted, next_frame, sends, ready, send_next, may_send, pumped, owes_ready, ended}
+use Rattle.x25_link.specs.Hearing.{Step, quiet, leaves, other, is_valid, acknowledged, is_taken, takes, answers, passes_over, hears_info, peer_is, goes_back, polls, numbered, rejects, reject_of, row_of_frame, row_of}
+use Rattle.x25_link.specs.Link.{alone, hears, when_down, when_waiting, take_step, asks_again, fires, timer_step}
 use Rattle.x25_link.specs.code.FitsLink.{ShownLink, FitsLink, IsMeant}
 use Rattle.x25_link.specs.code.Bounds.{TakeSendsFew, PutSendsOne}
 use Rattle.x25_link.proofs.OutgoingLemmas.{sent_length}
-use Rattle.x25_link.proofs.EndLemmas.{with_packet, put_once}
+use Rattle.x25_link.proofs.EndLemmas.{with_packet, put_once, ended_stays}
+use Rattle.x25_link.proofs.LinkLemmas.{fires_settled, fires_calm}
 
 -- ---- one frame at most
 
@@ -150,13 +152,35 @@ take_sends_few c octets s =
     omega (arith, ended_count c.window step.side, hears_few c octets (frame_of (other c.role) c.longest octets) s.phase s)
 
 -- .. of a link that stands for some state
+pub made_at_most : (n : ℕ) (v : ShownLink) (made : List (List ℕ)) (step : Settings → LinkStation → Step) → IsMeant v
+    → ((c : Settings) (s : LinkStation) → FitsLink c v s → made ≡ map (spelling_of c.role) (step c s).side.out) → ((c : Settings) (s : LinkStation) → length (step c s).side.out ≤ n) → length made ≤ n
+made_at_most n v made step meant out most = ∥∥₁_elim meant (hlevel props) (λ w.
+    let all = ap length (out w.0 w.1 w.2) in
+    let few = most w.0 w.1 in
+    let same = length-map (step w.0 w.1).side.out (spelling_of w.0.role) in
+    omega (arith, all, few, same))
+
 pub made_few : (v : ShownLink) (octets : List ℕ) (made : List (List ℕ)) → IsMeant v
     → ((c : Settings) (s : LinkStation) → FitsLink c v s → made ≡ map (spelling_of c.role) (take_step c octets s).side.out) → length made ≤ 9
-made_few v octets made meant out = ∥∥₁_elim meant (hlevel props) (λ w.
-    let all = ap length (out w.0 w.1 w.2) in
-    let few = take_sends_few w.0 octets w.1 in
-    let same = length-map (take_step w.0 octets w.1).side.out (spelling_of w.0.role) in
-    omega (arith, all, few, same))
+made_few v octets made meant out = made_at_most 9 v made (λ c s. take_step c octets s) meant out (λ c s. take_sends_few c octets s)
+
+-- ---- timer T1: one, and the end of the step sends none
+
+asks_few : (p : Phase) (t : Side) → t.out ≡ [] → Few (asks_again p t)
+asks_few Down t none = first (sabm true) t.out none
+asks_few Waiting t none = first (sabm true) t.out none
+asks_few Up t none = F-ready true true (with_near t (record t.near { recovery = true })) none
+asks_few Closed t none = first (sabm true) t.out none
+
+fires_few : (c : Settings) (s : LinkStation) → Few (fires c (alone s)).side
+fires_few c s =
+    few_step (nat_lt s.tries c.retries) (quiet (asks_again s.phase (with_near (alone s) (record s { tries = s.tries + 1 })))) (leaves Retries (alone s))
+    (asks_few s.phase (with_near (alone s) (record s { tries = s.tries + 1 })) refl) (nothing (alone s) refl)
+
+pub timer_sends_one : (c : Settings) (s : LinkStation) → length (timer_step c s).side.out ≤ 1
+timer_sends_one c s =
+    let step : Step = fires c (alone s) in
+    subst (λ (w : Side). length w.out ≤ 1) (sym (ended_stays c.window step.side (fires_settled c (alone s)) (fires_calm c (alone s)))) (fires_few c s)
 
 pub made_behind : {X : Type 0} (before after : List X) (octets_of : X → List ℕ) (made : List (List ℕ)) → map octets_of after ≡ map octets_of before ++ made → length after ≡ length before + length made
 made_behind before after octets_of made is =

@@ -3,7 +3,7 @@ ghost use Rattle.std.specs.Prelude.{◌≡◌, ℕ, ◌+◌, ◌<◌, ◌≤◌,
 ghost use Rattle.x25_frame.specs.Frame.{plain};
 ghost use Rattle.x25_frame.specs.Reading.{frame_of};
 ghost use Rattle.x25_frame.specs.Spelling.{is_command};
-ghost use Rattle.x25_link.specs.Station.{Settings, LinkStation as StationState, Side, may_send, owes_ready};
+ghost use Rattle.x25_link.specs.Station.{Settings, LinkStation as StationState, Side, is_up, may_send, owes_ready};
 ghost use Rattle.x25_link.specs.code.OutgoingHeld.{window_of, before_in};
 ghost use Rattle.x25_link.specs.code.Fits.{FitsStation, FitsSide, FitsHeard};
 ghost use Rattle.x25_link.specs.Hearing.{numbered, hears_info, polls, peer_is, goes_back, quiet, row_of_frame, row_of, other};
@@ -143,6 +143,22 @@ impl LinkStation {
         }
     }
 
+    // Octets, in Up.
+    #[inline(always)]
+    fn hear_up<'a>(&mut self, octets: &'a [u8], out: &mut Outbox) -> Heard<'a>
+        requires room { window_of self.old.outgoing ≤ out.old.long }
+        requires short { 0 < out.old.short }
+        ensures step { (c : Settings) (before : List (List ℕ)) (t : Side) → FitsSide c self.old before out.old.made t →
+            FitsHeard c self.new before out.new.made result (row_of c octets.now (frame_of (other c.role) c.longest octets.now) t) }
+        ensures room { window_of self.new.outgoing ≤ out.new.long + before_in self.new.outgoing }
+        ensures short { out.old.short ≤ out.new.short + 1 }
+    {
+        match decode(self.role.other(), self.parameters.n1, octets) {
+            Ok(frame) => self.hear_frame(octets, frame, out),
+            Err(error) => self.hear_error(octets, error, out),
+        }
+    }
+
     // ---- the other phases
 
     // A command with P=1 is answered by DM.
@@ -210,44 +226,34 @@ impl LinkStation {
         }
     }
 
-    // ---- all phases
-
-    // Octets that spell no frame.
-    fn hear_unread<'a>(&mut self, octets: &[u8], error: FrameError, out: &mut Outbox) -> Heard<'a>
-        requires { 0 < out.old.short }
+    // Octets, in a phase other than Up.
+    #[inline(never)]
+    fn hear_apart<'a>(&mut self, octets: &[u8], out: &mut Outbox) -> Heard<'a>
+        requires apart { is_up self.old.phase ≡ false }
+        requires short { 0 < out.old.short }
         ensures step { (c : Settings) (before : List (List ℕ)) (t : Side) → FitsSide c self.old before out.old.made t →
-            FitsHeard c self.new before out.new.made result (hears c octets.now (Err error) t.near.phase t) }
+            FitsHeard c self.new before out.new.made result (hears c octets.now (frame_of (other c.role) c.longest octets.now) t.near.phase t) }
         ensures window { window_of self.new.outgoing ≡ window_of self.old.outgoing }
         ensures long { out.new.long ≡ out.old.long }
         ensures short { out.old.short ≤ out.new.short + 1 }
     {
-        match self.phase {
-            Phase::Up => self.hear_error(octets, error, out),
-            Phase::Down | Phase::Waiting | Phase::Closed => Heard::quiet(),
-        }
-    }
-
-    // A frame.
-    fn hear_read<'a>(&mut self, octets: &[u8], frame: Frame<'a>, out: &mut Outbox) -> Heard<'a>
-        requires room { window_of self.old.outgoing ≤ out.old.long }
-        requires short { 0 < out.old.short }
-        ensures step { (c : Settings) (before : List (List ℕ)) (t : Side) → FitsSide c self.old before out.old.made t →
-            FitsHeard c self.new before out.new.made result (hears c octets.now (Ok (plain frame.entry)) t.near.phase t) }
-        ensures room { window_of self.new.outgoing ≤ out.new.long + before_in self.new.outgoing }
-        ensures short { out.old.short ≤ out.new.short + 1 }
-    {
+        let Ok(frame) = decode(self.role.other(), self.parameters.n1, octets) else {
+            return Heard::quiet();
+        };
         match self.phase {
             Phase::Down => self.hear_down(&frame, out),
             Phase::Waiting => self.hear_waiting(&frame, out),
-            Phase::Up => self.hear_frame(octets, frame, out),
-            Phase::Closed => {
+            Phase::Up | Phase::Closed => {
                 self.decline(&frame, out);
                 Heard::quiet()
             }
         }
     }
 
+    // ---- all phases
+
     // What the octets bring, before the sending rule.
+    #[inline(always)]
     fn hear_octets<'a>(&mut self, octets: &'a [u8], out: &mut Outbox) -> Heard<'a>
         requires room { window_of self.old.outgoing ≤ out.old.long }
         requires short { 0 < out.old.short }
@@ -256,10 +262,10 @@ impl LinkStation {
         ensures room { window_of self.new.outgoing ≤ out.new.long + before_in self.new.outgoing }
         ensures short { out.old.short ≤ out.new.short + 1 }
     {
-        match decode(self.role.other(), self.parameters.n1, octets) {
-            Ok(frame) => self.hear_read(octets, frame, out),
-            Err(error) => self.hear_unread(octets, error, out),
+        if self.phase.is_up() {
+            return self.hear_up(octets, out);
         }
+        self.hear_apart(octets, out)
     }
 
     /// Takes octets, and sends what they ask for.

@@ -166,6 +166,29 @@ impl Link {
         Ok(self.answers.answered(heard))
     }
 
+    /// As `t1`, of a link that stands for some state: it puts the frame behind others, in room for one, and answers what the firing
+    /// brought.
+    ///
+    /// 11 where the timer doesn't run, then 70.
+    #[inline(always)]
+    pub fn t1_into(&mut self, frames: &mut Vec<Vec<u8>>) -> Result<Heard<'static>, LinkError>
+        requires meant { IsMeant self.old }
+        requires room { vec_len frames.old < vec_capacity frames.old }
+        ensures does { DoesInto self.old self.new (map (λ f. f.items) frames.old.items) (map (λ f. f.items) frames.new.items) result timer_step }
+        ensures few { vec_len frames.new ≤ vec_len frames.old + 1 }
+        ensures capacity { vec_capacity frames.old ≤ vec_capacity frames.new }
+        ensures refused { (c : Settings) (s : StationState) → FitsLink c self.old s → Refuses (timer_refusal s) result }
+        ensures err { OnErr result (frames.new ≡ frames.old) }
+    {
+        if !self.station.timer_runs() {
+            return Err(LinkError::NotRunning);
+        }
+        self.answers.reserve(0, SHORT_FRAMES)?;
+        let fired = self.station.fire(&mut self.answers);
+        self.answers.drain_into(frames);
+        Ok(fired)
+    }
+
     /// Leaves Up without a frame, and notes LinkDown(counts) (profile). It takes no memory.
     pub fn abandon(&mut self) -> Step<'static>
         requires { up_of self.old ≡ true }
@@ -265,6 +288,7 @@ impl Link {
     /// Takes the memory of a frame back, of this link or of another, for one that is sent later. The link is as before.
     ///
     /// It is let go of where it is for more than 4,103 octets, and where 32 are kept.
+    #[inline(always)]
     pub fn give_back(&mut self, octets: Vec<u8>)
         ensures { self.new ≡ self.old }
     {

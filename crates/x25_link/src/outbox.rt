@@ -170,6 +170,7 @@ impl Outbox {
     }
 
     /// Makes a frame that carries no packet.
+    #[inline(always)]
     pub fn send_short(&mut self, from: Role, frame: &Frame)
         requires ready { 0 < self.old.short }
         requires fits { length (information_of (plain frame.now)) ≤ 3 }
@@ -180,6 +181,7 @@ impl Outbox {
     }
 
     /// Takes the promise of memory for one I frame back, where there is some.
+    #[inline(always)]
     pub fn discard(&mut self)
         ensures { self.new ≡ record self.old { long = self.old.long - 1 } }
     {
@@ -237,6 +239,7 @@ impl Outbox {
     }
 
     /// Takes memory of a frame back, for a later one.
+    #[inline(always)]
     pub fn give_back(&mut self, octets: Vec<u8>)
         ensures { self.new ≡ self.old }
     {
@@ -280,6 +283,7 @@ fn append(frames: &mut Vec<Vec<u8>>, more: &mut Vec<Vec<u8>>)
 }
 
 // Memory for a frame that carries no packet: some that was given back, or else what was set aside.
+#[inline(always)]
 fn short_memory(
     short: &mut Blanks<SHORT_FRAME, MOST_SHORT>,
     long: &mut Blanks<LONGEST_FRAME, MOST_LONG>,

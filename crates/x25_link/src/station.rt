@@ -53,9 +53,10 @@ impl LinkStation {
         self.outgoing.waiting() > BUSY_ABOVE
     }
 
-    /// Sends a frame that carries no packet.
+    // Sends a frame that carries no packet, in its caller's place.
+    #[inline(always)]
     #[tactic(auto, using(crate::proofs::FitsLemmas::made_more))]
-    pub fn send(&self, frame: &Frame, out: &mut Outbox)
+    fn send_here(&self, frame: &Frame, out: &mut Outbox)
         requires ready { 0 < out.old.short }
         requires short { length (information_of (plain frame.now)) ≤ 3 }
         ensures step { (c : Settings) (before : List (List ℕ)) (t : Side) → FitsSide c self.now before out.old.made t → FitsSide c self.now before out.new.made (sends (plain frame.now) t) }
@@ -65,7 +66,20 @@ impl LinkStation {
         out.send_short(self.role, frame);
     }
 
+    /// Sends a frame that carries no packet.
+    #[inline(never)]
+    pub fn send(&self, frame: &Frame, out: &mut Outbox)
+        requires ready { 0 < out.old.short }
+        requires short { length (information_of (plain frame.now)) ≤ 3 }
+        ensures step { (c : Settings) (before : List (List ℕ)) (t : Side) → FitsSide c self.now before out.old.made t → FitsSide c self.now before out.new.made (sends (plain frame.now) t) }
+        ensures short { out.old.short ≡ out.new.short + 1 }
+        ensures long { out.new.long ≡ out.old.long }
+    {
+        self.send_here(frame, out);
+    }
+
     /// Sends RR, or RNR where the station is busy.
+    #[inline(never)]
     pub fn ready(&mut self, command: bool, pf: bool, out: &mut Outbox)
         requires { 0 < out.old.short }
         ensures step { (c : Settings) (before : List (List ℕ)) (t : Side) → FitsSide c self.old before out.old.made t → FitsSide c self.new before out.new.made (ready command pf t) }
@@ -79,7 +93,7 @@ impl LinkStation {
             self.send(&Frame::Rnr { command, nr, pf }, out);
         } else {
             self.said_busy = false;
-            self.send(&Frame::Rr { command, nr, pf }, out);
+            self.send_here(&Frame::Rr { command, nr, pf }, out);
         }
     }
 

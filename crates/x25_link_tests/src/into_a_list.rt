@@ -1,12 +1,12 @@
 //! Frames that a link puts behind others, in a list of the caller's.
-ghost use Rattle.std.specs.Prelude.{◌≡◌, []};
+ghost use Rattle.std.specs.Prelude.{◌≡◌, [], OnOk};
 ghost use Rattle.x25_link.specs.code.FitsLink.{IsMeant};
 
 use std::alloc::Global;
 use std::process::Abort;
 use std::test::Fail;
 use x25_bits::Role;
-use x25_link::{Heard, Link};
+use x25_link::{Heard, Link, LinkError};
 
 /// SABM with P=1 of the DTE.
 static SABM: [u8; 4] = [0x01, 0x3f, 0xeb, 0xdf];
@@ -47,4 +47,44 @@ fn answers_behind(rt: &impl Abort, alloc: Global, link: &mut Link) -> Result<(),
 fn frames_go_behind_those_of_a_list(rt: HostRuntime) -> Result<(), Fail> {
     let mut link = Link::new(rt.alloc(), Role::Dce, 7, 4099, 10)?;
     answers_behind(&rt, rt.alloc(), &mut link)
+}
+
+// The link is set up from here on: SABM was sent.
+fn connected(link: &mut Link) -> Result<(), LinkError>
+    requires { IsMeant link.old }
+    ensures { OnOk result (IsMeant link.new) }
+{
+    link.connect()?;
+    Ok(())
+}
+
+// SABM stands again behind the frame that was there.
+fn has_sabm_again(rt: &impl Abort, frames: &[Vec<u8>]) -> Result<(), Fail> {
+    assert_eq!(rt; frames.len(), 2);
+    let second = frames.get(1).ok_or("SABM goes again")?;
+    assert_eq!(rt; second.as_slice(), SABM.as_slice());
+    Ok(())
+}
+
+fn fires_behind(rt: &impl Abort, alloc: Global, link: &mut Link) -> Result<(), Fail>
+    requires { IsMeant link.old }
+{
+    let mut frames = Vec::with_capacity(alloc, 2)?;
+    let first = vec![in alloc; 0u8; 9]?;
+    frames.push_reserved(first);
+    link.t1_into(&mut frames)?;
+    has_sabm_again(rt, frames.as_slice())
+}
+
+fn sets_up_again(rt: &impl Abort, alloc: Global, link: &mut Link) -> Result<(), Fail>
+    requires { IsMeant link.old }
+{
+    connected(link)?;
+    fires_behind(rt, alloc, link)
+}
+
+#[test]
+fn sabm_goes_again_behind_those_of_a_list(rt: HostRuntime) -> Result<(), Fail> {
+    let mut link = Link::new(rt.alloc(), Role::Dte, 7, 4099, 10)?;
+    sets_up_again(&rt, rt.alloc(), &mut link)
 }

@@ -1,7 +1,15 @@
-use Rattle.std.proofs.Common.{◌∙◌, refl}
-use Rattle.x25_bits.proofs.FoldLemmas.{fed_parts}
+use Rattle.std.proofs.Common.{◌∙◌, ap, arith, length, refl}
+use Rattle.std.proofs.lemmas.List.{take_all}
+use Rattle.x25_bits.specs.FrameCheck.{bits_of}
+use Rattle.x25_bits.specs.code.Register.{fed}
+use Rattle.x25_bits.proofs.FoldLemmas.{fed_parts, ones}
 use Rattle.x25_bits.proofs.frame_check.register.Goals as goal
+
+pub returns-then-octets-lt8 : goal.returns-then-octets-lt8
+returns-then-octets-lt8 c =
+    let octets = c.args.octets.now in
+    c.reduced.ensures ∙ c.begun.ensures ∙ ap (λ o. fed ones (bits_of o)) (take_all (length octets) octets (omega arith))
 
 pub returns : goal.returns
 returns c =
-    c.reduced.ensures ∙ c.through-last.ensures ∙ fed_parts c.begun-held.result _ _ _ c.args.octets.now refl c.split_at.ensures.back c.begun-held.ensures
+    c.reduced-2.ensures ∙ c.through-last.ensures ∙ fed_parts c.begun-held.result _ _ _ c.args.octets.now refl c.split_at.ensures.back c.begun-held.ensures

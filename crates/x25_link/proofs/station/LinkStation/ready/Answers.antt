@@ -14,5 +14,5 @@ pub returns-else-is_busy-clause-step : goal.returns-else-is_busy-clause-step
 returns-else-is_busy-clause-step c = λ d before t fits.
     let busy = c.if-is_busy.ensures d t.near fits.near in
     let number = c.wanted-nr.ensures.state _ fits.near.taken in
-    let sent = c.send-else-is_busy.ensures.step d before (with_near t (record t.near { said_busy = false })) (record { near = said d _ t.near false fits.near; out = fits.out }) in
+    let sent = c.send_here.ensures.step d before (with_near t (record t.near { said_busy = false })) (record { near = said d _ t.near false fits.near; out = fits.out }) in
     rw (sym busy) (rw number at sent)
