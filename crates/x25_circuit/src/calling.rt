@@ -10,7 +10,7 @@ ghost use Rattle.x25_circuit.specs.Circuit.{Circuit as Channel};
 ghost use Rattle.x25_circuit.specs.Params.{default_params, field_for, may_answer};
 ghost use Rattle.x25_circuit.specs.Calling.{outcome, Refused, Calls, Accepts, Clears, may_call, call_in, accept_in, is_address_text};
 ghost use Rattle.x25_circuit.specs.Request.{plain_answer, refusal_of};
-ghost use Rattle.x25_circuit.specs.code.FitsCircuit.{FitsCircuit, Sends, room_of};
+ghost use Rattle.x25_circuit.specs.code.FitsCircuit.{FitsCircuit, Sends, room_of, clears_of, resets_of};
 
 use crate::circuit::Circuit;
 use crate::codes::{ASKED_FOR, NO_DIAGNOSTIC};
@@ -82,6 +82,8 @@ impl Circuit {
         ensures outcome { (c : Settings) (x : Channel) → FitsCircuit c self.old x → Sends c self.new result (outcome c x (Calls called.now calling.now user.now default_params)) }
         ensures range { IfOk result (λ packet. IsInRange 128 (plain packet)) }
         ensures room { room_of self.old ≤ room_of self.new }
+        ensures clears { clears_of self.new ≡ clears_of self.old }
+        ensures resets { resets_of self.new ≡ resets_of self.old }
         ensures unchanged { OnErr result (self.new ≡ self.old) }
     {
         self.call_out(called, calling, user, Params::default(), &[])
@@ -101,6 +103,8 @@ impl Circuit {
         ensures outcome { (c : Settings) (x : Channel) → FitsCircuit c self.old x → Sends c self.new result (outcome c x (Calls called.now calling.now user.now proposal.now)) }
         ensures range { IfOk result (λ packet. IsInRange 128 (plain packet)) }
         ensures room { room_of self.old ≤ room_of self.new }
+        ensures clears { clears_of self.new ≡ clears_of self.old }
+        ensures resets { resets_of self.new ≡ resets_of self.old }
         ensures unchanged { OnErr result (self.new ≡ self.old) }
     {
         self.call_out(
@@ -125,6 +129,8 @@ impl Circuit {
         ensures outcome { (c : Settings) (x : Channel) → FitsCircuit c self.old x → Sends c self.new result (call_in c x x.state called.now calling.now user.now params) }
         ensures range { IfOk result (λ packet. IsInRange 128 (plain packet)) }
         ensures room { room_of self.old ≤ room_of self.new }
+        ensures clears { clears_of self.new ≡ clears_of self.old }
+        ensures resets { resets_of self.new ≡ resets_of self.old }
         ensures unchanged { OnErr result (self.new ≡ self.old) }
     {
         let fields = self.call_fields(called, calling, user, params)?;
@@ -173,6 +179,8 @@ impl Circuit {
         ensures outcome { (c : Settings) (x : Channel) → FitsCircuit c self.old x → Sends c self.new result (outcome c x (Accepts None)) }
         ensures range { IfOk result (λ packet. IsInRange 128 (plain packet)) }
         ensures room { room_of self.old ≤ room_of self.new }
+        ensures clears { clears_of self.new ≡ clears_of self.old }
+        ensures resets { resets_of self.new ≡ resets_of self.old }
         ensures unchanged { OnErr result (self.new ≡ self.old) }
     {
         let proposed = self.accepted(None)?;
@@ -191,6 +199,8 @@ impl Circuit {
         ensures outcome { (c : Settings) (x : Channel) → FitsCircuit c self.old x → Sends c self.new result (outcome c x (Accepts (Some answer.now))) }
         ensures range { IfOk result (λ packet. IsInRange 128 (plain packet)) }
         ensures room { room_of self.old ≤ room_of self.new }
+        ensures clears { clears_of self.new ≡ clears_of self.old }
+        ensures resets { resets_of self.new ≡ resets_of self.old }
         ensures unchanged { OnErr result (self.new ≡ self.old) }
     {
         let proposed = self.flow.params;
@@ -231,6 +241,8 @@ impl Circuit {
         ensures outcome { (c : Settings) (x : Channel) → FitsCircuit c self.old x → Sends c self.new result (outcome c x Clears) }
         ensures range { IfOk result (λ packet. IsInRange 128 (plain packet)) }
         ensures room { room_of self.old ≤ room_of self.new }
+        ensures clears { clears_of self.new ≡ clears_of self.old }
+        ensures resets { resets_of self.new ≡ resets_of self.old }
         ensures unchanged { OnErr result (self.new ≡ self.old) }
     {
         if let Some(error) = self.clear_refusal() {

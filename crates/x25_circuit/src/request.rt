@@ -5,7 +5,7 @@ ghost use Rattle.x25_packet.specs.Spelling.{IsInRange};
 ghost use Rattle.x25_circuit.specs.Circuit.{Settings};
 ghost use Rattle.x25_circuit.specs.Circuit.{Circuit as Channel};
 ghost use Rattle.x25_circuit.specs.Calling.{outcome, Refused, Accepts, clear_in, send_in, interrupt_in, reset_in, ready_in};
-ghost use Rattle.x25_circuit.specs.code.FitsCircuit.{FitsCircuit, Sends, room_of};
+ghost use Rattle.x25_circuit.specs.code.FitsCircuit.{FitsCircuit, Sends, room_of, clears_of, resets_of};
 ghost use Rattle.x25_circuit.specs.Queue.{waiting};
 ghost use Rattle.x25_circuit.specs.Request.{plain_answer, plain_request, refusal_of, with_packet, AnswersRequest, MayPut};
 ghost use Rattle.x25_circuit.specs.code.Replies.{IsSendable, plain_sent};
@@ -57,13 +57,15 @@ fn with_packet<'a>(
 impl Circuit {
     /// Does what is asked, as the call of that name. It answers the packet to send, where there is one.
     ///
-    /// Refused as that call, by 30, 31, 32, 33 or 34, and then the circuit is as before.
+    /// Refused as that call, by 30, 31, 32, 33 or 34, and then the circuit is as before. None of these calls changes a count.
     #[inline(always)]
     pub fn ask<'a>(&mut self, request: Request<'a>) -> Result<Option<Packet<'a>>, CircuitError>
         ensures outcome { (c : Settings) (x : Channel) → FitsCircuit c self.old x → AnswersRequest c self.new result (outcome c x (plain_request request.entry)) }
         ensures range { IfOk result (λ packet. IsSendable (plain_sent packet)) }
         ensures at_once { IfOk result (λ packet. MayPut (plain_request request.entry) packet) }
         ensures room { room_of self.old ≤ room_of self.new }
+        ensures clears { clears_of self.new ≡ clears_of self.old }
+        ensures resets { resets_of self.new ≡ resets_of self.old }
         ensures unchanged { OnErr result (self.new ≡ self.old) }
     {
         match request {
@@ -91,6 +93,8 @@ impl Circuit {
         ensures outcome { (c : Settings) (x : Channel) → FitsCircuit c self.old x → Sends c self.new result (outcome c x (Accepts (plain_answer answer.entry))) }
         ensures range { IfOk result (λ packet. IsInRange 128 (plain packet)) }
         ensures room { room_of self.old ≤ room_of self.new }
+        ensures clears { clears_of self.new ≡ clears_of self.old }
+        ensures resets { resets_of self.new ≡ resets_of self.old }
         ensures unchanged { OnErr result (self.new ≡ self.old) }
     {
         match answer {

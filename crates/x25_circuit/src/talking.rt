@@ -5,7 +5,7 @@ ghost use Rattle.x25_packet.specs.Spelling.{IsInRange};
 ghost use Rattle.x25_circuit.specs.Circuit.{Settings};
 ghost use Rattle.x25_circuit.specs.Circuit.{Circuit as Channel};
 ghost use Rattle.x25_circuit.specs.Calling.{outcome, Sends as CallSends, Interrupts, Resets, SaysReady, SaysNotReady, ready_in};
-ghost use Rattle.x25_circuit.specs.code.FitsCircuit.{FitsCircuit, Sends, Keeps, room_of};
+ghost use Rattle.x25_circuit.specs.code.FitsCircuit.{FitsCircuit, Sends, Keeps, room_of, clears_of, resets_of};
 
 use crate::circuit::Circuit;
 use crate::codes::{ASKED_FOR, NO_DIAGNOSTIC};
@@ -25,6 +25,8 @@ impl Circuit {
     pub fn send(&mut self, q: bool, user: Vec<u8>) -> Result<(), CircuitError>
         ensures outcome { (c : Settings) (x : Channel) → FitsCircuit c self.old x → Keeps c self.new result (outcome c x (CallSends q user.items)) }
         ensures room { room_of self.old ≤ room_of self.new }
+        ensures clears { clears_of self.new ≡ clears_of self.old }
+        ensures resets { resets_of self.new ≡ resets_of self.old }
         ensures unchanged { OnErr result (self.new ≡ self.old) }
     {
         if let Some(error) = self.send_refusal(q, &user) {
@@ -42,6 +44,8 @@ impl Circuit {
         ensures outcome { (c : Settings) (x : Channel) → FitsCircuit c self.old x → Sends c self.new result (outcome c x (Interrupts user.now)) }
         ensures range { IfOk result (λ packet. IsInRange 128 (plain packet)) }
         ensures room { room_of self.old ≤ room_of self.new }
+        ensures clears { clears_of self.new ≡ clears_of self.old }
+        ensures resets { resets_of self.new ≡ resets_of self.old }
         ensures unchanged { OnErr result (self.new ≡ self.old) }
     {
         if let Some(error) = self.interrupt_refusal(user) {
@@ -58,6 +62,8 @@ impl Circuit {
         ensures outcome { (c : Settings) (x : Channel) → FitsCircuit c self.old x → Sends c self.new result (outcome c x Resets) }
         ensures range { IfOk result (λ packet. IsInRange 128 (plain packet)) }
         ensures room { room_of self.old ≤ room_of self.new }
+        ensures clears { clears_of self.new ≡ clears_of self.old }
+        ensures resets { resets_of self.new ≡ resets_of self.old }
         ensures unchanged { OnErr result (self.new ≡ self.old) }
     {
         if let Some(error) = self.closed() {
@@ -78,6 +84,8 @@ impl Circuit {
         ensures outcome { (c : Settings) (x : Channel) → FitsCircuit c self.old x → Sends c self.new result (outcome c x SaysReady) }
         ensures range { IfOk result (λ packet. IsInRange 128 (plain packet)) }
         ensures room { room_of self.old ≤ room_of self.new }
+        ensures clears { clears_of self.new ≡ clears_of self.old }
+        ensures resets { resets_of self.new ≡ resets_of self.old }
         ensures unchanged { OnErr result (self.new ≡ self.old) }
     {
         self.say(true)
@@ -90,6 +98,8 @@ impl Circuit {
         ensures outcome { (c : Settings) (x : Channel) → FitsCircuit c self.old x → Sends c self.new result (outcome c x SaysNotReady) }
         ensures range { IfOk result (λ packet. IsInRange 128 (plain packet)) }
         ensures room { room_of self.old ≤ room_of self.new }
+        ensures clears { clears_of self.new ≡ clears_of self.old }
+        ensures resets { resets_of self.new ≡ resets_of self.old }
         ensures unchanged { OnErr result (self.new ≡ self.old) }
     {
         self.say(false)
@@ -100,6 +110,8 @@ impl Circuit {
         ensures outcome { (c : Settings) (x : Channel) → FitsCircuit c self.old x → Sends c self.new result (ready_in x x.state is_ready) }
         ensures range { IfOk result (λ packet. IsInRange 128 (plain packet)) }
         ensures room { room_of self.old ≤ room_of self.new }
+        ensures clears { clears_of self.new ≡ clears_of self.old }
+        ensures resets { resets_of self.new ≡ resets_of self.old }
         ensures unchanged { OnErr result (self.new ≡ self.old) }
     {
         if let Some(error) = self.closed() {

@@ -1,17 +1,19 @@
 -- A layer's circuits, one by one.
-use Rattle.std.proofs.Common.{◌≡◌, ◌⊎◌, inl, inr, ℕ, zero, suc, ◌+◌, ◌-◌, ◌<◌, ◌≤◌, List, [], ◌∷◌, ◌++◌, length, Option, Some, None, Bool, true, false, slice_get, set, take, if◌then◌else◌, refl, sym, ap, subst, ◌∙◌, arith, IfSome, IfNone, MatchOption, Bor, Result, Ok, Err, OnErr, drop, get_or, ◌||◌, ◌==◌, eq-eqb}
+use Rattle.std.proofs.Common.{◌≡◌, ◌⊎◌, inl, inr, ℕ, zero, suc, ◌+◌, ◌-◌, ◌^◌, ◌<◌, ◌≤◌, List, [], ◌∷◌, ◌++◌, length, Option, Some, None, Bool, true, false, slice_get, set, take, if◌then◌else◌, refl, sym, ap, subst, ◌∙◌, arith, IfSome, IfNone, MatchOption, Bor, Result, Ok, Err, OnErr, drop, get_or, ◌||◌, ◌==◌, eq-eqb}
 use Rattle.std.specs.Result.{is_err}
 use Rattle.std.proofs.lemmas.Option.{none-some, same_Some, slice_get_within, slice_get-get_or}
 use Rattle.std.proofs.lemmas.List.{append-nil, take_all}
 use Rattle.std.proofs.lemmas.Bool.{eqb-true}
 use Rattle.x25_circuit.specs.declared.circuit.Circuit as circuit_code
 use Rattle.x25_circuit.specs.Circuit.{Circuit, is_open, waits}
-use Rattle.x25_circuit.specs.code.FitsCircuit.{FitsCircuit}
+use Rattle.x25_circuit.specs.code.FitsCircuit.{FitsCircuit, clears_of, resets_of}
+use Rattle.x25_layer.specs.code.Counts.{HasCountsLeft, HaveCountsLeft}
 use Rattle.x25_layer.specs.declared.layer.Layer as code
 use Rattle.x25_layer.specs.Layer.{LayerSettings, Layer, is_channel}
 use Rattle.x25_handshakes.specs.laws.Names.{Name}
 use Rattle.x25_layer.specs.laws.Transcript.{name_of}
-use Rattle.x25_layer.specs.code.FitsLayer.{FitsCircuits, FitsLayer, name_at, params_at, is_open_at, waits_up_to}
+use Rattle.x25_layer.specs.code.FitsLayer.{FitsCircuits, FitsLayer, name_at, params_at, is_open_at, waits_up_to, is_most, full_up_to}
+use Rattle.x25_layer.proofs.SettleLemmas.{not_same}
 
 not_false : true ≡ false → ⊥
 not_false e = cc
@@ -38,6 +40,12 @@ get_changed (x ∷ xs) y v (suc i) (suc k) is = next (get_changed xs y v i k is)
     next : ((k ≡ i) × (y ≡ v)) ⊎ ((k ≡ i → ⊥) × (slice_get xs k ≡ Some v)) → ((suc k ≡ suc i) × (y ≡ v)) ⊎ ((suc k ≡ suc i → ⊥) × (slice_get xs k ≡ Some v))
     next (inl p) = inl (ap suc p.0, p.1)
     next (inr p) = inr ((λ e. p.0 (let f : k ≡ i = omega (arith, e) in f)), p.1)
+
+-- each place within has an element
+pub there : {X : Type 0} (xs : List X) (i : ℕ) → i < length xs → (x : X) × (slice_get xs i ≡ Some x)
+there [] i low = absurd (omega (arith, low))
+there (x ∷ xs) zero low = (x, refl)
+there (x ∷ xs) (suc i) low = there xs i (let e : i < length xs = omega (arith, low) in e)
 
 -- a read at a place within
 pub read_at : {X : Type 0} (xs : List X) (i : ℕ) (x : X) → i < length xs → x ≡ get_or xs i x → slice_get xs i ≡ Some x
@@ -188,3 +196,23 @@ if_none (Some x) by p = tt
 pub kept_unless : {X : Type 0} {P : Type 0} (o : Option X) (n m : ℕ) → IfNone o P → IfSome o (λ _. n + 1 ≡ m) → n ≡ m → P
 kept_unless None n m p falls still = p
 kept_unless (Some x) n m p falls still = absurd (omega (arith, falls, still))
+
+-- the same counts
+pub counts_left : (v w : circuit_code.Circuit) → clears_of w ≡ clears_of v → resets_of w ≡ resets_of v → HasCountsLeft v → HasCountsLeft w
+counts_left v w clears resets left =
+    let a = left.clears in
+    let b = left.resets in
+    record { clears = omega (arith, a, clears); resets = omega (arith, b, resets) }
+
+-- no count of the channels up to a number is at its most
+pub none_full : (c : LayerSettings) (vs : List circuit_code.Circuit) (f : ℕ → Circuit) (n : ℕ) → n ≤ length vs → FitsCircuits c vs f → HaveCountsLeft vs → full_up_to f n ≡ false
+none_full c vs f zero low fits have = refl
+none_full c vs f (suc n) low fits have =
+    let found = there vs n (let e : n < length vs = omega (arith, low) in e) in
+    let fit = fits n found.0 found.1 in
+    let left = have n found.0 found.1 in
+    let clears : is_most (f (suc n)).clears ≡ false = not_same (f (suc n)).clears (2 ^ 64 - 1) (λ most. let a = left.clears in let b = fit.clears in omega (arith, most, a, b)) in
+    let resets : is_most (f (suc n)).resets ≡ false = not_same (f (suc n)).resets (2 ^ 64 - 1) (λ most. let a = left.resets in let b = fit.resets in omega (arith, most, a, b)) in
+    ap (λ (b : Bool). b || (is_most (f (suc n)).clears || is_most (f (suc n)).resets)) (none_full c vs f n (let e : n ≤ length vs = omega (arith, low) in e) fits have)
+    ∙ ap (λ (b : Bool). b || is_most (f (suc n)).resets) clears
+    ∙ resets

@@ -19,7 +19,7 @@ use Rattle.x25_layer.specs.code.Waiting.{NoneWaits}
 use Rattle.x25_layer.specs.code.OverLink.{after_all, view_of}
 use Rattle.x25_layer.specs.Rounds.{LinkView, Putting, with_pulled, pull_one, round}
 use Rattle.x25_layer.specs.code.Pulling.{IsEnough, pulled_where, Stands}
-use Rattle.x25_layer.proofs.FitLemmas.{get_changed}
+use Rattle.x25_layer.proofs.FitLemmas.{get_changed, there}
 use Rattle.x25_layer.proofs.SettleLemmas.{put_other, not_same}
 
 -- a link after one packet more
@@ -151,11 +151,6 @@ round_shut link c (suc n) t shut =
     ∙ ap (λ (b : Bool). if b then with_pulled t (layer_pulled c t.layer (suc n)) (layer_pulled c t.layer (suc n)).packet else t) shut
 
 -- a round where no message waits
-there : {X : Type 0} (xs : List X) (i : ℕ) → i < length xs → (x : X) × (slice_get xs i ≡ Some x)
-there [] i low = absurd (omega (arith, low))
-there (x ∷ xs) zero low = (x, refl)
-there (x ∷ xs) (suc i) low = there xs i (let e : i < length xs = omega (arith, low) in e)
-
 pub round_still : PullsWhatWaits → (link : LinkView) (c : LayerSettings) (vs : List circuit_code.Circuit) (n : ℕ) (t : Putting) → n ≤ length vs → FitsCircuits c vs t.layer.circuits → NoneWaits vs → round link c n t ≡ t
 round_still pulls link c vs zero t low fits none = refl
 round_still pulls link c vs (suc n) t low fits none =

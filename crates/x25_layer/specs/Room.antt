@@ -1,16 +1,9 @@
 -- What a layer is asked before a packet: whether its counts have room, and whether memory is set aside (profile).
 use Rattle.std.specs.Prelude.{◌≡◌, ℕ, ◌<◌, ◌≤◌, ◌^◌, ◌-◌, List, Some, slice_get, min}
 use Rattle.x25_circuit.specs.declared.circuit.Circuit as circuit_code
-use Rattle.x25_circuit.specs.code.FitsCircuit.{room_of, clears_of, resets_of}
+use Rattle.x25_circuit.specs.code.FitsCircuit.{room_of}
+pub use Rattle.x25_layer.specs.code.Counts.{HasCountsLeft, HaveCountsLeft}
 use Rattle.x25_layer.specs.declared.layer.Layer as code
-
--- neither count of a circuit is at its most
-pub record HasCountsLeft (v : circuit_code.Circuit) : Type 0 where
-  pub clears : clears_of v < 2 ^ 64 - 1
-  pub resets : resets_of v < 2 ^ 64 - 1
-
-abbrev pub HaveCountsLeft : List circuit_code.Circuit → Type 0
-HaveCountsLeft vs = (k : ℕ) (v : circuit_code.Circuit) → slice_get vs k ≡ Some v → HasCountsLeft v
 
 -- no count of the layer is at its most
 pub record IsNotFull (v : code.Layer) : Type 0 where

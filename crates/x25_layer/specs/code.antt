@@ -1,5 +1,6 @@
 -- What the code's values stand for: contracts and proofs need it, and a reader of the claims doesn't.
 pub mod Waiting
+pub mod Counts
 pub mod FitsLayer
 pub mod OverLink
 pub mod Pulling

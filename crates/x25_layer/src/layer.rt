@@ -1,4 +1,5 @@
-ghost use Rattle.std.specs.Prelude.{◌≡◌, ℕ, ◌≤◌, ◌↔◌, length, max, true, false, IfOk, IfErr, IfSome, IfNone, IsErrOf};
+ghost use Rattle.std.specs.Prelude.{◌≡◌, ℕ, ◌-◌, ◌^◌, ◌<◌, ◌≤◌, ◌↔◌, length, max, true, false, IfOk, IfErr, IfSome, IfNone, IsErrOf};
+ghost use Rattle.x25_layer.specs.code.Counts.{HaveCountsLeft};
 ghost use Rattle.x25_layer.specs.code.Waiting.{NoneWaits};
 
 use crate::circuits::{begun_circuits, forget_all};
@@ -30,6 +31,10 @@ pub struct Layer {
     /// It is known that no message waits in any circuit, so that there is nothing to pull.
     pub(crate) quiet: bool,
     ghost still: { quiet ≡ true → NoneWaits circuits.items },
+    /// It is known that no count is at 2^64 - 1.
+    pub(crate) counts_left: bool,
+    ghost restarts_left: { counts_left ≡ true → restarts < 2 ^ 64 - 1 },
+    ghost circuits_left: { counts_left ≡ true → HaveCountsLeft circuits.items },
     /// Memory for packets that are sent.
     pub(crate) memory: PacketMemory,
 }
@@ -79,6 +84,7 @@ impl Layer {
             restarts: 0,
             circuits,
             quiet: false,
+            counts_left: false,
             memory: Blanks::new(alloc),
         })
     }
@@ -169,6 +175,7 @@ impl Layer {
     {
         self.restarting = false;
         self.quiet = false;
+        self.counts_left = false;
         forget_all(&mut self.circuits);
     }
 

@@ -85,6 +85,7 @@ impl Layer {
         ensures room_stays { (len : ℕ) → HaveRoom len self.old.circuits.items → OnErr result (HaveRoom len self.new.circuits.items) }
     {
         self.quiet = false;
+        self.counts_left = false;
         let place = usize::from(channel) - 1;
         match hear_circuit(&mut self.circuits[place], read) {
             Ok(reply) => Ok(reply),

@@ -72,6 +72,7 @@ impl Layer {
         self.restarting = true;
         self.restarts = 0;
         self.quiet = false;
+        self.counts_left = false;
         begin_all(&mut self.circuits);
         let packet = Packet::Restart {
             cause: restart_cause(self.role),
@@ -121,6 +122,7 @@ impl Layer {
     {
         self.restarting = true;
         self.quiet = false;
+        self.counts_left = false;
         forget_all(&mut self.circuits);
         let packet = Packet::Restart { cause, diagnostic };
         self.put(link, &packet, RESTART_OCTETS);
@@ -136,6 +138,7 @@ impl Layer {
         self.restarting = false;
         self.restarts += 1;
         self.quiet = false;
+        self.counts_left = false;
         begin_all(&mut self.circuits);
     }
 

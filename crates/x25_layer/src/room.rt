@@ -66,6 +66,9 @@ impl Layer {
         ensures value { (c : LayerSettings) (l : State) → FitsLayer c self.now l → result ≡ is_full c l }
         ensures left { result ≡ false → IsNotFull self.now }
     {
+        if self.counts_left {
+            return false;
+        }
         self.restarts == u64::MAX || any_full(&self.circuits)
     }
 
@@ -89,6 +92,7 @@ impl Layer {
         ensures most_circuits { (bound : ℕ) → 4096 ≤ bound → HaveAtMost bound self.old.circuits.items → HaveAtMost bound self.new.circuits.items }
         ensures err { IfErr result (λ e. e ≡ LayerError.NoMemory) }
     {
+        self.counts_left = !self.full();
         room_in_all(&mut self.circuits, len)?;
         self.set_aside(link, MOST_PUT)
     }

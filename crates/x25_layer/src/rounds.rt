@@ -3,14 +3,14 @@ ghost use Rattle.std.specs.Prelude.{◌≡◌, ℕ, ◌+◌, ◌<◌, ◌≤◌,
 ghost use Rattle.x25_packet.specs.Spelling.{IsChannel};
 ghost use Rattle.x25_circuit.specs.Circuit.{Settings};
 ghost use Rattle.x25_circuit.specs.Circuit.{Circuit as Channel};
-ghost use Rattle.x25_circuit.specs.code.FitsCircuit.{FitsCircuit, room_of, waits_of};
+ghost use Rattle.x25_circuit.specs.code.FitsCircuit.{FitsCircuit, room_of, clears_of, resets_of, waits_of};
 ghost use Rattle.x25_layer.specs.Layer.{LayerSettings, packet_on};
 ghost use Rattle.x25_layer.specs.code.FitsLayer.{FitsLayer};
 ghost use Rattle.x25_layer.specs.code.OverLink.{view_of, after_all, Answers};
 ghost use Rattle.x25_layer.specs.Calls.{PullsAll};
 ghost use Rattle.x25_layer.specs.Rounds.{Putting, round, rounds};
 ghost use Rattle.x25_layer.specs.code.Pulling.{IsEnough, pulled_where, Stands};
-ghost use Rattle.x25_layer.specs.Room.{HaveRoom};
+ghost use Rattle.x25_layer.specs.Room.{HaveCountsLeft, HaveRoom};
 ghost use Rattle.x25_layer.specs.code.Waiting.{NoneWaits};
 
 use crate::error::LayerError;
@@ -55,6 +55,8 @@ fn pull_one<L: OrderedLink>(
     ensures no_more { memory.new ≤ memory.old }
     ensures used { memory.old + L.spares link.new ≡ memory.new + L.spares link.old }
     ensures room { room_of circuit.old ≤ room_of circuit.new }
+    ensures clears { clears_of circuit.new ≡ clears_of circuit.old }
+    ensures resets { resets_of circuit.new ≡ resets_of circuit.old }
     ensures fewer { result ≡ true → memory.new < memory.old }
     ensures longest { L.longest link.new ≡ L.longest link.old }
     ensures up { L.up link.new ≡ L.up link.old }
@@ -88,6 +90,8 @@ fn pull_waiting<L: OrderedLink>(
     ensures no_more { memory.new ≤ memory.old }
     ensures used { memory.old + L.spares link.new ≡ memory.new + L.spares link.old }
     ensures room { room_of circuit.old ≤ room_of circuit.new }
+    ensures clears { clears_of circuit.new ≡ clears_of circuit.old }
+    ensures resets { resets_of circuit.new ≡ resets_of circuit.old }
     ensures fewer { result ≡ true → memory.new < memory.old }
     ensures longest { L.longest link.new ≡ L.longest link.old }
     ensures up { L.up link.new ≡ L.up link.old }
@@ -121,6 +125,7 @@ fn round<L: OrderedLink>(
         result ≡ false → round (view_of L.up_in L.waits_in L.after_put x) c c.channels s ≡ s }
     ensures count { length circuits.new.items ≡ length circuits.old.items }
     ensures room { (len : ℕ) → HaveRoom len circuits.old.items → HaveRoom len circuits.new.items }
+    ensures left { HaveCountsLeft circuits.old.items → HaveCountsLeft circuits.new.items }
     ensures no_more { memory.new ≤ memory.old }
     ensures used { memory.old + L.spares link.new ≡ memory.new + L.spares link.old }
     ensures fewer { result ≡ true → memory.new < memory.old }
@@ -155,6 +160,7 @@ fn go_round<L: OrderedLink>(
         result ≡ false → round (view_of L.up_in L.waits_in L.after_put x) c c.channels s ≡ s }
     ensures count { length circuits.new.items ≡ length circuits.old.items }
     ensures room { (len : ℕ) → HaveRoom len circuits.old.items → HaveRoom len circuits.new.items }
+    ensures left { HaveCountsLeft circuits.old.items → HaveCountsLeft circuits.new.items }
     ensures no_more { memory.new ≤ memory.old }
     ensures used { memory.old + L.spares link.new ≡ memory.new + L.spares link.old }
     ensures fewer { result ≡ true → memory.new < memory.old }

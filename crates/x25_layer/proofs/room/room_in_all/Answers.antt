@@ -3,24 +3,17 @@ use Rattle.std.specs.Result.{is_err}
 use Rattle.std.proofs.lemmas.List.{length-set}
 use Rattle.std.proofs.lemmas.Option.{slice_get_within, slice_get-get_or}
 use Rattle.x25_circuit.specs.declared.circuit.Circuit as circuit_code
-use Rattle.x25_circuit.specs.code.FitsCircuit.{FitsCircuit, room_of, clears_of, resets_of, waits_of}
+use Rattle.x25_circuit.specs.code.FitsCircuit.{FitsCircuit, room_of, waits_of}
 use Rattle.x25_layer.specs.code.FitsLayer.{FitsCircuits}
 use Rattle.x25_layer.specs.code.Waiting.{NoneWaits}
 use Rattle.x25_layer.specs.Room.{HasCountsLeft, HaveCountsLeft, HaveRoom, HaveAtMost}
-use Rattle.x25_layer.proofs.FitLemmas.{refused_with, written_back, all_changed, below_changed}
+use Rattle.x25_layer.proofs.FitLemmas.{counts_left, refused_with, written_back, all_changed, below_changed}
 use Rattle.x25_layer.proofs.room.room_in_all.Goals as goal
 
 -- what holds where a call isn't refused
 kept_ok : {T E P : Type 0} (r : Result T E) → is_err r ≡ false → OnOk r P → P
 kept_ok (Ok x) is ok = ok
 kept_ok (Err e) is ok = absurd (cc)
-
--- the same counts
-counts_left : (v w : circuit_code.Circuit) → clears_of w ≡ clears_of v → resets_of w ≡ resets_of v → HasCountsLeft v → HasCountsLeft w
-counts_left v w clears resets left =
-    let a = left.clears in
-    let b = left.resets in
-    record { clears = omega (arith, a, clears); resets = omega (arith, b, resets) }
 
 pub loop-circuit-preserved : goal.loop-circuit-preserved
 loop-circuit-preserved c =

@@ -3,12 +3,12 @@ use Rattle.std.proofs.lemmas.Option.{slice_get_within, slice_get-get_or}
 use Rattle.x25_circuit.specs.declared.circuit.Circuit as circuit_code
 use Rattle.x25_circuit.specs.code.FitsCircuit.{room_of, waits_of}
 use Rattle.x25_layer.specs.Layer.{packet_on}
-use Rattle.x25_layer.specs.Room.{HaveRoom}
+use Rattle.x25_layer.specs.Room.{HasCountsLeft, HaveCountsLeft, HaveRoom}
 use Rattle.x25_layer.specs.code.Waiting.{NoneWaits}
 use Rattle.x25_layer.specs.code.OverLink.{view_of, after_all}
 use Rattle.x25_layer.specs.Rounds.{LinkView, Putting, round}
 use Rattle.x25_layer.specs.code.Pulling.{pulled_where, Stands}
-use Rattle.x25_layer.proofs.FitLemmas.{written_back, all_changed, below_changed, neither, either}
+use Rattle.x25_layer.proofs.FitLemmas.{counts_left, written_back, all_changed, below_changed, neither, either}
 use Rattle.x25_layer.proofs.PullLemmas.{stands_more, one_none}
 use Rattle.x25_layer.proofs.rounds.go_round.Goals as goal
 
@@ -51,6 +51,8 @@ loop-circuit-preserved g c =
           let here = before i _ read in
           let more = p.room in
           all_changed (λ (k : ℕ) (v : circuit_code.Circuit). min len 4096 ≤ room_of v) c.loop-circuit.circuit-items i c.pull_one-is_put.new.circuit before (omega (arith, here, more));
+      left = λ all. all_changed (λ (k : ℕ) (v : circuit_code.Circuit). HasCountsLeft v) c.loop-circuit.circuit-items i c.pull_one-is_put.new.circuit (c.loop-circuit.invariant.left all)
+          (counts_left _ c.pull_one-is_put.new.circuit p.clears p.resets (c.loop-circuit.invariant.left all i _ read));
       used = (let a = p.used in let b = c.loop-circuit.invariant.used in omega (arith, a, b));
       no_more = (let a = p.no_more in let b = c.loop-circuit.invariant.no_more in omega (arith, a, b));
       fewer = λ is. by (either c.loop-circuit.is_put c.pull_one-is_put.result is);
@@ -70,6 +72,14 @@ returns-clause-room g c = λ len have.
     let all = written_back c.args.circuits.now.len c.args.circuits.now.items c.loop-circuit.circuit-items high count in
     subst (λ (vs : List circuit_code.Circuit). HaveRoom len vs) (sym all)
     (c.loop-circuit.invariant.room len (subst (λ (vs : List circuit_code.Circuit). HaveRoom len vs) (sym c.deref_mut-circuit-items.ensures.value) have))
+
+pub returns-clause-left : goal.returns-clause-left
+returns-clause-left g c = λ left.
+    let high : length c.args.circuits.now.items ≤ c.args.circuits.now.len = omega arith in
+    let count : length c.loop-circuit.circuit-items ≡ length c.args.circuits.now.items = omega arith in
+    let all = written_back c.args.circuits.now.len c.args.circuits.now.items c.loop-circuit.circuit-items high count in
+    subst (λ (vs : List circuit_code.Circuit). HaveCountsLeft vs) (sym all)
+    (c.loop-circuit.invariant.left (subst (λ (vs : List circuit_code.Circuit). HaveCountsLeft vs) (sym c.deref_mut-circuit-items.ensures.value) left))
 
 pub returns-clause-still : goal.returns-clause-still
 returns-clause-still g c = λ is.

@@ -5,7 +5,7 @@ use Rattle.x25_layer.specs.Layer.{LayerSettings}
 use Rattle.x25_layer.specs.code.OverLink.{view_of}
 use Rattle.x25_layer.specs.Rounds.{Putting, round}
 use Rattle.x25_layer.specs.code.Pulling.{Stands}
-use Rattle.x25_layer.specs.Room.{HaveRoom}
+use Rattle.x25_layer.specs.Room.{HaveCountsLeft, HaveRoom}
 use Rattle.x25_layer.proofs.rounds.go_round.Given as goal
 
 abbrev pub invariant-loop-circuit : goal.invariant-loop-circuit
@@ -17,6 +17,7 @@ invariant-loop-circuit g l = record {
   none : l.is_put ≡ false → (c : LayerSettings) (x : g.L.OrderedLink.State) (s : Putting) → Stands (g.L.OrderedLink.fits l.initial.link) g.L.OrderedLink.lists g.L.OrderedLink.after_put c l.initial.circuit-items l.initial.memory (g.L.OrderedLink.spares l.initial.link) x s
       → round (view_of g.L.OrderedLink.up_in g.L.OrderedLink.waits_in g.L.OrderedLink.after_put x) c l.circuit-index s ≡ s;
   room : (len : ℕ) → HaveRoom len l.initial.circuit-items → HaveRoom len l.circuit-items;
+  left : HaveCountsLeft l.initial.circuit-items → HaveCountsLeft l.circuit-items;
   used : l.initial.memory + g.L.OrderedLink.spares l.link ≡ l.memory + g.L.OrderedLink.spares l.initial.link;
   no_more : l.memory ≤ l.initial.memory;
   fewer : l.is_put ≡ true → l.memory < l.initial.memory;

@@ -3,8 +3,9 @@ use Rattle.x25_circuit.specs.declared.circuit.Circuit as circuit_code
 use Rattle.x25_circuit.specs.Calling.{outcome}
 use Rattle.x25_circuit.specs.code.FitsCircuit.{FitsCircuit, room_of}
 use Rattle.x25_circuit.specs.Request.{plain_request}
+use Rattle.x25_layer.specs.Room.{HasCountsLeft}
 use Rattle.x25_layer.proofs.CallLemmas.{found_at, asks_ok, asks_err, layer_kept}
-use Rattle.x25_layer.proofs.FitLemmas.{all_changed}
+use Rattle.x25_layer.proofs.FitLemmas.{all_changed, counts_left}
 use Rattle.x25_layer.proofs.HearLemmas.{read_there}
 use Rattle.x25_layer.proofs.layer.Layer.ask_circuit.Goals as goal
 
@@ -36,3 +37,9 @@ returns-in-Err-clause-room c = λ len have.
     let here = have (c.from-place.result - 1) c.index_mut.result.now (read_there c.args.self.now.circuits.items c.args.channel c.from-place.result c.index_mut.result.now c.requires c.from-place.ensures c.index_mut.ensures.value) in
     let more = c.ask.ensures.room in
     all_changed (λ (k : ℕ) (v : circuit_code.Circuit). min len 4096 ≤ room_of v) c.args.self.now.circuits.items (c.from-place.result - 1) c.ask.new.self have (omega (arith, here, more))
+
+pub invariant_of-self-clause-circuits_left : goal.invariant_of-self-clause-circuits_left
+invariant_of-self-clause-circuits_left c = λ is.
+    let have = c.args.self.now.circuits_left is in
+    let here = have (c.from-place.result - 1) c.index_mut.result.now (read_there c.args.self.now.circuits.items c.args.channel c.from-place.result c.index_mut.result.now c.requires c.from-place.ensures c.index_mut.ensures.value) in
+    all_changed (λ (k : ℕ) (v : circuit_code.Circuit). HasCountsLeft v) c.args.self.now.circuits.items (c.from-place.result - 1) c.ask.new.self have (counts_left _ c.ask.new.self c.ask.ensures.clears c.ask.ensures.resets here)

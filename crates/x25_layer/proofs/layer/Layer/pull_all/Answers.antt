@@ -80,3 +80,17 @@ pub returns-clause-link : goal.returns-clause-link
 returns-clause-link g c = λ s p x fits link.
     let e = ended g c s x p fits link in
     subst (λ (u : Putting). g.L.OrderedLink.fits c.round.new.link (after_all g.L.OrderedLink.after_put x u.put)) (sym e.end) e.stands.link
+
+pub returns-clause-room : goal.returns-clause-room
+returns-clause-room g c = λ len have. c.round.ensures.room len (c.loop.invariant.room len have)
+
+-- ---- what is known
+
+pub invariant_of-self-clause-still : goal.invariant_of-self-clause-still
+invariant_of-self-clause-still g c = c.round.ensures.still
+
+pub invariant_of-self-clause-restarts_left : goal.invariant_of-self-clause-restarts_left
+invariant_of-self-clause-restarts_left g c = c.loop.self.restarts_left
+
+pub invariant_of-self-clause-circuits_left : goal.invariant_of-self-clause-circuits_left
+invariant_of-self-clause-circuits_left g c = λ is. c.round.ensures.left (c.loop.self.circuits_left is)
