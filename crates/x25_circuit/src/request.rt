@@ -118,7 +118,7 @@ impl Circuit {
                 .err(),
             Request::Accept { answer } => self.accepted(*answer).err(),
             Request::Clear => self.clear_refusal(),
-            Request::Send { q, user } => self.send_refusal(*q, user),
+            Request::Send { q, user } => self.send_refusal(*q, user.as_slice()),
             Request::Interrupt { user } => self.interrupt_refusal(user),
             Request::Reset | Request::Ready | Request::NotReady => self.closed(),
         }
@@ -136,11 +136,13 @@ impl Circuit {
         }
     }
 
-    pub(crate) fn send_refusal(&self, q: bool, user: &Vec<u8>) -> Option<CircuitError>
-        ensures refusal { (c : Settings) (x : Channel) → FitsCircuit c self.now x → result ≡ refusal_of (send_in c x x.state q user.now.items) }
-        ensures refused { (c : Settings) (x : Channel) → FitsCircuit c self.now x → IfSome result (λ e. send_in c x x.state q user.now.items ≡ Refused e) }
+    /// Why `send` would refuse this message now, if it would: 30 WrongState outside of p4 with d1, then 32 TooLong, then 31 Full exactly where 8
+    /// messages wait.
+    pub fn send_refusal(&self, q: bool, user: &[u8]) -> Option<CircuitError>
+        ensures refusal { (c : Settings) (x : Channel) → FitsCircuit c self.now x → result ≡ refusal_of (send_in c x x.state q user.now) }
+        ensures refused { (c : Settings) (x : Channel) → FitsCircuit c self.now x → IfSome result (λ e. send_in c x x.state q user.now ≡ Refused e) }
         ensures open { IfNone result (self.now.state ≡ State.Open) }
-        ensures short { IfNone result (length user.now.items ≤ 65535) }
+        ensures short { IfNone result (length user.now ≤ 65535) }
         ensures few { IfNone result (length (waiting self.now.transfer.queue) < 8) }
     {
         match self.state {

@@ -8,25 +8,25 @@ pub returns-in-Open-2-clause-refusal : goal.returns-in-Open-2-clause-refusal
 returns-in-Open-2-clause-refusal c = λ d x fits.
     let waits = waits_are (outgoing x).size c.args.self.now.transfer x.talk fits.talk in
     rw (
-      send_at d x x.state c.args.q c.args.user.now.items (sym fits.state ∙ c.in-Open-2.is),
-      send_full d x c.args.q c.args.user.now.items (omega (arith, c.args.user.now.ok, c.len.ensures, c.if-len-gt-LONGEST_MESSAGE.false))
-          (omega (arith, waits, c.len-in-Open-1.ensures.value, c.if-len-eq-PLACES.true)),
+      send_at d x x.state c.args.q c.args.user.now (sym fits.state ∙ c.in-Open-2.is),
+      send_full d x c.args.q c.args.user.now (omega (arith, c.if-user-gt-LONGEST_MESSAGE.false))
+          (omega (arith, waits, c.len.ensures.value, c.if-len-eq-PLACES.true)),
     ) refl
 
 pub returns-in-Open-2-clause-refused : goal.returns-in-Open-2-clause-refused
 returns-in-Open-2-clause-refused c = λ d x fits.
     let waits = waits_are (outgoing x).size c.args.self.now.transfer x.talk fits.talk in
     rw (
-      send_at d x x.state c.args.q c.args.user.now.items (sym fits.state ∙ c.in-Open-2.is),
-      send_full d x c.args.q c.args.user.now.items (omega (arith, c.args.user.now.ok, c.len.ensures, c.if-len-gt-LONGEST_MESSAGE.false))
-          (omega (arith, waits, c.len-in-Open-1.ensures.value, c.if-len-eq-PLACES.true)),
+      send_at d x x.state c.args.q c.args.user.now (sym fits.state ∙ c.in-Open-2.is),
+      send_full d x c.args.q c.args.user.now (omega (arith, c.if-user-gt-LONGEST_MESSAGE.false))
+          (omega (arith, waits, c.len.ensures.value, c.if-len-eq-PLACES.true)),
     ) refl
 
 pub returns-in-Open-3-clause-refusal : goal.returns-in-Open-3-clause-refusal
 returns-in-Open-3-clause-refusal c = λ d x fits.
     let waits = waits_are (outgoing x).size c.args.self.now.transfer x.talk fits.talk in
     rw (
-      send_at d x x.state c.args.q c.args.user.now.items (sym fits.state ∙ c.in-Open-3.is),
-      send_waits d x c.args.q c.args.user.now.items (omega (arith, c.args.user.now.ok, c.len.ensures, c.if-len-gt-LONGEST_MESSAGE.false))
-          (omega (arith, waits, c.len-in-Open-1.ensures.value, c.len-in-Open-1.ensures.few, c.if-len-eq-PLACES.false)),
+      send_at d x x.state c.args.q c.args.user.now (sym fits.state ∙ c.in-Open-3.is),
+      send_waits d x c.args.q c.args.user.now (omega (arith, c.if-user-gt-LONGEST_MESSAGE.false))
+          (omega (arith, waits, c.len.ensures.value, c.len.ensures.few, c.if-len-eq-PLACES.false)),
     ) refl
