@@ -1,18 +1,14 @@
 -- The calls of the user: the circuit of a channel is asked, and its packet goes on that channel.
-use Rattle.std.proofs.Common.{◌≡◌, ℕ, suc, ◌-◌, ◌<◌, ◌≤◌, List, [], ◌++◌, length, Option, Some, None, Bool, true, false, nat_le, nat_lt, ◌==◌, if◌then◌else◌, get_or, set, refl, sym, ap, subst, ◌∙◌, arith, Result, Ok, Err, IsErrAnd}
+use Rattle.std.proofs.Common.{◌≡◌, ℕ, suc, ◌-◌, ◌<◌, ◌≤◌, List, [], length, Option, Some, None, Bool, true, false, nat_le, ◌==◌, if◌then◌else◌, get_or, set, refl, sym, ap, subst, ◌∙◌, arith, Result, Ok, Err, IsErrAnd}
 use Rattle.std.proofs.Math.ListN.{length-set}
 use Rattle.std.proofs.lemmas.Bool.{leb-true, and_parts}
 use Rattle.x25_packet.specs.declared.packet.Packet.{Packet}
 use Rattle.x25_packet.specs.Packet.{PlainPacket}
 use Rattle.x25_circuit.specs.declared.circuit.Circuit as circuit_code
 use Rattle.x25_circuit.specs.declared.error.CircuitError.{CircuitError}
-use Rattle.x25_circuit.specs.declared.error.CircuitError.TheVariants.{WrongState, TooLong, Full}
-use Rattle.x25_circuit.specs.declared.state.State.{State}
-use Rattle.x25_circuit.specs.declared.state.State.TheVariants.{Free, Calling, Arriving, Collision, Open, Resetting, Clearing}
-use Rattle.x25_circuit.specs.Message.{cut}
-use Rattle.x25_circuit.specs.Circuit.{Settings, Talk, Circuit, is_open, is_open_in, waits, outgoing}
+use Rattle.x25_circuit.specs.Circuit.{Settings, Circuit, waits}
 use Rattle.x25_circuit.specs.declared.params.Params.{Params}
-use Rattle.x25_circuit.specs.Calling.{Outcome, Done, Refused, Request, Calls, Sends, keeps_on, send_in, outcome}
+use Rattle.x25_circuit.specs.Calling.{Outcome, Done, Refused, Request, Calls, outcome}
 use Rattle.x25_circuit.specs.code.Replies.{plain_sent}
 use Rattle.x25_circuit.specs.Request.{refusal_of, AnswersRequest}
 use Rattle.x25_circuit.specs.code.FitsCircuit.{FitsCircuit}
@@ -24,7 +20,7 @@ use Rattle.x25_layer.specs.Calls.{Asks, Dials, LayerOutcome, Accepted, Declined,
 use Rattle.x25_layer.specs.Rounds.{LinkView, Answered, Went, Refuses, went, calls}
 use Rattle.x25_layer.specs.code.FitsLayer.{FitsCircuits, FitsLayer}
 use Rattle.x25_layer.specs.code.OverLink.{LayerGives, LinkGives}
-use Rattle.x25_layer.specs.Asking.{with_circuit, AsksCircuit, error_without_memory, call_refusal, messages_refusal}
+use Rattle.x25_layer.specs.Asking.{with_circuit, AsksCircuit, error_without_memory, call_refusal}
 use Rattle.x25_layer.proofs.FitLemmas.{read_at}
 use Rattle.x25_layer.proofs.PullLemmas.{fits_put, fits_same}
 use Rattle.x25_layer.proofs.SettleLemmas.{not_same}
@@ -160,38 +156,6 @@ declined_on (Refused f) restarts circuits h e is = cc
 pub goes_on : (view : LinkView) (c : LayerSettings) (o : Outcome) (restarts : ℕ) (circuits : ℕ → Circuit) (h : ℕ) → None ≡ refusal_of o → None ≡ call_refusal (went view c (outcome_on restarts circuits h o))
 goes_on view c (Done next p) restarts circuits h is = refl
 goes_on view c (Refused f) restarts circuits h is = cc
-
--- a message, outside of p4 with d1
-pub closed_sends : (c : Settings) (x : Circuit) (q : Bool) (user : List ℕ) → is_open x ≡ false → outcome c x (Sends q user) ≡ Refused WrongState
-closed_sends c x q user closed = at x.state closed
-  where
-    at : (s : State) → is_open_in s ≡ false → send_in c x s q user ≡ Refused WrongState
-    at Free is = refl
-    at Calling is = refl
-    at Arriving is = refl
-    at Collision is = refl
-    at Open is = absurd (cc)
-    at Resetting is = refl
-    at Clearing is = refl
-
--- .. and there: only its length and those that wait may refuse it
-pub open_sends : (view : LinkView) (c : LayerSettings) (x : Circuit) (q : Bool) (user : List ℕ) (restarts : ℕ) (circuits : ℕ → Circuit) (h : ℕ) → is_open x ≡ true
-    → None ≡ messages_refusal (went view c (outcome_on restarts circuits h (outcome c.circuit x (Sends q user))))
-open_sends view c x q user restarts circuits h is_so = at x.state is_so
-  where
-    test : (short few : Bool) (talk : Talk) → None ≡ messages_refusal (went view c (outcome_on restarts circuits h (if short then (if few then keeps_on x talk None else Refused Full) else Refused TooLong)))
-    test true true talk = refl
-    test true false talk = refl
-    test false few talk = refl
-
-    at : (s : State) → is_open_in s ≡ true → None ≡ messages_refusal (went view c (outcome_on restarts circuits h (send_in c.circuit x s q user)))
-    at Free is = absurd (cc)
-    at Calling is = absurd (cc)
-    at Arriving is = absurd (cc)
-    at Collision is = absurd (cc)
-    at Open is = test (nat_le (length user) 65535) (nat_lt (waits x) 8) (record { sent = x.talk.sent; taken = x.talk.taken; acked = x.talk.acked; rest = x.talk.rest ++ cut (outgoing x).size q user; int_out = x.talk.int_out; peer_ready = x.talk.peer_ready; own_ready = x.talk.own_ready })
-    at Resetting is = absurd (cc)
-    at Clearing is = absurd (cc)
 
 -- ---- a new call
 

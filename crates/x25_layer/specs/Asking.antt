@@ -1,8 +1,6 @@
 -- What the circuit of a channel answers to the user of its layer.
-use Rattle.std.specs.Prelude.{◌≡◌, ℕ, Option, Some, None, Result, Err, IsOkAnd, Bool, true, false, if◌then◌else◌}
+use Rattle.std.specs.Prelude.{◌≡◌, ℕ, Option, Some, None, Result, Err, IsOkAnd, if◌then◌else◌}
 use Rattle.x25_packet.specs.declared.packet.Packet.{Packet}
-use Rattle.x25_circuit.specs.declared.error.CircuitError.{CircuitError}
-use Rattle.x25_circuit.specs.declared.error.CircuitError.TheVariants.{TooLong, Full}
 use Rattle.x25_circuit.specs.Circuit.{Circuit}
 use Rattle.x25_circuit.specs.Calling.{Outcome, Done, Refused}
 use Rattle.x25_circuit.specs.code.Replies.{plain_sent}
@@ -31,18 +29,3 @@ error_without_memory (Refused e) = error.Circuit e
 abbrev pub call_refusal : Answered → Option LayerError
 call_refusal (Went s) = None
 call_refusal (Refuses e) = Some e
-
--- a message is refused for its own length, or as eight others wait
-abbrev pub is_of_message : CircuitError → Bool
-is_of_message TooLong = true
-is_of_message Full = true
-is_of_message e = false
-
--- .. so a refusal that any message meets is another
-abbrev pub of_any_message : LayerError → Option LayerError
-of_any_message (error.Circuit e) = if is_of_message e then None else Some (error.Circuit e)
-of_any_message e = Some e
-
-abbrev pub messages_refusal : Answered → Option LayerError
-messages_refusal (Went s) = None
-messages_refusal (Refuses e) = of_any_message e

@@ -1,5 +1,5 @@
 //! What the user asks of the circuit of a channel: the steps that all calls with a channel share.
-ghost use Rattle.std.specs.Prelude.{◌≡◌, ◌≢◌, ℕ, ◌<◌, ◌≤◌, ◌&&◌, ◌==◌, length, List, [], Bool, true, false, vec_capacity, IfErr, IfOk, IfSome, OnErr};
+ghost use Rattle.std.specs.Prelude.{◌≡◌, ◌≢◌, ℕ, ◌<◌, ◌≤◌, ◌&&◌, ◌==◌, length, List, [], true, false, vec_capacity, IfErr, IfOk, IfSome, OnErr};
 ghost use Rattle.x25_circuit.specs.Calling.{outcome, Sends};
 ghost use Rattle.x25_circuit.specs.code.Replies.{IsSendable, plain_sent};
 ghost use Rattle.x25_circuit.specs.Request.{plain_request, MayPut};
@@ -9,13 +9,13 @@ ghost use Rattle.x25_layer.specs.Calls.{Asks, puts_at_once, outcome_on};
 ghost use Rattle.x25_layer.specs.Rounds.{Refuses, calls, went};
 ghost use Rattle.x25_layer.specs.code.FitsLayer.{FitsLayer};
 ghost use Rattle.x25_layer.specs.code.OverLink.{Answers, Does, view_of};
-ghost use Rattle.x25_layer.specs.Asking.{AsksCircuit, error_without_memory, call_refusal, messages_refusal};
+ghost use Rattle.x25_layer.specs.Asking.{AsksCircuit, error_without_memory, call_refusal};
 ghost use Rattle.x25_layer.specs.Room.{HaveRoom};
 
 use crate::error::LayerError;
 use crate::layer::Layer;
 use crate::putting::MOST_PUT;
-use x25_circuit::{CircuitError, Request};
+use x25_circuit::Request;
 use x25_link::OrderedLink;
 use x25_packet::Packet;
 
@@ -165,12 +165,17 @@ impl Layer {
         }
     }
 
-    /// Why `ask` would refuse any message on a channel now, if it would. Where it wouldn't, a message is still refused where it is too
-    /// long, or where eight wait.
+    /// Why `ask` would refuse this message on a channel now, if it would, as `refusal`, but of user data that is lent.
     #[inline(always)]
-    pub fn refuses_messages<L: OrderedLink>(&self, link: &L, channel: u16) -> Option<LayerError>
-        ensures value { (c : LayerSettings) (l : State) (x : L.State) (q : Bool) (user : List ℕ) → FitsLayer c self.now l → L.fits link.now x → result ≡ messages_refusal (calls (view_of L.up_in L.waits_in L.after_put x) c l (Asks channel (Sends q user))) }
-        ensures refused { (c : LayerSettings) (l : State) (x : L.State) (q : Bool) (user : List ℕ) → FitsLayer c self.now l → L.fits link.now x → IfSome result (λ e. calls (view_of L.up_in L.waits_in L.after_put x) c l (Asks channel (Sends q user)) ≡ Refuses e) }
+    pub fn message_refusal<L: OrderedLink>(
+        &self,
+        link: &L,
+        channel: u16,
+        q: bool,
+        user: &[u8],
+    ) -> Option<LayerError>
+        ensures value { (c : LayerSettings) (l : State) (x : L.State) → FitsLayer c self.now l → L.fits link.now x → result ≡ call_refusal (calls (view_of L.up_in L.waits_in L.after_put x) c l (Asks channel (Sends q user.now))) }
+        ensures refused { (c : LayerSettings) (l : State) (x : L.State) → FitsLayer c self.now l → L.fits link.now x → IfSome result (λ e. calls (view_of L.up_in L.waits_in L.after_put x) c l (Asks channel (Sends q user.now)) ≡ Refuses e) }
     {
         if !link.is_up() {
             return Some(LayerError::NotUp);
@@ -181,10 +186,10 @@ impl Layer {
         let Some(circuit) = self.circuit(channel) else {
             return Some(LayerError::NoSuchChannel);
         };
-        if circuit.is_open() {
-            return None;
+        match circuit.send_refusal(q, user) {
+            Some(error) => Some(LayerError::Circuit(error)),
+            None => None,
         }
-        Some(LayerError::Circuit(CircuitError::WrongState))
     }
 
     /// Asks the circuit of a channel, puts its packet, where there is one, and pulls: all calls with a channel in one.

@@ -179,7 +179,7 @@ fn ask_to_accept<L: OrderedLink>(
     layer.ask(link, channel, request)
 }
 
-// Sends a message, where `refuses_messages` foresees no refusal; else that is the answer.
+// Sends a message, where `message_refusal` foresees no refusal; else that is the answer.
 fn send<L: OrderedLink>(
     layer: &mut Layer,
     link: &mut L,
@@ -189,7 +189,7 @@ fn send<L: OrderedLink>(
 ) -> Result<(), LayerError>
     requires { 4099 ≤ L.longest link.old }
 {
-    if let Some(error) = layer.refuses_messages(link, channel) {
+    if let Some(error) = layer.message_refusal(link, channel, q, user.as_slice()) {
         return Err(error);
     }
     layer.send(link, channel, q, user)

@@ -168,7 +168,7 @@ impl Station {
         match command {
             Cmd::Accept { channel } => self.refuses(*channel, &Request::Accept { answer: None }),
             Cmd::Clear { channel } => self.refuses(*channel, &Request::Clear),
-            Cmd::Send { channel, .. } => self.refuses_messages(*channel),
+            Cmd::Send { channel, q, user } => self.refuses_message(*channel, *q, user),
             Cmd::Interrupt { channel, user } => self.refuses(
                 *channel,
                 &Request::Interrupt { user },
@@ -188,12 +188,12 @@ impl Station {
         self.layer.refusal(&self.link, channel, request)
     }
 
-    // .. any message
+    // .. this message
     #[inline(always)]
-    fn refuses_messages(&self, channel: u16) -> Option<LayerError>
-        ensures { (c : Settings) (s : State) (q : Bool) (user : List ℕ) → FitsStation c self.now s → IfSome result (λ e. requests c s (Asks channel (CircuitSends q user)) ≡ Refused (StationError.Layer e)) }
+    fn refuses_message(&self, channel: u16, q: bool, user: &[u8]) -> Option<LayerError>
+        ensures { (c : Settings) (s : State) → FitsStation c self.now s → IfSome result (λ e. requests c s (Asks channel (CircuitSends q user.now)) ≡ Refused (StationError.Layer e)) }
     {
-        self.layer.refuses_messages(&self.link, channel)
+        self.layer.message_refusal(&self.link, channel, q, user)
     }
 
     // Does what the user asks.
