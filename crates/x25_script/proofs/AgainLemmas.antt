@@ -1,18 +1,18 @@
 -- A line that is spelled is read.
-use Rattle.std.proofs.Common.{ℕ, ◌≤◌, ◌≡◌, ◌∙◌, Bool, true, false, List, [], ◌∷◌, ◌++◌, ◌-◌, length, get_or, take, drop, Option, Some, None, refl, ap, sym, arith, append-nil}
+use Rattle.std.proofs.Common.{ℕ, ◌+◌, ◌<◌, ◌≤◌, ◌≡◌, ◌∙◌, Bool, true, false, List, ◌∷◌, ◌++◌, length, get_or, take, drop, Option, Some, None, refl, ap, sym, arith, append-nil}
 use Rattle.std.specs.Prelude.{cond, option_and_then, decimal, IfSome}
 use Rattle.std.specs.List.{list_all}
 use Rattle.std.proofs.lemmas.Bool.{lt-ltb, ne_eqb}
 use Rattle.std.proofs.lemmas.Fmt.{digits_decimal}
-use Rattle.std.proofs.lemmas.List.{take_rest}
+use Rattle.std.proofs.lemmas.List.{take-append-drop}
 use Rattle.x25_bits.specs.declared.role.Role.{Role}
 use Rattle.x25_bits.specs.declared.role.Role.TheVariants.{Dte, Dce}
 use Rattle.x25_circuit.specs.declared.params.Params.{Params}
 use Rattle.x25_script.specs.ScriptLine.{PlainCommand, call, accept, clear, send, interrupt, reset, ready, not_ready, restart, pull, connect, disconnect, PlainLine, command, t1, deliver, lose, damage, drain, heal}
 use Rattle.x25_script.specs.Reading.Spelling.{end_text, direction_text, q_text, address_text, IsAddress, IsNumber, Writes, AreParams, params_text, SpellsCommand, Spells}
-use Rattle.x25_script.specs.Reading.{parts_of, number_in, q_in, octets_in, small_number_in, params_in, with_params_of, with_params_in, call_in, accept_in, send_in, interrupt_in, on_channel, with_fields, command_in, lose_in, damage_in, drain_in, line_in}
-use Rattle.x25_script.proofs.NumberLemmas.{number_found, own, number_again}
-use Rattle.x25_script.proofs.PartLemmas.{parts_again, whole_again, no_blank, octets_no_blank, digits_no_blank, address_no_blank, end_again, from_again, q_again, q_found, address_again, octets_again, octets_found}
+use Rattle.x25_script.specs.Reading.{parts_of, number_in, octets_in, small_number_in, params_in, with_params_of, with_params_in, call_in, accept_in, send_in, interrupt_in, on_channel, with_fields, command_in, lose_in, damage_in, drain_in, line_in}
+use Rattle.x25_script.proofs.NumberLemmas.{next_at, number_found, own, number_again}
+use Rattle.x25_script.proofs.PartLemmas.{parts_again, whole_again, no_blank, octets_no_blank, digits_no_blank, address_no_blank, end_again, from_again, q_again, address_again, octets_again, octets_found}
 
 -- a step after one that reads
 bind_again : {A B : Type 0} (read : Option A) (f : A → Option B) (x : A) (y : B) → read ≡ Some x → f x ≡ Some y → option_and_then f read ≡ Some y
@@ -92,24 +92,19 @@ send_again channel q user digits h w =
     (bind_again _ _ q _ (q_again q)
     (bind_again _ _ user _ (octets_again digits user w) refl))))
 
--- a channel of one character, and Q
-short_send : (first mark : ℕ) (digits user : List ℕ) (channel : ℕ) (q : Bool) → number_in (first ∷ []) ≡ Some channel → q_in (mark ∷ []) ≡ Some q → octets_in digits ≡ Some user
-    → send_in (first ∷ 32 ∷ mark ∷ 32 ∷ digits) ≡ Some (send channel q user)
-short_send first mark digits user channel q e f g =
-    let number = number_found (first ∷ []) channel e in
-    ap (λ text. send_in (text ++ (32 ∷ mark ∷ 32 ∷ digits))) number.1 ∙ ap (λ text. send_in (decimal channel ++ (32 ∷ (text ++ (32 ∷ digits))))) (q_found (mark ∷ []) q f)
-    ∙ send_again channel q user digits (omega (arith, number.0)) (octets_found digits user g)
+-- a channel before a blank
+pub channel_before : (text : List ℕ) (digits channel : ℕ) → digits < length text → get_or text digits 0 ≡ 32 → Some channel ≡ number_in (take digits text)
+    → (text ≡ decimal channel ++ (32 ∷ drop (digits + 1) text)) × IsNumber channel
+channel_before text digits channel within blank e =
+    let number = number_found (take digits text) channel (sym e) in
+    let rest : drop digits text ≡ 32 ∷ drop (digits + 1) text = next_at digits text within ∙ ap (λ c. c ∷ drop (digits + 1) text) blank in
+    (sym (take-append-drop digits text) ∙ ap (λ t. take digits text ++ t) rest ∙ ap (λ t. t ++ (32 ∷ drop (digits + 1) text)) number.1, omega (arith, number.0))
 
--- .. by the places of their characters
-pub sent_at : (text user : List ℕ) (channel : ℕ) (q : Bool) → 4 ≤ length text → get_or text 1 0 ≡ 32 → get_or text 3 0 ≡ 32 → Some channel ≡ number_in (take 1 text)
-    → Some q ≡ q_in (take 1 (drop 2 text)) → Some user ≡ octets_in (take (length text - 4) (drop 4 text)) → send_in text ≡ Some (send channel q user)
-sent_at [] user channel q long one three e f g = absurd (omega arith)
-sent_at (a ∷ []) user channel q long one three e f g = absurd (omega arith)
-sent_at (a ∷ b ∷ []) user channel q long one three e f g = absurd (omega arith)
-sent_at (a ∷ b ∷ m ∷ []) user channel q long one three e f g = absurd (omega arith)
-sent_at (a ∷ b ∷ m ∷ d ∷ digits) user channel q long one three e f g =
-    ap (λ x. send_in (a ∷ x ∷ m ∷ d ∷ digits)) one ∙ ap (λ x. send_in (a ∷ 32 ∷ m ∷ x ∷ digits)) three
-    ∙ short_send a m digits user channel q (sym e) (sym f) (ap octets_in (sym (take_rest (a ∷ b ∷ m ∷ d ∷ digits) 4)) ∙ sym g)
+-- what is sent, by its fields
+pub sent_by : (text rest digits user : List ℕ) (channel : ℕ) (q : Bool) → IsNumber channel → text ≡ decimal channel ++ (32 ∷ rest) → rest ≡ q_text q ++ (32 ∷ digits)
+    → Some user ≡ octets_in digits → send_in text ≡ Some (send channel q user)
+sent_by text rest digits user channel q h e f g =
+    ap send_in (e ∙ ap (λ t. decimal channel ++ (32 ∷ t)) f) ∙ send_again channel q user digits h (octets_found digits user (sym g))
 
 -- what is accepted as it was proposed
 pub accept_read : (text fields : List ℕ) (read : Option ℕ) → command_in text ≡ accept_in fields → read ≡ number_in fields

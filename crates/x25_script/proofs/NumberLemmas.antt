@@ -112,7 +112,7 @@ pub record Leads (i value : ℕ) (text : List ℕ) : Type 0 where
 pub leads_none : (text : List ℕ) → Leads 0 0 text
 leads_none text = record { small = omega arith; digits = refl; same = refl }
 
-next_at : (i : ℕ) (text : List ℕ) → i < length text → drop i text ≡ get_or text i 0 ∷ drop (i + 1) text
+pub next_at : (i : ℕ) (text : List ℕ) → i < length text → drop i text ≡ get_or text i 0 ∷ drop (i + 1) text
 next_at i text within = drop-cons text i 0 within ∙ ap (λ n. get_or text i 0 ∷ drop n text) (sym (add-one i))
 
 pub leads_on : (i value : ℕ) (text : List ℕ) → Leads i value text → i < length text → is_ascii_digit (get_or text i 0) ≡ true

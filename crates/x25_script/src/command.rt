@@ -1,7 +1,8 @@
 //! What the user of an end asks for.
-ghost use Rattle.std.specs.Prelude.{◌≡◌, IfSome, Some, None};
+ghost use Rattle.std.specs.Prelude.{◌≡◌, ◌++◌, ◌∷◌, IfSome, Some, None, decimal};
 ghost use Rattle.x25_script.specs.ScriptLine.{accept, send};
 ghost use Rattle.x25_script.specs.Reading.{accept_in, bare_command_in, call_in, command_in, interrupt_in, send_in, with_fields, GivesCommand};
+ghost use Rattle.x25_script.specs.Reading.Spelling.{q_text, IsNumber};
 
 use crate::fields::{address, is, number, octets, q, split_blank, verb};
 use crate::params::with_params;
@@ -64,17 +65,51 @@ fn send(text: &[u8]) -> Option<Command<'_>>
     })
 }
 
-/// What is to be sent, where the channel has one digit.
+/// A channel of so many digits, and what follows its blank.
+#[inline(always)]
+fn channel_of(text: &[u8], digits: usize) -> Option<(u16, &[u8])>
+    ensures spelled { IfSome result (λ parts. text.now ≡ decimal parts.0 ++ (32 ∷ parts.1.now)) }
+    ensures number { IfSome result (λ parts. IsNumber parts.0) }
+{
+    if text.len() <= digits || text[digits] != b' ' {
+        return None;
+    }
+    let channel = number(&text[..digits])?;
+    Some((channel, &text[digits + 1..]))
+}
+
+/// A channel of one or two digits, and what follows its blank.
+#[inline(always)]
+fn behind_channel(text: &[u8]) -> Option<(u16, &[u8])>
+    ensures spelled { IfSome result (λ parts. text.now ≡ decimal parts.0 ++ (32 ∷ parts.1.now)) }
+    ensures number { IfSome result (λ parts. IsNumber parts.0) }
+{
+    if let Some(parts) = channel_of(text, 1) {
+        return Some(parts);
+    }
+    channel_of(text, 2)
+}
+
+/// Q, and what follows its blank.
+#[inline(always)]
+fn behind_q(text: &[u8]) -> Option<(bool, &[u8])>
+    ensures { IfSome result (λ parts. text.now ≡ q_text parts.0 ++ (32 ∷ parts.1.now)) }
+{
+    match text {
+        [b'0', b' ', rest @ ..] => Some((false, rest)),
+        [b'1', b' ', rest @ ..] => Some((true, rest)),
+        _ => None,
+    }
+}
+
+/// What is to be sent, where the channel has one or two digits.
 #[inline(always)]
 fn sent(text: &[u8]) -> Option<Sent<'_>>
     ensures { IfSome result (λ s. send_in text.now ≡ Some (send s.channel s.q s.user)) }
 {
-    if text.len() < 4 || text[1] != b' ' || text[3] != b' ' {
-        return None;
-    }
-    let channel = number(&text[..1])?;
-    let q = q(&text[2..3])?;
-    let user = octets(&text[4..])?;
+    let (channel, rest) = behind_channel(text)?;
+    let (q, digits) = behind_q(rest)?;
+    let user = octets(digits)?;
     Some(Sent { channel, q, user })
 }
 
@@ -159,7 +194,7 @@ fn behind_send(text: &[u8]) -> Option<&[u8]>
     }
 }
 
-/// What a command asks to send, where the channel has one digit. `None` says nothing of the command. It takes no memory. Profile.
+/// What a command asks to send, where the channel has one or two digits. `None` says nothing of the command. It takes no memory. Profile.
 #[inline(always)]
 pub fn read_send(text: &[u8]) -> Option<Sent<'_>>
     ensures { IfSome result (λ s. command_in text.now ≡ Some (send s.channel s.q s.user)) }
@@ -189,11 +224,12 @@ pub fn read_accept(text: &[u8]) -> Option<u16>
     number(channel)
 }
 
-/// The command that follows the name of its end. The words that most commands have are tried first.
+/// The command that the characters behind the name of its end spell, where they spell one. It takes no memory. Profile.
 #[inline(always)]
-pub(crate) fn command(text: &[u8]) -> Option<Command<'_>>
+pub fn read_command(text: &[u8]) -> Option<Command<'_>>
     ensures { GivesCommand result (command_in text.now) }
 {
+    // The words that most commands have are tried first.
     if let Some(fields) = behind_send(text) {
         return send(fields);
     }

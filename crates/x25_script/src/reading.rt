@@ -1,11 +1,11 @@
 //! A line of a script read from its characters.
 ghost use Rattle.std.specs.Prelude.{◌≡◌, IfSome, IsSomeAnd, Some, option_map};
-ghost use Rattle.x25_script.specs.ScriptLine.{PlainLine, command, deliver, plain};
-ghost use Rattle.x25_script.specs.Reading.{after, bare_line_in, command_in, damage_in, drain_in, line_in, lose_in, GivesLine};
+ghost use Rattle.x25_script.specs.ScriptLine.{PlainLine, command, deliver, drain, lose, plain, t1};
+ghost use Rattle.x25_script.specs.Reading.{after, bare_line_in, command_in, damage_in, drain_in, line_in, lose_in, number_in, GivesLine};
 ghost use Rattle.x25_script.specs.Reading.Spelling.{Spells};
 ghost use Rattle.x25_script.specs.declared.words.Keyword.TheVariants.{Deliver, End};
 
-use crate::command::command;
+use crate::command::read_command;
 use crate::fields::{end, from, is, keyword, number, octets, split_blank};
 use crate::script_line::ScriptLine;
 use crate::words::Keyword;
@@ -35,15 +35,24 @@ fn damage(fields: &[u8]) -> Option<ScriptLine<'_>>
     })
 }
 
+/// How many frames arrive at most.
 #[inline(always)]
 #[tactic(auto, unfolding(crate::specs::Reading::drain_in))]
-fn drain(fields: &[u8]) -> Option<ScriptLine<'_>>
-    ensures { GivesLine result (drain_in fields.now) }
+fn drained(fields: &[u8]) -> Option<u16>
+    ensures { option_map drain result ≡ drain_in fields.now }
 {
     let count = number(fields)?;
     if count == 0 {
         return None;
     }
+    Some(count)
+}
+
+#[inline(always)]
+fn drain(fields: &[u8]) -> Option<ScriptLine<'_>>
+    ensures { GivesLine result (drain_in fields.now) }
+{
+    let count = drained(fields)?;
     Some(ScriptLine::Drain { count })
 }
 
@@ -52,7 +61,7 @@ fn drain(fields: &[u8]) -> Option<ScriptLine<'_>>
 fn commanded(end: Role, text: &[u8]) -> Option<ScriptLine<'_>>
     ensures { GivesLine result (after (End end) text.now) }
 {
-    let command = command(text)?;
+    let command = read_command(text)?;
     Some(ScriptLine::Command { end, command })
 }
 
@@ -141,6 +150,19 @@ fn behind_drain(line: &[u8]) -> Option<&[u8]>
     }
 }
 
+/// The end that a line loses a frame from, and what follows its direction and a blank.
+#[inline(always)]
+#[tactic(auto, unfolding(crate::specs::Reading::line_in, crate::specs::Reading::lose_in, crate::specs::Reading::parts_of))]
+fn behind_lose(line: &[u8]) -> Option<(Role, &[u8])>
+    ensures { IfSome result (λ parts. line_in line.now ≡ option_map (lose parts.0) (number_in parts.1.now)) }
+{
+    match line {
+        [b'l', b'o', b's', b'e', b' ', b'>', b' ', place @ ..] => Some((Role::Dte, place)),
+        [b'l', b'o', b's', b'e', b' ', b'<', b' ', place @ ..] => Some((Role::Dce, place)),
+        _ => None,
+    }
+}
+
 /// The words that most lines begin with are tried first.
 #[inline(always)]
 fn read(line: &[u8]) -> Option<ScriptLine<'_>>
@@ -168,6 +190,39 @@ pub fn read_deliver(line: &[u8]) -> Option<Role>
     let direction = behind_deliver(line)?;
     let end = from(direction)?;
     Some(end)
+}
+
+/// The end whose timer T1 runs out by a line. `None` says nothing of the line. It takes no memory. Profile.
+#[inline(always)]
+#[tactic(auto, unfolding(crate::specs::Reading::line_in, crate::specs::Reading::parts_of))]
+pub fn read_t1(line: &[u8]) -> Option<Role>
+    ensures { IfSome result (λ at. line_in line.now ≡ Some (t1 at)) }
+{
+    match line {
+        [b't', b'1', b' ', b'd', b't', b'e'] => Some(Role::Dte),
+        [b't', b'1', b' ', b'd', b'c', b'e'] => Some(Role::Dce),
+        _ => None,
+    }
+}
+
+/// How many frames a line asks at most to arrive. `None` says nothing of the line. It takes no memory. Profile.
+#[inline(always)]
+pub fn read_drain(line: &[u8]) -> Option<u16>
+    ensures { IfSome result (λ count. line_in line.now ≡ Some (drain count)) }
+{
+    let fields = behind_drain(line)?;
+    let count = drained(fields)?;
+    Some(count)
+}
+
+/// The end from which a line loses a frame, and the place of that frame. `None` says nothing of the line. It takes no memory. Profile.
+#[inline(always)]
+pub fn read_lose(line: &[u8]) -> Option<(Role, u16)>
+    ensures { IfSome result (λ parts. line_in line.now ≡ Some (lose parts.0 parts.1)) }
+{
+    let (from, digits) = behind_lose(line)?;
+    let place = number(digits)?;
+    Some((from, place))
 }
 
 /// The end that a line commands, and the command. `None` says nothing of the line. Profile.

@@ -1,8 +1,8 @@
 use crate::shown::shown;
 use std::test::Fail;
 use x25_script::{
-    Role, lines_are_in_octets, read_accept, read_deliver, read_end, read_line, read_send,
-    reading_is_the_grammar,
+    Role, lines_are_in_octets, read_accept, read_command, read_deliver, read_drain, read_end,
+    read_line, read_lose, read_send, read_t1, reading_is_the_grammar,
 };
 
 /// Lines of a script, and what they say.
@@ -300,6 +300,39 @@ const DELIVERIES: [(&[u8], Option<Role>); 5] = [
     (b"deliver > ", None),
 ];
 
+/// Lines, and the end whose timer T1 runs out by them.
+const FIRINGS: [(&[u8], Option<Role>); 6] = [
+    (b"t1 dte", Some(Role::Dte)),
+    (b"t1 dce", Some(Role::Dce)),
+    (b"t1 dxe", None),
+    (b"t1 dte ", None),
+    (b"t1 dt", None),
+    (b"t2 dte", None),
+];
+
+/// Lines, and how many frames arrive by them at most.
+const DRAINS: [(&[u8], Option<u16>); 7] = [
+    (b"drain 1", Some(1)),
+    (b"drain 65535", Some(65535)),
+    (b"drain 65536", None),
+    (b"drain 0", None),
+    (b"drain 01", None),
+    (b"drain ", None),
+    (b"drait 1", None),
+];
+
+/// Lines, and the end from which they lose a frame, with its place.
+const LOSSES: [(&[u8], Option<(Role, u16)>); 8] = [
+    (b"lose > 0", Some((Role::Dte, 0))),
+    (b"lose < 65535", Some((Role::Dce, 65535))),
+    (b"lose < 65536", None),
+    (b"lose > 00", None),
+    (b"lose > ", None),
+    (b"lose >", None),
+    (b"lose = 0", None),
+    (b"loss > 0", None),
+];
+
 /// Lines, and the end that they command.
 const COMMANDED: [(&[u8], Option<Role>); 5] = [
     (b"dte restart", Some(Role::Dte)),
@@ -319,11 +352,17 @@ const ACCEPTANCES: [(&[u8], Option<u16>); 6] = [
     (b"accepts 1", None),
 ];
 
-/// Commands, and whether they are read as messages that are to be sent, by a channel of one digit.
-const MESSAGES: [(&[u8], bool); 9] = [
+/// Commands, and whether they are read as messages that are to be sent, by a channel of one digit or two.
+const MESSAGES: [(&[u8], bool); 15] = [
     (b"send 0 0 -", true),
     (b"send 9 1 00FF", true),
-    (b"send 10 0 00", false),
+    (b"send 10 0 00", true),
+    (b"send 99 1 -", true),
+    (b"send 100 0 00", false),
+    (b"send 01 0 00", false),
+    (b"send 1a 0 00", false),
+    (b"send 10 2 00", false),
+    (b"send 10 00 00", false),
     (b"send 1 2 00", false),
     (b"send 1 0 0", false),
     (b"send 1 0 0g", false),
@@ -337,15 +376,38 @@ fn some_lines_are_read_by_themselves(rt: HostRuntime) {
     for (line, end) in DELIVERIES {
         assert_eq!(rt; read_deliver(line), end);
     }
+    for (line, end) in FIRINGS {
+        assert_eq!(rt; read_t1(line), end);
+    }
+    for (line, count) in DRAINS {
+        assert_eq!(rt; read_drain(line), count);
+    }
+    for (line, lost) in LOSSES {
+        assert_eq!(rt; read_lose(line), lost);
+    }
     for (line, end) in COMMANDED {
         assert_eq!(rt; read_end(line).map(|(end, _)| end), end);
     }
 }
 
+/// Texts, and whether they are commands.
+const COMMANDS: [(&[u8], bool); 7] = [
+    (b"restart", true),
+    (b"send 300 0 -", true),
+    (b"accept 1 7 7 2 2", true),
+    (b"reset 1", true),
+    (b"send 300 0 ", false),
+    (b"reset 1 ", false),
+    (b"", false),
+];
+
 #[test]
 fn some_commands_are_read_by_themselves(rt: HostRuntime) {
     for (text, channel) in ACCEPTANCES {
         assert_eq!(rt; read_accept(text), channel);
+    }
+    for (text, is_read) in COMMANDS {
+        assert_eq!(rt; read_command(text).is_some(), is_read);
     }
     for (text, is_read) in MESSAGES {
         assert_eq!(rt; read_send(text).is_some(), is_read);

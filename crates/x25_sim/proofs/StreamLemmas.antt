@@ -76,6 +76,10 @@ asks : (line : List ℕ) (asked : PlainLine) → length line ≤ most_line → l
 unfolding asked_in
 asks line asked few e = ap (λ b. if b then line_in line else None) (le-leb (length line) most_line few) ∙ e
 
+asks_none : (line : List ℕ) → length line ≤ most_line → line_in line ≡ None → asked_in line ≡ None
+unfolding asked_in
+asks_none line few e = ap (λ b. if b then line_in line else None) (le-leb (length line) most_line few) ∙ e
+
 -- a line that isn't too long is obeyed, where what it asks for happens
 pub obeyed : (cfg : Cfg) (tap : Bool) (old now next : Option (List ℕ)) (s u : Stage) (result : Result Unit Fault) (line : List ℕ) (asked : PlainLine) → length line ≤ most_line
     → line_in line ≡ Some asked → Turns cfg tap old now next s u result (line_turn cfg tap asked) → Turns cfg tap old now next s u result (turn cfg tap line)
@@ -89,3 +93,11 @@ pub obeyed_at : (cfg : Cfg) (tap : Bool) (old now next : Option (List ℕ)) (s u
     → Turns cfg tap old now next s u result (line_turn cfg tap (command end asked)) → Turns cfg tap old now next s u result (turn cfg tap line)
 obeyed_at cfg tap old now next s u result line text end asked few e f h =
     obeyed cfg tap old now next s u result line (command end asked) few (e ∙ ap (option_map (command end)) f) h
+
+-- .. or nothing that a line can ask for
+pub unread_at : (cfg : Cfg) (tap : Bool) (old now next : Option (List ℕ)) (s u : Stage) (result : Result Unit Fault) (line text : List ℕ) (end : Role)
+    → length line ≤ most_line → line_in line ≡ option_map (command end) (command_in text) → command_in text ≡ None
+    → Turns cfg tap old now next s u result (λ w. asked_turn cfg tap w None) → Turns cfg tap old now next s u result (turn cfg tap line)
+unfolding turn
+unread_at cfg tap old now next s u result line text end few e f h = λ w told refused stands.
+    subst (λ read. Stood cfg tap old next u told refused result (asked_turn cfg tap w read)) (sym (asks_none line few (e ∙ ap (option_map (command end)) f))) (h w told refused stands)

@@ -6,7 +6,10 @@ ghost use Rattle.x25_sim.specs.Stage.{asked_in};
 
 use crate::stage::Stage;
 use x25_io::{Fault, LineTaker, Sink};
-use x25_script::{ScriptLine, read_accept, read_deliver, read_end, read_line, read_send};
+use x25_script::{
+    Role, ScriptLine, read_accept, read_command, read_deliver, read_drain, read_end, read_line,
+    read_lose, read_send, read_t1,
+};
 
 /// The octets of a line, and the stations.
 #[derive(Drop)]
@@ -24,7 +27,9 @@ fn script_line(line: &[u8]) -> Option<ScriptLine<'_>>
 }
 
 impl Simulator {
-    ghost use Rattle.std.specs.Prelude.{◌≡◌, ℕ, List, Bool, Option};
+    ghost use Rattle.std.specs.Prelude.{◌≡◌, ℕ, List, Bool, Option, option_map};
+    ghost use Rattle.x25_script.specs.ScriptLine.{command};
+    ghost use Rattle.x25_script.specs.Reading.{command_in, line_in};
     ghost use Rattle.x25_io.specs.code.MarksFaults.{MarksFaults};
     ghost use Rattle.x25_station.specs.declared.config.Cfg.{Cfg as Settings};
     ghost use Rattle.x25_sim.specs.Stage.{turn};
@@ -50,20 +55,34 @@ impl Simulator {
         }
     }
 
-    /// What a line asks for happens, where no frame is delivered.
+    /// What an end is commanded happens. The commands that most scripts have most of are tried first.
+    #[inline(never)]
+    fn obey_end<W: Sink>(&mut self, end: Role, text: &[u8], writer: &mut W) -> Result<(), Fault>
+        ensures turns { (line : List ℕ) → length line ≤ most_line → line_in line ≡ option_map (command end) (command_in text.now) → (cfg : Settings) (tap : Bool) (old : Option (List ℕ))
+            → Turns cfg tap old (W.contents writer.old) (W.contents writer.new) self.old.stage self.new.stage result (turn cfg tap line) }
+        ensures faults { MarksFaults W.Sink writer.old writer.new result }
+    {
+        if let Some(message) = read_send(text) {
+            return self.stage.send(end, message, &mut self.octets, writer);
+        }
+        if let Some(channel) = read_accept(text) {
+            return self.stage.accept(end, channel, writer);
+        }
+        match read_command(text) {
+            Some(asked) => self.stage.command(end, asked, &mut self.octets, writer),
+            None => self.stage.read_nothing(writer),
+        }
+    }
+
+    /// What a line asks for happens, where it commands no end.
     #[inline(never)]
     fn obey_other<W: Sink>(&mut self, line: &[u8], writer: &mut W) -> Result<(), Fault>
         ensures turns { length line.now ≤ most_line → (cfg : Settings) (tap : Bool) (old : Option (List ℕ))
             → Turns cfg tap old (W.contents writer.old) (W.contents writer.new) self.old.stage self.new.stage result (turn cfg tap line.now) }
         ensures faults { MarksFaults W.Sink writer.old writer.new result }
     {
-        if let Some((end, text)) = read_end(line) {
-            if let Some(message) = read_send(text) {
-                return self.stage.send(end, message, &mut self.octets, writer);
-            }
-            if let Some(channel) = read_accept(text) {
-                return self.stage.accept(end, channel, writer);
-            }
+        if let Some((from, place)) = read_lose(line) {
+            return self.stage.lose(from, place, writer);
         }
         self.obey_any(line, writer)
     }
@@ -75,10 +94,19 @@ impl Simulator {
             → Turns cfg tap old (W.contents writer.old) (W.contents writer.new) self.old.stage self.new.stage result (turn cfg tap line.now) }
         ensures faults { MarksFaults W.Sink writer.old writer.new result }
     {
-        match read_deliver(line) {
-            Some(end) => self.stage.deliver(end, writer),
-            None => self.obey_other(line, writer),
+        if let Some(end) = read_deliver(line) {
+            return self.stage.deliver(end, writer);
         }
+        if let Some((end, text)) = read_end(line) {
+            return self.obey_end(end, text, writer);
+        }
+        if let Some(at) = read_t1(line) {
+            return self.stage.t1(at, writer);
+        }
+        if let Some(count) = read_drain(line) {
+            return self.stage.deliver_most(count, writer);
+        }
+        self.obey_other(line, writer)
     }
 }
 

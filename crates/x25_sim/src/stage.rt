@@ -73,15 +73,14 @@ fn away_from(end: Role) -> Direction
 
 impl Stage {
     ghost use Rattle.std.specs.Prelude.{◌≡◌, ◌⊎◌, ◌++◌, true, ℕ, List, Bool, Option, Some, None, [], false, OnOk, OnErr, IfErr, MatchResult, is_none, option_map};
-    ghost use Rattle.x25_script.specs.ScriptLine.{accept, command, deliver, plain, plain_command, send};
+    ghost use Rattle.x25_script.specs.ScriptLine.{accept, command, deliver, drain, lose, plain, plain_command, send, t1};
     ghost use Rattle.x25_io.specs.code.MarksFaults.{MarksFaults};
     ghost use Rattle.x25_io.specs.code.Written.{AppendsPrefix, Tells, TellsMore};
     ghost use Rattle.x25_station.specs.declared.config.Cfg.{Cfg as Settings};
-    ghost use Rattle.x25_world.specs.World.{World as State, start, entered, tapped, Commands, WorldOutcome, event_of, refusal_of};
+    ghost use Rattle.x25_world.specs.World.{World as State, start, entered, tapped, WorldOutcome, event_of, refusal_of};
     ghost use Rattle.x25_world.specs.code.FitsWorld.{Gone, all_of};
     ghost use Rattle.x25_world.specs.Healing.{next_end};
     ghost use Rattle.x25_sim.specs.Telling.{taps, sayings_text};
-    ghost use Rattle.x25_console.specs.Commands.{command_asked};
     ghost use Rattle.x25_sim.specs.Stage.{and_then, asked_turn, drained, emptied, event_turn, fired, healed, line_turn, most_times, opened, pulled, told_between, tried, turn_of};
     ghost use Rattle.x25_sim.specs.code.Stands.{IsOpening, Stands, Stood, Turns};
 
@@ -352,20 +351,20 @@ impl Stage {
     }
 
     /// What the user of an end asks for happens. The user data is read into the list.
-    fn command<W: Sink>(
+    #[tactic(auto, unfolding(crate::specs::Stage::line_turn))]
+    pub(crate) fn command<W: Sink>(
         &mut self,
         end: Role,
-        command: Command,
+        asked: Command,
         octets: &mut Vec<u8>,
         writer: &mut W,
     ) -> Result<(), Fault>
         ensures turns { (cfg : Settings) (tap : Bool) (old : Option (List ℕ))
-            → Turns cfg tap old (W.contents writer.old) (W.contents writer.new) self.old self.new result
-            (event_turn cfg tap (record { at = end; act = Commands (command_asked (plain_command command.entry)) })) }
+            → Turns cfg tap old (W.contents writer.old) (W.contents writer.new) self.old self.new result (line_turn cfg tap (command end (plain_command asked.entry))) }
         ensures faults { MarksFaults W.Sink writer.old writer.new result }
     {
-        read_user(&command, octets)?;
-        let command = station_command(&command, octets.as_slice());
+        read_user(&asked, octets)?;
+        let command = station_command(&asked, octets.as_slice());
         self.happen(Event::Command(end, command), writer)
     }
 
@@ -378,6 +377,44 @@ impl Stage {
         ensures faults { MarksFaults W.Sink writer.old writer.new result }
     {
         self.happen(Event::Deliver(away_from(from)), writer)
+    }
+
+    /// Timer T1 of an end runs out.
+    #[inline(never)]
+    #[tactic(auto, unfolding(crate::specs::Stage::line_turn))]
+    pub(crate) fn t1<W: Sink>(&mut self, at: Role, writer: &mut W) -> Result<(), Fault>
+        ensures turns { (cfg : Settings) (tap : Bool) (old : Option (List ℕ))
+            → Turns cfg tap old (W.contents writer.old) (W.contents writer.new) self.old self.new result (line_turn cfg tap (t1 at)) }
+        ensures faults { MarksFaults W.Sink writer.old writer.new result }
+    {
+        self.happen(Event::T1(at), writer)
+    }
+
+    /// A frame from an end is lost.
+    #[inline(never)]
+    #[tactic(auto, unfolding(crate::specs::Stage::line_turn))]
+    pub(crate) fn lose<W: Sink>(
+        &mut self,
+        from: Role,
+        place: u16,
+        writer: &mut W,
+    ) -> Result<(), Fault>
+        ensures turns { (cfg : Settings) (tap : Bool) (old : Option (List ℕ))
+            → Turns cfg tap old (W.contents writer.old) (W.contents writer.new) self.old self.new result (line_turn cfg tap (lose from place)) }
+        ensures faults { MarksFaults W.Sink writer.old writer.new result }
+    {
+        self.happen(Event::Lose(away_from(from), usize::from(place)), writer)
+    }
+
+    /// Frames arrive, at most so many.
+    #[inline(always)]
+    #[tactic(auto, unfolding(crate::specs::Stage::line_turn))]
+    pub(crate) fn deliver_most<W: Sink>(&mut self, count: u16, writer: &mut W) -> Result<(), Fault>
+        ensures turns { (cfg : Settings) (tap : Bool) (old : Option (List ℕ))
+            → Turns cfg tap old (W.contents writer.old) (W.contents writer.new) self.old self.new result (line_turn cfg tap (drain count)) }
+        ensures faults { MarksFaults W.Sink writer.old writer.new result }
+    {
+        self.drain(u32::from(count), writer)
     }
 
     /// A call is accepted as it was proposed.
@@ -434,11 +471,9 @@ impl Stage {
     {
         match line {
             ScriptLine::Command { end, command } => self.command(end, command, octets, writer),
-            ScriptLine::T1 { end } => self.happen(Event::T1(end), writer),
-            ScriptLine::Deliver { from } => self.happen(Event::Deliver(away_from(from)), writer),
-            ScriptLine::Lose { from, place } => {
-                self.happen(Event::Lose(away_from(from), usize::from(place)), writer)
-            }
+            ScriptLine::T1 { end } => self.t1(end, writer),
+            ScriptLine::Deliver { from } => self.deliver(from, writer),
+            ScriptLine::Lose { from, place } => self.lose(from, place, writer),
             ScriptLine::Damage {
                 from,
                 place,
@@ -448,7 +483,7 @@ impl Stage {
                 let damage = Event::Damage(away_from(from), usize::from(place), octets.as_slice());
                 self.happen(damage, writer)
             }
-            ScriptLine::Drain { count } => self.drain(u32::from(count), writer),
+            ScriptLine::Drain { count } => self.deliver_most(count, writer),
             ScriptLine::Heal => self.heal(writer),
         }
     }

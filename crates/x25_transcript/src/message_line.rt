@@ -3,7 +3,7 @@ ghost use Rattle.std.specs.Prelude.{◌≡◌, ◌<◌, ◌≤◌, ◌+◌, ◌*
 ghost use Rattle.x25_packet.specs.Spelling.{bit};
 ghost use Rattle.x25_text.specs.Text.{octets_text};
 ghost use Rattle.x25_text.specs.declared.text.TheConstants.{ROOM};
-ghost use Rattle.x25_transcript.specs.EntryText.{end_text, entry_line as line_of};
+ghost use Rattle.x25_transcript.specs.EntryText.{end_text, entry_line as line_of, stretch_text};
 ghost use Rattle.x25_transcript.specs.declared.message_line.TheConstants.{MOST_USER, SHORT_LINE};
 ghost use Rattle.x25_circuit.specs.Notice.{delivered};
 ghost use Rattle.x25_circuit.specs.Calling.{Sends};
@@ -12,6 +12,7 @@ ghost use Rattle.x25_station.specs.Entry.{of_channel};
 ghost use Rattle.x25_station.specs.code.PlainEntry.{plain_entry, plain_name, plain_said};
 
 use crate::entry_text::is_short;
+use itoa::Buffer;
 use x25_circuit::Message;
 use x25_layer::Stretch;
 use x25_station::{Asked, Entry, Role, Said, Told};
@@ -21,7 +22,7 @@ use x25_text::{Text, digit};
 const MOST_USER: usize = 1_024;
 
 /// The characters that such a line needs room for.
-pub const SHORT_LINE: usize = 2_085;
+pub const SHORT_LINE: usize = 2_161;
 
 /// The letter by which the names of the ends differ.
 #[inline(always)]
@@ -53,10 +54,83 @@ fn push_user(user: &[u8], text: &mut Text)
     text.push(b"\n");
 }
 
-/// Appends the line of a message that is to be sent.
+/// Appends a label and then a number.
+#[inline(always)]
+fn push_number(label: &[u8], number: u64, text: &mut Text)
+    requires room { length text.old + (length label.now + 20) ≤ ROOM }
+    ensures text { text.new ≡ text.old ++ (label.now ++ decimal number) }
+    ensures size { length text.new ≤ length text.old + (length label.now + 20) }
+{
+    text.push(label);
+    if number < 10 {
+        text.push(&[digit(number as u8)]);
+    } else {
+        let mut buffer = Buffer::new();
+        text.push(buffer.format(number).as_bytes());
+    }
+}
+
+/// Appends a channel and the name of its stretch.
+#[inline(never)]
+fn push_stretch(channel: u16, name: &Stretch, text: &mut Text)
+    requires room { length text.old + 90 ≤ ROOM }
+    ensures text { text.new ≡ text.old ++ stretch_text channel (plain_name name.now) }
+    ensures size { length text.new ≤ length text.old + 90 }
+{
+    push_number(b" ch=", u64::from(channel), text);
+    push_number(b" at ", name.restarts, text);
+    push_number(b".", name.clears, text);
+    push_number(b".", name.resets, text);
+}
+
+/// Appends Q, and the label of user data.
+#[inline(always)]
+fn push_q(q: bool, text: &mut Text)
+    requires room { length text.old + 10 ≤ ROOM }
+    ensures text { text.new ≡ text.old ++ (codes " q=" ++ decimal (bit q) ++ codes " data=") }
+    ensures size { length text.new ≡ length text.old + 10 }
+{
+    let mut label = *b" q=_ data=";
+    label[3] = bit_digit(q);
+    text.push(&label);
+}
+
+/// Appends the line of a message that is to be sent, of any numbers.
 #[inline(always)]
 #[tactic(auto, unfolding(crate::specs::EntryText::entry_line))]
-fn push_sent(at: Role, channel: u16, name: &Stretch, q: bool, user: &[u8], text: &mut Text)
+fn push_any_sent(at: Role, channel: u16, name: &Stretch, q: bool, user: &[u8], text: &mut Text)
+    requires few { length user.now ≤ MOST_USER }
+    requires room { length text.old + SHORT_LINE ≤ ROOM }
+    ensures { text.new ≡ text.old ++ line_of at (of_channel (record { channel = channel; name = plain_name name.now; said = asks (Sends q user.now) })) }
+{
+    let mut word = *b"d_e send";
+    word[1] = end_letter(at);
+    text.push(&word);
+    push_stretch(channel, name, text);
+    push_q(q, text);
+    push_user(user, text);
+}
+
+/// Appends the line of a message that was delivered, of any numbers.
+#[inline(always)]
+#[tactic(auto, unfolding(crate::specs::EntryText::entry_line))]
+fn push_any_delivered(at: Role, channel: u16, name: &Stretch, message: &Message, text: &mut Text)
+    requires few { length message.now.user ≤ MOST_USER }
+    requires room { length text.old + SHORT_LINE ≤ ROOM }
+    ensures { text.new ≡ text.old ++ line_of at (of_channel (record { channel = channel; name = plain_name name.now; said = tells (delivered message.now) })) }
+{
+    let mut word = *b"d_e message";
+    word[1] = end_letter(at);
+    text.push(&word);
+    push_stretch(channel, name, text);
+    push_q(message.q, text);
+    push_user(message.user.as_slice(), text);
+}
+
+/// Appends the line of a message that is to be sent, where each number has one digit.
+#[inline(always)]
+#[tactic(auto, unfolding(crate::specs::EntryText::entry_line))]
+fn push_short_sent(at: Role, channel: u16, name: &Stretch, q: bool, user: &[u8], text: &mut Text)
     requires channel { channel < 10 }
     requires restarts { name.now.restarts < 10 }
     requires clears { name.now.clears < 10 }
@@ -76,10 +150,10 @@ fn push_sent(at: Role, channel: u16, name: &Stretch, q: bool, user: &[u8], text:
     push_user(user, text);
 }
 
-/// Appends the line of a message that was delivered.
+/// Appends the line of a message that was delivered, where each number has one digit.
 #[inline(always)]
 #[tactic(auto, unfolding(crate::specs::EntryText::entry_line))]
-fn push_delivered(at: Role, channel: u16, name: &Stretch, message: &Message, text: &mut Text)
+fn push_short_delivered(at: Role, channel: u16, name: &Stretch, message: &Message, text: &mut Text)
     requires channel { channel < 10 }
     requires restarts { name.now.restarts < 10 }
     requires clears { name.now.clears < 10 }
@@ -99,13 +173,37 @@ fn push_delivered(at: Role, channel: u16, name: &Stretch, message: &Message, tex
     push_user(message.user.as_slice(), text);
 }
 
+/// Appends the line of a message that is to be sent.
+#[inline(always)]
+fn push_sent(at: Role, channel: u16, name: &Stretch, q: bool, user: &[u8], text: &mut Text)
+    requires few { length user.now ≤ MOST_USER }
+    requires room { length text.old + SHORT_LINE ≤ ROOM }
+    ensures { text.new ≡ text.old ++ line_of at (of_channel (record { channel = channel; name = plain_name name.now; said = asks (Sends q user.now) })) }
+{
+    if is_short(channel, name) {
+        push_short_sent(at, channel, name, q, user, text);
+    } else {
+        push_any_sent(at, channel, name, q, user, text);
+    }
+}
+
+/// Appends the line of a message that was delivered.
+#[inline(always)]
+fn push_delivered(at: Role, channel: u16, name: &Stretch, message: &Message, text: &mut Text)
+    requires few { length message.now.user ≤ MOST_USER }
+    requires room { length text.old + SHORT_LINE ≤ ROOM }
+    ensures { text.new ≡ text.old ++ line_of at (of_channel (record { channel = channel; name = plain_name name.now; said = tells (delivered message.now) })) }
+{
+    if is_short(channel, name) {
+        push_short_delivered(at, channel, name, message, text);
+    } else {
+        push_any_delivered(at, channel, name, message, text);
+    }
+}
+
 /// Appends the line of what is said on a channel, where that is a message that isn't long, and says whether it is.
 #[inline(always)]
 fn push_said(at: Role, channel: u16, name: &Stretch, said: &Said, text: &mut Text) -> bool
-    requires channel { channel < 10 }
-    requires restarts { name.now.restarts < 10 }
-    requires clears { name.now.clears < 10 }
-    requires resets { name.now.resets < 10 }
     requires room { length text.old + SHORT_LINE ≤ ROOM }
     ensures text { IsTrue result → text.new ≡ text.old ++ line_of at (of_channel (record { channel = channel; name = plain_name name.now; said = plain_said said.now })) }
     ensures unchanged { result ≡ false → text.new ≡ text.old }
@@ -130,7 +228,7 @@ fn push_said(at: Role, channel: u16, name: &Stretch, said: &Said, text: &mut Tex
 }
 
 /// Appends the line of an entry at an end, with its line feed, where the entry is a message of at most 1,024 octets that is to be sent or was
-/// delivered, and its channel and the numbers of its stretch have one digit each, and says whether it is.
+/// delivered, and says whether it is.
 #[inline(always)]
 pub fn push_message(at: Role, entry: &Entry, text: &mut Text) -> bool
     requires room { length text.old + SHORT_LINE ≤ ROOM }
@@ -142,12 +240,7 @@ pub fn push_message(at: Role, entry: &Entry, text: &mut Text) -> bool
             channel,
             name,
             said,
-        } => {
-            if !is_short(*channel, name) {
-                return false;
-            }
-            push_said(at, *channel, name, said, text)
-        }
+        } => push_said(at, *channel, name, said, text),
         _ => false,
     }
 }

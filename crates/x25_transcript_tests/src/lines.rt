@@ -1,6 +1,7 @@
 use std::test::Fail;
+use x25_circuit::{Message, Octets};
 use x25_layer::Stretch;
-use x25_station::{Asked, Entry, Role, Said};
+use x25_station::{Asked, Entry, Role, Said, Told};
 use x25_text::Text;
 use x25_transcript::{Line, push_message, write_entry};
 
@@ -66,6 +67,52 @@ fn writes_messages_at_once(rt: HostRuntime) -> Result<(), Fail> {
     assert_eq!(rt;
         text.as_slice(),
         b"dce send ch=3 at 1.0.2 q=1 data=00ab\n".as_slice()
+    );
+    Ok(())
+}
+
+/// A channel, and counts of several digits.
+const CHANNEL: u16 = 16;
+
+const LATE: Stretch = Stretch {
+    restarts: 10,
+    clears: 3,
+    resets: 18_446_744_073_709_551_615,
+};
+
+#[test]
+fn writes_messages_of_larger_numbers_at_once(rt: HostRuntime) -> Result<(), Fail> {
+    let mut text = Text::new(rt.alloc())?;
+    let user = Vec::from_slice(rt.alloc(), &[0, 171])?;
+    let entry = Entry::OnChannel {
+        channel: CHANNEL,
+        name: LATE,
+        said: Said::Asked(Asked::Send { q: false, user }),
+    };
+    assert!(rt; push_message(Role::Dte, &entry, &mut text));
+    assert_eq!(rt;
+        text.as_slice(),
+        b"dte send ch=16 at 10.3.18446744073709551615 q=0 data=00ab\n".as_slice()
+    );
+    Ok(())
+}
+
+#[test]
+fn writes_deliveries_of_larger_numbers_at_once(rt: HostRuntime) -> Result<(), Fail> {
+    let mut text = Text::new(rt.alloc())?;
+    let message = Message {
+        q: true,
+        user: Octets::of(Vec::new(rt.alloc())),
+    };
+    let entry = Entry::OnChannel {
+        channel: CHANNEL,
+        name: LATE,
+        said: Said::Told(Told::Delivered(message)),
+    };
+    assert!(rt; push_message(Role::Dce, &entry, &mut text));
+    assert_eq!(rt;
+        text.as_slice(),
+        b"dce message ch=16 at 10.3.18446744073709551615 q=1 data=-\n".as_slice()
     );
     Ok(())
 }

@@ -1,7 +1,7 @@
 use Rattle.std.proofs.Common.{◌∙◌, ◌++◌, ap, append_assoc, codes, refl}
 use Rattle.x25_text.specs.Text.{octets_text}
 use Rattle.x25_transcript.specs.EntryText.{entry_line}
-use Rattle.x25_transcript.proofs.message_line.push_sent.Goals as goal
+use Rattle.x25_transcript.proofs.message_line.push_short_sent.Goals as goal
 
 pub returns : goal.returns
 unfolding entry_line
