@@ -240,6 +240,7 @@ impl LinkStation {
         let Ok(frame) = decode(self.role.other(), self.parameters.n1, octets) else {
             return Heard::quiet();
         };
+        // Up isn't met here.
         match self.phase {
             Phase::Down => self.hear_down(&frame, out),
             Phase::Waiting => self.hear_waiting(&frame, out),

@@ -13,6 +13,7 @@ ghost use Rattle.x25_station.specs.Step.{connects, connects_asked, disconnects, 
 use crate::entry::Entry;
 use crate::error::StationError;
 use crate::law::steps_keep_bounds;
+use crate::lists::make_room;
 use crate::station::Station;
 use crate::step::Step;
 use std::mem;
@@ -101,14 +102,10 @@ impl Station {
         ensures no_entries { OnErr result (entries.new.items ≡ []) }
     {
         steps_keep_bounds();
-        holds_few();
-        if entries.reserve(1).is_err() {
-            return Err(StationError::NoMemory);
-        }
-        match self.link.t1() {
-            Ok(step) => {
-                exchange(&mut self.link, frames, step.frames);
-                note_down(&mut self.layer, step.notes.down, entries);
+        make_room(frames, entries)?;
+        match self.link.t1_into(frames) {
+            Ok(heard) => {
+                note_down(&mut self.layer, heard.notes.down, entries);
                 Ok(())
             }
             Err(error) => Err(StationError::of_link(error)),
