@@ -17,6 +17,7 @@ more_if false n m h = h
 shares-both : (i : ℕ) (x : OnLine) (xs ys : List OnLine) → shares i xs ≤ shares i ys → shares i (x ∷ xs) ≤ shares i (x ∷ ys)
 shares-both i (frame.Tapped j) xs ys h = more_if (i == j) (shares i xs) (shares i ys) h
 shares-both i (frame.Own o) xs ys h = h
+shares-both i (frame.Short o) xs ys h = h
 
 shares-take_more : (i m n : ℕ) (xs : List OnLine) → m ≤ n → shares i (take m xs) ≤ shares i (take n xs)
 shares-take_more i zero n xs h = omega arith
@@ -45,6 +46,7 @@ shares-take_set : (i m k : ℕ) (xs : List OnLine) (y : OnLine) → IsOwn y → 
 shares-take_set i zero k xs y own = omega arith
 shares-take_set i (suc m) k [] y own = omega arith
 shares-take_set i (suc m) zero (x ∷ xs) (frame.Own o) own = shares-tail i x (take m xs)
+shares-take_set i (suc m) zero (x ∷ xs) (frame.Short o) own = shares-tail i x (take m xs)
 shares-take_set i (suc m) zero (x ∷ xs) (frame.Tapped j) own = absurd own
 shares-take_set i (suc m) (suc k) (x ∷ xs) y own = shares-both i x (take m (set xs k y)) (take m xs) (shares-take_set i m k xs y own)
 

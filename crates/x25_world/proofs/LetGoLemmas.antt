@@ -30,6 +30,7 @@ others_stay tap at t (frame.Tapped j ∷ frames) none =
     let rest = others_stay tap at t frames (omega arith) in
     cc
 others_stay tap at t (frame.Own o ∷ frames) none = ap (λ (l : List (List ℕ)). o.items ∷ l) (others_stay tap at t frames none)
+others_stay tap at t (frame.Short o ∷ frames) none = ap (λ (l : List (List ℕ)). o ∷ l) (others_stay tap at t frames none)
 
 -- a frame that is the tap's
 pub shares-at : (xs : List OnLine) (k at : ℕ) (d : OnLine) → k < length xs → get_or xs k d ≡ frame.Tapped at → 1 ≤ shares at xs
@@ -47,6 +48,11 @@ takes_octets tap at t (x ∷ xs) zero d (frame.Own o) within is once own octets 
     let some = shares-own at xs in
     let rest = others_stay tap at t xs (omega arith) in
     rw (is, rest) (ap (λ (l : List ℕ). l ∷ map (octets_of (map plain_tapped tap)) xs) octets)
+takes_octets tap at t (x ∷ xs) zero d (frame.Short o) within is once own octets =
+    let e : shares at (frame.Tapped at ∷ xs) ≤ 1 = rw is at once in
+    let some = shares-own at xs in
+    let rest = others_stay tap at t xs (omega arith) in
+    rw (is, rest) (ap (λ (l : List ℕ). l ∷ map (octets_of (map plain_tapped tap)) xs) octets)
 takes_octets tap at t (x ∷ xs) zero d (frame.Tapped i) within is once own octets = absurd own
 takes_octets tap at t (frame.Tapped j ∷ xs) (suc k) d y within is once own octets =
     let some = shares-at xs k at d (omega arith) is in
@@ -56,10 +62,19 @@ takes_octets tap at t (frame.Tapped j ∷ xs) (suc k) d y within is once own oct
     cc
 takes_octets tap at t (frame.Own o ∷ xs) (suc k) d y within is once own octets =
     ap (λ (l : List (List ℕ)). o.items ∷ l) (takes_octets tap at t xs k d y (omega arith) is once own octets)
+takes_octets tap at t (frame.Short o ∷ xs) (suc k) d y within is once own octets =
+    ap (λ (l : List (List ℕ)). o ∷ l) (takes_octets tap at t xs k d y (omega arith) is once own octets)
+
+-- a frame that isn't the tap's has octets of its own
+pub own_else : (x : OnLine) → ((at : ℕ) → x ≡ frame.Tapped at → ⊥) → IsOwn x
+own_else (frame.Tapped j) not = absurd (not j refl)
+own_else (frame.Own o) not = tt
+own_else (frame.Short o) not = tt
 
 -- one more frame with octets of its own
 pub shares-push_own : (i : ℕ) (xs : List OnLine) (y : OnLine) → IsOwn y → shares i (xs ++ y ∷ []) ≡ shares i xs
 shares-push_own i xs (frame.Own o) own = shares-append i xs (frame.Own o ∷ []) ∙ add-zero (shares i xs)
+shares-push_own i xs (frame.Short o) own = shares-append i xs (frame.Short o ∷ []) ∙ add-zero (shares i xs)
 shares-push_own i xs (frame.Tapped j) own = absurd own
 
 -- frames with octets of their own don't look at the tap
@@ -67,6 +82,7 @@ pub own_alike : (tap other : List OnTap) (frames : List OnLine) → ((i : ℕ) �
 own_alike tap other [] none = refl
 own_alike tap other (frame.Tapped j ∷ frames) none = let some = shares-own j frames in let e = none j in absurd (omega arith)
 own_alike tap other (frame.Own o ∷ frames) none = ap (λ (l : List (List ℕ)). o.items ∷ l) (own_alike tap other frames none)
+own_alike tap other (frame.Short o ∷ frames) none = ap (λ (l : List (List ℕ)). o ∷ l) (own_alike tap other frames none)
 
 -- one more frame with octets of its own behind frames with octets of their own
 pub late_own : (n : ℕ) (xs : List OnLine) (y : OnLine) → IsOwn y → ((i : ℕ) → shares i xs ≡ 0) → AreLate n (xs ++ y ∷ [])

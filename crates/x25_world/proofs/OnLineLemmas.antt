@@ -36,6 +36,7 @@ shares_if false n = omega arith
 pub shares-tail : (i : ℕ) (x : OnLine) (frames : List OnLine) → shares i frames ≤ shares i (x ∷ frames)
 shares-tail i (frame.Tapped j) frames = shares_if (i == j) (shares i frames)
 shares-tail i (frame.Own o) frames = omega arith
+shares-tail i (frame.Short o) frames = omega arith
 
 append_if : (b : Bool) (n m k : ℕ) → n ≡ m + k → (if b then suc n else n) ≡ (if b then suc m else m) + k
 append_if true n m k e = omega arith
@@ -45,6 +46,7 @@ pub shares-append : (i : ℕ) (xs ys : List OnLine) → shares i (xs ++ ys) ≡ 
 shares-append i [] ys = omega arith
 shares-append i (frame.Tapped j ∷ xs) ys = append_if (i == j) (shares i (xs ++ ys)) (shares i xs) (shares i ys) (shares-append i xs ys)
 shares-append i (frame.Own o ∷ xs) ys = shares-append i xs ys
+shares-append i (frame.Short o ∷ xs) ys = shares-append i xs ys
 
 shares-take_drop : (i k : ℕ) (xs : List OnLine) → shares i (take k xs) + shares i (drop (suc k) xs) ≤ shares i xs
 shares-take_drop i zero [] = omega arith
@@ -56,6 +58,7 @@ shares-take_drop i (suc k) (frame.Tapped j ∷ xs) = go (i == j) (shares i (take
     go true n m l h = omega arith
     go false n m l h = h
 shares-take_drop i (suc k) (frame.Own o ∷ xs) = shares-take_drop i k xs
+shares-take_drop i (suc k) (frame.Short o ∷ xs) = shares-take_drop i k xs
 
 pub shares-remove : (i k : ℕ) (xs : List OnLine) → shares i (remove xs k) ≤ shares i xs
 shares-remove i k xs = let h = shares-take_drop i k xs in let e = shares-append i (take k xs) (drop (suc k) xs) in omega arith
@@ -69,9 +72,11 @@ set_if false n m h = h
 pub shares-set : (i k : ℕ) (xs : List OnLine) (y : OnLine) → IsOwn y → shares i (set xs k y) ≤ shares i xs
 shares-set i k [] y own = omega arith
 shares-set i zero (x ∷ xs) (frame.Own o) own = shares-tail i x xs
+shares-set i zero (x ∷ xs) (frame.Short o) own = shares-tail i x xs
 shares-set i zero (x ∷ xs) (frame.Tapped j) own = absurd own
 shares-set i (suc k) (frame.Tapped j ∷ xs) y own = set_if (i == j) (shares i (set xs k y)) (shares i xs) (shares-set i k xs y own)
 shares-set i (suc k) (frame.Own o ∷ xs) y own = shares-set i k xs y own
+shares-set i (suc k) (frame.Short o ∷ xs) y own = shares-set i k xs y own
 
 pub replaced-set : (xs : List (List ℕ)) (k : ℕ) (y : List ℕ) → set xs k y ≡ replaced xs k y
 replaced-set [] k y = refl
@@ -91,6 +96,7 @@ pub all_there : (count : ℕ) (frames : List OnLine) → ((i : ℕ) → count �
 all_there count [] none = All-nil (IsThere count)
 all_there count (frame.Tapped j ∷ frames) none = All-cons (IsThere count) (frame.Tapped j) frames (there count j frames (none j)) (all_there count frames (λ i h. let le = shares-tail i (frame.Tapped j) frames in let e = none i h in omega arith))
 all_there count (frame.Own o ∷ frames) none = All-cons (IsThere count) (frame.Own o) frames tt (all_there count frames none)
+all_there count (frame.Short o ∷ frames) none = All-cons (IsThere count) (frame.Short o) frames tt (all_there count frames none)
 
 -- what is put on the tap behind is none of theirs
 pub more_on_tap : (tap more : List OnTap) (frames : List OnLine) → ((i : ℕ) → length tap ≤ i → shares i frames ≡ 0) → map (octets_of (tap ++ more)) frames ≡ map (octets_of tap) frames
@@ -100,6 +106,7 @@ more_on_tap tap more (frame.Tapped j ∷ frames) none =
     let rest = more_on_tap tap more frames (λ i h. let le = shares-tail i (frame.Tapped j) frames in let e = none i h in omega arith) in
     cc
 more_on_tap tap more (frame.Own o ∷ frames) none = ap (λ (l : List (List ℕ)). o.items ∷ l) (more_on_tap tap more frames none)
+more_on_tap tap more (frame.Short o ∷ frames) none = ap (λ (l : List (List ℕ)). o ∷ l) (more_on_tap tap more frames none)
 
 -- ---- none is on the line twice
 

@@ -68,19 +68,20 @@ shared_of cfg Dce taps near line transcript w gone room side = record { out = si
 -- ---- an accepted call of the station
 
 -- a station that stands for all that another one stood for leaves what that one left
-pub leaves_on : (c : Settings) (old new : code.Station) (result : Result code_step.Step StationError) (outcome : Outcome)
+leaves_on : (c : Settings) (old new : code.Station) (result : Result code_step.Step StationError) (outcome : Outcome)
     → ((k : Settings) (s : Station) → FitsStation k old s → FitsStation k new s) → Leaves c old result outcome → Leaves c new result outcome
 leaves_on c old new (Ok x) (Did step) on leaves = on c step.near leaves
 leaves_on c old new (Err e) (Did step) on leaves = tt
 leaves_on c old new result (Refused e) on leaves = tt
 
-pub has_happened : (cfg : Cfg) (at : Role) (taps : Bool) (near : code.Station) (line : ShownLine) (transcript : List AtEnd) (w : World) (gone : Gone) (outcome : Outcome) (answer : code_step.Step)
-    → FitsShared at taps line transcript w w.back gone → Leaves (settings_from at cfg) near (let r : Result code_step.Step StationError = Ok answer in r) outcome
+pub has_happened : (cfg : Cfg) (at : Role) (taps : Bool) (near new : code.Station) (line : ShownLine) (transcript : List AtEnd) (w : World) (gone : Gone) (outcome : Outcome) (answer : code_step.Step)
+    → ((k : Settings) (s : Station) → FitsStation k near s → FitsStation k new s) → FitsShared at taps line transcript w w.back gone → Leaves (settings_from at cfg) near (let r : Result code_step.Step StationError = Ok answer in r) outcome
     → Sends (settings_from at cfg) (Ok answer) outcome → Enters (Ok answer) outcome → Refuses (let r : Result code_step.Step StationError = Ok answer in r) outcome
-    → HasHappened cfg at taps (record { near = near; line = put_by taps line at (map (λ frame. frame.items) answer.frames.items); transcript = transcript ++ entered at (map plain_entry answer.entries.items) }) (of_station (settings_from at cfg) w outcome) gone
-has_happened cfg at taps near line transcript w gone (Did step) answer shared leaves sends enters refuses =
-    step_told cfg at taps near line transcript w w.back gone step (map (λ frame. frame.items) answer.frames.items) (map plain_entry answer.entries.items) shared leaves sends enters
-has_happened cfg at taps near line transcript w gone (Refused e) answer shared leaves sends enters refuses = absurd refuses
+    → HasHappened cfg at taps (record { near = new; line = put_by taps line at (map (λ frame. frame.items) answer.frames.items); transcript = transcript ++ entered at (map plain_entry answer.entries.items) }) (of_station (settings_from at cfg) w outcome) gone
+has_happened cfg at taps near new line transcript w gone (Did step) answer on shared leaves sends enters refuses =
+    step_told cfg at taps new line transcript w w.back gone step (map (λ frame. frame.items) answer.frames.items) (map plain_entry answer.entries.items) shared
+    (leaves_on (settings_from at cfg) near new (Ok answer) (Did step) on leaves) sends enters
+has_happened cfg at taps near new line transcript w gone (Refused e) answer on shared leaves sends enters refuses = absurd refuses
 
 -- ---- a refused one
 
@@ -119,18 +120,19 @@ taken_off : (at : Role) (taps : Bool) (line : ShownLine) (transcript : List AtEn
 taken_off Dte taps line transcript w octets left gone shared = record { out = shared.out; back = ap (λ l. remove l 0) shared.back; tap = shared.tap; told = shared.told }
 taken_off Dce taps line transcript w octets left gone shared = record { out = shared.out; back = ap (λ l. remove l 0) shared.back; tap = shared.tap; told = shared.told }
 
-pub has_arrived : (cfg : Cfg) (at : Role) (taps : Bool) (near : code.Station) (line : ShownLine) (transcript : List AtEnd) (w : World) (back : List (List ℕ)) (gone : Gone) (octets : List ℕ) (answer : code_step.Step)
-    → FitsShared at taps line transcript w back gone → Some octets ≡ slice_get back 0
+pub has_arrived : (cfg : Cfg) (at : Role) (taps : Bool) (near new : code.Station) (line : ShownLine) (transcript : List AtEnd) (w : World) (back : List (List ℕ)) (gone : Gone) (octets : List ℕ) (answer : code_step.Step)
+    → ((k : Settings) (s : Station) → FitsStation k near s → FitsStation k new s) → FitsShared at taps line transcript w back gone → Some octets ≡ slice_get back 0
     → Leaves (settings_from at cfg) near (let r : Result code_step.Step StationError = Ok answer in r) (Did (receives (settings_from at cfg) w.near octets))
     → Sends (settings_from at cfg) (Ok answer) (Did (receives (settings_from at cfg) w.near octets)) → Enters (Ok answer) (Did (receives (settings_from at cfg) w.near octets))
-    → HasHappened cfg at taps (record { near = near; line = put_by taps (with_line_to line at (remove (line_to line at) 0)) at (map (λ frame. frame.items) answer.frames.items); transcript = transcript ++ entered at (map plain_entry answer.entries.items) })
+    → HasHappened cfg at taps (record { near = new; line = put_by taps (with_line_to line at (remove (line_to line at) 0)) at (map (λ frame. frame.items) answer.frames.items); transcript = transcript ++ entered at (map plain_entry answer.entries.items) })
     (delivered (settings_from at cfg) w back) gone
-has_arrived cfg at taps near line transcript w [] gone octets answer shared front leaves sends enters = cc
-has_arrived cfg at taps near line transcript w (o ∷ left) gone octets answer shared front leaves sends enters =
+has_arrived cfg at taps near new line transcript w [] gone octets answer on shared front leaves sends enters = cc
+has_arrived cfg at taps near new line transcript w (o ∷ left) gone octets answer on shared front leaves sends enters =
     let same : octets ≡ o = cc in
     let step = receives (settings_from at cfg) w.near octets in
     rw (sym same)
-    (step_told cfg at taps near _ transcript w left gone step (map (λ frame. frame.items) answer.frames.items) (map plain_entry answer.entries.items) (taken_off at taps line transcript w o left gone shared) leaves sends enters)
+    (step_told cfg at taps new _ transcript w left gone step (map (λ frame. frame.items) answer.frames.items) (map plain_entry answer.entries.items) (taken_off at taps line transcript w o left gone shared)
+    (leaves_on (settings_from at cfg) near new (Ok answer) (Did step) on leaves) sends enters)
 
 -- ---- octets on the line are lost, or others come in their place
 

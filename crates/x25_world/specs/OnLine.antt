@@ -15,6 +15,7 @@ octets_at (t ∷ tap) (suc i) = octets_at tap i
 abbrev pub octets_of : List OnTap → OnLine → List ℕ
 octets_of tap (frame.Tapped i) = octets_at tap i
 octets_of tap (frame.Own octets) = octets.items
+octets_of tap (frame.Short octets) = octets
 
 abbrev pub shown_line : List OnLine → List OnLine → List Tapped → ℕ → ShownLine
 shown_line to_dce to_dte tap room = let all = map plain_tapped tap in
@@ -24,16 +25,19 @@ shown_line to_dce to_dte tap room = let all = map plain_tapped tap in
 abbrev pub IsThere : ℕ → OnLine → Type 0
 IsThere count (frame.Tapped i) = i < count
 IsThere count (frame.Own octets) = Unit {0}
+IsThere count (frame.Short octets) = Unit {0}
 
 abbrev pub IsOwn : OnLine → Type 0
 IsOwn (frame.Tapped i) = ⊥
 IsOwn (frame.Own octets) = Unit {0}
+IsOwn (frame.Short octets) = Unit {0}
 
 -- how many of the frames are the tap's at this place
 abbrev pub shares : ℕ → List OnLine → ℕ
 shares i [] = 0
 shares i (frame.Tapped j ∷ frames) = if i == j then suc (shares i frames) else shares i frames
 shares i (frame.Own octets ∷ frames) = shares i frames
+shares i (frame.Short octets ∷ frames) = shares i frames
 
 -- None of the frames that are further from the back than the tap has frames is the tap's.
 abbrev pub AreLate : ℕ → List OnLine → Type 0

@@ -1,5 +1,5 @@
 //! What happens at one end, and on the line to it.
-ghost use Rattle.std.specs.Prelude.{◌≡◌, ◌&&◌, List, ◌+◌, ◌≤◌, ◌++◌, ◌⊎◌, Bool, false, [], length, map, vec_len, vec_capacity, IfErr, OnOk, OnErr, IsErrOf};
+ghost use Rattle.std.specs.Prelude.{◌≡◌, ◌&&◌, List, ◌+◌, ◌≤◌, ◌++◌, ◌∷◌, ◌<◌, ◌⊎◌, Bool, false, [], length, map, vec_len, vec_capacity, IfErr, OnOk, OnErr, IsErrOf};
 ghost use Rattle.x25_link.specs.Station.{awaits_ua};
 ghost use Rattle.x25_line.specs.laws.Stations.{is_visible};
 ghost use Rattle.x25_station.specs.Command.{command_of};
@@ -102,7 +102,7 @@ fn command(
     make_room(line)?;
     match near.command_into(cmd, frames, told) {
         Ok(()) => {
-            line.put(at, taps, frames);
+            put(at, near, line, taps, frames);
             Ok(())
         }
         Err(error) => Err(WorldError::of_station(error)),
@@ -135,14 +135,53 @@ fn deliver(
         Ok(()) => {
             let octets = line.remove(at, 0);
             give_back(near, octets);
-            line.put(at, taps, frames);
+            put(at, near, line, taps, frames);
             Ok(())
         }
         Err(error) => Err(WorldError::of_station(error)),
     }
 }
 
-// The memory of a frame that came, where nothing else holds it, serves frames that the end sends later.
+// The frames of a step come on the line, and on the tap with `taps`, in room that there is, and their list is left empty.
+#[inline(always)]
+fn put(at: Role, near: &mut Station, line: &mut Line, taps: bool, frames: &mut Vec<Vec<u8>>)
+    requires room { vec_len frames.old ≤ line.old.room }
+    requires untapped { taps ≡ false → line.old.tap ≡ [] }
+    ensures line { line.new ≡ put_by taps line.old at (map (λ frame. frame.items) frames.old.items) }
+    ensures near { (c : Settings) (s : StationState) → FitsStation c near.old s → FitsStation c near.new s }
+{
+    if frames.len() == 1 {
+        if let Some(octets) = frames.pop() {
+            put_one(at, near, line, taps, octets);
+        }
+        return;
+    }
+    put_all(at, near, line, taps, frames);
+}
+
+fn put_all(at: Role, near: &mut Station, line: &mut Line, taps: bool, frames: &mut Vec<Vec<u8>>)
+    requires room { vec_len frames.old ≤ line.old.room }
+    requires untapped { taps ≡ false → line.old.tap ≡ [] }
+    ensures line { line.new ≡ put_by taps line.old at (map (λ frame. frame.items) frames.old.items) }
+    ensures near { (c : Settings) (s : StationState) → FitsStation c near.old s → FitsStation c near.new s }
+{
+    for octets in frames.drain(..) {
+        put_one(at, near, line, taps, octets);
+    }
+}
+
+#[inline(always)]
+fn put_one(at: Role, near: &mut Station, line: &mut Line, taps: bool, octets: Vec<u8>)
+    requires room { 0 < line.old.room }
+    requires untapped { taps ≡ false → line.old.tap ≡ [] }
+    ensures line { line.new ≡ put_by taps line.old at (octets.items ∷ []) }
+    ensures near { (c : Settings) (s : StationState) → FitsStation c near.old s → FitsStation c near.new s }
+{
+    let left = line.put(at, taps, octets);
+    give_back(near, left);
+}
+
+// The memory of a frame, where nothing else holds it, serves frames that the end sends later.
 #[inline(always)]
 fn give_back(near: &mut Station, octets: Option<Vec<u8>>)
     ensures { (c : Settings) (s : StationState) → FitsStation c near.old s → FitsStation c near.new s }
@@ -176,7 +215,7 @@ fn fire(
     make_room(line)?;
     match near.t1_into(frames, told) {
         Ok(()) => {
-            line.put(at, taps, frames);
+            put(at, near, line, taps, frames);
             Ok(())
         }
         Err(error) => Err(WorldError::of_station(error)),
@@ -211,7 +250,7 @@ pub fn connect(
     make_room(line)?;
     match near.connect_into(frames, told) {
         Ok(()) => {
-            line.put(at, taps, frames);
+            put(at, near, line, taps, frames);
             Ok(())
         }
         Err(error) => Err(WorldError::of_station(error)),

@@ -2,7 +2,7 @@ ghost use Rattle.std.specs.Prelude.{◌≡◌, ℕ, ◌+◌, ◌<◌, ◌≤◌,
 ghost use Rattle.x25_line.specs.laws.Stations.{replaced};
 ghost use Rattle.x25_world.specs.code.ShownLine.{ShownLine, line_to, with_line_to, put_by};
 ghost use Rattle.x25_world.specs.code.PlainTold.{plain_tapped};
-ghost use Rattle.x25_world.specs.OnLine.{octets_of, AreLate, IsThere, shares};
+ghost use Rattle.x25_world.specs.OnLine.{octets_of, AreLate, IsOwn, IsThere, shares};
 ghost use Rattle.x25_world.specs.declared.on_line.OnLine.{OnLine};
 ghost use Rattle.std.specs.VecDeque.{deque_len, deque_capacity};
 
@@ -87,43 +87,19 @@ impl Line {
         Ok(())
     }
 
-    /// An end puts frames on the line, with `taps` on the tap too, in room that there is, and leaves their list empty.
+    /// An end puts a frame on the line, with `taps` on the tap too, in room that there is. It answers the frame's memory, where the line doesn't
+    /// need it.
     #[inline(always)]
-    pub fn put(&mut self, from: Role, taps: bool, frames: &mut Vec<Vec<u8>>)
-        requires room { vec_len frames.old ≤ self.old.room }
-        requires untapped { taps ≡ false → self.old.tap ≡ [] }
-        ensures { self.new ≡ put_by taps self.old from (map (λ frame. frame.items) frames.old.items) }
-    {
-        if frames.len() == 1 {
-            if let Some(octets) = frames.pop() {
-                self.put_one(from, taps, octets);
-            }
-            return;
-        }
-        self.put_all(from, taps, frames);
-    }
-
-    fn put_all(&mut self, from: Role, taps: bool, frames: &mut Vec<Vec<u8>>)
-        requires room { vec_len frames.old ≤ self.old.room }
-        requires untapped { taps ≡ false → self.old.tap ≡ [] }
-        ensures { self.new ≡ put_by taps self.old from (map (λ frame. frame.items) frames.old.items) }
-    {
-        for octets in frames.drain(..) {
-            self.put_one(from, taps, octets);
-        }
-    }
-
-    #[inline(always)]
-    fn put_one(&mut self, from: Role, taps: bool, octets: Vec<u8>)
+    pub fn put(&mut self, from: Role, taps: bool, octets: Vec<u8>) -> Option<Vec<u8>>
         requires room { 0 < self.old.room }
         requires untapped { taps ≡ false → self.old.tap ≡ [] }
         ensures { self.new ≡ put_by taps self.old from (octets.items ∷ []) }
     {
         if taps {
             self.put_tapped(from, octets);
-        } else {
-            self.put_untapped(from, octets);
+            return None;
         }
+        self.put_untapped(from, octets)
     }
 
     fn put_tapped(&mut self, from: Role, octets: Vec<u8>)
@@ -139,15 +115,31 @@ impl Line {
 
     // The frame keeps octets of its own, since no tap holds them.
     #[inline(always)]
-    fn put_untapped(&mut self, from: Role, octets: Vec<u8>)
+    fn put_untapped(&mut self, from: Role, octets: Vec<u8>) -> Option<Vec<u8>>
         requires room { 0 < self.old.room }
         requires empty { self.old.tap ≡ [] }
         ensures { self.new ≡ put_by false self.old from (octets.items ∷ []) }
     {
+        if octets.len() == 4 {
+            let four = four_of(octets.as_slice());
+            self.put_own(from, OnLine::Short(four));
+            return Some(octets);
+        }
+        self.put_own(from, OnLine::Own(octets));
+        None
+    }
+
+    #[inline(always)]
+    fn put_own(&mut self, from: Role, frame: OnLine)
+        requires room { 0 < self.old.room }
+        requires empty { self.old.tap ≡ [] }
+        requires own { IsOwn frame }
+        ensures { self.new ≡ put_by false self.old from (octets_of self.old.tap frame ∷ []) }
+    {
         self.room -= 1;
         match from {
-            Role::Dte => self.to_dce.push_back_reserved(OnLine::Own(octets)),
-            Role::Dce => self.to_dte.push_back_reserved(OnLine::Own(octets)),
+            Role::Dte => self.to_dce.push_back_reserved(frame),
+            Role::Dce => self.to_dte.push_back_reserved(frame),
         }
     }
 
@@ -217,6 +209,16 @@ impl Line {
     }
 }
 
+#[inline(always)]
+fn four_of(octets: &[u8]) -> [u8; 4]
+    requires { length octets.now ≡ 4 }
+    ensures { result ≡ octets.now }
+{
+    let mut four = [0u8; 4];
+    four.copy_from_slice(octets);
+    four
+}
+
 // The octets of a frame on the line.
 fn octets<'a>(tap: &'a [Tapped], frame: &'a OnLine) -> &'a [u8]
     requires { IsThere (length tap.now) frame.now }
@@ -225,6 +227,7 @@ fn octets<'a>(tap: &'a [Tapped], frame: &'a OnLine) -> &'a [u8]
     match frame {
         OnLine::Tapped(place) => &tap[*place].octets,
         OnLine::Own(octets) => octets,
+        OnLine::Short(octets) => octets.as_slice(),
     }
 }
 

@@ -3,6 +3,8 @@
 pub enum OnLine {
     /// The frame at this place of the tap.
     Tapped(usize),
-    /// Octets that came in the place of a frame, or those of a frame that the tap let go of.
+    /// Octets that came in the place of a frame, or those of a frame that no tap holds.
     Own(Vec<u8>),
+    /// The octets of a frame without information that no tap holds, in the frame's own place.
+    Short([u8; 4]),
 }

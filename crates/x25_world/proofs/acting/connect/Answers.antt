@@ -8,8 +8,8 @@ returns-in-Ok-clause-acted c = λ cfg w gone before side.
     let shared = rw (sym c.make_room.ensures.line) at (shared_of cfg c.args.at c.args.taps _ c.args.line.now before w gone c.make_room.new.line.room side) in
     let called = c.in-Ok.ensures.does in
     record {
-      happened = rw c.put.ensures
-          (has_happened cfg c.args.at c.args.taps _ _ before w gone _ (record { frames = c.connect_into.new.frames; entries = c.connect_into.new.entries }) shared (called.state _ _ fits) (called.frames _ _ fits) (called.entries _ _ fits) (called.refused _ _ fits));
+      happened = rw c.put.ensures.line
+          (has_happened cfg c.args.at c.args.taps c.connect_into.new.self c.put.new.near _ before w gone _ (record { frames = c.connect_into.new.frames; entries = c.connect_into.new.entries }) c.put.ensures.near shared (called.state _ _ fits) (called.frames _ _ fits) (called.entries _ _ fits) (called.refused _ _ fits));
       refused = tt;
       stays = tt;
     }

@@ -1,8 +1,6 @@
-use Rattle.std.proofs.Common.{Ok, ◌≡◌, ◌∙◌, Some, inr, slice_get, sym, ap}
+use Rattle.std.proofs.Common.{◌≡◌, ◌∙◌, Some, inr, slice_get, sym, ap}
 use Rattle.x25_world.specs.Error.{error_of}
-use Rattle.x25_station.specs.Config.{settings_from}
-use Rattle.x25_station.specs.Step.{Did, receives}
-use Rattle.x25_world.proofs.SideLemmas.{leaves_on, shared_of, has_arrived, side_stays}
+use Rattle.x25_world.proofs.SideLemmas.{shared_of, has_arrived, side_stays}
 use Rattle.x25_world.proofs.acting.deliver.Goals as goal
 
 pub returns-in-Ok-clause-acted : goal.returns-in-Ok-clause-acted
@@ -12,8 +10,9 @@ returns-in-Ok-clause-acted c = λ cfg w gone before side.
     let called = c.in-Ok.ensures.does in
     let front : Some c.in-Some.octets.now ≡ slice_get w.back 0 = c.in-Some.ensures ∙ ap (λ l. slice_get l 0) shared.back in
     record {
-      happened = rw (c.put.ensures, c.remove-octets.ensures)
-          (has_arrived cfg c.args.at c.args.taps _ c.make_room.new.line before w w.back gone c.in-Some.octets.now (record { frames = c.receive_into.new.frames; entries = c.receive_into.new.entries }) shared front (leaves_on (settings_from c.args.at cfg) c.receive_into.new.self c.give_back.new.near (Ok (record { frames = c.receive_into.new.frames; entries = c.receive_into.new.entries })) (Did (receives (settings_from c.args.at cfg) w.near c.in-Some.octets.now)) c.give_back.ensures (called.state _ _ fits)) (called.frames _ _ fits) (called.entries _ _ fits));
+      happened = rw (c.put.ensures.line, c.remove-octets.ensures)
+          (has_arrived cfg c.args.at c.args.taps c.receive_into.new.self c.put.new.near c.make_room.new.line before w w.back gone c.in-Some.octets.now (record { frames = c.receive_into.new.frames; entries = c.receive_into.new.entries })
+          (λ k s f. c.put.ensures.near k s (c.give_back.ensures k s f)) shared front (called.state _ _ fits) (called.frames _ _ fits) (called.entries _ _ fits));
       refused = tt;
       stays = tt;
     }

@@ -2,7 +2,7 @@ use Rattle.std.proofs.Common.{◌<◌, ◌∙◌, length, take, sym, arith}
 use Rattle.std.proofs.lemmas.List.{take_more, take_more_set}
 use Rattle.x25_world.specs.declared.on_line.OnLine.TheVariants.{Own}
 use Rattle.x25_world.proofs.OnLineLemmas.{all_there, shares-set, octets_at-get_or}
-use Rattle.x25_world.proofs.LetGoLemmas.{others_stay, shares-at, takes_octets, shares-push_own}
+use Rattle.x25_world.proofs.LetGoLemmas.{others_stay, own_else, shares-at, takes_octets, shares-push_own}
 use Rattle.x25_world.proofs.line.own_one.Goals as goal
 
 pub index_mut-requires : goal.index_mut-requires
@@ -12,8 +12,8 @@ index_mut-requires c =
 
 pub returns-in_default-clause-own : goal.returns-in_default-clause-own
 returns-in_default-clause-own c = λ i.
-    rw (take_more c.args.queue.now.items c.args.place c.index.result.now c.requires.place, ← c.index.ensures, c.in_default.is)
-    (shares-push_own i (take c.args.place c.args.queue.now.items) (Own c.in_default.field-0) tt)
+    rw (take_more c.args.queue.now.items c.args.place c.index.result.now c.requires.place, ← c.index.ensures)
+    (shares-push_own i (take c.args.place c.args.queue.now.items) c.index.result.now (own_else c.index.result.now c.in_default.not-Tapped))
 
 pub returns-clause-octets : goal.returns-clause-octets
 returns-clause-octets c =
