@@ -150,6 +150,9 @@ fn put(at: Role, near: &mut Station, line: &mut Line, taps: bool, frames: &mut V
     ensures line { line.new ≡ put_by taps line.old at (map (λ frame. frame.items) frames.old.items) }
     ensures near { (c : Settings) (s : StationState) → FitsStation c near.old s → FitsStation c near.new s }
 {
+    if frames.is_empty() {
+        return;
+    }
     if frames.len() == 1 {
         if let Some(octets) = frames.pop() {
             put_one(at, near, line, taps, octets);
