@@ -115,6 +115,10 @@ fn is_refused(
     let proposals = Proposals::new();
     let request = proposals.request(alloc, index);
     let told = circuit.refusal(&request);
+    if let Request::Send { q, user } = &request {
+        let lent = circuit.send_refusal(*q, user.as_slice());
+        assert_eq!(rt; lent, wanted, "message {index} {place}, lent");
+    }
     let refused = circuit.ask(request).err();
     assert_eq!(rt;
         (told, refused),
