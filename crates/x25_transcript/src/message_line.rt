@@ -70,9 +70,41 @@ fn push_number(label: &[u8], number: u64, text: &mut Text)
     }
 }
 
-/// Appends a channel and the name of its stretch.
-#[inline(never)]
-fn push_stretch(channel: u16, name: &Stretch, text: &mut Text)
+/// Whether a channel has two digits, and the numbers of its stretch one digit each.
+#[inline(always)]
+fn has_two_digits(channel: u16, name: &Stretch) -> bool
+    ensures two { IsTrue result → 10 ≤ channel }
+    ensures channel { IsTrue result → channel < 100 }
+    ensures restarts { IsTrue result → name.now.restarts < 10 }
+    ensures clears { IsTrue result → name.now.clears < 10 }
+    ensures resets { IsTrue result → name.now.resets < 10 }
+{
+    channel >= 10 && channel < 100 && name.restarts < 10 && name.clears < 10 && name.resets < 10
+}
+
+/// Appends a channel of two digits and the name of its stretch, each of whose numbers has one digit.
+#[inline(always)]
+fn push_two_digits(channel: u16, name: &Stretch, text: &mut Text)
+    requires two { 10 ≤ channel }
+    requires channel { channel < 100 }
+    requires restarts { name.now.restarts < 10 }
+    requires clears { name.now.clears < 10 }
+    requires resets { name.now.resets < 10 }
+    requires room { length text.old + 90 ≤ ROOM }
+    ensures text { text.new ≡ text.old ++ stretch_text channel (plain_name name.now) }
+    ensures size { length text.new ≤ length text.old + 90 }
+{
+    let mut characters = *b" ch=__ at _._._";
+    characters[4] = digit((channel / 10) as u8);
+    characters[5] = digit((channel % 10) as u8);
+    characters[10] = digit(name.restarts as u8);
+    characters[12] = digit(name.clears as u8);
+    characters[14] = digit(name.resets as u8);
+    text.push(&characters);
+}
+
+/// Appends a channel and the name of its stretch, of any numbers.
+fn push_any_stretch(channel: u16, name: &Stretch, text: &mut Text)
     requires room { length text.old + 90 ≤ ROOM }
     ensures text { text.new ≡ text.old ++ stretch_text channel (plain_name name.now) }
     ensures size { length text.new ≤ length text.old + 90 }
@@ -81,6 +113,20 @@ fn push_stretch(channel: u16, name: &Stretch, text: &mut Text)
     push_number(b" at ", name.restarts, text);
     push_number(b".", name.clears, text);
     push_number(b".", name.resets, text);
+}
+
+/// Appends a channel and the name of its stretch.
+#[inline(never)]
+fn push_stretch(channel: u16, name: &Stretch, text: &mut Text)
+    requires room { length text.old + 90 ≤ ROOM }
+    ensures text { text.new ≡ text.old ++ stretch_text channel (plain_name name.now) }
+    ensures size { length text.new ≤ length text.old + 90 }
+{
+    if has_two_digits(channel, name) {
+        push_two_digits(channel, name, text);
+    } else {
+        push_any_stretch(channel, name, text);
+    }
 }
 
 /// Appends Q, and the label of user data.
