@@ -15,11 +15,11 @@
 x25: build/x25
 
 build/x25: crates.txt $(shell find crates -path '*/out' -prune -o -type f -print) | kit
-	.ci/prove x25
+	.ci/prove x25 x25_world
 
 # The player of scripts whose calls are refused memory.
 build/x25_refusals: crates.txt $(shell find crates -path '*/out' -prune -o -type f -print) | kit
-	.ci/prove x25_refusals
+	.ci/prove x25_refusals x25_world
 
 demo: build/x25
 	@for trace in examples/*.trace; do \

@@ -20,6 +20,7 @@ for crate in $(sed "s/:.*//" crates.txt); do
     mkdir crates/$crate/out
     echo "$(ls crates)" > crates/$crate/out/$crate
 done
+[ -e crates/program/wrong ] && { echo "the program wrote something else"; exit 1; }
 echo "5 passed, 0 failed"
 """
 
@@ -27,7 +28,7 @@ CRATES = {"low": "", "kept": "low", "right": "low", "high": "kept right low", "a
 
 
 class Prove(ToolCase):
-    def proves(self, name, broken=()):
+    def proves(self, name, *first, broken=()):
         """The status, the crates that are said to be proved, and what is said of an error, in a repository of CRATES."""
         rows = "".join(f"{crate}: {low} thiserror\n" for crate, low in CRATES.items())
         self.file("crates.txt", f"# lowest first\n{rows}".encode())
@@ -36,16 +37,21 @@ class Prove(ToolCase):
             os.makedirs(f"{self.folder}/crates/{crate}/out")
             if crate in broken:
                 self.file(f"crates/{crate}/false", b"")
+        if name in broken:
+            os.rename(f"{self.folder}/crates/{name}/false", f"{self.folder}/crates/{name}/wrong")
         os.makedirs(f"{self.folder}/.ci")
         shutil.copy(f"{support.ROOT}/.ci/prove", f"{self.folder}/.ci")
         os.chmod(self.file("rt", RT), 0o755)
         self.file("HANDLES", b"Handles allowed: none.\n")
-        environment = dict(os.environ, PATH=f"{self.folder}:{os.environ['PATH']}")
-        ran = subprocess.run([f"{self.folder}/.ci/prove", name], env=environment, capture_output=True, text=True)
+        environment = dict(os.environ, PATH=f"{self.folder}:{os.environ['PATH']}", PROVE_LEAD="0")
+        ran = subprocess.run([f"{self.folder}/.ci/prove", name, *first], env=environment, capture_output=True, text=True)
         return ran.returncode, [line.partition(":")[0] for line in ran.stdout.splitlines()], ran.stderr
 
     def test_what_it_stands_on_and_itself(self):
         self.assertEqual(self.proves("program"), (0, ["low", "kept", "right", "high", "program"], ""))
+
+    def test_a_run_before_over_some_of_them_changes_nothing(self):
+        self.assertEqual(self.proves("program", "right"), (0, ["low", "kept", "right", "high", "program"], ""))
 
     def test_the_program_is_left_in_build(self):
         self.proves("program")
@@ -60,6 +66,11 @@ class Prove(ToolCase):
         status, proved, said = self.proves("program", broken=["right"])
         self.assertEqual((status, proved, said), (1, ["low", "kept"], "== right\nan open goal\nrt: right NOT PROVED\n"))
         self.assertFalse(os.path.exists(f"{self.folder}/build"))
+
+    def test_the_program_runs_wrong(self):
+        status, proved, said = self.proves("program", broken=["program"])
+        self.assertEqual((status, proved[-1]), (1, "program"))
+        self.assertIn("the program wrote something else\n", said)
 
     def test_no_such_crate(self):
         self.assertEqual(self.proves("other"), (2, [], "There is no crate other.\n"))
