@@ -68,6 +68,7 @@ fn make_up<const ROOM: usize>(
 }
 
 // Lets go of the blanks beyond so many.
+#[cold]
 #[inline(never)]
 fn shorten<const ROOM: usize>(blanks: &mut Vec<Blank<ROOM>>, most: usize)
     ensures { vec_len blanks.new ≡ min (vec_len blanks.old) most }
@@ -162,6 +163,7 @@ impl<const ROOM: usize, const MOST: usize> Blanks<ROOM, MOST> {
     }
 
     // .. where it may be that more have to be made.
+    #[cold]
     #[inline(never)]
     fn reserve_more(&mut self, count: usize) -> Result<(), AllocError>
         ensures ok { OnOk result (self.new ≡ max self.old count) }
@@ -180,6 +182,7 @@ impl<const ROOM: usize, const MOST: usize> Blanks<ROOM, MOST> {
     }
 
     /// Takes memory that was promised, for a frame of so many octets.
+    #[inline(always)]
     pub fn take(&mut self, length: usize) -> Vec<u8>
         requires promised { 0 < self.old }
         requires short { length ≤ ROOM }

@@ -22,6 +22,7 @@ impl Circuit {
     /// Lets a message of at most 65,535 octets wait, with this qualifier. It takes no memory.
     ///
     /// 30 WrongState outside of p4 with d1, then 32 TooLong, then 31 Full exactly where 8 messages wait.
+    #[inline(always)]
     pub fn send(&mut self, q: bool, user: Vec<u8>) -> Result<(), CircuitError>
         ensures outcome { (c : Settings) (x : Channel) → FitsCircuit c self.old x → Keeps c self.new result (outcome c x (CallSends q user.items)) }
         ensures room { room_of self.old ≤ room_of self.new }

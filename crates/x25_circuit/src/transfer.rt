@@ -117,6 +117,7 @@ impl Transfer {
     }
 
     /// Takes a data packet that isn't refused, and gives the message that ends with it, if one does.
+    #[inline(always)]
     pub fn take(&mut self, ps: Seq, q: bool, m: bool, user: &[u8]) -> Option<Message>
         requires wanted { ps.number ≡ self.old.receiver.number }
         requires room { length user.now ≤ self.old.partial.room }

@@ -31,6 +31,7 @@ impl HeldLine {
     }
 
     /// Holds what follows of the line.
+    #[cold]
     pub fn hold(&mut self, part: &[u8])
         ensures { (begun : List ℕ) → HoldsLine begun self.old → HoldsLine (begun ++ part.now) self.new }
     {

@@ -24,6 +24,7 @@ const CALL_HEADER: usize = 26;
 const MOST_OTHER: usize = 35;
 
 /// The packet on this channel. RESTART and its confirmation, which no circuit sends, stay on channel 0.
+#[inline(always)]
 pub(crate) fn on_channel<'a>(packet: Packet<'a>, channel: u16) -> Packet<'a>
     requires { IsChannel channel }
     ensures moved { plain result ≡ moved_to channel (plain packet.entry) }

@@ -175,6 +175,7 @@ impl LinkStation {
     }
 
     // A frame, in Down.
+    #[cold]
     fn hear_down<'a>(&mut self, frame: &Frame, out: &mut Outbox) -> Heard<'a>
         requires { 0 < out.old.short }
         ensures step { (c : Settings) (before : List (List ℕ)) (t : Side) → FitsSide c self.old before out.old.made t →
@@ -201,6 +202,7 @@ impl LinkStation {
     }
 
     // A frame, in Waiting.
+    #[cold]
     fn hear_waiting<'a>(&mut self, frame: &Frame, out: &mut Outbox) -> Heard<'a>
         requires { 0 < out.old.short }
         ensures step { (c : Settings) (before : List (List ℕ)) (t : Side) → FitsSide c self.old before out.old.made t →
@@ -227,6 +229,7 @@ impl LinkStation {
     }
 
     // Octets, in a phase other than Up.
+    #[cold]
     #[inline(never)]
     fn hear_apart<'a>(&mut self, octets: &[u8], out: &mut Outbox) -> Heard<'a>
         requires apart { is_up self.old.phase ≡ false }

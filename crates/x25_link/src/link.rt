@@ -322,6 +322,7 @@ impl Link {
     }
 
     // Hands a packet down, and keeps the frames.
+    #[inline(always)]
     fn give(&mut self, packet: Vec<u8>) -> Result<(), LinkError>
         requires { vec_len packet ≤ limit_of self.old }
         ensures state { (c : Settings) (s : StationState) → FitsLink c self.old s → OnOk result (FitsLink c self.new (put_step c packet.items s).side.near) }

@@ -131,6 +131,7 @@ impl Outbox {
     }
 
     // .. where it may be that less is set aside.
+    #[cold]
     #[inline(never)]
     fn reserve_more(&mut self, long: usize, short: usize) -> Result<(), AllocError>
         ensures made { self.new.made ≡ self.old.made }

@@ -119,7 +119,7 @@ impl Outgoing {
     }
 
     // Takes the first packets as acknowledged, and keeps their memory.
-    #[inline(never)]
+    #[inline(always)]
     fn release(&mut self, count: u8)
         requires { count ≤ length self.old.sender.items }
         ensures sender { (w : Sending (List ℕ)) → Fits self.old.sender w → Fits self.new.sender (acknowledged w (w.acked + count)) }
@@ -151,6 +151,7 @@ impl Outgoing {
     }
 
     /// Drops all packets.
+    #[cold]
     pub fn clear(&mut self)
         ensures state { (k : ℕ) (o : OutgoingState) → FitsOutgoing k self.old o → FitsOutgoing k self.new no_packet }
         ensures window { window_of self.new ≡ window_of self.old }
@@ -231,6 +232,7 @@ fn send_again(sender: &mut Sender<Octets>, from: Role, nr: Seq, out: &mut Outbox
 }
 
 // Sends a packet for the first time.
+#[inline(always)]
 fn send_new(sender: &mut Sender<Octets>, packet: Octets, from: Role, nr: Seq, out: &mut Outbox)
     requires ready { 0 < out.old.long }
     requires open { ¬ (length sender.old.items ≡ sender.old.window) }

@@ -79,7 +79,7 @@ impl LinkStation {
     }
 
     /// Sends RR, or RNR where the station is busy.
-    #[inline(never)]
+    #[inline(always)]
     pub fn ready(&mut self, command: bool, pf: bool, out: &mut Outbox)
         requires { 0 < out.old.short }
         ensures step { (c : Settings) (before : List (List ℕ)) (t : Side) → FitsSide c self.old before out.old.made t → FitsSide c self.new before out.new.made (ready command pf t) }
@@ -164,6 +164,7 @@ impl LinkStation {
     }
 
     /// Drops all packets, and sets all variables but `tries` to 0.
+    #[cold]
     pub fn clear(&mut self, phase: Phase)
         ensures step { (c : Settings) (before made : List (List ℕ)) (t : Side) → FitsSide c self.old before made t → FitsSide c self.new before made (with_near t (with_nothing phase t.near.tries)) }
         ensures window { window_of self.new.outgoing ≡ window_of self.old.outgoing }
@@ -187,6 +188,7 @@ impl LinkStation {
     }
 
     /// Leaves Up.
+    #[cold]
     pub fn leave<'a>(&mut self, reason: Reason) -> Heard<'a>
         ensures step { (c : Settings) (before made : List (List ℕ)) (t : Side) → FitsSide c self.old before made t → FitsHeard c self.new before made result (leaves reason t) }
         ensures window { window_of self.new.outgoing ≡ window_of self.old.outgoing }

@@ -48,6 +48,7 @@ fn mark(m: bool) -> u8
     if m { 16 } else { 0 }
 }
 
+#[inline(always)]
 fn kind(packet: &Packet) -> u8
     ensures { result ≡ type_of (plain packet.now) }
 {
@@ -79,6 +80,7 @@ fn call_len(called: &Digits, calling: &Digits, facilities: &[u8], user: &[u8]) -
 }
 
 /// How many octets follow the type.
+#[inline(always)]
 fn body_len(packet: &Packet) -> usize
     requires { IsInRange 128 (plain packet.now) }
     ensures value { result ≡ length (body_of (plain packet.now)) }
@@ -105,6 +107,7 @@ fn body_len(packet: &Packet) -> usize
 }
 
 /// Appends octets that there is room for.
+#[inline(always)]
 fn append(octets: &mut Vec<u8>, more: &[u8])
     requires { vec_len octets.old + length more.now ≤ vec_capacity octets.old }
     ensures items { octets.new.items ≡ octets.old.items ++ more.now }

@@ -129,6 +129,7 @@ impl LineTaker for Simulator {
 
     ghost ended = { λ a old now lines script. WritesLines a.cfg a.tap old now lines (simulated a.cfg a.down a.tap script) };
 
+    #[inline(always)]
     fn take_line<W: Sink>(&mut self, line: Option<&[u8]>, writer: &mut W) -> Result<(), Fault> {
         match line {
             Some(line) => self.obey(line, writer),

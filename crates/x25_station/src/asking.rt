@@ -31,6 +31,7 @@ use x25_layer::{Layer, LayerError, Params};
 use x25_link::holds_few;
 
 // A copy of octets, for an entry or a message.
+#[inline(always)]
 fn copied(alloc: Global, octets: &[u8]) -> Result<Vec<u8>, StationError>
     ensures ok { IfOk result (λ copy. copy.items ≡ octets.now) }
     ensures err { IfErr result (λ e. e ≡ StationError.NoMemory) }
@@ -161,7 +162,7 @@ impl Station {
     }
 
     // Why what is asked of a channel would be refused now, if it would; of other commands nothing is said. Nothing is made or copied for it.
-    #[inline(never)]
+    #[inline(always)]
     fn refusal(&self, command: &Cmd<'_>) -> Option<LayerError>
         ensures { (c : Settings) (s : State) → FitsStation c self.now s → IfSome result (λ e. commands c s (command_of command.now) ≡ Refused (StationError.Layer e)) }
     {

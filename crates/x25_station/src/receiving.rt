@@ -32,6 +32,8 @@ use x25_packet::reading_is_the_grammar;
 const HEADERS: usize = 2 + 2 + 3;
 
 // What the layer does at LinkUp.
+#[cold]
+#[inline(never)]
 fn come_up(layer: &mut Layer, link: &mut Link, entries: &mut Vec<Entry>)
     requires put { CanPut link.old }
     requires room { HasRoom 0 layer.old link.old.outbox.long }
@@ -50,6 +52,7 @@ fn come_up(layer: &mut Layer, link: &mut Link, entries: &mut Vec<Entry>)
 }
 
 // .. that isn't one of data transfer with which nothing is wrong.
+#[cold]
 #[inline(never)]
 fn hear_other(
     layer: &mut Layer,
@@ -205,6 +208,8 @@ impl Station {
     }
 
     // A count is at its most: the octets are dropped, and the link goes down.
+    #[cold]
+    #[inline(never)]
     fn abandon(
         &mut self,
         octets: &[u8],

@@ -97,6 +97,7 @@ impl<T> Sender<T> {
     /// nothing is to be sent again, and else stays. It takes no memory.
     ///
     /// 8 Full exactly where as many items stand unacknowledged as the window holds. The item is dropped then.
+    #[inline(always)]
     #[tactic(auto, using(crate::proofs::Fitting::Fits_length))]
     pub fn offer(&mut self, item: T) -> Result<Seq, WindowError>
     where

@@ -59,6 +59,7 @@ impl OrderedLink for Link {
         self.outbox.long()
     }
 
+    #[inline(always)]
     fn room(&mut self, count: usize) -> Result<(), LinkError> {
         self.outbox.reserve(count, 0)?;
         Ok(())
@@ -68,6 +69,7 @@ impl OrderedLink for Link {
         self.station.outgoing.spent_memory(length)
     }
 
+    #[inline(always)]
     fn put(&mut self, packet: Vec<u8>) -> Result<(), LinkError> {
         self.give(packet)
     }
