@@ -238,7 +238,7 @@ fn register(octets: &[u8]) -> u16
 }
 
 /// The frame check sequence of octets, however many they are.
-#[inline(always)]
+#[inline(never)]
 fn fcs_of_any(octets: &[u8]) -> u16
     ensures { result ≡ fcs_of octets.now }
 {

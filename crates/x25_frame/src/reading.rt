@@ -96,7 +96,7 @@ fn read_addressed<'a>(from: Role, n1: usize, octets: &'a [u8]) -> Result<Frame<'
 }
 
 // .. of any length.
-#[inline(always)]
+#[inline(never)]
 #[tactic(auto, unfolding(crate::specs::Reading::frame_of))]
 fn decode_any<'a>(from: Role, n1: usize, octets: &'a [u8]) -> Result<Frame<'a>, FrameError>
     ensures exact { Gives result (frame_of from n1 octets.now) }

@@ -162,7 +162,7 @@ impl Station {
     }
 
     // Why what is asked of a channel would be refused now, if it would; of other commands nothing is said. Nothing is made or copied for it.
-    #[inline(always)]
+    #[inline(never)]
     fn refusal(&self, command: &Cmd<'_>) -> Option<LayerError>
         ensures { (c : Settings) (s : State) → FitsStation c self.now s → IfSome result (λ e. commands c s (command_of command.now) ≡ Refused (StationError.Layer e)) }
     {

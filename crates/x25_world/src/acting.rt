@@ -261,7 +261,6 @@ pub fn connect(
 }
 
 // Room for the frames that a step of a station answers.
-#[inline(always)]
 fn make_room(line: &mut Line) -> Result<(), WorldError>
     ensures frames { OnOk result (17 ≤ line.new.room) }
     ensures line { line.new ≡ record line.old { room = line.new.room } }
