@@ -7,4 +7,6 @@ mod commands;
 mod telling;
 
 pub use commands::{read_octets, read_user, station_command};
-pub use telling::{tell, tell_nothing, write_frame, write_refusal};
+pub use telling::{
+    FRAME_LINE, push_frame_line, tell, tell_nothing, write_frame, write_refusal,
+};

@@ -1,22 +1,38 @@
 //! Lines that tell of frames and of refusals.
-ghost use Rattle.std.specs.Prelude.{◌≡◌, ◌++◌, [], OnOk, OnErr};
+ghost use Rattle.std.specs.Prelude.{◌≡◌, ◌≤◌, ◌+◌, ◌++◌, [], OnOk, OnErr, length};
 ghost use Rattle.x25_console.specs.Telling.{frame_line, nothing_line, refusal_line};
 ghost use Rattle.x25_io.specs.code.MarksFaults.{MarksFaults};
 ghost use Rattle.x25_io.specs.code.Written.{TellsMore};
+ghost use Rattle.x25_decode.specs.Decoding.{mark_of};
+ghost use Rattle.x25_text.specs.declared.text.TheConstants.{MOST_OCTETS, ROOM};
+ghost use Rattle.x25_console.specs.declared.telling.TheConstants.{FRAME_LINE};
 
 use std::alloc::AllocError;
 use x25_io::{Fault, Output, Sink};
 use x25_station::Role;
+use x25_text::{MOST_OCTETS, ROOM, Text};
 use x25_transcript::Line;
+
+/// The characters that the line of a frame of at most 4,103 octets needs room for.
+pub const FRAME_LINE: usize = 8_209;
+
+/// The mark of the end that sent a frame.
+#[inline(always)]
+fn mark(from: Role) -> &'static [u8]
+    ensures mark { result.now ≡ mark_of from }
+    ensures size { length result.now ≡ 2 }
+{
+    match from {
+        Role::Dte => b"> ",
+        Role::Dce => b"< ",
+    }
+}
 
 #[tactic(auto, unfolding(crate::specs::Telling::frame_line))]
 fn push_frame(from: Role, octets: &[u8], line: &mut Line) -> Result<(), AllocError>
     ensures { OnOk result (line.new ≡ line.old ++ frame_line from octets.now) }
 {
-    line.push(match from {
-        Role::Dte => b"> ",
-        Role::Dce => b"< ",
-    })?;
+    line.push(mark(from))?;
     line.push_hexadecimal(octets)?;
     line.push(b"\n")
 }
@@ -32,6 +48,19 @@ pub fn write_frame(from: Role, octets: &[u8], line: &mut Line) -> Result<(), All
         return Err(error);
     }
     Ok(())
+}
+
+/// Appends a frame that an end sent, as a line for `decode`.
+#[inline(always)]
+#[tactic(auto, unfolding(crate::specs::Telling::frame_line))]
+pub fn push_frame_line(from: Role, octets: &[u8], text: &mut Text)
+    requires few { length octets.now ≤ MOST_OCTETS }
+    requires room { length text.old + FRAME_LINE ≤ ROOM }
+    ensures { text.new ≡ text.old ++ frame_line from octets.now }
+{
+    text.push(mark(from));
+    text.push_hexadecimal(octets);
+    text.push(b"\n");
 }
 
 #[tactic(auto, unfolding(crate::specs::Telling::refusal_line))]

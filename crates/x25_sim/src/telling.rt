@@ -1,6 +1,7 @@
 //! What is told of a step: a line for each entry, and for each frame where frames are asked for.
 ghost use Rattle.std.specs.Prelude.{◌≡◌, ◌≤◌, ◌+◌, ℕ, List, Option, IfSome, OnOk, MatchResult, drop, length, map};
-ghost use Rattle.x25_text.specs.declared.text.TheConstants.{ROOM};
+ghost use Rattle.x25_text.specs.declared.text.TheConstants.{MOST_OCTETS, ROOM};
+ghost use Rattle.x25_console.specs.declared.telling.TheConstants.{FRAME_LINE};
 ghost use Rattle.x25_transcript.specs.declared.message_line.TheConstants.{SHORT_LINE};
 ghost use Rattle.x25_io.specs.code.MarksFaults.{MarksFaults};
 ghost use Rattle.x25_io.specs.code.Written.{AppendsPrefix, Tells, TellsMore};
@@ -10,9 +11,10 @@ ghost use Rattle.x25_world.specs.code.ShownWorld.{line_of};
 ghost use Rattle.x25_console.specs.Telling.{refusal_line as line_of_refusal};
 ghost use Rattle.x25_sim.specs.Telling.{enters_at, taps, refusal_number as number_of_refusal, saying_line, sayings_text};
 
-use x25_console::{tell, write_frame, write_refusal};
+use x25_console::{FRAME_LINE, push_frame_line, tell, write_frame, write_refusal};
 use x25_io::{Fault, Output, Sink};
 use x25_station::Entry;
+use x25_text::{MOST_OCTETS, ROOM};
 use x25_transcript::{Line, SHORT_LINE, push_message, write_entry};
 use x25_world::{Direction, Role, World, WorldError};
 
@@ -42,15 +44,16 @@ fn tell_any_entry<W: Sink>(
     tell(line.as_slice(), output, writer)
 }
 
-/// Makes room for a line that is written where it waits.
+/// Makes room for a line of so many characters that is written where it waits.
 #[inline(always)]
-fn make_room<W: Sink>(output: &mut Output, writer: &mut W) -> Result<(), Fault>
+fn make_room<W: Sink>(count: usize, output: &mut Output, writer: &mut W) -> Result<(), Fault>
+    requires few { count ≤ ROOM }
     ensures tells { (old : Option (List ℕ)) (told : List ℕ) → Tells old (W.contents writer.old) output.old told
         → MatchResult result (λ _. Tells old (W.contents writer.new) output.new told) (λ _. AppendsPrefix old (W.contents writer.new) told) }
-    ensures room { OnOk result (length output.new + SHORT_LINE ≤ ROOM) }
+    ensures room { OnOk result (length output.new + count ≤ ROOM) }
     ensures faults { MarksFaults W.Sink writer.old writer.new result }
 {
-    match output.make_room(SHORT_LINE, writer) {
+    match output.make_room(count, writer) {
         Ok(()) => Ok(()),
         Err(_) => Err(Fault::Write),
     }
@@ -67,7 +70,7 @@ fn tell_entry<W: Sink>(
     ensures tells { TellsMore result (W.contents writer.old) (W.contents writer.new) output.old output.new (saying_line (enters_at at (plain_entry entry.now))) }
     ensures faults { MarksFaults W.Sink writer.old writer.new result }
 {
-    make_room(output, writer)?;
+    make_room(SHORT_LINE, output, writer)?;
     if push_message(at, entry, output.text()) {
         return Ok(());
     }
@@ -75,7 +78,7 @@ fn tell_entry<W: Sink>(
 }
 
 #[tactic(auto, unfolding(crate::specs::Telling::saying_line))]
-fn tell_frame<W: Sink>(
+fn tell_long_frame<W: Sink>(
     line: &mut Line,
     from: Role,
     octets: &[u8],
@@ -87,6 +90,26 @@ fn tell_frame<W: Sink>(
 {
     write_frame(from, octets, line)?;
     tell(line.as_slice(), output, writer)
+}
+
+/// The lines of frames are written where they wait, but for one that is too long for that.
+#[inline(always)]
+fn tell_frame<W: Sink>(
+    line: &mut Line,
+    from: Role,
+    octets: &[u8],
+    output: &mut Output,
+    writer: &mut W,
+) -> Result<(), Fault>
+    ensures tells { TellsMore result (W.contents writer.old) (W.contents writer.new) output.old output.new (saying_line (taps (record { from = from; octets = octets.now }))) }
+    ensures faults { MarksFaults W.Sink writer.old writer.new result }
+{
+    if octets.len() > MOST_OCTETS {
+        return tell_long_frame(line, from, octets, output, writer);
+    }
+    make_room(FRAME_LINE, output, writer)?;
+    push_frame_line(from, octets, output.text());
+    Ok(())
 }
 
 #[inline(never)]
@@ -123,8 +146,8 @@ pub(crate) fn tell_entries<W: Sink>(
     tell_each(line, at, entries, output, writer)
 }
 
-/// Tells the frames on the line that an end put behind so many that were there before.
-pub(crate) fn tell_frames<W: Sink>(
+#[inline(never)]
+fn tell_each_frame<W: Sink>(
     line: &mut Line,
     from: Role,
     world: &World,
@@ -142,6 +165,26 @@ pub(crate) fn tell_frames<W: Sink>(
         }
     }
     Ok(())
+}
+
+/// Tells the frames on the line that an end put behind so many that were there before.
+#[inline(always)]
+pub(crate) fn tell_frames<W: Sink>(
+    line: &mut Line,
+    from: Role,
+    world: &World,
+    direction: Direction,
+    before: usize,
+    output: &mut Output,
+    writer: &mut W,
+) -> Result<(), Fault>
+    ensures tells { TellsMore result (W.contents writer.old) (W.contents writer.new) output.old output.new (sayings_text (map taps (tapped from (drop before (line_of world.now direction))))) }
+    ensures faults { MarksFaults W.Sink writer.old writer.new result }
+{
+    if world.on_line(direction) <= before {
+        return Ok(());
+    }
+    tell_each_frame(line, from, world, direction, before, output, writer)
 }
 
 /// The line of a refusal that scripts meet often: one that lies ready is told with less work than one that is written.

@@ -1,51 +1,74 @@
--- Octets that are written as digits, eight at a time.
-use Rattle.std.proofs.Common.{ℕ, ◌≡◌, ◌<◌, ◌≤◌, ◌+◌, ◌-◌, ◌*◌, ◌/◌, ◌%◌, ◌∙◌, true, false, cond, List, [], ◌∷◌, ◌++◌, length, take, drop, map, get_or, refl, ap, sym, arith}
+-- Octets that are written as digits, block by block.
+use Rattle.std.proofs.Common.{ℕ, zero, suc, ◌≡◌, ◌<◌, ◌≤◌, ◌+◌, ◌-◌, ◌*◌, ◌/◌, ◌%◌, ◌∙◌, true, false, cond, List, [], ◌∷◌, ◌++◌, length, take, drop, map, get_or, refl, ap, sym, arith}
 use Rattle.std.specs.Prelude.{◌==◌, nat_lt}
 use Rattle.std.specs.Fmt.{digit_glyph}
 use Rattle.std.specs.List.{flat_map}
 use Rattle.std.specs.Simd.Lanes.{top}
 use Rattle.std.proofs.lemmas.Bool.{agree_below, agree_below_at, eqb-true}
 use Rattle.std.proofs.lemmas.Grind.{flat_map-append}
-use Rattle.std.proofs.lemmas.List.{length-take-le, take_all, take_at, take-take}
+use Rattle.std.proofs.lemmas.List.{get_or-append-add, get_or-map, get_or_append_left, length-map, length-take-le, take_all, take_at, take-take}
 use Rattle.std.proofs.Math.Seq.{take-add}
 use Rattle.x25_text.specs.Text.{octet_text}
 
--- ---- eight octets
+-- ---- some octets
 
 -- the character of a half of an octet, as the vectors compute it
 abbrev pub character : ℕ → ℕ
-character half = (half + cond (top 7 (cond (nat_lt half 10) 255 0)) 48 87) % 256
+character half = ((half + 48) % 256 + cond (top 7 (cond (nat_lt half 10) 255 0)) 0 39) % 256
 
--- the characters of eight high halves and eight low ones, in turn
-abbrev pub characters : List ℕ → List ℕ
-characters w =
-    character (get_or w 0 0) ∷ character (get_or w 8 0) ∷ character (get_or w 1 0) ∷ character (get_or w 9 0) ∷ character (get_or w 2 0) ∷ character (get_or w 10 0)
-    ∷ character (get_or w 3 0) ∷ character (get_or w 11 0) ∷ character (get_or w 4 0) ∷ character (get_or w 12 0) ∷ character (get_or w 5 0) ∷ character (get_or w 13 0)
-    ∷ character (get_or w 6 0) ∷ character (get_or w 14 0) ∷ character (get_or w 7 0) ∷ character (get_or w 15 0) ∷ []
+-- the characters of so many high halves and as many low ones, in turn, from a place on
+unfoldable pub in_turn : List ℕ → ℕ → ℕ → ℕ → List ℕ
+in_turn halves n place zero = []
+in_turn halves n place (suc count) = character (get_or halves place 0) ∷ character (get_or halves (n + place) 0) ∷ in_turn halves n (place + 1) count
 
-pub octets_shown : (f g : ℕ → ℕ) (v high low : List ℕ) → length v ≡ 8 → ((i : ℕ) → get_or v i 0 < 256)
+turn_shown : (f g : ℕ → ℕ) (n place count : ℕ) (v halves : List ℕ) → length v ≡ count → ((i : ℕ) → get_or v i 0 < 256)
     → agree_below (λ x. character (f x) == digit_glyph false (x / 16)) (λ _. true) 256 ≡ true
     → agree_below (λ x. character (g x) == digit_glyph false (x % 16)) (λ _. true) 256 ≡ true
-    → high ≡ map f v → low ≡ map g v → characters (high ++ low) ≡ flat_map octet_text v
-octets_shown f g [] high low e fits s t p q = absurd (omega arith)
-octets_shown f g (x0 ∷ []) high low e fits s t p q = absurd (omega arith)
-octets_shown f g (x0 ∷ x1 ∷ []) high low e fits s t p q = absurd (omega arith)
-octets_shown f g (x0 ∷ x1 ∷ x2 ∷ []) high low e fits s t p q = absurd (omega arith)
-octets_shown f g (x0 ∷ x1 ∷ x2 ∷ x3 ∷ []) high low e fits s t p q = absurd (omega arith)
-octets_shown f g (x0 ∷ x1 ∷ x2 ∷ x3 ∷ x4 ∷ []) high low e fits s t p q = absurd (omega arith)
-octets_shown f g (x0 ∷ x1 ∷ x2 ∷ x3 ∷ x4 ∷ x5 ∷ []) high low e fits s t p q = absurd (omega arith)
-octets_shown f g (x0 ∷ x1 ∷ x2 ∷ x3 ∷ x4 ∷ x5 ∷ x6 ∷ []) high low e fits s t p q = absurd (omega arith)
-octets_shown f g (x0 ∷ x1 ∷ x2 ∷ x3 ∷ x4 ∷ x5 ∷ x6 ∷ x7 ∷ x8 ∷ v) high low e fits s t p q = absurd (omega arith)
-octets_shown f g (x0 ∷ x1 ∷ x2 ∷ x3 ∷ x4 ∷ x5 ∷ x6 ∷ x7 ∷ []) high low e fits s t p q =
-    (λ i. characters (p i ++ q i))
-    ∙ (λ i. h x0 (fits 0) i ∷ l x0 (fits 0) i ∷ h x1 (fits 1) i ∷ l x1 (fits 1) i ∷ h x2 (fits 2) i ∷ l x2 (fits 2) i ∷ h x3 (fits 3) i ∷ l x3 (fits 3) i
-    ∷ h x4 (fits 4) i ∷ l x4 (fits 4) i ∷ h x5 (fits 5) i ∷ l x5 (fits 5) i ∷ h x6 (fits 6) i ∷ l x6 (fits 6) i ∷ h x7 (fits 7) i ∷ l x7 (fits 7) i ∷ [])
+    → ((j : ℕ) → j < count → get_or halves (place + j) 0 ≡ f (get_or v j 0)) → ((j : ℕ) → j < count → get_or halves (n + place + j) 0 ≡ g (get_or v j 0))
+    → in_turn halves n place count ≡ flat_map octet_text v
+unfolding in_turn
+turn_shown f g n place zero [] halves e fits s t high low = refl
+turn_shown f g n place zero (x ∷ v) halves e fits s t high low = absurd (omega arith)
+turn_shown f g n place (suc count) [] halves e fits s t high low = absurd (omega arith)
+turn_shown f g n place (suc count) (x ∷ v) halves e fits s t high low =
+    let first : character (get_or halves place 0) ≡ digit_glyph false (x / 16) =
+    ap (λ m. character (get_or halves m 0)) (zero_more place) ∙ ap character (high 0 (omega arith))
+    ∙ eqb-true _ _ (agree_below_at (λ x. character (f x) == digit_glyph false (x / 16)) (λ _. true) 256 x s (fits 0)) in
+    let second : character (get_or halves (n + place) 0) ≡ digit_glyph false (x % 16) =
+    ap (λ m. character (get_or halves m 0)) (zero_more (n + place)) ∙ ap character (low 0 (omega arith))
+    ∙ eqb-true _ _ (agree_below_at (λ x. character (g x) == digit_glyph false (x % 16)) (λ _. true) 256 x t (fits 0)) in
+    let rest : in_turn halves n (place + 1) count ≡ flat_map octet_text v =
+    turn_shown f g n (place + 1) count v halves (omega (arith, e)) (λ i. fits (suc i)) s t
+    (λ j h. ap (λ m. get_or halves m 0) (on place j) ∙ high (suc j) (omega (arith, h)))
+    (λ j h. ap (λ m. get_or halves m 0) (on_behind place j) ∙ low (suc j) (omega (arith, h))) in
+    λ i. first i ∷ second i ∷ rest i
   where
-    h : (x : ℕ) → x < 256 → character (f x) ≡ digit_glyph false (x / 16)
-    h x small = eqb-true _ _ (agree_below_at (λ x. character (f x) == digit_glyph false (x / 16)) (λ _. true) 256 x s small)
+    zero_more : (m : ℕ) → m ≡ m + 0
+    zero_more m = omega arith
 
-    l : (x : ℕ) → x < 256 → character (g x) ≡ digit_glyph false (x % 16)
-    l x small = eqb-true _ _ (agree_below_at (λ x. character (g x) == digit_glyph false (x % 16)) (λ _. true) 256 x t small)
+    on : (place j : ℕ) → place + 1 + j ≡ place + suc j
+    on place j = omega arith
+
+    on_behind : (place j : ℕ) → n + (place + 1) + j ≡ n + place + suc j
+    on_behind place j = omega arith
+
+pub octets_shown : (f g : ℕ → ℕ) (n : ℕ) (v high low : List ℕ) → length v ≡ n → ((i : ℕ) → get_or v i 0 < 256)
+    → agree_below (λ x. character (f x) == digit_glyph false (x / 16)) (λ _. true) 256 ≡ true
+    → agree_below (λ x. character (g x) == digit_glyph false (x % 16)) (λ _. true) 256 ≡ true
+    → high ≡ map f v → low ≡ map g v → in_turn (high ++ low) n 0 n ≡ flat_map octet_text v
+octets_shown f g n v high low e fits s t p q =
+    turn_shown f g n 0 n v (high ++ low) e fits s t
+    (λ j h. ap (λ m. get_or (high ++ low) m 0) (none_before j) ∙ get_or_append_left high low 0 j (omega (arith, long, h)) ∙ ap (λ l. get_or l j 0) p ∙ get_or-map f v j 0 0 (omega (arith, e, h)))
+    (λ j h. ap (λ m. get_or (high ++ low) m 0) (none_between j) ∙ get_or-append-add high low j 0 ∙ ap (λ l. get_or l j 0) q ∙ get_or-map g v j 0 0 (omega (arith, e, h)))
+  where
+    long : length high ≡ n
+    long = ap length p ∙ length-map v f ∙ e
+
+    none_before : (j : ℕ) → 0 + j ≡ j
+    none_before j = omega arith
+
+    none_between : (j : ℕ) → n + 0 + j ≡ length high + j
+    none_between j = omega (arith, long)
 
 pub length_shown : (v : List ℕ) → length (flat_map octet_text v) ≡ 2 * length v
 length_shown [] = refl
@@ -58,20 +81,20 @@ pub record Shows (count : ℕ) (octets digits : List ℕ) : Type 0 where
   pub long : length digits ≡ 2 * length octets
   pub same : take (2 * count) digits ≡ flat_map octet_text (take count octets)
 
-pub shows_none : (octets digits : List ℕ) → length digits ≡ 2 * length octets → Shows (8 * 0) octets digits
+pub shows_none : (octets digits : List ℕ) → length digits ≡ 2 * length octets → Shows 0 octets digits
 shows_none octets digits long = record { long = long; same = refl }
 
--- eight more
-pub shows_more : (place : ℕ) (octets digits next : List ℕ) → Shows place octets digits
-    → take (2 * (place + 8)) next ≡ take (2 * place) digits ++ flat_map octet_text (take 8 (drop place octets)) → length next ≡ length digits
-    → Shows (place + 8) octets next
-shows_more place octets digits next shows written long = record {
+-- a block more
+pub shows_more : (place block : ℕ) (octets digits next : List ℕ) → Shows place octets digits
+    → take (2 * (place + block)) next ≡ take (2 * place) digits ++ flat_map octet_text (take block (drop place octets)) → length next ≡ length digits
+    → Shows (place + block) octets next
+shows_more place block octets digits next shows written long = record {
   long = long ∙ shows.long;
   same =
       written
-      ∙ ap (λ front. front ++ flat_map octet_text (take 8 (drop place octets))) shows.same
-      ∙ sym (flat_map-append octet_text (take place octets) (take 8 (drop place octets)))
-      ∙ ap (flat_map octet_text) (sym (take-add place 8 octets));
+      ∙ ap (λ front. front ++ flat_map octet_text (take block (drop place octets))) shows.same
+      ∙ sym (flat_map-append octet_text (take place octets) (take block (drop place octets)))
+      ∙ ap (flat_map octet_text) (sym (take-add place block octets));
 }
 
 -- fewer octets
@@ -90,10 +113,10 @@ shows_fewer place count octets digits shows le within =
           ∙ take_at (flat_map octet_text front) (flat_map octet_text rest) (2 * place) size;
     }
 
--- the last eight
-pub shows_last : (place count : ℕ) (octets digits next : List ℕ) → Shows count octets digits → place ≤ count → count ≤ length octets → place + 8 ≡ length octets
-    → take (2 * (place + 8)) next ≡ take (2 * place) digits ++ flat_map octet_text (take 8 (drop place octets)) → length next ≡ length digits
+-- the last block
+pub shows_last : (place block count : ℕ) (octets digits next : List ℕ) → Shows count octets digits → place ≤ count → count ≤ length octets → place + block ≡ length octets
+    → take (2 * (place + block)) next ≡ take (2 * place) digits ++ flat_map octet_text (take block (drop place octets)) → length next ≡ length digits
     → next ≡ flat_map octet_text octets
-shows_last place count octets digits next shows le within end written long =
-    let all = shows_more place octets digits next (shows_fewer place count octets digits shows le within) written long in
-    sym (take_all (2 * (place + 8)) next (omega (arith, all.long, end))) ∙ all.same ∙ ap (flat_map octet_text) (take_all (place + 8) octets (omega (arith, end)))
+shows_last place block count octets digits next shows le within end written long =
+    let all = shows_more place block octets digits next (shows_fewer place count octets digits shows le within) written long in
+    sym (take_all (2 * (place + block)) next (omega (arith, all.long, end))) ∙ all.same ∙ ap (flat_map octet_text) (take_all (place + block) octets (omega (arith, end)))

@@ -240,6 +240,20 @@ pub fn read_line(text: &[u8], octets: &mut [u8]) -> Option<usize>
     None
 }
 
+/// The digits of four octets.
+#[inline]
+fn digits_of_four(octets: u8x4) -> u8x8
+    ensures { result ≡ flat_map octet_text octets }
+{
+    let high = octets >> u8x4::splat(4);
+    let low = octets & u8x4::splat(15);
+    let halves: u8x8 = high.shuffle(low, [0, 4, 1, 5, 2, 6, 3, 7]);
+    let more = halves
+        .simd_lt(u8x8::splat(10))
+        .select(u8x8::splat(0), u8x8::splat(b'a' - 10 - b'0'));
+    halves + u8x8::splat(b'0') + more
+}
+
 /// The digits of eight octets.
 #[inline]
 fn digits_of(octets: u8x8) -> u8x16
@@ -248,10 +262,20 @@ fn digits_of(octets: u8x8) -> u8x16
     let high = octets >> u8x8::splat(4);
     let low = octets & u8x8::splat(15);
     let halves: u8x16 = high.shuffle(low, [0, 8, 1, 9, 2, 10, 3, 11, 4, 12, 5, 13, 6, 14, 7, 15]);
-    let base = halves
+    let more = halves
         .simd_lt(u8x16::splat(10))
-        .select(u8x16::splat(b'0'), u8x16::splat(b'a' - 10));
-    halves + base
+        .select(u8x16::splat(0), u8x16::splat(b'a' - 10 - b'0'));
+    halves + u8x16::splat(b'0') + more
+}
+
+/// Writes the digits of the four octets from a place on.
+#[inline]
+fn write_four(octets: &[u8], digits: &mut [u8], place: usize)
+    requires digits { length digits.old ≡ 2 * length octets.now }
+    requires room { place + 4 ≤ length octets.now }
+    ensures { take (2 * (place + 4)) digits.new ≡ take (2 * place) digits.old ++ flat_map octet_text (take 4 (drop place octets.now)) }
+{
+    digits_of_four(u8x4::from_slice(&octets[place..])).copy_to_slice(&mut digits[2 * place..]);
 }
 
 /// Writes the digits of the eight octets from a place on.
@@ -264,6 +288,22 @@ fn write_eight(octets: &[u8], digits: &mut [u8], place: usize)
     digits_of(u8x8::from_slice(&octets[place..])).copy_to_slice(&mut digits[2 * place..]);
 }
 
+/// Writes fewer than eight octets as digits: four at a time, the digits of the last four over some that are there.
+#[inline]
+fn write_few(octets: &[u8], digits: &mut [u8])
+    requires length { length digits.old ≡ 2 * length octets.now }
+    requires few { length octets.now < 8 }
+    ensures { digits.new ≡ flat_map octet_text octets.now }
+{
+    let count = octets.len();
+    if count < 4 {
+        hex::encode_to_slice(octets, digits).unwrap();
+        return;
+    }
+    write_four(octets, digits, 0);
+    write_four(octets, digits, count - 4);
+}
+
 /// Writes the octets as hexadecimal digits in lower case, two for each.
 ///
 /// Eight octets at a time; the digits of the last eight may be written over some that are there.
@@ -274,7 +314,7 @@ pub fn write_hexadecimal(octets: &[u8], digits: &mut [u8])
 {
     let count = octets.len();
     if count < 8 {
-        hex::encode_to_slice(octets, digits).unwrap();
+        write_few(octets, digits);
         return;
     }
     for eight in 0..count / 8 {

@@ -1,0 +1,14 @@
+use Rattle.std.proofs.Common.{ℕ, ◌≡◌, map, refl, replicate, sym}
+use Rattle.std.proofs.lemmas.Simd.{zip2_of_maps, splat_is_map}
+use Rattle.std.proofs.lemmas.List.{map-id}
+use Rattle.x25_text.proofs.LaneLemmas.{fits_each}
+use Rattle.x25_text.proofs.ShownLemmas.{in_turn, octets_shown}
+use Rattle.x25_text.proofs.hexadecimal.digits_of_four.Goals as goal
+
+pub returns : goal.returns
+unfolding in_turn
+returns c =
+    let v = c.args.octets in
+    let itself : v ≡ map (λ x. x) v = sym (map-id v) in
+    let splat : (n : ℕ) → replicate 4 n ≡ map (λ _. n) v = λ n. splat_is_map v 4 n c.fits-octets.0 in
+    octets_shown _ _ 4 v _ _ c.fits-octets.0 (fits_each v c.fits-octets.1) refl refl (zip2_of_maps _ _ _ v itself (splat 4)) (zip2_of_maps _ _ _ v itself (splat 15))
