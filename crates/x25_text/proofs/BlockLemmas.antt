@@ -146,14 +146,14 @@ reads_all size digits octets reads whole =
     ap octets_of (sym (take_all (2 * size) digits (omega (arith, whole)))) ∙ reads.same ∙ ap (λ l. Some l) (take_all size octets (omega (arith, reads.long)))
 
 -- the last block, whether it has a fault or not
-pub reads_last : (size count place : ℕ) (digits octets next : List ℕ) (all : Bool) → Reads size count digits octets → length digits ≡ 2 * size
-    → place ≤ count → count ≤ size → place + 8 ≡ size
-    → octets_of (take 16 (drop (2 * place) digits)) ≡ (if all then Some (take 8 (drop place next)) else None)
+pub reads_last : (size count place block : ℕ) (digits octets next : List ℕ) (all : Bool) → Reads size count digits octets → length digits ≡ 2 * size
+    → place ≤ count → count ≤ size → place + block ≡ size
+    → octets_of (block_of place block digits) ≡ (if all then Some (take block (drop place next)) else None)
     → take place next ≡ take place octets → length next ≡ size → octets_of digits ≡ (if all then Some next else None)
-reads_last size count place digits octets next true reads whole le within end read before long =
+reads_last size count place block digits octets next true reads whole le within end read before long =
     let fewer = reads_fewer size place count digits octets reads whole le within in
-    let more = reads_more size place 8 digits octets next fewer whole (omega (arith, end)) read before long in
+    let more = reads_more size place block digits octets next fewer whole (omega (arith, end)) read before long in
     reads_all size digits next (subst (λ n. Reads size n digits next) end more) whole
-reads_last size count place digits octets next false reads whole le within end read before long =
+reads_last size count place block digits octets next false reads whole le within end read before long =
     let fewer = reads_fewer size place count digits octets reads whole le within in
-    reads_fault size place 8 digits octets fewer whole (omega (arith, end)) read
+    reads_fault size place block digits octets fewer whole (omega (arith, end)) read

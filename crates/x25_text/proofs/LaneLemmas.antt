@@ -1,10 +1,10 @@
 -- Sixteen characters at a time, lane by lane.
-use Rattle.std.proofs.Common.{ℕ, zero, suc, ◌≡◌, ◌<◌, ◌≤◌, ◌+◌, ◌-◌, ◌*◌, ◌%◌, ◌^◌, ◌∙◌, inl, inr, Bool, true, false, cond, List, [], ◌∷◌, length, map, take, get_or, refl, ap, sym, arith, Fits, w8}
+use Rattle.std.proofs.Common.{ℕ, zero, suc, ◌≡◌, ◌<◌, ◌≤◌, ◌+◌, ◌-◌, ◌*◌, ◌/◌, ◌%◌, ◌^◌, ◌∙◌, inl, inr, Bool, true, false, cond, List, [], ◌∷◌, length, map, take, get_or, refl, ap, sym, arith, Fits, w8}
 use Rattle.std.specs.Prelude.{◌==◌, ◌&&◌, nat_lt, nat_eq, Option, Some, None}
 use Rattle.std.specs.List.{list_all}
 use Rattle.std.proofs.lemmas.Bool.{cases_eq, eq-eqb, eqb-true, ne_eqb, ltb-true, ltb-false, and_parts, agree_below, agree_below_at}
 use Rattle.std.proofs.Math.Nat.{pow-suc}
-use Rattle.std.specs.Simd.Lanes.{Each1, sel_l, mask_l, top}
+use Rattle.std.specs.Simd.Lanes.{Each1, sel_l, mask_l, number_l, top}
 use Rattle.std.proofs.lemmas.Nat.{pow_pos}
 use Rattle.hex.specs.Hex.{hex_digit_value}
 use Rattle.x25_text.specs.Hexadecimal.{octets_of, joined, paired, value_of}
@@ -164,3 +164,48 @@ length-paired zero (x ∷ v) e = absurd (omega arith)
 length-paired (suc n) [] e = absurd (omega arith)
 length-paired (suc n) (x ∷ []) e = absurd (omega arith)
 length-paired (suc n) (high ∷ low ∷ v) e = ap suc (length-paired n v (omega arith))
+
+-- ---- an octet in each word
+
+unfoldable pub words_from : ℕ → ℕ → List ℕ
+words_from x zero = []
+words_from x (suc n) = x % 65536 * 4097 % 65536 / 256 ∷ words_from (x / 65536) n
+
+pub words_are : (n : ℕ) (v : List ℕ) → length v ≡ 2 * n → list_all (λ x. nat_lt x 16) v ≡ true → words_from (number_l 256 v) n ≡ paired v
+unfolding words_from
+words_are zero [] e all = refl
+words_are zero (x ∷ v) e all = absurd (omega arith)
+words_are (suc n) [] e all = absurd (omega arith)
+words_are (suc n) (x ∷ []) e all = absurd (omega arith)
+words_are (suc n) (high ∷ low ∷ v) e all =
+    let first = and_parts (nat_lt high 16) (list_all (λ x. nat_lt x 16) (low ∷ v)) all in
+    let second = and_parts (nat_lt low 16) (list_all (λ x. nat_lt x 16) v) first.1 in
+    let small : high < 16 = ltb-true high 16 first.0 in
+    let little : low < 16 = ltb-true low 16 second.0 in
+    let others = number_l 256 v in
+    let octet : (high + 256 * (low + 256 * others)) % 65536 * 4097 % 65536 / 256 ≡ high * 16 + low = omega (arith, small, little) in
+    let behind : (high + 256 * (low + 256 * others)) / 65536 ≡ others = omega (arith, small, little) in
+    let rest : words_from ((high + 256 * (low + 256 * others)) / 65536) n ≡ paired v = ap (λ x. words_from x n) behind ∙ words_are n v (omega arith) second.1 in
+    λ i. octet i ∷ rest i
+
+-- the lower octet of each word
+unfoldable pub lower_of : ℕ → ℕ → List ℕ
+lower_of x zero = []
+lower_of x (suc n) = x % 256 ∷ lower_of (x / 256 / 256) n
+
+pub lower_are : (n : ℕ) (v : List ℕ) → length v ≡ 2 * n → list_all (λ x. nat_lt x 16) v ≡ true → lower_of (number_l 65536 (paired v)) n ≡ paired v
+unfolding lower_of
+lower_are zero [] e all = refl
+lower_are zero (x ∷ v) e all = absurd (omega arith)
+lower_are (suc n) [] e all = absurd (omega arith)
+lower_are (suc n) (x ∷ []) e all = absurd (omega arith)
+lower_are (suc n) (high ∷ low ∷ v) e all =
+    let first = and_parts (nat_lt high 16) (list_all (λ x. nat_lt x 16) (low ∷ v)) all in
+    let second = and_parts (nat_lt low 16) (list_all (λ x. nat_lt x 16) v) first.1 in
+    let small : high < 16 = ltb-true high 16 first.0 in
+    let little : low < 16 = ltb-true low 16 second.0 in
+    let others = number_l 65536 (paired v) in
+    let octet : (high * 16 + low + 65536 * others) % 256 ≡ high * 16 + low = omega (arith, small, little) in
+    let behind : (high * 16 + low + 65536 * others) / 256 / 256 ≡ others = omega (arith, small, little) in
+    let rest : lower_of ((high * 16 + low + 65536 * others) / 256 / 256) n ≡ paired v = ap (λ x. lower_of x n) behind ∙ lower_are n v (omega arith) second.1 in
+    λ i. octet i ∷ rest i

@@ -144,23 +144,82 @@ fn read_eight_digits(digits: &[u8], octets: &mut [u8], place: usize)
     joined(values).copy_to_slice(&mut octets[place..]);
 }
 
-/// Reads the octets that characters write that are known to be digits, two for each.
-///
-/// Eight octets at a time; the last eight may be read over some that were read before.
-pub fn read_digits(digits: &[u8], octets: &mut [u8])
+/// The octets of sixteen values, as far as these are values of digits: each in a word.
+#[inline(always)]
+fn joined_words(values: u8x16) -> u16x8
+    ensures size { length result ≡ 8 }
+    ensures octets { IsTrue (list_all (λ value. nat_lt value 16) values) → result ≡ paired values }
+{
+    // Of a word `high + 256 * low` this is `high + 256 * (16 * high + low)`, and what is above falls away.
+    (u16x8::from_le_bytes(values) * u16x8::splat(4097)) >> 8
+}
+
+/// The octets of twice sixteen values, as far as these are values of digits.
+#[inline(always)]
+fn joined_sixteen(first: u8x16, second: u8x16) -> u8x16
+    ensures size { length result ≡ 16 }
+    ensures octets { IsTrue (list_all (λ value. nat_lt value 16) first) → IsTrue (list_all (λ value. nat_lt value 16) second)
+        → result ≡ paired first ++ paired second }
+{
+    let front: u8x16 = joined_words(first).to_le_bytes();
+    let back: u8x16 = joined_words(second).to_le_bytes();
+    front.shuffle(
+        back,
+        [0, 2, 4, 6, 8, 10, 12, 14, 16, 18, 20, 22, 24, 26, 28, 30],
+    )
+}
+
+/// Reads sixteen octets from a place on, whose characters are digits.
+#[inline(always)]
+fn read_sixteen_digits(digits: &[u8], octets: &mut [u8], place: usize)
     requires digits { IsTrue (list_all is_ascii_hexdigit digits.now) }
     requires length { length digits.now ≡ 2 * length octets.old }
-    ensures { result_ok (decode_of digits.now) ≡ Some octets.new }
+    requires room { place + 16 ≤ length octets.old }
+    ensures octets { octets_of (take 32 (drop (2 * place) digits.now)) ≡ Some (take 16 (drop place octets.new)) }
+    ensures before { take place octets.new ≡ take place octets.old }
+{
+    let first = values_of_digits(u8x16::from_slice(&digits[2 * place..]));
+    let second = values_of_digits(u8x16::from_slice(&digits[2 * place + 16..]));
+    joined_sixteen(first, second).copy_to_slice(&mut octets[place..]);
+}
+
+/// Reads the octets that fewer than 32 characters write, which are known to be digits, two for each.
+///
+/// From eight octets on, the last eight are read over some that were read before.
+#[inline(never)]
+fn read_few_digits(digits: &[u8], octets: &mut [u8])
+    requires digits { IsTrue (list_all is_ascii_hexdigit digits.now) }
+    requires length { length digits.now ≡ 2 * length octets.old }
+    requires few { length octets.old < 16 }
+    ensures { octets_of digits.now ≡ Some octets.new }
 {
     let count = octets.len();
     if count < 8 {
         read_pairs(digits, octets);
         return;
     }
-    for eight in 0..count / 8 {
-        read_eight_digits(digits, octets, 8 * eight);
-    }
+    read_eight_digits(digits, octets, 0);
     read_eight_digits(digits, octets, count - 8);
+}
+
+/// Reads the octets that characters write that are known to be digits, two for each.
+///
+/// Sixteen octets at a time, of which the last sixteen, behind the loop, may be read over some that were read before. Fewer are read by a
+/// call, so that this function is small enough for its callers' place.
+pub fn read_digits(digits: &[u8], octets: &mut [u8])
+    requires digits { IsTrue (list_all is_ascii_hexdigit digits.now) }
+    requires length { length digits.now ≡ 2 * length octets.old }
+    ensures { result_ok (decode_of digits.now) ≡ Some octets.new }
+{
+    let count = octets.len();
+    if count < 16 {
+        read_few_digits(digits, octets);
+        return;
+    }
+    for sixteen in 0..(count - 1) / 16 {
+        read_sixteen_digits(digits, octets, 16 * sixteen);
+    }
+    read_sixteen_digits(digits, octets, count - 16);
 }
 
 /// The place of the lowest bit that is set, 16 where none is.

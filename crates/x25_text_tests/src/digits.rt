@@ -16,13 +16,17 @@ fn reads_digits_as_hex_does(rt: HostRuntime) -> Result<(), Fail> {
     Ok(())
 }
 
-/// For each number of octets, of characters that were tested before.
+static MANY_DIGITS: [u8; 100] =
+    *b"243f6a8885a308d313198A2E03707344A4093822299F31D0082EFA98ec4e6c89452821e638d01377be5466CF34E90C6CC0AC";
+
+/// For each number of octets, of characters that were tested before: with none, one and more blocks of sixteen, and with and
+/// without a block over the one before.
 #[test]
 fn reads_tested_digits_as_hex_does(rt: HostRuntime) -> Result<(), Fail> {
-    for count in 0..30usize {
-        let digits = &DIGITS[..2 * count];
+    for count in 0..51usize {
+        let digits = &MANY_DIGITS[..2 * count];
         let wanted = hex::decode(rt.alloc(), digits)?;
-        let mut octets = [0u8; 29];
+        let mut octets = [0u8; 50];
         if is_hexadecimal(digits) {
             read_digits(digits, &mut octets[..count]);
         }
