@@ -365,7 +365,7 @@ fn write_few(octets: &[u8], digits: &mut [u8])
 
 /// Writes the octets as hexadecimal digits in lower case, two for each.
 ///
-/// Eight octets at a time; the digits of the last eight may be written over some that are there.
+/// Eight octets at a time, of which the digits of the last eight, behind the loop, may be written over some that are there.
 #[inline]
 pub fn write_hexadecimal(octets: &[u8], digits: &mut [u8])
     requires { length digits.old ≡ 2 * length octets.now }
@@ -376,7 +376,7 @@ pub fn write_hexadecimal(octets: &[u8], digits: &mut [u8])
         write_few(octets, digits);
         return;
     }
-    for eight in 0..count / 8 {
+    for eight in 0..(count - 1) / 8 {
         write_eight(octets, digits, 8 * eight);
     }
     write_eight(octets, digits, count - 8);
