@@ -109,7 +109,6 @@ impl Stage {
     }
 
     /// Tells the frames on the line from an end that stand behind so many that were there before.
-    #[inline(always)]
     fn tell_put<W: Sink>(&mut self, at: Role, before: usize, writer: &mut W) -> Result<(), Fault>
         ensures tells { TellsMore result (W.contents writer.old) (W.contents writer.new) self.old.output self.new.output (sayings_text (map taps (tapped at (drop before (line_from self.old.world at))))) }
         ensures world { self.new.world ≡ self.old.world }

@@ -146,8 +146,8 @@ pub(crate) fn tell_entries<W: Sink>(
     tell_each(line, at, entries, output, writer)
 }
 
-#[inline(never)]
-fn tell_each_frame<W: Sink>(
+/// Tells the frames on the line that an end put behind so many that were there before.
+pub(crate) fn tell_frames<W: Sink>(
     line: &mut Line,
     from: Role,
     world: &World,
@@ -165,26 +165,6 @@ fn tell_each_frame<W: Sink>(
         }
     }
     Ok(())
-}
-
-/// Tells the frames on the line that an end put behind so many that were there before.
-#[inline(always)]
-pub(crate) fn tell_frames<W: Sink>(
-    line: &mut Line,
-    from: Role,
-    world: &World,
-    direction: Direction,
-    before: usize,
-    output: &mut Output,
-    writer: &mut W,
-) -> Result<(), Fault>
-    ensures tells { TellsMore result (W.contents writer.old) (W.contents writer.new) output.old output.new (sayings_text (map taps (tapped from (drop before (line_of world.now direction))))) }
-    ensures faults { MarksFaults W.Sink writer.old writer.new result }
-{
-    if world.on_line(direction) <= before {
-        return Ok(());
-    }
-    tell_each_frame(line, from, world, direction, before, output, writer)
 }
 
 /// The line of a refusal that scripts meet often: one that lies ready is told with less work than one that is written.

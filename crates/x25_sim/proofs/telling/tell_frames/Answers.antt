@@ -5,8 +5,8 @@ use Rattle.x25_world.specs.code.ShownWorld.{line_of}
 use Rattle.x25_sim.specs.Telling.{taps, saying_line}
 use Rattle.x25_io.proofs.ToldLemmas.{part_of_all}
 use Rattle.x25_sim.proofs.SayingLemmas.{frames_text, none_there, frame_more, frame_parts}
-use Rattle.x25_sim.proofs.telling.tell_each_frame.Goals as goal
-use Rattle.x25_sim.proofs.telling.tell_each_frame.Goals.{in-Some+in_ok-tell_frame, in_default}
+use Rattle.x25_sim.proofs.telling.tell_frames.Goals as goal
+use Rattle.x25_sim.proofs.telling.tell_frames.Goals.{in-Some+in_ok-tell_frame, in_default}
 
 pub returns-in_err-tell_frame-clause-tells : goal.returns-in_err-tell_frame-clause-tells
 returns-in_err-tell_frame-clause-tells g c = λ old told h.

@@ -3,7 +3,7 @@ use Rattle.x25_world.specs.World.{tapped}
 use Rattle.x25_world.specs.code.ShownWorld.{line_of}
 use Rattle.x25_sim.specs.Telling.{taps, sayings_text}
 use Rattle.x25_io.specs.code.Written.{Tells}
-use Rattle.x25_sim.proofs.telling.tell_each_frame.Given as goal
+use Rattle.x25_sim.proofs.telling.tell_frames.Given as goal
 
 -- those before this place are told
 abbrev pub invariant-loop-place : goal.invariant-loop-place
