@@ -54,6 +54,60 @@ fn push_user(user: &[u8], text: &mut Text)
     text.push(b"\n");
 }
 
+/// A number of two digits as characters.
+#[inline(always)]
+fn two_digits(number: u8) -> [u8; 2]
+    requires two { 10 ≤ number }
+    requires few { number < 100 }
+    ensures { decimal number ≡ result }
+{
+    [digit(number / 10), digit(number % 10)]
+}
+
+/// A number of three digits as characters.
+#[inline(always)]
+fn three_digits(number: u16) -> [u8; 3]
+    requires three { 100 ≤ number }
+    requires few { number < 1_000 }
+    ensures { decimal number ≡ result }
+{
+    let tens = number / 10;
+    [
+        digit((tens / 10) as u8),
+        digit((tens % 10) as u8),
+        digit((number % 10) as u8),
+    ]
+}
+
+/// Appends a number of as many digits as it has.
+#[inline(never)]
+fn push_long(number: u64, text: &mut Text)
+    requires room { length text.old + 20 ≤ ROOM }
+    ensures text { text.new ≡ text.old ++ decimal number }
+    ensures size { length text.new ≤ length text.old + 20 }
+{
+    let mut buffer = Buffer::new();
+    text.push(buffer.format(number).as_bytes());
+}
+
+/// Appends a number.
+#[inline(always)]
+fn push_decimal(number: u64, text: &mut Text)
+    requires room { length text.old + 20 ≤ ROOM }
+    ensures text { text.new ≡ text.old ++ decimal number }
+    ensures size { length text.new ≤ length text.old + 20 }
+{
+    if number < 10 {
+        text.push(&[digit(number as u8)]);
+    } else if number < 100 {
+        text.push(&two_digits(number as u8));
+    } else if number < 1_000 {
+        text.push(&three_digits(number as u16));
+    } else {
+        push_long(number, text);
+    }
+}
+
 /// Appends a label and then a number.
 #[inline(always)]
 fn push_number(label: &[u8], number: u64, text: &mut Text)
@@ -62,12 +116,7 @@ fn push_number(label: &[u8], number: u64, text: &mut Text)
     ensures size { length text.new ≤ length text.old + (length label.now + 20) }
 {
     text.push(label);
-    if number < 10 {
-        text.push(&[digit(number as u8)]);
-    } else {
-        let mut buffer = Buffer::new();
-        text.push(buffer.format(number).as_bytes());
-    }
+    push_decimal(number, text);
 }
 
 /// Whether a channel has two digits, and the numbers of its stretch one digit each.

@@ -116,3 +116,105 @@ fn writes_deliveries_of_larger_numbers_at_once(rt: HostRuntime) -> Result<(), Fa
     );
     Ok(())
 }
+
+/// Channels and stretches whose numbers have one digit, two, three and more, and the lines of messages there.
+static NUMBERS: [(u16, Stretch, &str); 9] = [
+    (
+        9,
+        Stretch {
+            restarts: 0,
+            clears: 9,
+            resets: 5,
+        },
+        "dte send ch=9 at 0.9.5 q=0 data=-\n",
+    ),
+    (
+        10,
+        Stretch {
+            restarts: 9,
+            clears: 0,
+            resets: 9,
+        },
+        "dte send ch=10 at 9.0.9 q=0 data=-\n",
+    ),
+    (
+        1,
+        Stretch {
+            restarts: 1,
+            clears: 10,
+            resets: 4,
+        },
+        "dte send ch=1 at 1.10.4 q=0 data=-\n",
+    ),
+    (
+        1,
+        Stretch {
+            restarts: 1,
+            clears: 99,
+            resets: 42,
+        },
+        "dte send ch=1 at 1.99.42 q=0 data=-\n",
+    ),
+    (
+        1,
+        Stretch {
+            restarts: 1,
+            clears: 100,
+            resets: 7,
+        },
+        "dte send ch=1 at 1.100.7 q=0 data=-\n",
+    ),
+    (
+        3,
+        Stretch {
+            restarts: 1,
+            clears: 137,
+            resets: 0,
+        },
+        "dte send ch=3 at 1.137.0 q=0 data=-\n",
+    ),
+    (
+        57,
+        Stretch {
+            restarts: 306,
+            clears: 999,
+            resets: 480,
+        },
+        "dte send ch=57 at 306.999.480 q=0 data=-\n",
+    ),
+    (
+        128,
+        Stretch {
+            restarts: 12,
+            clears: 1_000,
+            resets: 9_999,
+        },
+        "dte send ch=128 at 12.1000.9999 q=0 data=-\n",
+    ),
+    (
+        4_095,
+        Stretch {
+            restarts: 65_536,
+            clears: 5,
+            resets: 123_456_789,
+        },
+        "dte send ch=4095 at 65536.5.123456789 q=0 data=-\n",
+    ),
+];
+
+#[test]
+fn writes_numbers_of_one_digit_and_more(rt: HostRuntime) -> Result<(), Fail> {
+    let mut text = Text::new(rt.alloc())?;
+    for &(channel, name, shown) in &NUMBERS {
+        let user = Vec::new(rt.alloc());
+        let entry = Entry::OnChannel {
+            channel,
+            name,
+            said: Said::Asked(Asked::Send { q: false, user }),
+        };
+        text.clear();
+        assert!(rt; push_message(Role::Dte, &entry, &mut text));
+        assert_eq!(rt; text.as_slice(), shown.as_bytes());
+    }
+    Ok(())
+}
