@@ -7,6 +7,4 @@ mod commands;
 mod telling;
 
 pub use commands::{read_octets, read_user, station_command};
-pub use telling::{
-    FRAME_LINE, push_frame_line, tell, tell_nothing, write_frame, write_refusal,
-};
+pub use telling::{FRAME_LINE, push_frame_line, tell, tell_nothing, write_frame, write_refusal};
