@@ -43,8 +43,8 @@ fn bit_digit(is_set: bool) -> u8
     digit(u8::from(is_set))
 }
 
-/// Appends octets and a line feed.
-#[inline(always)]
+/// Appends octets and a line feed: one copy of its code serves all four kinds of lines.
+#[inline(never)]
 fn push_user(user: &[u8], text: &mut Text)
     requires few { length user.now ≤ MOST_USER }
     requires room { length text.old + (2 * length user.now + 2) ≤ ROOM }
