@@ -200,6 +200,8 @@ impl Line {
         }
     }
 
+    #[cold]
+    #[inline(never)]
     fn let_go_of_frames(&mut self)
         ensures { self.new ≡ record self.old { tap = [] } }
     {

@@ -447,9 +447,7 @@ impl World {
         ensures empty { self.new ≡ record self.old { tap = []; transcript = [] } }
     {
         self.line.let_go();
-        if !self.transcript.is_empty() {
-            self.transcript.clear();
-        }
+        empty(&mut self.transcript);
     }
 }
 
@@ -459,8 +457,17 @@ fn empty<T: Drop>(list: &mut Vec<T>)
     ensures { list.new.items ≡ [] }
 {
     if !list.is_empty() {
-        list.clear();
+        clear(list);
     }
+}
+
+// Each caller leaves its lists empty, so that this is seldom.
+#[cold]
+#[inline(never)]
+fn clear<T: Drop>(list: &mut Vec<T>)
+    ensures { list.new.items ≡ [] }
+{
+    list.clear();
 }
 
 // A station whose link is down.
