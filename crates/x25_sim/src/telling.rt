@@ -175,6 +175,7 @@ fn common_refusal(number: u8) -> Option<&'static [u8]>
     match number {
         11 => Some(b"! 11\n"),
         30 => Some(b"! 30\n"),
+        31 => Some(b"! 31\n"),
         41 => Some(b"! 41\n"),
         42 => Some(b"! 42\n"),
         50 => Some(b"! 50\n"),
