@@ -9,6 +9,7 @@ ghost use Rattle.x25_station.specs.Config.{Settings, settings_from};
 ghost use Rattle.x25_station.specs.Station.{Station as StationState};
 ghost use Rattle.x25_station.specs.code.FitsStation.{FitsStation};
 ghost use Rattle.x25_station.specs.Step.{connects, commands};
+ghost use Rattle.x25_world.specs.Error.{error_of};
 ghost use Rattle.x25_world.specs.World as definition;
 ghost use Rattle.x25_world.specs.World.{AtEnd, Happened, Declined, of_station, delivered, is_on_line, fired, on_line, lost, damaged, acts, entered, event_of};
 ghost use Rattle.x25_world.specs.code.PlainTold.{plain_entered};
@@ -21,7 +22,7 @@ use crate::line::Line;
 use crate::set_up::is_on_line;
 use crate::told::Entered;
 use x25_bits::{Role, check};
-use x25_station::{Cmd, Entry, MOST_ENTRIES, MOST_FRAMES, Station};
+use x25_station::{Cmd, Entry, MOST_ENTRIES, MOST_FRAMES, Station, StationError};
 
 /// The event happens at its end, or on the line to it, and what it tells comes into the list, which is empty before, as is the list by which its frames
 /// come on the line. With `taps` they are put on the tap. Refused with the one ground that applies, 50, 51, 52, 53 or 54, or with 70; all is as before then.
@@ -138,8 +139,17 @@ fn deliver(
             put(at, near, line, taps, frames);
             Ok(())
         }
-        Err(error) => Err(WorldError::of_station(error)),
+        Err(error) => Err(refused_arrival(error)),
     }
+}
+
+// The error of a world where a station refuses an arrival, which is seldom.
+#[cold]
+#[inline(never)]
+fn refused_arrival(error: StationError) -> WorldError
+    ensures { result ≡ error_of error }
+{
+    WorldError::of_station(error)
 }
 
 // The frames of a step come on the line, and on the tap with `taps`, in room that there is, and their list is left empty.

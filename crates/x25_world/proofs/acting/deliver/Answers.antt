@@ -23,6 +23,6 @@ returns-in-Err-clause-acted c = λ cfg w gone before side.
     let called = c.in-Err.ensures in
     record {
       happened = tt;
-      refused = inr (c.of_station.ensures ∙ ap error_of called.refused);
+      refused = inr (c.refused_arrival.ensures ∙ ap error_of called.refused);
       stays = rw c.make_room.ensures.line (side_stays cfg c.args.at c.args.taps _ _ c.args.line.now before w gone c.make_room.new.line.room side (called.does.stays _ _ fits));
     }
