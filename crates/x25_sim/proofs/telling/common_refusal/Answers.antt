@@ -11,6 +11,10 @@ pub returns-in-30 : goal.returns-in-30
 unfolding refusal_line digits
 returns-in-30 c = rw c.in-30.is refl
 
+pub returns-in-31 : goal.returns-in-31
+unfolding refusal_line digits
+returns-in-31 c = rw c.in-31.is refl
+
 pub returns-in-41 : goal.returns-in-41
 unfolding refusal_line digits
 returns-in-41 c = rw c.in-41.is refl
