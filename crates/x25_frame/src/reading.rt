@@ -3,7 +3,7 @@ ghost use Rattle.std.specs.Prelude.{IfOk, IfErr, IsOkAnd, ◌≡◌, ◌+◌, �
 ghost use Rattle.x25_frame.specs.Frame.{PlainFrame, plain};
 ghost use Rattle.x25_frame.specs.Spelling.{Spells};
 ghost use Rattle.x25_frame.specs.Error.{IsFirstError};
-ghost use Rattle.x25_frame.specs.Reading.{Gives, bare, frame_of, kind_of, unnumbered, addressed_frame};
+ghost use Rattle.x25_frame.specs.Reading.{Gives, bare, damage, is_intact, frame_of, kind_of, unnumbered, addressed_frame};
 
 use crate::address::address;
 use crate::codes::{DISC, DM, FRMR, REJ, RNR, RR, SABM, UA};
@@ -109,6 +109,43 @@ fn decode_any<'a>(from: Role, n1: usize, octets: &'a [u8]) -> Result<Frame<'a>, 
     }
     if !check(octets) {
         return Err(FrameError::BadFcs);
+    }
+    read_addressed(from, n1, octets)
+}
+
+/// Whether these are four octets or more, of which the last two are the frame check sequence of the others. Octets that aren't spell no frame.
+#[inline(always)]
+pub fn is_intact(octets: &[u8]) -> bool
+    ensures { result ≡ is_intact octets.now }
+{
+    octets.len() >= 4 && check(octets)
+}
+
+// The error of octets that aren't intact.
+#[cold]
+#[inline(never)]
+fn damage(octets: &[u8]) -> FrameError
+    ensures { result ≡ damage octets.now }
+{
+    if octets.len() < 4 {
+        return FrameError::Short;
+    }
+    FrameError::BadFcs
+}
+
+/// The frame that the octets spell, as `decode` reads it, where it is known whether they are intact: their frame check sequence isn't looked at.
+#[inline(always)]
+pub fn decode_checked<'a>(
+    from: Role,
+    n1: usize,
+    octets: &'a [u8],
+    intact: bool,
+) -> Result<Frame<'a>, FrameError>
+    requires { intact ≡ is_intact octets.now }
+    ensures { Gives result (frame_of from n1 octets.now) }
+{
+    if !intact {
+        return Err(damage(octets));
     }
     read_addressed(from, n1, octets)
 }

@@ -1,7 +1,7 @@
 //! What a station does with the octets that it takes, phase by phase.
 ghost use Rattle.std.specs.Prelude.{◌≡◌, ℕ, ◌+◌, ◌<◌, ◌≤◌, List, ◌&&◌, Ok, Err, true, false};
 ghost use Rattle.x25_frame.specs.Frame.{plain};
-ghost use Rattle.x25_frame.specs.Reading.{frame_of};
+ghost use Rattle.x25_frame.specs.Reading.{frame_of, is_intact};
 ghost use Rattle.x25_frame.specs.Spelling.{is_command};
 ghost use Rattle.x25_link.specs.Station.{Settings, LinkStation as StationState, Side, is_up, may_send, owes_ready};
 ghost use Rattle.x25_link.specs.code.OutgoingHeld.{window_of, before_in};
@@ -15,7 +15,7 @@ use crate::outbox::Outbox;
 use crate::phase::{Phase, Reason};
 use crate::station::LinkStation;
 use x25_bits::Seq;
-use x25_frame::{Frame, FrameError, decode};
+use x25_frame::{Frame, FrameError, decode_checked};
 
 impl LinkStation {
     // ---- Up
@@ -145,7 +145,8 @@ impl LinkStation {
 
     // Octets, in Up.
     #[inline(always)]
-    fn hear_up<'a>(&mut self, octets: &'a [u8], out: &mut Outbox) -> Heard<'a>
+    fn hear_up<'a>(&mut self, octets: &'a [u8], intact: bool, out: &mut Outbox) -> Heard<'a>
+        requires intact { intact ≡ is_intact octets.now }
         requires room { window_of self.old.outgoing ≤ out.old.long }
         requires short { 0 < out.old.short }
         ensures step { (c : Settings) (before : List (List ℕ)) (t : Side) → FitsSide c self.old before out.old.made t →
@@ -153,7 +154,7 @@ impl LinkStation {
         ensures room { window_of self.new.outgoing ≤ out.new.long + before_in self.new.outgoing }
         ensures short { out.old.short ≤ out.new.short + 1 }
     {
-        match decode(self.role.other(), self.parameters.n1, octets) {
+        match decode_checked(self.role.other(), self.parameters.n1, octets, intact) {
             Ok(frame) => self.hear_frame(octets, frame, out),
             Err(error) => self.hear_error(octets, error, out),
         }
@@ -231,7 +232,8 @@ impl LinkStation {
     // Octets, in a phase other than Up.
     #[cold]
     #[inline(never)]
-    fn hear_apart<'a>(&mut self, octets: &[u8], out: &mut Outbox) -> Heard<'a>
+    fn hear_apart<'a>(&mut self, octets: &[u8], intact: bool, out: &mut Outbox) -> Heard<'a>
+        requires intact { intact ≡ is_intact octets.now }
         requires apart { is_up self.old.phase ≡ false }
         requires short { 0 < out.old.short }
         ensures step { (c : Settings) (before : List (List ℕ)) (t : Side) → FitsSide c self.old before out.old.made t →
@@ -240,7 +242,8 @@ impl LinkStation {
         ensures long { out.new.long ≡ out.old.long }
         ensures short { out.old.short ≤ out.new.short + 1 }
     {
-        let Ok(frame) = decode(self.role.other(), self.parameters.n1, octets) else {
+        let read = decode_checked(self.role.other(), self.parameters.n1, octets, intact);
+        let Ok(frame) = read else {
             return Heard::quiet();
         };
         // Up isn't met here.
@@ -258,7 +261,8 @@ impl LinkStation {
 
     // What the octets bring, before the sending rule.
     #[inline(always)]
-    fn hear_octets<'a>(&mut self, octets: &'a [u8], out: &mut Outbox) -> Heard<'a>
+    fn hear_octets<'a>(&mut self, octets: &'a [u8], intact: bool, out: &mut Outbox) -> Heard<'a>
+        requires intact { intact ≡ is_intact octets.now }
         requires room { window_of self.old.outgoing ≤ out.old.long }
         requires short { 0 < out.old.short }
         ensures step { (c : Settings) (before : List (List ℕ)) (t : Side) → FitsSide c self.old before out.old.made t →
@@ -267,13 +271,14 @@ impl LinkStation {
         ensures short { out.old.short ≤ out.new.short + 1 }
     {
         if self.phase.is_up() {
-            return self.hear_up(octets, out);
+            return self.hear_up(octets, intact, out);
         }
-        self.hear_apart(octets, out)
+        self.hear_apart(octets, intact, out)
     }
 
-    /// Takes octets, and sends what they ask for.
-    pub fn hear<'a>(&mut self, octets: &'a [u8], out: &mut Outbox) -> Heard<'a>
+    /// Takes octets, of which it is known whether they are intact, and sends what they ask for.
+    pub fn hear<'a>(&mut self, octets: &'a [u8], intact: bool, out: &mut Outbox) -> Heard<'a>
+        requires intact { intact ≡ is_intact octets.now }
         requires long { window_of self.old.outgoing ≤ out.old.long }
         requires short { 2 ≤ out.old.short }
         ensures step { (c : Settings) (before : List (List ℕ)) (s : StationState) → FitsSide c self.old before out.old.made (alone s) →
@@ -281,7 +286,7 @@ impl LinkStation {
         ensures settled { (c : Settings) (s : StationState) → FitsStation c self.old s → may_send c.window (take_step c octets.now s).side.near ≡ false }
         ensures calm { (c : Settings) (s : StationState) → FitsStation c self.old s → owes_ready (take_step c octets.now s).side.near ≡ false }
     {
-        let heard = self.hear_octets(octets, out);
+        let heard = self.hear_octets(octets, intact, out);
         self.end(out);
         heard
     }

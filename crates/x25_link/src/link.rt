@@ -1,4 +1,5 @@
 ghost use Rattle.std.specs.Prelude.{◌≡◌, ℕ, ◌+◌, ◌-◌, ◌%◌, ◌<◌, ◌≤◌, ◌↔◌, ◌++◌, List, [], length, map, max, vec_len, vec_capacity, Bool, true, false, Some, None, Ok, IfOk, IfErr, OnOk, OnErr, IsOk, IsErrOf};
+ghost use Rattle.x25_frame.specs.Reading.{is_intact};
 ghost use Rattle.x25_frame.specs.Spelling.{spelling_of};
 ghost use Rattle.x25_link.specs.Station.{Settings, LinkStation as StationState, awaits_ua, with_nothing};
 ghost use Rattle.x25_link.specs.Link.{Refuses, config_refusal, take_step, put_refusal, put_step, connect_refusal, connect_step, disconnect_refusal, disconnect_step, timer_refusal, timer_runs, timer_step, abandon_step, is_idle};
@@ -20,7 +21,7 @@ use crate::waiting_packets::PLACES;
 use std::alloc::Global;
 use std::marker::Model;
 use x25_bits::{Role, Seq};
-use x25_frame::N1;
+use x25_frame::{N1, is_intact};
 use x25_window::Receiver;
 
 /// The most other frames that one call sends.
@@ -108,7 +109,8 @@ impl Link {
     {
         let window = self.station.outgoing.window() as usize;
         self.answers.reserve(window, SHORT_FRAMES)?;
-        let heard = self.station.hear(octets, &mut self.answers);
+        let intact = is_intact(octets);
+        let heard = self.station.hear(octets, intact, &mut self.answers);
         Ok(self.answers.answered(heard))
     }
 
@@ -130,9 +132,30 @@ impl Link {
         ensures refused { IfErr result (λ e. e ≡ LinkError.NoMemory) }
         ensures err { OnErr result (frames.new ≡ frames.old) }
     {
+        self.take_checked_into(octets, is_intact(octets), frames)
+    }
+
+    /// As `take_into`, where it is known whether the octets are intact, as a controller of the line may tell: four or more, with their frame check
+    /// sequence behind the others.
+    #[inline(always)]
+    pub fn take_checked_into<'a>(
+        &mut self,
+        octets: &'a [u8],
+        intact: bool,
+        frames: &mut Vec<Vec<u8>>,
+    ) -> Result<Heard<'a>, LinkError>
+        requires intact { intact ≡ is_intact octets.now }
+        requires meant { IsMeant self.old }
+        requires room { vec_len frames.old + 9 ≤ vec_capacity frames.old }
+        ensures does { DoesInto self.old self.new (map (λ f. f.items) frames.old.items) (map (λ f. f.items) frames.new.items) result (λ c s. take_step c octets.now s) }
+        ensures few { vec_len frames.new ≤ vec_len frames.old + 9 }
+        ensures capacity { vec_capacity frames.old ≤ vec_capacity frames.new }
+        ensures refused { IfErr result (λ e. e ≡ LinkError.NoMemory) }
+        ensures err { OnErr result (frames.new ≡ frames.old) }
+    {
         let long = self.station.outgoing.window() as usize;
         self.answers.reserve(long, SHORT_FRAMES)?;
-        let heard = self.station.hear(octets, &mut self.answers);
+        let heard = self.station.hear(octets, intact, &mut self.answers);
         self.answers.drain_into(frames);
         Ok(heard)
     }

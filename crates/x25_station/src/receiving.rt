@@ -1,5 +1,6 @@
 //! Octets that come: the step of the link, and what the packet layer does at it.
 ghost use Rattle.std.specs.Prelude.{◌≡◌, ℕ, ◌+◌, ◌-◌, ◌<◌, ◌≤◌, ◌++◌, List, [], length, max, map, true, false, None, option_copied, vec_len, vec_capacity, IfSome, IfOk, IfErr, OnOk, OnErr};
+ghost use Rattle.x25_frame.specs.Reading.{is_intact};
 ghost use Rattle.x25_link.specs.Station.{Side};
 ghost use Rattle.x25_link.specs.Link.{alone};
 ghost use Rattle.x25_link.specs.code.FitsLink.{FitsWhole, up_of};
@@ -23,7 +24,7 @@ use crate::linking::{exchange, note_down};
 use crate::lists::make_room;
 use crate::station::Station;
 use crate::step::Step;
-use x25_frame::reading_is_the_grammar as reads_frames;
+use x25_frame::{is_intact, reading_is_the_grammar as reads_frames};
 use x25_layer::Layer;
 use x25_link::{Link, Notes, OrderedLink, holds_few, notes_what_changes};
 use x25_packet::reading_is_the_grammar;
@@ -188,10 +189,30 @@ impl Station {
         ensures no_frames { OnErr result (frames.new.items ≡ []) }
         ensures no_entries { OnErr result (entries.new.items ≡ []) }
     {
+        self.receive_checked_into(octets, is_intact(octets), frames, entries)
+    }
+
+    /// Takes octets as `receive_into` does, where it is known whether they are intact, as a controller of the line may tell: four or more, with
+    /// their frame check sequence behind the others.
+    pub fn receive_checked_into(
+        &mut self,
+        octets: &[u8],
+        intact: bool,
+        frames: &mut Vec<Vec<u8>>,
+        entries: &mut Vec<Entry>,
+    ) -> Result<(), StationError>
+        requires intact { intact ≡ is_intact octets.now }
+        requires frames { frames.old.items ≡ [] }
+        requires entries { entries.old.items ≡ [] }
+        ensures does { Does self.old self.new (answered (record { frames = frames.new; entries = entries.new }) result) (λ c s. Did (receives c s octets.now)) }
+        ensures refused { IfErr result (λ e. e ≡ StationError.NoMemory) }
+        ensures no_frames { OnErr result (frames.new.items ≡ []) }
+        ensures no_entries { OnErr result (entries.new.items ≡ []) }
+    {
         if self.is_full() {
             return self.abandon(octets, frames, entries);
         }
-        self.take(octets, frames, entries)
+        self.take(octets, intact, frames, entries)
     }
 
     // Whether the link is up and a count is at its most.
@@ -273,9 +294,11 @@ impl Station {
     fn take(
         &mut self,
         octets: &[u8],
+        intact: bool,
         frames: &mut Vec<Vec<u8>>,
         entries: &mut Vec<Entry>,
     ) -> Result<(), StationError>
+        requires intact { intact ≡ is_intact octets.now }
         requires left { up_of self.old.link ≡ true → IsNotFull self.old.layer }
         requires goes_on { (c : Settings) (s : State) → FitsStation c self.old s → abandons c s ≡ false }
         requires frames { frames.old.items ≡ [] }
@@ -290,7 +313,7 @@ impl Station {
         holds_few();
         reads_frames();
         self.set_aside(octets.len().saturating_sub(HEADERS), frames, entries)?;
-        match self.link.take_into(octets, frames) {
+        match self.link.take_checked_into(octets, intact, frames) {
             Ok(heard) => {
                 follow(
                     &mut self.layer,

@@ -1,5 +1,5 @@
 //! What happens at one end, and on the line to it.
-ghost use Rattle.std.specs.Prelude.{◌≡◌, ◌&&◌, List, ◌+◌, ◌≤◌, ◌++◌, ◌∷◌, ◌<◌, ◌⊎◌, Bool, false, [], length, map, vec_len, vec_capacity, IfErr, OnOk, OnErr, IsErrOf};
+ghost use Rattle.std.specs.Prelude.{All, ◌≡◌, ◌&&◌, List, ◌+◌, ◌≤◌, ◌++◌, ◌∷◌, ◌<◌, ◌⊎◌, Bool, false, [], length, map, vec_len, vec_capacity, IfErr, OnOk, OnErr, IsErrOf};
 ghost use Rattle.x25_link.specs.Station.{awaits_ua};
 ghost use Rattle.x25_line.specs.laws.Stations.{is_visible};
 ghost use Rattle.x25_station.specs.Command.{command_of};
@@ -132,7 +132,8 @@ fn deliver(
     let Some(octets) = line.get(at, 0) else {
         return Err(WorldError::Empty);
     };
-    match near.receive_into(octets, frames, told) {
+    let intact = !line.is_damaged(at, 0);
+    match near.receive_checked_into(octets, intact, frames, told) {
         Ok(()) => {
             let octets = line.remove(at, 0);
             give_back(near, octets);
@@ -156,6 +157,7 @@ fn refused_arrival(error: StationError) -> WorldError
 #[inline(always)]
 fn put(at: Role, near: &mut Station, line: &mut Line, taps: bool, frames: &mut Vec<Vec<u8>>)
     requires room { vec_len frames.old ≤ line.old.room }
+    requires whole { All (λ frame. is_visible frame.items ≡ false) frames.old.items }
     requires untapped { taps ≡ false → line.old.tap ≡ [] }
     ensures line { line.new ≡ put_by taps line.old at (map (λ frame. frame.items) frames.old.items) }
     ensures near { (c : Settings) (s : StationState) → FitsStation c near.old s → FitsStation c near.new s }
@@ -174,6 +176,7 @@ fn put(at: Role, near: &mut Station, line: &mut Line, taps: bool, frames: &mut V
 
 fn put_all(at: Role, near: &mut Station, line: &mut Line, taps: bool, frames: &mut Vec<Vec<u8>>)
     requires room { vec_len frames.old ≤ line.old.room }
+    requires whole { All (λ frame. is_visible frame.items ≡ false) frames.old.items }
     requires untapped { taps ≡ false → line.old.tap ≡ [] }
     ensures line { line.new ≡ put_by taps line.old at (map (λ frame. frame.items) frames.old.items) }
     ensures near { (c : Settings) (s : StationState) → FitsStation c near.old s → FitsStation c near.new s }
@@ -186,6 +189,7 @@ fn put_all(at: Role, near: &mut Station, line: &mut Line, taps: bool, frames: &m
 #[inline(always)]
 fn put_one(at: Role, near: &mut Station, line: &mut Line, taps: bool, octets: Vec<u8>)
     requires room { 0 < line.old.room }
+    requires whole { is_visible octets.items ≡ false }
     requires untapped { taps ≡ false → line.old.tap ≡ [] }
     ensures line { line.new ≡ put_by taps line.old at (octets.items ∷ []) }
     ensures near { (c : Settings) (s : StationState) → FitsStation c near.old s → FitsStation c near.new s }
