@@ -6,6 +6,7 @@ use std::alloc::Global;
 use std::process::Abort;
 use std::test::Fail;
 use x25_bits::Role;
+use x25_frame::is_intact;
 use x25_link::{Heard, Link, LinkError};
 
 /// SABM with P=1 of the DTE.
@@ -30,14 +31,24 @@ fn has_both(rt: &impl Abort, frames: &[Vec<u8>]) -> Result<(), Fail> {
     Ok(())
 }
 
-fn answers_behind(rt: &impl Abort, alloc: Global, link: &mut Link) -> Result<(), Fail>
+// .. of octets that were checked before, or weren't.
+fn answers_behind(
+    rt: &impl Abort,
+    alloc: Global,
+    link: &mut Link,
+    checked: bool,
+) -> Result<(), Fail>
     requires meant { IsMeant link.old }
     requires none { link.old.outbox.made ≡ [] }
 {
     let mut frames = Vec::with_capacity(alloc, 10)?;
     let first = vec![in alloc; 0u8; 9]?;
     frames.push_reserved(first);
-    let heard = link.take_into(&SABM, &mut frames)?;
+    let heard = if checked {
+        link.take_checked_into(&SABM, is_intact(&SABM), &mut frames)?
+    } else {
+        link.take_into(&SABM, &mut frames)?
+    };
     link.sent_into(&mut frames);
     tells_of_up(rt, heard);
     has_both(rt, frames.as_slice())
@@ -45,8 +56,11 @@ fn answers_behind(rt: &impl Abort, alloc: Global, link: &mut Link) -> Result<(),
 
 #[test]
 fn frames_go_behind_those_of_a_list(rt: HostRuntime) -> Result<(), Fail> {
-    let mut link = Link::new(rt.alloc(), Role::Dce, 7, 4099, 10)?;
-    answers_behind(&rt, rt.alloc(), &mut link)
+    for checked in [false, true] {
+        let mut link = Link::new(rt.alloc(), Role::Dce, 7, 4099, 10)?;
+        answers_behind(&rt, rt.alloc(), &mut link, checked)?;
+    }
+    Ok(())
 }
 
 // The link is set up from here on: SABM was sent.

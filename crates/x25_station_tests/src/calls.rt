@@ -3,6 +3,7 @@
 ghost use Rattle.std.specs.Prelude.{◌≡◌, []};
 
 use std::alloc::Global;
+use x25_frame::is_intact;
 use x25_station::{Cfg, Cmd, Entry, Role, Station, StationError, Step};
 
 // A station in a place of its own: a body that holds the box lets go of it by one call, and not of each part of the station.
@@ -62,6 +63,16 @@ pub fn receive_into(
 ) -> Result<(), StationError> {
     empty(lists);
     station.receive_into(octets, &mut lists.frames, &mut lists.entries)
+}
+
+pub fn receive_checked_into(
+    station: &mut Station,
+    octets: &[u8],
+    lists: &mut Step,
+) -> Result<(), StationError> {
+    empty(lists);
+    let intact = is_intact(octets);
+    station.receive_checked_into(octets, intact, &mut lists.frames, &mut lists.entries)
 }
 
 pub fn ask_into(

@@ -1,6 +1,8 @@
 //! Calls that answer into lists, which their caller keeps.
 
-use crate::calls::{ask_into, connect_into, fire_into, receive_into, station};
+use crate::calls::{
+    ask_into, connect_into, fire_into, receive_checked_into, receive_into, station,
+};
 use crate::peer::settings;
 use std::alloc::Global;
 use std::process::Abort;
@@ -14,6 +16,8 @@ enum Call {
     T1,
     /// SABM with P=1 of a DTE comes.
     Sabm,
+    /// .. of which it is known that it is intact.
+    CheckedSabm,
     Disconnect,
 }
 
@@ -32,10 +36,11 @@ static DTE: [Row; 7] = [
     (Call::Connect, true, 0, 0),
 ];
 
-// UA and a RESTART answer SABM, and UA, LinkDown and LinkUp the second.
-static DCE: [Row; 4] = [
+// UA and a RESTART answer SABM, with LinkUp, and with LinkDown before it where it comes again.
+static DCE: [Row; 5] = [
     (Call::Sabm, false, 2, 1),
     (Call::Sabm, false, 2, 2),
+    (Call::CheckedSabm, false, 2, 2),
     (Call::Disconnect, false, 1, 2),
     (Call::Disconnect, true, 0, 0),
 ];
@@ -45,6 +50,7 @@ fn calls(station: &mut Station, call: Call, lists: &mut Step) -> Result<(), Stat
         Call::Connect => connect_into(station, lists),
         Call::T1 => fire_into(station, lists),
         Call::Sabm => receive_into(station, SABM.as_slice(), lists),
+        Call::CheckedSabm => receive_checked_into(station, SABM.as_slice(), lists),
         Call::Disconnect => ask_into(station, Cmd::Disconnect, lists),
     }
 }

@@ -1,7 +1,7 @@
 use Rattle.std.proofs.Common.{rules, [], arith, sym, subst, ◌∙◌}
 use Rattle.x25_link.specs.code.FitsLink.{ShownLink, FitsLink}
 use Rattle.x25_link.proofs.FrameCount.{made_few, made_behind}
-use Rattle.x25_link.proofs.link.Link.take_into.Goals as goal
+use Rattle.x25_link.proofs.link.Link.take_checked_into.Goals as goal
 
 pub drain_into-requires : goal.drain_into-requires
 drain_into-requires c =
