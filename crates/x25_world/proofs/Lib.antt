@@ -15,6 +15,7 @@ pub mod rows
 pub mod OnLineLemmas
 pub mod LateLemmas
 pub mod LetGoLemmas
+pub mod WholeLemmas
 pub mod SetUpLemmas
 pub mod SideLemmas
 pub mod WorldLemmas

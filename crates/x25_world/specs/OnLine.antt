@@ -1,6 +1,5 @@
 -- A frame on the line: the octets of a frame of the tap, which isn't copied, or octets of its own.
-use Rattle.std.specs.Prelude.{Bool, true, false, ◌≡◌, ℕ, zero, suc, ◌+◌, ◌≤◌, ◌<◌, ◌==◌, ◌-◌, if◌then◌else◌, List, [], ◌∷◌, length, map, take}
-use Rattle.x25_line.specs.laws.Stations.{is_visible}
+use Rattle.std.specs.Prelude.{◌≡◌, ℕ, zero, suc, ◌+◌, ◌≤◌, ◌<◌, ◌==◌, ◌-◌, if◌then◌else◌, List, [], ◌∷◌, length, map, take}
 use Rattle.x25_world.specs.World.{OnTap}
 use Rattle.x25_world.specs.code.ShownLine.{ShownLine}
 use Rattle.x25_world.specs.code.PlainTold.{plain_tapped}
@@ -17,21 +16,6 @@ abbrev pub octets_of : List OnTap → OnLine → List ℕ
 octets_of tap (frame.Tapped i) = octets_at tap i
 octets_of tap (frame.Own octets) = octets.items
 octets_of tap (frame.Short octets) = octets
-octets_of tap (frame.Damaged octets) = octets.items
-
--- whether it is marked as damaged
-abbrev pub is_marked : OnLine → Bool
-is_marked (frame.Tapped i) = false
-is_marked (frame.Own octets) = false
-is_marked (frame.Short octets) = false
-is_marked (frame.Damaged octets) = true
-
--- damage is visible, and all else is as it was sent
-abbrev pub IsMarked : List OnTap → OnLine → Type 0
-IsMarked tap x = is_marked x ≡ is_visible (octets_of tap x)
-
-abbrev pub AreMarked : List OnTap → List OnLine → Type 0
-AreMarked tap frames = map is_marked frames ≡ map is_visible (map (octets_of tap) frames)
 
 abbrev pub shown_line : List OnLine → List OnLine → List Tapped → ℕ → ShownLine
 shown_line to_dce to_dte tap room = let all = map plain_tapped tap in
@@ -42,13 +26,11 @@ abbrev pub IsThere : ℕ → OnLine → Type 0
 IsThere count (frame.Tapped i) = i < count
 IsThere count (frame.Own octets) = Unit {0}
 IsThere count (frame.Short octets) = Unit {0}
-IsThere count (frame.Damaged octets) = Unit {0}
 
 abbrev pub IsOwn : OnLine → Type 0
 IsOwn (frame.Tapped i) = ⊥
 IsOwn (frame.Own octets) = Unit {0}
 IsOwn (frame.Short octets) = Unit {0}
-IsOwn (frame.Damaged octets) = Unit {0}
 
 -- how many of the frames are the tap's at this place
 abbrev pub shares : ℕ → List OnLine → ℕ
@@ -56,7 +38,6 @@ shares i [] = 0
 shares i (frame.Tapped j ∷ frames) = if i == j then suc (shares i frames) else shares i frames
 shares i (frame.Own octets ∷ frames) = shares i frames
 shares i (frame.Short octets ∷ frames) = shares i frames
-shares i (frame.Damaged octets ∷ frames) = shares i frames
 
 -- None of the frames that are further from the back than the tap has frames is the tap's.
 abbrev pub AreLate : ℕ → List OnLine → Type 0

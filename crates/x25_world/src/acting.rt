@@ -1,5 +1,6 @@
 //! What happens at one end, and on the line to it.
-ghost use Rattle.std.specs.Prelude.{All, ◌≡◌, ◌&&◌, List, ◌+◌, ◌≤◌, ◌++◌, ◌∷◌, ◌<◌, ◌⊎◌, Bool, false, [], length, map, vec_len, vec_capacity, IfErr, OnOk, OnErr, IsErrOf};
+ghost use Rattle.std.specs.Prelude.{All, Some, slice_get, ◌≡◌, ◌&&◌, List, ◌+◌, ◌≤◌, ◌++◌, ◌∷◌, ◌<◌, ◌⊎◌, Bool, false, [], length, map, vec_len, vec_capacity, IfErr, OnOk, OnErr, IsErrOf};
+ghost use Rattle.x25_frame.specs.Reading.{is_intact as intact};
 ghost use Rattle.x25_link.specs.Station.{awaits_ua};
 ghost use Rattle.x25_line.specs.laws.Stations.{is_visible};
 ghost use Rattle.x25_station.specs.Command.{command_of};
@@ -22,6 +23,7 @@ use crate::line::Line;
 use crate::set_up::is_on_line;
 use crate::told::Entered;
 use x25_bits::{Role, check};
+use x25_frame::is_intact;
 use x25_station::{Cmd, Entry, MOST_ENTRIES, MOST_FRAMES, Station, StationError};
 
 /// The event happens at its end, or on the line to it, and what it tells comes into the list, which is empty before, as is the list by which its frames
@@ -132,7 +134,7 @@ fn deliver(
     let Some(octets) = line.get(at, 0) else {
         return Err(WorldError::Empty);
     };
-    let intact = !line.is_damaged(at, 0);
+    let intact = is_first_intact(line, at, octets);
     match near.receive_checked_into(octets, intact, frames, told) {
         Ok(()) => {
             let octets = line.remove(at, 0);
@@ -142,6 +144,27 @@ fn deliver(
         }
         Err(error) => Err(refused_arrival(error)),
     }
+}
+
+// Whether the octets that come first on the line to the end are intact, which is known where nothing on it was damaged.
+#[inline(always)]
+fn is_first_intact(line: &Line, at: Role, octets: &[u8]) -> bool
+    requires { Some octets.now ≡ slice_get (line_to line.now at) 0 }
+    ensures { result ≡ intact octets.now }
+{
+    if line.is_whole() {
+        return true;
+    }
+    is_seen_intact(octets)
+}
+
+// .. where something was, which is seldom.
+#[cold]
+#[inline(never)]
+fn is_seen_intact(octets: &[u8]) -> bool
+    ensures { result ≡ intact octets.now }
+{
+    is_intact(octets)
 }
 
 // The error of a world where a station refuses an arrival, which is seldom.

@@ -1,8 +1,8 @@
-ghost use Rattle.std.specs.Prelude.{◌≡◌, ℕ, ◌+◌, ◌<◌, ◌≤◌, ◌++◌, [], length, map, remove, OnOk, OnErr, IfSome, List, ◌∷◌, true, false, All, option_copied, slice_get, slice_set, take, vec_len, vec_capacity};
+ghost use Rattle.std.specs.Prelude.{◌≡◌, ℕ, ◌+◌, ◌<◌, ◌≤◌, ◌++◌, [], length, map, remove, OnOk, OnErr, List, ◌∷◌, true, false, All, option_copied, slice_get, slice_set, take, vec_len, vec_capacity};
 ghost use Rattle.x25_line.specs.laws.Stations.{replaced, is_visible};
-ghost use Rattle.x25_world.specs.code.ShownLine.{ShownLine, line_to, with_line_to, put_by};
+ghost use Rattle.x25_world.specs.code.ShownLine.{ShownLine, IsWhole, line_to, with_line_to, put_by};
 ghost use Rattle.x25_world.specs.code.PlainTold.{plain_tapped};
-ghost use Rattle.x25_world.specs.OnLine.{octets_of, is_marked, AreLate, AreMarked, IsMarked, IsOwn, IsThere, shares};
+ghost use Rattle.x25_world.specs.OnLine.{octets_of, AreLate, IsOwn, IsThere, shares};
 ghost use Rattle.x25_world.specs.declared.on_line.OnLine.{OnLine};
 ghost use Rattle.std.specs.VecDeque.{deque_len, deque_capacity};
 
@@ -23,15 +23,16 @@ pub struct Line {
     to_dte: VecDeque<OnLine>,
     tap: Vec<Tapped>,
     room: usize,
+    // Whether a frame was damaged, on the line to either end: before that all that is on it is as it was sent.
+    damaged: bool,
     alloc: Global,
 }
 
 impl Model for Line {
-    ghost use Rattle.std.specs.Prelude.{◌+◌, ◌≤◌, length, map, vec_len, vec_capacity};
+    ghost use Rattle.std.specs.Prelude.{◌≡◌, ◌+◌, ◌≤◌, false, length, vec_len, vec_capacity};
     ghost use Rattle.std.specs.VecDeque.{deque_len, deque_capacity};
-    ghost use Rattle.x25_world.specs.OnLine.{shown_line, AreApart, AreLate, AreMarked};
-    ghost use Rattle.x25_world.specs.code.ShownLine.{ShownLine};
-    ghost use Rattle.x25_world.specs.code.PlainTold.{plain_tapped};
+    ghost use Rattle.x25_world.specs.OnLine.{shown_line, AreApart, AreLate};
+    ghost use Rattle.x25_world.specs.code.ShownLine.{ShownLine, IsWhole};
 
     ghost Value = { ShownLine };
 
@@ -40,7 +41,7 @@ impl Model for Line {
     ghost invariant = { λ l. AreApart (length l.tap.items) l.to_dce.items l.to_dte.items × (deque_len l.to_dce + l.room ≤ deque_capacity l.to_dce)
         × (deque_len l.to_dte + l.room ≤ deque_capacity l.to_dte) × (vec_len l.tap + l.room ≤ vec_capacity l.tap)
         × AreLate (length l.tap.items) l.to_dce.items × AreLate (length l.tap.items) l.to_dte.items
-        × AreMarked (map plain_tapped l.tap.items) l.to_dce.items × AreMarked (map plain_tapped l.tap.items) l.to_dte.items };
+        × (l.damaged ≡ false → IsWhole (shown_line l.to_dce.items l.to_dte.items l.tap.items l.room)) };
 }
 
 impl Line {
@@ -53,6 +54,7 @@ impl Line {
             to_dte: VecDeque::new(alloc),
             tap: Vec::new(alloc),
             room: 0,
+            damaged: false,
             alloc,
         }
     }
@@ -139,7 +141,7 @@ impl Line {
         requires room { 0 < self.old.room }
         requires empty { self.old.tap ≡ [] }
         requires own { IsOwn frame }
-        requires marked { IsMarked self.old.tap frame }
+        requires whole { is_visible (octets_of self.old.tap frame) ≡ false }
         ensures { self.new ≡ put_by false self.old from (octets_of self.old.tap frame ∷ []) }
     {
         self.room -= 1;
@@ -159,20 +161,17 @@ impl Line {
         Some(octets(&self.tap, frame))
     }
 
-    /// Whether the frame at this place on the line to this end, 0 at the front, was damaged there.
-    pub fn is_damaged(&self, to: Role, place: usize) -> bool
-        ensures { IfSome (slice_get (line_to self.now to) place) (λ octets. result ≡ is_visible octets) }
+    /// Whether it is known that no frame on the line was damaged there: none was since the line is. `false` says nothing.
+    #[inline(always)]
+    pub fn is_whole(&self) -> bool
+        ensures { result ≡ true → IsWhole self.now }
     {
-        match self.queue(to).get(place) {
-            Some(OnLine::Damaged(_)) => true,
-            _ => false,
-        }
+        !self.damaged
     }
 
     fn queue(&self, to: Role) -> &VecDeque<OnLine>
         ensures octets { map (octets_of self.now.tap) result.now.items ≡ line_to self.now to }
         ensures there { All (IsThere (length self.now.tap)) result.now.items }
-        ensures marked { AreMarked self.now.tap result.now.items }
     {
         match to {
             Role::Dce => &self.to_dce,
@@ -195,15 +194,15 @@ impl Line {
 
     /// A copy of these octets comes in the place of the frame at this place on the line to this end, 0 at the front.
     pub fn replace(&mut self, to: Role, place: usize, octets: &[u8]) -> Result<(), AllocError>
-        requires place { place < length (line_to self.old to) }
-        requires visible { is_visible octets.now ≡ true }
+        requires { place < length (line_to self.old to) }
         ensures ok { OnOk result (self.new ≡ with_line_to self.old to (replaced (line_to self.old to) place octets.now)) }
         ensures err { OnErr result (self.new ≡ self.old) }
     {
-        let damaged = Vec::from_slice(self.alloc, octets)?;
+        let own = Vec::from_slice(self.alloc, octets)?;
+        self.damaged = true;
         match to {
-            Role::Dce => put_in(&mut self.to_dce, place, OnLine::Damaged(damaged)),
-            Role::Dte => put_in(&mut self.to_dte, place, OnLine::Damaged(damaged)),
+            Role::Dce => put_in(&mut self.to_dce, place, own),
+            Role::Dte => put_in(&mut self.to_dte, place, own),
         }
         Ok(())
     }
@@ -248,7 +247,6 @@ fn octets<'a>(tap: &'a [Tapped], frame: &'a OnLine) -> &'a [u8]
         OnLine::Tapped(place) => &tap[*place].octets,
         OnLine::Own(octets) => octets,
         OnLine::Short(octets) => octets.as_slice(),
-        OnLine::Damaged(octets) => octets,
     }
 }
 
@@ -290,19 +288,18 @@ fn take_off(queue: &mut VecDeque<OnLine>, place: usize) -> Option<Vec<u8>>
 {
     match taken_at(queue, place) {
         Some(OnLine::Own(octets)) => Some(octets),
-        Some(OnLine::Damaged(octets)) => Some(octets),
         _ => None,
     }
 }
 
 #[inline(always)]
-fn put_in(queue: &mut VecDeque<OnLine>, place: usize, frame: OnLine)
+fn put_in(queue: &mut VecDeque<OnLine>, place: usize, octets: Vec<u8>)
     requires { place < length queue.old.items }
-    ensures items { queue.new.items ≡ slice_set queue.old.items place frame }
+    ensures items { queue.new.items ≡ slice_set queue.old.items place (OnLine.Own octets) }
     ensures len { deque_len queue.new ≡ deque_len queue.old }
     ensures capacity { deque_capacity queue.new ≡ deque_capacity queue.old }
 {
-    queue[place] = frame;
+    queue[place] = OnLine::Own(octets);
 }
 
 // The frames on the line take the octets that they share with the tap, and leave none there. A frame that was put before all that the
@@ -314,7 +311,6 @@ fn own_all(queue: &mut VecDeque<OnLine>, tap: &mut Vec<Tapped>, alloc: Global)
     requires late { AreLate (length tap.old.items) queue.old.items }
     ensures octets { map (octets_of (map plain_tapped tap.new.items)) queue.new.items ≡ map (octets_of (map plain_tapped tap.old.items)) queue.old.items }
     ensures own { (i : ℕ) → shares i queue.new.items ≡ 0 }
-    ensures marks { map is_marked queue.new.items ≡ map is_marked queue.old.items }
     ensures others { (frames : List OnLine) → ((i : ℕ) → shares i queue.old.items + shares i frames ≤ 1) →
         map (octets_of (map plain_tapped tap.new.items)) frames ≡ map (octets_of (map plain_tapped tap.old.items)) frames }
     ensures tap_len { length tap.new.items ≡ length tap.old.items }
@@ -335,7 +331,6 @@ fn own_one(queue: &mut VecDeque<OnLine>, tap: &mut Vec<Tapped>, place: usize, al
     ensures octets { map (octets_of (map plain_tapped tap.new.items)) queue.new.items ≡ map (octets_of (map plain_tapped tap.old.items)) queue.old.items }
     ensures own { (i : ℕ) → shares i (take (place + 1) queue.new.items) ≡ shares i (take place queue.old.items) }
     ensures fewer { (i : ℕ) → shares i queue.new.items ≤ shares i queue.old.items }
-    ensures marks { map is_marked queue.new.items ≡ map is_marked queue.old.items }
     ensures others { (frames : List OnLine) → ((i : ℕ) → shares i queue.old.items + shares i frames ≤ 1) →
         map (octets_of (map plain_tapped tap.new.items)) frames ≡ map (octets_of (map plain_tapped tap.old.items)) frames }
     ensures tap_len { length tap.new.items ≡ length tap.old.items }
@@ -347,5 +342,5 @@ fn own_one(queue: &mut VecDeque<OnLine>, tap: &mut Vec<Tapped>, place: usize, al
         return;
     };
     let octets = mem::replace(&mut tap[at].octets, Vec::new(alloc));
-    put_in(queue, place, OnLine::Own(octets));
+    put_in(queue, place, octets);
 }
