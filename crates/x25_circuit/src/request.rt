@@ -1,5 +1,5 @@
 //! What the user of a circuit asks for, as one type.
-ghost use Rattle.std.specs.Prelude.{◌≡◌, ◌≢◌, ◌≤◌, ◌<◌, Bool, false, OnErr, IfOk, IfSome, IfNone, Some, None, length};
+ghost use Rattle.std.specs.Prelude.{◌≡◌, ◌≢◌, ◌≤◌, ◌<◌, Bool, ℕ, List, false, OnErr, IfOk, IfSome, IfNone, Some, None, length};
 ghost use Rattle.x25_packet.specs.Packet.{plain};
 ghost use Rattle.x25_packet.specs.Spelling.{IsInRange};
 ghost use Rattle.x25_circuit.specs.Circuit.{Settings};
@@ -118,7 +118,7 @@ impl Circuit {
                 .err(),
             Request::Accept { answer } => self.accepted(*answer).err(),
             Request::Clear => self.clear_refusal(),
-            Request::Send { q, user } => self.send_refusal(*q, user.as_slice()),
+            Request::Send { user, .. } => self.send_refusal(user.len()),
             Request::Interrupt { user } => self.interrupt_refusal(user),
             Request::Reset | Request::Ready | Request::NotReady => self.closed(),
         }
@@ -136,17 +136,17 @@ impl Circuit {
         }
     }
 
-    /// Why `send` would refuse this message now, if it would: 30 WrongState outside of p4 with d1, then 32 TooLong, then 31 Full exactly where 8
-    /// messages wait.
-    pub fn send_refusal(&self, q: bool, user: &[u8]) -> Option<CircuitError>
-        ensures refusal { (c : Settings) (x : Channel) → FitsCircuit c self.now x → result ≡ refusal_of (send_in c x x.state q user.now) }
-        ensures refused { (c : Settings) (x : Channel) → FitsCircuit c self.now x → IfSome result (λ e. send_in c x x.state q user.now ≡ Refused e) }
+    /// Why `send` would refuse a message of so many octets now, if it would: 30 WrongState outside of p4 with d1, then 32 TooLong, then 31 Full exactly
+    /// where 8 messages wait.
+    pub fn send_refusal(&self, count: usize) -> Option<CircuitError>
+        ensures refusal { (c : Settings) (x : Channel) (q : Bool) (user : List ℕ) → length user ≡ count → FitsCircuit c self.now x → result ≡ refusal_of (send_in c x x.state q user) }
+        ensures refused { (c : Settings) (x : Channel) (q : Bool) (user : List ℕ) → length user ≡ count → FitsCircuit c self.now x → IfSome result (λ e. send_in c x x.state q user ≡ Refused e) }
         ensures open { IfNone result (self.now.state ≡ State.Open) }
-        ensures short { IfNone result (length user.now ≤ 65535) }
+        ensures short { IfNone result (count ≤ 65535) }
         ensures few { IfNone result (length (waiting self.now.transfer.queue) < 8) }
     {
         match self.state {
-            State::Open if user.len() > LONGEST_MESSAGE => Some(CircuitError::TooLong),
+            State::Open if count > LONGEST_MESSAGE => Some(CircuitError::TooLong),
             State::Open if self.transfer.queue.len() == PLACES => Some(CircuitError::Full),
             State::Open => None,
             _ => Some(CircuitError::WrongState),

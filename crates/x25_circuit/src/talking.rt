@@ -30,7 +30,7 @@ impl Circuit {
         ensures resets { resets_of self.new ≡ resets_of self.old }
         ensures unchanged { OnErr result (self.new ≡ self.old) }
     {
-        if let Some(error) = self.send_refusal(q, user.as_slice()) {
+        if let Some(error) = self.send_refusal(user.len()) {
             return Err(error);
         }
         let user = Octets::of(user);

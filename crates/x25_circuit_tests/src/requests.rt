@@ -115,9 +115,9 @@ fn is_refused(
     let proposals = Proposals::new();
     let request = proposals.request(alloc, index);
     let told = circuit.refusal(&request);
-    if let Request::Send { q, user } = &request {
-        let lent = circuit.send_refusal(*q, user.as_slice());
-        assert_eq!(rt; lent, wanted, "message {index} {place}, lent");
+    if let Request::Send { user, .. } = &request {
+        let foreseen = circuit.send_refusal(user.len());
+        assert_eq!(rt; foreseen, wanted, "message {index} {place}, by its length");
     }
     let refused = circuit.ask(request).err();
     assert_eq!(rt;

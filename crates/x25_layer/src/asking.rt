@@ -1,11 +1,12 @@
 //! What the user asks of the circuit of a channel: the steps that all calls with a channel share.
-ghost use Rattle.std.specs.Prelude.{◌≡◌, ◌≢◌, ℕ, ◌<◌, ◌≤◌, ◌&&◌, ◌==◌, length, List, [], true, false, vec_capacity, IfErr, IfOk, IfSome, OnErr};
+ghost use Rattle.std.specs.Prelude.{◌≡◌, ◌≢◌, ℕ, Bool, ◌<◌, ◌≤◌, ◌&&◌, ◌==◌, length, List, [], true, false, vec_capacity, IfErr, IfOk, IfSome, OnErr};
 ghost use Rattle.x25_circuit.specs.Calling.{outcome, Sends};
 ghost use Rattle.x25_circuit.specs.code.Replies.{IsSendable, plain_sent};
 ghost use Rattle.x25_circuit.specs.Request.{plain_request, MayPut};
+ghost use Rattle.x25_circuit.specs.declared.params.Params.{Params};
 ghost use Rattle.x25_layer.specs.Layer.{LayerSettings, is_channel};
 ghost use Rattle.x25_layer.specs.Layer.{Layer as State};
-ghost use Rattle.x25_layer.specs.Calls.{Asks, puts_at_once, outcome_on};
+ghost use Rattle.x25_layer.specs.Calls.{Asks, Dials, puts_at_once, outcome_on};
 ghost use Rattle.x25_layer.specs.Rounds.{Refuses, calls, went};
 ghost use Rattle.x25_layer.specs.code.FitsLayer.{FitsLayer};
 ghost use Rattle.x25_layer.specs.code.OverLink.{Answers, Does, view_of};
@@ -165,17 +166,16 @@ impl Layer {
         }
     }
 
-    /// Why `ask` would refuse this message on a channel now, if it would, as `refusal`, but of user data that is lent.
+    /// Why `ask` would refuse a message of so many octets on a channel now, if it would, as `refusal`: what they are isn't looked at.
     #[inline(always)]
     pub fn message_refusal<L: OrderedLink>(
         &self,
         link: &L,
         channel: u16,
-        q: bool,
-        user: &[u8],
+        count: usize,
     ) -> Option<LayerError>
-        ensures value { (c : LayerSettings) (l : State) (x : L.State) → FitsLayer c self.now l → L.fits link.now x → result ≡ call_refusal (calls (view_of L.up_in L.waits_in L.after_put x) c l (Asks channel (Sends q user.now))) }
-        ensures refused { (c : LayerSettings) (l : State) (x : L.State) → FitsLayer c self.now l → L.fits link.now x → IfSome result (λ e. calls (view_of L.up_in L.waits_in L.after_put x) c l (Asks channel (Sends q user.now)) ≡ Refuses e) }
+        ensures value { (c : LayerSettings) (l : State) (x : L.State) (q : Bool) (user : List ℕ) → length user ≡ count → FitsLayer c self.now l → L.fits link.now x → result ≡ call_refusal (calls (view_of L.up_in L.waits_in L.after_put x) c l (Asks channel (Sends q user))) }
+        ensures refused { (c : LayerSettings) (l : State) (x : L.State) (q : Bool) (user : List ℕ) → length user ≡ count → FitsLayer c self.now l → L.fits link.now x → IfSome result (λ e. calls (view_of L.up_in L.waits_in L.after_put x) c l (Asks channel (Sends q user)) ≡ Refuses e) }
     {
         if !link.is_up() {
             return Some(LayerError::NotUp);
@@ -186,9 +186,27 @@ impl Layer {
         let Some(circuit) = self.circuit(channel) else {
             return Some(LayerError::NoSuchChannel);
         };
-        match circuit.send_refusal(q, user) {
+        match circuit.send_refusal(count) {
             Some(error) => Some(LayerError::Circuit(error)),
             None => None,
+        }
+    }
+
+    /// Why `call` and `call_with` would refuse any call now, if they would: 9 NotUp, 40 Restarting or 41 NoFreeChannel. `None` says nothing: a call may be
+    /// refused on the other grounds.
+    #[inline(always)]
+    pub fn dial_refusal<L: OrderedLink>(&self, link: &L) -> Option<LayerError>
+        ensures { (c : LayerSettings) (l : State) (x : L.State) (called calling user : List ℕ) (params : Params) → FitsLayer c self.now l → L.fits link.now x → IfSome result (λ e. calls (view_of L.up_in L.waits_in L.after_put x) c l (Dials called calling user params) ≡ Refuses e) }
+    {
+        if !link.is_up() {
+            return Some(LayerError::NotUp);
+        }
+        if self.restarting {
+            return Some(LayerError::Restarting);
+        }
+        match self.free_channel() {
+            Some(_) => None,
+            None => Some(LayerError::NoFreeChannel),
         }
     }
 

@@ -189,7 +189,7 @@ fn send<L: OrderedLink>(
 ) -> Result<(), LayerError>
     requires { 4099 ≤ L.longest link.old }
 {
-    if let Some(error) = layer.message_refusal(link, channel, q, user.as_slice()) {
+    if let Some(error) = layer.message_refusal(link, channel, user.len()) {
         return Err(error);
     }
     layer.send(link, channel, q, user)

@@ -433,7 +433,7 @@ impl Stage {
         self.happen(Event::Command(end, Cmd::Accept { channel }), writer)
     }
 
-    /// A message is sent. The user data is read into the list.
+    /// A message is sent. The user data is read into the list, where it isn't known before that it is refused.
     #[inline(always)]
     #[tactic(auto, unfolding(crate::specs::Stage::line_turn))]
     pub(crate) fn send<W: Sink>(
@@ -448,6 +448,10 @@ impl Stage {
             (line_turn cfg tap (command end (send message.entry.channel message.entry.q message.entry.user))) }
         ensures faults { MarksFaults W.Sink writer.old writer.new result }
     {
+        let count = message.user.len();
+        if let Some(error) = self.world.message_refusal(end, message.channel, count) {
+            return self.refuse(error, writer);
+        }
         read_octets(&message.user, octets)?;
         let sent = Cmd::Send {
             channel: message.channel,

@@ -1,8 +1,9 @@
 //! What the user asks of the packet layer: the layer's call, and its entry.
-ghost use Rattle.std.specs.Prelude.{ℕ, List, Bool, ◌≡◌, ◌<◌, ◌≤◌, ◌++◌, [], ◌∷◌, Some, map, vec_len, vec_capacity, true, string_bytes, IfOk, IfErr, IfSome, OnErr};
+ghost use Rattle.std.specs.Prelude.{ℕ, List, length, Bool, ◌≡◌, ◌<◌, ◌≤◌, ◌++◌, [], ◌∷◌, Some, map, vec_len, vec_capacity, true, string_bytes, IfOk, IfErr, IfSome, OnErr};
 ghost use Rattle.x25_circuit.specs.Circuit.{Circuit};
 ghost use Rattle.x25_circuit.specs.Calling.{Calls, Accepts, Sends as CircuitSends};
 ghost use Rattle.x25_circuit.specs.Request.{plain_request};
+ghost use Rattle.x25_circuit.specs.declared.params.Params.{Params};
 ghost use Rattle.x25_layer.specs.Layer.{Layer as LayerState, LayerSettings, is_channel};
 ghost use Rattle.x25_layer.specs.Calls.{Asks, Dials, Restarts, PullsAll};
 ghost use Rattle.x25_layer.specs.code.FitsLayer.{FitsLayer};
@@ -169,7 +170,7 @@ impl Station {
         match command {
             Cmd::Accept { channel } => self.refuses(*channel, &Request::Accept { answer: None }),
             Cmd::Clear { channel } => self.refuses(*channel, &Request::Clear),
-            Cmd::Send { channel, q, user } => self.refuses_message(*channel, *q, user),
+            Cmd::Send { channel, user, .. } => self.refuses_message(*channel, user.len()),
             Cmd::Interrupt { channel, user } => self.refuses(
                 *channel,
                 &Request::Interrupt { user },
@@ -177,6 +178,8 @@ impl Station {
             Cmd::Reset { channel } => self.refuses(*channel, &Request::Reset),
             Cmd::Ready { channel } => self.refuses(*channel, &Request::Ready),
             Cmd::NotReady { channel } => self.refuses(*channel, &Request::NotReady),
+            Cmd::Call { .. } => self.refuses_calls(),
+            Cmd::CallWith { .. } => self.refuses_calls(),
             _ => None,
         }
     }
@@ -189,12 +192,31 @@ impl Station {
         self.layer.refusal(&self.link, channel, request)
     }
 
-    // .. this message
+    // .. a message of so many octets
     #[inline(always)]
-    fn refuses_message(&self, channel: u16, q: bool, user: &[u8]) -> Option<LayerError>
-        ensures { (c : Settings) (s : State) → FitsStation c self.now s → IfSome result (λ e. requests c s (Asks channel (CircuitSends q user.now)) ≡ Refused (StationError.Layer e)) }
+    fn refuses_message(&self, channel: u16, count: usize) -> Option<LayerError>
+        ensures { (c : Settings) (s : State) (q : Bool) (user : List ℕ) → length user ≡ count → FitsStation c self.now s → IfSome result (λ e. requests c s (Asks channel (CircuitSends q user)) ≡ Refused (StationError.Layer e)) }
     {
-        self.layer.message_refusal(&self.link, channel, q, user)
+        self.layer.message_refusal(&self.link, channel, count)
+    }
+
+    // .. any call
+    #[inline(always)]
+    fn refuses_calls(&self) -> Option<LayerError>
+        ensures { (c : Settings) (s : State) (called calling user : List ℕ) (params : Params) → FitsStation c self.now s → IfSome result (λ e. requests c s (Dials called calling user params) ≡ Refused (StationError.Layer e)) }
+    {
+        self.layer.dial_refusal(&self.link)
+    }
+
+    /// Why a message of so many octets would be refused on a channel now, if it would, so that one that is refused needn't be made. `None` says nothing.
+    #[inline(always)]
+    pub fn message_refusal(&self, channel: u16, count: usize) -> Option<StationError>
+        ensures { (c : Settings) (s : State) (q : Bool) (user : List ℕ) → length user ≡ count → FitsStation c self.now s → IfSome result (λ e. requests c s (Asks channel (CircuitSends q user)) ≡ Refused e) }
+    {
+        match self.refuses_message(channel, count) {
+            Some(error) => Some(StationError::Layer(error)),
+            None => None,
+        }
     }
 
     // Does what the user asks.

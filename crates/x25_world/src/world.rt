@@ -1,6 +1,9 @@
-ghost use Rattle.std.specs.Prelude.{◌≡◌, List, [], ◌++◌, drop, length, map, option_copied, slice_get, OnOk, OnErr, IfOk, IfErr, IfSome, IsErrOf};
+ghost use Rattle.std.specs.Prelude.{◌≡◌, Bool, Some, ℕ, List, [], ◌++◌, drop, length, map, option_copied, slice_get, OnOk, OnErr, IfOk, IfErr, IfSome, IsErrOf};
 ghost use Rattle.x25_station.specs.declared.config.Cfg.{Cfg};
 ghost use Rattle.x25_station.specs.code.FitsStation.{FitsStation};
+ghost use Rattle.x25_circuit.specs.Calling.{Sends};
+ghost use Rattle.x25_layer.specs.Calls.{Asks};
+ghost use Rattle.x25_station.specs.Command.{Requests};
 ghost use Rattle.x25_station.specs.code.PlainEntry.{plain_entry};
 ghost use Rattle.x25_station.specs.Config.{settings_from, config_refusal};
 ghost use Rattle.x25_station.specs.Station as station;
@@ -14,7 +17,7 @@ ghost use Rattle.x25_world.specs.laws.WindowGoes.{StaysInWindow};
 ghost use Rattle.x25_world.specs.laws.SessionClaims.{SessionsKeepOrder};
 ghost use Rattle.x25_world.specs.laws.SessionWindow.{SessionsStayInWindow};
 ghost use Rattle.x25_world.specs.World as definition;
-ghost use Rattle.x25_world.specs.World.{entered, tapped, event_of, happens, after, refusal_of, run, AreAccepted, start, connected, established};
+ghost use Rattle.x25_world.specs.World.{entered, tapped, event_of, happens, after, refusal_of, run, AreAccepted, start, connected, established, Commands};
 
 use crate::acting::{act_at_end, connect, enter, make_room_to_enter};
 use crate::bit_damage::octets_of_damage;
@@ -344,6 +347,19 @@ impl World {
             &mut self.frames,
             event,
         )
+    }
+
+    /// Why a message of so many octets that an end sends on a channel would be refused now, if it would, so that one that is refused needn't be made. `None`
+    /// says nothing.
+    #[inline(always)]
+    pub fn message_refusal(&self, at: Role, channel: u16, count: usize) -> Option<WorldError>
+        ensures { (cfg : Cfg) (w : definition.World) (gone : Gone) (q : Bool) (user : List ℕ) → length user ≡ count → FitsWorld cfg self.now w gone →
+            IfSome result (λ e. refusal_of (happens cfg w (record { at = at; act = Commands (Requests (Asks channel (Sends q user))) })) ≡ Some e) }
+    {
+        match self.station(at).message_refusal(channel, count) {
+            Some(error) => Some(WorldError::of_station(error)),
+            None => None,
+        }
     }
 
     /// Takes the entries of a step of an end back, once they were read, and leaves their list empty: the memory of a message that was sent or delivered

@@ -1,5 +1,4 @@
-use Rattle.std.proofs.Common.{◌≡◌, ℕ, List, sym, subst, ◌∙◌, arith, refl}
-use Rattle.x25_circuit.specs.Calling.{Refused, send_in}
+use Rattle.std.proofs.Common.{sym, ◌∙◌, arith, refl}
 use Rattle.x25_circuit.proofs.TableLemmas.{send_at, send_waits}
 use Rattle.x25_circuit.proofs.TalkLemmas.{with_transfer, waits_are}
 use Rattle.x25_circuit.specs.Circuit.{outgoing}
@@ -7,7 +6,7 @@ use Rattle.x25_circuit.proofs.circuit.Circuit.send.Goals as goal
 
 pub returns-in-Some-clause-outcome : goal.returns-in-Some-clause-outcome
 returns-in-Some-clause-outcome c = λ d x fits.
-    let refused = subst (λ (octets : List ℕ). send_in d x x.state c.args.q octets ≡ Refused c.in-Some.error) c.as_slice.ensures.value (c.in-Some.ensures.refused d x fits) in
+    let refused = c.in-Some.ensures.refused d x c.args.q c.args.user.items (omega arith) fits in
     rw refused refl
 
 pub returns-clause-outcome : goal.returns-clause-outcome
@@ -15,5 +14,5 @@ returns-clause-outcome c = λ d x fits.
     let waits = waits_are (outgoing x).size c.args.self.now.transfer x.talk fits.talk in
     rw (
       send_at d x x.state c.args.q c.args.user.items (sym fits.state ∙ c.in_default.ensures.open),
-      send_waits d x c.args.q c.args.user.items (omega (arith, c.as_slice.ensures.len, c.in_default.ensures.short)) (omega (arith, waits, c.in_default.ensures.few)),
+      send_waits d x c.args.q c.args.user.items (omega (arith, c.in_default.ensures.short)) (omega (arith, waits, c.in_default.ensures.few)),
     ) ((with_transfer d c.args.self.now x _ _ fits (rw (sym c.of-user.ensures) (c.push.ensures.fits (outgoing x).size x.talk fits.talk)), refl))

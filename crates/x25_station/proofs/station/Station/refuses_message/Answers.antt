@@ -4,4 +4,4 @@ use Rattle.x25_station.proofs.AskLemmas.{refuses_before}
 use Rattle.x25_station.proofs.station.Station.refuses_message.Goals as goal
 
 pub returns : goal.returns
-returns c = λ c' s fits. refuses_before c.message_refusal.result c' c.args.self.now.link c.args.self.now.layer s (Asks c.args.channel (Sends c.args.q c.args.user.now)) fits (λ d k x f l. c.message_refusal.ensures.refused d k x f l)
+returns c = λ c' s q user same fits. refuses_before c.message_refusal.result c' c.args.self.now.link c.args.self.now.layer s (Asks c.args.channel (Sends q user)) fits (λ d k x f l. c.message_refusal.ensures.refused d k x q user same f l)
