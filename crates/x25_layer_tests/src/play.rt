@@ -179,6 +179,22 @@ fn ask_to_accept<L: OrderedLink>(
     layer.ask(link, channel, request)
 }
 
+// Calls, where `dial_refusal` foresees no refusal; else that is the answer.
+fn call<L: OrderedLink>(
+    layer: &mut Layer,
+    link: &mut L,
+    called: &str,
+    calling: &str,
+    user: &[u8],
+) -> Result<u16, LayerError>
+    requires { 4099 ≤ L.longest link.old }
+{
+    if let Some(error) = layer.dial_refusal(link) {
+        return Err(error);
+    }
+    layer.call(link, called, calling, user)
+}
+
 // Sends a message, where `message_refusal` foresees no refusal; else that is the answer.
 fn send<L: OrderedLink>(
     layer: &mut Layer,
@@ -255,7 +271,7 @@ pub fn happens<L: OrderedLink>(
             alloc, layer, link, event,
         ),
         Call(called, calling, user) => {
-            channel_text(alloc, layer.call(link, called, calling, user))
+            channel_text(alloc, call(layer, link, called, calling, user))
         }
         CallWith(values) => {
             let params = params_of(values);

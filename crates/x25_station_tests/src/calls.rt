@@ -84,6 +84,11 @@ pub fn ask_into(
     station.command_into(command, &mut lists.frames, &mut lists.entries)
 }
 
+/// Why a message of so many octets would be refused, as far as that is known before.
+pub fn message_refusal(station: &Station, channel: u16, count: usize) -> Option<StationError> {
+    station.message_refusal(channel, count)
+}
+
 /// The station takes entries back that were read.
 pub fn give_back_entries(station: &mut Station, entries: &mut Vec<Entry>) {
     station.give_back_entries(entries);

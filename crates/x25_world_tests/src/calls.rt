@@ -39,6 +39,11 @@ pub fn apply(world: &mut World, event: Event) -> Result<(), WorldError> {
     world.apply(event)
 }
 
+/// Why a message of so many octets would be refused, as far as that is known before.
+pub fn message_refusal(world: &World, at: Role, channel: u16, count: usize) -> Option<WorldError> {
+    world.message_refusal(at, channel, count)
+}
+
 /// The event happens, and its entries come into the list.
 pub fn step(world: &mut World, event: Event, told: &mut Vec<Entry>) -> Result<(), WorldError> {
     world.step(event, told)
