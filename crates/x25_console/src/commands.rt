@@ -1,5 +1,5 @@
 //! Commands of a script, as a station takes them.
-ghost use Rattle.std.specs.Prelude.{◌≡◌, OnOk, OnErr};
+ghost use Rattle.std.specs.Prelude.{◌≡◌, ◌≤◌, IfOk, OnOk, OnErr, length, take};
 ghost use Rattle.x25_script.specs.ScriptLine.{plain_command};
 ghost use Rattle.x25_station.specs.Command.{command_of};
 ghost use Rattle.x25_console.specs.Commands.{command_asked, user_in};
@@ -8,31 +8,51 @@ use std::alloc::AllocError;
 use x25_script::{Command, HexDigits};
 use x25_station::Cmd;
 
-/// The octets that the digits write, in the place of what the list held. Err: no memory; the list is as it was then.
-///
-/// A list that was longer once takes none.
-pub fn read_octets(digits: &HexDigits, octets: &mut Vec<u8>) -> Result<(), AllocError>
-    ensures read { OnOk result (octets.new.items ≡ digits.now) }
+/// Makes a list longer, if need be, so that it has at least so many octets. Err: no memory; the list is as it was then.
+fn make_room(octets: &mut Vec<u8>, count: usize) -> Result<(), AllocError>
+    ensures room { OnOk result (count ≤ length octets.new.items) }
     ensures unchanged { OnErr result (octets.new.items ≡ octets.old.items) }
 {
-    octets.resize(digits.len(), 0u8)?;
-    digits.write_to(octets.as_mut_slice());
-    Ok(())
+    if count <= octets.len() {
+        return Ok(());
+    }
+    octets.resize(count, 0u8)
 }
 
-/// The octets of user data that a command has, none where it has no such field, in the place of what the list held. Err: no memory; the list
-/// is as it was then.
-pub fn read_user(command: &Command, octets: &mut Vec<u8>) -> Result<(), AllocError>
-    ensures read { OnOk result (octets.new.items ≡ user_in (plain_command command.now)) }
+/// Puts the octets that the digits write in the place of as many others, from the first on.
+fn write_front(digits: &HexDigits, octets: &mut [u8])
+    requires room { length digits.now ≤ length octets.old }
+    ensures front { take (length digits.now) octets.new ≡ digits.now }
+    ensures size { length octets.new ≡ length octets.old }
+{
+    digits.write_to(&mut octets[..digits.len()]);
+}
+
+/// The octets that the digits write, at the front of the list, and how many these are. Err: no memory; the list is as it was then.
+///
+/// A list that was as long once takes none.
+pub fn read_octets(digits: &HexDigits, octets: &mut Vec<u8>) -> Result<usize, AllocError>
+    ensures read { IfOk result (λ count. take count octets.new.items ≡ digits.now) }
+    ensures few { IfOk result (λ count. count ≤ length octets.new.items) }
+    ensures unchanged { OnErr result (octets.new.items ≡ octets.old.items) }
+{
+    let count = digits.len();
+    make_room(octets, count)?;
+    write_front(digits, octets.as_mut_slice());
+    Ok(count)
+}
+
+/// The octets of user data that a command has, none where it has no such field, at the front of the list, and how many these are. Err: no
+/// memory; the list is as it was then.
+pub fn read_user(command: &Command, octets: &mut Vec<u8>) -> Result<usize, AllocError>
+    ensures read { IfOk result (λ count. take count octets.new.items ≡ user_in (plain_command command.now)) }
+    ensures few { IfOk result (λ count. count ≤ length octets.new.items) }
     ensures unchanged { OnErr result (octets.new.items ≡ octets.old.items) }
 {
     match command {
         Command::Call { user, .. } | Command::Send { user, .. } | Command::Interrupt { user, .. } =>
             read_octets(user, octets),
-        _ => {
-            octets.clear();
-            Ok(())
-        }
+        _ => Ok(0),
     }
 }
 

@@ -287,11 +287,11 @@ impl Pipe {
         ensures written { OnOk result (self.new.output ≡ []) }
         ensures faults { MarksFaults W.Sink writer.old writer.new result }
     {
-        read_user(&command, &mut self.user)?;
+        let count = read_user(&command, &mut self.user)?;
         let before = Watch::of(&self.station);
         match self
             .station
-            .command(station_command(&command, self.user.as_slice()))
+            .command(station_command(&command, &self.user[..count]))
         {
             Ok(step) => self.follow_up(before, false, step, writer),
             Err(error) => self.refuse(error, writer),

@@ -363,8 +363,8 @@ impl Stage {
             → Turns cfg tap old (W.contents writer.old) (W.contents writer.new) self.old self.new result (line_turn cfg tap (command end (plain_command asked.entry))) }
         ensures faults { MarksFaults W.Sink writer.old writer.new result }
     {
-        read_user(&asked, octets)?;
-        let command = station_command(&asked, octets.as_slice());
+        let count = read_user(&asked, octets)?;
+        let command = station_command(&asked, &octets[..count]);
         self.happen(Event::Command(end, command), writer)
     }
 
@@ -448,15 +448,15 @@ impl Stage {
             (line_turn cfg tap (command end (send message.entry.channel message.entry.q message.entry.user))) }
         ensures faults { MarksFaults W.Sink writer.old writer.new result }
     {
-        let count = message.user.len();
-        if let Some(error) = self.world.message_refusal(end, message.channel, count) {
+        let asked = message.user.len();
+        if let Some(error) = self.world.message_refusal(end, message.channel, asked) {
             return self.refuse(error, writer);
         }
-        read_octets(&message.user, octets)?;
+        let count = read_octets(&message.user, octets)?;
         let sent = Cmd::Send {
             channel: message.channel,
             q: message.q,
-            user: octets.as_slice(),
+            user: &octets[..count],
         };
         self.happen(Event::Command(end, sent), writer)
     }
@@ -483,8 +483,8 @@ impl Stage {
                 place,
                 octets: digits,
             } => {
-                read_octets(&digits, octets)?;
-                let damage = Event::Damage(away_from(from), usize::from(place), octets.as_slice());
+                let count = read_octets(&digits, octets)?;
+                let damage = Event::Damage(away_from(from), usize::from(place), &octets[..count]);
                 self.happen(damage, writer)
             }
             ScriptLine::Drain { count } => self.deliver_most(count, writer),

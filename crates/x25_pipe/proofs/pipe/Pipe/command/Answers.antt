@@ -7,8 +7,8 @@ use Rattle.x25_pipe.specs.Pipe.{event_turn}
 use Rattle.x25_pipe.specs.code.Stands.{Stood}
 use Rattle.x25_pipe.proofs.pipe.Pipe.command.Goals as goal
 
-pub returns-in_err-read_user-clause-turns : goal.returns-in_err-read_user-clause-turns
-returns-in_err-read_user-clause-turns g c = λ k old s told refused h.
+pub returns-in_err-count-clause-turns : goal.returns-in_err-count-clause-turns
+returns-in_err-count-clause-turns g c = λ k old s told refused h.
     let p = err_from_is_err_and c.from_residual.result c.from_residual.ensures.1 in
     rw p.1 (told_more _ _ _ told _ h.tells)
 
