@@ -357,8 +357,10 @@ impl World {
             IfSome result (λ e. refusal_of (happens cfg w (record { at = at; act = Commands (Requests (Asks channel (Sends q user))) })) ≡ Some e) }
     {
         match self.station(at).message_refusal(channel, count) {
-            Some(error) => Some(WorldError::of_station(error)),
-            None => None,
+            Some(StationError::Layer(error)) => Some(WorldError::Station(StationError::Layer(
+                error,
+            ))),
+            _ => None,
         }
     }
 
