@@ -1,6 +1,5 @@
 #!/usr/bin/env python3
-"""Times octets of a synchronous line (`bench/line.rt.txt`): through `put_octets`, `feed_octets` and `feed_next_octets`,
-and as `Bits` through `feed`.
+"""Times octets of a synchronous line (`bench/line.rt.txt`): through `put_octets` and `feed_next_octets`.
 
     line.py [REPOSITORY]
 
@@ -44,7 +43,7 @@ for kind, numbers in (("random", (4, 130, 1030)), ("text", (4, 130, 1030)), ("fl
     for number in numbers:
         what = {"flags": f"flags {number} bits on", "ones": "1 bits"}.get(kind, f"frames of {number} {kind} octets")
         shown = []
-        for call in ("feed", "next") if kind in ("flags", "ones") else ("put", "feed", "next", "bits"):
+        for call in ("next",) if kind in ("flags", "ones") else ("put", "next"):
             megaoctets, found = speed(call, kind, number)
             shown.append(f"{call} {megaoctets:.1f} MB/s" + (f" ({found} spans)" if call != "put" else ""))
         print(f"{what}: " + ", ".join(shown), flush=True)

@@ -44,7 +44,7 @@ pub fn deframe<R: Source, W: Sink>(
     ensures write { IsErrOf result Fault.Write → W.is_marked writer.new ≡ true }
 {
     let mut piece = vec![in alloc; 0u8; PIECE]?;
-    let deframer = Deframer::with_buffer(alloc)?;
+    let deframer = Deframer::new(alloc)?;
     let lines = SpanLines::new(alloc, from)?;
     let finder = Finder::new(deframer, lines);
     take_text(finder, piece.as_mut_slice(), reader, writer)

@@ -1,6 +1,5 @@
 //! Octets of a synchronous line, taken in any pieces.
 ghost use Rattle.std.specs.Prelude.{◌≡◌, true};
-ghost use Rattle.x25_bits.specs.code.Fits.{has_buffer};
 
 use crate::span_lines::SpanLines;
 use crate::spans::take_octets;
@@ -12,13 +11,11 @@ use x25_io::{Fault, PIECE, Sink, TextTaker};
 pub(crate) struct Finder {
     deframer: Deframer,
     lines: SpanLines,
-    ghost buffer: { has_buffer deframer ≡ true },
 }
 
 impl Finder {
     /// No bits have come.
     pub(crate) fn new(deframer: Deframer, lines: SpanLines) -> Finder
-        requires buffer { has_buffer deframer ≡ true }
         ensures deframer { result.deframer ≡ deframer }
         ensures lines { result.lines ≡ lines }
     {

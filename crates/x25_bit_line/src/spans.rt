@@ -1,7 +1,7 @@
 //! Octets of a synchronous line, span by span.
 ghost use Rattle.std.specs.Prelude.{◌≡◌, ◌*◌, ◌^◌, ◌<◌, ◌≤◌, ◌++◌, true, ℕ, Bool, List, Option, IfOk, OnOk, OnErr, MatchResult, length, take, drop};
 ghost use Rattle.x25_bits.specs.FrameCheck.{bits_of};
-ghost use Rattle.x25_bits.specs.code.Fits.{Fits, has_buffer};
+ghost use Rattle.x25_bits.specs.code.Fits.{Fits};
 ghost use Rattle.x25_bits.specs.code.Reading.{part};
 ghost use Rattle.x25_bits.specs.Found.{found_of};
 ghost use Rattle.x25_io.specs.code.Written.{AppendsPrefix};
@@ -23,8 +23,6 @@ fn take_span<W: Sink>(
 ) -> Result<usize, Failed>
     requires size { 8 * length octets.now < 2 ^ 64 }
     requires at { at < 8 * length octets.now }
-    requires buffer { has_buffer deframer.old ≡ true }
-    ensures buffer { has_buffer deframer.new ≡ true }
     ensures kept { OnOk result (W.is_marked writer.new ≡ W.is_marked writer.old) }
     ensures moves { IfOk result (λ place. at < place) }
     ensures high { IfOk result (λ place. place ≤ 8 * length octets.now) }
@@ -51,8 +49,6 @@ pub(crate) fn take_octets<W: Sink>(
     writer: &mut W,
 ) -> Result<(), Failed>
     requires size { 8 * length octets.now < 2 ^ 64 }
-    requires buffer { has_buffer deframer.old ≡ true }
-    ensures buffer { has_buffer deframer.new ≡ true }
     ensures kept { OnOk result (W.is_marked writer.new ≡ W.is_marked writer.old) }
     ensures reads { (old : Option (List ℕ)) (before : List Bool) → Reads lines.old.from old (W.contents writer.old) deframer.old lines.old.output before
         → MatchResult result (λ _. Reads lines.old.from old (W.contents writer.new) deframer.new lines.new.output (before ++ bits_of octets.now))

@@ -1,7 +1,8 @@
 -- Calls that read bits one after another find together what all of these bits do.
-use Rattle.std.proofs.Common.{ℕ, ◌+◌, ◌-◌, ◌≤◌, ◌≡◌, ◌∙◌, Bool, List, [], ◌∷◌, ◌++◌, length, drop, ap, sym, arith, append_assoc}
+use Rattle.std.proofs.Common.{ℕ, ◌+◌, ◌-◌, ◌≤◌, ◌≡◌, ◌∙◌, Bool, List, [], ◌∷◌, ◌++◌, length, drop, take, ap, sym, arith, append_assoc}
 use Rattle.std.specs.List.{flat_map}
 use Rattle.std.proofs.lemmas.List.{append-nil, drop_all, drop-drop, take-append-drop}
+use Rattle.std.proofs.Math.Seq.{take-add}
 use Rattle.x25_bits.specs.code.Calls.{Call, ReadToEnd, after_calls}
 use Rattle.x25_bits.specs.laws.Cuts.{found_more}
 use Rattle.x25_bits.specs.code.Held.{found_from, seen_of}
@@ -12,7 +13,7 @@ nothing_more : (before : List Bool) → found_more before [] ≡ []
 unfolding found_from
 nothing_more before = sym (found_all before [])
 
-more_of_both : (before a b : List Bool) → found_more before (a ++ b) ≡ found_more before a ++ found_more (before ++ a) b
+pub more_of_both : (before a b : List Bool) → found_more before (a ++ b) ≡ found_more before a ++ found_more (before ++ a) b
 more_of_both before a b =
     sym (found_all before (a ++ b)) ∙ found-append (seen_of before) a b
     ∙ ap (λ v. found_from (seen_of before) a ++ found_from v b) (seen_all before a)
@@ -27,6 +28,12 @@ rest_of at to bits h =
 
 none_left : (at : ℕ) (bits : List Bool) → at ≡ length bits → drop at bits ≡ []
 none_left at bits h = drop_all at bits (omega arith)
+
+-- the bits up to a place, and on to a later one
+pub taken_on : (at to : ℕ) (bits : List Bool) → at ≤ to → take to bits ≡ take at bits ++ part at to bits
+taken_on at to bits h =
+    let there : to ≡ at + (to - at) = omega arith in
+    ap (λ n. take n bits) there ∙ take-add at (to - at) bits
 
 pub calls_found : (before bits : List Bool) (at : ℕ) (calls : List Call) → ReadToEnd before bits at calls → flat_map (λ call. call.found) calls ≡ found_more before (drop at bits)
 unfolding ReadToEnd

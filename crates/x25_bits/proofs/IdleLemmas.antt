@@ -67,7 +67,7 @@ ones_find o a i k = refl
 -- ---- of the code
 
 idle_is : (d : Deframer) (j : ℕ) → d.scan.is_open ≡ true → d.scan.is_aborted ≡ false → d.scan.is_inserted ≡ false → d.scan.run ≡ j - 1
-    → d.kept.bits ≡ low_bits (min j 6) 126 → (v : Seen) → FitsSeen d v → v ≡ idle j
+    → d.kept ≡ low_bits (min j 6) 126 → (v : Seen) → FitsSeen d v → v ≡ idle j
 idle_is d j opened going plain run kept v f =
     let o : v.is_open ≡ true = sym f.is_open ∙ opened in
     let a : v.held.is_aborted ≡ false = sym (f.aborted o) ∙ going in
@@ -84,13 +84,13 @@ idle_is d j opened going plain run kept v f =
     ∙ ap (λ x. seen true (j - 1) false false x) k
 
 pub idles_seen : (d : Deframer) (j : ℕ) → j ≤ 7 → d.scan.is_open ≡ true → d.scan.is_aborted ≡ false → d.scan.is_inserted ≡ false → d.scan.run ≡ j - 1
-    → d.kept.bits ≡ low_bits (min j 6) 126 → (v : Seen) → FitsSeen d v → seen_from v (low_bits 8 (flags_at j)) ≡ v
+    → d.kept ≡ low_bits (min j 6) 126 → (v : Seen) → FitsSeen d v → seen_from v (low_bits 8 (flags_at j)) ≡ v
 idles_seen d j few opened going plain run kept v f =
     let same = idle_is d j opened going plain run kept v f in
     ap (λ w. seen_from w (low_bits 8 (flags_at j))) same ∙ idle_stays j few ∙ sym same
 
 pub idles_found : (d : Deframer) (j : ℕ) → j ≤ 7 → d.scan.is_open ≡ true → d.scan.is_aborted ≡ false → d.scan.is_inserted ≡ false → d.scan.run ≡ j - 1
-    → d.kept.bits ≡ low_bits (min j 6) 126 → (v : Seen) → FitsSeen d v → found_from v (low_bits 8 (flags_at j)) ≡ []
+    → d.kept ≡ low_bits (min j 6) 126 → (v : Seen) → FitsSeen d v → found_from v (low_bits 8 (flags_at j)) ≡ []
 idles_found d j few opened going plain run kept v f =
     ap (λ w. found_from w (low_bits 8 (flags_at j))) (idle_is d j opened going plain run kept v f) ∙ idle_finds j few
 

@@ -5,7 +5,6 @@ use Rattle.x25_bits.specs.laws.Cuts.{found_more as found_more_of}
 use Rattle.x25_bits.specs.code.Fits.{Fits}
 use Rattle.x25_bits.specs.code.FitsSeen.{FitsSeen}
 use Rattle.x25_bits.specs.code.Held.{Held, Seen, seen_of, ends, seen_next, seen_found, seen_from, found_from, closing}
-use Rattle.x25_bits.specs.code.Keeping.{Keeping}
 use Rattle.x25_bits.specs.code.Plain.{listed_span}
 use Rattle.x25_bits.specs.code.Reading.{part, Closes, Lends}
 use Rattle.x25_bits.specs.code.Shows.{Shows}
@@ -24,8 +23,8 @@ if_true b x y e = rw e refl
 if_false : (b : Bool) (x y : List Class) → b ≡ false → (if b then x else y) ≡ y
 if_false b x y e = rw e refl
 
-shows_seen : (d : Deframer) (v : Seen) (k : Keeping) → k ≡ d.kept → FitsSeen d v → v.is_open ≡ true → Shows d.scan k.bits v.held
-shows_seen d v k same fits o = record { aborted = fits.aborted o; inserted = fits.inserted o; kept = λ going. ap (λ (x : Keeping). x.bits) same ∙ fits.kept o going }
+shows_seen : (d : Deframer) (v : Seen) (k : List Bool) → k ≡ d.kept → FitsSeen d v → v.is_open ≡ true → Shows d.scan k v.held
+shows_seen d v k same fits o = record { aborted = fits.aborted o; inserted = fits.inserted o; kept = λ going. same ∙ fits.kept o going }
 
 -- what the span is that a flag closes
 abbrev pub closed_by : Seen → List Class
@@ -42,17 +41,17 @@ listed_some : (r : Option Span) → is_some r ≡ true → 0 < length (listed_sp
 listed_some None e = let bad : false ≡ true = e in cc
 listed_some (Some span) e = omega arith
 
-pub closes_none : (d : Deframer) (v : Seen) (k : Keeping) (r : Option Span) → k ≡ d.kept → FitsSeen d v → d.scan.is_open ≡ true
-    → ((h : Held) → Shows d.scan k.bits h → listed_span r ≡ closing h) → is_some r ≡ false → closed_by v ≡ []
+pub closes_none : (d : Deframer) (v : Seen) (k : List Bool) (r : Option Span) → k ≡ d.kept → FitsSeen d v → d.scan.is_open ≡ true
+    → ((h : Held) → Shows d.scan k h → listed_span r ≡ closing h) → is_some r ≡ false → closed_by v ≡ []
 closes_none d v k r same fits o is e =
     let open_now : v.is_open ≡ true = sym fits.is_open ∙ o in
     rw open_now (sym (is v.held (shows_seen d v k same fits open_now)) ∙ listed_none r e)
 
-pub closes_some : (d : Deframer) (v : Seen) (k : Keeping) (r : Option Span) → k ≡ d.kept → FitsSeen d v → d.scan.is_open ≡ true
-    → ((h : Held) → Shows d.scan k.bits h → listed_span r ≡ closing h) → is_some r ≡ true → Closes d.scan k.bits (closed_by v)
+pub closes_some : (d : Deframer) (v : Seen) (k : List Bool) (r : Option Span) → k ≡ d.kept → FitsSeen d v → d.scan.is_open ≡ true
+    → ((h : Held) → Shows d.scan k h → listed_span r ≡ closing h) → is_some r ≡ true → Closes d.scan k (closed_by v)
 closes_some d v k r same fits o is e =
     let open_now : v.is_open ≡ true = sym fits.is_open ∙ o in
-    let shows : Shows d.scan k.bits v.held = shows_seen d v k same fits open_now in
+    let shows : Shows d.scan k v.held = shows_seen d v k same fits open_now in
     record { held = v.held; shows = shows; found = rw open_now refl; some = rw open_now (subst (λ l. 0 < length l) (is v.held shows) (listed_some r e)) }
 
 -- whether the bit ends a flag, as the code has it

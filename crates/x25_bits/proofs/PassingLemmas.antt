@@ -121,34 +121,34 @@ pub content_found : (d : Deframer) (bits : List Bool) → passes d.scan.run bits
 content_found d bits quiet v f =
     found_passes v.is_open v.held.run v.held.is_aborted v.held.is_inserted v.held.kept bits (ap (λ r. passes r bits) (sym f.run) ∙ quiet)
 
-pub content_fits : (d e : Deframer) (n : ℕ) (is_inserted : Bool) (bits : List Bool) → d.scan.is_open ≡ true → d.scan.is_aborted ≡ false → length d.kept.bits < 32831 → length e.kept.bits ≤ 32831
+pub content_fits : (d e : Deframer) (n : ℕ) (is_inserted : Bool) (bits : List Bool) → d.scan.is_open ≡ true → d.scan.is_aborted ≡ false → length d.kept < 32831 → length e.kept ≤ 32831
     → PassesOn n is_inserted d.scan.run d.scan.is_inserted bits
     → e.scan.run ≡ n → e.scan.is_open ≡ d.scan.is_open → e.scan.is_aborted ≡ d.scan.is_aborted → e.scan.is_inserted ≡ is_inserted
-    → e.kept.bits ≡ d.kept.bits ++ kept_from d.scan.run bits
+    → e.kept ≡ d.kept ++ kept_from d.scan.run bits
     → (v : Seen) → FitsSeen d v → FitsSeen e (seen_from v bits)
 content_fits d e n is_inserted bits opens going less few h run is_open aborted inserted kept v f =
     let quiet : passes v.held.run bits ≡ true = ap (λ r. passes r bits) (sym f.run) ∙ h.quiet in
     let opened : v.is_open ≡ true = sym f.is_open ∙ opens in
     let on : v.held.is_aborted ≡ false = sym (f.aborted opened) ∙ going in
-    let behind : e.kept.bits ≡ d.kept.bits ++ kept_from v.held.run bits = kept ∙ ap (λ r. d.kept.bits ++ kept_from r bits) f.run in
-    let size : length e.kept.bits ≡ length d.kept.bits + length (kept_from v.held.run bits) = ap length behind ∙ length-append d.kept.bits (kept_from v.held.run bits) in
-    let room : length d.kept.bits + length (kept_from v.held.run bits) ≤ 32831 = omega arith in
+    let behind : e.kept ≡ d.kept ++ kept_from v.held.run bits = kept ∙ ap (λ r. d.kept ++ kept_from r bits) f.run in
+    let size : length e.kept ≡ length d.kept + length (kept_from v.held.run bits) = ap length behind ∙ length-append d.kept (kept_from v.held.run bits) in
+    let room : length d.kept + length (kept_from v.held.run bits) ≤ 32831 = omega arith in
     subst (FitsSeen e) (sym (seen_passes v.is_open v.held.run v.held.is_aborted v.held.is_inserted v.held.kept bits quiet)) (record {
       is_open = is_open ∙ f.is_open;
       run = run ∙ h.ones ∙ ap (λ r. ones_from r bits) f.run;
       aborted = λ a. aborted ∙ f.aborted a;
       inserted = λ a b. inserted ∙ h.inserted ∙ ap (λ r. inserted_after r d.scan.is_inserted bits) f.run ∙ ap (λ i. inserted_after v.held.run i bits) (f.inserted opened on);
-      kept = λ a b. kept_so 32831 d.kept.bits e.kept.bits v.held.kept (kept_from v.held.run bits) (f.kept opened on) less room behind;
+      kept = λ a b. kept_so 32831 d.kept e.kept v.held.kept (kept_from v.held.run bits) (f.kept opened on) less room behind;
     })
 
 pub passed_found : (d : Deframer) (p : Passed) (bits : List Bool) → Passes p d.scan.run d.scan.is_inserted bits → (v : Seen) → FitsSeen d v → found_from v bits ≡ []
 passed_found d p bits h v f =
     found_passes v.is_open v.held.run v.held.is_aborted v.held.is_inserted v.held.kept bits (ap (λ r. passes r bits) (sym f.run) ∙ h.quiet)
 
-pub passed_fits : (d e : Deframer) (p : Passed) (bits : List Bool) → d.scan.is_open ≡ true → d.scan.is_aborted ≡ false → length d.kept.bits ≤ 32823 → p.count ≤ 8
+pub passed_fits : (d e : Deframer) (p : Passed) (bits : List Bool) → d.scan.is_open ≡ true → d.scan.is_aborted ≡ false → length d.kept ≤ 32823 → p.count ≤ 8
     → Passes p d.scan.run d.scan.is_inserted bits
     → e.scan.run ≡ p.run → e.scan.is_open ≡ d.scan.is_open → e.scan.is_aborted ≡ d.scan.is_aborted → e.scan.is_inserted ≡ p.is_inserted
-    → e.kept.bits ≡ d.kept.bits ++ low_bits p.count p.kept
+    → e.kept ≡ d.kept ++ low_bits p.count p.kept
     → (v : Seen) → FitsSeen d v → FitsSeen e (seen_from v bits)
 passed_fits d e p bits opens going few count h run is_open aborted inserted kept v f =
     let quiet : passes v.held.run bits ≡ true = ap (λ r. passes r bits) (sym f.run) ∙ h.quiet in
@@ -156,15 +156,15 @@ passed_fits d e p bits opens going few count h run is_open aborted inserted kept
     let on : v.held.is_aborted ≡ false = sym (f.aborted opened) ∙ going in
     let more : low_bits p.count p.kept ≡ kept_from v.held.run bits = h.kept ∙ ap (λ r. kept_from r bits) f.run in
     let size : length (kept_from v.held.run bits) ≡ p.count = ap length (sym more) ∙ length-low_bits p.count p.kept in
-    let room : length d.kept.bits + length (kept_from v.held.run bits) ≤ 32831 = omega arith in
-    let less : length d.kept.bits < 32831 = omega arith in
+    let room : length d.kept + length (kept_from v.held.run bits) ≤ 32831 = omega arith in
+    let less : length d.kept < 32831 = omega arith in
     subst (FitsSeen e) (sym (seen_passes v.is_open v.held.run v.held.is_aborted v.held.is_inserted v.held.kept bits quiet)) (record {
       is_open = is_open ∙ f.is_open;
       run = run ∙ h.ones ∙ ap (λ r. ones_from r bits) f.run;
       aborted = λ a. aborted ∙ f.aborted a;
       inserted = λ a b. inserted ∙ h.inserted ∙ ap (λ r. inserted_after r d.scan.is_inserted bits) f.run ∙ ap (λ i. inserted_after v.held.run i bits) (f.inserted opened on);
-      kept = λ a b. kept_so 32831 d.kept.bits e.kept.bits v.held.kept (kept_from v.held.run bits) (f.kept opened on) less room
-          (kept ∙ ap (λ l. d.kept.bits ++ l) more);
+      kept = λ a b. kept_so 32831 d.kept e.kept v.held.kept (kept_from v.held.run bits) (f.kept opened on) less room
+          (kept ∙ ap (λ l. d.kept ++ l) more);
     })
 
 -- ---- octet behind octet

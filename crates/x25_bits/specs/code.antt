@@ -1,7 +1,6 @@
 -- What the code's values stand for: contracts and proofs need it, and a reader of the claims doesn't.
 pub mod Plain
 pub mod Held
-pub mod Keeping
 pub mod Shows
 pub mod FitsSeen
 pub mod Skips

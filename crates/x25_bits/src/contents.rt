@@ -1,21 +1,15 @@
 //! Whole octets of a content, one after another, up to one in which a flag ends or a seventh 1 bit comes.
-ghost use Rattle.std.specs.Prelude.{◌≡◌, ◌+◌, ◌-◌, ◌*◌, ◌<◌, ◌≤◌, ◌++◌, [], true, false, length, take, IfOk};
+ghost use Rattle.std.specs.Prelude.{◌≡◌, ◌+◌, ◌-◌, ◌*◌, ◌<◌, ◌≤◌, ◌++◌, [], true, false, length, take};
 ghost use Rattle.x25_bits.specs.FrameCheck.{bits_of};
 ghost use Rattle.x25_bits.specs.Passing.{PassesOn, kept_from};
-ghost use Rattle.x25_bits.specs.code.Prefix.{IsPrefix};
-ghost use Rattle.x25_bits.specs.code.Fits.{has_buffer};
 ghost use Rattle.x25_bits.specs.code.FitsSeen.{FitsSeen};
 ghost use Rattle.x25_bits.specs.code.Held.{Seen, seen_from, found_from};
 ghost use Rattle.x25_bits.specs.code.Reading.{part};
 
 use crate::bits::write_octet;
 use crate::deframer::{Deframer, HELD};
-use crate::no_memory::NoMemory;
 use crate::passing::pass_octet;
 use crate::scan::Scan;
-
-/// The most octets that are taken at once: memory for them is made before.
-const PIECE: usize = 256;
 
 /// What whole octets leave.
 #[derive(Clone, Copy, Debug)]
@@ -110,7 +104,7 @@ fn room_until(at: usize, end: usize, size: usize) -> usize
     ensures high { result ≤ end }
     ensures few { size + 8 * (result - at) ≤ 32831 }
 {
-    let most = usize::min((HELD - size) / 8, PIECE);
+    let most = (HELD - size) / 8;
     if end - at < most { end } else { at + most }
 }
 
@@ -120,45 +114,16 @@ impl Deframer {
     fn is_in_content(&self) -> bool
         ensures opened { result ≡ true → self.now.scan.is_open ≡ true }
         ensures going { result ≡ true → self.now.scan.is_aborted ≡ false }
-        ensures room { result ≡ true → length self.now.kept.bits ≤ 32823 }
+        ensures room { result ≡ true → length self.now.kept ≤ 32823 }
     {
         self.scan.is_open && !self.scan.is_aborted && self.kept.len() <= HELD - 8
     }
 
-    /// Takes whole octets of a content from the place `at` on, none from `end` on. Answers the place behind them. Error 70
-    /// where there is no memory for them.
-    pub(crate) fn take_content(
-        &mut self,
-        octets: &[u8],
-        at: usize,
-        end: usize,
-    ) -> Result<usize, NoMemory>
-        requires at { at ≤ end }
-        requires end { end ≤ length octets.now }
-        ensures low { IfOk result (λ place. at ≤ place) }
-        ensures high { IfOk result (λ place. place ≤ end) }
-        ensures fits { IfOk result (λ place. (v : Seen) → FitsSeen self.old v → FitsSeen self.new (seen_from v (part (8 * at) (8 * place) (bits_of octets.now)))) }
-        ensures found { IfOk result (λ place. (v : Seen) → FitsSeen self.old v → found_from v (part (8 * at) (8 * place) (bits_of octets.now)) ≡ []) }
-        ensures begins { IsPrefix self.old.kept.bits self.new.kept.bits }
-        ensures roomy { self.new.kept.is_roomy ≡ self.old.kept.is_roomy }
-        ensures alloc { self.new.alloc ≡ self.old.alloc }
-        ensures last { self.new.last ≡ self.old.last }
-    {
-        if !self.is_in_content() {
-            return Ok(at);
-        }
-        let until = room_until(at, end, self.kept.len());
-        let taken = self.kept.take_whole(octets, at, until, self.scan)?;
-        self.scan = self.scan.behind_octets(taken);
-        Ok(taken.end)
-    }
-
-    /// The same by places of bits, in memory that was set aside. It is `at` where no octet begins there.
-    pub(crate) fn take_content_within(&mut self, octets: &[u8], at: usize, end: usize) -> usize
+    /// Takes whole octets of a content, by places of bits, from `at` on, none from `end` on. Answers the place behind them. It
+    /// is `at` where no octet begins there.
+    pub(crate) fn take_content(&mut self, octets: &[u8], at: usize, end: usize) -> usize
         requires at { at ≤ end }
         requires end { end ≤ 8 * length octets.now }
-        requires buffer { has_buffer self.old ≡ true }
-        ensures buffer { has_buffer self.new ≡ true }
         ensures low { at ≤ result }
         ensures high { result ≤ end }
         ensures fits { (v : Seen) → FitsSeen self.old v → FitsSeen self.new (seen_from v (part at result (bits_of octets.now))) }
@@ -171,9 +136,7 @@ impl Deframer {
             return at;
         }
         let until = room_until(at / 8, end / 8, self.kept.len());
-        let taken = self
-            .kept
-            .take_whole_within(octets, at / 8, until, self.scan);
+        let taken = self.kept.take_whole(octets, at / 8, until, self.scan);
         self.scan = self.scan.behind_octets(taken);
         8 * taken.end
     }

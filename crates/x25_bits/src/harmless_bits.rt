@@ -1,8 +1,11 @@
 //! Bits in the place of those between the flags of a frame, and what comes of them (profile).
-ghost use Rattle.std.specs.Prelude.{◌≡◌, ◌↔◌, IsTrue, IfOk, not};
+ghost use Rattle.std.specs.Prelude.{◌≡◌, ◌↔◌, ◌<◌, ◌≤◌, ◌++◌, Bool, List, IsTrue, IfOk, OnOk, length, not};
 ghost use Rattle.std.specs.List.{list_all};
 ghost use Rattle.x25_bits.specs.HarmlessBits.{between_flags, IsHarmless, is_sealed_content, first_content};
+ghost use Rattle.x25_bits.specs.code.Fits.{Fits};
 ghost use Rattle.x25_bits.specs.code.Plain.{plain, plains};
+ghost use Rattle.x25_bits.specs.code.Reading.{part};
+ghost use Rattle.x25_bits.specs.laws.Cuts.{found_more};
 ghost use Rattle.x25_bits.specs.Found.{found_of};
 
 use crate::bits::Bits;
@@ -50,12 +53,47 @@ fn found_between_flags(bits: &Bits) -> Result<Vec<Found>, NoMemory>
 {
     let mut ends = Bits::new(bits.alloc());
     put_flag(&mut ends)?;
-    let mut deframer = Deframer::new(bits.alloc());
+    let mut deframer = Deframer::new(bits.alloc())?;
     let mut found = Vec::new(bits.alloc());
-    deframer.feed(&ends, &mut found)?;
-    deframer.feed(bits, &mut found)?;
-    deframer.feed(&ends, &mut found)?;
+    find(&mut deframer, &ends, &mut found)?;
+    find(&mut deframer, bits, &mut found)?;
+    find(&mut deframer, &ends, &mut found)?;
     Ok(found)
+}
+
+/// Appends what is found in more bits.
+fn find(deframer: &mut Deframer, bits: &Bits, found: &mut Vec<Found>) -> Result<(), NoMemory>
+    ensures fits { OnOk result ((before : List Bool) → Fits deframer.old before → Fits deframer.new (before ++ bits.now)) }
+    ensures found { OnOk result ((before : List Bool) → Fits deframer.old before
+        → plains found.new.items ≡ plains found.old.items ++ found_more before bits.now) }
+{
+    let mut at = 0;
+    while at < bits.len() {
+        at = find_next(deframer, bits, at, found)?;
+    }
+    Ok(())
+}
+
+/// Appends what is found next from a place on, and answers the place behind it.
+fn find_next(
+    deframer: &mut Deframer,
+    bits: &Bits,
+    at: usize,
+    found: &mut Vec<Found>,
+) -> Result<usize, NoMemory>
+    requires { at < length bits.now }
+    ensures moves { IfOk result (λ place. at < place) }
+    ensures high { IfOk result (λ place. place ≤ length bits.now) }
+    ensures fits { (before : List Bool) → Fits deframer.old before
+        → IfOk result (λ place. Fits deframer.new (before ++ part at place bits.now)) }
+    ensures found { (before : List Bool) → Fits deframer.old before
+        → IfOk result (λ place. plains found.new.items ≡ plains found.old.items ++ found_more before (part at place bits.now)) }
+{
+    let (place, span) = deframer.feed_next(bits, at);
+    if let Some(span) = span {
+        found.push(span.copied(bits.alloc())?)?;
+    }
+    Ok(place)
 }
 
 /// Whether none of these is a content that passes `check`.

@@ -24,7 +24,7 @@ impl Deframer {
         ensures going { OnSome result (self.now.scan.is_aborted ≡ false) }
         ensures plain { OnSome result (self.now.scan.is_inserted ≡ false) }
         ensures run { IfSome result (λ count. self.now.scan.run ≡ count - 1) }
-        ensures kept { IfSome result (λ count. self.now.kept.bits ≡ low_bits (min count 6) 126) }
+        ensures kept { IfSome result (λ count. self.now.kept ≡ low_bits (min count 6) 126) }
     {
         if self.kept.len() > KEPT {
             return None;

@@ -19,7 +19,7 @@ pub fn cuts_agree()
 {}
 
 /// Calls of `feed_next`, or of `feed_next_octets`, each from where the one before it stopped and until the bits end, find
-/// together, in order, what `feed` finds in these bits, and the deframer then holds what it does behind `feed`.
+/// together, in order, what these bits close, and the deframer then holds what it does of all the bits so far.
 pub fn calls_find_all()
     ensures found { (before bits : List Bool) (at : ℕ) (calls : List Call) → ReadToEnd before bits at calls → flat_map (λ call. call.found) calls ≡ found_more before (drop at bits) }
     ensures read { (before bits : List Bool) (at : ℕ) (calls : List Call) → ReadToEnd before bits at calls → after_calls before bits at calls ≡ before ++ drop at bits }

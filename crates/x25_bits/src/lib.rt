@@ -13,7 +13,6 @@ mod harmless_bits;
 mod idling;
 mod kept;
 mod laws;
-mod lending;
 mod line_octets;
 mod no_memory;
 mod octet_table;

@@ -1,12 +1,9 @@
 //! Bits in which no flag ends and no seventh 1 bit comes: what an octet's leave is looked up.
-ghost use Rattle.std.specs.Prelude.{Bool, ◌≡◌, ◌<◌, ◌≤◌, ◌^◌, ◌++◌, ◌+◌, ◌*◌, ◌/◌, ◌==◌, if◌then◌else◌, true, length, IfSome, OnOk};
-ghost use Rattle.x25_bits.specs.code.Prefix.{IsPrefix};
+ghost use Rattle.std.specs.Prelude.{Bool, ◌≡◌, ◌<◌, ◌≤◌, ◌^◌, ◌++◌, ◌+◌, ◌*◌, ◌/◌, ◌==◌, if◌then◌else◌, length, IfSome};
 ghost use Rattle.x25_bits.specs.FrameCheck.{low_bits};
-ghost use Rattle.x25_bits.specs.code.Fits.{has_buffer};
 ghost use Rattle.x25_bits.specs.Passing.{Passes};
 
 use crate::deframer::Deframer;
-use crate::no_memory::NoMemory;
 use crate::octet_table::{ENTRIES, SPECIAL};
 
 /// The most 1 bits before an octet that is looked up. Behind six of them no bit passes.
@@ -49,38 +46,17 @@ pub fn pass_octet(run: u8, octet: u8) -> Option<Passed>
 
 impl Deframer {
     /// Keeps what these bits leave.
-    pub(crate) fn keep_passed(&mut self, passed: Passed) -> Result<(), NoMemory>
-        requires size { passed.count ≤ 8 }
-        requires room { length self.old.kept.bits ≤ 32823 }
-        ensures kept { OnOk result (self.new.kept.bits ≡ self.old.kept.bits ++ low_bits passed.count passed.kept) }
-        ensures run { OnOk result (self.new.scan.run ≡ passed.run) }
-        ensures opened { OnOk result (self.new.scan.is_open ≡ self.old.scan.is_open) }
-        ensures aborted { OnOk result (self.new.scan.is_aborted ≡ self.old.scan.is_aborted) }
-        ensures inserted { OnOk result (self.new.scan.is_inserted ≡ passed.is_inserted) }
-        ensures begins { IsPrefix self.old.kept.bits self.new.kept.bits }
-        ensures roomy { self.new.kept.is_roomy ≡ self.old.kept.is_roomy }
-        ensures alloc { self.new.alloc ≡ self.old.alloc }
-        ensures last { self.new.last ≡ self.old.last }
-    {
-        self.kept.append(passed.kept, passed.count)?;
-        self.scan = self.scan.behind(passed);
-        Ok(())
-    }
-
-    /// Keeps what these bits leave.
     #[inline]
-    pub(crate) fn keep_passed_within(&mut self, passed: Passed)
-        requires buffer { has_buffer self.old ≡ true }
+    pub(crate) fn keep_passed(&mut self, passed: Passed)
         requires size { passed.count ≤ 8 }
-        requires room { length self.old.kept.bits ≤ 32823 }
-        ensures buffer { has_buffer self.new ≡ true }
-        ensures kept { self.new.kept.bits ≡ self.old.kept.bits ++ low_bits passed.count passed.kept }
+        requires room { length self.old.kept ≤ 32823 }
+        ensures kept { self.new.kept ≡ self.old.kept ++ low_bits passed.count passed.kept }
         ensures run { self.new.scan.run ≡ passed.run }
         ensures opened { self.new.scan.is_open ≡ self.old.scan.is_open }
         ensures aborted { self.new.scan.is_aborted ≡ self.old.scan.is_aborted }
         ensures inserted { self.new.scan.is_inserted ≡ passed.is_inserted }
     {
-        self.kept.append_within(passed.kept, passed.count);
+        self.kept.append(passed.kept, passed.count);
         self.scan = self.scan.behind(passed);
     }
 }

@@ -1,7 +1,6 @@
 //! Some bits of one octet of which nothing is kept: a flag but its last 0 outside of a content, and seven 1 bits behind a flag.
 ghost use Rattle.std.specs.Prelude.{◌≡◌, ◌+◌, ◌*◌, ◌%◌, ◌/◌, ◌<◌, ◌≤◌, [], true, false, length, IfSome};
 ghost use Rattle.x25_bits.specs.FrameCheck.{bits_of};
-ghost use Rattle.x25_bits.specs.code.Fits.{has_buffer};
 ghost use Rattle.x25_bits.specs.code.FitsSeen.{FitsSeen};
 ghost use Rattle.x25_bits.specs.code.Held.{Seen, seen_from, found_from};
 ghost use Rattle.x25_bits.specs.code.Reading.{part};
@@ -121,8 +120,6 @@ impl Deframer {
         ensures scan { self.new.scan ≡ scan }
         ensures kept { self.new.kept ≡ self.old.kept }
         ensures last { self.new.last ≡ self.old.last }
-        ensures alloc { self.new.alloc ≡ self.old.alloc }
-        ensures buffer { has_buffer self.new ≡ has_buffer self.old }
     {
         self.scan = scan;
     }

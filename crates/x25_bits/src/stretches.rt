@@ -116,7 +116,7 @@ impl Deframer {
         ensures size { IfSome result (λ s. s.passed.count ≤ 8) }
         ensures opened { OnSome result (self.now.scan.is_open ≡ true) }
         ensures going { OnSome result (self.now.scan.is_aborted ≡ false) }
-        ensures room { OnSome result (length self.now.kept.bits ≤ 32823) }
+        ensures room { OnSome result (length self.now.kept ≤ 32823) }
         ensures low { IfSome result (λ s. place < s.end) }
         ensures high { IfSome result (λ s. s.end ≤ end) }
     {

@@ -1,6 +1,6 @@
 //! Idle lines: flags one after another, from each place of an octet on, and 1 bits.
-use crate::lent_spans::take_lent;
-use crate::spans::{FLAG, SABM, bits_of, found_in};
+use crate::octets_of_a_line::find_in_octets;
+use crate::spans::{FLAG, SABM, bits_of, find, found_in};
 use std::alloc::Global;
 use std::test::Fail;
 use x25_bits::{Bits, Deframer, Found, NoMemory, put};
@@ -47,7 +47,7 @@ fn contents_of(found: &[Found]) -> usize {
     count
 }
 
-/// What is found bit by bit is found in each cut, as a whole, and by calls that lend.
+/// What is found bit by bit is found in each cut, and as a whole.
 #[test]
 fn finds_the_same_on_an_idle_line(rt: HostRuntime) -> Result<(), Fail> {
     let line = idle_lines(rt.alloc())?;
@@ -57,10 +57,6 @@ fn finds_the_same_on_an_idle_line(rt: HostRuntime) -> Result<(), Fail> {
         let found = found_in(rt.alloc(), &line, size, size)?;
         assert!(rt; found == wanted, "by {size}");
     }
-    let mut deframer = Deframer::with_buffer(rt.alloc())?;
-    let mut found = Vec::new(rt.alloc());
-    take_lent(rt.alloc(), &mut deframer, &line, &mut found)?;
-    assert!(rt; found == wanted);
     Ok(())
 }
 
@@ -69,13 +65,13 @@ fn finds_the_same_on_an_idle_line(rt: HostRuntime) -> Result<(), Fail> {
 fn passes_over_idle_octets(rt: HostRuntime) -> Result<(), Fail> {
     for octet in [0x7E, 0x3F, 0x9F, 0xCF, 0xE7, 0xF3, 0xF9, 0xFC, 0xFFu8] {
         let idle = vec![in rt.alloc(); octet; 3000]?;
-        let mut deframer = Deframer::new(rt.alloc());
+        let mut deframer = Deframer::new(rt.alloc())?;
         let mut found = Vec::new(rt.alloc());
-        deframer.feed_octets(idle.as_slice(), &mut found)?;
+        find_in_octets(rt.alloc(), &mut deframer, idle.as_slice(), &mut found)?;
         assert!(rt; found.is_empty(), "{octet}");
         let mut line = Bits::new(rt.alloc());
         put(&SABM, &mut line)?;
-        deframer.feed(&line, &mut found)?;
+        find(rt.alloc(), &mut deframer, &line, &mut found)?;
         assert_eq!(rt; contents_of(found.as_slice()), 1);
     }
     Ok(())

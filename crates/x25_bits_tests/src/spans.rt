@@ -34,7 +34,28 @@ pub fn part_of(alloc: Global, bits: &Bits, from: usize, to: usize) -> Result<Bit
     Ok(part)
 }
 
-/// What is found in the bits, fed in pieces of so many bits behind a first piece of `first` bits.
+/// Appends copies of what calls lend of these bits until they end.
+pub fn find(
+    alloc: Global,
+    deframer: &mut Deframer,
+    bits: &Bits,
+    found: &mut Vec<Found>,
+) -> Result<(), NoMemory> {
+    let mut at = 0usize;
+    for _ in 0..bits.len() {
+        if at >= bits.len() {
+            return Ok(());
+        }
+        let (place, span) = deframer.feed_next(bits, at);
+        if let Some(span) = span {
+            found.push(span.copied(alloc)?)?;
+        }
+        at = place;
+    }
+    Ok(())
+}
+
+/// What is found in the bits, read in pieces of so many bits behind a first piece of `first` bits.
 pub fn found_in(
     alloc: Global,
     bits: &Bits,
@@ -42,7 +63,7 @@ pub fn found_in(
     size: usize,
 ) -> Result<Vec<Found>, NoMemory> {
     let mut found = Vec::new(alloc);
-    let mut deframer = Deframer::new(alloc);
+    let mut deframer = Deframer::new(alloc)?;
     let mut from = 0usize;
     for _ in 0..bits.len() {
         if from >= bits.len() {
@@ -50,7 +71,8 @@ pub fn found_in(
         }
         let most = if from == 0 { first } else { size };
         let to = usize::min(from.saturating_add(most), bits.len());
-        deframer.feed(&part_of(alloc, bits, from, to)?, &mut found)?;
+        let part = part_of(alloc, bits, from, to)?;
+        find(alloc, &mut deframer, &part, &mut found)?;
         from = to;
     }
     Ok(found)
@@ -59,9 +81,10 @@ pub fn found_in(
 /// What is found in the bits of these texts, each a piece of its own.
 pub fn found_in_pieces(alloc: Global, texts: &[&str]) -> Result<Vec<Found>, NoMemory> {
     let mut found = Vec::new(alloc);
-    let mut deframer = Deframer::new(alloc);
+    let mut deframer = Deframer::new(alloc)?;
     for text in texts {
-        deframer.feed(&bits_of(alloc, &[text])?, &mut found)?;
+        let bits = bits_of(alloc, &[text])?;
+        find(alloc, &mut deframer, &bits, &mut found)?;
     }
     Ok(found)
 }

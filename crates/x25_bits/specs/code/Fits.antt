@@ -1,5 +1,5 @@
 -- What a deframer holds of the bits so far. Profile.
-use Rattle.std.specs.Prelude.{ℕ, ◌≡◌, ◌+◌, ◌==◌, ◌&&◌, Bool, true, false, Option, Some, None, List, [], ◌∷◌, drop, length, take}
+use Rattle.std.specs.Prelude.{ℕ, ◌≡◌, ◌+◌, ◌==◌, Bool, true, false, Option, Some, None, List, [], ◌∷◌, drop, take}
 use Rattle.x25_bits.specs.Deframer.{flag_places}
 use Rattle.x25_bits.specs.Stuffing.{unstuff}
 use Rattle.x25_bits.specs.Found.{seven_from}
@@ -33,19 +33,11 @@ pub record HoldsSpan (d : Deframer) (span : List Bool) : Type 0 where
   pub is_open : d.scan.is_open ≡ true
   pub aborted : d.scan.is_aborted ≡ seven_from 0 span
   pub inserted : seven_from 0 span ≡ false → d.scan.is_inserted ≡ inserted_from 0 false span
-  pub kept : seven_from 0 span ≡ false → d.kept.bits ≡ take 32831 (unstuff span)
+  pub kept : seven_from 0 span ≡ false → d.kept ≡ take 32831 (unstuff span)
 
 abbrev pub HoldsOpen : Deframer → Option (List Bool) → Type 0
 HoldsOpen d None = d.scan.is_open ≡ false
 HoldsOpen d (Some span) = HoldsSpan d span
-
--- how many bits a deframer holds
-abbrev pub count_held : Deframer → ℕ
-count_held d = length d.kept.bits
-
--- it has memory for all that it ever holds, and for a content that it lends
-abbrev pub has_buffer : Deframer → Bool
-has_buffer d = d.kept.is_roomy && d.last.is_roomy
 
 -- The deframer holds all that the classes of the spans still to be closed need of these bits: the 1 bits at the end
 -- (seven where no 0 has come), and what the open span needs.

@@ -10,4 +10,4 @@ pub record FitsSeen (d : Deframer) (v : Seen) : Type 0 where
   pub run : d.scan.run ≡ v.held.run
   pub aborted : v.is_open ≡ true → d.scan.is_aborted ≡ v.held.is_aborted
   pub inserted : v.is_open ≡ true → v.held.is_aborted ≡ false → d.scan.is_inserted ≡ v.held.is_inserted
-  pub kept : v.is_open ≡ true → v.held.is_aborted ≡ false → d.kept.bits ≡ take 32831 v.held.kept
+  pub kept : v.is_open ≡ true → v.held.is_aborted ≡ false → d.kept ≡ take 32831 v.held.kept

@@ -1,11 +1,11 @@
 -- Bits that are read from place to place, and the spans that are lent of them. Profile.
-use Rattle.std.specs.Prelude.{ℕ, ◌≡◌, ◌-◌, ◌<◌, ◌≤◌, ◌++◌, ⊤, Bool, true, Option, Some, None, List, [], length, take, drop}
+use Rattle.std.specs.Prelude.{ℕ, ◌≡◌, ◌-◌, ◌<◌, ◌≤◌, ◌++◌, ⊤, Bool, Option, Some, None, List, [], length, take, drop}
 use Rattle.std.specs.Borrow.{Fml, MutBor, follows_so}
 use mathlib.Core.Option.{none}
 use Rattle.x25_bits.specs.Found.{Class}
 use Rattle.x25_bits.specs.code.Held.{Held, closing}
 use Rattle.x25_bits.specs.code.Shows.{Shows}
-use Rattle.x25_bits.specs.code.Fits.{Fits, count_held, has_buffer}
+use Rattle.x25_bits.specs.code.Fits.{Fits}
 use Rattle.x25_bits.specs.declared.scan.Scan.{Scan}
 use Rattle.x25_bits.specs.declared.deframer.Deframer as code
 use Rattle.x25_bits.specs.contracts.deframer.Deframer.{the_row}
@@ -29,6 +29,5 @@ Lends (Some scan) bits classes = Closes scan bits classes
 -- once the span that it lends has been given back, the deframer fits the bits read as well
 abbrev pub EndsRead : MutBor code.Deframer → List Bool → ℕ → ℕ → Fml
 EndsRead s bits at place = follows_so the_row the_row s.ghost_name none (λ _ _. ⊤)
-    (λ n. (has_buffer n ≡ true)
-    × (count_held n ≤ 32831)
+    (λ n. (length n.kept ≤ 32831)
     × ((before : List Bool) → Fits s.now before → Fits n (before ++ part at place bits)))

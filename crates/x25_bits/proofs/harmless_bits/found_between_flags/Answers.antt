@@ -8,10 +8,10 @@ pub returns : goal.returns
 returns c =
     let ends = c.put_flag.new.bits in
     let bits = c.args.bits.now in
-    let begun = c.in_ok-feed.ensures.fits [] c.new-deframer.ensures in
-    let grown = c.in_ok-feed-2.ensures.fits ends begun in
-    found_thrice ends bits (plains c.new-found.result.items) (plains c.feed.new.out.items) (plains c.feed-2.new.out.items) (plains c.feed-3.new.out.items) (c.in_ok-put_flag.ensures.ok ∙ ap (λ (l : List Bool). l ++ flag) c.new-ends.ensures)
+    let begun = c.in_ok-find.ensures.fits [] c.in_ok-deframer.ensures in
+    let grown = c.in_ok-find-2.ensures.fits ends begun in
+    found_thrice ends bits (plains c.new-found.result.items) (plains c.find.new.found.items) (plains c.find-2.new.found.items) (plains c.find-3.new.found.items) (c.in_ok-put_flag.ensures.ok ∙ ap (λ (l : List Bool). l ++ flag) c.new-ends.ensures)
     (ap plains c.new-found.ensures.items)
-    (c.in_ok-feed.ensures.found [] c.new-deframer.ensures)
-    (c.in_ok-feed-2.ensures.found ends begun)
-    (c.in_ok-feed-3.ensures.found (ends ++ bits) grown)
+    (c.in_ok-find.ensures.found [] c.in_ok-deframer.ensures)
+    (c.in_ok-find-2.ensures.found ends begun)
+    (c.in_ok-find-3.ensures.found (ends ++ bits) grown)

@@ -3,11 +3,11 @@ use Rattle.x25_bits.specs.FrameCheck.{low_bits}
 use Rattle.x25_bits.proofs.FcsLemmas.{length-low_bits}
 use Rattle.x25_bits.proofs.deframer.Deframer.keep_passed.Goals as goal
 
-pub invariant_of-self-2 : goal.invariant_of-self-2
-invariant_of-self-2 c =
-    let kept = c.args.self.now.kept.bits in
+pub invariant_of-self : goal.invariant_of-self
+invariant_of-self c =
+    let kept = c.args.self.now.kept in
     let more = low_bits c.args.passed.count c.args.passed.kept in
     let count : length more ≡ c.args.passed.count = length-low_bits c.args.passed.count c.args.passed.kept in
-    let size : length c.append.new.self.bits ≡ length kept + length more = ap length c.in_ok-append.ensures.bits ∙ length-append kept more in
-    let few : length c.append.new.self.bits ≤ 32831 = omega (arith, c.requires.room, c.requires.size) in
+    let size : length c.append.new.self ≡ length kept + length more = ap length c.append.ensures ∙ length-append kept more in
+    let few : length c.append.new.self ≤ 32831 = omega (arith, c.requires.room, c.requires.size) in
     record { few = few }

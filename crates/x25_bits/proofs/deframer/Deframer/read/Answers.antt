@@ -12,26 +12,26 @@ use Rattle.x25_bits.proofs.SkippingLemmas.{skipped_fits}
 use Rattle.x25_bits.proofs.deframer.Deframer.read.Goals as goal
 
 pub loop-place-init : goal.loop-place-init
-loop-place-init c = record { low = omega arith; high = c.requires.at; buffer = c.requires.buffer; reads = reads_none c.args.self.now c.args.at (bits_of c.args.octets.now) }
+loop-place-init c = record { low = omega arith; high = c.requires.at; reads = reads_none c.args.self.now c.args.at (bits_of c.args.octets.now) }
 
 pub loop-place-preserved-then-behind-end : goal.loop-place-preserved-then-behind-end
 loop-place-preserved-then-behind-end c =
-    let content = c.take_content_within-behind.ensures in
-    let e = c.take_content_within-behind.new.self in
+    let content = c.take_content-behind.ensures in
+    let e = c.take_content-behind.new.self in
     let place = c.loop-place.place in
-    let behind = c.take_content_within-behind.result in
+    let behind = c.take_content-behind.result in
     let was : c.args.at ≤ place = c.loop-place.invariant.low in
     let on : place ≤ behind = content.low in
     let low : c.args.at ≤ behind = omega arith in
     let reads = reads_part c.args.self.now c.loop-place.self e c.args.at place behind (bits_of c.args.octets.now) c.loop-place.invariant.reads was on content.fits content.found in
-    record { low = low; high = content.high; buffer = content.buffer; reads = reads }
+    record { low = low; high = content.high; reads = reads }
 
 pub loop-place-preserved-in-Some : goal.loop-place-preserved-in-Some
 loop-place-preserved-in-Some c =
-    let content = c.take_content_within-behind.ensures in
-    let e = c.take_content_within-behind.new.self in
+    let content = c.take_content-behind.ensures in
+    let e = c.take_content-behind.new.self in
     let place = c.loop-place.place in
-    let behind = c.take_content_within-behind.result in
+    let behind = c.take_content-behind.result in
     let was : c.args.at ≤ place = c.loop-place.invariant.low in
     let on : place ≤ behind = content.low in
     let low : c.args.at ≤ behind = omega arith in
@@ -40,23 +40,22 @@ loop-place-preserved-in-Some c =
     let there = c.in-Some.ensures in
     let later : behind < stretch.end = there.low in
     let bits = part behind stretch.end (bits_of c.args.octets.now) in
-    let kept = c.keep_passed_within.ensures in
+    let kept = c.keep_passed.ensures in
     record {
       low = omega arith;
       high = there.high;
-      buffer = kept.buffer;
-      reads = reads_part c.args.self.now e c.keep_passed_within.new.self c.args.at behind stretch.end (bits_of c.args.octets.now) reads low (omega arith)
-          (passed_fits e c.keep_passed_within.new.self stretch.passed bits there.opened there.going there.room there.size there.passes
+      reads = reads_part c.args.self.now e c.keep_passed.new.self c.args.at behind stretch.end (bits_of c.args.octets.now) reads low (omega arith)
+          (passed_fits e c.keep_passed.new.self stretch.passed bits there.opened there.going there.room there.size there.passes
           kept.run kept.opened kept.aborted kept.inserted kept.kept)
           (passed_found e stretch.passed bits there.passes);
     }
 
 pub loop-place-preserved-in-Some-skip_at : goal.loop-place-preserved-in-Some-skip_at
 loop-place-preserved-in-Some-skip_at c =
-    let content = c.take_content_within-behind.ensures in
-    let e = c.take_content_within-behind.new.self in
+    let content = c.take_content-behind.ensures in
+    let e = c.take_content-behind.new.self in
     let place = c.loop-place.place in
-    let behind = c.take_content_within-behind.result in
+    let behind = c.take_content-behind.result in
     let was : c.args.at ≤ place = c.loop-place.invariant.low in
     let on : place ≤ behind = content.low in
     let low : c.args.at ≤ behind = omega arith in
@@ -68,7 +67,6 @@ loop-place-preserved-in-Some-skip_at c =
     record {
       low = omega arith;
       high = there.high;
-      buffer = c.skip.ensures.buffer ∙ content.buffer;
       reads = reads_part c.args.self.now e c.skip.new.self c.args.at behind skipped.end (bits_of c.args.octets.now) reads low (omega arith)
           (λ v f. skipped_fits c.skip.new.self (seen_from v bits) (subst (λ s. Skips s (seen_from v bits)) (sym c.skip.ensures.scan) (there.skips v f)))
           there.none;
@@ -76,10 +74,10 @@ loop-place-preserved-in-Some-skip_at c =
 
 pub loop-place-preserved-then-next-behind : goal.loop-place-preserved-then-next-behind
 loop-place-preserved-then-next-behind c =
-    let content = c.take_content_within-behind.ensures in
-    let e = c.take_content_within-behind.new.self in
+    let content = c.take_content-behind.ensures in
+    let e = c.take_content-behind.new.self in
     let place = c.loop-place.place in
-    let behind = c.take_content_within-behind.result in
+    let behind = c.take_content-behind.result in
     let was : c.args.at ≤ place = c.loop-place.invariant.low in
     let on : place ≤ behind = content.low in
     let low : c.args.at ≤ behind = omega arith in
@@ -88,7 +86,6 @@ loop-place-preserved-then-next-behind c =
     record {
       low = omega arith;
       high = c.idle_bits_until-next.ensures.high;
-      buffer = content.buffer;
       reads = reads_part c.args.self.now e e c.args.at behind c.idle_bits_until-next.result (bits_of c.args.octets.now) reads low next
           (λ v f. subst (FitsSeen e) (sym (c.idle_bits_until-next.ensures.seen v f)) f)
           c.idle_bits_until-next.ensures.found;
@@ -97,10 +94,10 @@ loop-place-preserved-then-next-behind c =
 pub loop-place-preserved : goal.loop-place-preserved
 loop-place-preserved c =
     let size = length-bits_of c.args.octets.now in
-    let content = c.take_content_within-behind.ensures in
-    let e = c.take_content_within-behind.new.self in
+    let content = c.take_content-behind.ensures in
+    let e = c.take_content-behind.new.self in
     let place = c.loop-place.place in
-    let behind = c.take_content_within-behind.result in
+    let behind = c.take_content-behind.result in
     let was : c.args.at ≤ place = c.loop-place.invariant.low in
     let on : place ≤ behind = content.low in
     let low : c.args.at ≤ behind = omega arith in
@@ -109,18 +106,17 @@ loop-place-preserved c =
     record {
       low = omega arith;
       high = omega arith;
-      buffer = c.step-closed.ensures.buffer;
-      reads = reads_more c.args.self.now e c.step-closed.new.self c.step-closed.result c.args.at behind (bits_of c.args.octets.now) c.step-closed.new.self.last.bits c.read_bit.result
+      reads = reads_more c.args.self.now e c.step-closed.new.self c.step-closed.result c.args.at behind (bits_of c.args.octets.now) c.step-closed.new.self.last c.read_bit.result
           reads (omega arith) (omega arith) c.read_bit.ensures c.step-closed.ensures.fits c.step-closed.ensures.found (sym c.is_some.ensures ∙ c.if-is_some.false);
     }
 
 pub returns-then-is_some-clause-fits : goal.returns-then-is_some-clause-fits
 returns-then-is_some-clause-fits c = λ before h.
     let size = length-bits_of c.args.octets.now in
-    let content = c.take_content_within-behind.ensures in
-    let e = c.take_content_within-behind.new.self in
+    let content = c.take_content-behind.ensures in
+    let e = c.take_content-behind.new.self in
     let place = c.loop-place.place in
-    let behind = c.take_content_within-behind.result in
+    let behind = c.take_content-behind.result in
     let was : c.args.at ≤ place = c.loop-place.invariant.low in
     let on : place ≤ behind = content.low in
     let low : c.args.at ≤ behind = omega arith in
@@ -132,24 +128,24 @@ returns-then-is_some-clause-fits c = λ before h.
 pub returns-then-is_some-clause-found : goal.returns-then-is_some-clause-found
 returns-then-is_some-clause-found c = λ before h.
     let size = length-bits_of c.args.octets.now in
-    let content = c.take_content_within-behind.ensures in
-    let e = c.take_content_within-behind.new.self in
+    let content = c.take_content-behind.ensures in
+    let e = c.take_content-behind.new.self in
     let place = c.loop-place.place in
-    let behind = c.take_content_within-behind.result in
+    let behind = c.take_content-behind.result in
     let was : c.args.at ≤ place = c.loop-place.invariant.low in
     let on : place ≤ behind = content.low in
     let low : c.args.at ≤ behind = omega arith in
     let reads = reads_part c.args.self.now c.loop-place.self e c.args.at place behind (bits_of c.args.octets.now) c.loop-place.invariant.reads was on content.fits content.found in
     let inside : behind < c.args.end = omega (arith, content.high, c.if-behind-end.false) in
-    all_lend c.args.self.now c.step-closed.result c.args.at (behind + 1) (bits_of c.args.octets.now) c.step-closed.new.self.last.bits before
-    (bit_lends c.args.self.now e c.step-closed.result c.args.at behind (bits_of c.args.octets.now) c.step-closed.new.self.last.bits c.read_bit.result reads (omega arith) (omega arith) c.read_bit.ensures c.step-closed.ensures.found) h
+    all_lend c.args.self.now c.step-closed.result c.args.at (behind + 1) (bits_of c.args.octets.now) c.step-closed.new.self.last before
+    (bit_lends c.args.self.now e c.step-closed.result c.args.at behind (bits_of c.args.octets.now) c.step-closed.new.self.last c.read_bit.result reads (omega arith) (omega arith) c.read_bit.ensures c.step-closed.ensures.found) h
 
 pub returns-then-is_some-clause-first : goal.returns-then-is_some-clause-first
 returns-then-is_some-clause-first c = λ before n h less.
-    let content = c.take_content_within-behind.ensures in
-    let e = c.take_content_within-behind.new.self in
+    let content = c.take_content-behind.ensures in
+    let e = c.take_content-behind.new.self in
     let place = c.loop-place.place in
-    let behind = c.take_content_within-behind.result in
+    let behind = c.take_content-behind.result in
     let was : c.args.at ≤ place = c.loop-place.invariant.low in
     let on : place ≤ behind = content.low in
     let low : c.args.at ≤ behind = omega arith in

@@ -1,6 +1,5 @@
 use Rattle.std.proofs.Common.{◌≡◌, ◌≤◌, ◌-◌, true}
 use Rattle.x25_bits.specs.FrameCheck.{bits_of}
-use Rattle.x25_bits.specs.code.Fits.{has_buffer}
 use Rattle.x25_bits.proofs.LendingLemmas.{Reads}
 use Rattle.x25_bits.proofs.deframer.Deframer.read.Given as goal
 
@@ -8,7 +7,6 @@ abbrev pub invariant-loop-place : goal.invariant-loop-place
 invariant-loop-place l = record {
   low : l.at ≤ l.place;
   high : l.place ≤ l.end;
-  buffer : has_buffer l.self ≡ true;
   reads : Reads l.initial.self l.at l.place (bits_of l.octets) l.self;
 }
 

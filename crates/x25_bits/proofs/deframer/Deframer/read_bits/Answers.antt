@@ -13,7 +13,7 @@ returns-clause-fits c = λ before h.
 
 pub returns-clause-found : goal.returns-clause-found
 returns-clause-found c = λ before h.
-    subst (λ l. Lends c.read.result.1 c.read.new.self.last.bits (found_more before l)) (part_same c.args.at c.read.result.0 (bits_of c.octets.result.now) c.args.bits.now c.requires.at (omega (arith, c.read.ensures.high)) c.octets.ensures.bits)
+    subst (λ l. Lends c.read.result.1 c.read.new.self.last (found_more before l)) (part_same c.args.at c.read.result.0 (bits_of c.octets.result.now) c.args.bits.now c.requires.at (omega (arith, c.read.ensures.high)) c.octets.ensures.bits)
     (c.read.ensures.found before h)
 
 pub returns-clause-first : goal.returns-clause-first
