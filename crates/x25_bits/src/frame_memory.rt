@@ -3,12 +3,12 @@ ghost use Rattle.std.specs.Prelude.{◌≡◌, ℕ, ◌+◌, ◌-◌, ◌<◌, �
 use std::alloc::{AllocError, Global};
 use std::marker::Model;
 
-// Memory for one frame of at most ROOM octets.
+// Memory for ROOM octets, so for one frame of at most as many.
 #[derive(Drop)]
 struct Blank<const ROOM: usize> {
     octets: Vec<u8>,
     ghost empty: { octets.items ≡ [] },
-    ghost room: { ROOM ≤ vec_capacity octets },
+    ghost room: { vec_capacity octets ≡ ROOM },
 }
 
 // Memory that was given back, of at most ROOM octets.
@@ -24,6 +24,7 @@ struct Returned<const ROOM: usize> {
 fn again<const ROOM: usize>(returned: &mut Vec<Returned<ROOM>>, length: usize) -> Option<Vec<u8>>
     ensures empty { IfSome result (λ octets. octets.items ≡ []) }
     ensures room { IfSome result (λ octets. length ≤ vec_capacity octets) }
+    ensures few { IfSome result (λ octets. vec_capacity octets ≤ ROOM) }
     ensures no_more { vec_len returned.new ≤ vec_len returned.old }
 {
     let Some(Returned { octets }) = returned.pop() else {
@@ -41,8 +42,10 @@ fn memory<const ROOM: usize>(
     alloc: Global,
     length: usize,
 ) -> Result<Vec<u8>, AllocError>
+    requires { length ≤ ROOM }
     ensures empty { IfOk result (λ octets. octets.items ≡ []) }
     ensures room { IfOk result (λ octets. length ≤ vec_capacity octets) }
+    ensures few { IfOk result (λ octets. vec_capacity octets ≤ ROOM) }
     ensures no_more { vec_len returned.new ≤ vec_len returned.old }
 {
     match again(returned, length) {
@@ -162,7 +165,7 @@ impl<const ROOM: usize, const MOST: usize> Blanks<ROOM, MOST> {
         is_kept
     }
 
-    // .. where it may be that more have to be made.
+    // Promises memory for so many frames, where it may be that more blanks have to be made.
     #[cold]
     #[inline(never)]
     fn reserve_more(&mut self, count: usize) -> Result<(), AllocError>
@@ -181,13 +184,14 @@ impl<const ROOM: usize, const MOST: usize> Blanks<ROOM, MOST> {
         Ok(())
     }
 
-    /// Takes memory that was promised, for a frame of so many octets.
+    /// Takes memory that was promised, for a frame of so many octets. It is for ROOM at most.
     #[inline(always)]
     pub fn take(&mut self, length: usize) -> Vec<u8>
         requires promised { 0 < self.old }
         requires short { length ≤ ROOM }
         ensures empty { result.items ≡ [] }
         ensures room { length ≤ vec_capacity result }
+        ensures few { vec_capacity result ≤ ROOM }
         ensures fewer { self.new + 1 ≡ self.old }
     {
         self.promised -= 1;
@@ -213,12 +217,14 @@ impl<const ROOM: usize, const MOST: usize> Blanks<ROOM, MOST> {
         }
     }
 
-    /// Memory that was given back, for so many octets, where there is some. What is too small for them is let go of.
+    /// Memory that was given back, for so many octets and for ROOM at most, where there is some. What is too small for them is
+    /// let go of.
     #[inline(always)]
     pub fn again(&mut self, length: usize) -> Option<Vec<u8>>
         ensures same { self.new ≡ self.old }
         ensures empty { IfSome result (λ octets. octets.items ≡ []) }
         ensures room { IfSome result (λ octets. length ≤ vec_capacity octets) }
+        ensures few { IfSome result (λ octets. vec_capacity octets ≤ ROOM) }
     {
         again(&mut self.returned, length)
     }

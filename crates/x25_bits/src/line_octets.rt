@@ -1,5 +1,5 @@
 //! Frames put as octets of a synchronous line, each octet lowest bit first. Profile.
-ghost use Rattle.std.specs.Prelude.{ℕ, ◌≡◌, ◌≤◌, ◌++◌, ◌∷◌, [], Bool, true, List, length, IfOk, OnOk, OnErr};
+ghost use Rattle.std.specs.Prelude.{ℕ, ◌≡◌, ◌≤◌, ◌+◌, ◌-◌, ◌/◌, ◌^◌, ◌++◌, ◌∷◌, [], min, Bool, true, List, length, IfOk, OnOk, OnErr};
 ghost use Rattle.x25_bits.specs.code.Prefix.{IsPrefix};
 ghost use Rattle.x25_bits.specs.FrameCheck.{bits_of};
 ghost use Rattle.x25_bits.specs.Found.{Content, found_of, octets_of};
@@ -24,7 +24,9 @@ fn fill(bits: &mut Bits) -> Result<(), NoMemory>
 }
 
 /// As many octets as the frame of so many mostly takes: a quarter more, two flags and what is written behind the last bit.
-fn most_octets(count: usize) -> usize {
+fn most_octets(count: usize) -> usize
+    ensures { result ≡ min (count + count / 4 + 4) (2 ^ 64 - 1) }
+{
     count.saturating_add(count / 4).saturating_add(4)
 }
 
