@@ -1,6 +1,7 @@
 -- Flags and spans of a whole list of bits. ITU-T X.25 (10/96), section 2.2.2; that two flags may share the 0
 -- between them is profile.
-use Rattle.std.specs.Prelude.{ℕ, zero, suc, ◌+◌, ◌-◌, Bool, true, false, if◌then◌else◌, List, [], ◌∷◌, ◌++◌, length, take, drop}
+use Rattle.std.specs.Prelude.{ℕ, zero, suc, ◌+◌, ◌-◌, Bool, true, false, if◌then◌else◌, List, [], ◌∷◌, ◌++◌, length}
+use Rattle.std.specs.Prelude.{take, drop}
 
 -- the flag sequence: a 0, six 1 bits and a 0
 abbrev pub flag : List Bool

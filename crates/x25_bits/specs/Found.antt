@@ -1,6 +1,7 @@
 -- The class of a span. ITU-T X.25 (10/96), sections 2.2.9 (invalid frame) and 2.2.10 (abort); Long, Ragged and the
 -- order of the classes are profile.
-use Rattle.std.specs.Prelude.{ℕ, zero, suc, ◌+◌, ◌/◌, ◌%◌, ◌==◌, nat_lt, Bool, true, false, if◌then◌else◌, List, [], ◌∷◌, length, take, drop}
+use Rattle.std.specs.Prelude.{ℕ, zero, suc, ◌+◌, ◌/◌, ◌%◌, ◌==◌, nat_lt, Bool, true, false, if◌then◌else◌, List, []}
+use Rattle.std.specs.Prelude.{◌∷◌, length, take, drop}
 use Rattle.std.specs.List.{flat_map}
 use Rattle.x25_bits.specs.FrameCheck.{number_of}
 use Rattle.x25_bits.specs.Deframer.{spans_of}

@@ -11,7 +11,8 @@ between_flags bits = flag ++ bits ++ flag
 
 -- between two flags no span of the bits is a content that passes the check
 abbrev pub IsHarmless : List Bool → Type 0
-IsHarmless bits = All (λ span. (octets : List ℕ) → class_of span ≡ Content octets → is_sealed octets ≡ false) (spans_of (between_flags bits))
+IsHarmless bits = All (λ span. (octets : List ℕ) → class_of span ≡ Content octets
+    → is_sealed octets ≡ false) (spans_of (between_flags bits))
 
 -- what is found is a content that passes the check
 abbrev pub is_sealed_content : Class → Bool

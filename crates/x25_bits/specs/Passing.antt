@@ -28,7 +28,8 @@ pub record Passes (p : Passed) (run : ℕ) (last : Bool) (bits : List Bool) : Ty
   pub ones : p.run ≡ ones_from run bits
   pub inserted : p.is_inserted ≡ inserted_after run last bits
 
--- no flag ends in these bits and no seventh 1 bit comes; behind them stand n 1 bits, and the last 0 is an inserted one or not
+-- no flag ends in these bits and no seventh 1 bit comes; behind them stand n 1 bits, and the last 0 is an inserted one
+-- or not
 pub record PassesOn (n : ℕ) (is_inserted : Bool) (run : ℕ) (last : Bool) (bits : List Bool) : Type 0 where
   pub quiet : passes run bits ≡ true
   pub ones : n ≡ ones_from run bits

@@ -1,4 +1,6 @@
-ghost use Rattle.std.specs.Prelude.{ℕ, ◌≡◌, ◌+◌, ◌*◌, ◌/◌, ◌%◌, ◌^◌, ◌<◌, ◌≤◌, ◌++◌, ◌∷◌, [], ◌==◌, ◌↔◌, Bool, List, false, length, take, IsTrue, IfOk, OnOk, OnErr, slice_get, slice_index, slice_index_or};
+ghost use Rattle.std.specs.Prelude.{ℕ, ◌≡◌, ◌+◌, ◌*◌, ◌/◌, ◌%◌, ◌^◌, ◌<◌, ◌≤◌, ◌++◌, ◌∷◌, [], ◌==◌, ◌↔◌, Bool, List};
+ghost use Rattle.std.specs.Prelude.{false, length, take, IsTrue, IfOk, OnOk, OnErr, slice_get, slice_index};
+ghost use Rattle.std.specs.Prelude.{slice_index_or};
 ghost use Rattle.x25_bits.specs.code.Prefix.{IsPrefix};
 ghost use Rattle.x25_bits.specs.FrameCheck.{bits_of, low_bits};
 ghost use Rattle.x25_bits.specs.Found.{octets_by, octets_of};
@@ -147,7 +149,8 @@ fn with_bit(octet: u8, size: usize, bit: bool) -> u8
 /// Writes a bit behind the first `place` bits of the octets, which grow where all of their bits come before.
 pub(crate) fn write_bit(octets: &mut Vec<u8>, place: usize, bit: bool) -> Result<(), NoMemory>
     requires { place ≤ 8 * length octets.old.items }
-    ensures ok { OnOk result (take (place + 1) (bits_of octets.new.items) ≡ take place (bits_of octets.old.items) ++ bit ∷ []) }
+    ensures ok { OnOk result (take (place + 1) (bits_of octets.new.items) ≡ take place (bits_of octets.old.items)
+        ++ bit ∷ []) }
     ensures room { OnOk result (place + 1 ≤ 8 * length octets.new.items) }
     ensures grows { length octets.old.items ≤ length octets.new.items }
     ensures err { OnErr result (octets.new.items ≡ octets.old.items) }
@@ -180,11 +183,13 @@ fn behind(octet: u8, size: usize, next: u8) -> u16
     (octet % (1u8 << size)) as u16 + ((next as u16) << size)
 }
 
-/// Writes the bits of an octet behind the first `place` bits of the octets, of which one more stands behind that place's.
+/// Writes the bits of an octet behind the first `place` bits of the octets, of which one more stands behind that
+/// place's.
 #[inline]
 pub(crate) fn write_octet(octets: &mut [u8], place: usize, octet: u8)
     requires { place / 8 + 1 < length octets.old }
-    ensures bits { (count : ℕ) → count ≤ 8 → take (place + count) (bits_of octets.new) ≡ take place (bits_of octets.old) ++ low_bits count octet }
+    ensures bits { (count : ℕ) → count ≤ 8 → take (place + count) (bits_of octets.new) ≡ take place (bits_of octets.old)
+        ++ low_bits count octet }
     ensures len { length octets.new ≡ length octets.old }
 {
     let at = place / 8;
@@ -197,7 +202,9 @@ pub(crate) fn write_octet(octets: &mut [u8], place: usize, octet: u8)
 #[inline]
 pub(crate) fn set_octet(octets: &mut Vec<u8>, place: usize, octet: u8)
     requires { place / 8 + 1 < length octets.old.items }
-    ensures bits { (count : ℕ) → count ≤ 8 → take (place + count) (bits_of octets.new.items) ≡ take place (bits_of octets.old.items) ++ low_bits count octet }
+    ensures bits { (count : ℕ) → count ≤ 8
+        → take (place + count) (bits_of octets.new.items) ≡ take place (bits_of octets.old.items)
+        ++ low_bits count octet }
     ensures len { length octets.new.items ≡ length octets.old.items }
 {
     write_octet(octets.as_mut_slice(), place, octet);

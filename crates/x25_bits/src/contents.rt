@@ -24,8 +24,8 @@ pub struct Taken {
     pub is_inserted: bool,
 }
 
-/// Takes octets from the place `at` on, none from `end` on. What is kept of their bits stands behind the first `size` bits of
-/// the memory.
+/// Takes octets from the place `at` on, none from `end` on. What is kept of their bits stands behind the first `size`
+/// bits of the memory.
 fn take_into(
     octets: &[u8],
     at: usize,
@@ -40,8 +40,10 @@ fn take_into(
     requires room { size + 8 * (end - at) < 8 * length memory.old }
     ensures low { at ≤ result.end }
     ensures high { result.end ≤ end }
-    ensures passes { PassesOn result.run result.is_inserted scan.run scan.is_inserted (part (8 * at) (8 * result.end) (bits_of octets.now)) }
-    ensures kept { take result.count (bits_of memory.new) ≡ take size (bits_of memory.old) ++ kept_from scan.run (part (8 * at) (8 * result.end) (bits_of octets.now)) }
+    ensures passes { PassesOn result.run result.is_inserted scan.run scan.is_inserted
+        (part (8 * at) (8 * result.end) (bits_of octets.now)) }
+    ensures kept { take result.count (bits_of memory.new) ≡ take size (bits_of memory.old)
+        ++ kept_from scan.run (part (8 * at) (8 * result.end) (bits_of octets.now)) }
     ensures few { result.count ≤ size + 8 * (end - at) }
     ensures len { length memory.new ≡ length memory.old }
 {
@@ -88,8 +90,10 @@ pub(crate) fn take_whole(
     requires room { size + 8 * (end - at) < 8 * length memory.old.items }
     ensures low { at ≤ result.end }
     ensures high { result.end ≤ end }
-    ensures passes { PassesOn result.run result.is_inserted scan.run scan.is_inserted (part (8 * at) (8 * result.end) (bits_of octets.now)) }
-    ensures kept { take result.count (bits_of memory.new.items) ≡ take size (bits_of memory.old.items) ++ kept_from scan.run (part (8 * at) (8 * result.end) (bits_of octets.now)) }
+    ensures passes { PassesOn result.run result.is_inserted scan.run scan.is_inserted
+        (part (8 * at) (8 * result.end) (bits_of octets.now)) }
+    ensures kept { take result.count (bits_of memory.new.items) ≡ take size (bits_of memory.old.items)
+        ++ kept_from scan.run (part (8 * at) (8 * result.end) (bits_of octets.now)) }
     ensures few { result.count ≤ size + 8 * (end - at) }
     ensures len { length memory.new.items ≡ length memory.old.items }
 {
@@ -119,14 +123,15 @@ impl Deframer {
         self.scan.is_open && !self.scan.is_aborted && self.kept.len() <= HELD - 8
     }
 
-    /// Takes whole octets of a content, by places of bits, from `at` on, none from `end` on. Answers the place behind them. It
-    /// is `at` where no octet begins there.
+    /// Takes whole octets of a content, by places of bits, from `at` on, none from `end` on. Answers the place behind
+    /// them. It is `at` where no octet begins there.
     pub(crate) fn take_content(&mut self, octets: &[u8], at: usize, end: usize) -> usize
         requires at { at ≤ end }
         requires end { end ≤ 8 * length octets.now }
         ensures low { at ≤ result }
         ensures high { result ≤ end }
-        ensures fits { (v : Seen) → FitsSeen self.old v → FitsSeen self.new (seen_from v (part at result (bits_of octets.now))) }
+        ensures fits { (v : Seen) → FitsSeen self.old v
+            → FitsSeen self.new (seen_from v (part at result (bits_of octets.now))) }
         ensures found { (v : Seen) → FitsSeen self.old v → found_from v (part at result (bits_of octets.now)) ≡ [] }
     {
         if at % 8 != 0 {

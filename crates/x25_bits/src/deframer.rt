@@ -1,5 +1,6 @@
 //! The spans between flags, found in bits that come in any cut, ITU-T X.25 (10/96), section 2.2.
-ghost use Rattle.std.specs.Prelude.{ℕ, ◌≡◌, ◌*◌, ◌^◌, ◌<◌, ◌≤◌, ◌++◌, ◌∷◌, [], Bool, List, length, take, true, false, IfNone, IfOk, if◌then◌else◌};
+ghost use Rattle.std.specs.Prelude.{ℕ, ◌≡◌, ◌*◌, ◌^◌, ◌<◌, ◌≤◌, ◌++◌, ◌∷◌, [], Bool, List, length, take, true, false};
+ghost use Rattle.std.specs.Prelude.{IfNone, IfOk, if◌then◌else◌};
 ghost use Rattle.std.specs.Borrow.{sem};
 ghost use Rattle.x25_bits.specs.laws.Cuts.{found_more};
 ghost use Rattle.x25_bits.specs.FrameCheck.{bits_of};
@@ -41,8 +42,8 @@ impl Deframer {
     ghost use Rattle.x25_bits.specs.code.FitsSeen.{FitsSeen};
     ghost use Rattle.x25_bits.specs.code.Reading.{part, Lends, EndsRead};
 
-    /// A deframer that no bits have come to, with memory for all that it ever holds, and for a content that it lends: 4,104
-    /// octets for each. Error 70 where there is none.
+    /// A deframer that no bits have come to, with memory for all that it ever holds, and for a content that it lends:
+    /// 4,104 octets for each. Error 70 where there is none.
     pub fn new(alloc: Global) -> Result<Deframer, NoMemory>
         ensures { IfOk result (λ deframer. Fits deframer []) }
     {
@@ -56,15 +57,17 @@ impl Deframer {
     }
 
     /// Reads bits from place `at` on, until one span is classed or the bits end. Answers the place behind the last bit
-    /// read, and what that span is, its octets lent. So calls until the end give, in order, what the bits close, however
-    /// the bits so far were cut. At most 32,831 bits are held, and it takes no memory.
+    /// read, and what that span is, its octets lent. So calls until the end give, in order, what the bits close,
+    /// however the bits so far were cut. At most 32,831 bits are held, and it takes no memory.
     pub fn feed_next(&mut self, bits: &Bits, at: usize) -> (usize, Option<Span<'_>>)
         requires at { at ≤ length bits.now }
         ensures low { at ≤ result.0 }
         ensures high { result.0 ≤ length bits.now }
         ensures moves { at < length bits.now → at < result.0 }
-        ensures found { (before : List Bool) → Fits self.old before → listed_span result.1 ≡ found_more before (part at result.0 bits.now) }
-        ensures first { (before : List Bool) (n : ℕ) → Fits self.old before → n < result.0 → found_more before (part at n bits.now) ≡ [] }
+        ensures found { (before : List Bool) → Fits self.old before
+            → listed_span result.1 ≡ found_more before (part at result.0 bits.now) }
+        ensures first { (before : List Bool) (n : ℕ) → Fits self.old before → n < result.0
+            → found_more before (part at n bits.now) ≡ [] }
         ensures end { (before : List Bool) → Fits self.old before → IfNone result.1 (result.0 ≡ length bits.now) }
         ensures* after { sem 𝓛 (EndsRead self.entry bits.now at result.0) }
     {
@@ -79,8 +82,10 @@ impl Deframer {
         ensures low { at ≤ result.0 }
         ensures high { result.0 ≤ 8 * length octets.now }
         ensures moves { at < 8 * length octets.now → at < result.0 }
-        ensures found { (before : List Bool) → Fits self.old before → listed_span result.1 ≡ found_more before (part at result.0 (bits_of octets.now)) }
-        ensures first { (before : List Bool) (n : ℕ) → Fits self.old before → n < result.0 → found_more before (part at n (bits_of octets.now)) ≡ [] }
+        ensures found { (before : List Bool) → Fits self.old before
+            → listed_span result.1 ≡ found_more before (part at result.0 (bits_of octets.now)) }
+        ensures first { (before : List Bool) (n : ℕ) → Fits self.old before → n < result.0
+            → found_more before (part at n (bits_of octets.now)) ≡ [] }
         ensures end { (before : List Bool) → Fits self.old before → IfNone result.1 (result.0 ≡ 8 * length octets.now) }
         ensures* after { sem 𝓛 (EndsRead self.entry (bits_of octets.now) at result.0) }
     {
@@ -103,9 +108,12 @@ impl Deframer {
         ensures low { at ≤ result.0 }
         ensures high { result.0 ≤ length bits.now }
         ensures moves { at < length bits.now → at < result.0 }
-        ensures fits { (before : List Bool) → Fits self.old before → Fits self.new (before ++ part at result.0 bits.now) }
-        ensures found { (before : List Bool) → Fits self.old before → Lends result.1 self.new.last (found_more before (part at result.0 bits.now)) }
-        ensures first { (before : List Bool) (n : ℕ) → Fits self.old before → n < result.0 → found_more before (part at n bits.now) ≡ [] }
+        ensures fits { (before : List Bool) → Fits self.old before
+            → Fits self.new (before ++ part at result.0 bits.now) }
+        ensures found { (before : List Bool) → Fits self.old before
+            → Lends result.1 self.new.last (found_more before (part at result.0 bits.now)) }
+        ensures first { (before : List Bool) (n : ℕ) → Fits self.old before → n < result.0
+            → found_more before (part at n bits.now) ≡ [] }
         ensures end { IfNone result.1 (result.0 ≡ length bits.now) }
     {
         self.read(bits.octets(), at, bits.len())
@@ -118,9 +126,12 @@ impl Deframer {
         ensures low { at ≤ result.0 }
         ensures high { result.0 ≤ end }
         ensures moves { at < end → at < result.0 }
-        ensures fits { (before : List Bool) → Fits self.old before → Fits self.new (before ++ part at result.0 (bits_of octets.now)) }
-        ensures found { (before : List Bool) → Fits self.old before → Lends result.1 self.new.last (found_more before (part at result.0 (bits_of octets.now))) }
-        ensures first { (before : List Bool) (n : ℕ) → Fits self.old before → n < result.0 → found_more before (part at n (bits_of octets.now)) ≡ [] }
+        ensures fits { (before : List Bool) → Fits self.old before
+            → Fits self.new (before ++ part at result.0 (bits_of octets.now)) }
+        ensures found { (before : List Bool) → Fits self.old before
+            → Lends result.1 self.new.last (found_more before (part at result.0 (bits_of octets.now))) }
+        ensures first { (before : List Bool) (n : ℕ) → Fits self.old before → n < result.0
+            → found_more before (part at n (bits_of octets.now)) ≡ [] }
         ensures end { IfNone result.1 (result.0 ≡ end) }
     {
         let mut place = at;
@@ -190,8 +201,10 @@ impl Deframer {
 
     /// Begins behind a flag. Where that closes a span which is classed, answers the scan before it.
     fn close(&mut self) -> Option<Scan>
-        ensures fits { (v : Seen) (b : Bool) → FitsSeen self.old v → ends v b ≡ true → FitsSeen self.new (seen_next v b) }
-        ensures found { (v : Seen) → FitsSeen self.old v → Lends result self.new.last (if v.is_open then closing v.held else []) }
+        ensures fits { (v : Seen) (b : Bool) → FitsSeen self.old v → ends v b ≡ true
+            → FitsSeen self.new (seen_next v b) }
+        ensures found { (v : Seen) → FitsSeen self.old v
+            → Lends result self.new.last (if v.is_open then closing v.held else []) }
     {
         let closed = self.scan;
         self.swap();
@@ -206,7 +219,8 @@ impl Deframer {
 
     /// Begins behind a flag. What was kept stays, to be lent.
     fn swap(&mut self)
-        ensures fits { (v : Seen) (b : Bool) → FitsSeen self.old v → ends v b ≡ true → FitsSeen self.new (seen_next v b) }
+        ensures fits { (v : Seen) (b : Bool) → FitsSeen self.old v → ends v b ≡ true
+            → FitsSeen self.new (seen_next v b) }
         ensures last { self.new.last ≡ self.old.kept }
     {
         self.scan = Scan::OPEN;
@@ -218,7 +232,8 @@ impl Deframer {
 /// Keeps the bit, where it can be content and there are not too many.
 fn push_if(is_kept: bool, bit: bool, kept: &mut Kept)
     requires few { length kept.old ≤ 32831 }
-    ensures fits { (all : List Bool) → kept.old ≡ take 32831 all → kept.new ≡ take 32831 (if is_kept then all ++ bit ∷ [] else all) }
+    ensures fits { (all : List Bool) → kept.old ≡ take 32831 all
+        → kept.new ≡ take 32831 (if is_kept then all ++ bit ∷ [] else all) }
     ensures few { length kept.new ≤ 32831 }
 {
     if !is_kept {

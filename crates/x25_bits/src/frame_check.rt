@@ -1,5 +1,6 @@
 //! The frame check sequence (FCS) of a frame, ITU-T X.25 (10/96), section 2.2.7.
-ghost use Rattle.std.specs.Prelude.{◌≡◌, ◌+◌, ◌*◌, ◌/◌, ◌%◌, ◌^◌, ◌<◌, ◌≤◌, ◌++◌, ◌↔◌, false, length, replicate, take, drop, IsTrue, IsOk, OnOk, OnErr, vec_len, vec_capacity};
+ghost use Rattle.std.specs.Prelude.{◌≡◌, ◌+◌, ◌*◌, ◌/◌, ◌%◌, ◌^◌, ◌<◌, ◌≤◌, ◌++◌, ◌↔◌, false, length, replicate, take};
+ghost use Rattle.std.specs.Prelude.{drop, IsTrue, IsOk, OnOk, OnErr, vec_len, vec_capacity};
 ghost use Rattle.std.specs.Vec.{VecUnchanged};
 ghost use Rattle.byteorder.specs.Endian.{little_number};
 ghost use Rattle.x25_bits.specs.FrameCheck.{bits_of, fcs_of, low_bits};
@@ -12,8 +13,8 @@ use byteorder::{ByteOrder, LittleEndian};
 
 /// Eight octets that leave what these leave with eight octets of 0 behind them.
 ///
-/// The divisor's fourth power is x^64 + x^48 + x^20 + 1. Multiples of it, taken away until the first 64 coefficients are 0,
-/// change no others but the next 64.
+/// The divisor's fourth power is x^64 + x^48 + x^20 + 1. Multiples of it, taken away until the first 64 coefficients
+/// are 0, change no others but the next 64.
 #[inline]
 fn folded(held: u64) -> u64
     ensures { fed (low_bits 16 0) (low_bits 64 result) ≡ fed (low_bits 16 0) (low_bits 64 held ++ replicate 64 false) }
@@ -34,10 +35,12 @@ struct Block {
 
 /// Thirty-two octets that leave what these leave with thirty-two octets of 0 behind them.
 ///
-/// The divisor's sixteenth power is x^256 + x^192 + x^80 + 1, so that whole words are taken away, and words moved by sixteen places.
+/// The divisor's sixteenth power is x^256 + x^192 + x^80 + 1, so that whole words are taken away, and words moved by
+/// sixteen places.
 #[inline(always)]
 fn folded_block(first: u64, second: u64, third: u64, fourth: u64) -> Block
-    ensures { words_leave result.first result.second result.third result.fourth ≡ fed (words_leave first second third fourth) (replicate 256 false) }
+    ensures { words_leave result.first result.second result.third result.fourth
+        ≡ fed (words_leave first second third fourth) (replicate 256 false) }
 {
     let pair = second ^ first;
     let run = third ^ pair;
@@ -55,7 +58,8 @@ fn folded_block(first: u64, second: u64, third: u64, fourth: u64) -> Block
 #[inline(always)]
 fn with_block(held: Block, octets: &[u8]) -> Block
     requires { 32 ≤ length octets.now }
-    ensures { fed (words_leave result.first result.second result.third result.fourth) (bits_of (drop 32 octets.now)) ≡ fed (words_leave held.first held.second held.third held.fourth) (bits_of octets.now) }
+    ensures { fed (words_leave result.first result.second result.third result.fourth) (bits_of (drop 32 octets.now))
+        ≡ fed (words_leave held.first held.second held.third held.fourth) (bits_of octets.now) }
 {
     let first = LittleEndian::read_u64(octets);
     let second = LittleEndian::read_u64(&octets[8..]);
@@ -171,7 +175,8 @@ fn begun(octets: &[u8], count: usize) -> u64
 #[inline(always)]
 fn through_words(start: u64, octets: &[u8]) -> u64
     requires { length octets.now % 8 ≡ 0 }
-    ensures { fed (low_bits 16 0) (low_bits 64 result) ≡ fed (fed (low_bits 16 0) (low_bits 64 start)) (bits_of octets.now) }
+    ensures { fed (low_bits 16 0) (low_bits 64 result)
+        ≡ fed (fed (low_bits 16 0) (low_bits 64 start)) (bits_of octets.now) }
 {
     let mut held = start;
     for eight in 0..octets.len() / 8 {
@@ -184,7 +189,8 @@ fn through_words(start: u64, octets: &[u8]) -> u64
 #[inline(always)]
 fn through_blocks(start: u64, octets: &[u8]) -> u64
     requires { length octets.now % 32 ≡ 0 }
-    ensures { fed (low_bits 16 0) (low_bits 64 result) ≡ fed (fed (low_bits 16 0) (low_bits 64 start)) (bits_of octets.now) }
+    ensures { fed (low_bits 16 0) (low_bits 64 result)
+        ≡ fed (fed (low_bits 16 0) (low_bits 64 start)) (bits_of octets.now) }
 {
     let mut held = Block {
         first: 0,
@@ -198,11 +204,13 @@ fn through_blocks(start: u64, octets: &[u8]) -> u64
     last_word(held)
 }
 
-/// The same: of sixty-four octets or more thirty-two at a time, behind those beyond a multiple of that; else eight at a time.
+/// The same: of sixty-four octets or more thirty-two at a time, behind those beyond a multiple of that; else eight at a
+/// time.
 #[inline(always)]
 fn through(start: u64, octets: &[u8]) -> u64
     requires { length octets.now % 8 ≡ 0 }
-    ensures { fed (low_bits 16 0) (low_bits 64 result) ≡ fed (fed (low_bits 16 0) (low_bits 64 start)) (bits_of octets.now) }
+    ensures { fed (low_bits 16 0) (low_bits 64 result)
+        ≡ fed (fed (low_bits 16 0) (low_bits 64 start)) (bits_of octets.now) }
 {
     if octets.len() < 64 {
         return through_words(start, octets);
@@ -272,7 +280,8 @@ pub fn check(octets: &[u8]) -> bool
 
 /// Appends the frame check sequence of the octets to them, the low octet first.
 ///
-/// It takes no memory where the capacity has room for two octets more. Error 70 where there is none for them; the octets are as they were then.
+/// It takes no memory where the capacity has room for two octets more. Error 70 where there is none for them; the
+/// octets are as they were then.
 pub fn seal(octets: &mut Vec<u8>) -> Result<(), NoMemory>
     ensures ok { OnOk result (octets.new.items ≡ octets.old.items ++ seal_of octets.old.items) }
     ensures err { OnErr result (VecUnchanged octets.old octets.new) }

@@ -1,7 +1,7 @@
 //! What eight octets leave in the register of the frame check sequence, looked up octet by octet.
 
-/// What an octet leaves in a register of zeros, with so many octets of 0 behind it that they are eight from its place on: an entry for each octet at
-/// the first place, at the second, and so on up to the eighth.
+/// What an octet leaves in a register of zeros, with so many octets of 0 behind it that they are eight from its place
+/// on: an entry for each octet at the first place, at the second, and so on up to the eighth.
 pub(crate) static LEFT: [u16; 2048] = [
     0, 33215, 2927, 35536, 5854, 38753, 7601, 39950, 11708, 44035, 9939, 42860, 15202, 47837,
     12301, 45490, 23416, 56007, 20503, 53672, 19878, 52249, 18121, 51062, 30404, 63355, 32171,

@@ -1,4 +1,5 @@
-ghost use Rattle.std.specs.Prelude.{◌≡◌, ℕ, ◌+◌, ◌-◌, ◌<◌, ◌≤◌, [], max, min, true, false, vec_len, vec_capacity, IfOk, IfSome, OnOk, OnErr};
+ghost use Rattle.std.specs.Prelude.{◌≡◌, ℕ, ◌+◌, ◌-◌, ◌<◌, ◌≤◌, [], max, min, true, false, vec_len, vec_capacity, IfOk};
+ghost use Rattle.std.specs.Prelude.{IfSome, OnOk, OnErr};
 
 use std::alloc::{AllocError, Global};
 use std::marker::Model;
@@ -81,9 +82,9 @@ fn shorten<const ROOM: usize>(blanks: &mut Vec<Blank<ROOM>>, most: usize)
 
 /// Memory for frames of at most ROOM octets each. Contracts see for how many frames it is promised.
 ///
-/// A frame gets memory that was given back, or else memory of its own length while there is some, so blanks are taken only where
-/// memory is refused. Those that aren't taken stay for later promises, but no more than MOST of them, or than are promised. Of
-/// buffers that were given back at most MOST stay.
+/// A frame gets memory that was given back, or else memory of its own length while there is some, so blanks are taken
+/// only where memory is refused. Those that aren't taken stay for later promises, but no more than MOST of them, or
+/// than are promised. Of buffers that were given back at most MOST stay.
 #[derive(Drop)]
 pub struct Blanks<const ROOM: usize, const MOST: usize> {
     blanks: Vec<Blank<ROOM>>,
@@ -99,7 +100,8 @@ impl<const ROOM: usize, const MOST: usize> Model for Blanks<ROOM, MOST> {
 
     ghost view = { λ b. b.promised };
 
-    ghost invariant = { λ b. (b.promised ≤ vec_len b.blanks) × (vec_len b.blanks ≤ max b.promised MOST) × (vec_len b.returned ≤ MOST) };
+    ghost invariant = { λ b. (b.promised ≤ vec_len b.blanks) × (vec_len b.blanks ≤ max b.promised MOST)
+        × (vec_len b.returned ≤ MOST) };
 }
 
 impl<const ROOM: usize, const MOST: usize> Blanks<ROOM, MOST> {
@@ -137,7 +139,8 @@ impl<const ROOM: usize, const MOST: usize> Blanks<ROOM, MOST> {
         self.returned.len()
     }
 
-    /// Promises memory for at least so many frames. Err: no memory for more than were promised; as many are promised as before.
+    /// Promises memory for at least so many frames. Err: no memory for more than were promised; as many are promised as
+    /// before.
     #[inline(always)]
     pub fn reserve(&mut self, count: usize) -> Result<(), AllocError>
         ensures ok { OnOk result (self.new ≡ max self.old count) }
@@ -150,8 +153,8 @@ impl<const ROOM: usize, const MOST: usize> Blanks<ROOM, MOST> {
         self.reserve_more(count)
     }
 
-    /// Promises memory for at least so many frames, where blanks for them are kept. It says whether it did: always where no more are asked
-    /// for than are promised.
+    /// Promises memory for at least so many frames, where blanks for them are kept. It says whether it did: always
+    /// where no more are asked for than are promised.
     #[inline(always)]
     pub fn promises(&mut self, count: usize) -> bool
         ensures promised { result ≡ true → self.new ≡ max self.old count }
@@ -217,8 +220,8 @@ impl<const ROOM: usize, const MOST: usize> Blanks<ROOM, MOST> {
         }
     }
 
-    /// Memory that was given back, for so many octets and for ROOM at most, where there is some. What is too small for them is
-    /// let go of.
+    /// Memory that was given back, for so many octets and for ROOM at most, where there is some. What is too small for
+    /// them is let go of.
     #[inline(always)]
     pub fn again(&mut self, length: usize) -> Option<Vec<u8>>
         ensures same { self.new ≡ self.old }
@@ -229,8 +232,8 @@ impl<const ROOM: usize, const MOST: usize> Blanks<ROOM, MOST> {
         again(&mut self.returned, length)
     }
 
-    /// Takes memory back that isn't in use any more, for a later frame. It is let go of where it is for more than ROOM octets, where
-    /// MOST are kept, and where keeping it takes memory that is refused.
+    /// Takes memory back that isn't in use any more, for a later frame. It is let go of where it is for more than ROOM
+    /// octets, where MOST are kept, and where keeping it takes memory that is refused.
     #[inline(always)]
     pub fn give_back(&mut self, mut octets: Vec<u8>)
         ensures { self.new ≡ self.old }

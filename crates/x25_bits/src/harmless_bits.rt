@@ -63,7 +63,8 @@ fn found_between_flags(bits: &Bits) -> Result<Vec<Found>, NoMemory>
 
 /// Appends what is found in more bits.
 fn find(deframer: &mut Deframer, bits: &Bits, found: &mut Vec<Found>) -> Result<(), NoMemory>
-    ensures fits { OnOk result ((before : List Bool) → Fits deframer.old before → Fits deframer.new (before ++ bits.now)) }
+    ensures fits { OnOk result ((before : List Bool) → Fits deframer.old before
+        → Fits deframer.new (before ++ bits.now)) }
     ensures found { OnOk result ((before : List Bool) → Fits deframer.old before
         → plains found.new.items ≡ plains found.old.items ++ found_more before bits.now) }
 {
@@ -87,7 +88,8 @@ fn find_next(
     ensures fits { (before : List Bool) → Fits deframer.old before
         → IfOk result (λ place. Fits deframer.new (before ++ part at place bits.now)) }
     ensures found { (before : List Bool) → Fits deframer.old before
-        → IfOk result (λ place. plains found.new.items ≡ plains found.old.items ++ found_more before (part at place bits.now)) }
+        → IfOk result (λ place. plains found.new.items ≡ plains found.old.items
+        ++ found_more before (part at place bits.now)) }
 {
     let (place, span) = deframer.feed_next(bits, at);
     if let Some(span) = span {

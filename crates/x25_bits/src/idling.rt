@@ -57,7 +57,8 @@ impl Deframer {
     /// The octet that leaves all as it is, where there is one: of flags behind a flag, or of 1 bits behind seven.
     fn idle_octet(&self) -> Option<u8>
         ensures seen { IfSome result (λ octet. (v : Seen) → FitsSeen self.now v → seen_from v (low_bits 8 octet) ≡ v) }
-        ensures found { IfSome result (λ octet. (v : Seen) → FitsSeen self.now v → found_from v (low_bits 8 octet) ≡ []) }
+        ensures found { IfSome result (λ octet. (v : Seen) → FitsSeen self.now v
+            → found_from v (low_bits 8 octet) ≡ []) }
     {
         if self.scan.run == 7 {
             return Some(ONES);
@@ -74,8 +75,10 @@ impl Deframer {
         requires end { end ≤ length octets.now }
         ensures low { at ≤ result }
         ensures high { result ≤ end }
-        ensures seen { (v : Seen) → FitsSeen self.now v → seen_from v (part (8 * at) (8 * result) (bits_of octets.now)) ≡ v }
-        ensures found { (v : Seen) → FitsSeen self.now v → found_from v (part (8 * at) (8 * result) (bits_of octets.now)) ≡ [] }
+        ensures seen { (v : Seen) → FitsSeen self.now v
+            → seen_from v (part (8 * at) (8 * result) (bits_of octets.now)) ≡ v }
+        ensures found { (v : Seen) → FitsSeen self.now v
+            → found_from v (part (8 * at) (8 * result) (bits_of octets.now)) ≡ [] }
     {
         let Some(octet) = self.idle_octet() else {
             return at;

@@ -71,7 +71,8 @@ impl Kept {
         requires few { length self.old + 8 * (end - at) ≤ 32831 }
         ensures low { at ≤ result.end }
         ensures high { result.end ≤ end }
-        ensures passes { PassesOn result.run result.is_inserted scan.run scan.is_inserted (part (8 * at) (8 * result.end) (bits_of octets.now)) }
+        ensures passes { PassesOn result.run result.is_inserted scan.run scan.is_inserted
+            (part (8 * at) (8 * result.end) (bits_of octets.now)) }
         ensures bits { self.new ≡ self.old ++ kept_from scan.run (part (8 * at) (8 * result.end) (bits_of octets.now)) }
         ensures few { length self.new ≤ 32831 }
     {

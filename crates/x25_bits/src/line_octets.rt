@@ -1,5 +1,6 @@
 //! Frames put as octets of a synchronous line, each octet lowest bit first. Profile.
-ghost use Rattle.std.specs.Prelude.{ℕ, ◌≡◌, ◌≤◌, ◌+◌, ◌-◌, ◌/◌, ◌^◌, ◌++◌, ◌∷◌, [], min, Bool, true, List, length, IfOk, OnOk, OnErr};
+ghost use Rattle.std.specs.Prelude.{ℕ, ◌≡◌, ◌≤◌, ◌+◌, ◌-◌, ◌/◌, ◌^◌, ◌++◌, ◌∷◌, [], min, Bool, true, List, length};
+ghost use Rattle.std.specs.Prelude.{IfOk, OnOk, OnErr};
 ghost use Rattle.x25_bits.specs.code.Prefix.{IsPrefix};
 ghost use Rattle.x25_bits.specs.FrameCheck.{bits_of};
 ghost use Rattle.x25_bits.specs.Found.{Content, found_of, octets_of};
@@ -23,7 +24,8 @@ fn fill(bits: &mut Bits) -> Result<(), NoMemory>
     Ok(())
 }
 
-/// As many octets as the frame of so many mostly takes: a quarter more, two flags and what is written behind the last bit.
+/// As many octets as the frame of so many mostly takes: a quarter more, two flags and what is written behind the last
+/// bit.
 fn most_octets(count: usize) -> usize
     ensures { result ≡ min (count + count / 4 + 4) (2 ^ 64 - 1) }
 {

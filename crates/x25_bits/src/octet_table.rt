@@ -3,9 +3,9 @@
 /// An octet in which a flag ends or a seventh 1 bit in a row comes.
 pub(crate) const SPECIAL: u8 = 7;
 
-/// Of an octet's bits, the first the lowest, those that are kept, and then, at 256 how many these are, at 4,096 the 1 bits at the
-/// end or SPECIAL, and at 32,768 whether the last 0 stood behind five 1 bits: an entry for each octet where no 1 bits came
-/// before, where one came, and so on up to five.
+/// Of an octet's bits, the first the lowest, those that are kept, and then, at 256 how many these are, at 4,096 the 1
+/// bits at the end or SPECIAL, and at 32,768 whether the last 0 stood behind five 1 bits: an entry for each octet where
+/// no 1 bits came before, where one came, and so on up to five.
 pub(crate) static ENTRIES: [u16; 1536] = [
     2048, 2049, 2050, 2051, 2052, 2053, 2054, 2055, 2056, 2057, 2058, 2059, 2060, 2061, 2062, 2063,
     2064, 2065, 2066, 2067, 2068, 2069, 2070, 2071, 2072, 2073, 2074, 2075, 2076, 2077, 2078, 1823,

@@ -41,7 +41,8 @@ fn behind_zeros(passed: Passed, zeros: u8) -> Passed
 fn rest_of(scan: Scan, octets: &[u8], place: usize, end: usize) -> Option<Stretch>
     requires place { place < 8 * length octets.now }
     requires end { place + (8 - place % 8) ≤ end }
-    ensures passes { IfSome result (λ s. Passes s.passed scan.run scan.is_inserted (part place s.end (bits_of octets.now))) }
+    ensures passes { IfSome result (λ s. Passes s.passed scan.run scan.is_inserted
+        (part place s.end (bits_of octets.now))) }
     ensures size { IfSome result (λ s. s.passed.count ≤ 8) }
     ensures low { IfSome result (λ s. place < s.end) }
     ensures high { IfSome result (λ s. s.end ≤ end) }
@@ -68,7 +69,8 @@ fn up_to_flag(scan: Scan, octets: &[u8], place: usize, end: usize) -> Option<Str
     requires first { place % 8 ≡ 0 }
     requires place { place < 8 * length octets.now }
     requires end { place + 8 ≤ end }
-    ensures passes { IfSome result (λ s. Passes s.passed scan.run scan.is_inserted (part place s.end (bits_of octets.now))) }
+    ensures passes { IfSome result (λ s. Passes s.passed scan.run scan.is_inserted
+        (part place s.end (bits_of octets.now))) }
     ensures size { IfSome result (λ s. s.passed.count ≤ 8) }
     ensures low { IfSome result (λ s. place < s.end) }
     ensures high { IfSome result (λ s. s.end ≤ end) }
@@ -112,7 +114,8 @@ impl Deframer {
     pub(crate) fn stretch_at(&self, octets: &[u8], place: usize, end: usize) -> Option<Stretch>
         requires place { place < end }
         requires end { end ≤ 8 * length octets.now }
-        ensures passes { IfSome result (λ s. Passes s.passed self.now.scan.run self.now.scan.is_inserted (part place s.end (bits_of octets.now))) }
+        ensures passes { IfSome result (λ s. Passes s.passed self.now.scan.run self.now.scan.is_inserted
+            (part place s.end (bits_of octets.now))) }
         ensures size { IfSome result (λ s. s.passed.count ≤ 8) }
         ensures opened { OnSome result (self.now.scan.is_open ≡ true) }
         ensures going { OnSome result (self.now.scan.is_aborted ≡ false) }

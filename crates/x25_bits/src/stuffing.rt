@@ -1,5 +1,6 @@
 //! Octets between flags, with a 0 inserted behind each five 1 bits, ITU-T X.25 (10/96), sections 2.2.2 and 2.2.6.
-ghost use Rattle.std.specs.Prelude.{ℕ, ◌≡◌, ◌<◌, ◌≤◌, ◌++◌, ◌∷◌, [], Bool, List, length, IfOk, OnOk, OnErr, slice_index};
+ghost use Rattle.std.specs.Prelude.{ℕ, ◌≡◌, ◌<◌, ◌≤◌, ◌++◌, ◌∷◌, [], Bool, List, length, IfOk, OnOk, OnErr};
+ghost use Rattle.std.specs.Prelude.{slice_index};
 ghost use Rattle.x25_bits.specs.code.Prefix.{IsPrefix};
 ghost use Rattle.x25_bits.specs.FrameCheck.{bits_of, low_bits};
 ghost use Rattle.x25_bits.specs.Deframer.{flag};
@@ -50,7 +51,8 @@ fn put_rest(octet: u8, count: u8, bits: &mut Bits) -> Result<(), NoMemory>
 fn put_octet(run: u8, octet: u8, bits: &mut Bits) -> Result<u8, NoMemory>
     requires { run < 5 }
     ensures few { IfOk result (λ after. after < 5) }
-    ensures stuffs { IfOk result (λ after. (rest : List Bool) → bits.new ++ stuffed_from after rest ≡ bits.old ++ stuffed_from run (low_bits 8 octet ++ rest)) }
+    ensures stuffs { IfOk result (λ after. (rest : List Bool) → bits.new ++ stuffed_from after rest ≡ bits.old
+        ++ stuffed_from run (low_bits 8 octet ++ rest)) }
     ensures begins { IsPrefix bits.old bits.new }
 {
     let entry = STUFFED[run as usize * 256 + octet as usize];

@@ -1,8 +1,8 @@
 //! An octet's bits with the 0 inserted among them, looked up.
 
-/// Of an octet's bits, the first the lowest, they and the 0 inserted among them, and then, at 1,024 how many more than eight these
-/// are, and at 4,096 the 1 bits at the end of them, counted afresh behind an inserted 0: an entry for each octet where no 1 bits
-/// came before, where one came, and so on up to four.
+/// Of an octet's bits, the first the lowest, they and the 0 inserted among them, and then, at 1,024 how many more than
+/// eight these are, and at 4,096 the 1 bits at the end of them, counted afresh behind an inserted 0: an entry for each
+/// octet where no 1 bits came before, where one came, and so on up to four.
 pub(crate) static STUFFED: [u16; 1280] = [
     0, 1, 2, 3, 4, 5, 6, 7, 8, 9, 10, 11, 12, 13, 14, 15, 16, 17, 18, 19, 20, 21, 22, 23, 24, 25,
     26, 27, 28, 29, 30, 1055, 32, 33, 34, 35, 36, 37, 38, 39, 40, 41, 42, 43, 44, 45, 46, 47, 48,

@@ -9,11 +9,12 @@ pub record Call : Type 0 where
   pub to : ℕ
   pub found : List Class
 
--- behind the bits `before`, these calls read the bits from the place `at` to their end, each from where the one before it
--- stopped, and each found what these bits close
+-- behind the bits `before`, these calls read the bits from the place `at` to their end, each from where the one before
+-- it stopped, and each found what these bits close
 unfoldable pub ReadToEnd : List Bool → List Bool → ℕ → List Call → Type 0
 ReadToEnd before bits at [] = at ≡ length bits
-ReadToEnd before bits at (call ∷ calls) = (at ≤ call.to) × (call.to ≤ length bits) × (call.found ≡ found_more before (part at call.to bits))
+ReadToEnd before bits at (call ∷ calls) = (at ≤ call.to) × (call.to ≤ length bits)
+    × (call.found ≡ found_more before (part at call.to bits))
     × ReadToEnd (before ++ part at call.to bits) bits call.to calls
 
 -- the bits that came once these calls are done: those of each behind those before it

@@ -1,5 +1,6 @@
 -- What the bits so far leave to be held, so that the spans still to be closed can be classed. Profile.
-use Rattle.std.specs.Prelude.{ℕ, ◌+◌, ◌-◌, ◌==◌, ◌&&◌, ◌||◌, not, nat_lt, Bool, true, false, if◌then◌else◌, List, [], ◌∷◌, ◌++◌, length, take}
+use Rattle.std.specs.Prelude.{ℕ, ◌+◌, ◌-◌, ◌==◌, ◌&&◌, ◌||◌, not, nat_lt, Bool, true, false, if◌then◌else◌, List, []}
+use Rattle.std.specs.Prelude.{◌∷◌, ◌++◌, length, take}
 use Rattle.x25_bits.specs.Found.{Class, Abort, Ragged, class_by}
 
 -- the 1 bits at the end (seven stand for more, or for no 0 so far), whether seven have come in a row, whether the

@@ -2,9 +2,12 @@
 use Rattle.std.specs.Prelude.{Option, Some, None, List, [], ◌∷◌, map}
 use Rattle.x25_bits.specs.Found.{Class, Content, Abort, Short, Long, Ragged}
 use Rattle.x25_bits.specs.declared.found.Found.{Found}
-use Rattle.x25_bits.specs.declared.found.Found.TheVariants.{Content as FoundContent, Abort as FoundAbort, Short as FoundShort, Long as FoundLong, Ragged as FoundRagged}
+use Rattle.x25_bits.specs.declared.found.Found.TheVariants.{Content as FoundContent, Abort as FoundAbort}
+use Rattle.x25_bits.specs.declared.found.Found.TheVariants.{Short as FoundShort, Long as FoundLong}
+use Rattle.x25_bits.specs.declared.found.Found.TheVariants.{Ragged as FoundRagged}
 use Rattle.x25_bits.specs.declared.found.Span.{Span}
-use Rattle.x25_bits.specs.declared.found.Span.TheVariants.{Content as SpanContent, Abort as SpanAbort, Short as SpanShort, Long as SpanLong, Ragged as SpanRagged}
+use Rattle.x25_bits.specs.declared.found.Span.TheVariants.{Content as SpanContent, Abort as SpanAbort}
+use Rattle.x25_bits.specs.declared.found.Span.TheVariants.{Short as SpanShort, Long as SpanLong, Ragged as SpanRagged}
 
 abbrev pub plain : Found → Class
 plain (FoundContent octets) = Content octets.items

@@ -14,4 +14,5 @@ fed r (b ∷ bits) = fed (stepped r b) bits
 
 -- what four words of eight octets leave in a register of zeros
 abbrev pub words_leave : ℕ → ℕ → ℕ → ℕ → List Bool
-words_leave a b c d = fed (fed (fed (fed (low_bits 16 0) (low_bits 64 a)) (low_bits 64 b)) (low_bits 64 c)) (low_bits 64 d)
+words_leave a b c d = fed (fed (fed (fed (low_bits 16 0) (low_bits 64 a)) (low_bits 64 b)) (low_bits 64 c))
+    (low_bits 64 d)
