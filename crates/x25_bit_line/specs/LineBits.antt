@@ -15,8 +15,11 @@ pub record Sends (old now : Option (List ℕ)) (left : List Bool) (text : List �
   pub few : length left < 8
   pub same : (more : List Bool) → told ++ octets_of (filled (left ++ more)) ≡ octets_of (filled (bits ++ more))
 
--- More bits are sent behind all those before; where that failed, what is written is a beginning of the octets, whatever follows.
-abbrev pub SendsLine : {T E : Type 0} → Result T E → Option (List ℕ) → Option (List ℕ) → List Bool → List Bool → List ℕ → List ℕ → List Bool → Type 0
-SendsLine r was now left stays waited waits more = (old : Option (List ℕ)) (bits : List Bool) → Sends old was left waited bits
+-- More bits are sent behind all those before; where that failed, what is written is a beginning of the octets, whatever
+-- follows.
+abbrev pub SendsLine : {T E : Type 0} → Result T E → Option (List ℕ) → Option (List ℕ) → List Bool → List Bool → List ℕ
+    → List ℕ → List Bool → Type 0
+SendsLine r was now left stays waited waits more = (old : Option (List ℕ)) (bits : List Bool)
+    → Sends old was left waited bits
     → MatchResult r (λ _. Sends old now stays waits (bits ++ more))
     (λ _. (behind : List Bool) → AppendsPrefix old now (octets_of (filled ((bits ++ more) ++ behind))))

@@ -28,7 +28,8 @@ pub(crate) struct FrameSender {
 }
 
 impl FrameSender {
-    ghost use Rattle.std.specs.Prelude.{◌≡◌, ◌≤◌, ◌||◌, not, [], true, false, ℕ, Bool, List, Option, IfOk, OnOk, IsErrOf, MatchResult, length};
+    ghost use Rattle.std.specs.Prelude.{◌≡◌, ◌≤◌, ◌||◌, not, [], true, false, ℕ, Bool, List, Option, IfOk, OnOk};
+    ghost use Rattle.std.specs.Prelude.{IsErrOf, MatchResult, length};
     ghost use Rattle.std.specs.Io.KnownBytes.{Appends};
     ghost use Rattle.x25_bits.specs.Found.{octets_of};
     ghost use Rattle.x25_bits.specs.Stuffing.{filled};
@@ -57,7 +58,8 @@ impl FrameSender {
     fn flush<W: Sink>(&mut self, writer: &mut W) -> Result<(), Fault>
         ensures kept { OnOk result (W.is_marked writer.new ≡ W.is_marked writer.old) }
         ensures tells { (old : Option (List ℕ)) (told : List ℕ) → Tells old (W.contents writer.old) self.old.output told
-            → MatchResult result (λ _. Tells old (W.contents writer.new) self.new.output told) (λ _. AppendsPrefix old (W.contents writer.new) told) }
+            → MatchResult result (λ _. Tells old (W.contents writer.new) self.new.output told)
+            (λ _. AppendsPrefix old (W.contents writer.new) told) }
         ensures empty { OnOk result (self.new.output ≡ []) }
         ensures bits { self.new.bits ≡ self.old.bits }
         ensures wrong { self.new.is_wrong ≡ self.old.is_wrong }
@@ -85,8 +87,11 @@ impl FrameSender {
 
     /// Sends the frame of a line of a trace, and nothing for another line.
     fn take<W: Sink>(&mut self, line: &[u8], writer: &mut W) -> Result<(), Fault>
-        ensures sends { SendsLine result (W.contents writer.old) (W.contents writer.new) self.old.bits.bits self.new.bits.bits self.old.output self.new.output (line_bits line.now) }
-        ensures wrong { length line.now ≤ most_line → OnOk result (self.new.is_wrong ≡ (self.old.is_wrong || is_wrong line.now)) }
+        ensures sends { SendsLine result (W.contents writer.old)
+            (W.contents writer.new) self.old.bits.bits self.new.bits.bits self.old.output self.new.output
+            (line_bits line.now) }
+        ensures wrong { length line.now ≤ most_line
+            → OnOk result (self.new.is_wrong ≡ (self.old.is_wrong || is_wrong line.now)) }
         ensures faults { MarksFaults W.Sink writer.old writer.new result }
     {
         match read_sent(line, self.octets.as_mut_slice()) {
@@ -103,8 +108,10 @@ impl FrameSender {
 
     /// Sends the bits that are left, and writes what waits.
     fn finish<W: Sink>(&mut self, writer: &mut W) -> Result<(), Fault>
-        ensures text { (old : Option (List ℕ)) (before : List Bool) → Sends old (W.contents writer.old) self.old.bits.bits self.old.output before
-            → MatchResult result (λ _. Appends old (W.contents writer.new) (octets_of (filled before))) (λ _. AppendsPrefix old (W.contents writer.new) (octets_of (filled before))) }
+        ensures text { (old : Option (List ℕ)) (before : List Bool)
+            → Sends old (W.contents writer.old) self.old.bits.bits self.old.output before
+            → MatchResult result (λ _. Appends old (W.contents writer.new) (octets_of (filled before)))
+            (λ _. AppendsPrefix old (W.contents writer.new) (octets_of (filled before))) }
         ensures wrong { self.new.is_wrong ≡ self.old.is_wrong }
         ensures faults { MarksFaults W.Sink writer.old writer.new result }
     {

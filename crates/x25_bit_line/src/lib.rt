@@ -1,5 +1,5 @@
-//! A synchronous line as octets, over any reader and writer: the spans between its flags as lines of a trace, and lines of a trace
-//! as frames between flags.
+//! A synchronous line as octets, over any reader and writer: the spans between its flags as lines of a trace, and lines
+//! of a trace as frames between flags.
 //!
 //! docs/FORMATS.md has the lines. Profile.
 #![tactic(auto)]

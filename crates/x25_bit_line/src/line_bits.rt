@@ -67,7 +67,8 @@ impl LineBits {
     /// Tells the octets that the bits fill.
     fn tell_octets<W: Sink>(&self, output: &mut Output, writer: &mut W) -> Result<(), Fault>
         ensures kept { OnOk result (W.is_marked writer.new ≡ W.is_marked writer.old) }
-        ensures tells { TellsMore result (W.contents writer.old) (W.contents writer.new) output.old output.new (octets_of self.now.bits) }
+        ensures tells { TellsMore result (W.contents writer.old) (W.contents writer.new) output.old output.new
+            (octets_of self.now.bits) }
         ensures write { IsErrOf result Fault.Write → W.is_marked writer.new ≡ true }
         ensures memory { IsErrOf result Fault.NoMemory → ⊥ }
         ensures read { IsErrOf result Fault.Read → ⊥ }
@@ -83,7 +84,8 @@ impl LineBits {
 
     /// Tells the octets that the bits fill, and keeps the bits behind them.
     fn send<W: Sink>(&mut self, output: &mut Output, writer: &mut W) -> Result<(), Fault>
-        ensures tells { TellsMore result (W.contents writer.old) (W.contents writer.new) output.old output.new (octets_of self.old.bits) }
+        ensures tells { TellsMore result (W.contents writer.old) (W.contents writer.new) output.old output.new
+            (octets_of self.old.bits) }
         ensures rest { OnOk result (self.new.bits ≡ behind_octets self.old.bits) }
         ensures faults { MarksFaults W.Sink writer.old writer.new result }
     {
@@ -100,7 +102,8 @@ impl LineBits {
         output: &mut Output,
         writer: &mut W,
     ) -> Result<(), Fault>
-        ensures tells { TellsMore result (W.contents writer.old) (W.contents writer.new) output.old output.new (octets_of (self.old.bits ++ framed octets.now)) }
+        ensures tells { TellsMore result (W.contents writer.old) (W.contents writer.new) output.old output.new
+            (octets_of (self.old.bits ++ framed octets.now)) }
         ensures rest { OnOk result (self.new.bits ≡ behind_octets (self.old.bits ++ framed octets.now)) }
         ensures faults { MarksFaults W.Sink writer.old writer.new result }
     {
@@ -125,7 +128,8 @@ impl LineBits {
         output: &mut Output,
         writer: &mut W,
     ) -> Result<(), Fault>
-        ensures tells { TellsMore result (W.contents writer.old) (W.contents writer.new) output.old output.new (octets_of (filled self.old.bits)) }
+        ensures tells { TellsMore result (W.contents writer.old) (W.contents writer.new) output.old output.new
+            (octets_of (filled self.old.bits)) }
         ensures faults { MarksFaults W.Sink writer.old writer.new result }
     {
         self.fill()?;

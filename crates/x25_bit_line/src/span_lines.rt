@@ -28,7 +28,8 @@ pub(crate) struct SpanLines {
 }
 
 impl SpanLines {
-    ghost use Rattle.std.specs.Prelude.{◌≡◌, ◌≤◌, ◌++◌, [], true, ℕ, List, Option, IfOk, OnOk, OnErr, MatchResult, length};
+    ghost use Rattle.std.specs.Prelude.{◌≡◌, ◌≤◌, ◌++◌, [], true, ℕ, List, Option, IfOk, OnOk, OnErr, MatchResult};
+    ghost use Rattle.std.specs.Prelude.{length};
     ghost use Rattle.std.specs.List.{flat_map};
     ghost use Rattle.x25_bits.specs.code.Plain.{plain_span};
     ghost use Rattle.x25_io.specs.code.Written.{AppendsPrefix, Tells, TellsMore};
@@ -53,7 +54,8 @@ impl SpanLines {
     pub(crate) fn flush<W: Sink>(&mut self, writer: &mut W) -> Result<(), Failed>
         ensures kept { OnOk result (W.is_marked writer.new ≡ W.is_marked writer.old) }
         ensures tells { (old : Option (List ℕ)) (told : List ℕ) → Tells old (W.contents writer.old) self.old.output told
-            → MatchResult result (λ _. Tells old (W.contents writer.new) self.new.output told) (λ _. AppendsPrefix old (W.contents writer.new) told) }
+            → MatchResult result (λ _. Tells old (W.contents writer.new) self.new.output told)
+            (λ _. AppendsPrefix old (W.contents writer.new) told) }
         ensures empty { OnOk result (self.new.output ≡ []) }
         ensures marked { OnErr result (W.is_marked writer.new ≡ true) }
         ensures from { self.new.from ≡ self.old.from }
@@ -75,7 +77,8 @@ impl SpanLines {
     /// Tells octets as hexadecimal digits.
     fn tell_digits<W: Sink>(&mut self, octets: &[u8], writer: &mut W) -> Result<(), Failed>
         ensures kept { OnOk result (W.is_marked writer.new ≡ W.is_marked writer.old) }
-        ensures tells { TellsMore result (W.contents writer.old) (W.contents writer.new) self.old.output self.new.output (flat_map octet_text octets.now) }
+        ensures tells { TellsMore result (W.contents writer.old) (W.contents writer.new) self.old.output self.new.output
+            (flat_map octet_text octets.now) }
         ensures marked { OnErr result (W.is_marked writer.new ≡ true) }
         ensures from { self.new.from ≡ self.old.from }
     {
@@ -92,7 +95,8 @@ impl SpanLines {
     /// Tells a content.
     fn tell_content<W: Sink>(&mut self, octets: &[u8], writer: &mut W) -> Result<(), Failed>
         ensures kept { OnOk result (W.is_marked writer.new ≡ W.is_marked writer.old) }
-        ensures tells { TellsMore result (W.contents writer.old) (W.contents writer.new) self.old.output self.new.output (trace_line self.old.from octets.now) }
+        ensures tells { TellsMore result (W.contents writer.old) (W.contents writer.new) self.old.output self.new.output
+            (trace_line self.old.from octets.now) }
         ensures marked { OnErr result (W.is_marked writer.new ≡ true) }
         ensures from { self.new.from ≡ self.old.from }
     {
@@ -104,7 +108,8 @@ impl SpanLines {
     /// Tells a span.
     pub(crate) fn tell<W: Sink>(&mut self, span: &Span<'_>, writer: &mut W) -> Result<(), Failed>
         ensures kept { OnOk result (W.is_marked writer.new ≡ W.is_marked writer.old) }
-        ensures tells { TellsMore result (W.contents writer.old) (W.contents writer.new) self.old.output self.new.output (class_line self.old.from (plain_span span.now)) }
+        ensures tells { TellsMore result (W.contents writer.old) (W.contents writer.new) self.old.output self.new.output
+            (class_line self.old.from (plain_span span.now)) }
         ensures marked { OnErr result (W.is_marked writer.new ≡ true) }
         ensures from { self.new.from ≡ self.old.from }
     {

@@ -1,12 +1,14 @@
--- The calls of the user of a circuit, and which data packet may be sent. ITU-T X.25 (10/96), sections 4.1, 4.3 and 4.4. The
--- refusals, the bounds on what waits, and cause and diagnostic 0 of the user's CLEAR and RESET are of the profile.
-use Rattle.std.specs.Prelude.{ℕ, ◌+◌, ◌%◌, List, [], ◌∷◌, ◌++◌, length, Option, Some, None, Bool, true, false, nat_lt, nat_le, ◌&&◌, if◌then◌else◌}
+-- The calls of the user of a circuit, and which data packet may be sent. ITU-T X.25 (10/96), sections 4.1, 4.3 and 4.4.
+-- The refusals, the bounds on what waits, and cause and diagnostic 0 of the user's CLEAR and RESET are of the profile.
+use Rattle.std.specs.Prelude.{ℕ, ◌+◌, ◌%◌, List, [], ◌∷◌, ◌++◌, length, Option, Some, None, Bool, true, false, nat_lt}
+use Rattle.std.specs.Prelude.{nat_le, ◌&&◌, if◌then◌else◌}
 use Rattle.std.specs.List.{list_all}
 use Rattle.x25_packet.specs.Digits.{digits_of_text, is_figure}
 use Rattle.x25_packet.specs.Packet.{PlainPacket, call, accept, clear, user_data, interrupt, reset}
 use Rattle.x25_packet.specs.Spelling.{longest_user}
 use Rattle.x25_circuit.specs.declared.error.CircuitError.{CircuitError}
-use Rattle.x25_circuit.specs.declared.error.CircuitError.TheVariants.{WrongState, Full, TooLong, InterruptOutstanding, BadParameter}
+use Rattle.x25_circuit.specs.declared.error.CircuitError.TheVariants.{WrongState, Full, TooLong, InterruptOutstanding}
+use Rattle.x25_circuit.specs.declared.error.CircuitError.TheVariants.{BadParameter}
 use Rattle.x25_circuit.specs.declared.state.State.{State}
 use Rattle.x25_circuit.specs.declared.state.State.TheVariants.{Free, Calling, Arriving, Open, Resetting, Clearing}
 use Rattle.x25_circuit.specs.declared.params.Params.{Params}
@@ -57,17 +59,20 @@ call_sent request = call 1 request.called request.calling (field_for default_par
 -- both addresses are texts of digits, there is no more user data than a CALL has, and what is proposed is in range
 abbrev pub may_call : Bool → List ℕ → List ℕ → List ℕ → Params → Bool
 may_call long_data called calling user params =
-    is_address_text called && (is_address_text calling && (nat_le (length user) (longest_user long_data) && may_propose params))
+    is_address_text called && (is_address_text calling
+    && (nat_le (length user) (longest_user long_data) && may_propose params))
 
 abbrev pub call_in : Settings → Circuit → State → List ℕ → List ℕ → List ℕ → Params → Outcome
 call_in c x Free called calling user params =
-    if may_call c.long_data called calling user params then does x Calling params true (call_sent (request_of called calling user params)) else Refused BadParameter
+    if may_call c.long_data called calling user params
+    then does x Calling params true (call_sent (request_of called calling user params)) else Refused BadParameter
 call_in c x state called calling user params = Refused WrongState
 
 -- what is as proposed isn't said
 abbrev pub accept_with : Circuit → Option Params → Outcome
 accept_with x None = does x Open x.params false (accept 1 [])
-accept_with x (Some answer) = if may_answer x.params answer then does x Open answer false (accept 1 (field_for x.params answer)) else Refused BadParameter
+accept_with x (Some answer) = if may_answer x.params answer
+    then does x Open answer false (accept 1 (field_for x.params answer)) else Refused BadParameter
 
 abbrev pub accept_in : Circuit → State → Option Params → Outcome
 accept_in x Arriving answer = accept_with x answer
@@ -85,7 +90,16 @@ abbrev pub send_open : Settings → Circuit → Talk → Bool → List ℕ → O
 send_open c x t q user =
     if nat_le (length user) 65535
     then (if nat_lt (waits x) 8
-    then keeps_on x (record { sent = t.sent; taken = t.taken; acked = t.acked; rest = t.rest ++ cut (outgoing x).size q user; int_out = t.int_out; peer_ready = t.peer_ready; own_ready = t.own_ready }) None
+    then keeps_on x (record {
+      sent = t.sent;
+      taken = t.taken;
+      acked = t.acked;
+      rest = t.rest
+          ++ cut (outgoing x).size q user;
+      int_out = t.int_out;
+      peer_ready = t.peer_ready;
+      own_ready = t.own_ready;
+    }) None
     else Refused Full)
     else Refused TooLong
 
@@ -146,13 +160,23 @@ abbrev pub data_packet : ℕ → ℕ → Piece → PlainPacket
 data_packet ps pr (More q user) = user_data 1 q true ps pr user
 data_packet ps pr (Last q user) = user_data 1 q false ps pr user
 
--- It is sent where the other end is ready and fewer than the window are unacknowledged (section 4.4.1.2), with P(S) and P(R).
+-- It is sent where the other end is ready and fewer than the window are unacknowledged (section 4.4.1.2), with P(S) and
+-- P(R).
 abbrev pub pull_open : Settings → Circuit → Talk → List Piece → Pulled
 pull_open c x t [] = pulls_nothing x
 pull_open c x t (piece ∷ rest) =
     if t.peer_ready && nat_lt (length t.sent) (t.acked + (outgoing x).window)
     then record {
-      next = talking x (record { sent = t.sent ++ piece ∷ []; taken = t.taken; acked = t.acked; rest = rest; int_out = t.int_out; peer_ready = t.peer_ready; own_ready = t.own_ready });
+      next = talking x (record {
+        sent = t.sent
+            ++ piece ∷ [];
+        taken = t.taken;
+        acked = t.acked;
+        rest = rest;
+        int_out = t.int_out;
+        peer_ready = t.peer_ready;
+        own_ready = t.own_ready;
+      });
       packet = Some (data_packet (length t.sent % 8) (length t.taken % 8) piece);
     }
     else pulls_nothing x

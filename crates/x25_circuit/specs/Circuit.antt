@@ -12,10 +12,10 @@ pub record Settings : Type 0 where
   pub role : Role
   pub long_data : Bool
 
--- What belongs to the present stretch, from a call or a reset on: the data packets sent, of which P(S) of the next is the
--- number; those taken, of which P(R) is the number; how many of those sent the other end acknowledged; the packets that
--- wait, as the messages are cut; whether an interrupt of this end isn't confirmed yet; whether the other end is ready
--- to receive, and whether this end is.
+-- What belongs to the present stretch, from a call or a reset on: the data packets sent, of which P(S) of the next is
+-- the number; those taken, of which P(R) is the number; how many of those sent the other end acknowledged; the packets
+-- that wait, as the messages are cut; whether an interrupt of this end isn't confirmed yet; whether the other end is
+-- ready to receive, and whether this end is.
 pub record Talk : Type 0 where
   pub sent : List Piece
   pub taken : List Piece
@@ -29,9 +29,9 @@ pub record Talk : Type 0 where
 abbrev pub silent : Talk
 silent = record { sent = []; taken = []; acked = 0; rest = []; int_out = false; peer_ready = true; own_ready = true }
 
--- With the numbers of clears done, and of resets done since the last of these (profile); with packet sizes and windows, which
--- are proposed by this end until its call is accepted, proposed by the other end where that one called, and in force from
--- there on; and whether this end called. Where there is no call, these two are the defaults and false.
+-- With the numbers of clears done, and of resets done since the last of these (profile); with packet sizes and windows,
+-- which are proposed by this end until its call is accepted, proposed by the other end where that one called, and in
+-- force from there on; and whether this end called. Where there is no call, these two are the defaults and false.
 pub record Circuit : Type 0 where
   pub state : State
   pub clears : ℕ

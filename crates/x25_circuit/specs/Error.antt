@@ -1,7 +1,8 @@
 -- The number of each refusal of a circuit (profile).
 use Rattle.std.specs.Prelude.{ℕ}
 use Rattle.x25_circuit.specs.declared.error.CircuitError.{CircuitError}
-use Rattle.x25_circuit.specs.declared.error.CircuitError.TheVariants.{WrongState, Full, TooLong, InterruptOutstanding, BadParameter, NoMemory}
+use Rattle.x25_circuit.specs.declared.error.CircuitError.TheVariants.{WrongState, Full, TooLong, InterruptOutstanding}
+use Rattle.x25_circuit.specs.declared.error.CircuitError.TheVariants.{BadParameter, NoMemory}
 
 abbrev pub number_of : CircuitError → ℕ
 number_of WrongState = 30

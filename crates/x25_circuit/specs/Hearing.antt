@@ -1,22 +1,26 @@
 -- What a circuit does with a packet: the table, a function for each packet, by cases on the state. Packets of a circuit
 -- name channel 1, and the channel of those taken isn't looked at.
--- ITU-T X.25 (10/96), sections 4.1, 4.3 and 4.4, and Annex C, tables C-3 and C-4. All diagnostics, and which error leads to
--- which procedure, are of the profile.
-use Rattle.std.specs.Prelude.{ℕ, suc, ◌+◌, ◌%◌, List, [], ◌∷◌, ◌++◌, length, Option, Some, None, Bool, true, false, nat_le, ◌==◌, if◌then◌else◌}
+-- ITU-T X.25 (10/96), sections 4.1, 4.3 and 4.4, and Annex C, tables C-3 and C-4. All diagnostics, and which error
+-- leads to which procedure, are of the profile.
+use Rattle.std.specs.Prelude.{ℕ, suc, ◌+◌, ◌%◌, List, [], ◌∷◌, ◌++◌, length, Option, Some, None, Bool, true, false}
+use Rattle.std.specs.Prelude.{nat_le, ◌==◌, if◌then◌else◌}
 use Rattle.x25_bits.specs.declared.role.Role.{Role}
 use Rattle.x25_bits.specs.declared.role.Role.TheVariants.{Dte, Dce}
 use Rattle.x25_packet.specs.declared.error.PacketError.{PacketError}
 use Rattle.x25_packet.specs.declared.error.PacketError.TheVariants.{BadFacility, BadParameter}
 use Rattle.x25_packet.specs.Error.{diagnostic_of}
-use Rattle.x25_packet.specs.Packet.{PlainPacket, call, accept, clear, clear_conf, user_data, rr, rnr, interrupt, interrupt_conf, reset, reset_conf, restart, restart_conf}
+use Rattle.x25_packet.specs.Packet.{PlainPacket, call, accept, clear, clear_conf, user_data, rr, rnr, interrupt}
+use Rattle.x25_packet.specs.Packet.{interrupt_conf, reset, reset_conf, restart, restart_conf}
 use Rattle.x25_window.specs.code.Modulo.{resolved}
 use Rattle.x25_circuit.specs.declared.state.State.{State}
-use Rattle.x25_circuit.specs.declared.state.State.TheVariants.{Free, Calling, Arriving, Collision, Open, Resetting, Clearing}
+use Rattle.x25_circuit.specs.declared.state.State.TheVariants.{Free, Calling, Arriving, Collision, Open, Resetting}
+use Rattle.x25_circuit.specs.declared.state.State.TheVariants.{Clearing}
 use Rattle.x25_circuit.specs.declared.params.Params.{Params}
 use Rattle.x25_circuit.specs.Params.{default_params, may_answer, said_in}
 use Rattle.x25_circuit.specs.Message.{Piece, piece_of, no_part, joining, completed, piece_ground}
 use Rattle.x25_circuit.specs.Circuit.{Settings, Talk, silent, Circuit, entered, talking, incoming as terms_in}
-use Rattle.x25_circuit.specs.Notice.{CallRequest, PlainNotice, incoming, connected, collided, cleared, clear_done, was_reset, reset_done, interrupted, interrupt_done, fault, deliveries}
+use Rattle.x25_circuit.specs.Notice.{CallRequest, PlainNotice, incoming, connected, collided, cleared, clear_done}
+use Rattle.x25_circuit.specs.Notice.{was_reset, reset_done, interrupted, interrupt_done, fault, deliveries}
 
 -- what a packet does: the circuit after it, the packet owed, and what the user is told
 pub record Answer : Type 0 where
@@ -55,11 +59,13 @@ cause_at Dce cause = cause
 
 -- the call is cleared
 abbrev pub clears_for : Settings → Circuit → ℕ → ℕ → Answer
-clears_for c x cause diagnostic = goes x Clearing default_params false (Some (clear 1 (cause_at c.role cause) diagnostic)) (fault diagnostic ∷ [])
+clears_for c x cause diagnostic = goes x Clearing default_params false
+    (Some (clear 1 (cause_at c.role cause) diagnostic)) (fault diagnostic ∷ [])
 
 -- the call is reset: cause 5, local procedure error
 abbrev pub resets_for : Settings → Circuit → ℕ → Answer
-resets_for c x diagnostic = goes x Resetting x.params x.calls (Some (reset 1 (cause_at c.role 5) diagnostic)) (fault diagnostic ∷ [])
+resets_for c x diagnostic = goes x Resetting x.params x.calls (Some (reset 1 (cause_at c.role 5) diagnostic))
+    (fault diagnostic ∷ [])
 
 abbrev pub by_role : Role → ℕ → ℕ → ℕ
 by_role Dte dte dce = dte
@@ -81,8 +87,8 @@ unexpected c x state = clears_for c x 19 (diagnostic_in c.role state)
 
 -- ---- setting up and clearing
 
--- CALL against a call of this end: the DTE waits for the DCE's answer, and the DCE gives its own call up, with what that
--- proposed (section 4.1.6)
+-- CALL against a call of this end: the DTE waits for the DCE's answer, and the DCE gives its own call up, with what
+-- that proposed (section 4.1.6)
 abbrev pub collides : Role → Circuit → CallRequest → Answer
 collides Dte x request = goes x Collision x.params true None []
 collides Dce x request = goes x Arriving request.params false None (collided ∷ incoming request ∷ [])
@@ -94,9 +100,11 @@ row_call c x Calling request = collides c.role x request
 row_call c x Clearing request = ignores x
 row_call c x state request = unexpected c x state
 
--- what is answered is in force, where it may be answered (section 6.12): cause 3, invalid facility request, and diagnostic 66
+-- what is answered is in force, where it may be answered (section 6.12): cause 3, invalid facility request, and
+-- diagnostic 66
 abbrev pub connects : Settings → Circuit → Params → Answer
-connects c x answered = if may_answer x.params answered then goes x Open answered true None (connected answered ∷ []) else clears_for c x 3 66
+connects c x answered = if may_answer x.params answered then goes x Open answered true None (connected answered ∷ [])
+    else clears_for c x 3 66
 
 -- CALL ACCEPTED (sections 4.1.4 and 4.1.5). What it doesn't say is answered as it was proposed.
 abbrev pub row_accept : Settings → Circuit → State → List ℕ → Answer
@@ -139,13 +147,13 @@ abbrev pub unless : Settings → Circuit → Option ℕ → Answer → Answer
 unless c x None good = good
 unless c x (Some diagnostic) good = resets_for c x diagnostic
 
--- A P(R) stands for the one number from the last one received that equals it modulo 8, which is at most P(S) of the next
--- packet to be sent (section 4.4.1.3); else 2.
+-- A P(R) stands for the one number from the last one received that equals it modulo 8, which is at most P(S) of the
+-- next packet to be sent (section 4.4.1.3); else 2.
 abbrev pub number_ground : Talk → ℕ → Option ℕ
 number_ground t pr = if nat_le (resolved t.acked pr) (length t.sent) then None else Some 2
 
--- the first ground of a data packet: its P(R); its P(S), which is the number of packets taken modulo 8 (section 4.4.1.1),
--- else 1; then its size and its qualifier
+-- the first ground of a data packet: its P(R); its P(S), which is the number of packets taken modulo 8 (section
+-- 4.4.1.1), else 1; then its size and its qualifier
 abbrev pub data_ground : ℕ → Talk → ℕ → ℕ → Piece → Option ℕ
 data_ground size t ps pr piece =
     if nat_le (resolved t.acked pr) (length t.sent)
@@ -160,7 +168,16 @@ status false taken = rnr 1 (taken % 8)
 -- each data packet is acknowledged at once (profile)
 abbrev pub takes : Circuit → Talk → ℕ → Piece → Answer
 takes x t pr piece =
-    talks x (record { sent = t.sent; taken = t.taken ++ piece ∷ []; acked = resolved t.acked pr; rest = t.rest; int_out = t.int_out; peer_ready = t.peer_ready; own_ready = t.own_ready })
+    talks x (record {
+      sent = t.sent;
+      taken = t.taken
+          ++ piece ∷ [];
+      acked = resolved t.acked pr;
+      rest = t.rest;
+      int_out = t.int_out;
+      peer_ready = t.peer_ready;
+      own_ready = t.own_ready;
+    })
     (Some (status t.own_ready (length t.taken + 1)))
     (deliveries (completed (joining no_part t.taken) piece))
 
@@ -198,7 +215,8 @@ abbrev pub request_in : List ℕ → List ℕ → List ℕ → List ℕ → Call
 request_in called calling facilities user = record { called = called; calling = calling; user = user; params = said_in default_params facilities }
 
 abbrev pub answers : Settings → Circuit → PlainPacket → Answer
-answers c x (call channel called calling facilities user) = row_call c x x.state (request_in called calling facilities user)
+answers c x (call channel called calling facilities user) = row_call c x x.state
+    (request_in called calling facilities user)
 answers c x (accept channel facilities) = row_accept c x x.state facilities
 answers c x (clear channel cause diagnostic) = row_clear x x.state cause diagnostic
 answers c x (clear_conf channel) = row_clear_conf c x x.state

@@ -1,5 +1,7 @@
--- Data packets, and the messages that they carry, whoever cut them. ITU-T X.25 (10/96), sections 4.3.2 and 4.3.4 to 4.3.6.
-use Rattle.std.specs.Prelude.{◌≡◌, ℕ, zero, suc, ◌+◌, List, [], ◌∷◌, ◌++◌, length, take, drop, Option, Some, None, Bool, true, false, nat_le, if◌then◌else◌}
+-- Data packets, and the messages that they carry, whoever cut them. ITU-T X.25 (10/96), sections 4.3.2 and 4.3.4 to
+-- 4.3.6.
+use Rattle.std.specs.Prelude.{◌≡◌, ℕ, zero, suc, ◌+◌, List, [], ◌∷◌, ◌++◌, length, take, drop, Option, Some, None, Bool}
+use Rattle.std.specs.Prelude.{true, false, nat_le, if◌then◌else◌}
 use Rattle.x25_circuit.specs.declared.message.Message.{Message}
 
 -- the user data of a data packet with its marks: the more data mark is 1 or 0, and Q is the qualifier
@@ -60,9 +62,9 @@ abbrev pub may_have_q : Option Bool → Bool → Bool
 may_have_q None q = true
 may_have_q (Some r) q = same_q r q
 
--- The first ground on which so many octets with this qualifier are refused behind what has begun: 39 where they are more
--- than a packet holds, or the message gets more than 65,535; 83 where the qualifier isn't that of the packets before.
--- The diagnostics are of the profile.
+-- The first ground on which so many octets with this qualifier are refused behind what has begun: 39 where they are
+-- more than a packet holds, or the message gets more than 65,535; 83 where the qualifier isn't that of the packets
+-- before. The diagnostics are of the profile.
 abbrev pub ground_of : ℕ → Partial → ℕ → Bool → Option ℕ
 ground_of size j n q =
     if nat_le n size

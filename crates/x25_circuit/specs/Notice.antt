@@ -3,8 +3,8 @@ use Rattle.std.specs.Prelude.{ℕ, List, [], ◌∷◌}
 use Rattle.x25_circuit.specs.declared.message.Message.{Message}
 use Rattle.x25_circuit.specs.declared.params.Params.{Params}
 
--- what a call says: the digits of the called and of the calling address, the user data, and the packet sizes and windows that
--- are proposed
+-- what a call says: the digits of the called and of the calling address, the user data, and the packet sizes and
+-- windows that are proposed
 pub record CallRequest : Type 0 where
   pub called : List ℕ
   pub calling : List ℕ

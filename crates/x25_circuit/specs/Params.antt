@@ -1,6 +1,6 @@
--- What a call proposes and its acceptance answers: for each end the code of the packet size, and the window, of the data packets
--- that it sends. ITU-T X.25 (10/96), sections 6.12 and 7.2.2.1; that what isn't said stands as it was known is of the
--- profile.
+-- What a call proposes and its acceptance answers: for each end the code of the packet size, and the window, of the
+-- data packets that it sends. ITU-T X.25 (10/96), sections 6.12 and 7.2.2.1; that what isn't said stands as it was
+-- known is of the profile.
 use Rattle.std.specs.Prelude.{ℕ, ◌^◌, ◌==◌, ◌&&◌, ◌||◌, Bool, List, if◌then◌else◌, Option, Some, None, Result, Ok, Err}
 use Rattle.x25_packet.specs.declared.facilities.Facilities.{Facilities}
 use Rattle.x25_packet.specs.declared.facilities.Directions.{Directions}
@@ -14,7 +14,8 @@ default_params = record { size_called = 7; size_calling = 7; win_called = 2; win
 
 -- packet sizes are 2 to a power of 4 to 12 octets, windows 1 to 7 packets
 abbrev pub may_propose : Params → Bool
-may_propose p = is_within 4 12 p.size_called && (is_within 4 12 p.size_calling && (is_within 1 7 p.win_called && is_within 1 7 p.win_calling))
+may_propose p = is_within 4 12 p.size_called && (is_within 4 12 p.size_calling
+    && (is_within 1 7 p.win_called && is_within 1 7 p.win_calling))
 
 -- from the value that is proposed to the default, both included
 abbrev pub is_toward : ℕ → ℕ → ℕ → Bool
@@ -44,7 +45,11 @@ news known said = if said.called == known.called && said.calling == known.callin
 -- the octets of the facility field that says these, where the first are known
 abbrev pub field_for : Params → Params → List ℕ
 field_for known said =
-    field_of (record { packet_size = news (sizes_of known) (sizes_of said); window_size = news (windows_of known) (windows_of said) })
+    field_of (record {
+      packet_size = news (sizes_of known) (sizes_of said);
+      window_size = news (windows_of known)
+          (windows_of said);
+    })
 
 abbrev pub said_or : Directions → Option Directions → Directions
 said_or known None = known
@@ -52,7 +57,8 @@ said_or known (Some said) = said
 
 -- a field that is none says nothing
 abbrev pub said_by : Params → Result Facilities PacketError → Params
-said_by known (Ok facilities) = params_of (said_or (sizes_of known) facilities.packet_size) (said_or (windows_of known) facilities.window_size)
+said_by known (Ok facilities) = params_of (said_or (sizes_of known) facilities.packet_size)
+    (said_or (windows_of known) facilities.window_size)
 said_by known (Err e) = known
 
 -- what a field says where these are known

@@ -15,7 +15,8 @@ abbrev pub packet_with : Option Header → List ℕ → Option PlainPacket
 packet_with None user = None
 packet_with (Some header) user = Some (user_data 1 header.q header.m header.ps.number header.pr.number user)
 
--- for each state that it fitted, it fits the one after the pull; memory that was set aside is kept, and so are the counts
+-- for each state that it fitted, it fits the one after the pull; memory that was set aside is kept, and so are the
+-- counts
 abbrev pub EndsPulled : MutBor code.Circuit → Fml
 EndsPulled s = follows_so the_row the_row s.ghost_name none (λ _ _. ⊤)
     (λ n. (room_of s.now ≤ room_of n)

@@ -8,7 +8,8 @@ use Rattle.x25_circuit.specs.declared.params.Params.{Params}
 use Rattle.x25_circuit.specs.declared.request.Request as declared
 use Rattle.x25_circuit.specs.declared.request.Request.TheVariants as code
 use Rattle.x25_circuit.specs.Circuit.{Settings}
-use Rattle.x25_circuit.specs.Calling.{Outcome, Done, Refused, Request, Calls, Accepts, Clears, Sends, Interrupts, Resets, SaysReady, SaysNotReady}
+use Rattle.x25_circuit.specs.Calling.{Outcome, Done, Refused, Request, Calls, Accepts, Clears, Sends, Interrupts}
+use Rattle.x25_circuit.specs.Calling.{Resets, SaysReady, SaysNotReady}
 use Rattle.x25_circuit.specs.code.FitsCircuit.{FitsCircuit}
 use Rattle.x25_circuit.specs.code.Replies.{plain_sent}
 

@@ -1,5 +1,6 @@
 //! The user's calls that set up and clear. ITU-T X.25 (10/96), sections 4.1.2, 4.1.4 and 4.1.7.
-ghost use Rattle.std.specs.Prelude.{◌≡◌, ◌≤◌, OnErr, IfSome, IfNone, Some, None, true, false, IfOk, IfErr, length, unwrap_or};
+ghost use Rattle.std.specs.Prelude.{◌≡◌, ◌≤◌, OnErr, IfSome, IfNone, Some, None, true, false, IfOk, IfErr, length};
+ghost use Rattle.std.specs.Prelude.{unwrap_or};
 ghost use Rattle.std.specs.Result.{result_err};
 ghost use Rattle.x25_packet.specs.Packet.{plain};
 ghost use Rattle.x25_packet.specs.Spelling.{IsInRange};
@@ -8,7 +9,8 @@ ghost use Rattle.x25_circuit.specs.declared.state.State.{State};
 ghost use Rattle.x25_circuit.specs.Circuit.{Settings};
 ghost use Rattle.x25_circuit.specs.Circuit.{Circuit as Channel};
 ghost use Rattle.x25_circuit.specs.Params.{default_params, field_for, may_answer};
-ghost use Rattle.x25_circuit.specs.Calling.{outcome, Refused, Calls, Accepts, Clears, may_call, call_in, accept_in, is_address_text};
+ghost use Rattle.x25_circuit.specs.Calling.{outcome, Refused, Calls, Accepts, Clears, may_call, call_in, accept_in};
+ghost use Rattle.x25_circuit.specs.Calling.{is_address_text};
 ghost use Rattle.x25_circuit.specs.Request.{plain_answer, refusal_of};
 ghost use Rattle.x25_circuit.specs.code.FitsCircuit.{FitsCircuit, Sends, room_of, clears_of, resets_of};
 
@@ -69,8 +71,8 @@ fn fields_of<'a>(
 }
 
 impl Circuit {
-    /// Calls the other end, with addresses of 0 to 15 digits and at most 16 octets of user data (128 where it may be long),
-    /// and proposes the default packet sizes and windows. It answers CALL.
+    /// Calls the other end, with addresses of 0 to 15 digits and at most 16 octets of user data (128 where it may be
+    /// long), and proposes the default packet sizes and windows. It answers CALL.
     ///
     /// 30 WrongState outside of p1, then 34 BadParameter where an address or the user data is none of these.
     pub fn call<'a>(
@@ -79,7 +81,8 @@ impl Circuit {
         calling: &'a str,
         user: &'a [u8],
     ) -> Result<Packet<'a>, CircuitError>
-        ensures outcome { (c : Settings) (x : Channel) → FitsCircuit c self.old x → Sends c self.new result (outcome c x (Calls called.now calling.now user.now default_params)) }
+        ensures outcome { (c : Settings) (x : Channel) → FitsCircuit c self.old x
+            → Sends c self.new result (outcome c x (Calls called.now calling.now user.now default_params)) }
         ensures range { IfOk result (λ packet. IsInRange 128 (plain packet)) }
         ensures room { room_of self.old ≤ room_of self.new }
         ensures clears { clears_of self.new ≡ clears_of self.old }
@@ -89,10 +92,11 @@ impl Circuit {
         self.call_out(called, calling, user, Params::default(), &[])
     }
 
-    /// Calls as `call`, and proposes these packet sizes and windows: sizes of 4 to 12, and windows of 1 to 7. What isn't the
-    /// default stands in the CALL. ITU-T X.25 (10/96), section 6.12.
+    /// Calls as `call`, and proposes these packet sizes and windows: sizes of 4 to 12, and windows of 1 to 7. What
+    /// isn't the default stands in the CALL. ITU-T X.25 (10/96), section 6.12.
     ///
-    /// 30 WrongState outside of p1, then 34 BadParameter where an address, the user data, a size or a window is none of these.
+    /// 30 WrongState outside of p1, then 34 BadParameter where an address, the user data, a size or a window is none of
+    /// these.
     pub fn call_with<'a>(
         &mut self,
         called: &'a str,
@@ -100,7 +104,8 @@ impl Circuit {
         user: &'a [u8],
         proposal: &'a Proposal,
     ) -> Result<Packet<'a>, CircuitError>
-        ensures outcome { (c : Settings) (x : Channel) → FitsCircuit c self.old x → Sends c self.new result (outcome c x (Calls called.now calling.now user.now proposal.now)) }
+        ensures outcome { (c : Settings) (x : Channel) → FitsCircuit c self.old x
+            → Sends c self.new result (outcome c x (Calls called.now calling.now user.now proposal.now)) }
         ensures range { IfOk result (λ packet. IsInRange 128 (plain packet)) }
         ensures room { room_of self.old ≤ room_of self.new }
         ensures clears { clears_of self.new ≡ clears_of self.old }
@@ -126,7 +131,8 @@ impl Circuit {
         facilities: &'a [u8],
     ) -> Result<Packet<'a>, CircuitError>
         requires { facilities.now ≡ field_for default_params params }
-        ensures outcome { (c : Settings) (x : Channel) → FitsCircuit c self.old x → Sends c self.new result (call_in c x x.state called.now calling.now user.now params) }
+        ensures outcome { (c : Settings) (x : Channel) → FitsCircuit c self.old x
+            → Sends c self.new result (call_in c x x.state called.now calling.now user.now params) }
         ensures range { IfOk result (λ packet. IsInRange 128 (plain packet)) }
         ensures room { room_of self.old ≤ room_of self.new }
         ensures clears { clears_of self.new ≡ clears_of self.old }
@@ -153,15 +159,18 @@ impl Circuit {
         params: Params,
     ) -> Result<CallFields<'a>, CircuitError>
         ensures free { IfOk result (λ fields. self.now.state ≡ State.Free) }
-        ensures may_call { IfOk result (λ fields. may_call self.now.long_data called.now calling.now user.now params ≡ true) }
+        ensures may_call { IfOk result (λ fields. may_call self.now.long_data called.now calling.now user.now params
+            ≡ true) }
         ensures called { IfOk result (λ fields. fields.called ≡ digits_of_text called.now) }
         ensures calling { IfOk result (λ fields. fields.calling ≡ digits_of_text calling.now) }
         ensures called_address { IfOk result (λ fields. IsAddress fields.called) }
         ensures calling_address { IfOk result (λ fields. IsAddress fields.calling) }
         ensures short { IfOk result (λ fields. length user.now ≤ 128) }
         ensures flow { IfOk result (λ fields. fields.flow.params ≡ params) }
-        ensures refused { (c : Settings) (x : Channel) → FitsCircuit c self.now x → IfErr result (λ e. call_in c x x.state called.now calling.now user.now params ≡ Refused e) }
-        ensures refusal { (c : Settings) (x : Channel) → FitsCircuit c self.now x → result_err result ≡ refusal_of (call_in c x x.state called.now calling.now user.now params) }
+        ensures refused { (c : Settings) (x : Channel) → FitsCircuit c self.now x
+            → IfErr result (λ e. call_in c x x.state called.now calling.now user.now params ≡ Refused e) }
+        ensures refusal { (c : Settings) (x : Channel) → FitsCircuit c self.now x
+            → result_err result ≡ refusal_of (call_in c x x.state called.now calling.now user.now params) }
     {
         if self.state != State::Free {
             return Err(CircuitError::WrongState);
@@ -176,7 +185,8 @@ impl Circuit {
     ///
     /// 30 WrongState where no call came.
     pub fn accept<'a>(&mut self) -> Result<Packet<'a>, CircuitError>
-        ensures outcome { (c : Settings) (x : Channel) → FitsCircuit c self.old x → Sends c self.new result (outcome c x (Accepts None)) }
+        ensures outcome { (c : Settings) (x : Channel) → FitsCircuit c self.old x
+            → Sends c self.new result (outcome c x (Accepts None)) }
         ensures range { IfOk result (λ packet. IsInRange 128 (plain packet)) }
         ensures room { room_of self.old ≤ room_of self.new }
         ensures clears { clears_of self.new ≡ clears_of self.old }
@@ -191,12 +201,13 @@ impl Circuit {
         })
     }
 
-    /// Accepts the call of the other end, with these packet sizes and windows, each from the proposed value to the default. What
-    /// isn't as proposed stands in the CALL ACCEPTED that it answers. ITU-T X.25 (10/96), section 6.12.
+    /// Accepts the call of the other end, with these packet sizes and windows, each from the proposed value to the
+    /// default. What isn't as proposed stands in the CALL ACCEPTED that it answers. ITU-T X.25 (10/96), section 6.12.
     ///
     /// 30 WrongState where no call came, then 34 BadParameter where a value is out of this range.
     pub fn accept_with<'a>(&mut self, answer: &'a Proposal) -> Result<Packet<'a>, CircuitError>
-        ensures outcome { (c : Settings) (x : Channel) → FitsCircuit c self.old x → Sends c self.new result (outcome c x (Accepts (Some answer.now))) }
+        ensures outcome { (c : Settings) (x : Channel) → FitsCircuit c self.old x
+            → Sends c self.new result (outcome c x (Accepts (Some answer.now))) }
         ensures range { IfOk result (λ packet. IsInRange 128 (plain packet)) }
         ensures room { room_of self.old ≤ room_of self.new }
         ensures clears { clears_of self.new ≡ clears_of self.old }
@@ -215,10 +226,13 @@ impl Circuit {
     // Packet sizes and windows in force once the call is accepted with this answer, where it may be now.
     pub(crate) fn accepted(&self, answer: Option<&Proposal>) -> Result<FlowControl, CircuitError>
         ensures arriving { IfOk result (λ flow. self.now.state ≡ State.Arriving) }
-        ensures may_answer { IfOk result (λ flow. IfSome (plain_answer answer.entry) (λ said. may_answer self.now.flow.params said ≡ true)) }
+        ensures may_answer { IfOk result (λ flow. IfSome (plain_answer answer.entry)
+            (λ said. may_answer self.now.flow.params said ≡ true)) }
         ensures flow { IfOk result (λ flow. flow.params ≡ unwrap_or (plain_answer answer.entry) self.now.flow.params) }
-        ensures refused { (c : Settings) (x : Channel) → FitsCircuit c self.now x → IfErr result (λ e. accept_in x x.state (plain_answer answer.entry) ≡ Refused e) }
-        ensures refusal { (c : Settings) (x : Channel) → FitsCircuit c self.now x → result_err result ≡ refusal_of (accept_in x x.state (plain_answer answer.entry)) }
+        ensures refused { (c : Settings) (x : Channel) → FitsCircuit c self.now x
+            → IfErr result (λ e. accept_in x x.state (plain_answer answer.entry) ≡ Refused e) }
+        ensures refusal { (c : Settings) (x : Channel) → FitsCircuit c self.now x
+            → result_err result ≡ refusal_of (accept_in x x.state (plain_answer answer.entry)) }
     {
         if self.state != State::Arriving {
             return Err(CircuitError::WrongState);
@@ -238,7 +252,8 @@ impl Circuit {
     ///
     /// 30 WrongState in p1 and where this end's CLEAR isn't confirmed yet.
     pub fn clear<'a>(&mut self) -> Result<Packet<'a>, CircuitError>
-        ensures outcome { (c : Settings) (x : Channel) → FitsCircuit c self.old x → Sends c self.new result (outcome c x Clears) }
+        ensures outcome { (c : Settings) (x : Channel) → FitsCircuit c self.old x
+            → Sends c self.new result (outcome c x Clears) }
         ensures range { IfOk result (λ packet. IsInRange 128 (plain packet)) }
         ensures room { room_of self.old ≤ room_of self.new }
         ensures clears { clears_of self.new ≡ clears_of self.old }

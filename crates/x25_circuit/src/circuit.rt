@@ -1,9 +1,11 @@
-ghost use Rattle.std.specs.Prelude.{◌≡◌, ℕ, ◌+◌, ◌<◌, ◌≤◌, false, length, min, max, IfOk, IfErr, IfSome, OnOk, OnErr, [], vec_capacity};
+ghost use Rattle.std.specs.Prelude.{◌≡◌, ℕ, ◌+◌, ◌<◌, ◌≤◌, false, length, min, max, IfOk, IfErr, IfSome, OnOk, OnErr};
+ghost use Rattle.std.specs.Prelude.{[], vec_capacity};
 ghost use Rattle.x25_circuit.specs.declared.state.State.{State};
 ghost use Rattle.x25_circuit.specs.Message.{no_part, joining};
 ghost use Rattle.x25_circuit.specs.Params.{default_params};
 ghost use Rattle.x25_circuit.specs.Calling.{pulled, pulls_nothing};
-ghost use Rattle.x25_circuit.specs.Circuit.{Settings, begun, entered, forgotten, zeroed, is_free, is_open, waits, outgoing, incoming};
+ghost use Rattle.x25_circuit.specs.Circuit.{Settings, begun, entered, forgotten, zeroed, is_free, is_open, waits};
+ghost use Rattle.x25_circuit.specs.Circuit.{outgoing, incoming};
 ghost use Rattle.x25_circuit.specs.Circuit.{Circuit as Channel};
 
 use crate::error::CircuitError;
@@ -45,8 +47,8 @@ impl Circuit {
         Circuit::with(alloc, role, false)
     }
 
-    /// A channel that was never used: p1. With `long_data` a call has at most 128 octets of user data (profile), else at
-    /// most 16.
+    /// A channel that was never used: p1. With `long_data` a call has at most 128 octets of user data (profile), else
+    /// at most 16.
     ///
     /// 70 alone.
     pub fn with(alloc: Global, role: Role, long_data: bool) -> Result<Circuit, CircuitError>
@@ -93,8 +95,8 @@ impl Circuit {
         self.end_call(State::Free);
     }
 
-    /// Packet sizes and windows: those that are proposed, until the call is accepted, and then those in force; the defaults
-    /// where there is no call.
+    /// Packet sizes and windows: those that are proposed, until the call is accepted, and then those in force; the
+    /// defaults where there is no call.
     pub fn params(&self) -> Params
         ensures { (c : Settings) (x : Channel) → FitsCircuit c self.now x → result ≡ x.params }
     {
@@ -142,7 +144,8 @@ impl Circuit {
     /// How many messages wait, at most 8. Each has at most 65,535 octets.
     pub fn waits(&self) -> usize
         ensures value { (c : Settings) (x : Channel) → FitsCircuit c self.now x → result ≡ waits x }
-        ensures none { (c : Settings) (x : Channel) → FitsCircuit c self.now x → result ≡ 0 → pulled c x ≡ pulls_nothing x }
+        ensures none { (c : Settings) (x : Channel) → FitsCircuit c self.now x → result ≡ 0
+            → pulled c x ≡ pulls_nothing x }
         ensures held { result ≡ waits_of self.now }
         ensures few { result ≤ 8 }
     {
@@ -151,23 +154,25 @@ impl Circuit {
 
     /// How many octets have come of the message of which some packets came, at most 65,535; 0 where there is none.
     pub fn octets_joined(&self) -> usize
-        ensures value { (c : Settings) (x : Channel) → FitsCircuit c self.now x → result ≡ length (joining no_part x.talk.taken).user }
+        ensures value { (c : Settings) (x : Channel) → FitsCircuit c self.now x
+            → result ≡ length (joining no_part x.talk.taken).user }
         ensures short { result ≤ 65535 }
     {
         self.transfer.partial.len()
     }
 
-    /// How many octets of memory are kept for the message of which some packets came: for these octets, and for those for which memory
-    /// is set aside. They are 69,631 at most, those of the longest message and of one packet more.
+    /// How many octets of memory are kept for the message of which some packets came: for these octets, and for those
+    /// for which memory is set aside. They are 69,631 at most, those of the longest message and of one packet more.
     pub fn octets_kept(&self) -> usize
-        ensures least { (c : Settings) (x : Channel) → FitsCircuit c self.now x → length (joining no_part x.talk.taken).user + room_of self.now ≤ result }
+        ensures least { (c : Settings) (x : Channel) → FitsCircuit c self.now x
+            → length (joining no_part x.talk.taken).user + room_of self.now ≤ result }
         ensures most { result ≤ 69631 }
     {
         self.transfer.partial.octets_kept()
     }
 
-    /// Sets memory aside for one `packet` with at most `count` octets of user data, or one `undecoded`, but for no more than
-    /// the 4,096 octets of the longest data packet.
+    /// Sets memory aside for one `packet` with at most `count` octets of user data, or one `undecoded`, but for no more
+    /// than the 4,096 octets of the longest data packet.
     ///
     /// 70 alone.
     pub fn room(&mut self, count: usize) -> Result<(), CircuitError>
@@ -186,8 +191,9 @@ impl Circuit {
         Ok(())
     }
 
-    /// Memory of a message that is needed no more, for one of so many octets, where there is some: of one whose packets were all cut off, or that was given
-    /// back, and for at most 4,096. What is too small is let go of. The circuit is as before.
+    /// Memory of a message that is needed no more, for one of so many octets, where there is some: of one whose packets
+    /// were all cut off, or that was given back, and for at most 4,096. What is too small is let go of. The circuit is
+    /// as before.
     pub fn spent_memory(&mut self, length: usize) -> Option<Vec<u8>>
         ensures fits { (c : Settings) (x : Channel) → FitsCircuit c self.old x → FitsCircuit c self.new x }
         ensures aside { room_of self.new ≡ room_of self.old }
@@ -203,8 +209,8 @@ impl Circuit {
         self.transfer.partial.again(length)
     }
 
-    /// Takes the memory of a message back, for one that comes or is sent later. It is let go of where it is for more than 4,096 octets, and where two are
-    /// kept. The circuit is as before.
+    /// Takes the memory of a message back, for one that comes or is sent later. It is let go of where it is for more
+    /// than 4,096 octets, and where two are kept. The circuit is as before.
     pub fn give_back(&mut self, memory: Vec<u8>)
         ensures { self.new ≡ self.old }
     {
@@ -213,8 +219,10 @@ impl Circuit {
 
     /// Goes to this state, with these packet sizes and windows, and nothing kept.
     pub(crate) fn enter(&mut self, state: State, flow: FlowControl, calls: bool)
-        ensures fits { (c : Settings) (x : Channel) → FitsCircuit c self.old x → FitsCircuit c self.new (entered x state flow.params calls) }
-        ensures kept { self.new ≡ record self.old { state = state; flow = flow; calls = calls; transfer = self.new.transfer } }
+        ensures fits { (c : Settings) (x : Channel) → FitsCircuit c self.old x
+            → FitsCircuit c self.new (entered x state flow.params calls) }
+        ensures kept { self.new
+            ≡ record self.old { state = state; flow = flow; calls = calls; transfer = self.new.transfer } }
         ensures room { room_of self.old ≤ room_of self.new }
     {
         self.state = state;
@@ -225,7 +233,8 @@ impl Circuit {
 
     /// Goes to this state, in which there is no call.
     pub(crate) fn end_call(&mut self, state: State)
-        ensures fits { (c : Settings) (x : Channel) → FitsCircuit c self.old x → FitsCircuit c self.new (entered x state default_params false) }
+        ensures fits { (c : Settings) (x : Channel) → FitsCircuit c self.old x
+            → FitsCircuit c self.new (entered x state default_params false) }
         ensures role { self.new.role ≡ self.old.role }
         ensures clears { clears_of self.new ≡ clears_of self.old }
         ensures resets { resets_of self.new ≡ resets_of self.old }
@@ -236,7 +245,8 @@ impl Circuit {
 
     /// Goes to this state, in which the call goes on with nothing kept.
     pub(crate) fn begin_stretch(&mut self, state: State)
-        ensures fits { (c : Settings) (x : Channel) → FitsCircuit c self.old x → FitsCircuit c self.new (entered x state x.params x.calls) }
+        ensures fits { (c : Settings) (x : Channel) → FitsCircuit c self.old x
+            → FitsCircuit c self.new (entered x state x.params x.calls) }
         ensures role { self.new.role ≡ self.old.role }
         ensures clears { clears_of self.new ≡ clears_of self.old }
         ensures resets { resets_of self.new ≡ resets_of self.old }

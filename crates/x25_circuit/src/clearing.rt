@@ -1,10 +1,13 @@
-//! Clears and resets: those that errors of procedure cause, and those that are done. ITU-T X.25 (10/96), sections 4.1.7 to
+//! Clears and resets: those that errors of procedure cause, and those that are done. ITU-T X.25 (10/96), sections 4.1.7
+//! to
 //! 4.1.9, 4.4.3 and Annex C.
 ghost use Rattle.std.specs.Prelude.{◌≡◌, ◌≢◌, ℕ, suc, ◌^◌, ◌-◌, ◌<◌, ◌≤◌, None, Some, [], ◌∷◌};
 ghost use Rattle.x25_circuit.specs.Circuit.{Settings};
 ghost use Rattle.x25_circuit.specs.Circuit.{Circuit as Channel};
 ghost use Rattle.x25_circuit.specs.Notice.{reset_done};
-ghost use Rattle.x25_circuit.specs.Hearing.{cause_at, diagnostic_in, clears_for, resets_for, unexpected, clears_to, resets_to, row_clear, row_clear_conf, row_reset, row_reset_conf, row_undecoded, undecoded, cause_of};
+ghost use Rattle.x25_circuit.specs.Hearing.{cause_at, diagnostic_in, clears_for, resets_for, unexpected, clears_to};
+ghost use Rattle.x25_circuit.specs.Hearing.{resets_to, row_clear, row_clear_conf, row_reset, row_reset_conf};
+ghost use Rattle.x25_circuit.specs.Hearing.{row_undecoded, undecoded, cause_of};
 ghost use Rattle.x25_circuit.specs.code.FitsCircuit.{FitsCircuit, room_of, clears_of, resets_of};
 ghost use Rattle.x25_circuit.specs.code.Replies.{Says, IsSendable, plain_owed};
 
@@ -66,8 +69,10 @@ fn cause_of(error: PacketError) -> u8
 impl Circuit {
     /// Clears the call for an error of procedure.
     pub(crate) fn clear_for<'a>(&mut self, cause: u8, diagnostic: u8) -> Reply<'a>
-        ensures next { (c : Settings) (x : Channel) → FitsCircuit c self.old x → FitsCircuit c self.new (clears_for c x cause diagnostic).next }
-        ensures says { (c : Settings) (x : Channel) → FitsCircuit c self.old x → Says result (clears_for c x cause diagnostic).owed (clears_for c x cause diagnostic).notices }
+        ensures next { (c : Settings) (x : Channel) → FitsCircuit c self.old x
+            → FitsCircuit c self.new (clears_for c x cause diagnostic).next }
+        ensures says { (c : Settings) (x : Channel) → FitsCircuit c self.old x
+            → Says result (clears_for c x cause diagnostic).owed (clears_for c x cause diagnostic).notices }
         ensures range { IsSendable (plain_owed result.packet) }
         ensures room { room_of self.old ≤ room_of self.new }
     {
@@ -83,8 +88,10 @@ impl Circuit {
 
     /// Resets the call for an error of procedure.
     pub(crate) fn reset_for<'a>(&mut self, diagnostic: u8) -> Reply<'a>
-        ensures next { (c : Settings) (x : Channel) → FitsCircuit c self.old x → FitsCircuit c self.new (resets_for c x diagnostic).next }
-        ensures says { (c : Settings) (x : Channel) → FitsCircuit c self.old x → Says result (resets_for c x diagnostic).owed (resets_for c x diagnostic).notices }
+        ensures next { (c : Settings) (x : Channel) → FitsCircuit c self.old x
+            → FitsCircuit c self.new (resets_for c x diagnostic).next }
+        ensures says { (c : Settings) (x : Channel) → FitsCircuit c self.old x
+            → Says result (resets_for c x diagnostic).owed (resets_for c x diagnostic).notices }
         ensures range { IsSendable (plain_owed result.packet) }
         ensures room { room_of self.old ≤ room_of self.new }
     {
@@ -100,8 +107,10 @@ impl Circuit {
 
     /// A packet that the state doesn't allow.
     pub(crate) fn unexpected<'a>(&mut self) -> Reply<'a>
-        ensures next { (c : Settings) (x : Channel) → FitsCircuit c self.old x → FitsCircuit c self.new (unexpected c x self.old.state).next }
-        ensures says { (c : Settings) (x : Channel) → FitsCircuit c self.old x → Says result (unexpected c x self.old.state).owed (unexpected c x self.old.state).notices }
+        ensures next { (c : Settings) (x : Channel) → FitsCircuit c self.old x
+            → FitsCircuit c self.new (unexpected c x self.old.state).next }
+        ensures says { (c : Settings) (x : Channel) → FitsCircuit c self.old x
+            → Says result (unexpected c x self.old.state).owed (unexpected c x self.old.state).notices }
         ensures range { IsSendable (plain_owed result.packet) }
         ensures room { room_of self.old ≤ room_of self.new }
     {
@@ -114,7 +123,8 @@ impl Circuit {
     // A clear is done.
     fn be_cleared(&mut self)
         requires { clears_of self.old < 2 ^ 64 - 1 }
-        ensures fits { (c : Settings) (x : Channel) → FitsCircuit c self.old x → FitsCircuit c self.new (clears_to x None []).next }
+        ensures fits { (c : Settings) (x : Channel) → FitsCircuit c self.old x
+            → FitsCircuit c self.new (clears_to x None []).next }
         ensures room { room_of self.old ≤ room_of self.new }
     {
         self.end_call(State::Free);
@@ -125,7 +135,8 @@ impl Circuit {
     // A reset is done.
     fn be_reset(&mut self)
         requires { resets_of self.old < 2 ^ 64 - 1 }
-        ensures fits { (c : Settings) (x : Channel) → FitsCircuit c self.old x → FitsCircuit c self.new (resets_to x None []).next }
+        ensures fits { (c : Settings) (x : Channel) → FitsCircuit c self.old x
+            → FitsCircuit c self.new (resets_to x None []).next }
         ensures room { room_of self.old ≤ room_of self.new }
     {
         self.begin_stretch(State::Open);
@@ -135,7 +146,8 @@ impl Circuit {
     // This end's reset is done: it isn't confirmed, by whatever packet it was.
     fn end_reset<'a>(&mut self) -> Reply<'a>
         requires { resets_of self.old < 2 ^ 64 - 1 }
-        ensures next { (c : Settings) (x : Channel) → FitsCircuit c self.old x → FitsCircuit c self.new (resets_to x None (reset_done ∷ [])).next }
+        ensures next { (c : Settings) (x : Channel) → FitsCircuit c self.old x
+            → FitsCircuit c self.new (resets_to x None (reset_done ∷ [])).next }
         ensures says { Says result None (reset_done ∷ []) }
         ensures range { IsSendable (plain_owed result.packet) }
         ensures room { room_of self.old ≤ room_of self.new }
@@ -146,8 +158,11 @@ impl Circuit {
 
     pub(crate) fn hear_clear<'a>(&mut self, cause: u8, diagnostic: u8) -> Reply<'a>
         requires { clears_of self.old < 2 ^ 64 - 1 }
-        ensures next { (c : Settings) (x : Channel) → FitsCircuit c self.old x → FitsCircuit c self.new (row_clear x self.old.state cause diagnostic).next }
-        ensures says { (c : Settings) (x : Channel) → FitsCircuit c self.old x → Says result (row_clear x self.old.state cause diagnostic).owed (row_clear x self.old.state cause diagnostic).notices }
+        ensures next { (c : Settings) (x : Channel) → FitsCircuit c self.old x
+            → FitsCircuit c self.new (row_clear x self.old.state cause diagnostic).next }
+        ensures says { (c : Settings) (x : Channel) → FitsCircuit c self.old x
+            → Says result (row_clear x self.old.state cause diagnostic).owed
+            (row_clear x self.old.state cause diagnostic).notices }
         ensures range { IsSendable (plain_owed result.packet) }
         ensures room { room_of self.old ≤ room_of self.new }
     {
@@ -162,8 +177,10 @@ impl Circuit {
 
     pub(crate) fn hear_clear_conf<'a>(&mut self) -> Reply<'a>
         requires { clears_of self.old < 2 ^ 64 - 1 }
-        ensures next { (c : Settings) (x : Channel) → FitsCircuit c self.old x → FitsCircuit c self.new (row_clear_conf c x self.old.state).next }
-        ensures says { (c : Settings) (x : Channel) → FitsCircuit c self.old x → Says result (row_clear_conf c x self.old.state).owed (row_clear_conf c x self.old.state).notices }
+        ensures next { (c : Settings) (x : Channel) → FitsCircuit c self.old x
+            → FitsCircuit c self.new (row_clear_conf c x self.old.state).next }
+        ensures says { (c : Settings) (x : Channel) → FitsCircuit c self.old x
+            → Says result (row_clear_conf c x self.old.state).owed (row_clear_conf c x self.old.state).notices }
         ensures range { IsSendable (plain_owed result.packet) }
         ensures room { room_of self.old ≤ room_of self.new }
     {
@@ -178,8 +195,11 @@ impl Circuit {
 
     pub(crate) fn hear_reset<'a>(&mut self, cause: u8, diagnostic: u8) -> Reply<'a>
         requires { resets_of self.old < 2 ^ 64 - 1 }
-        ensures next { (c : Settings) (x : Channel) → FitsCircuit c self.old x → FitsCircuit c self.new (row_reset c x self.old.state cause diagnostic).next }
-        ensures says { (c : Settings) (x : Channel) → FitsCircuit c self.old x → Says result (row_reset c x self.old.state cause diagnostic).owed (row_reset c x self.old.state cause diagnostic).notices }
+        ensures next { (c : Settings) (x : Channel) → FitsCircuit c self.old x
+            → FitsCircuit c self.new (row_reset c x self.old.state cause diagnostic).next }
+        ensures says { (c : Settings) (x : Channel) → FitsCircuit c self.old x
+            → Says result (row_reset c x self.old.state cause diagnostic).owed
+            (row_reset c x self.old.state cause diagnostic).notices }
         ensures range { IsSendable (plain_owed result.packet) }
         ensures room { room_of self.old ≤ room_of self.new }
     {
@@ -196,8 +216,10 @@ impl Circuit {
 
     pub(crate) fn hear_reset_conf<'a>(&mut self) -> Reply<'a>
         requires { resets_of self.old < 2 ^ 64 - 1 }
-        ensures next { (c : Settings) (x : Channel) → FitsCircuit c self.old x → FitsCircuit c self.new (row_reset_conf c x self.old.state).next }
-        ensures says { (c : Settings) (x : Channel) → FitsCircuit c self.old x → Says result (row_reset_conf c x self.old.state).owed (row_reset_conf c x self.old.state).notices }
+        ensures next { (c : Settings) (x : Channel) → FitsCircuit c self.old x
+            → FitsCircuit c self.new (row_reset_conf c x self.old.state).next }
+        ensures says { (c : Settings) (x : Channel) → FitsCircuit c self.old x
+            → Says result (row_reset_conf c x self.old.state).owed (row_reset_conf c x self.old.state).notices }
         ensures range { IsSendable (plain_owed result.packet) }
         ensures room { room_of self.old ≤ room_of self.new }
     {
@@ -211,8 +233,11 @@ impl Circuit {
 
     // Octets that spell no packet.
     fn hear_undecoded<'a>(&mut self, error: PacketError) -> Reply<'a>
-        ensures next { (c : Settings) (x : Channel) → FitsCircuit c self.old x → FitsCircuit c self.new (row_undecoded c x self.old.state error).next }
-        ensures says { (c : Settings) (x : Channel) → FitsCircuit c self.old x → Says result (row_undecoded c x self.old.state error).owed (row_undecoded c x self.old.state error).notices }
+        ensures next { (c : Settings) (x : Channel) → FitsCircuit c self.old x
+            → FitsCircuit c self.new (row_undecoded c x self.old.state error).next }
+        ensures says { (c : Settings) (x : Channel) → FitsCircuit c self.old x
+            → Says result (row_undecoded c x self.old.state error).owed
+            (row_undecoded c x self.old.state error).notices }
         ensures range { IsSendable (plain_owed result.packet) }
         ensures room { room_of self.old ≤ room_of self.new }
     {
@@ -227,8 +252,10 @@ impl Circuit {
     /// memory.
     pub fn undecoded<'a>(&mut self, error: PacketError) -> Reply<'a>
         requires { error ≢ PacketError.NoMemory }
-        ensures next { (c : Settings) (x : Channel) → FitsCircuit c self.old x → FitsCircuit c self.new (undecoded c x error).next }
-        ensures says { (c : Settings) (x : Channel) → FitsCircuit c self.old x → Says result (undecoded c x error).owed (undecoded c x error).notices }
+        ensures next { (c : Settings) (x : Channel) → FitsCircuit c self.old x
+            → FitsCircuit c self.new (undecoded c x error).next }
+        ensures says { (c : Settings) (x : Channel) → FitsCircuit c self.old x
+            → Says result (undecoded c x error).owed (undecoded c x error).notices }
         ensures range { IsSendable (plain_owed result.packet) }
         ensures room { room_of self.old ≤ room_of self.new }
     {

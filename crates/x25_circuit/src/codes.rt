@@ -1,5 +1,5 @@
-//! Causes and diagnostics of the CLEAR and RESET that a circuit sends: causes by ITU-T X.25 (10/96), sections 5.2.3 and 5.4.3, diagnostics
-//! by Annex E.
+//! Causes and diagnostics of the CLEAR and RESET that a circuit sends: causes by ITU-T X.25 (10/96), sections 5.2.3 and
+//! 5.4.3, diagnostics by Annex E.
 
 /// At a DTE, in place of each cause of a DCE (profile).
 pub const DTE_FAULT: u8 = 128;

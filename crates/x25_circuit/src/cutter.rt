@@ -112,7 +112,8 @@ impl Cutter {
         }
     }
 
-    /// Memory of a message that was cut to its end, for one of so many octets, where there is some. What is too small for them, or for more than
+    /// Memory of a message that was cut to its end, for one of so many octets, where there is some. What is too small
+    /// for them, or for more than
     /// 4,096, is let go of. The packet cut last isn't lent any more.
     pub fn spent_memory(&mut self, length: usize) -> Option<Vec<u8>>
         ensures left { self.new.left ≡ self.old.left }

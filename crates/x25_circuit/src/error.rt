@@ -21,8 +21,9 @@ pub enum CircuitError {
     /// 33: an interrupt isn't confirmed yet.
     #[error("an interrupt is outstanding")]
     InterruptOutstanding,
-    /// 34: an address isn't 0 to 15 digits, user data of a call is more than 16 octets (128 where it may be long), a packet size or a window isn't one that
-    /// may be proposed or answered, or user data of an interrupt isn't 1 to 32 octets.
+    /// 34: an address isn't 0 to 15 digits, user data of a call is more than 16 octets (128 where it may be long), a
+    /// packet size or a window isn't one that may be proposed or answered, or user data of an interrupt isn't 1 to 32
+    /// octets.
     #[error("a parameter is out of range")]
     BadParameter,
     /// 70: a growth was refused.

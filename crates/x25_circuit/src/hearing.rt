@@ -1,5 +1,6 @@
 //! Packets that come. ITU-T X.25 (10/96), sections 4.3.7 and 4.4.1, and Annex C.
-ghost use Rattle.std.specs.Prelude.{min, ◌≡◌, ℕ, ◌+◌, ◌-◌, ◌^◌, ◌<◌, ◌≤◌, length, [], ◌∷◌, Some, None, true, false, option_to_list, OnOk, OnErr, IfOk, IfErr, IfNone, IsOk};
+ghost use Rattle.std.specs.Prelude.{min, ◌≡◌, ℕ, ◌+◌, ◌-◌, ◌^◌, ◌<◌, ◌≤◌, length, [], ◌∷◌, Some, None, true, false};
+ghost use Rattle.std.specs.Prelude.{option_to_list, OnOk, OnErr, IfOk, IfErr, IfNone, IsOk};
 ghost use Rattle.x25_packet.specs.Packet.{plain, user_data};
 ghost use Rattle.x25_packet.specs.Spelling.{HasChannel};
 ghost use Rattle.x25_circuit.specs.Circuit.{Settings};
@@ -7,7 +8,8 @@ ghost use Rattle.x25_circuit.specs.Circuit.{Circuit as Channel};
 ghost use Rattle.x25_circuit.specs.Message.{piece_of};
 ghost use Rattle.x25_circuit.specs.Notice.{deliveries};
 ghost use Rattle.x25_circuit.specs.code.Fits.{first_ground};
-ghost use Rattle.x25_circuit.specs.Hearing.{resets_for, unless, number_ground, hears_status, confirms, takes, row_open, row_data, answers};
+ghost use Rattle.x25_circuit.specs.Hearing.{resets_for, unless, number_ground, hears_status, confirms, takes, row_open};
+ghost use Rattle.x25_circuit.specs.Hearing.{row_data, answers};
 ghost use Rattle.x25_circuit.specs.code.FitsCircuit.{FitsCircuit, room_of, user_octets, clears_of, resets_of};
 ghost use Rattle.x25_circuit.specs.code.Replies.{Says, IsSendable, plain_owed, plain_notices};
 
@@ -32,7 +34,9 @@ fn delivered<'a>(message: Option<Message>) -> Option<Notice<'a>>
 impl Circuit {
     // RR or RNR.
     fn hear_status<'a>(&mut self, pr: Seq, is_ready: bool) -> Reply<'a>
-        ensures next { (c : Settings) (x : Channel) → FitsCircuit c self.old x → FitsCircuit c self.new (unless c x (number_ground x.talk pr.number) (hears_status x x.talk is_ready pr.number)).next }
+        ensures next { (c : Settings) (x : Channel) → FitsCircuit c self.old x
+            → FitsCircuit c self.new (unless c x (number_ground x.talk pr.number)
+            (hears_status x x.talk is_ready pr.number)).next }
         ensures says { (c : Settings) (x : Channel) → FitsCircuit c self.old x →
             Says result (unless c x (number_ground x.talk pr.number) (hears_status x x.talk is_ready pr.number)).owed (unless c x (number_ground x.talk pr.number) (hears_status x x.talk is_ready pr.number)).notices }
         ensures range { IsSendable (plain_owed result.packet) }
@@ -46,7 +50,8 @@ impl Circuit {
 
     // INTERRUPT CONFIRMATION.
     fn hear_interrupt_conf<'a>(&mut self) -> Reply<'a>
-        ensures next { (c : Settings) (x : Channel) → FitsCircuit c self.old x → FitsCircuit c self.new (confirms c x x.talk self.old.transfer.interrupt_out).next }
+        ensures next { (c : Settings) (x : Channel) → FitsCircuit c self.old x
+            → FitsCircuit c self.new (confirms c x x.talk self.old.transfer.interrupt_out).next }
         ensures says { (c : Settings) (x : Channel) → FitsCircuit c self.old x →
             Says result (confirms c x x.talk self.old.transfer.interrupt_out).owed (confirms c x x.talk self.old.transfer.interrupt_out).notices }
         ensures range { IsSendable (plain_owed result.packet) }
@@ -61,7 +66,8 @@ impl Circuit {
 
     // A data packet that is refused, whatever its P(R): that is the first ground.
     fn refuse<'a>(&mut self, pr: Seq, diagnostic: u8) -> Reply<'a>
-        ensures next { (c : Settings) (x : Channel) → FitsCircuit c self.old x → FitsCircuit c self.new (resets_for c x (first_ground x.talk pr.number diagnostic)).next }
+        ensures next { (c : Settings) (x : Channel) → FitsCircuit c self.old x
+            → FitsCircuit c self.new (resets_for c x (first_ground x.talk pr.number diagnostic)).next }
         ensures says { (c : Settings) (x : Channel) → FitsCircuit c self.old x →
             Says result (resets_for c x (first_ground x.talk pr.number diagnostic)).owed (resets_for c x (first_ground x.talk pr.number diagnostic)).notices }
         ensures range { IsSendable (plain_owed result.packet) }
@@ -78,7 +84,9 @@ impl Circuit {
         requires wanted { ps.number ≡ self.old.transfer.receiver.number }
         requires room { length user.now ≤ room_of self.old }
         requires short { length self.old.transfer.partial.part.user + length user.now ≤ 65535 }
-        ensures next { (c : Settings) (x : Channel) → FitsCircuit c self.old x → FitsCircuit c self.new (unless c x (number_ground x.talk pr.number) (takes x x.talk pr.number (piece_of q m user.now))).next }
+        ensures next { (c : Settings) (x : Channel) → FitsCircuit c self.old x
+            → FitsCircuit c self.new (unless c x (number_ground x.talk pr.number)
+            (takes x x.talk pr.number (piece_of q m user.now))).next }
         ensures says { (c : Settings) (x : Channel) → FitsCircuit c self.old x →
             Says result (unless c x (number_ground x.talk pr.number) (takes x x.talk pr.number (piece_of q m user.now))).owed (unless c x (number_ground x.talk pr.number) (takes x x.talk pr.number (piece_of q m user.now))).notices }
         ensures range { IsSendable (plain_owed result.packet) }
@@ -103,7 +111,9 @@ impl Circuit {
         pr: Seq,
         user: &[u8],
     ) -> Result<Reply<'a>, CircuitError>
-        ensures next { (c : Settings) (x : Channel) → FitsCircuit c self.old x → OnOk result (FitsCircuit c self.new (row_open c x x.talk (user_data 1 q m ps.number pr.number user.now)).next) }
+        ensures next { (c : Settings) (x : Channel) → FitsCircuit c self.old x
+            → OnOk result (FitsCircuit c self.new
+            (row_open c x x.talk (user_data 1 q m ps.number pr.number user.now)).next) }
         ensures says { (c : Settings) (x : Channel) → FitsCircuit c self.old x →
             IfOk result (λ reply. Says reply (row_open c x x.talk (user_data 1 q m ps.number pr.number user.now)).owed (row_open c x x.talk (user_data 1 q m ps.number pr.number user.now)).notices) }
         ensures range { IfOk result (λ reply. IsSendable (plain_owed reply.packet)) }
@@ -126,7 +136,8 @@ impl Circuit {
 
     // A packet of data transfer, in p4 with d1.
     fn hear_open<'a>(&mut self, packet: &Packet<'a>) -> Result<Reply<'a>, CircuitError>
-        ensures next { (c : Settings) (x : Channel) → FitsCircuit c self.old x → OnOk result (FitsCircuit c self.new (row_open c x x.talk (plain packet.now)).next) }
+        ensures next { (c : Settings) (x : Channel) → FitsCircuit c self.old x
+            → OnOk result (FitsCircuit c self.new (row_open c x x.talk (plain packet.now)).next) }
         ensures says { (c : Settings) (x : Channel) → FitsCircuit c self.old x →
             IfOk result (λ reply. Says reply (row_open c x x.talk (plain packet.now)).owed (row_open c x x.talk (plain packet.now)).notices) }
         ensures range { IfOk result (λ reply. IsSendable (plain_owed reply.packet)) }
@@ -157,7 +168,8 @@ impl Circuit {
 
     // A packet of data transfer.
     fn hear_transfer<'a>(&mut self, packet: &Packet<'a>) -> Result<Reply<'a>, CircuitError>
-        ensures next { (c : Settings) (x : Channel) → FitsCircuit c self.old x → OnOk result (FitsCircuit c self.new (row_data c x self.old.state (plain packet.now)).next) }
+        ensures next { (c : Settings) (x : Channel) → FitsCircuit c self.old x
+            → OnOk result (FitsCircuit c self.new (row_data c x self.old.state (plain packet.now)).next) }
         ensures says { (c : Settings) (x : Channel) → FitsCircuit c self.old x →
             IfOk result (λ reply. Says reply (row_data c x self.old.state (plain packet.now)).owed (row_data c x self.old.state (plain packet.now)).notices) }
         ensures range { IfOk result (λ reply. IsSendable (plain_owed reply.packet)) }
@@ -173,16 +185,17 @@ impl Circuit {
         }
     }
 
-    /// Takes a packet that came for this channel, and answers the packet to send and what is reported to the user, by the
-    /// table of the circuit. The channel that the packet names isn't looked at.
+    /// Takes a packet that came for this channel, and answers the packet to send and what is reported to the user, by
+    /// the table of the circuit. The channel that the packet names isn't looked at.
     ///
-    /// 70 alone, and only for a data packet for which `room` set no memory aside. What it set aside stays where no packet is to
-    /// be sent.
+    /// 70 alone, and only for a data packet for which `room` set no memory aside. What it set aside stays where no
+    /// packet is to be sent.
     pub fn packet<'a>(&mut self, packet: &Packet<'a>) -> Result<Reply<'a>, CircuitError>
         requires kind { HasChannel (plain packet.now) }
         requires clears { clears_of self.old < 2 ^ 64 - 1 }
         requires resets { resets_of self.old < 2 ^ 64 - 1 }
-        ensures next { (c : Settings) (x : Channel) → FitsCircuit c self.old x → OnOk result (FitsCircuit c self.new (answers c x (plain packet.now)).next) }
+        ensures next { (c : Settings) (x : Channel) → FitsCircuit c self.old x
+            → OnOk result (FitsCircuit c self.new (answers c x (plain packet.now)).next) }
         ensures says { (c : Settings) (x : Channel) → FitsCircuit c self.old x →
             IfOk result (λ reply. Says reply (answers c x (plain packet.now)).owed (answers c x (plain packet.now)).notices) }
         ensures range { IfOk result (λ reply. IsSendable (plain_owed reply.packet)) }

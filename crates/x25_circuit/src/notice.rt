@@ -6,7 +6,8 @@ use crate::owed::Owed;
 use crate::params::Params;
 use x25_packet::Digits;
 
-/// What a packet brought the user. Addresses and user data are borrowed from the packet; a message is handed over whole.
+/// What a packet brought the user. Addresses and user data are borrowed from the packet; a message is handed over
+/// whole.
 #[derive(Debug, Drop)]
 pub enum Notice<'a> {
     /// The other end calls.
@@ -110,7 +111,8 @@ impl<'a> Reply<'a> {
     }
 }
 
-/// What a circuit answers to a packet of data transfer with which nothing is wrong: the packet to send, and the message that ends with it.
+/// What a circuit answers to a packet of data transfer with which nothing is wrong: the packet to send, and the message
+/// that ends with it.
 #[derive(Debug, Drop)]
 pub struct Taken {
     pub owed: Option<Owed>,

@@ -1,13 +1,15 @@
 //! Packet sizes and windows: what is proposed, answered and in force. ITU-T X.25 (10/96), sections 6.12 and 7.2.2.1.
 ghost use Rattle.std.specs.Prelude.{◌≡◌, ◌≤◌, true, false, IfSome, IfNone};
-ghost use Rattle.x25_circuit.specs.Params.{default_params, may_propose, may_answer, is_toward, said_in, said_or, sizes_of, windows_of, params_of, calling_terms, called_terms};
+ghost use Rattle.x25_circuit.specs.Params.{default_params, may_propose, may_answer, is_toward, said_in, said_or};
+ghost use Rattle.x25_circuit.specs.Params.{sizes_of, windows_of, params_of, calling_terms, called_terms};
 ghost use Rattle.x25_packet.specs.Facilities.{is_within};
 
 use crate::terms::Terms;
 use x25_packet::{Directions, Facilities};
 
-/// What a call proposes and its acceptance answers: for each end the code of the packet size (2 to this power, in octets),
-/// and the window (in packets), of the data packets that it sends. ITU-T X.25 (10/96), sections 6.12 and 7.2.2.1.
+/// What a call proposes and its acceptance answers: for each end the code of the packet size (2 to this power, in
+/// octets), and the window (in packets), of the data packets that it sends. ITU-T X.25 (10/96), sections 6.12 and
+/// 7.2.2.1.
 #[derive(Clone, Copy, Debug, PartialEq, Eq)]
 pub struct Params {
     pub size_called: u8,

@@ -1,4 +1,5 @@
-ghost use Rattle.std.specs.Prelude.{◌≡◌, ◌+◌, ◌<◌, ◌≤◌, ◌++◌, [], length, min, max, nat_le, replicate, vec_len, vec_capacity, IfNone, IfSome, Option, OnOk, OnErr, option_to_list};
+ghost use Rattle.std.specs.Prelude.{◌≡◌, ◌+◌, ◌<◌, ◌≤◌, ◌++◌, [], length, min, max, nat_le, replicate, vec_len};
+ghost use Rattle.std.specs.Prelude.{vec_capacity, IfNone, IfSome, Option, OnOk, OnErr, option_to_list};
 
 use crate::codes::{MIXED_QUALIFIERS, PACKET_TOO_LONG};
 use crate::message::Message;
@@ -11,7 +12,8 @@ use x25_bits::Blanks;
 /// The most octets of user data in a data packet.
 const LONGEST_DATA: usize = 4096;
 
-/// The most buffers that were given back and stay: for the message that comes next, and for one that is sent or told beside it.
+/// The most buffers that were given back and stay: for the message that comes next, and for one that is sent or told
+/// beside it.
 const MOST_SPARE: usize = 2;
 
 /// The message of which some packets were taken: its qualifier, where it has begun, and its octets so far.
@@ -105,8 +107,8 @@ impl PartialMessage {
         count <= self.places.len() - self.filled
     }
 
-    /// Sets memory aside for at least so many octets, but for no more than those of the longest data packet. Err: no memory; all is as it was
-    /// then.
+    /// Sets memory aside for at least so many octets, but for no more than those of the longest data packet. Err: no
+    /// memory; all is as it was then.
     #[inline(always)]
     pub fn reserve(&mut self, count: usize) -> Result<(), AllocError>
         ensures part { self.new.part ≡ self.old.part }
@@ -133,7 +135,8 @@ impl PartialMessage {
         ensures most { self.new.room ≤ max self.old.room 4096 }
         ensures err { OnErr result (self.new ≡ self.old) }
     {
-        // It doubles, up to steps of the longest packet, so that a message of short packets isn't copied for each of them.
+        // It doubles, up to steps of the longest packet, so that a message of short packets isn't copied for each of
+        // them.
         let step = count.max(self.filled.min(LONGEST_DATA));
         let more = self.filled + step - self.places.len();
         self.places.reserve_exact(more)?;
@@ -190,7 +193,8 @@ impl PartialMessage {
         Octets::of(self.handed_over())
     }
 
-    // The octets that have come, in memory of their own: where no more are kept than those of the longest packet, and memory isn't refused.
+    // The octets that have come, in memory of their own: where no more are kept than those of the longest packet, and
+    // memory isn't refused.
     fn copied(&mut self) -> Option<Vec<u8>>
         ensures same { self.new ≡ self.old }
         ensures octets { IfSome result (λ octets. octets.items ≡ self.old.part.user) }
@@ -211,14 +215,16 @@ impl PartialMessage {
         }
     }
 
-    /// Takes memory of a message back, for a later one. It is let go of where it is for more than 4,096 octets, and where two are kept.
+    /// Takes memory of a message back, for a later one. It is let go of where it is for more than 4,096 octets, and
+    /// where two are kept.
     pub fn give_back(&mut self, memory: Vec<u8>)
         ensures { self.new ≡ self.old }
     {
         self.spare.give_back(memory);
     }
 
-    /// Memory that was given back, for a message of so many octets, where there is some. What is too small for them is let go of.
+    /// Memory that was given back, for a message of so many octets, where there is some. What is too small for them is
+    /// let go of.
     pub fn again(&mut self, count: usize) -> Option<Vec<u8>>
         ensures same { self.new ≡ self.old }
         ensures empty { IfSome result (λ memory. memory.items ≡ []) }

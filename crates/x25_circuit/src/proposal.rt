@@ -9,7 +9,8 @@ const PACKET_SIZE: u8 = 0x42;
 
 const WINDOW_SIZE: u8 = 0x43;
 
-/// Packet sizes and windows that a CALL proposes or an ACCEPT answers, with the octets that say them, which a packet borrows.
+/// Packet sizes and windows that a CALL proposes or an ACCEPT answers, with the octets that say them, which a packet
+/// borrows.
 #[derive(Debug, Drop)]
 pub struct Proposal {
     params: Params,
@@ -25,7 +26,8 @@ impl Model for Proposal {
 
     ghost view = { λ p. p.params };
 
-    ghost invariant = { λ p. p.field ≡ 66 ∷ p.params.size_called ∷ p.params.size_calling ∷ 67 ∷ p.params.win_called ∷ p.params.win_calling ∷ [] };
+    ghost invariant = { λ p. p.field
+        ≡ 66 ∷ p.params.size_called ∷ p.params.size_calling ∷ 67 ∷ p.params.win_called ∷ p.params.win_calling ∷ [] };
 }
 
 impl Proposal {

@@ -15,7 +15,8 @@ use crate::state::State;
 use crate::transfer::Header;
 use x25_packet::Packet;
 
-/// A data packet that is sent: what it says beside its user data, and the user data, which is borrowed from the message.
+/// A data packet that is sent: what it says beside its user data, and the user data, which is borrowed from the
+/// message.
 #[derive(Drop)]
 pub struct DataPacket<'a> {
     pub header: Header,
@@ -42,7 +43,8 @@ impl Circuit {
     /// The next data packet, where a message waits, the other end is ready and fewer packets than the window are
     /// unacknowledged. Its user data is borrowed from the message. It takes no memory.
     pub fn pull(&mut self) -> Option<DataPacket<'_>>
-        ensures packet { (c : Settings) (x : Channel) → FitsCircuit c self.old x → plain_pulled result ≡ (pulled c x).packet }
+        ensures packet { (c : Settings) (x : Channel) → FitsCircuit c self.old x
+            → plain_pulled result ≡ (pulled c x).packet }
         ensures range { IsSendable (plain_pulled result) }
         ensures* after { sem 𝓛 (EndsPulled self.entry) }
     {
@@ -55,8 +57,10 @@ impl Circuit {
 
     // Sends the next data packet. Its user data is lent by the queue.
     fn advance(&mut self) -> Option<Header>
-        ensures next { (c : Settings) (x : Channel) → FitsCircuit c self.old x → FitsCircuit c self.new (pulled c x).next }
-        ensures packet { (c : Settings) (x : Channel) → FitsCircuit c self.old x → packet_with result self.new.transfer.queue.cutter.lent ≡ (pulled c x).packet }
+        ensures next { (c : Settings) (x : Channel) → FitsCircuit c self.old x
+            → FitsCircuit c self.new (pulled c x).next }
+        ensures packet { (c : Settings) (x : Channel) → FitsCircuit c self.old x
+            → packet_with result self.new.transfer.queue.cutter.lent ≡ (pulled c x).packet }
         ensures short { IfSome result (λ header. length self.new.transfer.queue.cutter.lent ≤ 4096) }
         ensures room { room_of self.old ≤ room_of self.new }
         ensures clears { clears_of self.new ≡ clears_of self.old }

@@ -1,4 +1,5 @@
-ghost use Rattle.std.specs.Prelude.{◌≡◌, ℕ, ◌+◌, ◌<◌, ◌≤◌, [], ◌∷◌, ◌++◌, length, IfOk, IfSome, IfNone, true, false, vec_capacity};
+ghost use Rattle.std.specs.Prelude.{◌≡◌, ℕ, ◌+◌, ◌<◌, ◌≤◌, [], ◌∷◌, ◌++◌, length, IfOk, IfSome, IfNone, true, false};
+ghost use Rattle.std.specs.Prelude.{vec_capacity};
 
 use crate::cutter::{Cutter, Marks};
 use crate::message::Message;
@@ -79,7 +80,8 @@ impl Queue {
     pub fn cut(&mut self, size: usize) -> Option<Marks>
         ensures some { IfSome result (λ marks. 0 < length (waiting self.old)) }
         ensures left { IfSome result (λ marks. waiting self.new ≡ first_left size (waiting self.old)) }
-        ensures packet { IfSome result (λ marks. marked marks.q marks.m self.new.cutter.lent ≡ first_cut size (waiting self.old)) }
+        ensures packet { IfSome result (λ marks. marked marks.q marks.m self.new.cutter.lent
+            ≡ first_cut size (waiting self.old)) }
         ensures short { IfSome result (λ marks. length self.new.cutter.lent ≤ size) }
         ensures none { IfNone result (waiting self.old ≡ []) }
         ensures same { IfNone result (waiting self.new ≡ []) }
@@ -90,7 +92,8 @@ impl Queue {
         Some(self.cutter.cut(size))
     }
 
-    /// Memory of a message that was cut to its end, for one of so many octets, where there is some, as `Cutter::spent_memory`.
+    /// Memory of a message that was cut to its end, for one of so many octets, where there is some, as
+    /// `Cutter::spent_memory`.
     pub fn spent_memory(&mut self, length: usize) -> Option<Vec<u8>>
         ensures same { waiting self.new ≡ waiting self.old }
         ensures empty { IfSome result (λ memory. memory.items ≡ []) }

@@ -1,13 +1,16 @@
 //! What the user of a circuit asks for, as one type.
-ghost use Rattle.std.specs.Prelude.{◌≡◌, ◌≢◌, ◌≤◌, ◌<◌, Bool, ℕ, List, false, OnErr, IfOk, IfSome, IfNone, Some, None, length};
+ghost use Rattle.std.specs.Prelude.{◌≡◌, ◌≢◌, ◌≤◌, ◌<◌, Bool, ℕ, List, false, OnErr, IfOk, IfSome, IfNone, Some, None};
+ghost use Rattle.std.specs.Prelude.{length};
 ghost use Rattle.x25_packet.specs.Packet.{plain};
 ghost use Rattle.x25_packet.specs.Spelling.{IsInRange};
 ghost use Rattle.x25_circuit.specs.Circuit.{Settings};
 ghost use Rattle.x25_circuit.specs.Circuit.{Circuit as Channel};
-ghost use Rattle.x25_circuit.specs.Calling.{outcome, Refused, Accepts, clear_in, send_in, interrupt_in, reset_in, ready_in};
+ghost use Rattle.x25_circuit.specs.Calling.{outcome, Refused, Accepts, clear_in, send_in, interrupt_in, reset_in};
+ghost use Rattle.x25_circuit.specs.Calling.{ready_in};
 ghost use Rattle.x25_circuit.specs.code.FitsCircuit.{FitsCircuit, Sends, room_of, clears_of, resets_of};
 ghost use Rattle.x25_circuit.specs.Queue.{waiting};
-ghost use Rattle.x25_circuit.specs.Request.{plain_answer, plain_request, refusal_of, with_packet, AnswersRequest, MayPut};
+ghost use Rattle.x25_circuit.specs.Request.{plain_answer, plain_request, refusal_of, with_packet, AnswersRequest};
+ghost use Rattle.x25_circuit.specs.Request.{MayPut};
 ghost use Rattle.x25_circuit.specs.code.Replies.{IsSendable, plain_sent};
 
 use crate::circuit::Circuit;
@@ -57,10 +60,12 @@ fn with_packet<'a>(
 impl Circuit {
     /// Does what is asked, as the call of that name. It answers the packet to send, where there is one.
     ///
-    /// Refused as that call, by 30, 31, 32, 33 or 34, and then the circuit is as before. None of these calls changes a count.
+    /// Refused as that call, by 30, 31, 32, 33 or 34, and then the circuit is as before. None of these calls changes a
+    /// count.
     #[inline(always)]
     pub fn ask<'a>(&mut self, request: Request<'a>) -> Result<Option<Packet<'a>>, CircuitError>
-        ensures outcome { (c : Settings) (x : Channel) → FitsCircuit c self.old x → AnswersRequest c self.new result (outcome c x (plain_request request.entry)) }
+        ensures outcome { (c : Settings) (x : Channel) → FitsCircuit c self.old x
+            → AnswersRequest c self.new result (outcome c x (plain_request request.entry)) }
         ensures range { IfOk result (λ packet. IsSendable (plain_sent packet)) }
         ensures at_once { IfOk result (λ packet. MayPut (plain_request request.entry) packet) }
         ensures room { room_of self.old ≤ room_of self.new }
@@ -90,7 +95,8 @@ impl Circuit {
 
     // Accepts with this answer, where there is one.
     fn accept_as<'a>(&mut self, answer: Option<&'a Proposal>) -> Result<Packet<'a>, CircuitError>
-        ensures outcome { (c : Settings) (x : Channel) → FitsCircuit c self.old x → Sends c self.new result (outcome c x (Accepts (plain_answer answer.entry))) }
+        ensures outcome { (c : Settings) (x : Channel) → FitsCircuit c self.old x
+            → Sends c self.new result (outcome c x (Accepts (plain_answer answer.entry))) }
         ensures range { IfOk result (λ packet. IsInRange 128 (plain packet)) }
         ensures room { room_of self.old ≤ room_of self.new }
         ensures clears { clears_of self.new ≡ clears_of self.old }
@@ -105,7 +111,8 @@ impl Circuit {
 
     /// Why `ask` would refuse this now, if it would.
     pub fn refusal(&self, request: &Request<'_>) -> Option<CircuitError>
-        ensures { (c : Settings) (x : Channel) → FitsCircuit c self.now x → result ≡ refusal_of (outcome c x (plain_request request.now)) }
+        ensures { (c : Settings) (x : Channel) → FitsCircuit c self.now x
+            → result ≡ refusal_of (outcome c x (plain_request request.now)) }
     {
         match request {
             Request::Call {
@@ -125,8 +132,10 @@ impl Circuit {
     }
 
     pub(crate) fn clear_refusal(&self) -> Option<CircuitError>
-        ensures refusal { (c : Settings) (x : Channel) → FitsCircuit c self.now x → result ≡ refusal_of (clear_in x x.state) }
-        ensures refused { (c : Settings) (x : Channel) → FitsCircuit c self.now x → IfSome result (λ e. clear_in x x.state ≡ Refused e) }
+        ensures refusal { (c : Settings) (x : Channel) → FitsCircuit c self.now x
+            → result ≡ refusal_of (clear_in x x.state) }
+        ensures refused { (c : Settings) (x : Channel) → FitsCircuit c self.now x
+            → IfSome result (λ e. clear_in x x.state ≡ Refused e) }
         ensures not_free { IfNone result (self.now.state ≢ State.Free) }
         ensures not_clearing { IfNone result (self.now.state ≢ State.Clearing) }
     {
@@ -136,11 +145,13 @@ impl Circuit {
         }
     }
 
-    /// Why `send` would refuse a message of so many octets now, if it would: 30 WrongState outside of p4 with d1, then 32 TooLong, then 31 Full exactly
-    /// where 8 messages wait.
+    /// Why `send` would refuse a message of so many octets now, if it would: 30 WrongState outside of p4 with d1, then
+    /// 32 TooLong, then 31 Full exactly where 8 messages wait.
     pub fn send_refusal(&self, count: usize) -> Option<CircuitError>
-        ensures refusal { (c : Settings) (x : Channel) (q : Bool) (user : List ℕ) → length user ≡ count → FitsCircuit c self.now x → result ≡ refusal_of (send_in c x x.state q user) }
-        ensures refused { (c : Settings) (x : Channel) (q : Bool) (user : List ℕ) → length user ≡ count → FitsCircuit c self.now x → IfSome result (λ e. send_in c x x.state q user ≡ Refused e) }
+        ensures refusal { (c : Settings) (x : Channel) (q : Bool) (user : List ℕ) → length user ≡ count
+            → FitsCircuit c self.now x → result ≡ refusal_of (send_in c x x.state q user) }
+        ensures refused { (c : Settings) (x : Channel) (q : Bool) (user : List ℕ) → length user ≡ count
+            → FitsCircuit c self.now x → IfSome result (λ e. send_in c x x.state q user ≡ Refused e) }
         ensures open { IfNone result (self.now.state ≡ State.Open) }
         ensures short { IfNone result (count ≤ 65535) }
         ensures few { IfNone result (length (waiting self.now.transfer.queue) < 8) }
@@ -154,8 +165,10 @@ impl Circuit {
     }
 
     pub(crate) fn interrupt_refusal(&self, user: &[u8]) -> Option<CircuitError>
-        ensures refusal { (c : Settings) (x : Channel) → FitsCircuit c self.now x → result ≡ refusal_of (interrupt_in x x.state user.now) }
-        ensures refused { (c : Settings) (x : Channel) → FitsCircuit c self.now x → IfSome result (λ e. interrupt_in x x.state user.now ≡ Refused e) }
+        ensures refusal { (c : Settings) (x : Channel) → FitsCircuit c self.now x
+            → result ≡ refusal_of (interrupt_in x x.state user.now) }
+        ensures refused { (c : Settings) (x : Channel) → FitsCircuit c self.now x
+            → IfSome result (λ e. interrupt_in x x.state user.now ≡ Refused e) }
         ensures open { IfNone result (self.now.state ≡ State.Open) }
         ensures none_out { IfNone result (self.now.transfer.interrupt_out ≡ false) }
         ensures some { IfNone result (1 ≤ length user.now) }
@@ -176,10 +189,14 @@ impl Circuit {
     // Where it isn't in p4 with d1.
     pub(crate) fn closed(&self) -> Option<CircuitError>
         ensures open { IfNone result (self.now.state ≡ State.Open) }
-        ensures no_reset { (c : Settings) (x : Channel) → FitsCircuit c self.now x → IfSome result (λ e. reset_in x x.state ≡ Refused e) }
-        ensures no_ready { (c : Settings) (x : Channel) (is_ready : Bool) → FitsCircuit c self.now x → IfSome result (λ e. ready_in x x.state is_ready ≡ Refused e) }
-        ensures reset { (c : Settings) (x : Channel) → FitsCircuit c self.now x → result ≡ refusal_of (reset_in x x.state) }
-        ensures ready { (c : Settings) (x : Channel) (is_ready : Bool) → FitsCircuit c self.now x → result ≡ refusal_of (ready_in x x.state is_ready) }
+        ensures no_reset { (c : Settings) (x : Channel) → FitsCircuit c self.now x
+            → IfSome result (λ e. reset_in x x.state ≡ Refused e) }
+        ensures no_ready { (c : Settings) (x : Channel) (is_ready : Bool) → FitsCircuit c self.now x
+            → IfSome result (λ e. ready_in x x.state is_ready ≡ Refused e) }
+        ensures reset { (c : Settings) (x : Channel) → FitsCircuit c self.now x
+            → result ≡ refusal_of (reset_in x x.state) }
+        ensures ready { (c : Settings) (x : Channel) (is_ready : Bool) → FitsCircuit c self.now x
+            → result ≡ refusal_of (ready_in x x.state is_ready) }
     {
         match self.state {
             State::Open => None,

@@ -24,8 +24,12 @@ impl Circuit {
         facilities: &[u8],
         user: &'a [u8],
     ) -> Reply<'a>
-        ensures next { (c : Settings) (x : Channel) → FitsCircuit c self.old x → FitsCircuit c self.new (row_call c x self.old.state (request_in called.now calling.now facilities.now user.now)).next }
-        ensures says { (c : Settings) (x : Channel) → FitsCircuit c self.old x → Says result (row_call c x self.old.state (request_in called.now calling.now facilities.now user.now)).owed (row_call c x self.old.state (request_in called.now calling.now facilities.now user.now)).notices }
+        ensures next { (c : Settings) (x : Channel) → FitsCircuit c self.old x
+            → FitsCircuit c self.new (row_call c x self.old.state
+            (request_in called.now calling.now facilities.now user.now)).next }
+        ensures says { (c : Settings) (x : Channel) → FitsCircuit c self.old x
+            → Says result (row_call c x self.old.state (request_in called.now calling.now facilities.now user.now)).owed
+            (row_call c x self.old.state (request_in called.now calling.now facilities.now user.now)).notices }
         ensures range { IsSendable (plain_owed result.packet) }
         ensures room { room_of self.old ≤ room_of self.new }
     {
@@ -52,8 +56,13 @@ impl Circuit {
         user: &'a [u8],
         flow: FlowControl,
     ) -> Reply<'a>
-        ensures next { (c : Settings) (x : Channel) → FitsCircuit c self.old x → FitsCircuit c self.new (collides c.role x (record { called = called.now; calling = calling.now; user = user.now; params = flow.params })).next }
-        ensures says { (c : Settings) (x : Channel) → FitsCircuit c self.old x → Says result (collides c.role x (record { called = called.now; calling = calling.now; user = user.now; params = flow.params })).owed (collides c.role x (record { called = called.now; calling = calling.now; user = user.now; params = flow.params })).notices }
+        ensures next { (c : Settings) (x : Channel) → FitsCircuit c self.old x
+            → FitsCircuit c self.new (collides c.role x
+            (record { called = called.now; calling = calling.now; user = user.now; params = flow.params })).next }
+        ensures says { (c : Settings) (x : Channel) → FitsCircuit c self.old x
+            → Says result (collides c.role x
+            (record { called = called.now; calling = calling.now; user = user.now; params = flow.params })).owed
+            (collides c.role x (record { called = called.now; calling = calling.now; user = user.now; params = flow.params })).notices }
         ensures range { IsSendable (plain_owed result.packet) }
         ensures room { room_of self.old ≤ room_of self.new }
     {
@@ -74,8 +83,11 @@ impl Circuit {
     }
 
     pub(crate) fn hear_accept<'a>(&mut self, facilities: &[u8]) -> Reply<'a>
-        ensures next { (c : Settings) (x : Channel) → FitsCircuit c self.old x → FitsCircuit c self.new (row_accept c x self.old.state facilities.now).next }
-        ensures says { (c : Settings) (x : Channel) → FitsCircuit c self.old x → Says result (row_accept c x self.old.state facilities.now).owed (row_accept c x self.old.state facilities.now).notices }
+        ensures next { (c : Settings) (x : Channel) → FitsCircuit c self.old x
+            → FitsCircuit c self.new (row_accept c x self.old.state facilities.now).next }
+        ensures says { (c : Settings) (x : Channel) → FitsCircuit c self.old x
+            → Says result (row_accept c x self.old.state facilities.now).owed
+            (row_accept c x self.old.state facilities.now).notices }
         ensures range { IsSendable (plain_owed result.packet) }
         ensures room { room_of self.old ≤ room_of self.new }
     {
@@ -90,7 +102,8 @@ impl Circuit {
 impl Circuit {
     // The other end accepted the call.
     fn connect<'a>(&mut self, facilities: &[u8]) -> Reply<'a>
-        ensures next { (c : Settings) (x : Channel) → FitsCircuit c self.old x → FitsCircuit c self.new (connects c x (said_in x.params facilities.now)).next }
+        ensures next { (c : Settings) (x : Channel) → FitsCircuit c self.old x
+            → FitsCircuit c self.new (connects c x (said_in x.params facilities.now)).next }
         ensures says { (c : Settings) (x : Channel) → FitsCircuit c self.old x →
             Says result (connects c x (said_in x.params facilities.now)).owed (connects c x (said_in x.params facilities.now)).notices }
         ensures range { IsSendable (plain_owed result.packet) }
@@ -113,7 +126,8 @@ fn incoming<'a>(
     user: &'a [u8],
     params: Params,
 ) -> Notice<'a>
-    ensures { plain_notice result ≡ incoming (record { called = called.now; calling = calling.now; user = user.now; params = params }) }
+    ensures { plain_notice result
+        ≡ incoming (record { called = called.now; calling = calling.now; user = user.now; params = params }) }
 {
     Notice::Incoming {
         called: called.again(),

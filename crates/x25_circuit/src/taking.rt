@@ -1,6 +1,7 @@
-//! Packets of data transfer in p4 with d1 with which nothing is wrong: data packets, RR and RNR, which most packets are.
-//! ITU-T X.25 (10/96), sections 4.3 and 4.4.1.
-ghost use Rattle.std.specs.Prelude.{◌≡◌, ◌⊎◌, ℕ, ◌+◌, ◌<◌, ◌≤◌, length, None, Some, true, false, option_to_list, if◌then◌else◌, OnSome, IfSome, IfNone};
+//! Packets of data transfer in p4 with d1 with which nothing is wrong: data packets, RR and RNR, which most packets
+//! are. ITU-T X.25 (10/96), sections 4.3 and 4.4.1.
+ghost use Rattle.std.specs.Prelude.{◌≡◌, ◌⊎◌, ℕ, ◌+◌, ◌<◌, ◌≤◌, length, None, Some, true, false, option_to_list};
+ghost use Rattle.std.specs.Prelude.{if◌then◌else◌, OnSome, IfSome, IfNone};
 ghost use Rattle.x25_packet.specs.Packet.{user_data};
 ghost use Rattle.x25_packet.specs.Spelling.{IsInRange};
 ghost use Rattle.x25_circuit.specs.Circuit.{Settings, is_open};
@@ -39,7 +40,8 @@ pub enum Flow<'a> {
 impl Circuit {
     /// RR, or RNR where this end isn't ready, with P(R).
     pub(crate) fn status(&self) -> Owed
-        ensures value { (c : Settings) (x : Channel) → FitsCircuit c self.now x → packet_owed 1 result ≡ status x.talk.own_ready (length x.talk.taken) }
+        ensures value { (c : Settings) (x : Channel) → FitsCircuit c self.now x
+            → packet_owed 1 result ≡ status x.talk.own_ready (length x.talk.taken) }
         ensures range { IsInRange 128 (packet_owed 1 result) }
     {
         let pr = self.transfer.receiver.wanted();
@@ -53,8 +55,10 @@ impl Circuit {
     /// Takes an RR or RNR in p4 with d1, and says whether its P(R) is valid. It changes nothing where it isn't.
     #[inline(always)]
     pub(crate) fn take_status(&mut self, pr: Seq, is_ready: bool) -> bool
-        ensures next { (c : Settings) (x : Channel) → FitsCircuit c self.old x → result ≡ true → FitsCircuit c self.new (hears_status x x.talk is_ready pr.number).next }
-        ensures valid { (c : Settings) (x : Channel) → FitsCircuit c self.old x → number_ground x.talk pr.number ≡ (if result then None else Some 2) }
+        ensures next { (c : Settings) (x : Channel) → FitsCircuit c self.old x → result ≡ true
+            → FitsCircuit c self.new (hears_status x x.talk is_ready pr.number).next }
+        ensures valid { (c : Settings) (x : Channel) → FitsCircuit c self.old x
+            → number_ground x.talk pr.number ≡ (if result then None else Some 2) }
         ensures unchanged { result ≡ false → self.new ≡ self.old }
         ensures kept { self.new ≡ record self.old { transfer = self.new.transfer } }
         ensures queue { self.new.transfer.queue ≡ self.old.transfer.queue }
@@ -67,7 +71,8 @@ impl Circuit {
         true
     }
 
-    /// Takes a data packet in p4 with d1 that isn't refused, but perhaps for its P(R). It changes nothing where that is invalid.
+    /// Takes a data packet in p4 with d1 that isn't refused, but perhaps for its P(R). It changes nothing where that is
+    /// invalid.
     #[inline(always)]
     pub(crate) fn take_data(
         &mut self,
@@ -80,12 +85,16 @@ impl Circuit {
         requires wanted { ps.number ≡ self.old.transfer.receiver.number }
         requires room { length user.now ≤ room_of self.old }
         requires short { length self.old.transfer.partial.part.user + length user.now ≤ 65535 }
-        ensures next { (c : Settings) (x : Channel) → FitsCircuit c self.old x → OnSome result (FitsCircuit c self.new (takes x x.talk pr.number (piece_of q m user.now)).next) }
-        ensures says { (c : Settings) (x : Channel) → FitsCircuit c self.old x → IfSome result (λ taken. SaysTaken taken (takes x x.talk pr.number (piece_of q m user.now))) }
+        ensures next { (c : Settings) (x : Channel) → FitsCircuit c self.old x
+            → OnSome result (FitsCircuit c self.new (takes x x.talk pr.number (piece_of q m user.now)).next) }
+        ensures says { (c : Settings) (x : Channel) → FitsCircuit c self.old x
+            → IfSome result (λ taken. SaysTaken taken (takes x x.talk pr.number (piece_of q m user.now))) }
         ensures range { IfSome result (λ taken. IsSendable (plain_owed taken.owed)) }
         ensures owes { IfSome result (λ taken. IfNone taken.owed ⊥) }
-        ensures valid { (c : Settings) (x : Channel) → FitsCircuit c self.old x → OnSome result (number_ground x.talk pr.number ≡ None) }
-        ensures invalid { (c : Settings) (x : Channel) → FitsCircuit c self.old x → IfNone result (number_ground x.talk pr.number ≡ Some 2) }
+        ensures valid { (c : Settings) (x : Channel) → FitsCircuit c self.old x
+            → OnSome result (number_ground x.talk pr.number ≡ None) }
+        ensures invalid { (c : Settings) (x : Channel) → FitsCircuit c self.old x
+            → IfNone result (number_ground x.talk pr.number ≡ Some 2) }
         ensures unchanged { IfNone result (self.new ≡ self.old) }
         ensures kept { self.new ≡ record self.old { transfer = self.new.transfer } }
         ensures queue { self.new.transfer.queue ≡ self.old.transfer.queue }
@@ -104,10 +113,16 @@ impl Circuit {
     // A data packet in p4 with d1, where nothing is wrong with it and memory is set aside for it.
     #[inline(always)]
     fn take_right(&mut self, q: bool, m: bool, ps: Seq, pr: Seq, user: &[u8]) -> Option<Taken>
-        ensures next { (c : Settings) (x : Channel) (h : ℕ) → FitsCircuit c self.old x → OnSome result (FitsCircuit c self.new (row_open c x x.talk (user_data h q m ps.number pr.number user.now)).next) }
-        ensures says { (c : Settings) (x : Channel) (h : ℕ) → FitsCircuit c self.old x → IfSome result (λ taken. SaysTaken taken (row_open c x x.talk (user_data h q m ps.number pr.number user.now))) }
+        ensures next { (c : Settings) (x : Channel) (h : ℕ) → FitsCircuit c self.old x
+            → OnSome result (FitsCircuit c self.new
+            (row_open c x x.talk (user_data h q m ps.number pr.number user.now)).next) }
+        ensures says { (c : Settings) (x : Channel) (h : ℕ) → FitsCircuit c self.old x
+            → IfSome result (λ taken. SaysTaken taken
+            (row_open c x x.talk (user_data h q m ps.number pr.number user.now))) }
         ensures range { IfSome result (λ taken. IsSendable (plain_owed taken.owed)) }
-        ensures wrong { (c : Settings) (x : Channel) (h : ℕ) → FitsCircuit c self.old x → IfNone result ((is_open (row_open c x x.talk (user_data h q m ps.number pr.number user.now)).next ≡ false) ⊎ (room_of self.old < length user.now)) }
+        ensures wrong { (c : Settings) (x : Channel) (h : ℕ) → FitsCircuit c self.old x
+            → IfNone result ((is_open (row_open c x x.talk (user_data h q m ps.number pr.number user.now)).next ≡ false)
+            ⊎ (room_of self.old < length user.now)) }
         ensures unchanged { IfNone result (self.new ≡ self.old) }
         ensures kept { self.new ≡ record self.old { transfer = self.new.transfer } }
         ensures queue { self.new.transfer.queue ≡ self.old.transfer.queue }
@@ -129,10 +144,16 @@ impl Circuit {
     // RR or RNR in p4 with d1, where nothing is wrong with it.
     #[inline(always)]
     fn note_status(&mut self, pr: Seq, is_ready: bool) -> Option<Taken>
-        ensures next { (c : Settings) (x : Channel) → FitsCircuit c self.old x → OnSome result (FitsCircuit c self.new (unless c x (number_ground x.talk pr.number) (hears_status x x.talk is_ready pr.number)).next) }
-        ensures says { (c : Settings) (x : Channel) → FitsCircuit c self.old x → IfSome result (λ taken. SaysTaken taken (unless c x (number_ground x.talk pr.number) (hears_status x x.talk is_ready pr.number))) }
+        ensures next { (c : Settings) (x : Channel) → FitsCircuit c self.old x
+            → OnSome result (FitsCircuit c self.new
+            (unless c x (number_ground x.talk pr.number) (hears_status x x.talk is_ready pr.number)).next) }
+        ensures says { (c : Settings) (x : Channel) → FitsCircuit c self.old x
+            → IfSome result (λ taken. SaysTaken taken
+            (unless c x (number_ground x.talk pr.number) (hears_status x x.talk is_ready pr.number))) }
         ensures range { IfSome result (λ taken. IsSendable (plain_owed taken.owed)) }
-        ensures wrong { (c : Settings) (x : Channel) → FitsCircuit c self.old x → IfNone result (is_open (unless c x (number_ground x.talk pr.number) (hears_status x x.talk is_ready pr.number)).next ≡ false) }
+        ensures wrong { (c : Settings) (x : Channel) → FitsCircuit c self.old x
+            → IfNone result (is_open (unless c x (number_ground x.talk pr.number)
+            (hears_status x x.talk is_ready pr.number)).next ≡ false) }
         ensures unchanged { IfNone result (self.new ≡ self.old) }
         ensures kept { self.new ≡ record self.old { transfer = self.new.transfer } }
         ensures queue { self.new.transfer.queue ≡ self.old.transfer.queue }
@@ -149,10 +170,14 @@ impl Circuit {
     // Any of them in p4 with d1.
     #[inline(always)]
     fn take_open(&mut self, packet: &Flow<'_>) -> Option<Taken>
-        ensures next { (c : Settings) (x : Channel) (h : ℕ) → FitsCircuit c self.old x → OnSome result (FitsCircuit c self.new (row_open c x x.talk (plain_flow h packet.now)).next) }
-        ensures says { (c : Settings) (x : Channel) (h : ℕ) → FitsCircuit c self.old x → IfSome result (λ taken. SaysTaken taken (row_open c x x.talk (plain_flow h packet.now))) }
+        ensures next { (c : Settings) (x : Channel) (h : ℕ) → FitsCircuit c self.old x
+            → OnSome result (FitsCircuit c self.new (row_open c x x.talk (plain_flow h packet.now)).next) }
+        ensures says { (c : Settings) (x : Channel) (h : ℕ) → FitsCircuit c self.old x
+            → IfSome result (λ taken. SaysTaken taken (row_open c x x.talk (plain_flow h packet.now))) }
         ensures range { IfSome result (λ taken. IsSendable (plain_owed taken.owed)) }
-        ensures wrong { (c : Settings) (x : Channel) (h : ℕ) → FitsCircuit c self.old x → IfNone result ((is_open (row_open c x x.talk (plain_flow h packet.now)).next ≡ false) ⊎ (room_of self.old < length (user_octets (plain_flow h packet.now)))) }
+        ensures wrong { (c : Settings) (x : Channel) (h : ℕ) → FitsCircuit c self.old x
+            → IfNone result ((is_open (row_open c x x.talk (plain_flow h packet.now)).next ≡ false)
+            ⊎ (room_of self.old < length (user_octets (plain_flow h packet.now)))) }
         ensures unchanged { IfNone result (self.new ≡ self.old) }
         ensures kept { self.new ≡ record self.old { transfer = self.new.transfer } }
         ensures queue { self.new.transfer.queue ≡ self.old.transfer.queue }
@@ -164,17 +189,22 @@ impl Circuit {
         }
     }
 
-    /// Takes a data packet, RR or RNR that came for this channel, where it is in p4 with d1 and nothing is wrong with the packet, and
-    /// answers as `packet` does. It takes no memory, counts no clear and no reset, and what waits goes on waiting.
+    /// Takes a data packet, RR or RNR that came for this channel, where it is in p4 with d1 and nothing is wrong with
+    /// the packet, and answers as `packet` does. It takes no memory, counts no clear and no reset, and what waits goes
+    /// on waiting.
     ///
-    /// None, and all is as before, only where by the table the circuit isn't in p4 with d1 behind the packet, or where memory is set
-    /// aside for fewer octets than it has: `packet` answers it then.
+    /// None, and all is as before, only where by the table the circuit isn't in p4 with d1 behind the packet, or where
+    /// memory is set aside for fewer octets than it has: `packet` answers it then.
     #[inline(always)]
     pub fn take(&mut self, packet: &Flow<'_>) -> Option<Taken>
-        ensures next { (c : Settings) (x : Channel) (h : ℕ) → FitsCircuit c self.old x → OnSome result (FitsCircuit c self.new (answers c x (plain_flow h packet.now)).next) }
-        ensures says { (c : Settings) (x : Channel) (h : ℕ) → FitsCircuit c self.old x → IfSome result (λ taken. SaysTaken taken (answers c x (plain_flow h packet.now))) }
+        ensures next { (c : Settings) (x : Channel) (h : ℕ) → FitsCircuit c self.old x
+            → OnSome result (FitsCircuit c self.new (answers c x (plain_flow h packet.now)).next) }
+        ensures says { (c : Settings) (x : Channel) (h : ℕ) → FitsCircuit c self.old x
+            → IfSome result (λ taken. SaysTaken taken (answers c x (plain_flow h packet.now))) }
         ensures range { IfSome result (λ taken. IsSendable (plain_owed taken.owed)) }
-        ensures wrong { (c : Settings) (x : Channel) (h : ℕ) → FitsCircuit c self.old x → IfNone result ((is_open (answers c x (plain_flow h packet.now)).next ≡ false) ⊎ (room_of self.old < length (user_octets (plain_flow h packet.now)))) }
+        ensures wrong { (c : Settings) (x : Channel) (h : ℕ) → FitsCircuit c self.old x
+            → IfNone result ((is_open (answers c x (plain_flow h packet.now)).next ≡ false)
+            ⊎ (room_of self.old < length (user_octets (plain_flow h packet.now)))) }
         ensures unchanged { IfNone result (self.new ≡ self.old) }
         ensures clears { clears_of self.new ≡ clears_of self.old }
         ensures resets { resets_of self.new ≡ resets_of self.old }

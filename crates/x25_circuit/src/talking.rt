@@ -4,7 +4,8 @@ ghost use Rattle.x25_packet.specs.Packet.{plain};
 ghost use Rattle.x25_packet.specs.Spelling.{IsInRange};
 ghost use Rattle.x25_circuit.specs.Circuit.{Settings};
 ghost use Rattle.x25_circuit.specs.Circuit.{Circuit as Channel};
-ghost use Rattle.x25_circuit.specs.Calling.{outcome, Sends as CallSends, Interrupts, Resets, SaysReady, SaysNotReady, ready_in};
+ghost use Rattle.x25_circuit.specs.Calling.{outcome, Sends as CallSends, Interrupts, Resets, SaysReady, SaysNotReady};
+ghost use Rattle.x25_circuit.specs.Calling.{ready_in};
 ghost use Rattle.x25_circuit.specs.code.FitsCircuit.{FitsCircuit, Sends, Keeps, room_of, clears_of, resets_of};
 
 use crate::circuit::Circuit;
@@ -24,7 +25,8 @@ impl Circuit {
     /// 30 WrongState outside of p4 with d1, then 32 TooLong, then 31 Full exactly where 8 messages wait.
     #[inline(always)]
     pub fn send(&mut self, q: bool, user: Vec<u8>) -> Result<(), CircuitError>
-        ensures outcome { (c : Settings) (x : Channel) → FitsCircuit c self.old x → Keeps c self.new result (outcome c x (CallSends q user.items)) }
+        ensures outcome { (c : Settings) (x : Channel) → FitsCircuit c self.old x
+            → Keeps c self.new result (outcome c x (CallSends q user.items)) }
         ensures room { room_of self.old ≤ room_of self.new }
         ensures clears { clears_of self.new ≡ clears_of self.old }
         ensures resets { resets_of self.new ≡ resets_of self.old }
@@ -42,7 +44,8 @@ impl Circuit {
     ///
     /// 30 WrongState outside of p4 with d1, then 34 BadParameter for another length, then 33 InterruptOutstanding.
     pub fn interrupt<'a>(&mut self, user: &'a [u8]) -> Result<Packet<'a>, CircuitError>
-        ensures outcome { (c : Settings) (x : Channel) → FitsCircuit c self.old x → Sends c self.new result (outcome c x (Interrupts user.now)) }
+        ensures outcome { (c : Settings) (x : Channel) → FitsCircuit c self.old x
+            → Sends c self.new result (outcome c x (Interrupts user.now)) }
         ensures range { IfOk result (λ packet. IsInRange 128 (plain packet)) }
         ensures room { room_of self.old ≤ room_of self.new }
         ensures clears { clears_of self.new ≡ clears_of self.old }
@@ -60,7 +63,8 @@ impl Circuit {
     ///
     /// 30 WrongState outside of p4 with d1.
     pub fn reset<'a>(&mut self) -> Result<Packet<'a>, CircuitError>
-        ensures outcome { (c : Settings) (x : Channel) → FitsCircuit c self.old x → Sends c self.new result (outcome c x Resets) }
+        ensures outcome { (c : Settings) (x : Channel) → FitsCircuit c self.old x
+            → Sends c self.new result (outcome c x Resets) }
         ensures range { IfOk result (λ packet. IsInRange 128 (plain packet)) }
         ensures room { room_of self.old ≤ room_of self.new }
         ensures clears { clears_of self.new ≡ clears_of self.old }
@@ -82,7 +86,8 @@ impl Circuit {
     ///
     /// 30 WrongState outside of p4 with d1.
     pub fn ready<'a>(&mut self) -> Result<Packet<'a>, CircuitError>
-        ensures outcome { (c : Settings) (x : Channel) → FitsCircuit c self.old x → Sends c self.new result (outcome c x SaysReady) }
+        ensures outcome { (c : Settings) (x : Channel) → FitsCircuit c self.old x
+            → Sends c self.new result (outcome c x SaysReady) }
         ensures range { IfOk result (λ packet. IsInRange 128 (plain packet)) }
         ensures room { room_of self.old ≤ room_of self.new }
         ensures clears { clears_of self.new ≡ clears_of self.old }
@@ -96,7 +101,8 @@ impl Circuit {
     ///
     /// 30 WrongState outside of p4 with d1.
     pub fn not_ready<'a>(&mut self) -> Result<Packet<'a>, CircuitError>
-        ensures outcome { (c : Settings) (x : Channel) → FitsCircuit c self.old x → Sends c self.new result (outcome c x SaysNotReady) }
+        ensures outcome { (c : Settings) (x : Channel) → FitsCircuit c self.old x
+            → Sends c self.new result (outcome c x SaysNotReady) }
         ensures range { IfOk result (λ packet. IsInRange 128 (plain packet)) }
         ensures room { room_of self.old ≤ room_of self.new }
         ensures clears { clears_of self.new ≡ clears_of self.old }
@@ -108,7 +114,8 @@ impl Circuit {
 
     // Says whether this end is ready.
     fn say<'a>(&mut self, is_ready: bool) -> Result<Packet<'a>, CircuitError>
-        ensures outcome { (c : Settings) (x : Channel) → FitsCircuit c self.old x → Sends c self.new result (ready_in x x.state is_ready) }
+        ensures outcome { (c : Settings) (x : Channel) → FitsCircuit c self.old x
+            → Sends c self.new result (ready_in x x.state is_ready) }
         ensures range { IfOk result (λ packet. IsInRange 128 (plain packet)) }
         ensures room { room_of self.old ≤ room_of self.new }
         ensures clears { clears_of self.new ≡ clears_of self.old }

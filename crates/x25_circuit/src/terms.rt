@@ -1,6 +1,7 @@
 ghost use Rattle.std.specs.Prelude.{◌≡◌, ◌^◌, ◌≤◌};
 
-/// Of one direction: the window, and the most octets of user data in a data packet. ITU-T X.25 (10/96), sections 4.3.2 and
+/// Of one direction: the window, and the most octets of user data in a data packet. ITU-T X.25 (10/96), sections 4.3.2
+/// and
 /// 4.4.1.2.
 #[derive(Clone, Copy)]
 pub struct Terms {

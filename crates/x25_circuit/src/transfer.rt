@@ -1,10 +1,13 @@
-ghost use Rattle.std.specs.Prelude.{◌≡◌, ℕ, ◌+◌, ◌%◌, ◌<◌, ◌≤◌, ◌==◌, nat_le, nat_lt, length, ◌∷◌, [], ◌++◌, true, false, IfOk, IfErr, OnOk, OnErr, OnSome, IfSome, IfNone, Bool, option_to_list, Some, None, if◌then◌else◌};
+ghost use Rattle.std.specs.Prelude.{◌≡◌, ℕ, ◌+◌, ◌%◌, ◌<◌, ◌≤◌, ◌==◌, nat_le, nat_lt, length, ◌∷◌, [], ◌++◌, true};
+ghost use Rattle.std.specs.Prelude.{false, IfOk, IfErr, OnOk, OnErr, OnSome, IfSome, IfNone, Bool, option_to_list};
+ghost use Rattle.std.specs.Prelude.{Some, None, if◌then◌else◌};
 ghost use Rattle.x25_window.specs.code.Modulo.{resolved};
 ghost use Rattle.x25_circuit.specs.code.FitsNumbers.{FitsNumbers};
 ghost use Rattle.x25_circuit.specs.Message.{piece_of, no_part, joining, completed, piece_ground, ground_of, cut};
 ghost use Rattle.x25_circuit.specs.Circuit.{Talk, silent};
 ghost use Rattle.x25_circuit.specs.Queue.{waiting};
-ghost use Rattle.x25_circuit.specs.code.Changes.{with_acked, with_taken, with_rest, with_interrupt, with_peer, with_own, with_sent};
+ghost use Rattle.x25_circuit.specs.code.Changes.{with_acked, with_taken, with_rest, with_interrupt, with_peer};
+ghost use Rattle.x25_circuit.specs.code.Changes.{with_own, with_sent};
 
 use crate::codes::INVALID_PS;
 use crate::error::CircuitError;
@@ -93,8 +96,10 @@ impl Transfer {
 
     /// Takes a received P(R), and says whether it is valid. All packets below it are acknowledged.
     pub fn ack(&mut self, pr: Seq) -> bool
-        ensures valid { (size : ℕ) (t : Talk) → FitsTalk size self.old t → result ≡ nat_le (resolved t.acked pr.number) (length t.sent) }
-        ensures fits { (size : ℕ) (t : Talk) → FitsTalk size self.old t → result ≡ true → FitsTalk size self.new (with_acked (resolved t.acked pr.number) t) }
+        ensures valid { (size : ℕ) (t : Talk) → FitsTalk size self.old t
+            → result ≡ nat_le (resolved t.acked pr.number) (length t.sent) }
+        ensures fits { (size : ℕ) (t : Talk) → FitsTalk size self.old t → result ≡ true
+            → FitsTalk size self.new (with_acked (resolved t.acked pr.number) t) }
         ensures partial { self.new.partial ≡ self.old.partial }
         ensures receiver { self.new.receiver ≡ self.old.receiver }
         ensures queue { self.new.queue ≡ self.old.queue }
@@ -105,7 +110,9 @@ impl Transfer {
 
     /// The diagnostic for which a data packet is refused, whatever its P(R), if any: 1, 39 or 83.
     pub fn ground(&self, size: usize, ps: Seq, q: bool, count: usize) -> Option<u8>
-        ensures value { (out : ℕ) (t : Talk) → FitsTalk out self.now t → result ≡ (if ps.number == length t.taken % 8 then ground_of size (joining no_part t.taken) count q else Some 1) }
+        ensures value { (out : ℕ) (t : Talk) → FitsTalk out self.now t
+            → result ≡ (if ps.number == length t.taken % 8 then ground_of size (joining no_part t.taken) count q
+            else Some 1) }
         ensures wanted { IfNone result (ps.number ≡ self.now.receiver.number) }
         ensures short { IfNone result (length self.now.partial.part.user + count ≤ 65535) }
         ensures fits { IfNone result (count ≤ size) }
@@ -122,8 +129,10 @@ impl Transfer {
         requires wanted { ps.number ≡ self.old.receiver.number }
         requires room { length user.now ≤ self.old.partial.room }
         requires short { length self.old.partial.part.user + length user.now ≤ 65535 }
-        ensures fits { (size : ℕ) (t : Talk) → FitsTalk size self.old t → FitsTalk size self.new (with_taken (piece_of q m user.now) t) }
-        ensures message { (size : ℕ) (t : Talk) → FitsTalk size self.old t → option_to_list result ≡ completed (joining no_part t.taken) (piece_of q m user.now) }
+        ensures fits { (size : ℕ) (t : Talk) → FitsTalk size self.old t
+            → FitsTalk size self.new (with_taken (piece_of q m user.now) t) }
+        ensures message { (size : ℕ) (t : Talk) → FitsTalk size self.old t
+            → option_to_list result ≡ completed (joining no_part t.taken) (piece_of q m user.now) }
         ensures queue { self.new.queue ≡ self.old.queue }
     {
         self.receiver.accept(ps);
@@ -133,16 +142,18 @@ impl Transfer {
     /// Lets a message wait.
     pub fn push(&mut self, message: Message)
         requires { length (waiting self.old.queue) < 8 }
-        ensures fits { (size : ℕ) (t : Talk) → FitsTalk size self.old t → FitsTalk size self.new (with_rest (t.rest ++ cut size message.q message.user) t) }
+        ensures fits { (size : ℕ) (t : Talk) → FitsTalk size self.old t
+            → FitsTalk size self.new (with_rest (t.rest ++ cut size message.q message.user) t) }
         ensures room { self.old.partial.room ≤ self.new.partial.room }
     {
         self.queue.push(message);
     }
 
-    /// Sends the next data packet, where the other end is ready, the window is open and a message waits. Its user data is
-    /// lent by `queue`.
+    /// Sends the next data packet, where the other end is ready, the window is open and a message waits. Its user data
+    /// is lent by `queue`.
     pub fn advance(&mut self, terms: Terms) -> Option<Header>
-        ensures some { (t : Talk) → FitsTalk terms.size self.old t → IfSome result (λ header. IsSent terms.window terms.size t self.new header) }
+        ensures some { (t : Talk) → FitsTalk terms.size self.old t
+            → IfSome result (λ header. IsSent terms.window terms.size t self.new header) }
         ensures none { (t : Talk) → FitsTalk terms.size self.old t → IfNone result (FitsTalk terms.size self.new t) }
         ensures short { IfSome result (λ header. length self.new.queue.cutter.lent ≤ terms.size) }
         ensures held { (t : Talk) → FitsTalk terms.size self.old t → IfNone result (IsHeld terms.window t) }

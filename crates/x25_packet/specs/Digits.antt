@@ -1,5 +1,6 @@
 -- The digits of addresses, in half octets or in a text. ITU-T X.25 (10/96), section 5.2.1.
-use Rattle.std.specs.Prelude.{ℕ, ◌/◌, ◌%◌, ◌-◌, ◌+◌, ◌*◌, ◌≤◌, ◌≡◌, ◌==◌, Bool, true, ◌&&◌, nat_le, List, [], ◌∷◌, take, drop, length, map}
+use Rattle.std.specs.Prelude.{ℕ, ◌/◌, ◌%◌, ◌-◌, ◌+◌, ◌*◌, ◌≤◌, ◌≡◌, ◌==◌, Bool, true, ◌&&◌, nat_le, List, [], ◌∷◌, take}
+use Rattle.std.specs.Prelude.{drop, length, map}
 use Rattle.std.specs.List.{list_all}
 
 -- the half octets, the high one first

@@ -1,7 +1,8 @@
 -- The errors of octets that spell no packet.
 use Rattle.std.specs.Prelude.{ℕ}
 use Rattle.x25_packet.specs.declared.error.PacketError.{PacketError}
-use Rattle.x25_packet.specs.declared.error.PacketError.TheVariants.{TooShort, BadFormat, Unidentified, TooLong, BadDigit, BadFacility, BadParameter, NoMemory}
+use Rattle.x25_packet.specs.declared.error.PacketError.TheVariants.{TooShort, BadFormat, Unidentified, TooLong}
+use Rattle.x25_packet.specs.declared.error.PacketError.TheVariants.{BadDigit, BadFacility, BadParameter, NoMemory}
 
 abbrev pub number_of : PacketError → ℕ
 number_of TooShort = 20

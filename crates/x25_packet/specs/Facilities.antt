@@ -1,6 +1,7 @@
 -- The facility field: packet sizes and window sizes. ITU-T X.25 (10/96), sections 7.1 and 7.2.2.1; that no other
 -- facility is known, that each comes at most once and that packet sizes go first is of the profile.
-use Rattle.std.specs.Prelude.{ℕ, ◌≡◌, ◌≤◌, ◌==◌, ◌&&◌, nat_le, Bool, List, [], ◌∷◌, ◌++◌, if◌then◌else◌, Option, Some, None, Result, Ok, Err}
+use Rattle.std.specs.Prelude.{ℕ, ◌≡◌, ◌≤◌, ◌==◌, ◌&&◌, nat_le, Bool, List, [], ◌∷◌, ◌++◌, if◌then◌else◌, Option, Some}
+use Rattle.std.specs.Prelude.{None, Result, Ok, Err}
 use Rattle.x25_packet.specs.declared.facilities.Facilities.{Facilities}
 use Rattle.x25_packet.specs.declared.facilities.Directions.{Directions}
 use Rattle.x25_packet.specs.declared.error.PacketError.{PacketError}
@@ -63,7 +64,8 @@ with_sizes sizes (Err e) = Err e
 unfoldable pub facilities_of : List ℕ → Result Facilities PacketError
 facilities_of [] = Ok (record { packet_size = None; window_size = None })
 facilities_of (code ∷ []) = if code == 66 then Err BadParameter else with_sizes None (windows_of (code ∷ []))
-facilities_of (code ∷ called ∷ []) = if code == 66 then Err BadParameter else with_sizes None (windows_of (code ∷ called ∷ []))
+facilities_of (code ∷ called ∷ []) = if code == 66 then Err BadParameter
+    else with_sizes None (windows_of (code ∷ called ∷ []))
 facilities_of (code ∷ called ∷ calling ∷ rest) =
     if code == 66 then (if is_within 4 12 called && is_within 4 12 calling
     then with_sizes (Some (record { called = called; calling = calling })) (windows_of rest)

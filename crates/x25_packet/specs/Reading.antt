@@ -1,11 +1,14 @@
 -- What octets read as: the packet that they spell, or else their first error.
-use Rattle.std.specs.Prelude.{ℕ, ◌+◌, ◌*◌, ◌/◌, ◌%◌, ◌==◌, ◌&&◌, ◌||◌, nat_lt, nat_le, Bool, not, List, [], ◌∷◌, length, take, drop, if◌then◌else◌, Option, Some, None, Result, Ok, Err, ◌≡◌}
+use Rattle.std.specs.Prelude.{ℕ, ◌+◌, ◌*◌, ◌/◌, ◌%◌, ◌==◌, ◌&&◌, ◌||◌, nat_lt, nat_le, Bool, not, List, [], ◌∷◌, length}
+use Rattle.std.specs.Prelude.{take, drop, if◌then◌else◌, Option, Some, None, Result, Ok, Err, ◌≡◌}
 use denote.Ref.{Bor}
 use Rattle.x25_packet.specs.declared.error.PacketError.{PacketError}
-use Rattle.x25_packet.specs.declared.error.PacketError.TheVariants.{TooShort, BadFormat, Unidentified, TooLong, BadDigit, BadParameter}
+use Rattle.x25_packet.specs.declared.error.PacketError.TheVariants.{TooShort, BadFormat, Unidentified, TooLong}
+use Rattle.x25_packet.specs.declared.error.PacketError.TheVariants.{BadDigit, BadParameter}
 use Rattle.x25_packet.specs.declared.facilities.Facilities.{Facilities}
 use Rattle.x25_packet.specs.declared.packet.Packet.{Packet}
-use Rattle.x25_packet.specs.Packet.{PlainPacket, plain, call, accept, clear, clear_conf, user_data, rr, rnr, interrupt, interrupt_conf, reset, reset_conf, restart, restart_conf}
+use Rattle.x25_packet.specs.Packet.{PlainPacket, plain, call, accept, clear, clear_conf, user_data, rr, rnr, interrupt}
+use Rattle.x25_packet.specs.Packet.{interrupt_conf, reset, reset_conf, restart, restart_conf}
 use Rattle.x25_packet.specs.Digits.{halves_at, hold_digits}
 use Rattle.x25_packet.specs.Facilities.{facilities_of}
 pub mod FirstError
@@ -62,7 +65,8 @@ called_with most channel called calling (Err e) = Err e
 -- a CALL behind its digits
 abbrev pub facilities_and_user : ℕ → ℕ → List ℕ → List ℕ → List ℕ → Result PlainPacket PacketError
 facilities_and_user most channel called calling [] = Err TooShort
-facilities_and_user most channel called calling (size ∷ rest) = called_with most channel called calling (field_after size rest)
+facilities_and_user most channel called calling (size ∷ rest) = called_with most channel called calling
+    (field_after size rest)
 
 -- a CALL behind its address lengths
 abbrev pub addressed : ℕ → ℕ → ℕ → ℕ → List ℕ → Result PlainPacket PacketError
@@ -132,7 +136,8 @@ packet_of most [] = Err TooShort
 packet_of most (first ∷ []) = Err TooShort
 packet_of most (first ∷ second ∷ []) = Err TooShort
 packet_of most (first ∷ second ∷ kind ∷ body) =
-    if has_format first kind then kind_of most (first % 16 * 256 + second) (first / 16 == 9) kind body else Err BadFormat
+    if has_format first kind then kind_of most (first % 16 * 256 + second) (first / 16 == 9) kind body
+    else Err BadFormat
 
 -- an answer is what the octets read as
 abbrev pub Gives : Result Packet PacketError → Result PlainPacket PacketError → Type 0

@@ -1,7 +1,8 @@
 -- The octets that spell a packet. ITU-T X.25 (10/96), sections 5.1 to 5.5.
 use Rattle.std.specs.Prelude.{ℕ, ◌+◌, ◌*◌, ◌/◌, ◌%◌, ◌<◌, ◌≤◌, ◌≡◌, List, [], ◌∷◌, ◌++◌, length, Bool, if◌then◌else◌}
 pub use Rattle.x25_bits.specs.Bits.{bit}
-use Rattle.x25_packet.specs.Packet.{PlainPacket, call, accept, clear, clear_conf, user_data, rr, rnr, interrupt, interrupt_conf, reset, reset_conf, restart, restart_conf}
+use Rattle.x25_packet.specs.Packet.{PlainPacket, call, accept, clear, clear_conf, user_data, rr, rnr, interrupt}
+use Rattle.x25_packet.specs.Packet.{interrupt_conf, reset, reset_conf, restart, restart_conf}
 use Rattle.x25_packet.specs.Digits.{packed, IsAddress}
 use Rattle.x25_packet.specs.Facilities.{IsFacilityField}
 
@@ -100,7 +101,8 @@ spelling_of v = header_of v ++ body_of v
 abbrev pub IsChannel : ℕ → Type 0
 IsChannel channel = (1 ≤ channel) × (channel ≤ 4095)
 
--- The most octets of user data in a CALL: 16 (section 5.2.1), and where it may be long 128, as with fast select (section
+-- The most octets of user data in a CALL: 16 (section 5.2.1), and where it may be long 128, as with fast select
+-- (section
 -- 6.16), but without that facility (profile).
 abbrev pub longest_user : Bool → ℕ
 longest_user long_data = if long_data then 128 else 16

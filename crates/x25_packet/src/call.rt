@@ -1,6 +1,7 @@
 //! What follows the type of a CALL and of an ACCEPT packet, ITU-T X.25 (10/96), sections 5.2.1 and 5.2.2.
 ghost use Rattle.std.specs.Prelude.{◌≡◌, ◌≤◌, List, ℕ};
-ghost use Rattle.x25_packet.specs.Reading.{Gives, GivesField, accept_of, addressed, call_of, facilities_and_user, field_after};
+ghost use Rattle.x25_packet.specs.Reading.{Gives, GivesField, accept_of, addressed, call_of, facilities_and_user};
+ghost use Rattle.x25_packet.specs.Reading.{field_after};
 
 use crate::digits::{Digits, hold_digits};
 use crate::error::PacketError;
@@ -20,8 +21,9 @@ fn facility_field<'a>(size: u8, octets: &'a [u8]) -> Result<(&'a [u8], &'a [u8])
     Ok((field, rest))
 }
 
-/// An ACCEPT: nothing, or address lengths of 0 and a facility field. Else the ground that is found first from its front on: 24 BadDigit for
-/// an address, 20 TooShort, 26 BadParameter for an empty facility field, 25 and 26 of a facility, and 23 TooLong.
+/// An ACCEPT: nothing, or address lengths of 0 and a facility field. Else the ground that is found first from its front
+/// on: 24 BadDigit for an address, 20 TooShort, 26 BadParameter for an empty facility field, 25 and 26 of a facility,
+/// and 23 TooLong.
 pub fn accept<'a>(channel: u16, body: &'a [u8]) -> Result<Packet<'a>, PacketError>
     ensures { Gives result (accept_of channel body.now) }
 {
@@ -95,8 +97,9 @@ fn addressed<'a>(
     facilities_and_user(most, channel, called_digits, calling_digits, rest)
 }
 
-/// A CALL with at most `most` octets of user data: address lengths, digits, facility field and user data. Else the ground that is found
-/// first from its front on: 20 TooShort, 24 BadDigit, 25 and 26 of a facility, and 23 TooLong for more user data.
+/// A CALL with at most `most` octets of user data: address lengths, digits, facility field and user data. Else the
+/// ground that is found first from its front on: 20 TooShort, 24 BadDigit, 25 and 26 of a facility, and 23 TooLong for
+/// more user data.
 #[inline(never)]
 pub fn call<'a>(most: usize, channel: u16, body: &'a [u8]) -> Result<Packet<'a>, PacketError>
     ensures { Gives result (call_of most channel body.now) }

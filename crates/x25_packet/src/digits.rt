@@ -1,7 +1,9 @@
 //! The digits of an address, ITU-T X.25 (10/96), section 5.2.1.
-ghost use Rattle.std.specs.Prelude.{◌≡◌, ◌==◌, ◌<◌, ◌≤◌, ◌+◌, ◌*◌, ◌/◌, List, ℕ, length, IfSome, IsSome, IsTrue, ◌↔◌, slice_index, true};
+ghost use Rattle.std.specs.Prelude.{◌≡◌, ◌==◌, ◌<◌, ◌≤◌, ◌+◌, ◌*◌, ◌/◌, List, ℕ, length, IfSome, IsSome, IsTrue, ◌↔◌};
+ghost use Rattle.std.specs.Prelude.{slice_index, true};
 ghost use Rattle.std.specs.List.{list_all};
-ghost use Rattle.x25_packet.specs.Digits.{digits_of_text, halves_at, halves_of, hold_digits, is_digit, is_figure, is_pair, IsAddress};
+ghost use Rattle.x25_packet.specs.Digits.{digits_of_text, halves_at, halves_of, hold_digits, is_digit, is_figure};
+ghost use Rattle.x25_packet.specs.Digits.{is_pair, IsAddress};
 
 use std::marker::Model;
 

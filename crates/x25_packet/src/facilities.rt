@@ -54,13 +54,15 @@ fn windows(field: &[u8]) -> Result<Option<Directions>, PacketError>
 impl Facilities {
     /// The facilities of a field, or its first error from the left.
     ///
-    /// 25: a code other than 0x42 and then 0x43, each once. 26: fewer than two octets behind a code, or one out of range.
+    /// 25: a code other than 0x42 and then 0x43, each once. 26: fewer than two octets behind a code, or one out of
+    /// range.
     pub fn of(field: &[u8]) -> Result<Facilities, PacketError>
         ensures exact { result ≡ facilities_of field.now }
         // The first error, from the left.
         ensures fault { IfErr result (FieldError field.now) }
         ensures found { IfOk result (λ facilities. AreAllowed facilities × (field.now ≡ field_of facilities)) }
-        ensures only { (facilities : Facilities) → AreAllowed facilities → field.now ≡ field_of facilities → result ≡ Ok facilities }
+        ensures only { (facilities : Facilities) → AreAllowed facilities → field.now ≡ field_of facilities
+            → result ≡ Ok facilities }
     {
         read(field)
     }

@@ -5,8 +5,8 @@ use x25_bits::Seq;
 
 /// A packet, ITU-T X.25 (10/96), sections 5.2 to 5.5. Addresses, facilities and user data are borrowed.
 ///
-/// `channel` is the logical channel, group and number together: 1 to 4,095. `ps` is P(S), `pr` is P(R), `m` the more data
-/// mark and `q` the qualifier. `facilities` is the facility field as octets; `Facilities::of` reads it.
+/// `channel` is the logical channel, group and number together: 1 to 4,095. `ps` is P(S), `pr` is P(R), `m` the more
+/// data mark and `q` the qualifier. `facilities` is the facility field as octets; `Facilities::of` reads it.
 #[derive(Debug, Drop)]
 pub enum Packet<'a> {
     Call {

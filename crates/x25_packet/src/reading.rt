@@ -1,7 +1,8 @@
 //! Packets read from their octets.
 ghost use Rattle.std.specs.Prelude.{◌≡◌, ◌≤◌, IfErr, IfOk, IsOkAnd};
 ghost use Rattle.x25_packet.specs.Reading.FirstError.{IsFirstError};
-ghost use Rattle.x25_packet.specs.Reading.{Gives, bare, channel_in, data_of, has_format, interrupt_of, channelled, flow_control_of, packet_of, reason_of, unchannelled};
+ghost use Rattle.x25_packet.specs.Reading.{Gives, bare, channel_in, data_of, has_format, interrupt_of, channelled};
+ghost use Rattle.x25_packet.specs.Reading.{flow_control_of, packet_of, reason_of, unchannelled};
 ghost use Rattle.x25_packet.specs.Packet.{PlainPacket, plain};
 ghost use Rattle.x25_packet.specs.Spelling.{Spells, longest_user};
 

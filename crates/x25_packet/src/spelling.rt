@@ -1,11 +1,13 @@
 //! From a packet to the octets that spell it.
-ghost use Rattle.std.specs.Prelude.{ℕ, ◌≡◌, ◌+◌, ◌*◌, ◌≤◌, ◌++◌, Ok, OnOk, OnErr, IsOk, drop, length, slice_index, vec_len, vec_capacity};
+ghost use Rattle.std.specs.Prelude.{ℕ, ◌≡◌, ◌+◌, ◌*◌, ◌≤◌, ◌++◌, Ok, OnOk, OnErr, IsOk, drop, length, slice_index};
+ghost use Rattle.std.specs.Prelude.{vec_len, vec_capacity};
 ghost use Rattle.std.specs.Vec.{VecUnchanged};
 ghost use Rattle.x25_packet.specs.Digits.{IsAddress, packed};
 ghost use Rattle.x25_packet.specs.Packet.{plain};
 ghost use Rattle.x25_packet.specs.Reading.{packet_of};
 ghost use Rattle.x25_bits.specs.Bits.{bit};
-ghost use Rattle.x25_packet.specs.Spelling.{IsInRange, accept_body, body_of, call_body, channel_of, format_of, spelling_of, type_of};
+ghost use Rattle.x25_packet.specs.Spelling.{IsInRange, accept_body, body_of, call_body, channel_of, format_of};
+ghost use Rattle.x25_packet.specs.Spelling.{spelling_of, type_of};
 
 use crate::codes;
 use crate::digits::Digits;
@@ -158,7 +160,8 @@ fn append_call(
     requires called { length called.now ≤ 15 }
     requires calling { length calling.now ≤ 15 }
     requires field { length facilities.now ≤ 6 }
-    requires room { vec_len octets.old + length (call_body called.now calling.now facilities.now user.now) ≤ vec_capacity octets.old }
+    requires room { vec_len octets.old + length
+        (call_body called.now calling.now facilities.now user.now) ≤ vec_capacity octets.old }
     ensures { octets.new.items ≡ octets.old.items ++ call_body called.now calling.now facilities.now user.now }
 {
     append(octets, &[16 * calling.len() as u8 + called.len() as u8]);
@@ -218,7 +221,8 @@ fn append_packet(packet: &Packet, octets: &mut Vec<u8>) -> Result<(), NoMemory>
     requires { IsInRange 128 (plain packet.now) }
     ensures ok { OnOk result (octets.new.items ≡ octets.old.items ++ spelling_of (plain packet.now)) }
     ensures err { OnErr result (VecUnchanged octets.old octets.new) }
-    ensures room { vec_len octets.old + length (spelling_of (plain packet.now)) ≤ vec_capacity octets.old → IsOk result }
+    ensures room { vec_len octets.old + length (spelling_of (plain packet.now)) ≤ vec_capacity octets.old
+        → IsOk result }
 {
     octets.reserve(3 + body_len(packet))?;
     let [group, number] = channel(packet).to_be_bytes();
@@ -230,17 +234,19 @@ fn append_packet(packet: &Packet, octets: &mut Vec<u8>) -> Result<(), NoMemory>
 
 /// Appends the octets that spell the packet: format, channel, type and body. Each packet has this one spelling.
 ///
-/// The packet's fields are in their ranges, with at most 128 octets of user data in a CALL. It takes no memory where the
-/// capacity has room for the octets; else it is refused with `NoMemory` (70) where there is none. ITU-T X.25 (10/96),
-/// section 5.
+/// The packet's fields are in their ranges, with at most 128 octets of user data in a CALL. It takes no memory where
+/// the capacity has room for the octets; else it is refused with `NoMemory` (70) where there is none. ITU-T X.25
+/// (10/96), section 5.
 #[inline(always)]
 pub fn encode(packet: &Packet, octets: &mut Vec<u8>) -> Result<(), NoMemory>
     requires { IsInRange 128 (plain packet.now) }
     ensures ok { OnOk result (octets.new.items ≡ octets.old.items ++ spelling_of (plain packet.now)) }
     // What is appended reads as the packet, wherever a CALL may have that many octets of user data.
-    ensures again { (most : ℕ) → IsInRange most (plain packet.now) → OnOk result (packet_of most (drop (length octets.old.items) octets.new.items) ≡ Ok (plain packet.now)) }
+    ensures again { (most : ℕ) → IsInRange most (plain packet.now)
+        → OnOk result (packet_of most (drop (length octets.old.items) octets.new.items) ≡ Ok (plain packet.now)) }
     ensures err { OnErr result (VecUnchanged octets.old octets.new) }
-    ensures room { vec_len octets.old + length (spelling_of (plain packet.now)) ≤ vec_capacity octets.old → IsOk result }
+    ensures room { vec_len octets.old + length (spelling_of (plain packet.now)) ≤ vec_capacity octets.old
+        → IsOk result }
 {
     append_packet(packet, octets)
 }

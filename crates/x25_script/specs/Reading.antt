@@ -1,5 +1,6 @@
 -- What characters read as: the line that they spell, or none (profile).
-use Rattle.std.specs.Prelude.{ℕ, ◌≡◌, ◌==◌, ◌&&◌, nat_lt, Bool, true, false, List, [], ◌∷◌, length, codes, decimal, if◌then◌else◌, Option, Some, None, option_map, option_and_then}
+use Rattle.std.specs.Prelude.{ℕ, ◌≡◌, ◌==◌, ◌&&◌, nat_lt, Bool, true, false, List, [], ◌∷◌, length, codes, decimal}
+use Rattle.std.specs.Prelude.{if◌then◌else◌, Option, Some, None, option_map, option_and_then}
 use Rattle.std.specs.Char.{is_ascii_digit}
 use Rattle.std.specs.List.{list_all}
 use Rattle.std.specs.Str.{bytes_eq}
@@ -13,9 +14,12 @@ use Rattle.x25_script.specs.declared.script_line.ScriptLine.{ScriptLine}
 use Rattle.x25_script.specs.declared.words.Keyword.{Keyword}
 use Rattle.x25_script.specs.declared.words.Keyword.TheVariants.{End, T1, Deliver, Lose, Damage, Drain}
 use Rattle.x25_script.specs.declared.words.Verb.{Verb}
-use Rattle.x25_script.specs.declared.words.Verb.TheVariants.{Call, Accept, Clear, Send, Interrupt, Reset, Ready, NotReady}
+use Rattle.x25_script.specs.declared.words.Verb.TheVariants.{Call, Accept, Clear, Send, Interrupt, Reset, Ready}
+use Rattle.x25_script.specs.declared.words.Verb.TheVariants.{NotReady}
 use Rattle.x25_script.specs.HexDigits.{octets_of}
-use Rattle.x25_script.specs.ScriptLine.{PlainCommand, call, accept, clear, send, interrupt, reset, ready, not_ready, restart, pull, connect, disconnect, PlainLine, command, t1, deliver, lose, damage, drain, heal, plain_command, plain}
+use Rattle.x25_script.specs.ScriptLine.{PlainCommand, call, accept, clear, send, interrupt, reset, ready, not_ready}
+use Rattle.x25_script.specs.ScriptLine.{restart, pull, connect, disconnect, PlainLine, command, t1, deliver, lose}
+use Rattle.x25_script.specs.ScriptLine.{damage, drain, heal, plain_command, plain}
 pub mod Spelling
 
 -- a step of reading, where the steps before it read something
@@ -30,7 +34,8 @@ onto_first character parts = (character ∷ parts.0, parts.1)
 -- what stands before the first blank, and what follows it
 unfoldable pub parts_of : List ℕ → Option (List ℕ × List ℕ)
 parts_of [] = None
-parts_of (character ∷ text) = if character == 32 then Some ([], text) else option_map (onto_first character) (parts_of text)
+parts_of (character ∷ text) = if character == 32 then Some ([], text)
+    else option_map (onto_first character) (parts_of text)
 
 abbrev pub end_in : List ℕ → Option Role
 end_in text = if bytes_eq text (codes "dte") then Some Dte else if bytes_eq text (codes "dce") then Some Dce else None

@@ -1,7 +1,8 @@
 //! What the user of an end asks for.
 ghost use Rattle.std.specs.Prelude.{◌≡◌, ◌++◌, ◌∷◌, IfSome, Some, None, decimal};
 ghost use Rattle.x25_script.specs.ScriptLine.{accept, send};
-ghost use Rattle.x25_script.specs.Reading.{accept_in, bare_command_in, call_in, command_in, interrupt_in, send_in, with_fields, GivesCommand};
+ghost use Rattle.x25_script.specs.Reading.{accept_in, bare_command_in, call_in, command_in, interrupt_in, send_in};
+ghost use Rattle.x25_script.specs.Reading.{with_fields, GivesCommand};
 ghost use Rattle.x25_script.specs.Reading.Spelling.{q_text, IsNumber};
 
 use crate::fields::{address, is, number, octets, q, split_blank, verb};
@@ -194,7 +195,8 @@ fn behind_send(text: &[u8]) -> Option<&[u8]>
     }
 }
 
-/// What a command asks to send, where the channel has one or two digits. `None` says nothing of the command. It takes no memory. Profile.
+/// What a command asks to send, where the channel has one or two digits. `None` says nothing of the command. It takes
+/// no memory. Profile.
 #[inline(always)]
 pub fn read_send(text: &[u8]) -> Option<Sent<'_>>
     ensures { IfSome result (λ s. command_in text.now ≡ Some (send s.channel s.q s.user)) }
@@ -215,7 +217,8 @@ fn behind_accept(text: &[u8]) -> Option<&[u8]>
     }
 }
 
-/// The channel whose call a command accepts as it was proposed. `None` says nothing of the command. It takes no memory. Profile.
+/// The channel whose call a command accepts as it was proposed. `None` says nothing of the command. It takes no memory.
+/// Profile.
 #[inline(always)]
 pub fn read_accept(text: &[u8]) -> Option<u16>
     ensures { IfSome result (λ channel. command_in text.now ≡ Some (accept channel None)) }

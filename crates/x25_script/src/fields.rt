@@ -1,10 +1,12 @@
 //! The fields of a line.
-ghost use Rattle.std.specs.Prelude.{◌≡◌, ◌==◌, ◌≤◌, true, false, nat_lt, if◌then◌else◌, length, Some, None, MatchOption};
+ghost use Rattle.std.specs.Prelude.{◌≡◌, ◌==◌, ◌≤◌, true, false, nat_lt, if◌then◌else◌, length, Some, None};
+ghost use Rattle.std.specs.Prelude.{MatchOption};
 ghost use Rattle.std.specs.Char.{is_ascii_digit};
 ghost use Rattle.std.specs.List.{list_all, position};
 ghost use Rattle.std.specs.Str.{bytes_eq};
 ghost use Rattle.std.specs.Str.Parse.{digits_value};
-ghost use Rattle.x25_script.specs.Reading.{address_in, end_in, from_in, keyword_in, digits_in, number_in, octets_in, parts_of, q_in, small_number_in, verb_in, GivesParts, GivesText};
+ghost use Rattle.x25_script.specs.Reading.{address_in, end_in, from_in, keyword_in, digits_in, number_in, octets_in};
+ghost use Rattle.x25_script.specs.Reading.{parts_of, q_in, small_number_in, verb_in, GivesParts, GivesText};
 
 use crate::hex_digits::HexDigits;
 use crate::words::{Keyword, Verb};
@@ -92,7 +94,8 @@ fn digits(text: &[u8]) -> Option<&str>
 #[inline(always)]
 fn value_of(text: &[u8]) -> Option<u32>
     requires { length text.now ≤ 5 }
-    ensures { MatchOption result (list_all is_ascii_digit text.now ≡ false) (λ value. (list_all is_ascii_digit text.now ≡ true) × (digits_value 10 text.now ≡ value)) }
+    ensures { MatchOption result (list_all is_ascii_digit text.now
+        ≡ false) (λ value. (list_all is_ascii_digit text.now ≡ true) × (digits_value 10 text.now ≡ value)) }
 {
     let mut value = 0u32;
     for character in text {

@@ -1,7 +1,8 @@
 //! A line of a script read from its characters.
 ghost use Rattle.std.specs.Prelude.{◌≡◌, IfSome, IsSomeAnd, Some, option_map};
 ghost use Rattle.x25_script.specs.ScriptLine.{PlainLine, command, deliver, drain, lose, plain, t1};
-ghost use Rattle.x25_script.specs.Reading.{after, bare_line_in, command_in, damage_in, drain_in, line_in, lose_in, number_in, GivesLine};
+ghost use Rattle.x25_script.specs.Reading.{after, bare_line_in, command_in, damage_in, drain_in, line_in, lose_in};
+ghost use Rattle.x25_script.specs.Reading.{number_in, GivesLine};
 ghost use Rattle.x25_script.specs.Reading.Spelling.{Spells};
 ghost use Rattle.x25_script.specs.declared.words.Keyword.TheVariants.{Deliver, End};
 
@@ -182,7 +183,8 @@ fn read(line: &[u8]) -> Option<ScriptLine<'_>>
     other
 }
 
-/// The end from which a line asks that the next frame arrive. `None` says nothing of the line. It takes no memory. Profile.
+/// The end from which a line asks that the next frame arrive. `None` says nothing of the line. It takes no memory.
+/// Profile.
 #[inline(always)]
 pub fn read_deliver(line: &[u8]) -> Option<Role>
     ensures { IfSome result (λ end. line_in line.now ≡ Some (deliver end)) }
@@ -215,7 +217,8 @@ pub fn read_drain(line: &[u8]) -> Option<u16>
     Some(count)
 }
 
-/// The end from which a line loses a frame, and the place of that frame. `None` says nothing of the line. It takes no memory. Profile.
+/// The end from which a line loses a frame, and the place of that frame. `None` says nothing of the line. It takes no
+/// memory. Profile.
 #[inline(always)]
 pub fn read_lose(line: &[u8]) -> Option<(Role, u16)>
     ensures { IfSome result (λ parts. line_in line.now ≡ Some (lose parts.0 parts.1)) }
@@ -233,10 +236,11 @@ pub fn read_end(line: &[u8]) -> Option<(Role, &[u8])>
     commanded_end(line)
 }
 
-/// The line of a script that the characters spell, without a line feed, where they spell one. It takes no memory. Profile.
+/// The line of a script that the characters spell, without a line feed, where they spell one. It takes no memory.
+/// Profile.
 ///
-/// A line is its fields, apart by one blank each. Nothing else stands between or around them: no carriage return, no tab,
-/// no sign and no leading zero.
+/// A line is its fields, apart by one blank each. Nothing else stands between or around them: no carriage return, no
+/// tab, no sign and no leading zero.
 #[inline(always)]
 pub fn read_line(line: &[u8]) -> Option<ScriptLine<'_>>
     ensures exact { GivesLine result (line_in line.now) }

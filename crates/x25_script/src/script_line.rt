@@ -4,10 +4,10 @@ use x25_circuit::Params;
 
 /// What the user of an end asks for.
 ///
-/// Addresses are digits `0` to `9`, any number of them; whether a call may have them is judged by the call. `user` is user
-/// data as octets. `channel` is any number of 16 bits; whether there is such a channel is judged by the call. `params` are the
-/// packet sizes and windows that are proposed, or answered, where the line has them: any numbers of 8 bits; whether a call may propose
-/// them, or its acceptance answer them, is judged by the call.
+/// Addresses are digits `0` to `9`, any number of them; whether a call may have them is judged by the call. `user` is
+/// user data as octets. `channel` is any number of 16 bits; whether there is such a channel is judged by the call.
+/// `params` are the packet sizes and windows that are proposed, or answered, where the line has them: any numbers of 8
+/// bits; whether a call may propose them, or its acceptance answer them, is judged by the call.
 #[derive(Debug, Drop)]
 pub enum Command<'a> {
     Call {
@@ -16,7 +16,8 @@ pub enum Command<'a> {
         user: HexDigits<'a>,
         params: Option<Params>,
     },
-    // The channel stands last: so the fields lie in the first eight octets, as those of the other variants do, and the value is copied by whole words.
+    // The channel stands last: so the fields lie in the first eight octets, as those of the other variants do, and the
+    // value is copied by whole words.
     Accept {
         params: Option<Params>,
         channel: u16,
@@ -58,7 +59,8 @@ pub struct Sent<'a> {
 
 /// A line of a script. Addresses and octets are borrowed from it.
 ///
-/// A direction is named by the end that it leads away from. `place` counts the frames on the line in this direction from
+/// A direction is named by the end that it leads away from. `place` counts the frames on the line in this direction
+/// from
 /// 0, the next to arrive; `count` is 1 to 65,535.
 #[derive(Debug, Drop)]
 pub enum ScriptLine<'a> {

@@ -1,7 +1,9 @@
 //! The words behind `sim`, `station`, `judge` and `deframe`.
 ghost use Rattle.std.specs.Prelude.{◌≡◌, ◌<◌, ◌↔◌, ◌∷◌, [], IfSome, MatchOption, IsTrue, decimal, map, length};
 ghost use Rattle.std.specs.Str.{bytes_eq};
-ghost use Rattle.x25_settings.specs.Options.Choosing.{chosen_in, end_in, flag_in, judge_in, judging_of, number_in, numbered_in, placed, put_flag, put_number, simulation_in, station_in};
+ghost use Rattle.x25_settings.specs.Options.Choosing.{chosen_in, end_in, flag_in, judge_in, judging_of, number_in};
+ghost use Rattle.x25_settings.specs.Options.Choosing.{numbered_in, placed, put_flag, put_number, simulation_in};
+ghost use Rattle.x25_settings.specs.Options.Choosing.{station_in};
 ghost use Rattle.x25_settings.specs.Options.{default_of, most_of, nothing, settled};
 
 use itoa::Buffer;
@@ -282,7 +284,8 @@ impl Chosen {
 
 /// The first word and those behind it, where there is one.
 pub(crate) fn split_word<S: AsStr>(words: &[S]) -> Option<(&str, &[S])>
-    ensures parts { MatchOption result (words.now ≡ []) (λ parts. map S.text words.now ≡ parts.0.now ∷ map S.text parts.1.now) }
+    ensures parts { MatchOption result (words.now ≡ []) (λ parts. map S.text words.now
+        ≡ parts.0.now ∷ map S.text parts.1.now) }
     ensures shorter { IfSome result (λ parts. length parts.1.now < length words.now) }
 {
     match words.split_first() {

@@ -25,8 +25,8 @@ const DEFRAME_EXAMPLE: &str = "Examples:
   x25 deframe dte < line.bin | grep -v '^#' | x25 decode
   grep '^>' trace | x25 frame | x25 deframe dte";
 
-/// A command that was made, with one more option or word. What is left over at a refusal, here and below, is let go of by one call: as its
-/// scope ends a body does it part by part, which the prover follows.
+/// A command that was made, with one more option or word. What is left over at a refusal, here and below, is let go of
+/// by one call: as its scope ends a body does it part by part, which the prover follows.
 fn with_arg<'a>(
     command: Result<Command<'a>, AllocError>,
     arg: Arg<'a>,

@@ -42,7 +42,8 @@ impl Receiver {
     /// Whether an item of this number is taken: where it is the one awaited. The next one is awaited then.
     pub fn accept(&mut self, number: Seq) -> bool
         ensures wanted { (taken : ℕ) → FitsTaken self.old taken → IsTrue result ↔ (number.number ≡ taken % 8) }
-        ensures step { (taken : ℕ) → FitsTaken self.old taken → FitsTaken self.new (if result then taken + 1 else taken) }
+        ensures step { (taken : ℕ) → FitsTaken self.old taken
+            → FitsTaken self.new (if result then taken + 1 else taken) }
         ensures held { IsTrue result ↔ (number.number ≡ self.old.number) }
     {
         if number != self.wanted {

@@ -1,4 +1,5 @@
-ghost use Rattle.std.specs.Prelude.{ℕ, ◌≡◌, ◌+◌, ◌-◌, ◌%◌, ◌<◌, ◌≤◌, ◌↔◌, IsTrue, IsErr, OnOk, OnErr, OnSome, IfOk, IfErr, IfSome, IfNone, MatchOption, length, drop, slice_get};
+ghost use Rattle.std.specs.Prelude.{ℕ, ◌≡◌, ◌+◌, ◌-◌, ◌%◌, ◌<◌, ◌≤◌, ◌↔◌, IsTrue, IsErr, OnOk, OnErr, OnSome, IfOk};
+ghost use Rattle.std.specs.Prelude.{IfErr, IfSome, IfNone, MatchOption, length, drop, slice_get};
 ghost use Rattle.x25_window.specs.code.Modulo.{resolved};
 ghost use Rattle.x25_window.specs.Sender.{Sending, Acknowledges, fresh, offered, acknowledged, from_acked, moved_on};
 ghost use Rattle.x25_window.specs.code.Held.{Fits, advanced, with_item, without};
@@ -42,7 +43,8 @@ impl<T> Sender<T> {
     ///
     /// 70 where memory for the items is refused.
     pub fn new(alloc: Global, window: u8) -> Result<Option<Sender<T>>, NoMemory>
-        ensures { IfOk result (λ made. MatchOption made (¬ ((1 ≤ window) × (window ≤ 7))) (λ sender. Fits sender (fresh window))) }
+        ensures { IfOk result (λ made. MatchOption made (¬ ((1 ≤ window)
+            × (window ≤ 7))) (λ sender. Fits sender (fresh window))) }
     {
         if window < 1 || window > 7 {
             return Ok(None);
@@ -102,7 +104,8 @@ impl<T> Sender<T> {
     pub fn offer(&mut self, item: T) -> Result<Seq, WindowError>
     where
         T: Drop,
-        ensures number { (w : Sending T) → Fits self.old w → IfOk result (λ number. number.number ≡ length w.given % 8) }
+        ensures number { (w : Sending T) → Fits self.old w
+            → IfOk result (λ number. number.number ≡ length w.given % 8) }
         ensures step { (w : Sending T) → Fits self.old w → OnOk result (Fits self.new (offered w item)) }
         ensures open { (w : Sending T) → Fits self.old w → OnOk result (length w.given < w.acked + w.window) }
         ensures full { (w : Sending T) → Fits self.old w → OnErr result (length w.given ≡ w.acked + w.window) }
@@ -134,8 +137,10 @@ impl<T> Sender<T> {
     /// sent since the place was last moved back.
     pub fn next(&mut self) -> Option<(Seq, &T)>
         ensures value { (w : Sending T) → Fits self.old w → MatchOption result (w.place ≡ length w.given)
-            (λ r. (w.place < length w.given) × (r.0.number ≡ w.place % 8) × (slice_get w.given w.place ≡ Some r.1.now)) }
-        ensures held { MatchOption result (self.old.before ≡ length self.old.items) (λ _. self.old.before < length self.old.items) }
+            (λ r. (w.place < length w.given) × (r.0.number ≡ w.place % 8)
+            × (slice_get w.given w.place ≡ Some r.1.now)) }
+        ensures held { MatchOption result (self.old.before
+            ≡ length self.old.items) (λ _. self.old.before < length self.old.items) }
         ensures* after { sem 𝓛 (EndsFitting T.row self.entry) }
     {
         let number = self.advance()?;
@@ -148,7 +153,8 @@ impl<T> Sender<T> {
             (λ number. (w.place < length w.given) × (number.number ≡ w.place % 8)) }
         ensures step { (w : Sending T) → Fits self.old w → OnSome result (Fits self.new (moved_on w)) }
         ensures held { self.new ≡ advanced self.old }
-        ensures some { IfSome result (λ _. (self.new.before ≡ self.old.before + 1) × (self.new.before ≤ length self.new.items)) }
+        ensures some { IfSome result (λ _. (self.new.before ≡ self.old.before + 1)
+            × (self.new.before ≤ length self.new.items)) }
         ensures none { IfNone result ((self.old.before ≡ length self.old.items) × (self.new ≡ self.old)) }
     {
         if self.before == self.unacked() {
@@ -174,11 +180,15 @@ impl<T> Sender<T> {
     /// sent plus one.
     #[tactic(auto, using(crate::proofs::Fitting::Fits_length))]
     pub fn acknowledges(&self, number: Seq) -> Result<u8, WindowError>
-        ensures stands_for { (w : Sending T) → Fits self.now w → IfOk result (λ count. Acknowledges w number.number (w.acked + count)) }
+        ensures stands_for { (w : Sending T) → Fits self.now w
+            → IfOk result (λ count. Acknowledges w number.number (w.acked + count)) }
         ensures bad { (w : Sending T) → Fits self.now w → OnErr result ((n : ℕ) → ¬ Acknowledges w number.number n) }
-        ensures resolves { (w : Sending T) → Fits self.now w → IfOk result (λ count. w.acked + count ≡ resolved w.acked number.number) }
-        ensures beyond { (w : Sending T) → Fits self.now w → OnErr result (length w.given < resolved w.acked number.number) }
-        ensures held { IfOk result (λ count. (count ≤ length self.now.items) × ((self.now.first + count) % 8 ≡ number.number)) }
+        ensures resolves { (w : Sending T) → Fits self.now w
+            → IfOk result (λ count. w.acked + count ≡ resolved w.acked number.number) }
+        ensures beyond { (w : Sending T) → Fits self.now w
+            → OnErr result (length w.given < resolved w.acked number.number) }
+        ensures held { IfOk result (λ count. (count ≤ length self.now.items)
+            × ((self.now.first + count) % 8 ≡ number.number)) }
         ensures error { IfErr result (λ error. error ≡ WindowError.BadAck) }
     {
         let count = (number.get() + 8 - self.first.get()) % 8;
@@ -188,8 +198,8 @@ impl<T> Sender<T> {
         Ok(count)
     }
 
-    /// Takes a received N(R): all items below the number that it stands for are acknowledged and dropped, and their count
-    /// is answered. The place to send from is lifted where it was below.
+    /// Takes a received N(R): all items below the number that it stands for are acknowledged and dropped, and their
+    /// count is answered. The place to send from is lifted where it was below.
     ///
     /// 7 BadAck exactly where the N(R) stands for no number from the first that isn't acknowledged to the highest ever
     /// sent plus one.
@@ -197,13 +207,17 @@ impl<T> Sender<T> {
     pub fn ack(&mut self, number: Seq) -> Result<u8, WindowError>
     where
         T: Drop,
-        ensures step { (w : Sending T) → Fits self.old w → IfOk result (λ count. Fits self.new (acknowledged w (w.acked + count))) }
-        ensures stands_for { (w : Sending T) → Fits self.old w → IfOk result (λ count. Acknowledges w number.number (w.acked + count)) }
+        ensures step { (w : Sending T) → Fits self.old w
+            → IfOk result (λ count. Fits self.new (acknowledged w (w.acked + count))) }
+        ensures stands_for { (w : Sending T) → Fits self.old w
+            → IfOk result (λ count. Acknowledges w number.number (w.acked + count)) }
         ensures bad { (w : Sending T) → Fits self.old w → OnErr result ((n : ℕ) → ¬ Acknowledges w number.number n) }
 
         // the same by computing
-        ensures resolves { (w : Sending T) → Fits self.old w → IfOk result (λ count. w.acked + count ≡ resolved w.acked number.number) }
-        ensures beyond { (w : Sending T) → Fits self.old w → OnErr result (length w.given < resolved w.acked number.number) }
+        ensures resolves { (w : Sending T) → Fits self.old w
+            → IfOk result (λ count. w.acked + count ≡ resolved w.acked number.number) }
+        ensures beyond { (w : Sending T) → Fits self.old w
+            → OnErr result (length w.given < resolved w.acked number.number) }
         ensures held { IfOk result (λ count. self.new ≡ without self.old count number.number) }
         ensures error { IfErr result (λ error. error ≡ WindowError.BadAck) }
         ensures unchanged { OnErr result (self.new ≡ self.old) }
@@ -215,8 +229,8 @@ impl<T> Sender<T> {
         Ok(count)
     }
 
-    /// Takes the first item that isn't acknowledged as acknowledged, and hands it out. There is one. The place to send from is
-    /// lifted where it was below.
+    /// Takes the first item that isn't acknowledged as acknowledged, and hands it out. There is one. The place to send
+    /// from is lifted where it was below.
     #[tactic(auto, using(crate::proofs::Fitting::Fits_length))]
     pub fn release(&mut self) -> T
         requires { 0 < length self.old.items }

@@ -9,8 +9,10 @@ use Rattle.x25_bit_line.specs.Framing.{framed_bits, framed_octets, has_wrong, is
 use Rattle.x25_bit_line.specs.LineBits.{Sends}
 use Rattle.x25_bit_line.specs.declared.frame_sender.FrameSender.{FrameSender}
 
--- With `lines` to come the bits sent are those of the input in the end, and a line is refused then where one of the input is.
-pub record FramesOn (s : FrameSender) (old now : Option (List ℕ)) (lines : List (List ℕ)) (input : List ℕ) : Type 0 where
+-- With `lines` to come the bits sent are those of the input in the end, and a line is refused then where one of the
+-- input is.
+pub record FramesOn (s : FrameSender) (old now : Option (List ℕ)) (lines : List (List ℕ))
+    (input : List ℕ) : Type 0 where
   pub bits : List Bool
   pub sends : Sends old now s.bits.bits s.output bits
   pub same : bits ++ flat_map line_bits lines ≡ framed_bits input

@@ -11,7 +11,8 @@ use Rattle.x25_bit_line.specs.Deframing.{class_lines, deframed}
 use Rattle.x25_bit_line.specs.declared.finder.Finder.{Finder}
 
 -- These bits were read, and the lines for what is found in them were told, of which `text` waits to be written.
-pub record Reads (from : Role) (old now : Option (List ℕ)) (d : Deframer) (text : List ℕ) (bits : List Bool) : Type 0 where
+pub record Reads (from : Role) (old now : Option (List ℕ)) (d : Deframer) (text : List ℕ)
+    (bits : List Bool) : Type 0 where
   pub fits : Fits d bits
   pub tells : Tells old now text (class_lines from (found_of bits))
 

@@ -8,10 +8,12 @@ use Rattle.x25_circuit.specs.declared.notice.Notice.TheVariants as code
 use Rattle.x25_circuit.specs.declared.notice.Reply.{Reply}
 use Rattle.x25_circuit.specs.declared.owed.Owed.{Owed}
 use Rattle.x25_circuit.specs.declared.owed.Owed.TheVariants as owing
-use Rattle.x25_circuit.specs.Notice.{PlainNotice, incoming, connected, collided, cleared, clear_done, was_reset, reset_done, delivered, interrupted, interrupt_done, fault}
+use Rattle.x25_circuit.specs.Notice.{PlainNotice, incoming, connected, collided, cleared, clear_done, was_reset}
+use Rattle.x25_circuit.specs.Notice.{reset_done, delivered, interrupted, interrupt_done, fault}
 
 abbrev pub plain_notice : Notice → PlainNotice
-plain_notice (code.Incoming called calling user params) = incoming (record { called = called; calling = calling; user = user.now; params = params })
+plain_notice (code.Incoming called calling user params) = incoming
+    (record { called = called; calling = calling; user = user.now; params = params })
 plain_notice (code.Connected params) = connected params
 plain_notice (code.Cleared cause diagnostic) = cleared cause diagnostic
 plain_notice code.ClearDone = clear_done

@@ -12,7 +12,8 @@ CutCarries = (size : ℕ) (q : Bool) (user : List ℕ) → carried (cut size q u
 
 -- the other end refuses none of them: each is within the size, with one qualifier
 abbrev pub CutIsSound : Type 0
-CutIsSound = (size : ℕ) (q : Bool) (user : List ℕ) → 1 ≤ size → length user ≤ 65535 → AreSound size no_part (cut size q user)
+CutIsSound = (size : ℕ) (q : Bool) (user : List ℕ) → 1 ≤ size → length user ≤ 65535
+    → AreSound size no_part (cut size q user)
 
 -- a message that is sent is carried behind all others, by the packets sent and those that wait
 abbrev pub SendAdds : Type 0
@@ -20,8 +21,10 @@ SendAdds = (size : ℕ) (q : Bool) (user : List ℕ) (sent rest : List Piece) �
     → carried (sent ++ (rest ++ cut size q user)) ≡ carried (sent ++ rest) ++ record { q = q; user = user } ∷ []
 
 abbrev pub SendStaysWhole : Type 0
-SendStaysWhole = (size : ℕ) (q : Bool) (user : List ℕ) (sent rest : List Piece) → IsWhole (sent ++ rest) → IsWhole (sent ++ (rest ++ cut size q user))
+SendStaysWhole = (size : ℕ) (q : Bool) (user : List ℕ) (sent rest : List Piece) → IsWhole (sent ++ rest)
+    → IsWhole (sent ++ (rest ++ cut size q user))
 
 -- what a packet that is taken completes is what the packets taken carry more
 abbrev pub TakeAdds : Type 0
-TakeAdds = (taken : List Piece) (piece : Piece) → carried (taken ++ piece ∷ []) ≡ carried taken ++ completed (joining no_part taken) piece
+TakeAdds = (taken : List Piece) (piece : Piece) → carried (taken ++ piece ∷ []) ≡ carried taken
+    ++ completed (joining no_part taken) piece

@@ -3,7 +3,8 @@
 use Rattle.std.specs.Prelude.{◌≡◌, ◌≤◌, ℕ, true, List, []}
 use Rattle.x25_packet.specs.Facilities.{IsFacilityField}
 use Rattle.x25_circuit.specs.declared.params.Params.{Params}
-use Rattle.x25_circuit.specs.Params.{Terms, default_params, may_propose, may_answer, field_for, said_in, called_terms, calling_terms}
+use Rattle.x25_circuit.specs.Params.{Terms, default_params, may_propose, may_answer, field_for, said_in, called_terms}
+use Rattle.x25_circuit.specs.Params.{calling_terms}
 
 -- where both ends know the same, the one that reads understands what the other says
 abbrev pub FieldIsSaid : Type 0
@@ -33,7 +34,8 @@ DefaultIsAnswer = (proposed : Params) → may_answer proposed default_params ≡
 
 -- an answer might have been proposed
 abbrev pub AnswerIsAllowed : Type 0
-AnswerIsAllowed = (proposed answered : Params) → may_propose proposed ≡ true → may_answer proposed answered ≡ true → may_propose answered ≡ true
+AnswerIsAllowed = (proposed answered : Params) → may_propose proposed ≡ true → may_answer proposed answered ≡ true
+    → may_propose answered ≡ true
 
 -- windows of 1 to 7 packets, and packets of 16 to 4,096 octets
 pub record AreTerms (t : Terms) : Type 0 where

@@ -7,4 +7,5 @@ use Rattle.x25_circuit.specs.code.FitsCircuit.{FitsCircuit, waits_of}
 
 -- where no message waits, a pull gives nothing
 abbrev pub PullsWhatWaits : Type 0
-PullsWhatWaits = (c : Settings) (v : code.Circuit) (x : Circuit) → FitsCircuit c v x → waits_of v ≡ 0 → pulled c x ≡ pulls_nothing x
+PullsWhatWaits = (c : Settings) (v : code.Circuit) (x : Circuit) → FitsCircuit c v x → waits_of v ≡ 0
+    → pulled c x ≡ pulls_nothing x

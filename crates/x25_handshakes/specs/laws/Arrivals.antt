@@ -23,7 +23,8 @@ abbrev pub open_channel : Side Channels → ℕ → Option Stretch
 open_channel (Live x) k = open_call (x k).side
 open_channel (Left x) k = None
 
--- the stretch that is open on channel k: the end is up, no restart, clear or reset is under way, and the circuit is in p4
+-- the stretch that is open on channel k: the end is up, no restart, clear or reset is under way, and the circuit is in
+-- p4
 abbrev pub open_at : Side (At Channels) → ℕ → Option Stretch
 open_at (Live z) k = open_channel z.side k
 open_at (Left z) k = None
@@ -37,5 +38,6 @@ pub record HasArrived (giver taker : Stretch) : Type 0 where
 abbrev pub AllArrives : Type 0
 AllArrives = (events : List Event) (k : ℕ) (x y : Stretch) →
     let w = pair_run events pair_start in
-    open_at w.near k ≡ Some x → open_at w.far k ≡ Some y → name_at messages (state_of w.near) k ≡ name_at messages (state_of w.far) k
+    open_at w.near k ≡ Some x → open_at w.far k ≡ Some y
+    → name_at messages (state_of w.near) k ≡ name_at messages (state_of w.far) k
     → (w.out ≡ [] → HasArrived x y) × (w.back ≡ [] → HasArrived y x)

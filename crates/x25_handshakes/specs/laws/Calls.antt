@@ -52,7 +52,8 @@ calling_talk q = Talking (calling_terms q) (called_terms q) fresh_transfer
 abbrev pub called_talk : Params → Phase
 called_talk q = Talking (called_terms q) (calling_terms q) fresh_transfer
 
--- ACCEPT with this answer to what this end proposed; an answer that isn't allowed is as a packet that the phase doesn't allow
+-- ACCEPT with this answer to what this end proposed; an answer that isn't allowed is as a packet that the phase doesn't
+-- allow
 abbrev pub is_answered : Phase → Params → List CallRequest → List CallRequest → Params → CallStep
 is_answered p mine m i q = if may_answer mine q then goes (calling_talk q) m i [] else unexpected p m i
 
@@ -77,11 +78,13 @@ pub data CallAct : Type 0 where
   Talks : (act : TransferAct) → CallAct
 
 abbrev pub places : List CallRequest → List CallRequest → CallRequest → CallStep
-places m i n = if may_propose n.params then goes (Waiting n.params) (m ++ n ∷ []) i (Call n ∷ []) else goes Unused m i []
+places m i n = if may_propose n.params then goes (Waiting n.params) (m ++ n ∷ []) i (Call n ∷ [])
+    else goes Unused m i []
 
 abbrev pub accepts : Params → List CallRequest → List CallRequest → Option Params → CallStep
 accepts theirs m i None = goes (called_talk theirs) m i (Accept [] ∷ [])
-accepts theirs m i (Some q) = if may_answer theirs q then goes (called_talk q) m i (Accept (field_for theirs q) ∷ []) else goes (Offered theirs) m i []
+accepts theirs m i (Some q) = if may_answer theirs q then goes (called_talk q) m i (Accept (field_for theirs q) ∷ [])
+    else goes (Offered theirs) m i []
 
 abbrev pub phase_acts : Phase → List CallRequest → List CallRequest → CallAct → CallStep
 phase_acts Unused m i (PlacesCall n) = places m i n

@@ -3,7 +3,8 @@ use Rattle.std.specs.Prelude.{ℕ, suc, List, [], ◌∷◌, Option, Some, None}
 use Rattle.x25_handshakes.specs.laws.Handshake.{Side, Live, Left, At}
 use Rattle.x25_bits.specs.declared.role.Role.{Role}
 use Rattle.x25_handshakes.specs.laws.Stretch.{Packet, Clear, ClearConf}
-use Rattle.x25_handshakes.specs.laws.Calls.{Phase, Unused, Connection, CallStep, call_takes, CallAct, call_acts, fresh_call}
+use Rattle.x25_handshakes.specs.laws.Calls.{Phase, Unused, Connection, CallStep, call_takes, CallAct, call_acts}
+use Rattle.x25_handshakes.specs.laws.Calls.{fresh_call}
 
 pub record ChannelStep : Type 0 where
   pub next : At Connection

@@ -19,8 +19,8 @@ abbrev pub pulled_at : Side (At Channels) → ℕ → List LayerPacket
 pulled_at (Live z) k = (layer_acts z (OnChannel k (Within (Talks (Inside Pull))))).out
 pulled_at (Left z) k = []
 
--- The same stretch is open at the other end. All data packets that were sent are acknowledged, and whether that end's user is ready is known;
--- so where a pull sends none, none waits or that user isn't ready.
+-- The same stretch is open at the other end. All data packets that were sent are acknowledged, and whether that end's
+-- user is ready is known; so where a pull sends none, none waits or that user isn't ready.
 pub record IsOpenThere (k : ℕ) (near far : Side (At Channels)) (x : Stretch) : Type 0 where
   pub stretch : Stretch
   pub opened : open_at far k ≡ Some stretch
@@ -34,4 +34,5 @@ abbrev pub AllIsKnown : Type 0
 AllIsKnown = (events : List Event) (k : ℕ) (x : Stretch) →
     let w = pair_run events pair_start in
     w.out ≡ [] → w.back ≡ []
-    → (is_up w.far ≡ true → open_at w.near k ≡ Some x → IsOpenThere k w.near w.far x) × (is_up w.near ≡ true → open_at w.far k ≡ Some x → IsOpenThere k w.far w.near x)
+    → (is_up w.far ≡ true → open_at w.near k ≡ Some x → IsOpenThere k w.near w.far x)
+    × (is_up w.near ≡ true → open_at w.far k ≡ Some x → IsOpenThere k w.far w.near x)

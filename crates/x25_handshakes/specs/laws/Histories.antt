@@ -18,7 +18,8 @@ pub record Lists (M : Type 0) : Type 0 where
 abbrev pub none : {M : Type 0} → Lists M
 none = record { down = []; up = [] }
 
--- a kind of thing that is handed down and up: what a circuit holds of it, and the count of resets in the name that this stands under
+-- a kind of thing that is handed down and up: what a circuit holds of it, and the count of resets in the name that this
+-- stands under
 pub record Kind (M : Type 0) : Type 0 where
   pub resets : Connection → ℕ
   pub held : Connection → Lists M
@@ -50,7 +51,12 @@ abbrev pub circuit_at : At Channels → ℕ → At Connection
 circuit_at x k = state_of x.side k
 
 abbrev pub name_at : {M : Type 0} → Kind M → At Channels → ℕ → Name
-name_at kind x k = record { restarts = x.epoch; clears = (circuit_at x k).epoch; resets = kind.resets (state_of (circuit_at x k).side) }
+name_at kind x k = record {
+  restarts = x.epoch;
+  clears = (circuit_at x k).epoch;
+  resets = kind.resets
+      (state_of (circuit_at x k).side);
+}
 
 abbrev pub held_at : {M : Type 0} → Kind M → At Channels → ℕ → Lists M
 held_at kind x k = kind.held (state_of (circuit_at x k).side)
@@ -70,8 +76,8 @@ channel_view kind x k history = record { name = name_at kind x k; held = held_at
 abbrev pub IsPrefix : {T : Type 0} → List T → List T → Type 0
 IsPrefix {T} xs ys = (rest : List T) × (xs ++ rest ≡ ys)
 
--- two ends' histories of one channel: what each holds is what stands under its present name, nothing stands under a later one,
--- and under each name what either handed up is a beginning of what the other handed down
+-- two ends' histories of one channel: what each holds is what stands under its present name, nothing stands under a
+-- later one, and under each name what either handed up is a beginning of what the other handed down
 pub record IsLawful {M : Type 0} (e f : ChannelView M) : Type 0 where
   pub held : e.history e.name ≡ e.held
   pub held_there : f.history f.name ≡ f.held
@@ -93,10 +99,16 @@ turned_histories g = record { pair = turned g.pair; near = g.far; far = g.near }
 abbrev pub histories_moves : {M : Type 0} → Kind M → Role → Histories M → Move → Histories M
 histories_moves kind r g what =
     let pair = pair_moves r g.pair g.pair.near what in
-    record { pair = pair; near = λ k. written (g.near k) (name_at kind (state_of pair.near) k) (held_at kind (state_of pair.near) k); far = g.far }
+    record {
+      pair = pair;
+      near = λ k. written (g.near k) (name_at kind (state_of pair.near) k)
+          (held_at kind (state_of pair.near) k);
+      far = g.far;
+    }
 
 abbrev pub histories_happens : {M : Type 0} → Kind M → Histories M → Event → Histories M
-histories_happens kind g e = if e.first then histories_moves kind Dte g e.what else turned_histories (histories_moves kind Dce (turned_histories g) e.what)
+histories_happens kind g e = if e.first then histories_moves kind Dte g e.what
+    else turned_histories (histories_moves kind Dce (turned_histories g) e.what)
 
 abbrev pub histories_run : {M : Type 0} → Kind M → List Event → Histories M → Histories M
 histories_run kind [] g = g
@@ -109,4 +121,5 @@ histories_start = record { pair = pair_start; near = λ k n. none; far = λ k n.
 abbrev pub AreInOrder : {M : Type 0} → Kind M → Type 0
 AreInOrder kind = (events : List Event) (k : ℕ) →
     let g = histories_run kind events histories_start in
-    IsLawful (channel_view kind (state_of g.pair.near) k (g.near k)) (channel_view kind (state_of g.pair.far) k (g.far k))
+    IsLawful (channel_view kind (state_of g.pair.near) k (g.near k))
+    (channel_view kind (state_of g.pair.far) k (g.far k))

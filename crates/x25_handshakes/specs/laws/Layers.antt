@@ -1,4 +1,5 @@
--- All channels of an end within the handshake of RESTART; and two ends that may each be out, with the packets on the way.
+-- All channels of an end within the handshake of RESTART; and two ends that may each be out, with the packets on the
+-- way.
 use Rattle.std.specs.Prelude.{ℕ, suc, List, [], ◌∷◌, ◌++◌, Option, Some, None, Bool, if◌then◌else◌, ◌==◌}
 use Rattle.x25_handshakes.specs.laws.Handshake.{Side, Live, Left, At}
 use Rattle.x25_bits.specs.declared.role.Role.{Role}
@@ -68,8 +69,8 @@ layer_side_acts e (Left x) a = record { next = restarting e x; out = []; error =
 abbrev pub layer_acts : At Channels → LayerAct → LayerStep
 layer_acts x a = layer_side_acts x.epoch x.side a
 
--- The end that moves and the other one, each of which may be out (Left); the packets on the way from the one that moves, and those
--- to it; and the number of the first error of procedure, if there was one.
+-- The end that moves and the other one, each of which may be out (Left); the packets on the way from the one that
+-- moves, and those to it; and the number of the first error of procedure, if there was one.
 pub record Pair : Type 0 where
   pub near : Side (At Channels)
   pub far : Side (At Channels)
@@ -93,7 +94,14 @@ first_error None e = e
 first_error (Some n) e = Some n
 
 abbrev pub stepped : Pair → List LayerPacket → LayerStep → Pair
-stepped w back s = record { near = Live s.next; far = w.far; out = w.out ++ s.out; back = back; error = first_error w.error s.error }
+stepped w back s = record {
+  near = Live s.next;
+  far = w.far;
+  out = w.out
+      ++ s.out;
+  back = back;
+  error = first_error w.error s.error;
+}
 
 abbrev pub pair_takes : Role → Pair → At Channels → List LayerPacket → Pair
 pair_takes r w x [] = w

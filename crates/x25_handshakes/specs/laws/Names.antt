@@ -1,4 +1,5 @@
--- The name of a stretch of a channel at an end: how many restarts, then clears, then resets were done, each counted afresh behind the one before.
+-- The name of a stretch of a channel at an end: how many restarts, then clears, then resets were done, each counted
+-- afresh behind the one before.
 use Rattle.std.specs.Prelude.{◌≡◌, ◌⊎◌, ℕ, ◌<◌, Bool, true, false, ◌==◌}
 
 pub record Name : Type 0 where
@@ -18,4 +19,5 @@ abbrev pub IsEarlierCount : ℕ → ℕ → ℕ → ℕ → Type 0
 IsEarlierCount clears resets clears₂ resets₂ = (clears < clears₂) ⊎ ((clears ≡ clears₂) × (resets < resets₂))
 
 abbrev pub IsEarlier : Name → Name → Type 0
-IsEarlier m n = (m.restarts < n.restarts) ⊎ ((m.restarts ≡ n.restarts) × IsEarlierCount m.clears m.resets n.clears n.resets)
+IsEarlier m n = (m.restarts < n.restarts) ⊎ ((m.restarts ≡ n.restarts)
+    × IsEarlierCount m.clears m.resets n.clears n.resets)

@@ -1,14 +1,15 @@
--- A circuit in d1 of p4 (flow control ready) for one stretch, with the lists of what was handed down and up in it: the calls of
--- the user and the packets taken. ITU-T X.25 (10/96), sections 4.3 and 4.4.
-use Rattle.std.specs.Prelude.{ℕ, ◌+◌, ◌%◌, List, [], ◌∷◌, ◌++◌, length, Option, Some, None, Bool, true, false, nat_lt, nat_le, if◌then◌else◌, ◌==◌}
+-- A circuit in d1 of p4 (flow control ready) for one stretch, with the lists of what was handed down and up in it: the
+-- calls of the user and the packets taken. ITU-T X.25 (10/96), sections 4.3 and 4.4.
+use Rattle.std.specs.Prelude.{ℕ, ◌+◌, ◌%◌, List, [], ◌∷◌, ◌++◌, length, Option, Some, None, Bool, true, false, nat_lt}
+use Rattle.std.specs.Prelude.{nat_le, if◌then◌else◌, ◌==◌}
 use Rattle.x25_circuit.specs.declared.message.Message.{Message}
 use Rattle.x25_circuit.specs.Message.{Piece, no_part, joining, completed, piece_ground, cut, wholes}
 use Rattle.x25_window.specs.code.Modulo.{resolved}
 use Rattle.x25_circuit.specs.Params.{Terms}
 use Rattle.x25_circuit.specs.Notice.{CallRequest}
 
--- the packets of a channel, with what the two ends' order depends on: no channel, cause or diagnostic. A CALL has what its
--- facilities say, an ACCEPT its facility field.
+-- the packets of a channel, with what the two ends' order depends on: no channel, cause or diagnostic. A CALL has what
+-- its facilities say, an ACCEPT its facility field.
 pub data Packet : Type 0 where
   Data : (ns : ℕ) → (nr : ℕ) → (piece : Piece) → Packet
   Rr : (nr : ℕ) → Packet
@@ -22,7 +23,8 @@ pub data Packet : Type 0 where
   Clear : Packet
   ClearConf : Packet
 
--- the table's state of a circuit in d1, and the messages and interrupts handed down and up in the stretch, which no row looks at
+-- the table's state of a circuit in d1, and the messages and interrupts handed down and up in the stretch, which no row
+-- looks at
 pub record Stretch : Type 0 where
   pub sent : List Piece
   pub taken : List Piece
@@ -79,7 +81,11 @@ abbrev pub sends : Terms → Stretch → Bool → List ℕ → StretchStep
 sends t x q xs =
     if nat_le (length xs) 65535
     then (if nat_lt (wholes x.rest) 8
-    then stretch_does (record x { rest = x.rest ++ cut t.size q xs; down = x.down ++ record { q = q; user = xs } ∷ [] }) []
+    then stretch_does (record x {
+      rest = x.rest ++ cut t.size q xs;
+      down = x.down
+          ++ record { q = q; user = xs } ∷ [];
+    }) []
     else stretch_does x [])
     else stretch_does x []
 
@@ -88,7 +94,11 @@ pulls t x [] = stretch_does x []
 pulls t x (p ∷ ps) =
     if x.peer_ready
     then (if nat_lt (length x.sent) (x.acked + t.window)
-    then stretch_does (record x { sent = x.sent ++ p ∷ []; rest = ps }) (Data (length x.sent % 8) (length x.taken % 8) p ∷ [])
+    then stretch_does (record x {
+      sent = x.sent
+          ++ p ∷ [];
+      rest = ps;
+    }) (Data (length x.sent % 8) (length x.taken % 8) p ∷ [])
     else stretch_does x [])
     else stretch_does x []
 

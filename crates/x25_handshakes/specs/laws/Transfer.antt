@@ -2,7 +2,8 @@
 use Rattle.std.specs.Prelude.{ℕ, suc, List, [], ◌∷◌, Option, Some, None}
 use Rattle.x25_handshakes.specs.laws.Handshake.{Side, Live, Left, At}
 use Rattle.x25_circuit.specs.Params.{Terms}
-use Rattle.x25_handshakes.specs.laws.Stretch.{Packet, Reset, ResetConf, Call, Accept, Clear, ClearConf, Stretch, fresh, StretchStep, StretchAct, stretch_acts, stretch_takes}
+use Rattle.x25_handshakes.specs.laws.Stretch.{Packet, Reset, ResetConf, Call, Accept, Clear, ClearConf, Stretch, fresh}
+use Rattle.x25_handshakes.specs.laws.Stretch.{StretchStep, StretchAct, stretch_acts, stretch_takes}
 
 -- what a step leaves, the packets that it sends, and the number of the error of procedure, if it is one
 pub record TransferStep : Type 0 where

@@ -1,12 +1,15 @@
 -- The grammar of a script's lines: which characters spell which line (profile).
-use Rattle.std.specs.Prelude.{ℕ, ◌≡◌, ◌≤◌, ◌∷◌, [], List, ◌++◌, Bool, true, false, codes, decimal, Option, Some, None, Ok}
+use Rattle.std.specs.Prelude.{ℕ, ◌≡◌, ◌≤◌, ◌∷◌, [], List, ◌++◌, Bool, true, false, codes, decimal, Option, Some, None}
+use Rattle.std.specs.Prelude.{Ok}
 use Rattle.std.specs.Char.{is_ascii_digit}
 use Rattle.std.specs.List.{list_all}
 use Rattle.hex.specs.Hex.{decode_of}
 use Rattle.x25_bits.specs.declared.role.Role.{Role}
 use Rattle.x25_bits.specs.declared.role.Role.TheVariants.{Dte, Dce}
 use Rattle.x25_circuit.specs.declared.params.Params.{Params}
-use Rattle.x25_script.specs.ScriptLine.{PlainCommand, call, accept, clear, send, interrupt, reset, ready, not_ready, restart, pull, connect, disconnect, PlainLine, command, t1, deliver, lose, damage, drain, heal}
+use Rattle.x25_script.specs.ScriptLine.{PlainCommand, call, accept, clear, send, interrupt, reset, ready, not_ready}
+use Rattle.x25_script.specs.ScriptLine.{restart, pull, connect, disconnect, PlainLine, command, t1, deliver, lose}
+use Rattle.x25_script.specs.ScriptLine.{damage, drain, heal}
 
 -- an end
 abbrev pub end_text : Role → List ℕ
@@ -76,10 +79,12 @@ SpellsCommand disconnect text = text ≡ codes "disconnect"
 
 -- the characters spell the line
 abbrev pub Spells : PlainLine → List ℕ → Type 0
-Spells (command end asked) text = (rest : List ℕ) × (text ≡ end_text end ++ (codes " " ++ rest)) × SpellsCommand asked rest
+Spells (command end asked) text = (rest : List ℕ) × (text ≡ end_text end ++ (codes " " ++ rest))
+    × SpellsCommand asked rest
 Spells (t1 end) text = text ≡ codes "t1 " ++ end_text end
 Spells (deliver from) text = text ≡ codes "deliver " ++ direction_text from
-Spells (lose from place) text = IsNumber place × (text ≡ codes "lose " ++ (direction_text from ++ (codes " " ++ decimal place)))
+Spells (lose from place) text = IsNumber place
+    × (text ≡ codes "lose " ++ (direction_text from ++ (codes " " ++ decimal place)))
 Spells (damage from place octets) text = IsNumber place
     × ((digits : List ℕ) × Writes digits octets
     × (text ≡ codes "damage " ++ (direction_text from ++ (codes " " ++ (decimal place ++ (codes " " ++ digits))))))

@@ -1,5 +1,6 @@
 -- What the words say, read one after another (profile).
-use Rattle.std.specs.Prelude.{ℕ, ◌&&◌, ◌||◌, nat_le, true, false, List, [], ◌∷◌, Option, Some, None, codes, decimal, if◌then◌else◌, option_map, option_and_then, is_some}
+use Rattle.std.specs.Prelude.{ℕ, ◌&&◌, ◌||◌, nat_le, true, false, List, [], ◌∷◌, Option, Some, None, codes, decimal}
+use Rattle.std.specs.Prelude.{if◌then◌else◌, option_map, option_and_then, is_some}
 use Rattle.std.specs.Str.{bytes_eq}
 use Rattle.std.specs.Str.Parse.{digits_value}
 use Rattle.x25_settings.specs.declared.options.Chosen.{Chosen}
@@ -14,7 +15,8 @@ use Rattle.x25_settings.specs.declared.options.Place.{Place}
 use Rattle.x25_settings.specs.declared.options.Simulation.{Simulation}
 use Rattle.x25_settings.specs.declared.words.Task.{Task}
 use Rattle.x25_settings.specs.declared.words.Task.TheVariants.{Decode, Vectors, Sim, Station, Judge, Deframe, Frame}
-use Rattle.x25_settings.specs.Options.{most_of, nothing, chosen_flag, with_flag, chosen_number, with_number, settled, settled_at, judging_in}
+use Rattle.x25_settings.specs.Options.{most_of, nothing, chosen_flag, with_flag, chosen_number, with_number, settled}
+use Rattle.x25_settings.specs.Options.{settled_at, judging_in}
 
 abbrev pub flag_in : List ℕ → Option Flag
 flag_in word = if bytes_eq word (codes "--down") then Some Down
@@ -82,7 +84,8 @@ station_in (word ∷ words) = place_in words (end_in word)
 
 -- `--k` and `--long` alone are of `judge`
 abbrev pub judging_of : Chosen → Option Judging
-judging_of c = if c.down || c.tap then None else if is_some c.n2 || is_some c.channels then None else Some (judging_in c)
+judging_of c = if c.down || c.tap then None else if is_some c.n2 || is_some c.channels then None
+    else Some (judging_in c)
 
 -- the words behind `judge`
 abbrev pub judge_in : List (List ℕ) → Option Judging

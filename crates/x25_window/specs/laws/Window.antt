@@ -2,7 +2,8 @@
 -- When to send, and whether to take an item that may be taken, is free. A sender and a receiver hold its two halves:
 -- `Sending` is what an end has sent, with V(S) beside it, and `FitsTaken` counts what it has taken.
 -- ITU-T X.25 (10/96), sections 2.3.2, 2.4.5 and 2.4.8.6.
-use Rattle.std.specs.Prelude.{ℕ, ◌≡◌, ◌+◌, ◌%◌, ◌<◌, ◌≤◌, List, [], ◌∷◌, ◌++◌, length, slice_get, max, Option, Some, None}
+use Rattle.std.specs.Prelude.{ℕ, ◌≡◌, ◌+◌, ◌%◌, ◌<◌, ◌≤◌, List, [], ◌∷◌, ◌++◌, length, slice_get, max, Option, Some}
+use Rattle.std.specs.Prelude.{None}
 use Rattle.x25_window.specs.code.Modulo.{resolved}
 
 -- k; all items handed down; how many of these are acknowledged; the highest number ever sent plus one; and all items
@@ -40,8 +41,22 @@ Allows e (Hear ack) = resolved e.acked ack ≤ e.sent
 Allows e (Take number item) = number ≡ length e.taken % 8
 
 abbrev pub after : {T : Type 0} → End T → Step T → End T
-after e (HandDown item) = record { window = e.window; given = e.given ++ item ∷ []; acked = e.acked; sent = e.sent; taken = e.taken }
-after e (Send n) = record { window = e.window; given = e.given; acked = e.acked; sent = max e.sent (n + 1); taken = e.taken }
+after e (HandDown item) = record {
+  window = e.window;
+  given = e.given
+      ++ item ∷ [];
+  acked = e.acked;
+  sent = e.sent;
+  taken = e.taken;
+}
+after e (Send n) = record {
+  window = e.window;
+  given = e.given;
+  acked = e.acked;
+  sent = max e.sent
+      (n + 1);
+  taken = e.taken;
+}
 after e Tell = e
 after e (Hear ack) = record { window = e.window; given = e.given; acked = resolved e.acked ack; sent = e.sent; taken = e.taken }
 after e (Take number item) = record { window = e.window; given = e.given; acked = e.acked; sent = e.sent; taken = e.taken ++ item ∷ [] }
