@@ -1,12 +1,12 @@
 -- What each move of the window machine keeps, and so each list of moves.
-use Rattle.std.proofs.Common.{◌≡◌, ℕ, ◌+◌, ◌%◌, ◌<◌, ◌≤◌, List, [], ◌∷◌, ◌++◌, length, take, drop, max, Option, Some, None, Bool, true, false, arith, refl, ◌∙◌, sym, ap}
+use Rattle.std.proofs.Common.{◌≡◌, ℕ, ◌+◌, ◌%◌, ◌<◌, ◌≤◌, List, [], ◌∷◌, ◌++◌, length, take, drop, remove, max, Option, Some, None, Bool, true, false, arith, refl, ◌∙◌, sym, ap}
 use Rattle.std.specs.List.{slice_get}
 use Rattle.std.proofs.lemmas.Grind.{common_steps}
 use Rattle.std.proofs.lemmas.List.{take-append-drop, take_all, take_more, length_push, append-nil}
 use Rattle.std.proofs.lemmas.Option.{slice_get_within, get_or_from_slice_get}
 use Rattle.x25_window.specs.code.Modulo.{resolved}
-use Rattle.x25_window.specs.laws.Window.{End, Frame, Numbered, Allows, after, numbered}
-use Rattle.x25_window.specs.laws.Window.Step.{HandDown, Send, Hear}
+use Rattle.x25_window.specs.laws.Window.{End, Frame, Numbered, Allows, after, frames_of, numbered}
+use Rattle.x25_window.specs.laws.Window.Step.{HandDown, Send, Tell, Hear, Take}
 use Rattle.x25_line.specs.laws.Line.{Line, Move, MayTake, FrontMayBeTaken, AllowsMove, AllowsAll, fresh_line, swapped, takes_item, front_arrived, moved, all_moved}
 use Rattle.x25_line.specs.laws.Line.Move.{HandsDown, Sends, Tells, Arrives, Loses}
 use Rattle.x25_line.specs.laws.InWindow.{IsSentInWindow, IsNear, AllInWindow, Rising, WayInWindow, InWindow}
@@ -21,25 +21,31 @@ same_in_window : (r n : ℕ) → n % 8 ≡ r % 8 → r ≤ n + 7 → n < r + 8 �
 same_in_window r n e low high = omega arith
 
 module _ {T : Type 0} where
-  -- one direction: the end that gives, what the other has taken, the line there and the line back
-  pub record Way (g : End T) (taken : List T) (there back : List (Frame T)) : Type 0 where
-    pub low : 1 ≤ g.window
+  -- One direction: the end that gives, what the other has taken and how much of that its last N(R) acknowledges, the line there and the
+  -- line back. The end that takes may acknowledge late, and the one that gives may leave gaps.
+  pub record Way (g : End T) (taken : List T) (told : ℕ) (there back : List (Frame T)) : Type 0 where
     pub high : g.window ≤ 7
     pub room : g.sent ≤ g.acked + g.window
     pub held : g.sent ≤ length g.given
-    pub acks : Acks g.acked back (length taken)
+    pub acks : Acks g.acked back told
+    pub late : told ≤ length taken
     pub tops : Tops g.given (length taken) there g.sent
     pub begins : taken ≡ take (length taken) g.given
 
-  pub record Kept (w : Line T) : Type 0 where
-    pub from_near : Way w.near w.far.taken w.out w.back
-    pub from_far : Way w.far w.near.taken w.back w.out
+  -- both directions, with the last N(R) of each end
+  pub record BothWays (near far : End T) (near_told far_told : ℕ) (out back : List (Frame T)) : Type 0 where
+    pub from_near : Way near far.taken far_told out back
+    pub from_far : Way far near.taken near_told back out
 
-  pub Kept-start : (k : ℕ) → 1 ≤ k → k ≤ 7 → Kept (fresh_line k)
-  Kept-start k low high =
+  -- each end acknowledges all that it took
+  abbrev pub Kept : Line T → Type 0
+  Kept w = BothWays w.near w.far (length w.near.taken) (length w.far.taken) w.out w.back
+
+  pub Kept-start : (k : ℕ) → k ≤ 7 → Kept (fresh_line k)
+  Kept-start k high =
       record {
-        from_near = record { low = low; high = high; room = omega arith; held = omega arith; acks = omega arith; tops = omega arith; begins = refl };
-        from_far = record { low = low; high = high; room = omega arith; held = omega arith; acks = omega arith; tops = omega arith; begins = refl };
+        from_near = record { high = high; room = omega arith; held = omega arith; acks = omega arith; late = omega arith; tops = omega arith; begins = refl };
+        from_far = record { high = high; room = omega arith; held = omega arith; acks = omega arith; late = omega arith; tops = omega arith; begins = refl };
       }
 
   pub Kept-swapped : (w : Line T) → Kept w → Kept (swapped w)
@@ -54,162 +60,187 @@ module _ {T : Type 0} where
   take-next xs n x e =
       take_more xs n x (slice_get_within xs n x e) ∙ ap (λ y. take n xs ++ y ∷ []) (get_or_from_slice_get xs n x x e)
 
-  Way-hand : (g : End T) (taken : List T) (there back : List (Frame T)) (x : T) → Way g taken there back → Way (after g (HandDown x)) taken there back
-  Way-hand g taken there back x h =
+  pub Way-hand : (g : End T) (taken : List T) (told : ℕ) (there back : List (Frame T)) (x : T) → Way g taken told there back → Way (after g (HandDown x)) taken told there back
+  Way-hand g taken told there back x h =
       let le = Tops-le g.given (length taken) there g.sent h.tops in
       let n = length_push g.given x in
+      let held = h.held in
       record {
-        low = h.low;
         high = h.high;
         room = h.room;
         held = omega arith;
         acks = h.acks;
+        late = h.late;
         tops = Tops-grow g.given (x ∷ []) (length taken) there g.sent h.held h.tops;
         begins = h.begins ∙ sym (take-grown (length taken) g.given (x ∷ []) (omega arith));
       }
 
-  -- the giver sends an item
+  -- the giver sends an item: one that it was handed down, in its window
+  pub Way-send : (g : End T) (taken : List T) (told : ℕ) (there back : List (Frame T)) (n ack : ℕ) (c : Option (Numbered T)) → n < length g.given → n < g.acked + g.window
+      → Carries g.given (max g.sent (n + 1)) c → Way g taken told there back
+      → Way (after g (Send n)) taken told (there ++ record { carried = c; ack = ack; top = max g.sent (n + 1) } ∷ []) back
+  Way-send g taken told there back n ack c within inside carries h =
+      let high = h.high in
+      let room = h.room in
+      let held = h.held in
+      record {
+        high = h.high;
+        room = omega arith;
+        held = omega arith;
+        acks = h.acks;
+        late = h.late;
+        tops = Tops-push g.given (length taken) there (record { carried = c; ack = ack; top = max g.sent (n + 1) }) carries
+            (Tops-higher g.given (length taken) there g.sent (max g.sent (n + 1)) (omega arith) h.tops);
+        begins = h.begins;
+      }
+
+  -- as the window machine allows
   Carries-numbered : (g : End T) (n : ℕ) → Allows g (Send n) → g.window ≤ 7 → g.sent ≤ g.acked + g.window → Carries g.given (max g.sent (n + 1)) (numbered n (slice_get g.given n))
   Carries-numbered g n ok high room =
       let item = slice_get-is g.given n ok.3 in
       rw item.1 (omega arith, omega arith, item.1)
 
-  Way-send : (g : End T) (taken : List T) (there back : List (Frame T)) (n : ℕ) (ack : ℕ) → Allows g (Send n) → Way g taken there back
-      → Way (after g (Send n)) taken (there ++ record { carried = numbered n (slice_get g.given n); ack = ack; top = max g.sent (n + 1) } ∷ []) back
-  Way-send g taken there back n ack ok h =
+  pub Way-tell : (g : End T) (taken : List T) (told : ℕ) (there back : List (Frame T)) (ack : ℕ) → Way g taken told there back
+      → Way g taken told (there ++ record { carried = None; ack = ack; top = g.sent } ∷ []) back
+  Way-tell g taken told there back ack h =
       record {
-        low = h.low;
-        high = h.high;
-        room = omega arith;
-        held = omega arith;
-        acks = h.acks;
-        tops = Tops-push g.given (length taken) there (record { carried = numbered n (slice_get g.given n); ack = ack; top = max g.sent (n + 1) })
-            (Carries-numbered g n ok h.high h.room) (Tops-higher g.given (length taken) there g.sent (max g.sent (n + 1)) (omega arith) h.tops);
-        begins = h.begins;
-      }
-
-  Way-tell : (g : End T) (taken : List T) (there back : List (Frame T)) (ack : ℕ) → Way g taken there back → Way g taken (there ++ record { carried = None; ack = ack; top = g.sent } ∷ []) back
-  Way-tell g taken there back ack h =
-      record {
-        low = h.low;
         high = h.high;
         room = h.room;
         held = h.held;
         acks = h.acks;
+        late = h.late;
         tops = Tops-push g.given (length taken) there (record { carried = None; ack = ack; top = g.sent }) tt h.tops;
         begins = h.begins;
       }
 
-  -- the taker sends a frame
-  Way-told : (g : End T) (taken : List T) (there back : List (Frame T)) (c : Option (Numbered T)) (top : ℕ) → Way g taken there back
-      → Way g taken there (back ++ record { carried = c; ack = length taken; top = top } ∷ [])
-  Way-told g taken there back c top h =
+  -- the taker sends a frame, by which it acknowledges so many
+  pub Way-told : (g : End T) (taken : List T) (told : ℕ) (there back : List (Frame T)) (t : ℕ) (c : Option (Numbered T)) (top : ℕ) → told ≤ t → t ≤ length taken → Way g taken told there back
+      → Way g taken t there (back ++ record { carried = c; ack = t; top = top } ∷ [])
+  Way-told g taken told there back t c top rising few h =
       record {
-        low = h.low;
         high = h.high;
         room = h.room;
         held = h.held;
-        acks = Acks-push g.acked back (record { carried = c; ack = length taken; top = top }) h.acks;
+        acks = Acks-push g.acked back (record { carried = c; ack = t; top = top }) (Acks-higher g.acked back told t rising h.acks);
+        late = few;
         tops = h.tops;
         begins = h.begins;
       }
 
+  -- it may acknowledge more
+  pub Way-raise : (g : End T) (taken : List T) (told t : ℕ) (there back : List (Frame T)) → told ≤ t → t ≤ length taken → Way g taken told there back → Way g taken t there back
+  Way-raise g taken told t there back rising few h =
+      record { high = h.high; room = h.room; held = h.held; acks = Acks-higher g.acked back told t rising h.acks; late = few; tops = h.tops; begins = h.begins }
+
   -- an N(R) that arrives stands for the number that it carries
-  pub hears_valid : (g : End T) (taken : List T) (there back : List (Frame T)) (f : Frame T) → Way g taken there (f ∷ back)
+  pub hears_valid : (g : End T) (taken : List T) (told : ℕ) (there back : List (Frame T)) (f : Frame T) → Way g taken told there (f ∷ back)
       → (resolved g.acked (f.ack % 8) ≡ f.ack) × (g.acked ≤ f.ack) × (f.ack ≤ g.sent)
-  hears_valid g taken there back f h =
-      let ack_le = Acks-le f.ack back (length taken) h.acks.1 in
+  hears_valid g taken told there back f h =
+      let ack_le = Acks-le f.ack back told h.acks.1 in
       let sent_le = Tops-le g.given (length taken) there g.sent h.tops in
+      let late = h.late in
       let low = h.acks.0 in
       let room = h.room in
       let high = h.high in
       (resolved_is g.acked f.ack low (omega arith), low, omega arith)
 
-  Way-hears : (g : End T) (taken : List T) (there back : List (Frame T)) (f : Frame T) → Way g taken there (f ∷ back) → Way (after g (Hear (f.ack % 8))) taken there back
-  Way-hears g taken there back f h =
-      let valid = hears_valid g taken there back f h in
-      rw valid.0 (record { low = h.low; high = h.high; room = omega arith; held = h.held; acks = h.acks.1; tops = h.tops; begins = h.begins })
+  pub Way-hears : (g : End T) (taken : List T) (told : ℕ) (there back : List (Frame T)) (f : Frame T) → Way g taken told there (f ∷ back) → Way (after g (Hear (f.ack % 8))) taken told there back
+  Way-hears g taken told there back f h =
+      let valid = hears_valid g taken told there back f h in
+      rw valid.0 (record { high = h.high; room = omega arith; held = h.held; acks = h.acks.1; late = h.late; tops = h.tops; begins = h.begins })
 
-  -- a frame is passed over
-  Way-passes : (g : End T) (taken : List T) (there back : List (Frame T)) (f : Frame T) → Way g taken (f ∷ there) back → Way g taken there back
-  Way-passes g taken there back f h =
-      record {
-        low = h.low;
-        high = h.high;
-        room = h.room;
-        held = h.held;
-        acks = h.acks;
-        tops = Tops-weaken g.given (length taken) f.top there g.sent h.tops.0 h.tops.2;
-        begins = h.begins;
-      }
+  -- a frame of the taker is lost, or passed over
+  pub Way-unheard : (g : End T) (taken : List T) (told : ℕ) (there back : List (Frame T)) (i : ℕ) → Way g taken told there back → Way g taken told there (remove back i)
+  Way-unheard g taken told there back i h =
+      record { high = h.high; room = h.room; held = h.held; acks = Acks-remove g.acked back told i h.acks; late = h.late; tops = h.tops; begins = h.begins }
 
-  -- an item is taken: it is the next
-  Way-takes : (g : End T) (taken : List T) (there back : List (Frame T)) (f : Frame T) (c : Numbered T) → Carries g.given f.top (Some c) → c.number % 8 ≡ length taken % 8
-      → Way g taken (f ∷ there) back → Way g (taken ++ c.item ∷ []) there back
-  Way-takes g taken there back f c good same h =
+  -- one of the giver is
+  pub Way-passed : (g : End T) (taken : List T) (told : ℕ) (there back : List (Frame T)) (i : ℕ) → Way g taken told there back → Way g taken told (remove there i) back
+  Way-passed g taken told there back i h =
+      record { high = h.high; room = h.room; held = h.held; acks = h.acks; late = h.late; tops = Tops-remove g.given (length taken) there i g.sent h.tops; begins = h.begins }
+
+  -- the item of the front frame is taken: it is the next
+  pub Way-takes : (g : End T) (taken : List T) (told : ℕ) (there back : List (Frame T)) (f : Frame T) (c : Numbered T) → Carries g.given f.top (Some c) → c.number % 8 ≡ length taken % 8
+      → Way g taken told (f ∷ there) back → Way g (taken ++ c.item ∷ []) told there back
+  Way-takes g taken told there back f c good same h =
       let n = length_push taken c.item in
       let low = h.tops.0 in
       let room = h.room in
       let high = h.high in
-      let acked_le = Acks-le g.acked back (length taken) h.acks in
+      let late = h.late in
+      let acked_le = Acks-le g.acked back told h.acks in
       let top_le = Tops-le g.given f.top there g.sent h.tops.2 in
       let is : c.number ≡ length taken = same_in_window (length taken) c.number same (omega arith) (omega arith) in
       let next = take-next g.given (length taken) c.item (rw is at good.2) in
       record {
-        low = h.low;
         high = h.high;
         room = h.room;
         held = h.held;
-        acks = Acks-higher g.acked back (length taken) (length (taken ++ c.item ∷ [])) (omega arith) h.acks;
+        acks = h.acks;
+        late = omega arith;
         tops = Tops-weaken g.given (length (taken ++ c.item ∷ [])) f.top there g.sent (omega arith) h.tops.2;
         begins = rw n (ap (λ xs. xs ++ c.item ∷ []) h.begins ∙ sym next);
       }
 
-  -- what arrives is taken only where it is the next
+  -- what arrives is taken only where it is the next, and all that is taken may be acknowledged
   Way-arrives : (g e : End T) (f : Frame T) (there back : List (Frame T)) (takes : Bool) → MayTake takes (length e.taken) f.carried
-      → Way g e.taken (f ∷ there) back → Way g (takes_item takes f.carried e).taken there back
+      → Way g e.taken (length e.taken) (f ∷ there) back → Way g (takes_item takes f.carried e).taken (length (takes_item takes f.carried e).taken) there back
   Way-arrives g e f there back takes ok h = go takes f.carried ok h.tops.1
     where
-      go : (b : Bool) (c : Option (Numbered T)) → MayTake b (length e.taken) c → Carries g.given f.top c → Way g (takes_item b c e).taken there back
-      go true (Some c) same good = Way-takes g e.taken there back f c good same h
-      go true None same good = Way-passes g e.taken there back f h
-      go false c same good = Way-passes g e.taken there back f h
+      go : (b : Bool) (c : Option (Numbered T)) → MayTake b (length e.taken) c → Carries g.given f.top c → Way g (takes_item b c e).taken (length (takes_item b c e).taken) there back
+      go true (Some c) same good =
+          let n = length_push e.taken c.item in
+          Way-raise g (e.taken ++ c.item ∷ []) (length e.taken) (length (e.taken ++ c.item ∷ [])) there back (omega arith) (omega arith)
+          (Way-takes g e.taken (length e.taken) there back f c good same h)
+      go true None same good = Way-passed g e.taken (length e.taken) (f ∷ there) back 0 h
+      go false c same good = Way-passed g e.taken (length e.taken) (f ∷ there) back 0 h
 
   -- what an end takes changes nothing of what it gives
-  Way-giver : (takes : Bool) (c : Option (Numbered T)) (g : End T) (taken : List T) (there back : List (Frame T)) → Way g taken there back → Way (takes_item takes c g) taken there back
-  Way-giver true (Some c) g taken there back h = record { low = h.low; high = h.high; room = h.room; held = h.held; acks = h.acks; tops = h.tops; begins = h.begins }
-  Way-giver true None g taken there back h = h
-  Way-giver false c g taken there back h = h
+  pub Way-giver : (g : End T) (taken : List T) (told : ℕ) (there back : List (Frame T)) (n : ℕ) (x : T) → Way g taken told there back → Way (after g (Take n x)) taken told there back
+  Way-giver g taken told there back n x h = record { high = h.high; room = h.room; held = h.held; acks = h.acks; late = h.late; tops = h.tops; begins = h.begins }
+
+  Way-taker : (takes : Bool) (c : Option (Numbered T)) (g : End T) (taken : List T) (told : ℕ) (there back : List (Frame T)) → Way g taken told there back → Way (takes_item takes c g) taken told there back
+  Way-taker true (Some c) g taken told there back h = Way-giver g taken told there back (c.number % 8) c.item h
+  Way-taker true None g taken told there back h = h
+  Way-taker false c g taken told there back h = h
 
   Kept-arrives : (near far : End T) (out bs : List (Frame T)) (takes : Bool) → FrontMayBeTaken takes (length near.taken) bs
       → Kept (record { near = near; far = far; out = out; back = bs }) → Kept (front_arrived takes bs (record { near = near; far = far; out = out; back = bs }))
   Kept-arrives near far out [] takes ok h = h
   Kept-arrives near far out (f ∷ fs) takes ok h =
       record {
-        from_near = Way-giver takes f.carried (after near (Hear (f.ack % 8))) far.taken out fs (Way-hears near far.taken out fs f h.from_near);
+        from_near = Way-taker takes f.carried (after near (Hear (f.ack % 8))) far.taken (length far.taken) out fs (Way-hears near far.taken (length far.taken) out fs f h.from_near);
         from_far = Way-arrives far (after near (Hear (f.ack % 8))) f fs out takes ok h.from_far;
+      }
+
+  -- an end that acknowledges all that it took sends
+  pub item-sent : (g far : End T) (told : ℕ) (out back : List (Frame T)) (n : ℕ) → Allows g (Send n) → BothWays g far (length g.taken) told out back
+      → BothWays (after g (Send n)) far (length g.taken) told (out ++ frames_of g (Send n)) back
+  item-sent g far told out back n ok h =
+      let way = h.from_near in
+      let c : Option (Numbered T) = numbered n (slice_get g.given n) in
+      record {
+        from_near = Way-send g far.taken told out back n (length g.taken) c ok.3 ok.2 (Carries-numbered g n ok way.high way.room) way;
+        from_far = Way-told far g.taken (length g.taken) back out (length g.taken) c (max g.sent (n + 1)) (omega arith) (omega arith) h.from_far;
+      }
+
+  pub told-sent : (g far : End T) (told : ℕ) (out back : List (Frame T)) → BothWays g far (length g.taken) told out back → BothWays g far (length g.taken) told (out ++ frames_of g Tell) back
+  told-sent g far told out back h =
+      record {
+        from_near = Way-tell g far.taken told out back (length g.taken) h.from_near;
+        from_far = Way-told far g.taken (length g.taken) back out (length g.taken) None g.sent (omega arith) (omega arith) h.from_far;
       }
 
   pub Kept-moved : (m : Move T) (w : Line T) → AllowsMove w m → Kept w → Kept (moved m w)
   Kept-moved (HandsDown x) w ok h =
-      rw (append-nil w.out) (record { from_near = Way-hand w.near w.far.taken w.out w.back x h.from_near; from_far = h.from_far })
-  Kept-moved (Sends n) w ok h =
-      record {
-        from_near = Way-send w.near w.far.taken w.out w.back n (length w.near.taken) ok h.from_near;
-        from_far = Way-told w.far w.near.taken w.back w.out (numbered n (slice_get w.near.given n)) (max w.near.sent (n + 1)) h.from_far;
-      }
-  Kept-moved Tells w ok h =
-      record {
-        from_near = Way-tell w.near w.far.taken w.out w.back (length w.near.taken) h.from_near;
-        from_far = Way-told w.far w.near.taken w.back w.out None w.near.sent h.from_far;
-      }
+      rw (append-nil w.out) (record { from_near = Way-hand w.near w.far.taken (length w.far.taken) w.out w.back x h.from_near; from_far = h.from_far })
+  Kept-moved (Sends n) w ok h = item-sent w.near w.far (length w.far.taken) w.out w.back n ok h
+  Kept-moved Tells w ok h = told-sent w.near w.far (length w.far.taken) w.out w.back h
   Kept-moved (Arrives takes) w ok h = Kept-arrives w.near w.far w.out w.back takes ok h
   Kept-moved (Loses i) w ok h =
-      let n = h.from_near in
-      let f = h.from_far in
       record {
-        from_near = record { low = n.low; high = n.high; room = n.room; held = n.held; acks = Acks-remove w.near.acked w.back (length w.far.taken) i n.acks; tops = n.tops; begins = n.begins };
-        from_far = record { low = f.low; high = f.high; room = f.room; held = f.held; acks = f.acks; tops = Tops-remove w.far.given (length w.near.taken) w.back i w.far.sent f.tops; begins = f.begins };
+        from_near = Way-unheard w.near w.far.taken (length w.far.taken) w.out w.back i h.from_near;
+        from_far = Way-passed w.far w.near.taken (length w.near.taken) w.back w.out i h.from_far;
       }
 
   pub Kept-all_moved : (ms : List (Move T)) (w : Line T) → AllowsAll w ms → Kept w → Kept (all_moved ms w)
@@ -218,8 +249,11 @@ module _ {T : Type 0} where
 
   -- ---- what is kept says that the window holds
 
-  pub Way-acked : (g : End T) (taken : List T) (there back : List (Frame T)) → Way g taken there back → (g.acked ≤ length taken) × (length taken ≤ g.sent)
-  Way-acked g taken there back h = (Acks-le g.acked back (length taken) h.acks, Tops-le g.given (length taken) there g.sent h.tops)
+  pub Way-acked : (g : End T) (taken : List T) (told : ℕ) (there back : List (Frame T)) → Way g taken told there back → (g.acked ≤ length taken) × (length taken ≤ g.sent)
+  Way-acked g taken told there back h =
+      let low = Acks-le g.acked back told h.acks in
+      let late = h.late in
+      (omega arith, Tops-le g.given (length taken) there g.sent h.tops)
 
   Rising-from_Acks : (low : ℕ) (fs : List (Frame T)) (high m : ℕ) → high ≤ m → Acks low fs high → Rising low fs m
   Rising-from_Acks low [] high m le h = omega arith
@@ -243,9 +277,9 @@ module _ {T : Type 0} where
         AllInWindow-from_Tops xs r f.top fs sent above room h.2,
       )
 
-  WayInWindow-from_Way : (g t : End T) (there back : List (Frame T)) → Way g t.taken there back → WayInWindow g t there back
+  WayInWindow-from_Way : (g t : End T) (there back : List (Frame T)) → Way g t.taken (length t.taken) there back → WayInWindow g t there back
   WayInWindow-from_Way g t there back h =
-      let bounds = Way-acked g t.taken there back h in
+      let bounds = Way-acked g t.taken (length t.taken) there back h in
       let room = h.room in
       let high = h.high in
       let held = h.held in

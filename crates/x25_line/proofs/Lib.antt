@@ -11,6 +11,13 @@ pub mod StationAway
 pub mod StationRuns
 pub mod StationClaimLemmas
 pub mod StationEvents
+pub mod PeerLines
+pub mod PeerSends
+pub mod PeerSteps
+pub mod PeerActs
+pub mod PeerMoves
+pub mod PeerRuns
+pub mod TapeLemmas
 pub mod rows
 pub mod HealingLines
 pub mod HealingSteps

@@ -23,8 +23,8 @@ pub record Sound (s : RawState) : Type 0 where
   pub far_low : s.line.far.acked ≤ s.far_place
   pub far_high : s.far_place ≤ s.line.far.sent
 
-pub Sound-start : (k : ℕ) → 1 ≤ k → k ≤ 7 → Sound (start k)
-Sound-start k low high = record { kept = Kept-start k low high; near_low = omega arith; near_high = omega arith; far_low = omega arith; far_high = omega arith }
+pub Sound-start : (k : ℕ) → k ≤ 7 → Sound (start k)
+Sound-start k high = record { kept = Kept-start k high; near_low = omega arith; near_high = omega arith; far_low = omega arith; far_high = omega arith }
 
 pub Sound-swapped : (s : RawState) → Sound s → Sound (sides_swapped s)
 Sound-swapped s h = record { kept = Kept-swapped s.line h.kept; near_low = h.far_low; near_high = h.far_high; far_low = h.near_low; far_high = h.near_high }
@@ -93,11 +93,11 @@ place-within : (s : RawState) (a : RawAct) → Sound s → Kept (acts s a).line
     → ((acts s a).line.near.acked ≤ (acts s a).near_place) × ((acts s a).near_place ≤ (acts s a).line.near.sent)
 place-within s (act.Offer x) h k = let low = h.near_low in let high = h.near_high in (grind (arith, nat_tests), grind (arith, nat_tests))
 place-within s act.Next h k = let low = h.near_low in let high = h.near_high in (omega arith, omega arith)
-place-within s act.Again h k = let bounds = Way-acked s.line.near s.line.far.taken s.line.out s.line.back h.kept.from_near in (omega arith, omega arith)
+place-within s act.Again h k = let bounds = Way-acked s.line.near s.line.far.taken (length s.line.far.taken) s.line.out s.line.back h.kept.from_near in (omega arith, omega arith)
 place-within s act.Tell h k = (h.near_low, h.near_high)
 place-within s act.Deliver h k =
     let line = (acts s act.Deliver).line in
-    let bounds = Way-acked line.near line.far.taken line.out line.back k.from_near in
+    let bounds = Way-acked line.near line.far.taken (length line.far.taken) line.out line.back k.from_near in
     let same : line.near.sent ≡ s.line.near.sent = sent-front_arrived (front_is_wanted (length s.line.near.taken) s.line.back) s.line.back s.line in
     let high = h.near_high in
     (omega arith, omega arith)
@@ -123,5 +123,5 @@ pub Sound-run : (es : List RawEvent) (s : RawState) → AllAccepted s es → Sou
 Sound-run [] s ok h = h
 Sound-run (e ∷ es) s ok h = Sound-run es (happens s e) ok.1 (Sound-acts_as (end_of_event e) s (act_of_event e) ok.0 h)
 
-pub window_holds : (es : List RawEvent) (k : ℕ) → 1 ≤ k → k ≤ 7 → AllAccepted (start k) es → InWindow (run es (start k)).line
-window_holds es k low high ok = InWindow-from_Kept (run es (start k)).line (Sound-run es (start k) ok (Sound-start k low high)).kept
+pub window_holds : (es : List RawEvent) (k : ℕ) → k ≤ 7 → AllAccepted (start k) es → InWindow (run es (start k)).line
+window_holds es k high ok = InWindow-from_Kept (run es (start k)).line (Sound-run es (start k) ok (Sound-start k high)).kept

@@ -61,17 +61,17 @@ Run-next old new e (Ok x) h step accepted same =
 Run-next old new e (Err x) h step accepted same = rw same h
 
 pub Sound-reached : (v : ShownWorld) → (h : Run v) → Sound (run_of h)
-Sound-reached v h = Sound-run h.events (start h.window) h.accepted (Sound-start h.window h.low h.high)
+Sound-reached v h = Sound-run h.events (start h.window) h.accepted (Sound-start h.window h.high)
 
 pub in_window : (v : ShownWorld) → ∥ Run v ∥₁ → ∥ RunInWindow v ∥₁
-in_window v h = ∥∥₁_map h (λ r. record { run = r; window = window_holds r.events r.window r.low r.high r.accepted })
+in_window v h = ∥∥₁_map h (λ r. record { run = r; window = window_holds r.events r.window r.high r.accepted })
 
 -- ---- no N(R) is ever invalid
 
 bad_ack_never : (near far : End ℕ) (out bs : List (Frame ℕ)) → near.sent ≡ length near.given → Kept (record { near = near; far = far; out = out; back = bs }) → BringsBadAck near bs → ⊥
 bad_ack_never near far out [] e h bad = bad
 bad_ack_never near far out (f ∷ fs) e h bad =
-    let valid = hears_valid near far.taken out fs f h.from_near in
+    let valid = hears_valid near far.taken (length far.taken) out fs f h.from_near in
     let is = valid.0 in
     let high = valid.2 in
     omega arith
@@ -108,9 +108,9 @@ dce_refusals (Err error) s e a role is never due = rw (role, is) (refusal-from_d
 
 -- ---- order
 
-InOrder-from_Way : (g t : ShownEnd) (ge te : End ℕ) (place other : ℕ) (there back : List (Frame ℕ)) → FitsEnd g ge place → FitsEnd t te other → Way ge te.taken there back → InOrder g t
+InOrder-from_Way : (g t : ShownEnd) (ge te : End ℕ) (place other : ℕ) (there back : List (Frame ℕ)) → FitsEnd g ge place → FitsEnd t te other → Way ge te.taken (length te.taken) there back → InOrder g t
 InOrder-from_Way g t ge te place other there back fg ft h =
-    let bounds = Way-acked ge te.taken there back h in
+    let bounds = Way-acked ge te.taken (length te.taken) there back h in
     let held = h.held in
     let low = bounds.0 in
     let high = bounds.1 in

@@ -28,7 +28,7 @@ pumped_still (suc n) k t off = ap (pumped_once k) (pumped_still n k t off) ∙ o
     once : pumped_once k t ≡ t
     once = rw off refl
 
-closed_still : (k : ℕ) (step : Step) → is_up step.side.near.phase ≡ false → closed_by k step ≡ step
+pub closed_still : (k : ℕ) (step : Step) → is_up step.side.near.phase ≡ false → closed_by k step ≡ step
 closed_still k step off =
     let still : ended k step.side ≡ step.side = rw (pumped_still 7 k step.side off, off) refl in
     ap (λ (t : Side). let z : Step = record { side = t; packet = step.packet; notes = step.notes } in z) still

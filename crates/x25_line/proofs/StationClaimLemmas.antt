@@ -47,12 +47,12 @@ pub up_of : (MayAsk : Type 0) (c : Settings) (s : LinkStation) (e : End (List �
 up_of MayAsk c s e (inl u) up = u
 up_of MayAsk c s e (inr away) up = not_both (is_up s.phase) up (away_is_not_up MayAsk s.phase away.away)
 
-in_order : (MayAsk : Type 0) (c : Settings) (giver taker : StationEnd) (e : End (List ℕ)) (taken : List (List ℕ)) (there back : List (Frame (List ℕ)))
-    → FitsEnd MayAsk c giver.station e → Way e taken there back → giver.down ≡ e.given → taker.up ≡ taken → InOrder giver taker
-in_order MayAsk c giver taker e taken there back fits way is_down is_up_list =
+pub in_order : (MayAsk : Type 0) (c : Settings) (giver taker : StationEnd) (e : End (List ℕ)) (taken : List (List ℕ)) (told : ℕ) (there back : List (Frame (List ℕ)))
+    → FitsEnd MayAsk c giver.station e → Way e taken told there back → giver.down ≡ e.given → taker.up ≡ taken → InOrder giver taker
+in_order MayAsk c giver taker e taken told there back fits way is_down is_up_list =
     let down = giver.down in
     let up = taker.up in
-    let bounds = Way-acked e taken there back way in
+    let bounds = Way-acked e taken told there back way in
     let count = ap length is_up_list in
     let begins : up ≡ take (length up) down =
     is_up_list ∙ way.begins ∙ ap (λ (n : ℕ). take n e.given) (sym count) ∙ ap (take (length up)) (sym is_down) in
@@ -64,7 +64,7 @@ in_order MayAsk c giver taker e taken there back fits way is_down is_up_list =
   where
     acked : FitsEnd MayAsk c giver.station e → taker.up ≡ take (length taker.up) giver.down → IsPrefix (take giver.station.outgoing.acked giver.down) taker.up
     acked (inl u) begins =
-        let bounds = Way-acked e taken there back way in
+        let bounds = Way-acked e taken told there back way in
         let count = ap length is_up_list in
         let same = ap (λ (z : Window). z.acked) u.same in
         acked_begins giver.station.outgoing.acked giver.down taker.up begins (omega (arith, bounds.0, count, same))
@@ -75,7 +75,7 @@ in_order MayAsk c giver taker e taken there back fits way is_down is_up_list =
     all : is_idle giver.station ≡ true → taker.up ≡ giver.down
     all idle =
         let u = up_of MayAsk c giver.station e fits (and_parts _ _ idle).0 in
-        let bounds = Way-acked e taken there back way in
+        let bounds = Way-acked e taken told there back way in
         let acked = idle_all giver.station idle u.sound.sent_high in
         let acked_same = ap (λ (z : Window). z.acked) u.same in
         let given_same = ap (λ (z : Window). length z.given) u.same in
@@ -120,8 +120,8 @@ pub holds_order : (MayAsk : Type 0) (c d : Settings) (w : Stations) → Holds Ma
 holds_order MayAsk c d w holds =
     let l = holds.0 in
     let h = holds.1 in (
-      in_order MayAsk c w.near w.far l.near l.far.taken l.out l.back h.near h.kept.from_near h.near_down h.far_up,
-      in_order MayAsk d w.far w.near l.far l.near.taken l.back l.out h.far h.kept.from_far h.far_down h.near_up,
+      in_order MayAsk c w.near w.far l.near l.far.taken (length l.far.taken) l.out l.back h.near h.kept.from_near h.near_down h.far_up,
+      in_order MayAsk d w.far w.near l.far l.near.taken (length l.near.taken) l.back l.out h.far h.kept.from_far h.far_down h.near_up,
     )
 
 pub holds_lists : (MayAsk : Type 0) (c d : Settings) (w : Stations) → Holds MayAsk c d w → BothHaveTheirLists c d w

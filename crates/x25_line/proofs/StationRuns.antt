@@ -101,7 +101,7 @@ module _ (MayAsk : Type 0) (c d : Settings) (joined : AreJoined c d) (reads : Re
       stays : IsAway MayAsk s → StaysOut step → Leads MayAsk c d w l (taken_out (first_of (number_in r)) l.back) (after_step c w os [] step)
       stays away out =
           let off = away_is_not_up MayAsk s.phase away.away in
-          away_joint MayAsk c d joined reads w l h (number_in r) os step orderly.1 shows (declining_parting MayAsk c d joined reads step.side.out out.frames)
+          away_joint MayAsk c d joined reads w l h (number_in r) os step orderly.1 shows (declining_parting MayAsk step.side.out out.frames)
           (record { away = out_is_away MayAsk step.side.near.phase out.out; empty = (laws.take_tells c o s).empty out.quiet off away.empty }) out.packet out.quiet off
 
       waits : IsAway MayAsk s → s.phase ≡ Waiting → MayAsk → Leads MayAsk c d w l (taken_out (first_of (number_in r)) l.back) (after_step c w os [] step)
@@ -427,8 +427,8 @@ start_machine MayAsk c d joined =
     record {
       reached = at_start;
       kept = record {
-        from_near = record { low = near_low; high = near_high; room = omega arith; held = omega arith; acks = omega arith; tops = omega arith; begins = refl };
-        from_far = record { low = far_low; high = far_high; room = omega arith; held = omega arith; acks = omega arith; tops = omega arith; begins = refl };
+        from_near = record { high = near_high; room = omega arith; held = omega arith; acks = omega arith; late = omega arith; tops = omega arith; begins = refl };
+        from_far = record { high = far_high; room = omega arith; held = omega arith; acks = omega arith; late = omega arith; tops = omega arith; begins = refl };
       };
       near = inl (record { up = refl; sound = record { place_low = omega arith; place_high = omega arith; sent_high = omega arith; room = omega arith }; same = refl });
       far = inl (record { up = refl; sound = record { place_low = omega arith; place_high = omega arith; sent_high = omega arith; room = omega arith }; same = refl });

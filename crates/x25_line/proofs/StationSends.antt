@@ -25,12 +25,12 @@ within_push n1 [] x h le = (le, tt)
 within_push n1 (y ∷ xs) x h le = (h.0, within_push n1 xs x h.1 le)
 
 -- the packet of a number that was handed down
-record Item (n1 : ℕ) (xs : List (List ℕ)) (n : ℕ) : Type 0 where
+pub record Item (n1 : ℕ) (xs : List (List ℕ)) (n : ℕ) : Type 0 where
   pub item : List ℕ
   pub is : slice_get xs n ≡ Some item
   pub within : length item ≤ n1
 
-item_at : (n1 : ℕ) (xs : List (List ℕ)) (n : ℕ) → n < length xs → AllWithin n1 xs → Item n1 xs n
+pub item_at : (n1 : ℕ) (xs : List (List ℕ)) (n : ℕ) → n < length xs → AllWithin n1 xs → Item n1 xs n
 item_at n1 [] n lt h = absurd (omega arith)
 item_at n1 (x ∷ xs) zero lt h = record { item = x; is = refl; within = h.0 }
 item_at n1 (x ∷ xs) (suc n) lt h =
@@ -39,7 +39,7 @@ item_at n1 (x ∷ xs) (suc n) lt h =
 
 -- ---- frames
 
-single_good : (n1 : ℕ) (g : Frame (List ℕ)) → ((f : PlainFrame) → Shows f g → IsGood n1 f) → (fs : List PlainFrame) → ShowAll fs (g ∷ []) → AllGood n1 fs
+pub single_good : (n1 : ℕ) (g : Frame (List ℕ)) → ((f : PlainFrame) → Shows f g → IsGood n1 f) → (fs : List PlainFrame) → ShowAll fs (g ∷ []) → AllGood n1 fs
 single_good n1 g good [] h = absurd h
 single_good n1 g good (f ∷ []) h = (good f h.0, tt)
 single_good n1 g good (f ∷ e ∷ fs) h = absurd h.1
@@ -48,7 +48,7 @@ single_good n1 g good (f ∷ e ∷ fs) h = absurd h.1
 below_eight : (a b : ℕ) → a ≡ b % 8 → a < 8
 below_eight a b e = omega arith
 
-tell_good : (n1 : ℕ) (w : Window) (f : PlainFrame) → Shows f (frame_of w None) → IsGood n1 f
+pub tell_good : (n1 : ℕ) (w : Window) (f : PlainFrame) → Shows f (frame_of w None) → IsGood n1 f
 tell_good n1 w (info ns nr p x) h = absurd h.0
 tell_good n1 w (rr command nr pf) h = record { in_range = below_eight nr (length w.taken) h.1; carries = refl; within = tt; number = refl; orderly = tt }
 tell_good n1 w (rnr command nr pf) h = record { in_range = below_eight nr (length w.taken) h.1; carries = refl; within = tt; number = refl; orderly = tt }
@@ -65,7 +65,7 @@ not_none n xs x is none = absurd (never (sym (ap (numbered n) is) ∙ none))
     never : numbered n (Some x) ≡ None → ⊥
     never e = cc
 
-send_good : (n1 n : ℕ) (w : Window) → Item n1 w.given n → (f : PlainFrame) → Shows f (frame_of (after w (Send n)) (numbered n (slice_get w.given n))) → IsGood n1 f
+pub send_good : (n1 n : ℕ) (w : Window) → Item n1 w.given n → (f : PlainFrame) → Shows f (frame_of (after w (Send n)) (numbered n (slice_get w.given n))) → IsGood n1 f
 send_good n1 n w i (info ns nr p x) h =
     let shown : ShowsItem (numbered n (Some i.item)) ns x = subst (λ (o : Option (List ℕ)). ShowsItem (numbered n o) ns x) i.is h.0 in
     let same = ap length shown.1 in

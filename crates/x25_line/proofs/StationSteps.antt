@@ -226,6 +226,60 @@ vain_notes MayAsk c w back step h away ask down not_up off =
       once = ap (λ (b : Bool). w.near.came_up || b) not_up ∙ ap (λ (b : Bool). b || false) h.once;
     }
 
+-- ---- steps that hand nothing up, and steps that leave
+
+-- nothing is handed up
+pub no_packet_of : (input : Input) (packet : Option (List ℕ)) (v : Window) → ((y : List ℕ) → MayHandUp input (Some y) v → ⊥) → MayHandUp input packet v → packet ≡ None
+no_packet_of input None v never up = refl
+no_packet_of input (Some y) v never up = absurd (never y up)
+
+-- Up is left for any reason but a fault of the peer, or set-up anew
+abbrev pub Leaves : Reason → Type 0
+Leaves Retries = Unit {0}
+Leaves Disc = Unit {0}
+Leaves Dm = Unit {0}
+Leaves FrmrSent = ⊥
+Leaves FrmrGot = Unit {0}
+Leaves Reset = ⊥
+Leaves Local = Unit {0}
+Leaves Counts = Unit {0}
+
+pub last_parting : (MayAsk : Type 0) (reason : Reason) (fs : List PlainFrame) → Leaves reason → AreLast reason fs → AreParting MayAsk fs
+last_parting MayAsk Retries fs l h = rw h tt
+last_parting MayAsk Disc fs l h = rw h.1 tt
+last_parting MayAsk Dm fs l h = rw h tt
+last_parting MayAsk FrmrSent fs l h = absurd l
+last_parting MayAsk FrmrGot fs l h = rw h tt
+last_parting MayAsk Reset fs l h = absurd l
+last_parting MayAsk Local fs l h = rw h tt
+last_parting MayAsk Counts fs l h = rw h tt
+
+pub last_away : (MayAsk : Type 0) (reason : Reason) (p : Phase) → Leaves reason → p ≡ ends_in reason → MayBeAway MayAsk p
+last_away MayAsk Retries p l h = rw h tt
+last_away MayAsk Disc p l h = rw h tt
+last_away MayAsk Dm p l h = rw h tt
+last_away MayAsk FrmrSent p l h = absurd l
+last_away MayAsk FrmrGot p l h = rw h tt
+last_away MayAsk Reset p l h = absurd l
+last_away MayAsk Local p l h = rw h tt
+last_away MayAsk Counts p l h = rw h tt
+
+pub empty_lists : (o : Outgoing) (taken : List (List ℕ)) → o ≡ no_packet → taken ≡ [] → record { given = o.given; acked = o.acked; taken = taken } ≡ no_packets
+empty_lists o taken none nothing_taken = rw (none, nothing_taken) refl
+
+-- a station that is out declines
+pub declining_parting : (MayAsk : Type 0) (fs : List PlainFrame) → AreDeclining fs → AreParting MayAsk fs
+declining_parting MayAsk [] h = tt
+declining_parting MayAsk (dm f ∷ fs) h = declining_parting MayAsk fs h
+declining_parting MayAsk (info ns nr p x ∷ fs) h = absurd h
+declining_parting MayAsk (rr command nr pf ∷ fs) h = absurd h
+declining_parting MayAsk (rnr command nr pf ∷ fs) h = absurd h
+declining_parting MayAsk (rej command nr pf ∷ fs) h = absurd h
+declining_parting MayAsk (sabm p ∷ fs) h = absurd h
+declining_parting MayAsk (disc p ∷ fs) h = absurd h
+declining_parting MayAsk (ua f ∷ fs) h = absurd h
+declining_parting MayAsk (frmr f why ∷ fs) h = absurd h
+
 -- ---- a step of the near end, the machine's line being `l` once what comes has come
 
 pub record Stage (MayAsk : Type 0) (c d : Settings) (w : Stations) (start l : Line (List ℕ)) (back down : List (List ℕ)) (packet : Option (List ℕ)) (v : Window) : Type 0 where
@@ -396,8 +450,8 @@ module _ (MayAsk : Type 0) (c d : Settings) (joined : AreJoined c d) (reads : Re
       → if_valid nr (window_of c.window w.near.station) ≡ None
   valid_at w l h u g gs is nr number =
       let e = l.near in
-      let way = subst (λ (bs : List (Frame (List ℕ))). Way e l.far.taken l.out bs) is h.kept.from_near in
-      let valid = hears_valid e l.far.taken l.out gs g way in
+      let way = subst (λ (bs : List (Frame (List ℕ))). Way e l.far.taken (length l.far.taken) l.out bs) is h.kept.from_near in
+      let valid = hears_valid e l.far.taken (length l.far.taken) l.out gs g way in
       let there : if_valid (g.ack % 8) e ≡ None = rw (valid.0, le-leb g.ack e.sent valid.2) refl in
       ap (λ (n : ℕ). if_valid n (window_of c.window w.near.station)) number ∙ ap (λ (z : Window). if_valid (g.ack % 8) z) u.same ∙ there
 
@@ -431,10 +485,6 @@ module _ (MayAsk : Type 0) (c d : Settings) (joined : AreJoined c d) (reads : Re
         within = subst (AllWithin d.longest) (sym (ap (λ (z : Window). z.given) u.same)) h.near_within;
         same_sent = ap (λ (z : Window). z.sent) u.same;
       }
-
-  no_packet_of : (input : Input) (packet : Option (List ℕ)) (v : Window) → ((y : List ℕ) → MayHandUp input (Some y) v → ⊥) → MayHandUp input packet v → packet ≡ None
-  no_packet_of input None v never up = refl
-  no_packet_of input (Some y) v never up = absurd (never y up)
 
   pub quiet_joint : (w : Stations) (l : Line (List ℕ)) → Joint MayAsk c d w l → AsUp c w.near.station l.near → (os : List (List ℕ)) → AreOrderly MayAsk (other c.role) c.longest os → ShowAll (numbered_on (other c.role) c.longest os) l.back
       → (input : Input) (step : Step) → after_input input step.packet (window_of c.window w.near.station) ≡ window_of c.window w.near.station
@@ -483,47 +533,13 @@ module _ (MayAsk : Type 0) (c d : Settings) (joined : AreJoined c d) (reads : Re
     },
   )
 
-  -- Up is left for any reason but a fault of the peer, or set-up anew
-  abbrev Leaves : Reason → Type 0
-  Leaves Retries = Unit {0}
-  Leaves Disc = Unit {0}
-  Leaves Dm = Unit {0}
-  Leaves FrmrSent = ⊥
-  Leaves FrmrGot = Unit {0}
-  Leaves Reset = ⊥
-  Leaves Local = Unit {0}
-  Leaves Counts = Unit {0}
-
-  last_parting : (reason : Reason) (fs : List PlainFrame) → Leaves reason → AreLast reason fs → AreParting MayAsk fs
-  last_parting Retries fs l h = rw h tt
-  last_parting Disc fs l h = rw h.1 tt
-  last_parting Dm fs l h = rw h tt
-  last_parting FrmrSent fs l h = absurd l
-  last_parting FrmrGot fs l h = rw h tt
-  last_parting Reset fs l h = absurd l
-  last_parting Local fs l h = rw h tt
-  last_parting Counts fs l h = rw h tt
-
-  last_away : (reason : Reason) (p : Phase) → Leaves reason → p ≡ ends_in reason → MayBeAway MayAsk p
-  last_away Retries p l h = rw h tt
-  last_away Disc p l h = rw h tt
-  last_away Dm p l h = rw h tt
-  last_away FrmrSent p l h = absurd l
-  last_away FrmrGot p l h = rw h tt
-  last_away Reset p l h = absurd l
-  last_away Local p l h = rw h tt
-  last_away Counts p l h = rw h tt
-
-  empty_lists : (o : Outgoing) (taken : List (List ℕ)) → o ≡ no_packet → taken ≡ [] → record { given = o.given; acked = o.acked; taken = taken } ≡ no_packets
-  empty_lists o taken none nothing_taken = rw (none, nothing_taken) refl
-
   pub ends_joint : (w : Stations) (l : Line (List ℕ)) → Joint MayAsk c d w l → is_up w.near.station.phase ≡ true → (os : List (List ℕ)) (step : Step) (reason : Reason) → Leaves reason
       → ShowAll (numbered_on (other c.role) c.longest os) l.back → AreOrderly MayAsk (other c.role) c.longest os
       → Tells w.near.station step → Ends reason step → Leads MayAsk c d w l l.back (after_step c w os [] step)
   ends_joint w l h up os step reason leaves shows orderly tells ends =
-      let away = last_away reason step.side.near.phase leaves ends.phase in
+      let away = last_away MayAsk reason step.side.near.phase leaves ends.phase in
       let off = away_is_not_up MayAsk step.side.near.phase away in
-      parts_joint w l h l.back os step h.kept h.reached shows orderly (last_parting reason step.side.out leaves ends.frames)
+      parts_joint w l h l.back os step h.kept h.reached shows orderly (last_parting MayAsk reason step.side.out leaves ends.frames)
       (record { away = away; empty = empty_lists step.side.near.outgoing step.side.near.taken ends.outgoing ends.taken }) ends.packet
       (leaving_notes MayAsk c w os step reason h.near_notes up ends.noted (not_afresh w.near.station step tells off) off)
 
@@ -587,15 +603,3 @@ module _ (MayAsk : Type 0) (c d : Settings) (joined : AreJoined c d) (reads : Re
       (subst (λ (bs : List (Frame (List ℕ))). IsReached c.window d.window (left bs)) front.is (near_moves l (Loses 0) h.reached tt))
       front.rest_shows orderly parting away none
       (quiet_notes MayAsk c w os [] step h.near_notes quiet (away_is_not_up MayAsk step.side.near.phase away.away ∙ sym was_away)))
-
-  pub declining_parting : (fs : List PlainFrame) → AreDeclining fs → AreParting MayAsk fs
-  declining_parting [] h = tt
-  declining_parting (dm f ∷ fs) h = declining_parting fs h
-  declining_parting (info ns nr p x ∷ fs) h = absurd h
-  declining_parting (rr command nr pf ∷ fs) h = absurd h
-  declining_parting (rnr command nr pf ∷ fs) h = absurd h
-  declining_parting (rej command nr pf ∷ fs) h = absurd h
-  declining_parting (sabm p ∷ fs) h = absurd h
-  declining_parting (disc p ∷ fs) h = absurd h
-  declining_parting (ua f ∷ fs) h = absurd h
-  declining_parting (frmr f why ∷ fs) h = absurd h

@@ -2,3 +2,4 @@
 pub mod StationRowLemmas
 pub mod HealingRowLemmas
 pub mod SessionRowLemmas
+pub mod PeerRowLemmas

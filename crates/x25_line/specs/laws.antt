@@ -5,8 +5,12 @@ pub mod StationClaims
 pub mod SessionClaims
 pub mod HealingPuts
 pub mod Line
+pub mod Peer
+pub mod PeerClaims
+pub mod PeerJoined
 pub mod SessionEvents
 pub mod SessionNumbers
 pub mod Sessions
 pub mod Stations
+pub mod Tape
 pub mod WholeNumbers

@@ -2,3 +2,4 @@
 pub mod StationRows
 pub mod SessionRows
 pub mod HealingRows
+pub mod PeerRows

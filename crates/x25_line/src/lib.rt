@@ -1,4 +1,5 @@
-//! Two ends and a line between them that keeps order and may lose any frame: bare ends, and laws of two link stations.
+//! Two ends and a line between them that keeps order and may lose any frame: bare ends, and laws of two link stations, and of
+//! one and any peer.
 #![tactic(auto)]
 
 mod healing;
@@ -14,8 +15,9 @@ pub use healing::{
     rest_shows, two_firings_heal,
 };
 pub use law::{
-    each_event_hands_one, each_session_event_hands_one, links_keep_order, links_move,
-    sessions_are_links, sessions_keep_order, sessions_move,
+    any_peer_keeps_order, each_event_hands_one, each_session_event_hands_one, links_keep_order,
+    links_move, odd_peer_moves, sessions_are_links, sessions_keep_order, sessions_move,
+    silent_tape_keeps_order,
 };
 pub use raw_error::{RawError, RawRefused};
 pub use raw_event::RawEvent;

@@ -255,7 +255,7 @@ module _ (c d : Settings) (joined : AreJoined c d) (reads : ReadsSpelled) (laws 
         let no_disc = declining_none disc_in of_disc t.side.out stays.frames in
         quiet_held c d w es w.met [] t (ap (λ (n : Notes). n.up) stays.quiet)
         (apart_held c d joined reads w h es w.near.begun t Gone stays.packet (omega arith) (out_off t.side.near.phase stays.out, near_high c d w h) (λ waiting. out_is_waiting t.side.near.phase stays.out waiting)
-        (declining_parting (Unit {0}) c d joined reads t.side.out stays.frames) no_ua left_line
+        (declining_parting (Unit {0}) t.side.out stays.frames) no_ua left_line
         (subst (λ (z : Phase). OwesAfter c d z w.out t.side.out es) (sym same)
         (owes_less w.near.station.phase _ _ _ _ (omega (arith, no_sabm)) (omega (arith, no_disc)) left_line.near_owes)))
 

@@ -1,0 +1,257 @@
+-- A tape of which nothing is told is one of a station and a peer that keeps the rules.
+use Rattle.std.proofs.Common.{◌≡◌, ◌==◌, ◌⊎◌, inl, inr, ℕ, ◌+◌, ◌-◌, ◌%◌, ◌<◌, ◌≤◌, arith, max, List, [], ◌∷◌, ◌++◌, length, Bool, true, false, if◌then◌else◌, Option, Some, None, Result, Ok, Err, refl, sym, ap, ◌∙◌, subst}
+use Rattle.std.specs.Prelude.{nat_le, nat_lt, ◌&&◌}
+use Rattle.std.specs.List.{slice_get}
+use Rattle.std.proofs.lemmas.Bool.{eqb-true, leb-true, ltb-true, and_parts}
+use Rattle.std.proofs.lemmas.List.{length_push}
+use Rattle.x25_frame.specs.Frame.{PlainFrame, info, rr, rnr, rej, sabm, disc, ua, dm, frmr}
+use Rattle.x25_frame.specs.Reading.{frame_of}
+use Rattle.x25_frame.specs.laws.ReadingLaw.{ReadsSpelled}
+use Rattle.x25_frame.specs.declared.error.FrameError.{FrameError}
+use Rattle.x25_frame.specs.declared.error.FrameError.TheVariants.{Short, BadFcs, BadAddress, Undefined, NoInfoAllowed, TooLong}
+use Rattle.x25_window.specs.code.Modulo.{resolved}
+use Rattle.x25_link.specs.Station.{Settings}
+use Rattle.x25_link.specs.Hearing.{other}
+use Rattle.x25_line.specs.laws.LawsBelow.{Laws}
+use Rattle.x25_line.proofs.Frames.{slice_get-last}
+use Rattle.x25_line.specs.laws.Peer.{Peer, MayNumber, MayAcknowledge, numbered_to, told_to, MaySend, hearing, IsWanted, taking, MayHear}
+use Rattle.x25_line.specs.laws.PeerJoined.{Joined, Ours, HandsDown, Sends, Hears, IsReached, at_start, goes_on}
+use Rattle.x25_line.specs.laws.Tape.{same_octets, is_item, judges_ack, then_ack, judges_item, judges_number, judges, notes, IsSilent, Begins, Acts, Shows, Comes}
+use Rattle.x25_line.specs.laws.PeerClaims.{KeepsOrder, OnAnySilentTape}
+use Rattle.x25_line.proofs.PeerRuns.{keeps_order}
+
+-- ---- packets that are the same
+
+octets_same : (xs ys : List ℕ) → same_octets xs ys ≡ true → xs ≡ ys
+octets_same [] [] h = refl
+octets_same (x ∷ xs) (y ∷ ys) h =
+    let parts = and_parts (x == y) (same_octets xs ys) h in
+    ap (λ (z : ℕ). z ∷ xs) (eqb-true x y parts.0) ∙ ap (λ (zs : List ℕ). y ∷ zs) (octets_same xs ys parts.1)
+octets_same [] (y ∷ ys) h = cc
+octets_same (x ∷ xs) [] h = cc
+
+item_same : (o : Option (List ℕ)) (packet : List ℕ) → is_item o packet ≡ true → o ≡ Some packet
+item_same None packet h = cc
+item_same (Some item) packet h = ap (λ (z : List ℕ). Some z) (octets_same item packet h)
+
+-- ---- by a test
+
+none_some : {A B : Type 0} (q : A) → None ≡ Some q → B
+none_some q h = absurd (never h)
+  where
+    never : None ≡ Some q → ⊥
+    never e = cc
+
+some_same : {A : Type 0} (x y : A) → Some x ≡ Some y → x ≡ y
+some_same x y e = cc
+
+low_resolved : (a x : ℕ) → a ≤ resolved a x
+low_resolved a x = omega arith
+
+not_below : (a b : ℕ) → a - 7 ≤ b → a ≤ b + 7
+not_below a b h = omega arith
+
+record Acked (nr : ℕ) (p q : Peer) : Type 0 where
+  pub t : ℕ
+  pub may : MayAcknowledge p nr t
+  pub is : q ≡ told_to t p
+
+ack_judged : (nr : ℕ) (p q : Peer) → judges_ack nr p ≡ Some q → Acked nr p q
+ack_judged nr p q h = go (nat_le (resolved p.told nr) (length p.taken) && resolved p.told nr % 8 == nr) refl h
+  where
+    go : (b : Bool) → (nat_le (resolved p.told nr) (length p.taken) && resolved p.told nr % 8 == nr) ≡ b → (if b then Some (told_to (resolved p.told nr) p) else None) ≡ Some q → Acked nr p q
+    go true test is =
+        let parts = and_parts (nat_le (resolved p.told nr) (length p.taken)) (resolved p.told nr % 8 == nr) test in
+        record {
+          t = resolved p.told nr;
+          may = record { number = sym (eqb-true (resolved p.told nr % 8) nr parts.1); rising = low_resolved p.told nr; taken = leb-true (resolved p.told nr) (length p.taken) parts.0 };
+          is = sym (some_same (told_to (resolved p.told nr) p) q is);
+        }
+    go false test is = none_some q is
+
+-- ---- I frames
+
+abbrev grown : List ℕ → Peer → Peer
+grown packet p = record p { given = p.given ++ packet ∷ [] }
+
+-- the peer once it was handed down what it sends, where that is new
+abbrev IsBase : Peer → List ℕ → Peer → Type 0
+IsBase p packet base = (base ≡ p) ⊎ (base ≡ grown packet p)
+
+record Numbered (ns : ℕ) (packet : List ℕ) (p u : Peer) : Type 0 where
+  pub base : Peer
+  pub from : IsBase p packet base
+  pub n : ℕ
+  pub may : MayNumber base ns packet n
+  pub is : u ≡ numbered_to n base
+  pub held : length u.given ≡ u.sent
+
+item_judged : (ns n : ℕ) (packet : List ℕ) (p u : Peer) → length p.given ≡ p.sent → n < p.acked + 7 → ns ≡ n % 8 → p.sent ≤ n + 7 → judges_item n packet p ≡ Some u → Numbered ns packet p u
+item_judged ns n packet p u held window number again h = go (n == p.sent) refl h
+  where
+    old : (b : Bool) → (nat_lt n p.sent && is_item (slice_get p.given n) packet) ≡ b → (if b then Some (numbered_to n p) else None) ≡ Some u → Numbered ns packet p u
+    old true test is =
+        let parts = and_parts (nat_lt n p.sent) (is_item (slice_get p.given n) packet) test in
+        let below : n < p.sent = ltb-true n p.sent parts.0 in
+        let same = some_same (numbered_to n p) u is in
+        record {
+          base = p;
+          from = inl refl;
+          n = n;
+          may = record { number = number; same = item_same (slice_get p.given n) packet parts.1; window = window; again = again };
+          is = sym same;
+          held = subst (λ (z : Peer). length z.given ≡ z.sent) same (held ∙ still p.sent n below);
+        }
+      where
+        still : (a b : ℕ) → b < a → a ≡ max a (b + 1)
+        still a b lt = omega arith
+    old false test is = none_some u is
+
+    go : (b : Bool) → (n == p.sent) ≡ b
+        → (if b then Some (numbered_to n (grown packet p)) else if nat_lt n p.sent && is_item (slice_get p.given n) packet then Some (numbered_to n p) else None) ≡ Some u → Numbered ns packet p u
+    go true test is =
+        let next : n ≡ p.sent = eqb-true n p.sent test in
+        let same = some_same (numbered_to n (grown packet p)) u is in
+        record {
+          base = grown packet p;
+          from = inr refl;
+          n = n;
+          may = record { number = number; same = slice_get-last p.given packet n (next ∙ sym held); window = window; again = again };
+          is = sym same;
+          held = subst (λ (z : Peer). length z.given ≡ z.sent) same (length_push p.given packet ∙ one_more (length p.given) p.sent n held next);
+        }
+      where
+        one_more : (a b m : ℕ) → a ≡ b → m ≡ b → a + 1 ≡ max b (m + 1)
+        one_more a b m e f = omega arith
+    go false test is = old (nat_lt n p.sent && is_item (slice_get p.given n) packet) refl is
+
+number_judged : (ns : ℕ) (packet : List ℕ) (p u : Peer) → length p.given ≡ p.sent → judges_number ns packet p ≡ Some u → Numbered ns packet p u
+number_judged ns packet p u held h = go (nat_lt n (p.acked + 7) && n % 8 == ns) refl h
+  where
+    n : ℕ
+    n = resolved (p.sent - 7) ns
+
+    go : (b : Bool) → (nat_lt n (p.acked + 7) && n % 8 == ns) ≡ b → (if b then judges_item n packet p else None) ≡ Some u → Numbered ns packet p u
+    go true test is =
+        let parts = and_parts (nat_lt n (p.acked + 7)) (n % 8 == ns) test in
+        item_judged ns n packet p u held (ltb-true n (p.acked + 7) parts.0) (sym (eqb-true (n % 8) ns parts.1)) (not_below p.sent n (low_resolved (p.sent - 7) ns)) is
+    go false test is = none_some u is
+
+-- ---- all that comes
+
+record Judged (r : Result PlainFrame FrameError) (p q : Peer) : Type 0 where
+  pub packet : List ℕ
+  pub base : Peer
+  pub from : IsBase p packet base
+  pub may : MaySend (Unit {0}) base r q
+  pub held : length q.given ≡ q.sent
+
+told_judged : (nr : ℕ) (p q : Peer) → length p.given ≡ p.sent → Acked nr p q → (r : Result PlainFrame FrameError) → ((t : ℕ) → MayAcknowledge p nr t → q ≡ told_to t p → MaySend (Unit {0}) p r q) → Judged r p q
+told_judged nr p q held a r may =
+    record { packet = []; base = p; from = inl refl; may = may a.t a.may a.is; held = subst (λ (z : Peer). length z.given ≡ z.sent) (sym a.is) held }
+
+same_judged : (p q : Peer) → length p.given ≡ p.sent → Some p ≡ Some q → (r : Result PlainFrame FrameError) → (q ≡ p → MaySend (Unit {0}) p r q) → Judged r p q
+same_judged p q held is r may =
+    let same = some_same p q is in
+    record { packet = []; base = p; from = inl refl; may = may (sym same); held = subst (λ (z : Peer). length z.given ≡ z.sent) same held }
+
+info_judged : (ns nr : ℕ) (pf : Bool) (packet : List ℕ) (p q : Peer) → length p.given ≡ p.sent → then_ack nr (judges_number ns packet p) ≡ Some q → Judged (Ok (info ns nr pf packet)) p q
+info_judged ns nr pf packet p q held h = go (judges_number ns packet p) refl h
+  where
+    go : (o : Option Peer) → judges_number ns packet p ≡ o → then_ack nr o ≡ Some q → Judged (Ok (info ns nr pf packet)) p q
+    go None number is = none_some q is
+    go (Some u) number is =
+        let n = number_judged ns packet p u held number in
+        let a = ack_judged nr u q is in
+        let may = subst (λ (z : Peer). MayAcknowledge z nr a.t) n.is a.may in
+        record {
+          packet = packet;
+          base = n.base;
+          from = n.from;
+          may = (n.n, a.t, n.may, record { number = may.number; rising = may.rising; taken = may.taken }, a.is ∙ ap (told_to a.t) n.is);
+          held = subst (λ (z : Peer). length z.given ≡ z.sent) (sym a.is) n.held;
+        }
+
+judged : (r : Result PlainFrame FrameError) (p q : Peer) → length p.given ≡ p.sent → judges r p ≡ Some q → Judged r p q
+judged (Ok (info ns nr pf packet)) p q held h = info_judged ns nr pf packet p q held h
+judged (Ok (rr command nr pf)) p q held h = told_judged nr p q held (ack_judged nr p q h) (Ok (rr command nr pf)) (λ t may is. (t, may, is))
+judged (Ok (rnr command nr pf)) p q held h = told_judged nr p q held (ack_judged nr p q h) (Ok (rnr command nr pf)) (λ t may is. (t, may, is))
+judged (Ok (rej command nr pf)) p q held h = told_judged nr p q held (ack_judged nr p q h) (Ok (rej command nr pf)) (λ t may is. (t, may, is))
+judged (Ok (sabm pf)) p q held h = same_judged p q held h (Ok (sabm pf)) (λ is. is)
+judged (Ok (disc pf)) p q held h = same_judged p q held h (Ok (disc pf)) (λ is. is)
+judged (Ok (ua f)) p q held h = same_judged p q held h (Ok (ua f)) (λ is. is)
+judged (Ok (dm f)) p q held h = same_judged p q held h (Ok (dm f)) (λ is. is)
+judged (Ok (frmr f why)) p q held h = same_judged p q held h (Ok (frmr f why)) (λ is. is)
+judged (Err Short) p q held h = same_judged p q held h (Err Short) (λ is. is)
+judged (Err BadFcs) p q held h = same_judged p q held h (Err BadFcs) (λ is. is)
+judged (Err BadAddress) p q held h = same_judged p q held h (Err BadAddress) (λ is. is)
+judged (Err (Undefined control)) p q held h = same_judged p q held h (Err (Undefined control)) (λ is. (tt, is))
+judged (Err (NoInfoAllowed control)) p q held h = same_judged p q held h (Err (NoInfoAllowed control)) (λ is. (tt, is))
+judged (Err TooLong) p q held h = same_judged p q held h (Err TooLong) (λ is. (tt, is))
+
+-- ---- what the station sends
+
+may_take_wanted : (ns : ℕ) (p : Peer) (b : Bool) → (ns == length p.taken % 8) ≡ b → IsWanted b ns p
+may_take_wanted ns p true test = eqb-true ns (length p.taken % 8) test
+may_take_wanted ns p false test = tt
+
+noted : (r : Result PlainFrame FrameError) (p : Peer) → MayHear p r (notes r p)
+noted (Ok (info ns nr pf packet)) p = (true, ns == length p.taken % 8, may_take_wanted ns p (ns == length p.taken % 8) refl, refl)
+noted (Ok (rr command nr pf)) p = (true, refl)
+noted (Ok (rnr command nr pf)) p = (true, refl)
+noted (Ok (rej command nr pf)) p = (true, refl)
+noted (Ok (sabm pf)) p = refl
+noted (Ok (disc pf)) p = refl
+noted (Ok (ua f)) p = refl
+noted (Ok (dm f)) p = refl
+noted (Ok (frmr f why)) p = refl
+noted (Err e) p = refl
+
+taking_held : (b : Bool) (x : List ℕ) (p : Peer) → length p.given ≡ p.sent → length (taking b x p).given ≡ (taking b x p).sent
+taking_held true x p h = h
+taking_held false x p h = h
+
+noted_held : (r : Result PlainFrame FrameError) (p : Peer) → length p.given ≡ p.sent → length (notes r p).given ≡ (notes r p).sent
+noted_held (Ok (info ns nr pf packet)) p h = taking_held (ns == length p.taken % 8) packet (hearing true nr p) h
+noted_held (Ok (rr command nr pf)) p h = h
+noted_held (Ok (rnr command nr pf)) p h = h
+noted_held (Ok (rej command nr pf)) p h = h
+noted_held (Ok (sabm pf)) p h = h
+noted_held (Ok (disc pf)) p h = h
+noted_held (Ok (ua f)) p h = h
+noted_held (Ok (dm f)) p h = h
+noted_held (Ok (frmr f why)) p h = h
+noted_held (Err e) p h = h
+
+-- ---- tapes
+
+record Explained (c : Settings) (w : Joined) : Type 0 where
+  pub reached : IsReached (Unit {0}) c w
+  pub held : length w.peer.given ≡ w.peer.sent
+
+base_reached : (c : Settings) (w : Joined) (packet : List ℕ) (base : Peer) → IsReached (Unit {0}) c w → IsBase w.peer packet base → IsReached (Unit {0}) c (record w { peer = base })
+base_reached c w packet base reached (inl is) = subst (λ (p : Peer). IsReached (Unit {0}) c (record w { peer = p })) (sym is) reached
+base_reached c w packet base reached (inr is) =
+    subst (λ (p : Peer). IsReached (Unit {0}) c (record w { peer = p })) (sym is) (goes_on w (record w { peer = grown packet w.peer }) reached (HandsDown packet))
+
+explained : (c : Settings) (w : Joined) → IsSilent c w → Explained c w
+explained c w Begins = record { reached = at_start; held = refl }
+explained c w (Acts v act h) =
+    let before = explained c v h in
+    record { reached = goes_on v w before.reached (Ours act); held = before.held }
+explained c w (Shows v octets rest is h) =
+    let before = explained c v h in
+    record {
+      reached = goes_on v w before.reached (Hears octets rest (notes (frame_of c.role c.longest octets) v.peer) is (noted (frame_of c.role c.longest octets) v.peer));
+      held = noted_held (frame_of c.role c.longest octets) v.peer before.held;
+    }
+explained c w (Comes v octets q is h) =
+    let before = explained c v h in
+    let j = judged (frame_of (other c.role) c.longest octets) v.peer q before.held is in
+    record {
+      reached = goes_on (record v { peer = j.base }) w (base_reached c v j.packet j.base before.reached j.from) (Sends octets q j.may);
+      held = j.held;
+    }
+
+pub silence_keeps_order : ReadsSpelled → Laws → OnAnySilentTape KeepsOrder
+silence_keeps_order reads laws c low high w silent once = keeps_order reads laws c low high w (explained c w silent).reached once

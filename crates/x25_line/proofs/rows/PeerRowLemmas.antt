@@ -1,0 +1,44 @@
+-- The worked row, by computing.
+use Rattle.std.proofs.Common.{◌≡◌, [], ◌∷◌, ◌++◌, true, false, Result, Ok, arith, refl, sym, ap, subst}
+use Rattle.x25_bits.specs.declared.role.Role.TheVariants.{Dte, Dce}
+use Rattle.x25_frame.specs.Frame.{PlainFrame}
+use Rattle.x25_frame.specs.Spelling.{spelling_of}
+use Rattle.x25_frame.specs.Reading.{frame_of}
+use Rattle.x25_frame.specs.laws.ReadingLaw.{ReadsSpelled}
+use Rattle.x25_frame.specs.declared.error.FrameError.{FrameError}
+use Rattle.x25_link.specs.Station.{pumped}
+use Rattle.x25_line.specs.laws.Stations.{Stations, Put, Deliver, acts}
+use Rattle.x25_line.specs.rows.StationRows.{dte}
+use Rattle.x25_line.proofs.rows.StationRowLemmas.{taken_as, comes, packet_frame, packet_reads}
+use Rattle.x25_line.specs.laws.Peer.{Peer, fresh_peer, MaySend, MayHear, numbered_to, told_to}
+use Rattle.x25_line.specs.laws.PeerJoined.{Joined, start, our_end, with_peer, Ours, HandsDown, Sends, Hears, IsReached, at_start, goes_on}
+use Rattle.x25_line.specs.rows.PeerRows.{polling_frame, OddPeerMoves}
+
+module _ (reads : ReadsSpelled) where
+  polling_reads : frame_of Dce 128 (spelling_of Dce polling_frame) ≡ Ok polling_frame
+  polling_reads = reads Dce 128 polling_frame _ (record { in_range = (omega arith, omega arith); carries = tt; within = omega arith; spelling = refl })
+
+  pub odd_peer_moves : OddPeerMoves
+  unfolding pumped
+  odd_peer_moves =
+      let w1 : Joined = with_peer fresh_peer (acts dte (Put (5 ∷ [])) (our_end start)) in
+      let r1 : IsReached ⊥ dte w1 = goes_on start w1 at_start (Ours (Put (5 ∷ []))) in
+      let w2 : Joined = record w1 { peer = record w1.peer { given = w1.peer.given ++ (7 ∷ []) ∷ [] } } in
+      let r2 : IsReached ⊥ dte w2 = goes_on w1 w2 r1 (HandsDown (7 ∷ [])) in
+      let p3 : Peer = record w2.peer { taken = (5 ∷ []) ∷ [] } in
+      let w3 : Joined = record w2 { peer = p3; out = [] } in
+      let r3 : IsReached ⊥ dte w3 = goes_on w2 w3 r2
+      (Hears (spelling_of Dte packet_frame) [] p3 refl (subst (λ (r : Result PlainFrame FrameError). MayHear w2.peer r p3) (sym (packet_reads reads)) (false, true, refl, refl)))
+      in
+      let q : Peer = told_to 0 (numbered_to 0 p3) in
+      let w4 : Joined = record w3 { peer = q; back = spelling_of Dce polling_frame ∷ [] } in
+      let r4 : IsReached ⊥ dte w4 = goes_on w3 w4 r3
+      (Sends (spelling_of Dce polling_frame) q (subst (λ (r : Result PlainFrame FrameError). MaySend ⊥ p3 r q) (sym polling_reads)
+      (0, 0, record { number = refl; same = refl; window = omega arith; again = omega arith }, record { number = refl; rising = omega arith; taken = omega arith }, refl)))
+      in
+      let w5 : Joined = with_peer q (acts dte Deliver (our_end w4)) in
+      let r5 : IsReached ⊥ dte w5 = goes_on w4 w5 r4 (Ours Deliver) in
+      let same : acts dte Deliver (our_end w4) ≡ taken_as dte (Ok polling_frame) (spelling_of Dce polling_frame) [] (our_end w4) =
+      comes dte (Ok polling_frame) (spelling_of Dce polling_frame) [] (our_end w4) polling_reads refl
+      in
+      (w5, r5, ap (λ (v : Stations). v.near.up) same, refl, ap (λ (v : Stations). v.near.came_up) same)
