@@ -18,6 +18,8 @@ pub mod PeerActs
 pub mod PeerMoves
 pub mod PeerRuns
 pub mod TapeLemmas
+pub mod StationSays
+pub mod StationPeers
 pub mod rows
 pub mod HealingLines
 pub mod HealingSteps

@@ -7,7 +7,6 @@ use Rattle.x25_frame.specs.Frame.{PlainFrame, info, rr, rnr, rej, sabm, disc, ua
 use Rattle.x25_frame.specs.Reading.{frame_of}
 use Rattle.x25_frame.specs.laws.ReadingLaw.{ReadsSpelled}
 use Rattle.x25_frame.specs.declared.error.FrameError.{FrameError}
-use Rattle.x25_frame.specs.declared.error.FrameError.TheVariants.{Short, BadFcs, BadAddress, Undefined, NoInfoAllowed, TooLong}
 use Rattle.x25_window.specs.laws.Window.{End, Frame, after}
 use Rattle.x25_window.specs.laws.Window.Step.{HandDown}
 use Rattle.x25_link.specs.declared.phase.Phase.{Phase}
@@ -17,8 +16,8 @@ use Rattle.x25_link.specs.laws.NoteLaw.{IsQuiet}
 use Rattle.x25_link.specs.declared.phase.Reason.TheVariants.{Retries, Local, Counts}
 use Rattle.x25_link.specs.declared.error.LinkError.{LinkError}
 use Rattle.x25_link.specs.Station.{Settings, LinkStation, is_up, with_nothing}
-use Rattle.x25_link.specs.Hearing.{rejects, Step, other}
-use Rattle.x25_link.specs.Link.{alone, closed_by, hears, take_step, put_step, put_refusal, timer_step, timer_refusal, timer_runs, connect_step, connect_refusal, disconnect_step, disconnect_refusal, abandon_step}
+use Rattle.x25_link.specs.Hearing.{Step, other}
+use Rattle.x25_link.specs.Link.{take_step, put_step, put_refusal, timer_step, timer_refusal, timer_runs, connect_step, connect_refusal, disconnect_step, disconnect_refusal, abandon_step}
 use Rattle.x25_link.specs.laws.WindowMachine.{Window, hands_down, nothing}
 use Rattle.x25_link.specs.laws.SetUp.{Is, TakesPart}
 use Rattle.x25_link.specs.laws.WindowLaw.{Follows, IsOut, sets_up, StaysOut}
@@ -29,12 +28,12 @@ use Rattle.x25_line.specs.laws.LawsBelow.{Laws}
 use Rattle.x25_line.proofs.StationLines.{consed, AreParting, visible_reads}
 use Rattle.x25_line.proofs.StationSends.{within_push}
 use Rattle.x25_line.proofs.StationSteps.{MayBeAway, away_is_not_up, out_is_away, AsUp, IsAway, FitsEnd, not_both, declining_parting}
-use Rattle.x25_line.proofs.StationAway.{closed_still, closed_takes, waits_on, waiting_parting, up_takes_part, connects_from, second_false}
+use Rattle.x25_line.proofs.StationAway.{closed_takes, waits_on, waiting_parting, up_takes_part, connects_from, is_up_phase, frmr_three, second_false}
 use Rattle.x25_line.specs.laws.Peer.{Peer}
 use Rattle.x25_line.proofs.Kept.{Way-hand, Way-unheard, Way-passed}
 use Rattle.x25_line.proofs.PeerLines.{BearAll, bears_first, bears_lost, bears_damaged}
 use Rattle.x25_line.proofs.PeerSends.{PeerKept}
-use Rattle.x25_line.proofs.PeerSteps.{end_of, IsLapb, AreLapb, MayAsk, Joint, HoldsAt, Stage, left, stays_holds, parts_holds, quiet_holds, ends_holds, NoSabm, NotesNoFrmr, IsFault, read_holds}
+use Rattle.x25_line.proofs.PeerSteps.{end_of, IsLapb, AreLapb, MayAsk, Joint, HoldsAt, Stage, left, stays_holds, parts_holds, quiet_holds, ends_holds, NoSabm, NotesNoFrmr, read_holds}
 
 -- ---- the line to our station
 
@@ -49,42 +48,10 @@ lapb_damaged Odd from n1 octets e [] i h = h
 lapb_damaged Odd from n1 octets e (o ∷ os) zero h = (e, h.1)
 lapb_damaged Odd from n1 octets e (o ∷ os) (suc i) h = (h.0, lapb_damaged Odd from n1 octets e os i h.1)
 
--- ---- FRMR has three octets
-
-is_up_phase : (q : Phase) → is_up q ≡ true → q ≡ Up
-is_up_phase Down e = not_both false e refl
-is_up_phase Waiting e = not_both false e refl
-is_up_phase Up e = refl
-is_up_phase Closed e = not_both false e refl
-
-closed_out : (k : ℕ) (step : Step) → is_up step.side.near.phase ≡ false → (closed_by k step).side.out ≡ step.side.out
-closed_out k step off = ap (λ (z : Step). z.side.out) (closed_still k step off)
-
-same_length : (b f : Bool) (xs ys : List ℕ) → frmr b xs ∷ [] ≡ frmr f ys ∷ [] → length xs ≡ length ys
-same_length b f xs ys e = ap (λ (fs : List PlainFrame). octets_in fs) e
-  where
-    octets_in : List PlainFrame → ℕ
-    octets_in (frmr g zs ∷ fs) = length zs
-    octets_in fs = 0
-
-frmr_row : (c : Settings) (octets : List ℕ) (s : LinkStation) (r : Result PlainFrame FrameError) (f : Bool) (why : List ℕ) → IsFault r → (closed_by c.window (hears c octets r Up (alone s))).side.out ≡ frmr f why ∷ [] → length why ≡ 3
-frmr_row c octets s (Err (Undefined control)) f why is out = sym (same_length _ f _ why (sym (closed_out c.window (rejects c octets 1 (alone s)) refl) ∙ out))
-frmr_row c octets s (Err (NoInfoAllowed control)) f why is out = sym (same_length _ f _ why (sym (closed_out c.window (rejects c octets 3 (alone s)) refl) ∙ out))
-frmr_row c octets s (Err TooLong) f why is out = sym (same_length _ f _ why (sym (closed_out c.window (rejects c octets 4 (alone s)) refl) ∙ out))
-frmr_row c octets s (Err Short) f why is out = absurd is
-frmr_row c octets s (Err BadFcs) f why is out = absurd is
-frmr_row c octets s (Err BadAddress) f why is out = absurd is
-frmr_row c octets s (Ok frame) f why is out = absurd is
-
-frmr_three : (c : Settings) (octets : List ℕ) (s : LinkStation) → s.phase ≡ Up → (r : Result PlainFrame FrameError) → r ≡ frame_of (other c.role) c.longest octets → (f : Bool) (why : List ℕ) → IsFault r
-    → (take_step c octets s).side.out ≡ frmr f why ∷ [] → length why ≡ 3
-frmr_three c octets s up r read f why is out =
-    frmr_row c octets s r f why is
-    (subst (λ (q : Phase). (closed_by c.window (hears c octets r q (alone s))).side.out ≡ frmr f why ∷ []) up
-    (subst (λ (z : Result PlainFrame FrameError). (closed_by c.window (hears c octets z s.phase (alone s))).side.out ≡ frmr f why ∷ []) (sym read) out))
+-- ---- what comes
 
 -- octets that set no link up
-sets_no_link_up : (r : Result PlainFrame FrameError) → NoSabm r → sets_up r ≡ false
+pub sets_no_link_up : (r : Result PlainFrame FrameError) → NoSabm r → sets_up r ≡ false
 sets_no_link_up (Ok (info ns nr p x)) h = refl
 sets_no_link_up (Ok (rr command nr pf)) h = refl
 sets_no_link_up (Ok (rnr command nr pf)) h = refl

@@ -48,13 +48,6 @@ abbrev pub AreLapb : Type 0 → Role → ℕ → List (List ℕ) → Type 0
 AreLapb Odd from n1 [] = Unit {0}
 AreLapb Odd from n1 (o ∷ os) = IsLapb Odd (frame_of from n1 o) × AreLapb Odd from n1 os
 
--- what is answered by FRMR
-abbrev pub IsFault : Result PlainFrame FrameError → Type 0
-IsFault (Err (Undefined control)) = Unit {0}
-IsFault (Err (NoInfoAllowed control)) = Unit {0}
-IsFault (Err TooLong) = Unit {0}
-IsFault r = ⊥
-
 -- no frame that sets the link up anew
 abbrev pub NoSabm : Result PlainFrame FrameError → Type 0
 NoSabm r = (pf : Bool) → r ≡ Ok (sabm pf) → ⊥
@@ -336,7 +329,7 @@ module _ (Odd : Type 0) (c : Settings) (p : Peer) (reads : ReadsSpelled) where
       (record { away = subst (MayBeAway MayAsk) (sym ends.phase) tt; empty = empty_lists step.side.near.outgoing step.side.near.taken ends.outgoing ends.taken }) ends.packet (λ never. absurd (never odd))
 
   pub read_holds : (w : Stations) (e : End (List ℕ)) (gs hs : List (Frame (List ℕ))) → Joint Odd c p w.near w.out w.back e gs hs → AsUp c w.near.station e → (r : Result PlainFrame FrameError) (os : List (List ℕ)) (step : Step)
-      → NoSabm r → IsLapb Odd r → ((f : Bool) (why : List ℕ) → IsFault r → step.side.out ≡ frmr f why ∷ [] → length why ≡ 3) → AreLapb Odd (other c.role) c.longest os → BearAll (consed (number_in r) (numbered_on (other c.role) c.longest os)) hs
+      → NoSabm r → IsLapb Odd r → ((f : Bool) (why : List ℕ) → ending_of r (window_of c.window w.near.station) ≡ Some FrmrSent → step.side.out ≡ frmr f why ∷ [] → length why ≡ 3) → AreLapb Odd (other c.role) c.longest os → BearAll (consed (number_in r) (numbered_on (other c.role) c.longest os)) hs
       → Follows (ending_of r (window_of c.window w.near.station)) c.window (brought_by r) w.near.station step
       → HoldsAt Odd c p (after_step c w os [] step)
   read_holds w e gs hs h u (Ok (info ns nr pf x)) os step no_sabm is three lapb shows follows =
@@ -359,6 +352,6 @@ module _ (Odd : Type 0) (c : Settings) (p : Peer) (reads : ReadsSpelled) where
   read_holds w e gs hs h u (Err Short) os step no_sabm is three lapb shows follows = quiet_holds w e gs hs hs h u os nothing step h.kept shows lapb (λ packet. refl) (λ y k. k) follows
   read_holds w e gs hs h u (Err BadFcs) os step no_sabm is three lapb shows follows = quiet_holds w e gs hs hs h u os nothing step h.kept shows lapb (λ packet. refl) (λ y k. k) follows
   read_holds w e gs hs h u (Err BadAddress) os step no_sabm is three lapb shows follows = quiet_holds w e gs hs hs h u os nothing step h.kept shows lapb (λ packet. refl) (λ y k. k) follows
-  read_holds w e gs hs h u (Err (Undefined control)) os step no_sabm is three lapb shows follows = frmr_holds w e gs hs h os step is shows lapb (λ f why out. three f why tt out) follows
-  read_holds w e gs hs h u (Err (NoInfoAllowed control)) os step no_sabm is three lapb shows follows = frmr_holds w e gs hs h os step is shows lapb (λ f why out. three f why tt out) follows
-  read_holds w e gs hs h u (Err TooLong) os step no_sabm is three lapb shows follows = frmr_holds w e gs hs h os step is shows lapb (λ f why out. three f why tt out) follows
+  read_holds w e gs hs h u (Err (Undefined control)) os step no_sabm is three lapb shows follows = frmr_holds w e gs hs h os step is shows lapb (λ f why out. three f why refl out) follows
+  read_holds w e gs hs h u (Err (NoInfoAllowed control)) os step no_sabm is three lapb shows follows = frmr_holds w e gs hs h os step is shows lapb (λ f why out. three f why refl out) follows
+  read_holds w e gs hs h u (Err TooLong) os step no_sabm is three lapb shows follows = frmr_holds w e gs hs h os step is shows lapb (λ f why out. three f why refl out) follows
