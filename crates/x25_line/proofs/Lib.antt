@@ -11,6 +11,7 @@ pub mod StationAway
 pub mod StationRuns
 pub mod StationClaimLemmas
 pub mod StationEvents
+pub mod StationActs
 pub mod PeerLines
 pub mod PeerSends
 pub mod PeerSteps

@@ -20,7 +20,8 @@ use Rattle.x25_line.specs.laws.PeerClaims.{WithAnyPeer, WithAnyLapbPeer, KeepsOr
 use Rattle.x25_line.proofs.Kept.{Way-unheard, Way-passed, Way-acked}
 use Rattle.x25_line.proofs.PeerLines.{BearAll, bears_lost, bears_damaged}
 use Rattle.x25_line.proofs.PeerSends.{PeerKept}
-use Rattle.x25_line.proofs.PeerSteps.{end_of, MayAsk, Holds}
+use Rattle.x25_line.proofs.PeerSteps.{end_of, Holds}
+use Rattle.x25_line.proofs.StationActs.{MayAsk}
 use Rattle.x25_line.proofs.PeerActs.{acts_holds}
 use Rattle.x25_line.proofs.PeerMoves.{handed_holds, sent_holds, heard_holds}
 

@@ -1,7 +1,6 @@
 -- Each act of one of two stations is what a peer may do, so each of them is a peer of the other.
-use Rattle.std.proofs.Common.{◌≡◌, ℕ, ◌+◌, ◌%◌, suc, ◌≤◌, List, [], ◌∷◌, ◌++◌, inl, inr, length, take, remove, Bool, true, false, if◌then◌else◌, Option, Some, None, Result, Ok, Err, refl, sym, ap, ◌∙◌, subst, arith, append-nil}
-use Rattle.std.specs.Prelude.{nat_le, nat_lt, option_to_list}
-use Rattle.std.proofs.lemmas.Bool.{leb-true}
+use Rattle.std.proofs.Common.{◌≡◌, ℕ, ◌+◌, ◌%◌, ◌≤◌, List, [], ◌∷◌, ◌++◌, inl, inr, length, take, remove, Bool, true, false, if◌then◌else◌, Option, Some, None, Result, Ok, Err, refl, sym, ap, ◌∙◌, subst, arith, append-nil}
+use Rattle.std.specs.Prelude.{nat_le, option_to_list}
 use Rattle.std.proofs.lemmas.List.{length_push}
 use Rattle.x25_bits.specs.declared.role.Role.{Role}
 use Rattle.x25_frame.specs.Frame.{PlainFrame, info, rr, rnr, rej, sabm, disc, ua, dm, frmr}
@@ -12,17 +11,14 @@ use Rattle.x25_frame.specs.declared.error.FrameError.TheVariants.{Short, BadFcs,
 use Rattle.x25_window.specs.code.Modulo.{resolved}
 use Rattle.x25_window.specs.laws.Window.{after}
 use Rattle.x25_window.specs.laws.Window.Step.{HandDown, Hear, Take}
-use Rattle.x25_link.specs.declared.phase.Phase.{Phase}
-use Rattle.x25_link.specs.declared.phase.Phase.TheVariants.{Down, Waiting, Up, Closed}
 use Rattle.x25_link.specs.declared.phase.Reason.{Reason}
-use Rattle.x25_link.specs.declared.phase.Reason.TheVariants.{Retries, Disc, Dm, FrmrSent, FrmrGot, Local, Counts}
+use Rattle.x25_link.specs.declared.phase.Reason.TheVariants.{Disc, Dm, FrmrSent, FrmrGot}
 use Rattle.x25_link.specs.declared.error.LinkError.{LinkError}
-use Rattle.x25_link.specs.Station.{Settings, LinkStation, is_up, with_nothing}
+use Rattle.x25_link.specs.Station.{Settings, LinkStation, is_up}
 use Rattle.x25_link.specs.Hearing.{Step, other}
-use Rattle.x25_link.specs.Link.{take_step, put_step, put_refusal, timer_step, timer_refusal, timer_runs, connect_step, connect_refusal, disconnect_step, disconnect_refusal, abandon_step}
+use Rattle.x25_link.specs.Link.{take_step, put_step, put_refusal, timer_refusal, connect_refusal, disconnect_refusal}
 use Rattle.x25_link.specs.laws.WindowMachine.{Window, Input, hands_down, receives, nothing}
-use Rattle.x25_link.specs.laws.SetUp.{Is, TakesPart}
-use Rattle.x25_link.specs.laws.WindowLaw.{window_of, after_input, MayHandUp, ending_of, brought_by, Stays, Ends, Follows, IsOut, StaysOut}
+use Rattle.x25_link.specs.laws.WindowLaw.{window_of, after_input, MayHandUp, ending_of, brought_by, Stays, Ends, Follows}
 use Rattle.x25_line.specs.laws.InWindow.{IsPrefix}
 use Rattle.x25_line.specs.laws.Stations.{StationEnd, Stations, Act, Put, Deliver, T1, Connect, Disconnect, Abandon, Lose, Damage, Event, Near, Far, after_step, unless, delivered, replaced, is_visible, acts, swapped, happens, run, start}
 use Rattle.x25_line.specs.laws.StationClaims.{AreJoined, IsSetUpOnce, Always, BothInOrder, InOrder, HandsOne}
@@ -30,15 +26,13 @@ use Rattle.x25_line.specs.laws.LawsBelow.{Laws}
 use Rattle.x25_line.specs.laws.Peer.{Peer, fresh_peer, hearing, IsWanted, taking, MayHear}
 use Rattle.x25_line.specs.laws.PeerJoined.{our_end, with_peer, Ours, HandsDown, Hears, Loses, Damages, IsReached, at_start, goes_on}
 use Rattle.x25_line.specs.laws.StationPeers.{seen, IsPeer, AreBothPeers}
-use Rattle.x25_line.proofs.StationLines.{AreParting}
 use Rattle.x25_line.proofs.StationSends.{AllWithin, within_push}
-use Rattle.x25_line.proofs.StationSteps.{MayBeAway, away_is_not_up, out_is_away, AsUp, IsAway, FitsEnd, not_both, no_packet_of, Leaves, last_parting, last_away, empty_lists, declining_parting}
-use Rattle.x25_line.proofs.StationAway.{closed_takes, waits_on, waiting_parting, up_takes_part, connects_from, is_up_phase, frmr_three, second_false}
+use Rattle.x25_line.proofs.StationSteps.{MayBeAway, AsUp, IsAway, FitsEnd, no_packet_of, Leaves, empty_lists}
+use Rattle.x25_line.proofs.StationAway.{is_up_phase, frmr_three}
 use Rattle.x25_line.proofs.StationEvents.{each_hands_one}
 use Rattle.x25_line.proofs.StationRuns.{joined_swapped, once_before}
 use Rattle.x25_line.proofs.StationSays.{machine_of, AllFree, parting_free, frmr_free, free_all, runs_said}
-use Rattle.x25_line.proofs.PeerSteps.{MayAsk, NoSabm}
-use Rattle.x25_line.proofs.PeerActs.{sets_no_link_up}
+use Rattle.x25_line.proofs.StationActs.{MayAsk, NoSabm, Parts, ends_parts, Lasts, acts_last}
 use Rattle.x25_line.proofs.PeerRuns.{reached_order}
 
 -- the near end of w, with settings d, as a peer of the far end, with settings c
@@ -113,14 +107,11 @@ module _ (c d : Settings) (joined : AreJoined c d) (reads : ReadsSpelled) (laws 
         up = r.up_is ∙ ap (λ (o : Option (List ℕ)). w.near.up ++ option_to_list o) (sym none);
       }
 
-  parting_seen : (w : Stations) (os : List (List ℕ)) (step : Step) (v : Window) → Ready w os [] None v → AreParting MayAsk step.side.out → IsAway MayAsk step.side.near → step.packet ≡ None
-      → Seen c d (after_step d w os [] step)
-  parting_seen w os step v r parting away none = parts_seen w os step v r (parting_free reads d.role d.longest MayAsk step.side.out parting) away none
+  parting_seen : (w : Stations) (os : List (List ℕ)) (step : Step) (v : Window) → Ready w os [] None v → Parts step → Seen c d (after_step d w os [] step)
+  parting_seen w os step v r parts = parts_seen w os step v r (parting_free reads d.role d.longest MayAsk step.side.out parts.frames) parts.away parts.packet
 
   ends_seen : (w : Stations) (os : List (List ℕ)) (step : Step) (v : Window) (reason : Reason) → Leaves reason → Ready w os [] None v → Ends reason step → Seen c d (after_step d w os [] step)
-  ends_seen w os step v reason leaves r ends =
-      parting_seen w os step v r (last_parting MayAsk reason step.side.out leaves ends.frames)
-      (record { away = last_away MayAsk reason step.side.near.phase leaves ends.phase; empty = empty_lists step.side.near.outgoing step.side.near.taken ends.outgoing ends.taken }) ends.packet
+  ends_seen w os step v reason leaves r ends = parting_seen w os step v r (ends_parts reason step leaves ends)
 
   frmr_seen : (w : Stations) (os : List (List ℕ)) (step : Step) (v : Window) → Ready w os [] None v → ((f : Bool) (why : List ℕ) → step.side.out ≡ frmr f why ∷ [] → length why ≡ 3) → Ends FrmrSent step
       → Seen c d (after_step d w os [] step)
@@ -288,61 +279,9 @@ module _ (c d : Settings) (joined : AreJoined c d) (reads : ReadsSpelled) (laws 
 
   -- ---- each act
 
-  seen_unless : (o : Option LinkError) (w v : Stations) → Seen c d w → (o ≡ None → Seen c d v) → Seen c d (unless o w v)
-  seen_unless (Some e) w v h g = h
-  seen_unless None w v h g = g refl
-
-  seen_if : (b : Bool) (w v : Stations) → Seen c d w → (b ≡ true → Seen c d v) → Seen c d (if b then v else w)
-  seen_if true w v h g = g refl
-  seen_if false w v h g = h
-
-  deliver_seen : (w : Stations) (os : List (List ℕ)) → w.back ≡ os → Seen c d w → (delivered d os w).near.came_up ≡ false → Seen c d (delivered d os w)
-  deliver_seen w [] is h once = h
-  deliver_seen w (o ∷ os) is h once = go h.fits
-    where
-      s : LinkStation
-      s = w.near.station
-
-      r : Result PlainFrame FrameError
-      r = frame_of (other d.role) d.longest o
-
-      step : Step
-      step = take_step d o s
-
-      not_up : step.notes.up ≡ false
-      not_up = second_false w.near.came_up step.notes.up once
-
-      no_sabm : TakesPart s.phase → NoSabm r
-      no_sabm part pf spelled = not_both step.notes.up (laws.set_up.sets_up d o s part pf spelled).up not_up
-
-      ready : Ready w os [] None (machine_of d.window h.peer)
-      ready = passed w h o os is
-
-      stays : IsAway MayAsk s → StaysOut step → Seen c d (after_step d w os [] step)
-      stays away out =
-          let off = away_is_not_up MayAsk s.phase away.away in
-          parting_seen w os step (machine_of d.window h.peer) ready (declining_parting MayAsk step.side.out out.frames)
-          (record { away = out_is_away MayAsk step.side.near.phase out.out; empty = (laws.take_tells d o s).empty out.quiet off away.empty }) out.packet
-
-      waits : IsAway MayAsk s → s.phase ≡ Waiting → Seen c d (after_step d w os [] step)
-      waits away waiting =
-          let i = laws.set_up.waits d o s waiting r refl in
-          parting_seen w os step (machine_of d.window h.peer) ready (subst (AreParting MayAsk) (sym i.out) (waiting_parting MayAsk r))
-          (subst (IsAway MayAsk) (sym (i.near ∙ waits_on r s (sym i.up ∙ not_up))) away) i.packet
-
-      by_phase : (q : Phase) → s.phase ≡ q → IsAway MayAsk s → MayBeAway MayAsk q → Seen c d (after_step d w os [] step)
-      by_phase Down phase away may = stays away (laws.window.take_out d o s (subst IsOut (sym phase) tt) (sets_no_link_up r (no_sabm (subst TakesPart (sym phase) tt))))
-      by_phase Waiting phase away may = waits away phase
-      by_phase Up phase away may = absurd may
-      by_phase Closed phase away may = stays away (closed_takes d o s phase)
-
-      go : FitsEnd MayAsk d s (machine_of d.window h.peer) → Seen c d (after_step d w os [] step)
-      go (inl u) = read_seen w h o os is u r refl (no_sabm (up_takes_part s.phase u.up)) (laws.window.take d o s (record { up = u.up; sound = u.sound }) r refl)
-      go (inr away) = by_phase s.phase refl away away.away
-
   -- a packet is handed down
-  put_up : (w : Stations) (packet : List ℕ) (h : Seen c d w) → AsUp d w.near.station (machine_of d.window h.peer) → length packet ≤ d.longest → Seen c d (after_step d w w.back (packet ∷ []) (put_step d packet w.near.station))
-  put_up w packet h u short =
+  put_up : (w : Stations) (h : Seen c d w) (packet : List ℕ) → AsUp d w.near.station (machine_of d.window h.peer) → length packet ≤ d.longest → Seen c d (after_step d w w.back (packet ∷ []) (put_step d packet w.near.station))
+  put_up w h packet u short =
       let stays = laws.window.put d packet w.near.station (record { up = u.up; sound = u.sound }) in
       let step = put_step d packet w.near.station in
       let p : Peer = record h.peer { given = h.peer.given ++ packet ∷ [] } in
@@ -360,112 +299,36 @@ module _ (c d : Settings) (joined : AreJoined c d) (reads : ReadsSpelled) (laws 
       }))
       stays
 
-  put_seen : (w : Stations) (packet : List ℕ) → Seen c d w → length packet ≤ d.longest → Seen c d (unless (put_refusal w.near.station) w (after_step d w w.back (packet ∷ []) (put_step d packet w.near.station)))
-  put_seen w packet h short = go h.fits
-    where
-      go : FitsEnd MayAsk d w.near.station (machine_of d.window h.peer) → Seen c d (unless (put_refusal w.near.station) w (after_step d w w.back (packet ∷ []) (put_step d packet w.near.station)))
-      go (inl u) = seen_unless (put_refusal w.near.station) w _ h (λ _. put_up w packet h u short)
-      go (inr away) = rw (away_is_not_up MayAsk w.near.station.phase away.away) h
-
-  -- timer T1 runs out
-  timer_by : (w : Stations) (h : Seen c d w) → AsUp d w.near.station (machine_of d.window h.peer) → (b : Bool) (step : Step)
-      → Follows (if b then None else Some Retries) d.window nothing w.near.station step → Seen c d (after_step d w w.back [] step)
-  timer_by w h u true step stays =
+  -- nothing is brought
+  rests_seen : (w : Stations) (h : Seen c d w) (step : Step) → AsUp d w.near.station (machine_of d.window h.peer) → Stays d.window nothing w.near.station step → Seen c d (after_step d w w.back [] step)
+  rests_seen w h step u stays =
       stays_seen w w.back [] nothing step
       (as_window w w.back [] (machine_of d.window h.peer) (window_of d.window w.near.station) step.packet (sym u.same) (no_packet_of nothing step.packet (window_of d.window w.near.station) (λ y never. never) stays.hands_up) (unchanged w h)) stays
-  timer_by w h u false step ends = ends_seen w w.back step (machine_of d.window h.peer) Retries tt (unchanged w h) ends
-
-  -- a station that isn't Up sends SABM or DISC, or nothing
-  asks_seen : (w : Stations) → Seen c d w → (near : LinkStation) (frames : List PlainFrame) (step : Step) → step.side.near ≡ near → step.side.out ≡ frames → step.packet ≡ None
-      → AreParting MayAsk frames → IsAway MayAsk near → Seen c d (after_step d w w.back [] step)
-  asks_seen w h near frames step is out none parting away =
-      parting_seen w w.back step (machine_of d.window h.peer) (unchanged w h) (subst (AreParting MayAsk) (sym out) parting) (subst (IsAway MayAsk) (sym is) away) none
-
-  waiting_timer : (w : Stations) → Seen c d w → IsAway MayAsk w.near.station → (b : Bool) (step : Step)
-      → (let s = w.near.station in Is (if b then record s { tries = suc s.tries } else with_nothing Down s.tries) (if b then sabm true ∷ [] else []) (if b then None else Some Retries) false step)
-      → Seen c d (after_step d w w.back [] step)
-  waiting_timer w h away true step i =
-      asks_seen w h (record w.near.station { tries = suc w.near.station.tries }) (sabm true ∷ []) step i.near i.out i.packet (tt, tt) (record { away = away.away; empty = away.empty })
-  waiting_timer w h away false step i = asks_seen w h (with_nothing Down w.near.station.tries) [] step i.near i.out i.packet tt (record { away = tt; empty = refl })
-
-  timer_seen : (w : Stations) → Seen c d w → Seen c d (unless (timer_refusal w.near.station) w (after_step d w w.back [] (timer_step d w.near.station)))
-  timer_seen w h = go h.fits
-    where
-      s : LinkStation
-      s = w.near.station
-
-      by_phase : (q : Phase) → s.phase ≡ q → IsAway MayAsk s → MayBeAway MayAsk q → Seen c d (unless (timer_refusal s) w (after_step d w w.back [] (timer_step d s)))
-      by_phase Down phase away may = rw (ap (λ (q : Phase). timer_runs q s) phase) h
-      by_phase Waiting phase away may = seen_unless (timer_refusal s) w _ h (λ _. waiting_timer w h away (nat_lt s.tries d.retries) (timer_step d s) (laws.set_up.timer d s phase))
-      by_phase Up phase away may = absurd may
-      by_phase Closed phase away may = rw (ap (λ (q : Phase). timer_runs q s) phase) h
-
-      go : FitsEnd MayAsk d s (machine_of d.window h.peer) → Seen c d (unless (timer_refusal s) w (after_step d w w.back [] (timer_step d s)))
-      go (inl u) = seen_unless (timer_refusal s) w _ h (λ _. timer_by w h u (nat_lt s.tries d.retries) (timer_step d s) (laws.window.timer d s (record { up = u.up; sound = u.sound })))
-      go (inr away) = by_phase s.phase refl away away.away
-
-  connect_seen : (w : Stations) → Seen c d w → Seen c d (unless (connect_refusal w.near.station.phase) w (after_step d w w.back [] (connect_step d w.near.station)))
-  connect_seen w h = seen_unless (connect_refusal w.near.station.phase) w _ h (λ accepted. go (connects_from w.near.station.phase accepted) h.fits)
-    where
-      s : LinkStation
-      s = w.near.station
-
-      go : s.phase ≡ Down → FitsEnd MayAsk d s (machine_of d.window h.peer) → Seen c d (after_step d w w.back [] (connect_step d s))
-      go phase (inl u) = not_both (is_up s.phase) u.up (ap is_up phase)
-      go phase (inr away) =
-          let i = laws.set_up.connects d s phase in
-          asks_seen w h (record s { phase = Waiting; tries = 0 }) (sabm true ∷ []) (connect_step d s) i.near i.out i.packet (tt, tt) (record { away = tt; empty = away.empty })
-
-  disconnect_seen : (w : Stations) → Seen c d w → Seen c d (unless (disconnect_refusal w.near.station.phase) w (after_step d w w.back [] (disconnect_step d w.near.station)))
-  disconnect_seen w h = seen_unless (disconnect_refusal w.near.station.phase) w _ h (λ _. go h.fits)
-    where
-      s : LinkStation
-      s = w.near.station
-
-      closes : IsOut s.phase → IsAway MayAsk s → Seen c d (after_step d w w.back [] (disconnect_step d s))
-      closes out away =
-          let closed = laws.window.disconnect_out d s out in
-          let off = away_is_not_up MayAsk s.phase away.away in
-          let empty = (laws.disconnect_tells d s).empty closed.quiet off away.empty in
-          parting_seen w w.back (disconnect_step d s) (machine_of d.window h.peer) (unchanged w h) (subst (AreParting MayAsk) (sym closed.frames) tt)
-          (record { away = subst (MayBeAway MayAsk) (sym closed.phase) tt; empty = empty }) closed.packet
-
-      by_phase : (q : Phase) → s.phase ≡ q → IsAway MayAsk s → MayBeAway MayAsk q → Seen c d (after_step d w w.back [] (disconnect_step d s))
-      by_phase Down phase away may = closes (subst IsOut (sym phase) tt) away
-      by_phase Waiting phase away may =
-          let i = laws.set_up.disconnects d s phase in
-          asks_seen w h (with_nothing Closed s.tries) (disc true ∷ []) (disconnect_step d s) i.near i.out i.packet tt (record { away = tt; empty = refl })
-      by_phase Up phase away may = absurd may
-      by_phase Closed phase away may = closes (subst IsOut (sym phase) tt) away
-
-      go : FitsEnd MayAsk d s (machine_of d.window h.peer) → Seen c d (after_step d w w.back [] (disconnect_step d s))
-      go (inl u) = ends_seen w w.back (disconnect_step d s) (machine_of d.window h.peer) Local tt (unchanged w h) (laws.window.disconnect d s (record { up = u.up; sound = u.sound }))
-      go (inr away) = by_phase s.phase refl away away.away
-
-  abandon_seen : (w : Stations) → Seen c d w → is_up w.near.station.phase ≡ true → Seen c d (after_step d w w.back [] (abandon_step d w.near.station))
-  abandon_seen w h up = go h.fits
-    where
-      go : FitsEnd MayAsk d w.near.station (machine_of d.window h.peer) → Seen c d (after_step d w w.back [] (abandon_step d w.near.station))
-      go (inl u) = ends_seen w w.back (abandon_step d w.near.station) (machine_of d.window h.peer) Counts tt (unchanged w h) (laws.window.abandon d w.near.station (record { up = u.up; sound = u.sound }))
-      go (inr away) = not_both (is_up w.near.station.phase) up (away_is_not_up MayAsk w.near.station.phase away.away)
 
   -- the line to the peer
   line_seen : (w : Stations) (os : List (List ℕ)) (h : Seen c d w) → IsReached ⊥ c (record { near = w.far; peer = h.peer; out = os; back = w.out }) → Seen c d (record w { back = os })
   line_seen w os h reached = record { peer = h.peer; reached = reached; fits = h.fits; room = h.room; told = h.told; within = h.within; down = h.down; up = h.up }
 
+  lasts : Lasts d (Seen c d)
+  lasts =
+      record {
+        machine = λ w h. machine_of d.window h.peer;
+        fits = λ w h. h.fits;
+        takes = λ w h o os is u no_sabm.
+            read_seen w h o os is u (frame_of (other d.role) d.longest o) refl no_sabm
+            (laws.window.take d o w.near.station (record { up = u.up; sound = u.sound }) (frame_of (other d.role) d.longest o) refl);
+        puts = put_up;
+        rests = rests_seen;
+        parts = λ w h step parts. parting_seen w w.back step (machine_of d.window h.peer) (unchanged w h) parts;
+        passes = λ w h o os is step parts. parting_seen w os step (machine_of d.window h.peer) (passed w h o os is) parts;
+        loses = λ w h i. line_seen w (remove w.back i) h (goes_on (seen h.peer w) (record { near = w.far; peer = h.peer; out = remove w.back i; back = w.out }) h.reached (Loses i));
+        damages = λ w h i octets visible.
+            line_seen w (replaced w.back i octets) h (goes_on (seen h.peer w) (record { near = w.far; peer = h.peer; out = replaced w.back i octets; back = w.out }) h.reached (Damages i octets visible));
+      }
+
   -- what the near end does, it may do as a peer
   peer_acts : (a : Act) (w : Stations) → Seen c d w → (acts d a w).near.came_up ≡ false → Seen c d (acts d a w)
-  peer_acts (Put packet) w h once =
-      seen_if (nat_le (length packet) d.longest) w (unless (put_refusal w.near.station) w (after_step d w w.back (packet ∷ []) (put_step d packet w.near.station))) h (λ short. put_seen w packet h (leb-true _ _ short))
-  peer_acts Deliver w h once = deliver_seen w w.back refl h once
-  peer_acts T1 w h once = timer_seen w h
-  peer_acts Connect w h once = connect_seen w h
-  peer_acts Disconnect w h once = disconnect_seen w h
-  peer_acts Abandon w h once = seen_if (is_up w.near.station.phase) w (after_step d w w.back [] (abandon_step d w.near.station)) h (λ up. abandon_seen w h up)
-  peer_acts (Lose i) w h once = line_seen w (remove w.back i) h (goes_on (seen h.peer w) (record { near = w.far; peer = h.peer; out = remove w.back i; back = w.out }) h.reached (Loses i))
-  peer_acts (Damage i octets) w h once =
-      seen_if (is_visible octets) w (record w { back = replaced w.back i octets }) h
-      (λ visible. line_seen w (replaced w.back i octets) h (goes_on (seen h.peer w) (record { near = w.far; peer = h.peer; out = replaced w.back i octets; back = w.out }) h.reached (Damages i octets visible)))
+  peer_acts a w h once = acts_last d (Seen c d) laws lasts a w h once
 
 -- ---- what the station does that sees the peer
 
