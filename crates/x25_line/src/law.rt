@@ -12,7 +12,7 @@ ghost use Rattle.x25_line.specs.laws.WholeNumbers.{MachineGoesAlong, OnceStaysOn
 ghost use Rattle.x25_line.specs.laws.SessionClaims.{Throughout, MeetInStep, MetAreInOrder, UnmetHandNothingUp, OnlyBegunHaveLists, EachUpStands, EachHearsLatest, EachMeetsLatest, IdleHasArrived, NoSessionSendsFrmr, AllSessionsSendWhole, SessionsAreStations, SetUpIsTheStart};
 ghost use Rattle.x25_line.specs.laws.SessionNumbers.{StandingGoesAlong};
 ghost use Rattle.x25_line.specs.laws.SessionEvents.{EachEventHandsInSession, EachEventMeetsLatest};
-ghost use Rattle.x25_line.specs.rows.PeerRows.{OddPeerMoves};
+ghost use Rattle.x25_line.specs.rows.PeerRows.{OddPeerMoves, SilentTapeMoves, TapeTells};
 ghost use Rattle.x25_line.specs.rows.SessionRows.{SetsUpFromNothing, SetsUpAgain, UntimelyIsOutOfStep};
 ghost use Rattle.x25_line.specs.rows.StationRows.{PacketGoes, PacketsCross, LostComesAgain, DamagedComesAgain, DisconnectEnds, AbandonEnds, ConnectSetsUp, ConnectIsDeclined};
 
@@ -95,10 +95,14 @@ pub fn stations_are_peers()
     laws_below();
 }
 
-/// A worked row: a peer says nothing where our own station would answer, and then polls by an I frame that
-/// acknowledges none. Its packet is handed up.
-pub fn odd_peer_moves()
-    ensures { OddPeerMoves }
+/// Worked rows: a peer says nothing where our own station would answer, and then polls by an I frame that acknowledges
+/// none, which is handed up. A tape with that I frame and what answers it, of which nothing is told. What is told of a
+/// peer that sends another packet under a number that went already, an eighth packet that isn't acknowledged, or an
+/// N(R) that acknowledges what was never sent or falls.
+pub fn peers_move()
+    ensures odd { OddPeerMoves }
+    ensures silent { SilentTapeMoves }
+    ensures told { TapeTells }
 {
     reads_what_is_spelled();
 }

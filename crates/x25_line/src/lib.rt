@@ -16,7 +16,7 @@ pub use healing::{
 };
 pub use law::{
     any_peer_keeps_order, each_event_hands_one, each_session_event_hands_one, links_keep_order,
-    links_move, odd_peer_moves, sessions_are_links, sessions_keep_order, sessions_move,
+    links_move, peers_move, sessions_are_links, sessions_keep_order, sessions_move,
     silent_tape_keeps_order, stations_are_peers,
 };
 pub use raw_error::{RawError, RawRefused};
