@@ -11,6 +11,7 @@ pub mod StationAway
 pub mod StationRuns
 pub mod StationClaimLemmas
 pub mod StationEvents
+pub mod StationActs
 pub mod PeerLines
 pub mod PeerSends
 pub mod PeerSteps
@@ -18,6 +19,8 @@ pub mod PeerActs
 pub mod PeerMoves
 pub mod PeerRuns
 pub mod TapeLemmas
+pub mod StationSays
+pub mod StationPeers
 pub mod rows
 pub mod HealingLines
 pub mod HealingSteps

@@ -1,17 +1,17 @@
 -- All that happens keeps what holds, and what holds says the claims.
-use Rattle.std.proofs.Common.{◌≡◌, ℕ, ◌≤◌, List, [], ◌++◌, inl, inr, length, take, drop, remove, Bool, true, false, Option, Some, None, refl, sym, ap, ◌∙◌, subst, arith}
+use Rattle.std.proofs.Common.{◌≡◌, ℕ, ◌≤◌, List, [], ◌++◌, inl, inr, length, take, drop, remove, true, false, Option, Some, None, refl, sym, ap, ◌∙◌, subst, arith}
 use Rattle.std.proofs.lemmas.List.{take-append-drop, take_all}
 use Rattle.x25_frame.specs.Reading.{frame_of}
 use Rattle.x25_frame.specs.laws.ReadingLaw.{ReadsSpelled}
 use Rattle.x25_window.specs.laws.Window.{End, Frame}
 use Rattle.x25_link.specs.Station.{Settings, fresh}
 use Rattle.x25_link.specs.Hearing.{other}
-use Rattle.x25_line.specs.laws.Stations.{StationEnd, Act, Put, Deliver, T1, Connect, Disconnect, Abandon, Lose, Damage, Near, replaced, is_visible, acts}
-use Rattle.x25_line.specs.laws.StationClaims.{InOrder, number_in, numbered_on, NotesUp, HandsOne}
+use Rattle.x25_line.specs.laws.Stations.{StationEnd, Near, replaced, is_visible, acts}
+use Rattle.x25_line.specs.laws.StationClaims.{InOrder, number_in, numbered_on, HandsOne}
 use Rattle.x25_line.specs.laws.WholeNumbers.{place_of, taken_out}
 use Rattle.x25_line.specs.laws.LawsBelow.{Laws}
 use Rattle.x25_line.proofs.StationLines.{visible_reads}
-use Rattle.x25_line.proofs.StationAway.{first_false}
+use Rattle.x25_line.proofs.StationRuns.{noted_before}
 use Rattle.x25_line.proofs.StationEvents.{each_hands_one}
 use Rattle.x25_line.proofs.StationClaimLemmas.{in_order}
 use Rattle.x25_line.specs.laws.Peer.{Peer}
@@ -20,7 +20,8 @@ use Rattle.x25_line.specs.laws.PeerClaims.{WithAnyPeer, WithAnyLapbPeer, KeepsOr
 use Rattle.x25_line.proofs.Kept.{Way-unheard, Way-passed, Way-acked}
 use Rattle.x25_line.proofs.PeerLines.{BearAll, bears_lost, bears_damaged}
 use Rattle.x25_line.proofs.PeerSends.{PeerKept}
-use Rattle.x25_line.proofs.PeerSteps.{end_of, MayAsk, Holds}
+use Rattle.x25_line.proofs.PeerSteps.{end_of, Holds}
+use Rattle.x25_line.proofs.StationActs.{MayAsk}
 use Rattle.x25_line.proofs.PeerActs.{acts_holds}
 use Rattle.x25_line.proofs.PeerMoves.{handed_holds, sent_holds, heard_holds}
 
@@ -55,16 +56,6 @@ line_holds Odd c p n out back os o holds shows =
     }
 
 -- ---- LinkUp that was noted stays so
-
-noted_before : (a : Act) (old new : Bool) → NotesUp a old new → new ≡ false → old ≡ false
-noted_before (Put packet) old new same e = sym same ∙ e
-noted_before Deliver old new more e = first_false old more.0 (sym more.1 ∙ e)
-noted_before T1 old new same e = sym same ∙ e
-noted_before Connect old new same e = sym same ∙ e
-noted_before Disconnect old new same e = sym same ∙ e
-noted_before Abandon old new same e = sym same ∙ e
-noted_before (Lose i) old new same e = sym same ∙ e
-noted_before (Damage i octets) old new same e = sym same ∙ e
 
 once_before : (Odd : Type 0) (c : Settings) (w v : Joined) → Happens Odd c w v → v.near.came_up ≡ false → w.near.came_up ≡ false
 once_before Odd c w v (Ours act) once =
@@ -148,8 +139,11 @@ holds_claims Odd c w holds =
       all = λ all. h.up ∙ theirs.begins ∙ take_all (length e.taken) p.given (omega (arith, few, all));
     }
 
+pub reached_order : (Odd : Type 0) (c : Settings) → ReadsSpelled → Laws → c.window ≤ 7 → (w : Joined) → IsReached Odd c w → w.near.came_up ≡ false → KeepsOrder w
+reached_order Odd c reads laws high w reached once = holds_claims Odd c w (reached_holds Odd c reads laws high w reached once)
+
 pub keeps_order : ReadsSpelled → Laws → WithAnyPeer KeepsOrder
-keeps_order reads laws c low high w reached once = holds_claims (Unit {0}) c w (reached_holds (Unit {0}) c reads laws high w reached once)
+keeps_order reads laws c low high w reached once = reached_order (Unit {0}) c reads laws high w reached once
 
 pub is_blameless : ReadsSpelled → Laws → WithAnyLapbPeer FindsNoFault
 is_blameless reads laws c low high w reached once = (reached_holds ⊥ c reads laws high w reached once).joint.blameless (λ never. never)

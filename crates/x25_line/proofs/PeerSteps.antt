@@ -14,20 +14,21 @@ use Rattle.x25_window.specs.laws.Window.{End, Numbered, Frame, after}
 use Rattle.x25_window.specs.laws.Window.Step.{Hear, Take}
 use Rattle.x25_link.specs.declared.phase.Notes.{Notes}
 use Rattle.x25_link.specs.declared.phase.Reason.{Reason}
-use Rattle.x25_link.specs.declared.phase.Reason.TheVariants.{Retries, Disc, Dm, FrmrSent, FrmrGot, Reset, Local, Counts}
+use Rattle.x25_link.specs.declared.phase.Reason.TheVariants.{Disc, Dm, FrmrSent, FrmrGot}
 use Rattle.x25_link.specs.Station.{Settings}
 use Rattle.x25_link.specs.Hearing.{Step, other}
 use Rattle.x25_link.specs.laws.WindowMachine.{Window, Input, receives, nothing, Runs}
 use Rattle.x25_link.specs.laws.WindowLaw.{window_of, brought_by, after_input, MayHandUp, if_valid, ending_of, Stays, Ends, Follows}
 use Rattle.x25_line.specs.laws.Stations.{StationEnd, Stations, after_step}
 use Rattle.x25_line.specs.laws.StationClaims.{number_in, numbered_on}
-use Rattle.x25_line.proofs.StationLines.{carried_of, consed, numbered_append, AllGood, AreParting, good_numbered, parting_numbered}
+use Rattle.x25_line.proofs.StationLines.{carried_of, consed, numbered_append, AllGood, good_numbered, parting_numbered}
 use Rattle.x25_line.proofs.StationSends.{AllWithin}
-use Rattle.x25_line.proofs.StationSteps.{MayBeAway, AsUp, IsAway, FitsEnd, no_packet_of, Leaves, last_parting, last_away, empty_lists}
+use Rattle.x25_line.proofs.StationSteps.{MayBeAway, AsUp, IsAway, FitsEnd, no_packet_of, Leaves, empty_lists}
 use Rattle.x25_line.specs.laws.Peer.{Peer}
-use Rattle.x25_line.specs.laws.PeerClaims.{IsNoFrmr, NoneIsFrmr}
+use Rattle.x25_line.specs.laws.PeerClaims.{NoneIsFrmr}
 use Rattle.x25_line.proofs.Kept.{Way, hears_valid, Way-hears, Way-takes, Way-raise, Way-giver, Way-unheard, Way-passed}
 use Rattle.x25_line.proofs.PeerLines.{BearAll, bear_all_shown, bears_append, Front, front_of}
+use Rattle.x25_line.proofs.StationActs.{MayAsk, NoSabm, NotesNoFrmr, Parts, ends_parts}
 use Rattle.x25_line.proofs.PeerSends.{PeerKept, runs_sent}
 
 -- the peer as an end of the window machine; whatever its own k is, seven is the most
@@ -47,24 +48,6 @@ IsLapb Odd (Err TooLong) = Odd
 abbrev pub AreLapb : Type 0 → Role → ℕ → List (List ℕ) → Type 0
 AreLapb Odd from n1 [] = Unit {0}
 AreLapb Odd from n1 (o ∷ os) = IsLapb Odd (frame_of from n1 o) × AreLapb Odd from n1 os
-
--- what is answered by FRMR
-abbrev pub IsFault : Result PlainFrame FrameError → Type 0
-IsFault (Err (Undefined control)) = Unit {0}
-IsFault (Err (NoInfoAllowed control)) = Unit {0}
-IsFault (Err TooLong) = Unit {0}
-IsFault r = ⊥
-
--- no frame that sets the link up anew
-abbrev pub NoSabm : Result PlainFrame FrameError → Type 0
-NoSabm r = (pf : Bool) → r ≡ Ok (sabm pf) → ⊥
-
-abbrev pub MayAsk : Type 0
-MayAsk = Unit {0}
-
-abbrev pub NotesNoFrmr : Option Reason → Type 0
-NotesNoFrmr None = Unit {0}
-NotesNoFrmr (Some reason) = IsNoFrmr reason
 
 blameless_more : (reasons : List Reason) (noted : Option Reason) → NoneIsFrmr reasons → NotesNoFrmr noted → NoneIsFrmr (reasons ++ option_to_list noted)
 blameless_more [] None h n = tt
@@ -164,9 +147,9 @@ module _ (Odd : Type 0) (c : Settings) (p : Peer) (reads : ReadsSpelled) where
         };
       }
 
-  pub parts_holds : (w : Stations) (os : List (List ℕ)) (step : Step) (e : End (List ℕ)) (gs hs : List (Frame (List ℕ)))
-      → Stage w os [] None e gs hs → AreParting MayAsk step.side.out → IsAway MayAsk step.side.near → step.packet ≡ None → ((Odd → ⊥) → NotesNoFrmr step.notes.down) → HoldsAt Odd c p (after_step c w os [] step)
-  parts_holds w os step e gs hs g parting away none noted = unnumbered_holds w os step e gs hs g (parting_numbered reads c.role c.longest MayAsk step.side.out parting) away none noted
+  pub parts_holds : (w : Stations) (os : List (List ℕ)) (step : Step) (e : End (List ℕ)) (gs hs : List (Frame (List ℕ))) → Stage w os [] None e gs hs → Parts step → HoldsAt Odd c p (after_step c w os [] step)
+  parts_holds w os step e gs hs g parts =
+      unnumbered_holds w os step e gs hs g (parting_numbered reads c.role c.longest MayAsk step.side.out parts.frames) parts.away parts.packet (λ never. parts.noted)
 
   -- ---- what is on the line to it
 
@@ -305,21 +288,9 @@ module _ (Odd : Type 0) (c : Settings) (p : Peer) (reads : ReadsSpelled) where
       })
       (sym u.same ∙ sym (same step.packet)) stays
 
-  leaves_no_frmr : (reason : Reason) → Leaves reason → NotesNoFrmr (Some reason)
-  leaves_no_frmr Retries l = tt
-  leaves_no_frmr Disc l = tt
-  leaves_no_frmr Dm l = tt
-  leaves_no_frmr FrmrSent l = absurd l
-  leaves_no_frmr FrmrGot l = tt
-  leaves_no_frmr Reset l = absurd l
-  leaves_no_frmr Local l = tt
-  leaves_no_frmr Counts l = tt
-
-  pub ends_holds : (w : Stations) (e : End (List ℕ)) (gs hs ks : List (Frame (List ℕ))) → Joint Odd c p w.near w.out w.back e gs hs → (os : List (List ℕ)) (step : Step) (reason : Reason) → Leaves reason
-      → PeerKept e (end_of p) p.told gs ks → BearAll (numbered_on (other c.role) c.longest os) ks → AreLapb Odd (other c.role) c.longest os → Ends reason step → HoldsAt Odd c p (after_step c w os [] step)
-  ends_holds w e gs hs ks h os step reason leaves kept shows lapb ends =
-      parts_holds w os step e gs ks (left w e gs hs ks os h kept shows lapb) (last_parting MayAsk reason step.side.out leaves ends.frames)
-      (record { away = last_away MayAsk reason step.side.near.phase leaves ends.phase; empty = empty_lists step.side.near.outgoing step.side.near.taken ends.outgoing ends.taken }) ends.packet (λ never. subst NotesNoFrmr (sym ends.noted) (leaves_no_frmr reason leaves))
+  ends_holds : (w : Stations) (e : End (List ℕ)) (gs hs : List (Frame (List ℕ))) → Joint Odd c p w.near w.out w.back e gs hs → (os : List (List ℕ)) (step : Step) (reason : Reason) → Leaves reason
+      → BearAll (numbered_on (other c.role) c.longest os) hs → AreLapb Odd (other c.role) c.longest os → Ends reason step → HoldsAt Odd c p (after_step c w os [] step)
+  ends_holds w e gs hs h os step reason leaves shows lapb ends = parts_holds w os step e gs hs (left w e gs hs hs os h h.kept shows lapb) (ends_parts reason step leaves ends)
 
   -- what isn't LAPB is answered by FRMR, of three octets
   frmr_holds : (w : Stations) (e : End (List ℕ)) (gs hs : List (Frame (List ℕ))) → Joint Odd c p w.near w.out w.back e gs hs → (os : List (List ℕ)) (step : Step) → Odd
@@ -336,7 +307,7 @@ module _ (Odd : Type 0) (c : Settings) (p : Peer) (reads : ReadsSpelled) where
       (record { away = subst (MayBeAway MayAsk) (sym ends.phase) tt; empty = empty_lists step.side.near.outgoing step.side.near.taken ends.outgoing ends.taken }) ends.packet (λ never. absurd (never odd))
 
   pub read_holds : (w : Stations) (e : End (List ℕ)) (gs hs : List (Frame (List ℕ))) → Joint Odd c p w.near w.out w.back e gs hs → AsUp c w.near.station e → (r : Result PlainFrame FrameError) (os : List (List ℕ)) (step : Step)
-      → NoSabm r → IsLapb Odd r → ((f : Bool) (why : List ℕ) → IsFault r → step.side.out ≡ frmr f why ∷ [] → length why ≡ 3) → AreLapb Odd (other c.role) c.longest os → BearAll (consed (number_in r) (numbered_on (other c.role) c.longest os)) hs
+      → NoSabm r → IsLapb Odd r → ((f : Bool) (why : List ℕ) → ending_of r (window_of c.window w.near.station) ≡ Some FrmrSent → step.side.out ≡ frmr f why ∷ [] → length why ≡ 3) → AreLapb Odd (other c.role) c.longest os → BearAll (consed (number_in r) (numbered_on (other c.role) c.longest os)) hs
       → Follows (ending_of r (window_of c.window w.near.station)) c.window (brought_by r) w.near.station step
       → HoldsAt Odd c p (after_step c w os [] step)
   read_holds w e gs hs h u (Ok (info ns nr pf x)) os step no_sabm is three lapb shows follows =
@@ -351,14 +322,14 @@ module _ (Odd : Type 0) (c : Settings) (p : Peer) (reads : ReadsSpelled) where
       let front = front_of (rej command nr pf) (numbered_on (other c.role) c.longest os) hs shows in
       told_holds w e gs hs h u os (rej command nr pf) nr step lapb front front.shows.1 follows (λ packet. refl) (λ y k. k)
   read_holds w e gs hs h u (Ok (sabm pf)) os step no_sabm is three lapb shows follows = absurd (no_sabm pf refl)
-  read_holds w e gs hs h u (Ok (disc pf)) os step no_sabm is three lapb shows follows = ends_holds w e gs hs hs h os step Disc tt h.kept shows lapb follows
+  read_holds w e gs hs h u (Ok (disc pf)) os step no_sabm is three lapb shows follows = ends_holds w e gs hs h os step Disc tt shows lapb follows
   read_holds w e gs hs h u (Ok (ua f)) os step no_sabm is three lapb shows follows =
       quiet_holds w e gs hs hs h u os (receives (ua f)) step h.kept shows lapb (λ packet. refl) (λ y k. k) follows
-  read_holds w e gs hs h u (Ok (dm f)) os step no_sabm is three lapb shows follows = ends_holds w e gs hs hs h os step Dm tt h.kept shows lapb follows
-  read_holds w e gs hs h u (Ok (frmr f why)) os step no_sabm is three lapb shows follows = ends_holds w e gs hs hs h os step FrmrGot tt h.kept shows lapb follows
+  read_holds w e gs hs h u (Ok (dm f)) os step no_sabm is three lapb shows follows = ends_holds w e gs hs h os step Dm tt shows lapb follows
+  read_holds w e gs hs h u (Ok (frmr f why)) os step no_sabm is three lapb shows follows = ends_holds w e gs hs h os step FrmrGot tt shows lapb follows
   read_holds w e gs hs h u (Err Short) os step no_sabm is three lapb shows follows = quiet_holds w e gs hs hs h u os nothing step h.kept shows lapb (λ packet. refl) (λ y k. k) follows
   read_holds w e gs hs h u (Err BadFcs) os step no_sabm is three lapb shows follows = quiet_holds w e gs hs hs h u os nothing step h.kept shows lapb (λ packet. refl) (λ y k. k) follows
   read_holds w e gs hs h u (Err BadAddress) os step no_sabm is three lapb shows follows = quiet_holds w e gs hs hs h u os nothing step h.kept shows lapb (λ packet. refl) (λ y k. k) follows
-  read_holds w e gs hs h u (Err (Undefined control)) os step no_sabm is three lapb shows follows = frmr_holds w e gs hs h os step is shows lapb (λ f why out. three f why tt out) follows
-  read_holds w e gs hs h u (Err (NoInfoAllowed control)) os step no_sabm is three lapb shows follows = frmr_holds w e gs hs h os step is shows lapb (λ f why out. three f why tt out) follows
-  read_holds w e gs hs h u (Err TooLong) os step no_sabm is three lapb shows follows = frmr_holds w e gs hs h os step is shows lapb (λ f why out. three f why tt out) follows
+  read_holds w e gs hs h u (Err (Undefined control)) os step no_sabm is three lapb shows follows = frmr_holds w e gs hs h os step is shows lapb (λ f why out. three f why refl out) follows
+  read_holds w e gs hs h u (Err (NoInfoAllowed control)) os step no_sabm is three lapb shows follows = frmr_holds w e gs hs h os step is shows lapb (λ f why out. three f why refl out) follows
+  read_holds w e gs hs h u (Err TooLong) os step no_sabm is three lapb shows follows = frmr_holds w e gs hs h os step is shows lapb (λ f why out. three f why refl out) follows

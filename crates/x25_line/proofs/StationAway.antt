@@ -1,20 +1,22 @@
--- What a station does that is Closed, or that awaits UA, as far as the laws of a link don't say it in these words.
-use Rattle.std.proofs.Common.{◌≡◌, ℕ, zero, suc, List, Bool, true, false, if◌then◌else◌, Option, None, Result, Ok, Err, refl, sym, ap, ◌∙◌, subst}
+-- What a station does that is Closed, that awaits UA or that sends FRMR, as far as the laws of a link don't say it in these words.
+use Rattle.std.proofs.Common.{◌≡◌, ℕ, zero, suc, List, [], ◌∷◌, length, Bool, true, false, if◌then◌else◌, Option, Some, None, Result, Ok, Err, refl, sym, ap, ◌∙◌, subst}
 use Rattle.std.specs.Prelude.{◌&&◌, ◌||◌}
 use Rattle.x25_frame.specs.Frame.{PlainFrame, info, rr, rnr, rej, sabm, disc, ua, dm, frmr}
 use Rattle.x25_frame.specs.Spelling.{is_command, poll_or_final}
 use Rattle.x25_frame.specs.Reading.{frame_of}
 use Rattle.x25_frame.specs.declared.error.FrameError.{FrameError}
+use Rattle.x25_frame.specs.declared.error.FrameError.TheVariants.{Short, BadFcs, BadAddress, Undefined, NoInfoAllowed, TooLong}
 use Rattle.x25_link.specs.declared.phase.Phase.{Phase}
 use Rattle.x25_link.specs.declared.phase.Phase.TheVariants.{Down, Waiting, Up, Closed}
 use Rattle.x25_link.specs.declared.phase.Reason.{Reason}
+use Rattle.x25_link.specs.declared.phase.Reason.TheVariants.{FrmrSent}
 use Rattle.x25_link.specs.declared.phase.Notes.{Notes}
 use Rattle.x25_link.specs.laws.NoteLaw.{IsQuiet}
 use Rattle.x25_link.specs.Station.{Settings, LinkStation, Side, is_up, sends, pumped, pumped_once, ended}
-use Rattle.x25_link.specs.Hearing.{Step, quiet, other}
+use Rattle.x25_link.specs.Hearing.{Step, quiet, other, rejects, is_valid, acknowledged, hears_info, peer_is, goes_back, polls}
 use Rattle.x25_link.specs.Link.{alone, closed_by, hears, take_step, connect_refusal}
 use Rattle.x25_link.specs.laws.SetUp.{waiting_after, waiting_sends, waiting_up, TakesPart}
-use Rattle.x25_link.specs.laws.WindowLaw.{IsOut, StaysOut}
+use Rattle.x25_link.specs.laws.WindowLaw.{window_of, ending_of, IsOut, StaysOut}
 use Rattle.x25_line.proofs.StationLines.{AreParting}
 use Rattle.x25_line.proofs.StationSteps.{away_is_not_up, out_is_away, not_both}
 
@@ -97,6 +99,62 @@ connects_from Down e = refl
 connects_from Waiting e = cc
 connects_from Up e = cc
 connects_from Closed e = cc
+
+-- ---- FRMR has three octets
+
+pub is_up_phase : (q : Phase) → is_up q ≡ true → q ≡ Up
+is_up_phase Down e = not_both false e refl
+is_up_phase Waiting e = not_both false e refl
+is_up_phase Up e = refl
+is_up_phase Closed e = not_both false e refl
+
+same_length : (b f : Bool) (xs ys : List ℕ) → frmr b xs ∷ [] ≡ frmr f ys ∷ [] → length xs ≡ length ys
+same_length b f xs ys e = ap (λ (fs : List PlainFrame). octets_in fs) e
+  where
+    octets_in : List PlainFrame → ℕ
+    octets_in (frmr g zs ∷ fs) = length zs
+    octets_in fs = 0
+
+module _ (c : Settings) (octets : List ℕ) (s : LinkStation) (f : Bool) (why : List ℕ) where
+  rejected : (ground : ℕ) → (closed_by c.window (rejects c octets ground (alone s))).side.out ≡ frmr f why ∷ [] → length why ≡ 3
+  rejected ground out =
+      sym (same_length _ f _ why (sym (ap (λ (z : Step). z.side.out) (closed_still c.window (rejects c octets ground (alone s)) refl)) ∙ out))
+
+  no_reason : {A : Type 0} (o : Option Reason) → o ≡ None → o ≡ Some FrmrSent → A
+  no_reason o none is = absurd (never (sym none ∙ is))
+    where
+      never : None ≡ Some FrmrSent → ⊥
+      never e = cc
+
+  -- a frame whose N(R) is invalid
+  invalid : (nr : ℕ) (row : Side → Step) (b : Bool) → is_valid nr s ≡ b → (if b then None else Some FrmrSent) ≡ Some FrmrSent
+      → (closed_by c.window (if b then row (acknowledged nr (alone s)) else rejects c octets 8 (alone s))).side.out ≡ frmr f why ∷ [] → length why ≡ 3
+  invalid nr row true test is out = no_reason None refl is
+  invalid nr row false test is out = rejected 8 out
+
+  frmr_row : (r : Result PlainFrame FrameError) → ending_of r (window_of c.window s) ≡ Some FrmrSent → (closed_by c.window (hears c octets r Up (alone s))).side.out ≡ frmr f why ∷ [] → length why ≡ 3
+  frmr_row (Ok (info ns nr p packet)) is out = invalid nr (hears_info c.window ns p packet) (is_valid nr s) refl is out
+  frmr_row (Ok (rr command nr pf)) is out = invalid nr (λ u. quiet (polls command pf (peer_is false u))) (is_valid nr s) refl is out
+  frmr_row (Ok (rnr command nr pf)) is out = invalid nr (λ u. quiet (polls command pf (peer_is true u))) (is_valid nr s) refl is out
+  frmr_row (Ok (rej command nr pf)) is out = invalid nr (λ u. quiet (polls command pf (goes_back (peer_is false u)))) (is_valid nr s) refl is out
+  frmr_row (Ok (sabm p)) is out = cc
+  frmr_row (Ok (disc p)) is out = cc
+  frmr_row (Ok (ua p)) is out = cc
+  frmr_row (Ok (dm p)) is out = cc
+  frmr_row (Ok (frmr p xs)) is out = cc
+  frmr_row (Err Short) is out = cc
+  frmr_row (Err BadFcs) is out = cc
+  frmr_row (Err BadAddress) is out = cc
+  frmr_row (Err (Undefined control)) is out = rejected 1 out
+  frmr_row (Err (NoInfoAllowed control)) is out = rejected 3 out
+  frmr_row (Err TooLong) is out = rejected 4 out
+
+pub frmr_three : (c : Settings) (octets : List ℕ) (s : LinkStation) → s.phase ≡ Up → (r : Result PlainFrame FrameError) → r ≡ frame_of (other c.role) c.longest octets → (f : Bool) (why : List ℕ)
+    → ending_of r (window_of c.window s) ≡ Some FrmrSent → (take_step c octets s).side.out ≡ frmr f why ∷ [] → length why ≡ 3
+frmr_three c octets s up r read f why is out =
+    frmr_row c octets s f why r is
+    (subst (λ (q : Phase). (closed_by c.window (hears c octets r q (alone s))).side.out ≡ frmr f why ∷ []) up
+    (subst (λ (z : Result PlainFrame FrameError). (closed_by c.window (hears c octets z s.phase (alone s))).side.out ≡ frmr f why ∷ []) (sym read) out))
 
 -- ---- two bits
 

@@ -153,9 +153,6 @@ module _ (reads : ReadsSpelled) (laws : Laws) where
   reached : Always (Holds (Unit {0}))
   reached c d joined events once = (machine_run c d events start (machine_at_start c d), machine c d joined events once)
 
-  pub keeps_order : Always BothInOrder
-  keeps_order c d joined events once = holds_order (Unit {0}) c d (run c d events start) (reached c d joined events once)
-
   pub keeps_lists : Always BothHaveTheirLists
   keeps_lists c d joined events once = holds_lists (Unit {0}) c d (run c d events start) (reached c d joined events once)
 

@@ -231,7 +231,7 @@ either_way xs ys x h = elim (Contains-append_cases xs ys x h) [
 ]
 
 module _ (reads : ReadsSpelled) (from : Role) (n1 : ℕ) where
-  good_reads : (f : PlainFrame) → IsGood n1 f → frame_of from n1 (spelling_of from f) ≡ Ok f
+  pub good_reads : (f : PlainFrame) → IsGood n1 f → frame_of from n1 (spelling_of from f) ≡ Ok f
   good_reads f h = reads from n1 f (spelling_of from f) (record { in_range = h.in_range; carries = h.carries; within = h.within; spelling = refl })
 
   pub good_numbered : (fs : List PlainFrame) → AllGood n1 fs → numbered_on from n1 (map (spelling_of from) fs) ≡ fs

@@ -361,7 +361,7 @@ event_joint MayAsk c d joined reads laws (Far act) w l once may h =
 
 -- ---- LinkUp that was noted stays so
 
-noted_before : (a : Act) (old new : Bool) → NotesUp a old new → new ≡ false → old ≡ false
+pub noted_before : (a : Act) (old new : Bool) → NotesUp a old new → new ≡ false → old ≡ false
 noted_before (Put packet) old new same e = sym same ∙ e
 noted_before Deliver old new more e = first_false old more.0 (sym more.1 ∙ e)
 noted_before T1 old new same e = sym same ∙ e

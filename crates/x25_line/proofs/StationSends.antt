@@ -59,7 +59,7 @@ tell_good n1 w (ua p) h = absurd h
 tell_good n1 w (dm p) h = absurd h
 tell_good n1 w (frmr p why) h = absurd h
 
-not_none : (n : ℕ) (xs : List (List ℕ)) (x : List ℕ) → slice_get xs n ≡ Some x → numbered n (slice_get xs n) ≡ None → ⊥
+pub not_none : (n : ℕ) (xs : List (List ℕ)) (x : List ℕ) → slice_get xs n ≡ Some x → numbered n (slice_get xs n) ≡ None → ⊥
 not_none n xs x is none = absurd (never (sym (ap (numbered n) is) ∙ none))
   where
     never : numbered n (Some x) ≡ None → ⊥

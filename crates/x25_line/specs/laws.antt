@@ -2,6 +2,7 @@
 pub mod InWindow
 pub mod LawsBelow
 pub mod StationClaims
+pub mod StationPeers
 pub mod SessionClaims
 pub mod HealingPuts
 pub mod Line

@@ -1,5 +1,5 @@
-//! Two link stations over a line, and one station and any peer, as laws about their definition. Each is the contract of a
-//! function that does nothing.
+//! Two link stations over a line, and one station and any peer, as laws about their definition. Each is the contract
+//! of a function that does nothing.
 ghost use Rattle.x25_frame.specs.laws.ReadingLaw.{ReadsSpelled};
 ghost use Rattle.x25_link.specs.laws.NoteLaw.{TakeHandsUp};
 ghost use Rattle.x25_link.specs.laws.BusyLaw.{BusyLaws};
@@ -7,11 +7,12 @@ ghost use Rattle.x25_line.specs.laws.LawsBelow.{HealingLaws};
 ghost use Rattle.x25_line.specs.laws.StationClaims.{Always, BothInOrder, BothHaveTheirLists, BothNoteTheirEnds, NoFrmrSent, AllSentAreWhole, OneLinkUnlessConnected, EachEventHandsOne};
 ghost use Rattle.x25_line.specs.laws.PeerClaims.{WithAnyPeer, WithAnyLapbPeer, OnAnySilentTape};
 ghost use Rattle.x25_line.specs.laws.PeerClaims.{KeepsOrder, FindsNoFault};
+ghost use Rattle.x25_line.specs.laws.StationPeers.{AreBothPeers};
 ghost use Rattle.x25_line.specs.laws.WholeNumbers.{MachineGoesAlong, OnceStaysOnce};
 ghost use Rattle.x25_line.specs.laws.SessionClaims.{Throughout, MeetInStep, MetAreInOrder, UnmetHandNothingUp, OnlyBegunHaveLists, EachUpStands, EachHearsLatest, EachMeetsLatest, IdleHasArrived, NoSessionSendsFrmr, AllSessionsSendWhole, SessionsAreStations, SetUpIsTheStart};
 ghost use Rattle.x25_line.specs.laws.SessionNumbers.{StandingGoesAlong};
 ghost use Rattle.x25_line.specs.laws.SessionEvents.{EachEventHandsInSession, EachEventMeetsLatest};
-ghost use Rattle.x25_line.specs.rows.PeerRows.{OddPeerMoves};
+ghost use Rattle.x25_line.specs.rows.PeerRows.{OddPeerMoves, SilentTapeMoves, TapeTells};
 ghost use Rattle.x25_line.specs.rows.SessionRows.{SetsUpFromNothing, SetsUpAgain, UntimelyIsOutOfStep};
 ghost use Rattle.x25_line.specs.rows.StationRows.{PacketGoes, PacketsCross, LostComesAgain, DamagedComesAgain, DisconnectEnds, AbandonEnds, ConnectSetsUp, ConnectIsDeclined};
 
@@ -61,13 +62,13 @@ pub fn links_keep_order()
 }
 
 /// A link station, by the definition that a link meets call by call, and any peer that keeps the rules of `Peer`
-/// (docs/PEER.md), from a link just set up: what holds after all that happens at either end and on the line, as long as the
-/// station doesn't note LinkUp.
+/// (docs/PEER.md), from a link just set up: what holds after all that happens at either end and on the line, as long
+/// as the station doesn't note LinkUp.
 ///
-/// What the station handed up is a beginning of what the peer was handed down, and what the peer took is a beginning of what
-/// the station was handed down. What an end counts as acknowledged was taken, so all was where the station is idle. Of a peer
-/// that sends no frame that LAPB modulo 8 doesn't have, and none that is too long, the station never finds a fault, which it
-/// would answer by FRMR (`blameless`).
+/// What the station handed up is a beginning of what the peer was handed down, and what the peer took is a beginning
+/// of what the station was handed down. What an end counts as acknowledged was taken, so all was where the station is
+/// idle. Of a peer that sends no frame that LAPB modulo 8 doesn't have, and none that is too long, the station never
+/// finds a fault, which it would answer by FRMR (`blameless`).
 pub fn any_peer_keeps_order()
     ensures order { WithAnyPeer KeepsOrder }
     ensures blameless { WithAnyLapbPeer FindsNoFault }
@@ -75,19 +76,33 @@ pub fn any_peer_keeps_order()
     laws_below();
 }
 
-/// The same order where nothing is asked of the peer, but the frames of both ends pass in front of the station on a tape, and
-/// the rules of `Tape`, which need nothing but the tape, tell nothing of it: then what the station handed up is a beginning of
-/// what the tape shows, by number. No tape shows what the peer took: it counts as having taken all that it might.
+/// The same order where nothing is asked of the peer, but the frames of both ends pass in front of the station on a
+/// tape, and the rules of `Tape`, which need nothing but the tape, tell nothing of it: then what the station handed up
+/// is a beginning of what the tape shows, by number. No tape shows what the peer took: it counts as having taken all
+/// that it might.
 pub fn silent_tape_keeps_order()
     ensures { OnAnySilentTape KeepsOrder }
 {
     laws_below();
 }
 
-/// A worked row: a peer says nothing where our own station would answer, and then polls by an I frame that acknowledges none.
-/// Its packet is handed up.
-pub fn odd_peer_moves()
-    ensures { OddPeerMoves }
+/// Our own station keeps the rules of a peer. Of two link stations, as `links_keep_order` has them, after each list of
+/// events each is a peer of the other, which was handed down what that station was, took what it handed up, and sent
+/// nothing that is answered by FRMR. So they keep order as a station does with any peer.
+pub fn stations_are_peers()
+    ensures { Always AreBothPeers }
+{
+    laws_below();
+}
+
+/// Worked rows: a peer says nothing where our own station would answer, and then polls by an I frame that acknowledges
+/// none, which is handed up. A tape with that I frame and what answers it, of which nothing is told. What is told of a
+/// peer that sends another packet under a number that went already, an eighth packet that isn't acknowledged, or an
+/// N(R) that acknowledges what was never sent or falls.
+pub fn peers_move()
+    ensures odd { OddPeerMoves }
+    ensures silent { SilentTapeMoves }
+    ensures told { TapeTells }
 {
     reads_what_is_spelled();
 }

@@ -1,5 +1,5 @@
-//! Two ends and a line between them that keeps order and may lose any frame: bare ends, and laws of two link stations, and of
-//! one and any peer.
+//! Two ends and a line between them that keeps order and may lose any frame: bare ends, and laws of two link
+//! stations, and of one and any peer.
 #![tactic(auto)]
 
 mod healing;
@@ -16,8 +16,8 @@ pub use healing::{
 };
 pub use law::{
     any_peer_keeps_order, each_event_hands_one, each_session_event_hands_one, links_keep_order,
-    links_move, odd_peer_moves, sessions_are_links, sessions_keep_order, sessions_move,
-    silent_tape_keeps_order,
+    links_move, peers_move, sessions_are_links, sessions_keep_order, sessions_move,
+    silent_tape_keeps_order, stations_are_peers,
 };
 pub use raw_error::{RawError, RawRefused};
 pub use raw_event::RawEvent;

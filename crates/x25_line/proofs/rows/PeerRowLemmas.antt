@@ -1,7 +1,7 @@
--- The worked row, by computing.
+-- The worked rows, by computing.
 use Rattle.std.proofs.Common.{◌≡◌, [], ◌∷◌, ◌++◌, true, false, Result, Ok, arith, refl, sym, ap, subst}
 use Rattle.x25_bits.specs.declared.role.Role.TheVariants.{Dte, Dce}
-use Rattle.x25_frame.specs.Frame.{PlainFrame}
+use Rattle.x25_frame.specs.Frame.{PlainFrame, rr}
 use Rattle.x25_frame.specs.Spelling.{spelling_of}
 use Rattle.x25_frame.specs.Reading.{frame_of}
 use Rattle.x25_frame.specs.laws.ReadingLaw.{ReadsSpelled}
@@ -12,7 +12,8 @@ use Rattle.x25_line.specs.rows.StationRows.{dte}
 use Rattle.x25_line.proofs.rows.StationRowLemmas.{taken_as, comes, packet_frame, packet_reads}
 use Rattle.x25_line.specs.laws.Peer.{Peer, fresh_peer, MaySend, MayHear, numbered_to, told_to}
 use Rattle.x25_line.specs.laws.PeerJoined.{Joined, start, our_end, with_peer, Ours, HandsDown, Sends, Hears, IsReached, at_start, goes_on}
-use Rattle.x25_line.specs.rows.PeerRows.{polling_frame, OddPeerMoves}
+use Rattle.x25_line.specs.laws.Tape.{judges, notes, IsSilent, Begins, Acts, Shows, Comes}
+use Rattle.x25_line.specs.rows.PeerRows.{polling_frame, OddPeerMoves, SilentTapeMoves, TapeTells}
 
 module _ (reads : ReadsSpelled) where
   polling_reads : frame_of Dce 128 (spelling_of Dce polling_frame) ≡ Ok polling_frame
@@ -42,3 +43,30 @@ module _ (reads : ReadsSpelled) where
       comes dte (Ok polling_frame) (spelling_of Dce polling_frame) [] (our_end w4) polling_reads refl
       in
       (w5, r5, ap (λ (v : Stations). v.near.up) same, refl, ap (λ (v : Stations). v.near.came_up) same)
+
+  -- RR with N(R)=1 and F=1
+  abbrev answer : PlainFrame
+  answer = rr false 1 true
+
+  answer_reads : frame_of Dte 128 (spelling_of Dte answer) ≡ Ok answer
+  answer_reads = reads Dte 128 answer _ (record { in_range = omega arith; carries = refl; within = tt; spelling = refl })
+
+  pub silent_tape_moves : SilentTapeMoves
+  unfolding pumped
+  silent_tape_moves =
+      let q : Peer = told_to 0 (numbered_to 0 (record { given = (7 ∷ []) ∷ []; acked = 0; sent = 0; told = 0; taken = [] })) in
+      let w1 : Joined = record { near = start.near; peer = q; out = []; back = spelling_of Dce polling_frame ∷ [] } in
+      let s1 : IsSilent dte w1 = Comes start (spelling_of Dce polling_frame) q (ap (λ (r : Result PlainFrame FrameError). judges r fresh_peer) polling_reads) Begins in
+      let w2 : Joined = with_peer q (acts dte Deliver (our_end w1)) in
+      let s2 : IsSilent dte w2 = Acts w1 Deliver s1 in
+      let same : acts dte Deliver (our_end w1) ≡ taken_as dte (Ok polling_frame) (spelling_of Dce polling_frame) [] (our_end w1) =
+      comes dte (Ok polling_frame) (spelling_of Dce polling_frame) [] (our_end w1) polling_reads refl
+      in
+      let out : w2.out ≡ spelling_of Dte answer ∷ [] = ap (λ (v : Stations). v.out) same in
+      let p3 : Peer = notes (frame_of Dte 128 (spelling_of Dte answer)) q in
+      let w3 : Joined = record w2 { peer = p3; out = [] } in
+      let s3 : IsSilent dte w3 = Shows w2 (spelling_of Dte answer) [] out s2 in
+      (w3, s3, ap (λ (v : Stations). v.near.up) same, ap (λ (r : Result PlainFrame FrameError). (notes r q).acked) answer_reads, ap (λ (v : Stations). v.near.came_up) same)
+
+pub tape_tells : TapeTells
+tape_tells = record { other_packet = refl; eighth = refl; never_sent = refl; falls = refl }

@@ -1,5 +1,6 @@
 use Rattle.x25_line.proofs.StationRuns.{once_before}
-use Rattle.x25_line.proofs.StationClaimLemmas.{keeps_order, keeps_lists, keeps_notes, goes_along, sends_no_frmr, sends_whole, stays_one_link}
+use Rattle.x25_line.proofs.StationPeers.{keeps_order}
+use Rattle.x25_line.proofs.StationClaimLemmas.{keeps_lists, keeps_notes, goes_along, sends_no_frmr, sends_whole, stays_one_link}
 use Rattle.x25_line.proofs.law.links_keep_order.Goals as goal
 
 pub returns : goal.returns
