@@ -15,7 +15,6 @@ pub mod rows
 pub mod OnLineLemmas
 pub mod LateLemmas
 pub mod LetGoLemmas
-pub mod WholeLemmas
 pub mod SetUpLemmas
 pub mod SideLemmas
 pub mod WorldLemmas

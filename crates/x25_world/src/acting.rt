@@ -1,6 +1,5 @@
 //! What happens at one end, and on the line to it.
-ghost use Rattle.std.specs.Prelude.{All, Some, slice_get, ◌≡◌, ◌&&◌, List, ◌+◌, ◌≤◌, ◌++◌, ◌∷◌, ◌<◌, ◌⊎◌, Bool, false, [], length, map, vec_len, vec_capacity, IfErr, OnOk, OnErr, IsErrOf};
-ghost use Rattle.x25_frame.specs.Reading.{is_intact as intact};
+ghost use Rattle.std.specs.Prelude.{◌≡◌, ◌&&◌, List, ◌+◌, ◌≤◌, ◌++◌, ◌∷◌, ◌<◌, ◌⊎◌, Bool, false, [], length, map, vec_len, vec_capacity, IfErr, OnOk, OnErr, IsErrOf};
 ghost use Rattle.x25_link.specs.Station.{awaits_ua};
 ghost use Rattle.x25_line.specs.laws.Stations.{is_visible};
 ghost use Rattle.x25_station.specs.Command.{command_of};
@@ -23,7 +22,6 @@ use crate::line::Line;
 use crate::set_up::is_on_line;
 use crate::told::Entered;
 use x25_bits::{Role, check};
-use x25_frame::is_intact;
 use x25_station::{Cmd, Entry, MOST_ENTRIES, MOST_FRAMES, Station, StationError};
 
 /// The event happens at its end, or on the line to it, and what it tells comes into the list, which is empty before, as is the list by which its frames
@@ -41,6 +39,7 @@ pub fn act_at_end(
     requires empty { told.old.items ≡ [] }
     requires unsent { frames.old.items ≡ [] }
     requires untapped { taps ≡ false → line.old.tap ≡ [] }
+    ensures untold { OnErr result (told.new.items ≡ []) }
     ensures few { vec_len told.new ≤ most_told (event_of event.entry).act }
     ensures memory { IsErrOf result WorldError.NoMemory → TakesMemory (event_of event.entry).act }
     ensures acted { (cfg : Cfg) (w : definition.World) (gone : Gone) (before : List AtEnd) →
@@ -68,6 +67,7 @@ fn act(
     requires empty { told.old.items ≡ [] }
     requires unsent { frames.old.items ≡ [] }
     requires untapped { taps ≡ false → line.old.tap ≡ [] }
+    ensures untold { OnErr result (told.new.items ≡ []) }
     ensures few { vec_len told.new ≤ most_told (event_of event.entry).act }
     ensures memory { IsErrOf result WorldError.NoMemory → TakesMemory (event_of event.entry).act }
     ensures acted { (cfg : Cfg) (w : definition.World) (gone : Gone) (before : List AtEnd) →
@@ -97,6 +97,7 @@ fn command(
     requires empty { told.old.items ≡ [] }
     requires unsent { frames.old.items ≡ [] }
     requires untapped { taps ≡ false → line.old.tap ≡ [] }
+    ensures untold { OnErr result (told.new.items ≡ []) }
     ensures few { vec_len told.new ≤ 3 }
     ensures acted { (cfg : Cfg) (w : definition.World) (gone : Gone) (before : List AtEnd) →
         FitsSide cfg at taps (record { near = near.old; line = line.old; transcript = before }) w gone →
@@ -125,6 +126,7 @@ fn deliver(
     requires empty { told.old.items ≡ [] }
     requires unsent { frames.old.items ≡ [] }
     requires untapped { taps ≡ false → line.old.tap ≡ [] }
+    ensures untold { OnErr result (told.new.items ≡ []) }
     ensures few { vec_len told.new ≤ 3 }
     ensures acted { (cfg : Cfg) (w : definition.World) (gone : Gone) (before : List AtEnd) →
         FitsSide cfg at taps (record { near = near.old; line = line.old; transcript = before }) w gone →
@@ -134,8 +136,7 @@ fn deliver(
     let Some(octets) = line.get(at, 0) else {
         return Err(WorldError::Empty);
     };
-    let intact = is_first_intact(line, at, octets);
-    match near.receive_checked_into(octets, intact, frames, told) {
+    match near.receive_into(octets, frames, told) {
         Ok(()) => {
             let octets = line.remove(at, 0);
             give_back(near, octets);
@@ -144,27 +145,6 @@ fn deliver(
         }
         Err(error) => Err(refused_arrival(error)),
     }
-}
-
-// Whether the octets that come first on the line to the end are intact, which is known where nothing on it was damaged.
-#[inline(always)]
-fn is_first_intact(line: &Line, at: Role, octets: &[u8]) -> bool
-    requires { Some octets.now ≡ slice_get (line_to line.now at) 0 }
-    ensures { result ≡ intact octets.now }
-{
-    if line.is_whole() {
-        return true;
-    }
-    is_seen_intact(octets)
-}
-
-// .. where something was, which is seldom.
-#[cold]
-#[inline(never)]
-fn is_seen_intact(octets: &[u8]) -> bool
-    ensures { result ≡ intact octets.now }
-{
-    is_intact(octets)
 }
 
 // The error of a world where a station refuses an arrival, which is seldom.
@@ -180,7 +160,6 @@ fn refused_arrival(error: StationError) -> WorldError
 #[inline(always)]
 fn put(at: Role, near: &mut Station, line: &mut Line, taps: bool, frames: &mut Vec<Vec<u8>>)
     requires room { vec_len frames.old ≤ line.old.room }
-    requires whole { All (λ frame. is_visible frame.items ≡ false) frames.old.items }
     requires untapped { taps ≡ false → line.old.tap ≡ [] }
     ensures line { line.new ≡ put_by taps line.old at (map (λ frame. frame.items) frames.old.items) }
     ensures near { (c : Settings) (s : StationState) → FitsStation c near.old s → FitsStation c near.new s }
@@ -199,7 +178,6 @@ fn put(at: Role, near: &mut Station, line: &mut Line, taps: bool, frames: &mut V
 
 fn put_all(at: Role, near: &mut Station, line: &mut Line, taps: bool, frames: &mut Vec<Vec<u8>>)
     requires room { vec_len frames.old ≤ line.old.room }
-    requires whole { All (λ frame. is_visible frame.items ≡ false) frames.old.items }
     requires untapped { taps ≡ false → line.old.tap ≡ [] }
     ensures line { line.new ≡ put_by taps line.old at (map (λ frame. frame.items) frames.old.items) }
     ensures near { (c : Settings) (s : StationState) → FitsStation c near.old s → FitsStation c near.new s }
@@ -212,7 +190,6 @@ fn put_all(at: Role, near: &mut Station, line: &mut Line, taps: bool, frames: &m
 #[inline(always)]
 fn put_one(at: Role, near: &mut Station, line: &mut Line, taps: bool, octets: Vec<u8>)
     requires room { 0 < line.old.room }
-    requires whole { is_visible octets.items ≡ false }
     requires untapped { taps ≡ false → line.old.tap ≡ [] }
     ensures line { line.new ≡ put_by taps line.old at (octets.items ∷ []) }
     ensures near { (c : Settings) (s : StationState) → FitsStation c near.old s → FitsStation c near.new s }
@@ -244,6 +221,7 @@ fn fire(
     requires empty { told.old.items ≡ [] }
     requires unsent { frames.old.items ≡ [] }
     requires untapped { taps ≡ false → line.old.tap ≡ [] }
+    ensures untold { OnErr result (told.new.items ≡ []) }
     ensures few { vec_len told.new ≤ 3 }
     ensures acted { (cfg : Cfg) (w : definition.World) (gone : Gone) (before : List AtEnd) →
         FitsSide cfg at taps (record { near = near.old; line = line.old; transcript = before }) w gone →
@@ -282,6 +260,7 @@ pub fn connect(
     requires empty { told.old.items ≡ [] }
     requires unsent { frames.old.items ≡ [] }
     requires untapped { taps ≡ false → line.old.tap ≡ [] }
+    ensures untold { OnErr result (told.new.items ≡ []) }
     ensures few { vec_len told.new ≤ 3 }
     ensures acted { (cfg : Cfg) (w : definition.World) (gone : Gone) (before : List AtEnd) →
         FitsSide cfg at taps (record { near = near.old; line = line.old; transcript = before }) w gone →

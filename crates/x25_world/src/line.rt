@@ -1,6 +1,6 @@
 ghost use Rattle.std.specs.Prelude.{◌≡◌, ℕ, ◌+◌, ◌<◌, ◌≤◌, ◌++◌, [], length, map, remove, OnOk, OnErr, List, ◌∷◌, true, false, All, option_copied, slice_get, slice_set, take, vec_len, vec_capacity};
-ghost use Rattle.x25_line.specs.laws.Stations.{replaced, is_visible};
-ghost use Rattle.x25_world.specs.code.ShownLine.{ShownLine, IsWhole, line_to, with_line_to, put_by};
+ghost use Rattle.x25_line.specs.laws.Stations.{replaced};
+ghost use Rattle.x25_world.specs.code.ShownLine.{ShownLine, line_to, with_line_to, put_by};
 ghost use Rattle.x25_world.specs.code.PlainTold.{plain_tapped};
 ghost use Rattle.x25_world.specs.OnLine.{octets_of, AreLate, IsOwn, IsThere, shares};
 ghost use Rattle.x25_world.specs.declared.on_line.OnLine.{OnLine};
@@ -23,16 +23,14 @@ pub struct Line {
     to_dte: VecDeque<OnLine>,
     tap: Vec<Tapped>,
     room: usize,
-    // Whether a frame was damaged, on the line to either end: before that all that is on it is as it was sent.
-    damaged: bool,
     alloc: Global,
 }
 
 impl Model for Line {
-    ghost use Rattle.std.specs.Prelude.{◌≡◌, ◌+◌, ◌≤◌, false, length, vec_len, vec_capacity};
+    ghost use Rattle.std.specs.Prelude.{◌+◌, ◌≤◌, length, vec_len, vec_capacity};
     ghost use Rattle.std.specs.VecDeque.{deque_len, deque_capacity};
     ghost use Rattle.x25_world.specs.OnLine.{shown_line, AreApart, AreLate};
-    ghost use Rattle.x25_world.specs.code.ShownLine.{ShownLine, IsWhole};
+    ghost use Rattle.x25_world.specs.code.ShownLine.{ShownLine};
 
     ghost Value = { ShownLine };
 
@@ -40,8 +38,7 @@ impl Model for Line {
 
     ghost invariant = { λ l. AreApart (length l.tap.items) l.to_dce.items l.to_dte.items × (deque_len l.to_dce + l.room ≤ deque_capacity l.to_dce)
         × (deque_len l.to_dte + l.room ≤ deque_capacity l.to_dte) × (vec_len l.tap + l.room ≤ vec_capacity l.tap)
-        × AreLate (length l.tap.items) l.to_dce.items × AreLate (length l.tap.items) l.to_dte.items
-        × (l.damaged ≡ false → IsWhole (shown_line l.to_dce.items l.to_dte.items l.tap.items l.room)) };
+        × AreLate (length l.tap.items) l.to_dce.items × AreLate (length l.tap.items) l.to_dte.items };
 }
 
 impl Line {
@@ -54,7 +51,6 @@ impl Line {
             to_dte: VecDeque::new(alloc),
             tap: Vec::new(alloc),
             room: 0,
-            damaged: false,
             alloc,
         }
     }
@@ -96,7 +92,6 @@ impl Line {
     #[inline(always)]
     pub fn put(&mut self, from: Role, taps: bool, octets: Vec<u8>) -> Option<Vec<u8>>
         requires room { 0 < self.old.room }
-        requires whole { is_visible octets.items ≡ false }
         requires untapped { taps ≡ false → self.old.tap ≡ [] }
         ensures { self.new ≡ put_by taps self.old from (octets.items ∷ []) }
     {
@@ -109,7 +104,6 @@ impl Line {
 
     fn put_tapped(&mut self, from: Role, octets: Vec<u8>)
         requires room { 0 < self.old.room }
-        requires whole { is_visible octets.items ≡ false }
         ensures { self.new ≡ put_by true self.old from (octets.items ∷ []) }
     {
         self.room -= 1;
@@ -123,7 +117,6 @@ impl Line {
     #[inline(always)]
     fn put_untapped(&mut self, from: Role, octets: Vec<u8>) -> Option<Vec<u8>>
         requires room { 0 < self.old.room }
-        requires whole { is_visible octets.items ≡ false }
         requires empty { self.old.tap ≡ [] }
         ensures { self.new ≡ put_by false self.old from (octets.items ∷ []) }
     {
@@ -141,7 +134,6 @@ impl Line {
         requires room { 0 < self.old.room }
         requires empty { self.old.tap ≡ [] }
         requires own { IsOwn frame }
-        requires whole { is_visible (octets_of self.old.tap frame) ≡ false }
         ensures { self.new ≡ put_by false self.old from (octets_of self.old.tap frame ∷ []) }
     {
         self.room -= 1;
@@ -159,14 +151,6 @@ impl Line {
             return None;
         };
         Some(octets(&self.tap, frame))
-    }
-
-    /// Whether it is known that no frame on the line was damaged there: none was since the line is. `false` says nothing.
-    #[inline(always)]
-    pub fn is_whole(&self) -> bool
-        ensures { result ≡ true → IsWhole self.now }
-    {
-        !self.damaged
     }
 
     fn queue(&self, to: Role) -> &VecDeque<OnLine>
@@ -199,7 +183,6 @@ impl Line {
         ensures err { OnErr result (self.new ≡ self.old) }
     {
         let own = Vec::from_slice(self.alloc, octets)?;
-        self.damaged = true;
         match to {
             Role::Dce => put_in(&mut self.to_dce, place, own),
             Role::Dte => put_in(&mut self.to_dte, place, own),

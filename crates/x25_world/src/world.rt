@@ -303,13 +303,14 @@ impl World {
     /// Lets go of what was told, as `let_go` does, and then lets the event happen, as `apply` does; but the entries that it tells come into the list, in
     /// place of what was there and of the transcript, and no tap holds its frames: on the line from its end they stand behind those that were there.
     ///
-    /// Refused as by `apply`; only what was told is let go of then.
+    /// Refused as by `apply`; only what was told is let go of then, and the list is empty.
     #[inline(always)]
     pub fn step(&mut self, event: Event, told: &mut Vec<Entry>) -> Result<(), WorldError>
         ensures step { (cfg : Cfg) (w : definition.World) (gone : Gone) → FitsWorld cfg self.old w gone →
             (let next = after w (happens cfg w (event_of event.entry)) in OnOk result (FitsWorld cfg self.new next (all_of next))) }
         ensures told { (cfg : Cfg) (w : definition.World) (gone : Gone) → FitsWorld cfg self.old w gone →
             OnOk result ((after w (happens cfg w (event_of event.entry))).transcript ≡ w.transcript ++ entered (event_of event.entry).at (map plain_entry told.new.items)) }
+        ensures untold { OnErr result (told.new.items ≡ []) }
         ensures put { (cfg : Cfg) (w : definition.World) (gone : Gone) → FitsWorld cfg self.old w gone →
             (let at = (event_of event.entry).at in OnOk result ((after w (happens cfg w (event_of event.entry))).tap ≡ w.tap ++ tapped at (drop (length (line_from self.old at)) (line_from self.new at)))) }
         ensures accepted { (cfg : Cfg) (w : definition.World) (gone : Gone) → FitsWorld cfg self.old w gone → OnOk result (refusal_of (happens cfg w (event_of event.entry)) ≡ None) }
@@ -332,6 +333,7 @@ impl World {
             (let next = after w (happens cfg w (event_of event.entry)) in OnOk result (FitsWorld cfg self.new next (all_of next))) }
         ensures told { (cfg : Cfg) (w : definition.World) → FitsWorld cfg self.old w (all_of w) →
             OnOk result ((after w (happens cfg w (event_of event.entry))).transcript ≡ w.transcript ++ entered (event_of event.entry).at (map plain_entry told.new.items)) }
+        ensures untold { OnErr result (told.new.items ≡ []) }
         ensures accepted { (cfg : Cfg) (w : definition.World) → FitsWorld cfg self.old w (all_of w) → OnOk result (refusal_of (happens cfg w (event_of event.entry)) ≡ None) }
         ensures refused { (cfg : Cfg) (w : definition.World) → FitsWorld cfg self.old w (all_of w) → IfErr result (IsRefusal cfg w (event_of event.entry)) }
         ensures stays { (cfg : Cfg) (w : definition.World) → FitsWorld cfg self.old w (all_of w) → OnErr result (FitsWorld cfg self.new w (all_of w)) }

@@ -1,9 +1,8 @@
 -- The line in both directions and its tap, as clauses see them.
-use Rattle.std.specs.Prelude.{◌≡◌, All, ℕ, ◌-◌, Bool, true, false, List, ◌++◌, length}
+use Rattle.std.specs.Prelude.{ℕ, ◌-◌, Bool, true, false, List, ◌++◌, length}
 use Rattle.x25_bits.specs.Role.{other}
 use Rattle.x25_bits.specs.declared.role.Role.{Role}
 use Rattle.x25_bits.specs.declared.role.Role.TheVariants.{Dte, Dce}
-use Rattle.x25_line.specs.laws.Stations.{is_visible}
 use Rattle.x25_world.specs.World.{OnTap, tapped}
 
 -- the octets on the line to each end, front first; what was put on it and not let go of; and for how many frames there is room
@@ -16,13 +15,6 @@ pub record ShownLine : Type 0 where
 abbrev pub line_to : ShownLine → Role → List (List ℕ)
 line_to v Dce = v.to_dce
 line_to v Dte = v.to_dte
-
--- none of these octets is visible damage
-abbrev pub AreWhole : List (List ℕ) → Type 0
-AreWhole frames = All (λ octets. is_visible octets ≡ false) frames
-
-abbrev pub IsWhole : ShownLine → Type 0
-IsWhole v = AreWhole v.to_dce × AreWhole v.to_dte
 
 -- with other octets on the line to an end
 abbrev pub with_line_to : ShownLine → Role → List (List ℕ) → ShownLine

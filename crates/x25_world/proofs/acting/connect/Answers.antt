@@ -1,10 +1,6 @@
 use Rattle.std.proofs.Common.{sym}
 use Rattle.x25_world.proofs.SideLemmas.{shared_of, has_happened, is_refusal, side_stays}
-use Rattle.x25_world.proofs.WholeLemmas.{answers_whole}
 use Rattle.x25_world.proofs.acting.connect.Goals as goal
-
-pub put-requires-clause-whole : goal.put-requires-clause-whole
-put-requires-clause-whole c = answers_whole c.args.near.now c.connect_into.new.self (record { frames = c.connect_into.new.frames; entries = c.connect_into.new.entries }) _ c.args.near.now.meant c.in-Ok.ensures.does
 
 pub returns-in-Ok-clause-acted : goal.returns-in-Ok-clause-acted
 returns-in-Ok-clause-acted c = λ cfg w gone before side.

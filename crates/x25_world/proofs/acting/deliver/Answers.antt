@@ -1,11 +1,7 @@
 use Rattle.std.proofs.Common.{◌≡◌, ◌∙◌, Some, inr, slice_get, sym, ap}
 use Rattle.x25_world.specs.Error.{error_of}
 use Rattle.x25_world.proofs.SideLemmas.{shared_of, has_arrived, side_stays}
-use Rattle.x25_world.proofs.WholeLemmas.{answers_whole}
 use Rattle.x25_world.proofs.acting.deliver.Goals as goal
-
-pub put-requires-clause-whole : goal.put-requires-clause-whole
-put-requires-clause-whole c = answers_whole c.args.near.now c.receive_checked_into.new.self (record { frames = c.receive_checked_into.new.frames; entries = c.receive_checked_into.new.entries }) _ c.args.near.now.meant c.in-Ok.ensures.does
 
 pub returns-in-Ok-clause-acted : goal.returns-in-Ok-clause-acted
 returns-in-Ok-clause-acted c = λ cfg w gone before side.
@@ -15,7 +11,7 @@ returns-in-Ok-clause-acted c = λ cfg w gone before side.
     let front : Some c.in-Some.octets.now ≡ slice_get w.back 0 = c.in-Some.ensures ∙ ap (λ l. slice_get l 0) shared.back in
     record {
       happened = rw (c.put.ensures.line, c.remove-octets.ensures)
-          (has_arrived cfg c.args.at c.args.taps c.receive_checked_into.new.self c.put.new.near c.make_room.new.line before w w.back gone c.in-Some.octets.now (record { frames = c.receive_checked_into.new.frames; entries = c.receive_checked_into.new.entries })
+          (has_arrived cfg c.args.at c.args.taps c.receive_into.new.self c.put.new.near c.make_room.new.line before w w.back gone c.in-Some.octets.now (record { frames = c.receive_into.new.frames; entries = c.receive_into.new.entries })
           (λ k s f. c.put.ensures.near k s (c.give_back.ensures k s f)) shared front (called.state _ _ fits) (called.frames _ _ fits) (called.entries _ _ fits));
       refused = tt;
       stays = tt;

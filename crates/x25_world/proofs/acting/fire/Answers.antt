@@ -2,16 +2,12 @@ use Rattle.std.proofs.Common.{sym, ap, inl, ◌∙◌}
 use Rattle.x25_station.specs.Config.{settings_from}
 use Rattle.x25_world.specs.World.{refusal_of}
 use Rattle.x25_world.proofs.SideLemmas.{shared_of, has_happened, is_refusal, side_stays, holds_back, lets_fire}
-use Rattle.x25_world.proofs.WholeLemmas.{answers_whole}
 use Rattle.x25_world.proofs.acting.fire.Goals as goal
 
 pub returns-then-awaits_frames-clause-acted : goal.returns-then-awaits_frames-clause-acted
 returns-then-awaits_frames-clause-acted c = λ cfg w gone before side.
     let held = holds_back (settings_from c.args.at cfg) w (sym (c.awaits_frames.ensures cfg w _ _ gone side) ∙ c.if-awaits_frames.true) in
     record { happened = tt; refused = inl (ap refusal_of held); stays = side }
-
-pub put-requires-clause-whole : goal.put-requires-clause-whole
-put-requires-clause-whole c = answers_whole c.args.near.now c.t1_into.new.self (record { frames = c.t1_into.new.frames; entries = c.t1_into.new.entries }) _ c.args.near.now.meant c.in-Ok.ensures.does
 
 pub returns-in-Ok-clause-acted : goal.returns-in-Ok-clause-acted
 returns-in-Ok-clause-acted c = λ cfg w gone before side.

@@ -18,7 +18,6 @@ invariant_of-self c =
       omega arith,
       late_own _ c.own_all.new.queue.items c.own_all.ensures.own,
       late_own _ c.own_all-2.new.queue.items c.own_all-2.ensures.own,
-      λ no. rw (c.clear.ensures.items, to_dce, to_dte) (c.self.invariant.6 no),
     )
 
 pub returns : goal.returns

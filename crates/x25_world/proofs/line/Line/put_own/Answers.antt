@@ -4,7 +4,6 @@ use Rattle.x25_world.specs.code.PlainTold.{plain_tapped}
 use Rattle.x25_world.specs.OnLine.{shares}
 use Rattle.x25_world.proofs.OnLineLemmas.{apart_fewer}
 use Rattle.x25_world.proofs.LetGoLemmas.{shares-push_own, late_own}
-use Rattle.x25_world.proofs.WholeLemmas.{whole_more}
 use Rattle.x25_world.proofs.line.Line.put_own.Goals as goal
 
 pub invariant_of-self : goal.invariant_of-self
@@ -19,7 +18,6 @@ invariant_of-self c =
       omega arith,
       rw c.push_back_reserved.ensures.items (late_own _ c.self.inside.to_dce.items c.args.frame c.requires.own alone),
       c.self.invariant.5,
-      λ no. (rw c.push_back_reserved.ensures.items (whole_more _ c.self.inside.to_dce.items c.args.frame (c.self.invariant.6 no).0 (rw (← c.self.view_is) at c.requires.whole)), (c.self.invariant.6 no).1),
     )
 
 pub invariant_of-self-in-Dce : goal.invariant_of-self-in-Dce
@@ -34,5 +32,4 @@ invariant_of-self-in-Dce c =
       omega arith,
       c.self.invariant.4,
       rw c.push_back_reserved-in-Dce.ensures.items (late_own _ c.self.inside.to_dte.items c.args.frame c.requires.own alone),
-      λ no. ((c.self.invariant.6 no).0, rw c.push_back_reserved-in-Dce.ensures.items (whole_more _ c.self.inside.to_dte.items c.args.frame (c.self.invariant.6 no).1 (rw (← c.self.view_is) at c.requires.whole))),
     )

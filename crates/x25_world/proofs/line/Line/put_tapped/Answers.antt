@@ -2,7 +2,6 @@ use Rattle.std.proofs.Common.{arith}
 use Rattle.std.proofs.lemmas.List.{length_push}
 use Rattle.x25_world.proofs.OnLineLemmas.{apart_to_dce, apart_to_dte, shown_to_dce, shown_to_dte}
 use Rattle.x25_world.proofs.LateLemmas.{late_here, late_there}
-use Rattle.x25_world.proofs.WholeLemmas.{whole_to_dce, whole_to_dte}
 use Rattle.x25_world.proofs.line.Line.put_tapped.Goals as goal
 
 pub invariant_of-self : goal.invariant_of-self
@@ -13,8 +12,6 @@ invariant_of-self c = (
   omega arith,
   rw (c.share.ensures.queue, c.share.ensures.tap) (late_here _ _ c.self.inside.to_dce.items _ (length_push c.self.inside.tap.items _) c.self.invariant.4),
   rw c.share.ensures.tap (late_there _ _ c.self.inside.to_dte.items (length_push c.self.inside.tap.items _) c.self.invariant.5),
-  λ no. rw (c.share.ensures.queue, c.share.ensures.tap)
-      (whole_to_dce c.self.inside.to_dce.items c.self.inside.to_dte.items c.self.inside.tap.items (record { from = c.args.from; octets = c.args.octets }) c.self.invariant.0 (c.self.invariant.6 no) c.requires.whole),
 )
 
 pub invariant_of-self-in-Dce : goal.invariant_of-self-in-Dce
@@ -25,8 +22,6 @@ invariant_of-self-in-Dce c = (
   omega arith,
   rw c.share-in-Dce.ensures.tap (late_there _ _ c.self.inside.to_dce.items (length_push c.self.inside.tap.items _) c.self.invariant.4),
   rw (c.share-in-Dce.ensures.queue, c.share-in-Dce.ensures.tap) (late_here _ _ c.self.inside.to_dte.items _ (length_push c.self.inside.tap.items _) c.self.invariant.5),
-  λ no. rw (c.share-in-Dce.ensures.queue, c.share-in-Dce.ensures.tap)
-      (whole_to_dte c.self.inside.to_dce.items c.self.inside.to_dte.items c.self.inside.tap.items (record { from = c.args.from; octets = c.args.octets }) c.self.invariant.0 (c.self.invariant.6 no) c.requires.whole),
 )
 
 pub returns-in-Dte : goal.returns-in-Dte

@@ -2,7 +2,6 @@ use Rattle.std.proofs.Common.{arith, refl}
 use Rattle.std.proofs.lemmas.List.{length-map}
 use Rattle.x25_world.proofs.OnLineLemmas.{apart_fewer, shares-remove, map-remove}
 use Rattle.x25_world.proofs.LateLemmas.{late_remove}
-use Rattle.x25_world.proofs.WholeLemmas.{whole_less}
 use Rattle.x25_world.proofs.line.Line.remove.Goals as goal
 
 pub invariant_of-self : goal.invariant_of-self
@@ -14,7 +13,6 @@ invariant_of-self c = (
   omega arith,
   rw c.take_off.ensures.items (late_remove _ c.args.place c.self.inside.to_dce.items (rw (← c.self.view_is, c.in-Dce.is, length-map) at c.requires) c.self.invariant.4),
   c.self.invariant.5,
-  λ no. (rw c.take_off.ensures.items (whole_less _ c.self.inside.to_dce.items c.args.place (c.self.invariant.6 no).0), (c.self.invariant.6 no).1),
 )
 
 pub invariant_of-self-in-Dte : goal.invariant_of-self-in-Dte
@@ -26,7 +24,6 @@ invariant_of-self-in-Dte c = (
   omega arith,
   c.self.invariant.4,
   rw c.take_off-in-Dte.ensures.items (late_remove _ c.args.place c.self.inside.to_dte.items (rw (← c.self.view_is, c.in-Dte.is, length-map) at c.requires) c.self.invariant.5),
-  λ no. ((c.self.invariant.6 no).0, rw c.take_off-in-Dte.ensures.items (whole_less _ c.self.inside.to_dte.items c.args.place (c.self.invariant.6 no).1)),
 )
 
 pub returns-in-Dce : goal.returns-in-Dce

@@ -1,11 +1,8 @@
-use Rattle.std.proofs.Common.{◌≡◌, true, false, arith, refl}
+use Rattle.std.proofs.Common.{arith, refl}
 use Rattle.x25_world.specs.declared.on_line.OnLine.TheVariants.{Own}
 use Rattle.x25_world.proofs.OnLineLemmas.{apart_fewer, shares-set, map-replaced}
 use Rattle.x25_world.proofs.LateLemmas.{late_set}
 use Rattle.x25_world.proofs.line.Line.replace.Goals as goal
-
-never : true ≡ false → ⊥
-never bad = cc
 
 pub invariant_of-self : goal.invariant_of-self
 invariant_of-self c = (
@@ -16,7 +13,6 @@ invariant_of-self c = (
   omega arith,
   rw c.put_in.ensures.items (late_set _ c.args.place c.self.inside.to_dce.items (Own c.in_ok-own.own) tt c.self.invariant.4),
   c.self.invariant.5,
-  λ no. let bad : true ≡ false = no in absurd (never bad),
 )
 
 pub invariant_of-self-in-Dte : goal.invariant_of-self-in-Dte
@@ -28,7 +24,6 @@ invariant_of-self-in-Dte c = (
   omega arith,
   c.self.invariant.4,
   rw c.put_in-in-Dte.ensures.items (late_set _ c.args.place c.self.inside.to_dte.items (Own c.in_ok-own.own) tt c.self.invariant.5),
-  λ no. let bad : true ≡ false = no in absurd (never bad),
 )
 
 pub returns-in-Dce : goal.returns-in-Dce
