@@ -1,18 +1,28 @@
-# make x25   leaves the proved program at build/x25
-# make demo  builds it, decodes the traces of examples/, and runs its scripts
-# make test  the gate: every proof from nothing, the must-fail edits, the tests and the programs, the golden cases, the tools
-# make golden       runs the stored cases of tests/golden on the program
-# make check-tools  runs the tests of tools/, without the kit too; those that need the program are left out where it isn't built
-# make judge-runs   judges 10,000 random runs of two stations by the program: nothing may be told of them
-# make refused      runs stored cases on the program, and scripts at links, stations and worlds, with each allocation refused in turn; it
-#                   needs a C compiler
-# make wrong-bodies [CRATE=NAME]  tries the edits of crates/NAME/wrong-bodies/, which the gate leaves out
-# make interop      plays the program's station against Linux's X.25 in a guest; interop/README.md says what that needs
-# make clean removes what these made
+# Command            Takes            Needs               Does
+# make look          2 minutes        rt                  builds the program unproved and has it decode a trace of examples/
+# make x25           20 to 30 minutes rt                  proves the program, and leaves it at build/x25
+# make demo          a second         build/x25           decodes the traces of examples/ and runs its scripts
+# make test          an hour          rt, cc              the gate: every proof from nothing, the must-fail edits, all tests
+# make golden        a second         build/x25           runs the stored cases of tests/golden
+# make check-tools   a minute                             runs the tests of tools/; those for which something isn't there are left out
+# make judge-runs    a minute         build/x25           judges 10,000 random runs of two stations: nothing may be told of them
+# make refused       30 minutes       rt, cc, build/x25   refuses each allocation of stored cases and of scripts in turn
+# make wrong-bodies  a minute an edit rt                  tries wrong bodies that the gate leaves out; CRATE="NAME .." of these crates
+# make interop       20 minutes       build/x25, a guest  plays a station against Linux's X.25; interop/README.md says more
+# make clean         a second                             removes what these made
+#
+# The times are those of four processors with nothing beside. rt, the command of the Rattle kit, wants up to 4 GB of memory for each
+# processor; cc is a C compiler. All need Python 3.9 or later. What needs build/x25 has it proved first, where it isn't there.
 
-.PHONY: x25 demo test golden judge-runs check-tools refused wrong-bodies interop clean kit
+.PHONY: help look x25 demo test golden judge-runs check-tools refused wrong-bodies interop clean kit
 
 x25: build/x25
+
+help:
+	@sed -n '/^$$/q; s/^# \{0,1\}//p' Makefile
+
+look: kit
+	@.ci/look
 
 build/x25: crates.txt $(shell find crates -path '*/out' -prune -o -type f -print) | kit
 	.ci/prove x25 x25_world

@@ -1,6 +1,14 @@
 #!/usr/bin/env python3
-"""Runs the tests of tests/tools, and says which were left out, and why. Exit status: 0 all that ran pass, 1 one fails."""
+"""Runs the tests of tests/tools, and says which were left out, and why.
 
+Some are of the scripts of tools/, .ci/ and tests/, some of the documents, and those that need the program run it: the one that the variable
+X25 names, or else the one that was built last, build/x25 or crates/x25/out/x25. Where that isn't there, or tshark, groff or another of the
+programs that some compare with, these tests are left out.
+
+Exit status: 0 all that ran pass, 1 one fails, 2 for bad words.
+"""
+
+import argparse
 import os
 import sys
 import unittest
@@ -31,4 +39,5 @@ def run():
 
 
 if __name__ == "__main__":
+    argparse.ArgumentParser(description=__doc__, formatter_class=argparse.RawDescriptionHelpFormatter).parse_args()
     sys.exit(1 if run()[1] else 0)

@@ -3,13 +3,16 @@
 
 The tests of the tools that need no program run before, too: they take seconds, and where one fails nothing else is begun. The
 line 'N passed, M failed' of `rt ci` is held back, and the last line is one such line that counts all three: proofs and must-fail
-edits, a golden case for each build of the program, a test of the tools. Exit status: 0 nothing failed, 1 something did.
+edits, a golden case for each build of the program, a test of the tools. The line before it has the time that the whole run took, of the
+processors and on the clock. Exit status: 0 nothing failed, 1 something did.
 """
 
 import os
 import re
+import resource
 import subprocess
 import sys
+import time
 
 import check_tools
 import golden
@@ -63,12 +66,19 @@ def tools():
     return check_tools.run()
 
 
+def processor_seconds():
+    """The processor time of this process and of all below it that have ended."""
+    return sum(usage.ru_utime + usage.ru_stime for usage in map(resource.getrusage, (resource.RUSAGE_SELF, resource.RUSAGE_CHILDREN)))
+
+
 def main():
+    begun = time.monotonic()
     if not quick():
         print("0 passed, 1 failed")
         return 1
     counts = [proofs(), golden_cases(), tools()]
     passed, failed = (sum(column) for column in zip(*counts))
+    print(f"{processor_seconds() / 60:.0f} processor minutes, {(time.monotonic() - begun) / 60:.0f} on the clock")
     print(f"{passed} passed, {failed} failed")
     return 1 if failed else 0
 

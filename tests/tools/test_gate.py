@@ -3,6 +3,8 @@
 import contextlib
 import io
 import os
+import subprocess
+import sys
 from unittest import mock
 
 import support  # noqa: F401
@@ -38,7 +40,15 @@ class Proofs(ToolCase):
         with mock.patch.multiple(gate, quick=lambda: True, proofs=lambda: (20, 1), golden_cases=lambda: (5, 0), tools=lambda: (7, 2)):
             with contextlib.redirect_stdout(out):
                 self.assertEqual(gate.main(), 1)
-        self.assertEqual(out.getvalue(), "32 passed, 3 failed\n")
+        *before, last = out.getvalue().splitlines()
+        self.assertEqual(last, "32 passed, 3 failed")
+        self.assertRegex(before[-1], r"^\d+ processor minutes, 0 on the clock$")
+
+    def test_processor_time_of_what_has_ended_is_counted(self):
+        before = gate.processor_seconds()
+        burn = "import time\nwhile time.process_time() < 0.3: pass"
+        subprocess.run(["sh", "-c", '"$1" -c "$2"; true', "sh", sys.executable, burn], check=True)
+        self.assertGreater(gate.processor_seconds() - before, 0.3)
 
     def test_nothing_is_begun_where_a_quick_test_fails(self):
         out = io.StringIO()
