@@ -28,11 +28,15 @@ class Talker:
             line = ESCAPES.sub("", line).strip()
             if self._is_shown:
                 print(f"{time.monotonic():.2f} {self.name}: {line[:120]}", flush=True)
-            with self._changed:
-                self.said.append(line)
-                self._changed.notify_all()
+            self.take(line)
         with self._changed:
             self._has_ended = True
+            self._changed.notify_all()
+
+    def take(self, line):
+        """Takes a line that it says."""
+        with self._changed:
+            self.said.append(line)
             self._changed.notify_all()
 
     def tell(self, line):
@@ -80,9 +84,8 @@ class Missing(Exception):
     """Something that had to be said wasn't."""
 
 
-def booted(folder, local, remote, is_shown):
-    """A guest of the folder that build.sh made; its network is the port `local` of this host, and sends to `remote`."""
+def boot(folder, local, remote):
+    """The command that boots the guest of the folder that build.sh made; its network is the port `local` of this host, and sends to `remote`."""
     command = ["qemu-system-x86_64", "-M", "q35", "-accel", "tcg", "-m", "256", "-nographic", "-no-reboot"]
     command += ["-kernel", f"{folder}/vmlinuz", "-initrd", f"{folder}/initrd.gz", "-append", "console=ttyS0 quiet loglevel=1 panic=-1"]
-    command += ["-netdev", NETWORK.format(local, remote), "-device", "e1000,netdev=n0", "-serial", "mon:stdio"]
-    return Talker("kernel", command, is_shown)
+    return command + ["-netdev", NETWORK.format(local, remote), "-device", "e1000,netdev=n0", "-serial", "mon:stdio"]

@@ -1,10 +1,11 @@
 #!/usr/bin/env python3
-"""Plays `x25 station` against Linux's X.25, and writes a table of what came of it.
+"""Plays `x25 station` against Linux's X.25, and writes the table of what came of it that docs/INTEROP.md keeps.
 
     play.py FOLDER [--x25 PROGRAM] [--lose P ..] [--only WORD] [--show]
 
 FOLDER is the one that build.sh made. The guest is the DTE, the station the DCE, joined by tools/bridge.py over datagrams with frames
-of Ethernet. Each row is played once for each probability that a frame is lost, each way. Exit status: 0, or 1 where a row failed.
+of Ethernet. Each row is played once for each probability that a frame is lost, each way; its cells are the seconds that it took. What is played is
+told on standard error. Exit status: 0, or 1 where a row failed.
 """
 
 import argparse
@@ -13,7 +14,7 @@ import re
 import sys
 import time
 
-from kernel import Missing, Talker, booted
+from kernel import Missing, Talker, boot
 
 ROOT = os.path.dirname(os.path.dirname(os.path.abspath(__file__)))
 PORTS = 5610, 5611
@@ -67,17 +68,16 @@ class Joined:
         return self.ours.hear(since, ours, self.patience)[0], self.guest.hear(behind, guests, self.patience)[0]
 
 
-# ---- the rows; each answers what is worth saying of it
+# ---- the rows
 
 
 def set_up(it):
-    """Link set-up and restart"""
+    """link set-up and restart"""
     since = it.ours.mark()
     it.order("link", "linked")
     if not any(line.startswith("dce linkup") for line in it.ours.said[since:]):
         it.ours.tell("dce connect")
     it.ours.hear(since, "dce restart", it.patience)
-    return ""
 
 
 def channel_of(notice):
@@ -96,27 +96,23 @@ def clear(it, channel, slot):
 
 
 def called(it):
-    """A call without facilities, by the station"""
+    """a call by the station, without facilities"""
     channel, slot, ours, _ = call(it)
     clear(it, channel, slot)
-    return "the kernel answers `10010f0000`, read by --short-accept"
 
 
 def negotiated(it):
-    """Sizes and windows proposed by the station: the kernel answers what its socket has set, and else the default"""
-    said = []
-    for address in (LARGE, PLAIN):
+    """sizes of 256 octets and windows of 3 proposed by the station: taken where the kernel's socket has set them, else answered by 128 and 2"""
+    for address, taken in (LARGE, "size=8,8 win=3,3"), (PLAIN, "size=7,7 win=2,2"):
         channel, slot, ours, guests = call(it, " 8 8 3 3", address)
         clear(it, channel, slot)
-        said.append(guests.split(" ", 3)[3])
         # The station leaves out what is the default.
-        if (ours.split(" ", 3) + ["size=7,7 win=2,2"])[3] != said[-1]:
+        if (ours.split(" ", 3) + ["size=7,7 win=2,2"])[3] != taken or guests.split(" ", 3)[3] != taken:
             raise Missing(f"the ends hold otherwise: {ours}, {guests}")
-    return " and ".join(f"`{it}`" for it in said)
 
 
 def calls(it):
-    """A call by the kernel, a message, cleared by the kernel"""
+    """a call by the kernel with these, a message of it, a clear by it"""
     it.order("facilities 8 8 3 3", "set")
     behind = it.guest.mark()
     channel = channel_of(it.heed("call 111 222 aabb", "dce incoming"))
@@ -127,7 +123,6 @@ def calls(it):
         raise Missing("the guest's message came otherwise")
     it.both(lambda: it.guest.tell(f"close {slot}"), f"dce cleared ch={channel}", f"closing {slot}")
     it.order("facilities 0 0 0 0", "set")
-    return ""
 
 
 def echoed(it, channel, size, seed, q=0):
@@ -141,16 +136,15 @@ def echoed(it, channel, size, seed, q=0):
 
 
 def messages(it):
-    """Messages of 1 to 10,000 octets, echoed octet for octet"""
+    """12 messages of 1 to 10,000 octets, 17,255 octets each way, echoed octet for octet"""
     channel, slot, _, _ = call(it, " 8 8 3 3", LARGE)
     for size in SIZES:
         echoed(it, channel, size, size & 255)
     clear(it, channel, slot)
-    return f"{len(SIZES)} messages, {sum(SIZES):,} octets each way"
 
 
 def at_once(it):
-    """Four channels at once"""
+    """four channels at once, 3 messages of 2,500 octets on each, echoed"""
     opened = [call(it, " 7 7 2 2")[:2] for _ in range(CHANNELS)]
     since, size = it.ours.mark(), 2500
     for channel, _ in opened:
@@ -162,20 +156,18 @@ def at_once(it):
             raise Missing(f"the messages of channel {channel} came back otherwise")
     for channel, slot in opened:
         clear(it, channel, slot)
-    return f"3 messages of {size:,} octets on each"
 
 
 def q_bit(it):
-    """The Q bit, echoed"""
+    """the Q bit, echoed"""
     channel, slot, _, _ = call(it, address=QUALIFIED)
     for q in (1, 0):
         echoed(it, channel, 10, q, q)
     clear(it, channel, slot)
-    return ""
 
 
 def interrupts(it):
-    """Interrupts, either way"""
+    """an interrupt either way"""
     channel, slot, _, _ = call(it)
     since, behind = it.ours.mark(), it.guest.mark()
     it.ours.tell(f"dce int {channel} 07")
@@ -184,17 +176,15 @@ def interrupts(it):
     it.heed(f"interrupt {slot} 9", f"dce interrupt ch={channel}")
     echoed(it, channel, 3, 1)
     clear(it, channel, slot)
-    return ""
 
 
 def resets(it):
-    """A reset by the station, messages behind it"""
+    """a reset by the station, a message before and behind it"""
     channel, slot, _, _ = call(it)
     echoed(it, channel, 100, 3)
     it.ask(f"dce reset {channel}", f"dce resetdone ch={channel}")
     echoed(it, channel, 100, 4)
     clear(it, channel, slot)
-    return ""
 
 
 def is_not_ready(octets, channel):
@@ -203,7 +193,7 @@ def is_not_ready(octets, channel):
 
 
 def too_long(it):
-    """A message of 60,000 octets: the kernel's receive buffer is full before it is whole, and it stays not ready (RNR) until the clear"""
+    """a message of 60,000 octets, larger than the kernel's receive buffer: it stays not ready until the clear"""
     channel, slot, _, _ = call(it, " 8 8 3 3", LARGE)
     behind = it.guest.mark()
     it.ours.tell(f"dce send {channel} 0 {pattern(60_000, 1)}")
@@ -215,11 +205,10 @@ def too_long(it):
     if not any(is_not_ready(octets, channel) for octets in came):
         raise Missing("RNR: none came")
     clear(it, channel, slot)
-    return ""
 
 
 def again(it):
-    """Set up anew: DISC by the kernel, then SABM, restart, a call and a message"""
+    """DISC by the kernel, set-up anew, restart, a call and a message"""
     since = it.ours.mark()
     it.order("down", "down")
     # The kernel sends DISC once; where that is lost the link goes down by its SABM.
@@ -231,7 +220,6 @@ def again(it):
     channel, slot, _, _ = call(it)
     echoed(it, channel, 500, 5)
     clear(it, channel, slot)
-    return ""
 
 
 ROWS = (set_up, called, negotiated, calls, messages, at_once, q_bit, interrupts, resets, again)
@@ -240,14 +228,13 @@ LAST_ROWS = (too_long,)
 
 
 def played(row, it):
-    """What came of a row: whether it passed, and what is said of it."""
+    """What came of a row: whether it passed, and its cell of the table."""
     begin = time.monotonic()
     try:
-        said = row(it)
+        row(it)
     except Missing as missing:
-        return False, f"failed: {missing}"
-    seconds = f"{time.monotonic() - begin:.0f} s"
-    return True, f"{said}, {seconds}" if said else seconds
+        return False, f"FAILED: {missing}"
+    return True, f"ok, {time.monotonic() - begin:.0f}"
 
 
 def frmrs(trace):
@@ -257,41 +244,58 @@ def frmrs(trace):
     return sum(1 for frame in frames if len(frame) == 2 and int(frame[1][2:4] or "0", 16) & 0xEF == 0x87)
 
 
+# What is counted of each probability, in the rows behind those that are played.
+COUNTED = ("frames sent, come, lost on the way out, lost on the way in", "firings of T1 here", "FRMR")
+
+
+def counted(it):
+    """The cells of what is counted, once the bridge has ended."""
+    said = " ".join(line.partition("frames: ")[2] for line in it.ours.said if "frames: " in line)
+    numbers = [f"{int(number):,}" for number in re.findall("[0-9]+", said)] or ["?"] * 7
+    return [", ".join(numbers[:4]), numbers[6].replace(",", ""), str(frmrs(it.trace))]
+
+
 def prepare(guest):
     """Waits until the guest runs, and has it listen; what its circuits take they send back."""
     begin = time.monotonic()
     guest.hear(0, "ready", 900)
-    print(f"booted in {time.monotonic() - begin:.0f} s", flush=True)
+    print(f"booted in {time.monotonic() - begin:.0f} s", file=sys.stderr, flush=True)
     for command in ["echo 1", *(line for before, address, after in LISTENERS for line in (before, f"listen {address}", after) if line)]:
         since = guest.mark()
         guest.tell(command)
         guest.hear(since, "listening" if command.startswith("listen") else "set", 60)
 
 
+def play(it, options):
+    """Plays all rows with one probability; answers their cells, by the rows' names."""
+    cells = {}
+    for row in ROWS + (LAST_ROWS if not it.lose else ()):
+        if row is set_up or not options.only or options.only in row.__name__:
+            passed, cells[row.__doc__] = played(row, it)
+            print(f"{it.lose:.0%}: {row.__doc__}: {cells[row.__doc__]}", file=sys.stderr, flush=True)
+            if row is set_up and not passed:
+                break
+    it.guest.tell("down")
+    time.sleep(2)
+    it.ours.stop()
+    return {**cells, **dict(zip(COUNTED, counted(it)))}
+
+
 def run(options):
-    """Plays all rows with each probability; answers whether all passed, and writes the table as it grows."""
-    guest, all_passed = booted(options.folder, *PORTS, options.show), True
+    """Plays all rows with each probability, and writes the table; answers whether all passed."""
+    guest = Talker("kernel", boot(options.folder, *PORTS), options.show)
     try:
         prepare(guest)
-        for lose in options.lose:
-            it = Joined(guest, options, lose)
-            for row in ROWS + (LAST_ROWS if not lose else ()):
-                if row is set_up or not options.only or options.only in row.__name__:
-                    passed, said = played(row, it)
-                    all_passed = all_passed and passed
-                    print(f"| {lose:.0%} | {row.__doc__} | {'ok' if passed else 'FAILED'} | {said} |", flush=True)
-                    if row is set_up and not passed:
-                        break
-            guest.tell("down")
-            time.sleep(2)
-            it.ours.stop()
-            counts = [line.partition("frames: ")[2] for line in it.ours.said if "frames: " in line]
-            print(f"| {lose:.0%} | FRMR in the trace | {frmrs(it.trace)} | {' '.join(counts)} |", flush=True)
+        columns = [play(Joined(guest, options, lose), options) for lose in options.lose]
         guest.tell("quit")
         guest.end(20)
     finally:
         guest.end(0)
-    return all_passed
+    print("| Row | " + " | ".join(f"{100 * lose:.0f}" for lose in options.lose) + " |")
+    print("|---" * (1 + len(columns)) + "|")
+    for name in [row.__doc__ for row in ROWS + LAST_ROWS] + list(COUNTED):
+        print(f"| {name} | " + " | ".join(cells.get(name, "not played") for cells in columns) + " |")
+    return not any("FAILED" in cell for cells in columns for cell in cells.values())
 
 
 def main():

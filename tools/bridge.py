@@ -4,32 +4,47 @@
     bridge.py dce --listen 7000 --stay
     printf 'dte connect\\nwait dte restarted\\ndte call 123 4567 41\\n' | bridge.py dte --connect localhost:7000
     bridge.py dce --udp 5601:5600 --short-accept --trace frames
+    bridge.py dce --xot-listen --channels 8 --stay
 
 The line is one of these:
 
-  --listen PORT        a connection over TCP that another makes, to this host alone, or to HOST:PORT; it has lines of a trace
-  --connect HOST:PORT  such a connection to one who listens
+  --listen PORT        a connection over TCP that another makes, to this host alone, or to HOST:PORT; it has lines of a trace. While
+                       there is one, others are told that the line is taken. With --stay the next one is waited for where it ends
+  --connect HOST:PORT  such a connection to one who listens; with --retry it is made again and again, with a growing pause
   --stdio              standard input and output, with lines of a trace
   --ethernet IFACE     an interface of Ethernet, with frames as Linux's lapbether has them (type 6000, two octets of length, the low
-                       one first, no frame check sequence: it is cut and added); only root may
+                       one first, no frame check sequence: it is cut and added); only root may. Where it is down it is waited for, and
+                       calls whose packets wouldn't fit its MTU are refused
   --udp LOCAL:REMOTE   the same in datagrams between two ports of this host, or LOCAL:HOST:REMOTE, as qemu's network `dgram` has them
+  --xot HOST[:PORT], --xot-listen [PORT]
+                       X.25 over TCP (XOT, RFC 1613), port 1998: each circuit is a connection, which a call makes, or another makes,
+                       to this host alone or to HOST:PORT; both may be given. There is no link on the line: the bridge plays one
+
+An address of IPv6 stands in brackets, [::1]:7000.
 
 Commands are lines of a script of this end (`dte call 123 4567 41`), of standard input or --commands, and `wait TEXT`, which holds those
-behind it until a notice comes that begins so. Notices are the entries of the transcript, and `! N` for a command that is refused, on
-standard output or to --notices. With --stdio commands have to come by --commands, and notices go to standard error. A command that
-is refused because too much waits (10 and 31) is asked again behind the next frame, and those behind it wait.
+behind it until a notice comes that begins so. Notices are the entries of the transcript; `! N` for a command that is refused, and `? 60`
+for one that is none; and lines that begin with `#`, the bridge's own words: why that was, and what becomes of the line. They go to
+standard output or to --notices. With --stdio commands have to come by --commands, and notices go to standard error. A command that is
+refused because too much waits (10 and 31) is asked again behind the next frame, and those behind it wait; so do all while the line isn't
+there. `connect` behind `disconnect` begins a new station.
 
 T1 fires --t1 seconds after it began anew, where nothing that came is unread; let it be longer than the way to the other end and
-back. The bridge ends when the commands have, nothing is left to do, and no frame went or came for --quiet seconds; with --stay
-only when the line does.
+back. Where nothing came for --t3 seconds, the other end is asked whether it is there: by an RR of a circuit that is open, which it has to
+acknowledge, and of a connection over TCP by the system. A reader of notices may be slow: 256 KB are kept for him, then channels
+by which messages come are held (`notready`) until he has read half of it. The bridge ends when the commands have, nothing is left to
+do, and no frame went or came for --quiet seconds; with --stay only when the line does. CTRL-C and SIGTERM end it too: it sends DISC,
+and waits no longer than T1 for the answer.
 
 --lose and --damage try a line: each frame that goes or comes is lost, or damaged so that its frame check sequence shows it, with
 that probability; without frame check sequence a damaged frame can't be sent, and is lost. With --heal the line is good once no
 command is left: what was sent arrives then, as long as T1 has tries left, which --n2 gives. --short-accept reads a CALL ACCEPTED with
-both of its lengths, 0, as the same without them, which is all that `x25` takes; Linux writes it so.
+both of its lengths, 0, as the same without them, which is all that `x25` takes; Linux writes it so. --trace has frames as the line has
+them: those that the station sent, before they are lost here, and those that came, before that and before --short-accept. So where one of
+two bridges alone has --lose, its trace is whole.
 
-Exit status: 0; 1 where a command was refused, or the line ended before all was done; 2 for bad words, a line that asks for nothing
-that a station does, or anything else that stops the bridge, which standard error names.
+Exit status: 0; 1 where a command was refused or was none, the line ended before all was done, or nobody reads notices any more; 2 for
+bad words, or anything else that stops the bridge, which standard error names; 130 behind CTRL-C and 143 behind SIGTERM.
 """
 
 import argparse
@@ -37,53 +52,40 @@ import contextlib
 import os
 import re
 import select
+import signal
+import socket
 import sys
 import time
-from collections import Counter, deque
+from collections import Counter
 
 import decoding
 import piped
 import wires
 import x25lines
 import x25names
-from losses import Dice, within
+import xot_wire
+from losses import within
+from mishaps import Mishaps
+from users import SLOW, Outlet, User
 from x25lines import BadInput, FrameLine
+from xot import XOT_PORT
 
-# What a station answers where there is room again once something is acknowledged.
-FULL = ("! 10", "! 31")
+# What a station answers where there is room again once something is acknowledged, where the link was ended for good, for a parameter
+# out of range, and for a line that asks for nothing.
+FULL, DEAD, OUT_OF_RANGE, NOTHING = ("! 10", "! 31"), "! 13", "! 34", "? 60"
 # Commands wait while the line has so many octets unsent.
 MOST_UNSENT = 1 << 20
-# How many notices a `wait` may find that came before it, and how much of each.
-MOST_NOTICES, MOST_OF_A_NOTICE = 10_000, 200
 # The bridge ends after a time without a frame, this many times T1.
 QUIET_T1S = 5
+MOST_CHANNELS = 16
 OTHER = {">": "<", "<": ">"}
 LONG_ACCEPT = b"\x0f\0\0"
-
-
-class Mishaps:
-    """Loses and damages the frames of one way, each with its probability; the same seed does the same to the same frames."""
-
-    def __init__(self, lose, damage, seed):
-        self._lose, self._damage, self._dice = lose, damage, Dice(seed)
-        self.lost = self.damaged = 0
-
-    def happen(self, octets):
-        """What comes of a frame: its octets, others that its frame check sequence shows to be damaged, or None."""
-        draw = self._dice.fraction()
-        if draw < self._lose:
-            self.lost += 1
-            return None
-        if draw < self._lose + self._damage and octets:
-            self.damaged += 1
-            return self._damaged(octets)
-        return octets
-
-    def _damaged(self, octets):
-        damaged = bytearray(octets)
-        while damaged == octets or x25lines.is_sealed(bytes(damaged)):
-            damaged[self._dice.below(len(damaged))] ^= 1 << self._dice.below(8)
-        return bytes(damaged)
+CALL = 0x0B
+# A call, and an acceptance, with the two packet sizes that they may say.
+SIZED = re.compile(r"(?:call \S+ \S+ \S+|accept (?P<channel>\d+))(?: (?P<called>\d{1,3}) (?P<calling>\d{1,3}) \d+ \d+)?")
+READY = re.compile(r"\w+ (?:not)?ready (\d+)")
+CHANNEL = re.compile(r" ch=(\d+)")
+PROPOSED = re.compile(r" size=(\d+),(\d+) ")
 
 
 def shortened(octets):
@@ -94,126 +96,155 @@ def shortened(octets):
     return octets[:5] + x25lines.fcs(octets[:5])
 
 
-class User:
-    """The user of an end: commands that come and are held, notices that are told."""
+def called_channel(octets):
+    """The channel of a CALL in a frame, or None where it brings none."""
+    is_call = x25lines.is_sealed(octets) and len(octets) >= 7 and not octets[1] & 1 and octets[4] == CALL
+    return (octets[2] & 15) << 8 | octets[3] if is_call else None
 
-    def __init__(self, end, commands, notices):
-        self._own = f"{end} ".encode()
-        self._commands, self._notices = commands, notices
-        self._open, self._held = b"", deque()
-        self._heard = deque(maxlen=MOST_NOTICES)
-        self.is_ended = commands is None
 
-    def wants(self):
-        """The file to read from, where more commands may come and none is held."""
-        return [] if self.is_ended or self._held else [self._commands]
+class Signals:
+    """CTRL-C and SIGTERM as something to read. The first that came is `number`; a second one ends the script at once."""
 
-    def read(self):
-        """Reads what has come."""
-        octets = os.read(self._commands, wires.MOST_READ)
-        *whole, self._open = (self._open + octets).split(b"\n")
-        if not octets:
-            self.is_ended = True
-            whole = [self._open] if self._open else []
-        if len(self._open) > x25lines.MOST_CHARACTERS:
-            raise BadInput(f"a command has more than {x25lines.MOST_CHARACTERS:,} characters")
-        self._held.extend(whole)
+    def __init__(self):
+        self.number = None
+        self._reader, self._writer = socket.socketpair()
 
-    def command(self):
-        """The command that is next, or None where there is none or its time hasn't come."""
-        while self._held and self._held[0].startswith(b"wait "):
-            if not self._has_come(self._held[0][5:].decode("latin-1")):
-                return None
-            self._held.popleft()
-        if not self._held:
-            return None
-        if not self._held[0].startswith(self._own):
-            raise BadInput(f"{x25lines.shown(self._held[0])} is no command of this end: it doesn't begin with `{self._own.decode()}`")
-        return self._held[0].decode("latin-1")
+    def __enter__(self):
+        self._writer.setblocking(False)
+        signal.set_wakeup_fd(self._writer.fileno())
+        for number in (signal.SIGINT, signal.SIGTERM):
+            signal.signal(number, self._come)
+        return self
 
-    def _has_come(self, text):
-        """Whether a notice that begins so has come, behind the one that was waited for before; those up to it are forgotten."""
-        while self._heard:
-            if self._heard.popleft().startswith(text):
-                return True
-        return False
+    def __exit__(self, *_):
+        signal.set_wakeup_fd(-1)
 
-    def is_taken(self):
-        """The next command was asked for."""
-        self._held.popleft()
+    def _come(self, number, _):
+        self.number = number
+        for each in (signal.SIGINT, signal.SIGTERM):
+            signal.signal(each, signal.SIG_DFL)
 
-    def tell(self, notice):
-        """Tells a notice."""
-        self._heard.append(notice[:MOST_OF_A_NOTICE])
-        self._notices.write(notice + "\n")
+    def readers(self):
+        """The file that has something to read once one came, and None did before."""
+        return [self._reader] if self.number is None else []
 
-    def has_done(self):
-        """Whether no command is left, and none will come."""
-        return self.is_ended and not self._held
+
+class Channels:
+    """What the entries of a station tell of its channels: which have a circuit open, of which the user isn't ready, what calls propose."""
+
+    def __init__(self):
+        self.open, self.not_ready, self.proposed = set(), set(), {}
+
+    def heed(self, notice):
+        """Takes an entry; answers its event and its channel, or None."""
+        event = notice.split(" ")[1]
+        found = CHANNEL.search(notice)
+        channel = int(found[1]) if found else None
+        if event in ("accept", "connected"):
+            self.open.add(channel)
+        elif event == "incoming":
+            said = PROPOSED.search(notice)
+            self.proposed[channel] = max(int(said[1]), int(said[2])) if said else 0
+        elif event in ("ready", "notready"):
+            (self.not_ready.add if event == "notready" else self.not_ready.discard)(channel)
+        elif event in ("clear", "cleared", "cleardone", "reset", "wasreset", "resetdone"):
+            # Both ends are ready behind a reset.
+            self.not_ready.discard(channel)
+            if event.startswith("clear"):
+                self.open.discard(channel)
+        elif event.startswith(("restart", "link")):
+            self.open.clear()
+            self.not_ready.clear()
+        return event, channel
 
 
 class Bridge:
     """A station, its line and its user, and the deadline of T1. `status` is what the script ends with."""
 
-    def __init__(self, station, wire, user, options, trace=None):
-        self._station, self._wire, self._user, self._options, self._trace = station, wire, user, options, trace
+    def __init__(self, station, wire, user, options, trace, signals):
+        self._station, self._wire, self._user, self._options, self._trace, self._signals = station, wire, user, options, trace, signals
         self._end = options.end
         self._direction = ">" if options.end == "dte" else "<"
         self._going, self._coming = (Mishaps(options.lose, options.damage, 2 * options.seed + way) for way in (0, 1))
         self._quiet = options.quiet if options.quiet is not None else QUIET_T1S * options.t1
+        self._outlets = [it for it in (user.notices, trace) if it is not None]
+        self._channels = Channels()
         self._deadline, self._is_idle, self._is_up = None, False, False
-        self._is_full = False
-        self._last_frame = time.monotonic()
+        self._is_full, self._held, self._unknown = False, set(), set()
+        self._last_frame = self._last_came = time.monotonic()
+        self._leaves = None
         self.status, self.counts = 0, Counter()
 
     def run(self):
         """Runs until all is done or the line ends."""
         self._heed(self._station.first)
         while not self._has_ended() and self._turn():
-            pass
+            if self._signals.number is not None and self._leaves is None:
+                self._leave()
 
     def _turn(self):
         """What comes next: frames, T1, or a command; answers False where the line has ended."""
-        command = self._command()
-        wire, user = self._wire, self._user
-        writers = [wire.writer] if wire.waits else []
-        came, room, _ = select.select([wire.reader, *user.wants()], writers, [], 0 if command else self._patience())
-        frames = wire.read() if wire.reader in came else []
-        if frames is None or (room and not wire.flush()):
+        ready = self._ready()
+        is_still = True
+        try:
+            for octets in self._wire.frames(ready):
+                self._receive(octets)
+                is_still = False
+        except wires.Ended:
             return self._is_cut_off()
-        for octets in frames:
-            self._receive(octets)
-        if not frames:
-            self._act(command)
-        if user.wants() and user.wants()[0] in came:
-            user.read()
+        if is_still and self._leaves is None:
+            self._act()
+        self._user.read(ready)
+        for outlet in self._outlets:
+            outlet.flush()
         return True
 
-    def _act(self, command):
-        """Where nothing came: T1, or else a command."""
-        if self._deadline is not None and time.monotonic() >= self._deadline:
-            self._fire()
-        elif command:
-            self._ask(command)
-
-    def _command(self):
-        """The command that may be asked now."""
-        return None if self._is_full or self._wire.waits > MOST_UNSENT else self._user.command()
+    def _ready(self):
+        """Waits until the bridge has something to do; answers the files that are ready."""
+        wire = self._wire
+        if not wire.has_begun:
+            self._last_frame = time.monotonic()
+        readers = [*self._signals.readers(), *wire.readers(), *self._user.readers()]
+        writers = [*wire.writers(), *(outlet.number for outlet in self._outlets if outlet)]
+        came, room, _ = select.select(readers, writers, [], self._patience())
+        return {*came, *room}
 
     def _patience(self):
         """How long nothing may happen before the bridge itself has to act, in seconds; None where it has nothing to do."""
-        times = [self._deadline] if self._deadline is not None else []
+        if self._command() is not None or self._has_caught_up():
+            return 0
+        times = [time for time in (self._deadline, self._wire.due, self._leaves, self._probing()) if time is not None]
         if self._is_at_rest():
             times.append(self._last_frame + self._quiet)
         return max(0, min(times) - time.monotonic()) if times else None
 
+    def _act(self):
+        """Where nothing came: T1, or what T3 asks for, or else a command."""
+        now, probing = time.monotonic(), self._probing()
+        if self._deadline is not None and now >= self._deadline:
+            self._fire()
+        elif probing is not None and now >= probing:
+            self._probe()
+        elif self._has_caught_up():
+            self._release()
+        elif (command := self._command()) is not None:
+            self._ask(command)
+
+    def _command(self):
+        """The command that may be asked now."""
+        waits = self._is_full or self._leaves is not None or self._user.notices.is_slow()
+        return None if waits or not self._wire.is_there or self._wire.waits > MOST_UNSENT else self._user.command()
+
     def _is_at_rest(self):
         """Whether nothing is left to do here, if nothing comes any more."""
-        is_still = self._is_idle or not self._is_up
-        return not self._options.stay and self._user.has_done() and is_still and self._deadline is None and not self._wire.waits
+        is_still = (self._is_idle or not self._is_up) and self._deadline is None and not self._wire.waits and not self._user.notices
+        return not self._options.stay and self._wire.has_begun and self._user.has_done() and is_still
 
     def _has_ended(self):
-        return self._is_at_rest() and time.monotonic() >= self._last_frame + self._quiet
+        now = time.monotonic()
+        if self._leaves is not None:
+            return now >= self._leaves or (self._deadline is None and not self._wire.waits and not self._user.notices)
+        return self._is_at_rest() and now >= self._last_frame + self._quiet
 
     def _is_cut_off(self):
         """The other end has gone: it is told where something was left to do."""
@@ -222,17 +253,36 @@ class Bridge:
             self.status = 1
         return False
 
+    def _leave(self):
+        """Ends the link, and the bridge once that is acknowledged, or T1 later."""
+        self._leaves = time.monotonic() + self._options.t1
+        self.status = 128 + self._signals.number
+        if self._is_up or self._deadline is not None:
+            self._heed(self._station.ask(f"{self._end} disconnect"))
+
     def _receive(self, octets):
         """A frame came over the line."""
-        self._last_frame = time.monotonic()
+        self._last_frame = self._last_came = time.monotonic()
         self.counts["came"] += 1
+        self._note(OTHER[self._direction], octets)
         octets = self._befallen(octets, self._coming)
         if octets is None:
             return
-        self._note(OTHER[self._direction], octets)
         octets = shortened(octets) if self._options.short_accept else octets
         self._is_full = False
-        self._heed(self._station.ask(FrameLine(OTHER[self._direction], octets).text()))
+        answer = self._station.ask(FrameLine(OTHER[self._direction], octets).text())
+        if answer.refusal is not None:
+            self._user.note(f"the station takes no frame of {len(octets):,} octets: it is lost")
+        self._heed(answer)
+        self._look_for_channel(octets)
+
+    def _look_for_channel(self, octets):
+        """Tells of a call on a channel that the station doesn't have, once for each: nothing answers it."""
+        channel = called_channel(octets)
+        if channel is not None and channel > self._options.channels and channel not in self._unknown:
+            self._unknown.add(channel)
+            hint = f"--channels {channel} would have it" if channel <= MOST_CHANNELS else f"a station has at most {MOST_CHANNELS}"
+            self._user.note(f"a call came on channel {channel}, and there are {self._options.channels}: nothing answers it; {hint}")
 
     def _fire(self):
         """T1 runs out. Where the link goes down by it, no frame comes, so what waited for one is asked again."""
@@ -244,23 +294,86 @@ class Bridge:
         if answer.refusal is not None:
             raise BadInput(f"the station refused a firing of T1, which ran: {answer.refusal}")
 
+    def _probing(self):
+        """When the other end is asked whether it is there; None where there is no circuit to ask by, or T1 asks already."""
+        is_needed = self._options.t3 and self._channels.open and self._deadline is None and self._leaves is None and not self._is_at_rest()
+        return self._last_came + self._options.t3 if is_needed else None
+
+    def _probe(self):
+        """Says once more on a circuit whether the user is ready: the other end has to acknowledge that."""
+        self._last_came = time.monotonic()
+        channel = min(self._channels.open)
+        word = "notready" if channel in self._channels.not_ready else "ready"
+        self._heed(self._station.ask(f"{self._end} {word} {channel}")._replace(notices=[]))
+
+    def _has_caught_up(self):
+        """Whether channels are held for the reader of notices, and he has read."""
+        return bool(self._held) and len(self._user.notices) < SLOW // 2
+
+    def _release(self):
+        """What was held for the reader of notices comes again."""
+        held, self._held = sorted(self._held & self._channels.not_ready), set()
+        for channel in held:
+            self._heed(self._station.ask(f"{self._end} ready {channel}"))
+
     def _ask(self, command):
         """The user asks for something."""
+        why = self._objection(command)
+        if why:
+            refusal = NOTHING if why.startswith("no command") else OUT_OF_RANGE
+            self._user.is_taken()
+            self._refuse(refusal, why, command)
+            return
         answer = self._station.ask(command)
+        if answer.refusal == DEAD:
+            self._begin_anew()
+            answer = self._station.ask(command)
         self._is_full = answer.refusal in FULL
         if not self._is_full:
             self._user.is_taken()
             if answer.refusal is not None:
-                self.status = 1
-                self._user.tell(answer.refusal)
-                x25lines.warn(f"{answer.refusal} {x25names.refusal(answer.refusal)}: {x25lines.shown(command.encode())}")
+                self._refuse(answer.refusal, x25names.refusal(answer.refusal), command)
+            elif found := READY.fullmatch(command):
+                # What the user says himself of his being ready holds.
+                self._held.discard(int(found[1]))
         self._heed(answer)
+
+    def _objection(self, command):
+        """Why the bridge itself refuses a command; nothing where it doesn't."""
+        if len(command) > x25lines.MOST_CHARACTERS:
+            return f"no command has more than {x25lines.MOST_CHARACTERS:,} characters"
+        if not command.startswith(f"{self._end} "):
+            return f"no command of this end: those begin with `{self._end} `"
+        found = SIZED.fullmatch(command.partition(" ")[2])
+        if found and self._wire.most_size < wires.MOST_SIZE:
+            said = max(int(found["called"] or 0), int(found["calling"] or 0))
+            if said > self._wire.most_size or not said and self._channels.proposed.get(int(found["channel"] or 0), 0) > self._wire.most_size:
+                return f"packet sizes over {self._wire.most_size} ({1 << self._wire.most_size} octets) don't fit the line"
+        return ""
+
+    def _refuse(self, refusal, why, command):
+        """Tells that a command was refused, and why."""
+        self.status = 1
+        self._user.tell(refusal)
+        self._user.note(f"{refusal}, {why}: {x25lines.shown(command.encode('latin-1'))}")
+
+    def _begin_anew(self):
+        """A station that has ended its link is so for good: another one begins."""
+        self._station.begin()
+        self._channels, self._held = Channels(), set()
+        self._deadline, self._is_up = None, False
+        self._heed(self._station.first)
 
     def _heed(self, answer):
         """Tells and sends what the station answers, and sets the deadline as its mark says."""
+        slow = set()
         for notice in answer.notices:
-            self._note_link(notice)
+            event, channel = self._channels.heed(notice)
+            if event in ("linkup", "linkdown"):
+                self._is_up = event == "linkup"
             self._user.tell(notice)
+            if event == "message" and self._user.notices.is_slow():
+                slow.add(channel)
         for frame in answer.frames:
             self._send(frame.octets)
         if answer.t1 == "start":
@@ -270,11 +383,14 @@ class Bridge:
         elif self._deadline is None:
             raise BadInput("the station left T1 running, which wasn't")
         self._is_idle = answer.is_idle
+        for channel in slow - self._channels.not_ready:
+            self._hold(channel)
 
-    def _note_link(self, notice):
-        event = notice.split(" ")[1]
-        if event in ("linkup", "linkdown"):
-            self._is_up = event == "linkup"
+    def _hold(self, channel):
+        """Has no more messages come by a channel, as the reader of notices is slow."""
+        self._held.add(channel)
+        self._user.note(f"notices wait to be read: channel {channel} is held")
+        self._heed(self._station.ask(f"{self._end} notready {channel}"))
 
     def _send(self, octets):
         self._last_frame = time.monotonic()
@@ -289,9 +405,9 @@ class Bridge:
         return octets if self._options.heal and self._user.has_done() else mishaps.happen(octets)
 
     def _note(self, direction, octets):
-        """Writes a frame to the trace: what the station sent, and what came over the line, before --short-accept."""
+        """Writes a frame to the trace, as the line has it."""
         if self._trace is not None:
-            self._trace.write(FrameLine(direction, octets, time.time_ns()).text(timed=True) + "\n")
+            self._trace.put(FrameLine(direction, octets, time.time_ns()).text(timed=True))
 
     def stats(self):
         """Says on standard error what went and came."""
@@ -306,10 +422,18 @@ def port(text):
     return int(text)
 
 
+def host(text):
+    """A word that is a name or an address; one of IPv6 stands in brackets."""
+    found = re.fullmatch(r"\[([0-9a-fA-F:.%\w]+)\]|([^:\[\]]+)", text)
+    if not found:
+        raise argparse.ArgumentTypeError(f"{text!r} is no name of a host and no address; one of IPv6 stands in brackets")
+    return found[1] or found[2]
+
+
 def host_and_port(text):
     """A word HOST:PORT, or PORT of this host."""
-    host, _, number = text.rpartition(":")
-    return host or "127.0.0.1", port(number)
+    name, _, number = text.rpartition(":")
+    return host(name) if name else "127.0.0.1", port(number)
 
 
 def ports(text):
@@ -318,30 +442,39 @@ def ports(text):
     return (port(local), *host_and_port(remote))
 
 
+def xot_host(text):
+    """A word HOST or HOST:PORT of XOT."""
+    has_port = re.fullmatch(r".*:[0-9]*", text) and not text.endswith("]")
+    return host_and_port(text) if has_port else (host(text), XOT_PORT)
+
+
 def add_station_words(parser):
     """Adds the words that the station gets."""
     parser.add_argument("end", choices=["dte", "dce"], help="which end the station is")
-    parser.add_argument("--k", metavar="N", help="the window of the link, 1 to 7 (7)")
-    parser.add_argument("--n2", metavar="N", help="how often a command is sent again, 1 to 255 (10)")
-    parser.add_argument("--channels", metavar="N", help="logical channels, 1 to 16 (1)")
+    parser.add_argument("--k", type=within(int, 1, 7), metavar="N", help="the window of the link, 1 to 7 (7)")
+    parser.add_argument("--n2", type=within(int, 1, 255), metavar="N", help="how often a command is sent again, 1 to 255 (10)")
+    parser.add_argument("--channels", type=within(int, 1, MOST_CHANNELS), default=1, metavar="N", help="logical channels, 1 to 16 (1)")
     parser.add_argument("--long", action="store_true", help="a call may have up to 128 octets of user data")
     decoding.add_program(parser)
 
 
 def station_words(options):
     """The words that the station gets behind its end."""
-    given = [(f"--{name}", getattr(options, name)) for name in ("k", "n2", "channels") if getattr(options, name) is not None]
+    given = [(f"--{name}", str(getattr(options, name))) for name in ("k", "n2", "channels") if getattr(options, name) is not None]
     return [word for pair in given for word in pair] + (["--long"] if options.long else [])
 
 
 def add_line_words(parser):
     """Adds the words that say what the line is."""
-    line = parser.add_mutually_exclusive_group(required=True)
-    line.add_argument("--listen", type=host_and_port, metavar="PORT", help="lines of a trace over a connection that another makes")
-    line.add_argument("--connect", type=host_and_port, metavar="HOST:PORT", help="lines of a trace over a connection to HOST")
-    line.add_argument("--stdio", action="store_true", help="lines of a trace on standard input and output")
-    line.add_argument("--ethernet", metavar="IFACE", help="lapbether on an interface")
-    line.add_argument("--udp", type=ports, metavar="LOCAL:REMOTE", help="lapbether in datagrams between two ports")
+    parser.add_argument("--listen", type=host_and_port, metavar="PORT", help="lines of a trace over a connection that another makes")
+    parser.add_argument("--connect", type=host_and_port, metavar="HOST:PORT", help="lines of a trace over a connection to HOST")
+    parser.add_argument("--stdio", action="store_true", help="lines of a trace on standard input and output")
+    parser.add_argument("--ethernet", metavar="IFACE", help="lapbether on an interface")
+    parser.add_argument("--udp", type=ports, metavar="LOCAL:REMOTE", help="lapbether in datagrams between two ports")
+    parser.add_argument("--xot", type=xot_host, metavar="HOST[:PORT]", help="XOT: calls make connections to HOST")
+    own = ("127.0.0.1", XOT_PORT)
+    parser.add_argument("--xot-listen", type=host_and_port, nargs="?", const=own, metavar="PORT", help="XOT: others make connections")
+    parser.add_argument("--retry", action="store_true", help="with --connect: where there is no connection, make one again and again")
     parser.add_argument("--lose", type=within(float, 0, 1), default=0, metavar="P", help="the probability that a frame is lost (0)")
     parser.add_argument("--damage", type=within(float, 0, 1), default=0, metavar="P", help="the probability that it is damaged (0)")
     parser.add_argument("--heal", action="store_true", help="lose and damage nothing any more once no command is left")
@@ -355,6 +488,7 @@ def words():
     add_station_words(parser)
     add_line_words(parser)
     parser.add_argument("--t1", type=within(float, 0.001, 86_400), default=1, metavar="SECONDS", help="how long T1 is (1)")
+    parser.add_argument("--t3", type=within(float, 0, 86_400), default=60, metavar="SECONDS", help="how long nothing comes before the other end is asked; 0 for never (60)")
     parser.add_argument("--quiet", type=within(float, 0, 86_400), metavar="SECONDS", help=f"how long nothing comes at the end ({QUIET_T1S} times T1)")
     parser.add_argument("--stay", action="store_true", help="end only when the line does")
     parser.add_argument("--commands", metavar="FILE", help="where commands come from (standard input)")
@@ -362,26 +496,39 @@ def words():
     parser.add_argument("--trace", metavar="FILE", help="write the frames that the station sent and those that came, each with its time")
     parser.add_argument("--stats", action="store_true", help="say at the end how many frames went and came")
     options = parser.parse_args()
+    is_xot = bool(options.xot or options.xot_listen)
+    lines = [options.listen, options.connect, options.stdio, options.ethernet, options.udp, is_xot]
+    if sum(map(bool, lines)) != 1:
+        parser.error("name one line: --listen, --connect, --stdio, --ethernet, --udp, or --xot and --xot-listen")
     if options.lose + options.damage > 1:
         parser.error("the two probabilities come to more than 1")
+    if is_xot and options.lose + options.damage > 0:
+        parser.error("XOT loses and damages nothing")
+    if options.retry and not options.connect:
+        parser.error("--retry is for --connect")
     return options
 
 
-def joined(options):
-    """The wire that the words ask for; a peer over TCP is waited for."""
+def joined(options, note):
+    """The wire that the words ask for."""
+    end, t3 = options.end, options.t3
     if options.listen:
-        return wires.listening(options.end, *options.listen)
+        return wires.Listening(end, note, options.listen, t3, options.stay)
     if options.connect:
-        return wires.calling(options.end, *options.connect)
+        return wires.Calling(end, note, options.connect, t3, options.retry)
     if options.udp:
-        return wires.over_udp(options.end, *options.udp)
-    return wires.over_ethernet(options.ethernet) if options.ethernet else wires.standard(options.end)
+        return wires.over_udp(end, note, *options.udp)
+    if options.ethernet:
+        return wires.Ethernet(note, options.ethernet)
+    if options.stdio:
+        return wires.Standard(end, note)
+    return xot_wire.Xot(end, note, options.xot, options.xot_listen, options.channels, t3)
 
 
-def opened(path, mode, buffering):
-    """Opens a file that the words name."""
+def opened(path, mode):
+    """Opens a file that the words name, without a buffer."""
     try:
-        return open(path, mode, buffering)
+        return open(path, mode, 0)
     except OSError as error:
         raise BadInput(f"{path}: {error.strerror}") from error
 
@@ -391,22 +538,27 @@ def user_of(options, files):
     commands = None if options.stdio else sys.stdin.fileno()
     notices = sys.stderr if options.stdio else sys.stdout
     if options.commands:
-        commands = files.enter_context(opened(options.commands, "rb", 0)).fileno()
+        commands = files.enter_context(opened(options.commands, "rb")).fileno()
     if options.notices:
-        notices = files.enter_context(opened(options.notices, "w", 1))
-    return User(options.end, commands, notices)
+        notices = files.enter_context(opened(options.notices, "wb"))
+    return User(commands, notices)
 
 
 def main():
     options = words()
     with contextlib.ExitStack() as files:
+        signals = files.enter_context(Signals())
         user = user_of(options, files)
-        trace = files.enter_context(opened(options.trace, "w", 1)) if options.trace else None
+        trace = Outlet(files.enter_context(opened(options.trace, "wb"))) if options.trace else None
         station = files.enter_context(piped.Station(options.x25, options.end, station_words(options)))
-        bridge = Bridge(station, joined(options), user, options, trace)
+        wire = joined(options, user.note)
+        files.callback(wire.close)
+        bridge = Bridge(station, wire, user, options, trace, signals)
         try:
             bridge.run()
         finally:
+            for outlet in filter(None, (user.notices, trace)):
+                outlet.end()
             if options.stats:
                 bridge.stats()
         return bridge.status

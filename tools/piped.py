@@ -1,8 +1,8 @@
 """A station behind a pipe, which is the program's `station` as a child process: asked event by event.
 
-Each line that it is given is answered by notices (entries of its end), frames to send, or a refusal, and then by a mark,
-`. T1 WORK`; the first mark comes before anything is asked. An answer is read up to its mark before the next event, so that
-neither pipe can fill.
+Each line that it is given is answered by notices (entries of its end), frames to send, or a refusal (`! N`, or `? 60` for a line that
+asks for nothing), and then by a mark, `. T1 WORK`; the first mark comes before anything is asked. An answer is read up to its mark
+before the next event, so that neither pipe can fill.
 """
 
 import subprocess
@@ -14,7 +14,6 @@ from x25lines import BadInput, FrameLine
 
 T1 = {b"off", b"on", b"start"}
 WORK = {b"idle": True, b"busy": False}
-NOTHING = b"? 60"
 
 
 class Answer(NamedTuple):
@@ -34,18 +33,26 @@ class Station:
         if program is None:
             raise BadInput(MISSING_STATION)
         self._name = f"{program} station {end}"
-        try:
-            self._child = subprocess.Popen([program, "station", end, *words], stdin=subprocess.PIPE, stdout=subprocess.PIPE)
-        except OSError as error:
-            raise BadInput(f"{program}: {error.strerror}") from error
-        self.first = None
+        self._command = [program, "station", end, *words]
+        self._child = self.first = None
 
     def __enter__(self):
-        self.first = self._answer(b"")
+        self.begin()
         return self
 
     def __exit__(self, *_):
-        let_end(self._child)
+        if self._child is not None:
+            let_end(self._child)
+
+    def begin(self):
+        """Begins the station, in place of one that ran."""
+        self.__exit__()
+        try:
+            # In a session of its own CTRL-C doesn't end it before the one who asks it.
+            self._child = subprocess.Popen(self._command, start_new_session=True, stdin=subprocess.PIPE, stdout=subprocess.PIPE)
+        except OSError as error:
+            raise BadInput(f"{self._command[0]}: {error.strerror}") from error
+        self.first = self._answer(b"")
 
     def ask(self, event):
         """The answer to an event, a line without its line feed."""
@@ -63,8 +70,6 @@ class Station:
             line = line.rstrip(b"\n")
             if line.startswith(b". "):
                 return Answer(notices, frames, refusal, *self._mark(line))
-            if line == NOTHING:
-                raise BadInput(f"{self._name} knows no event {x25lines.shown(event)}")
             if frame := x25lines.frame_line(line):
                 frames.append(frame)
             elif x25lines.REFUSAL_LINE.fullmatch(line):

@@ -1,14 +1,18 @@
-"""What carries a bridge's frames to the other end: lines of a trace over a stream of octets, or datagrams of lapbether.
+"""What carries a bridge's frames to the other end: lines of a trace over a stream of octets, or frames of lapbether.
 
-A wire has `read`, which answers the octets of the frames that came, each with its frame check sequence, or None where the wire
-has ended, and is called where `reader` has something to read; and `send`. `writer` is written where `waits` is above 0, by
-`flush`.
+A wire stands in a loop around `select`. `readers` and `writers` are the numbers of the files that it waits for, and `due` is when it
+wants a turn without them. `frames` is its turn: it writes what there is room for, and yields the octets of each frame that came, with
+its frame check sequence; it raises `Ended` where the wire has ended for good. `send` takes a frame that goes out: while the wire isn't
+there (`is_there`) it is lost, as on any line. What becomes of the wire is told by `note`, a function that the wire is given.
 """
 
 import contextlib
+import errno
+import fcntl
 import os
 import select
 import socket
+import struct
 import time
 
 import lan
@@ -22,52 +26,66 @@ BROADCAST = b"\xff" * 6
 # The shortest frame of Ethernet, without its frame check sequence.
 LEAST_ETHERNET = 60
 HEADER = 14
-# How long, and how often, a peer is called that doesn't answer yet, in seconds.
-PATIENCE, PAUSE = 10, 0.1
+# Octets of a frame of lapbether that are no user data: its length, the address and control of LAPB, the header of a packet.
+OVERHEAD = 7
+# The codes of packet sizes, each 2 to its code.
+MOST_SIZE = 12
+# A peer is called that doesn't answer yet: for how long, and the pause, which grows where the bridge calls again and again. In seconds.
+PATIENCE, PAUSE, MOST_PAUSE = 10, 0.1, 30
+# How often an interface that is down is looked at, in seconds.
+LOOK = 1
+# Requests of Linux about an interface, and the flag that it is up.
+GET_FLAGS, GET_MTU, IS_UP = 0x8913, 0x8921, 1
+GONE = {errno.ENETDOWN, errno.ENODEV, errno.ENXIO}
 
 
-class Stream:
-    """Lines of a trace: what `end` sends, and what comes from the other end. `reader` and `writer` are numbers of files."""
+class Ended(Exception):
+    """The wire has ended, and doesn't come again."""
+
+
+class Wire:
+    """What all wires have. `has_begun` is whether it was ever there, `waits` how many octets wait to be written."""
 
     has_fcs = True
+    is_there = has_begun = True
+    due = None
+    waits = 0
+    most_size = MOST_SIZE
 
-    def __init__(self, end, reader, writer):
-        self.reader, self.writer = reader, writer
+    def readers(self):
+        """The files that something may come by."""
+        return []
+
+    def writers(self):
+        """The files that have to have room."""
+        return []
+
+    def close(self):
+        """Lets go of what the wire has open."""
+
+
+class Lines:
+    """Lines of a trace as octets: those that `end` writes, and those that come from the other end."""
+
+    def __init__(self, end, note):
         self._own, self._other = ("> ", "<") if end == "dte" else ("< ", ">")
+        self._note = note
         self._open = b""
-        self._left = b""
 
-    @property
-    def waits(self):
-        """How many octets wait to be written."""
-        return len(self._left)
+    def spelled(self, octets):
+        """The line of a frame that this end sends."""
+        return f"{self._own}{octets.hex()}\n".encode()
 
-    def send(self, octets):
-        """Sends a frame; some of it may wait."""
-        self._left += f"{self._own}{octets.hex()}\n".encode()
-
-    def flush(self):
-        """Writes of what waits as much as there is room for; answers False where nobody reads any more."""
-        try:
-            self._left = self._left[os.write(self.writer, self._left[:ROOM]) :]
-        except BlockingIOError:
-            pass
-        except (BrokenPipeError, ConnectionResetError):
-            return False
-        return True
-
-    def read(self):
-        """The frames that came, or None at the end of the wire."""
-        try:
-            octets = os.read(self.reader, MOST_READ)
-        except ConnectionResetError:
-            octets = b""
-        if not octets:
-            return None
+    def frames(self, octets):
+        """Yields the frames of the lines that are whole now; what the other end says in a comment is told."""
         *whole, self._open = (self._open + octets).split(b"\n")
+        for line in whole:
+            if line.startswith(b"#"):
+                self._note(f"the other end says {x25lines.shown(line[1:].strip())}")
+            else:
+                yield self._frame(line)
         if len(self._open) > x25lines.MOST_CHARACTERS:
             raise BadInput("the line brought more characters than a line of a trace may have")
-        return [self._frame(line) for line in whole]
 
     def _frame(self, line):
         frame = x25lines.frame_line(line)
@@ -78,32 +96,336 @@ class Stream:
         return frame.octets
 
 
-class Datagrams:
-    """Frames of lapbether, each in a frame of Ethernet, over a socket. `take` answers what one brought, `give` sends one."""
+class Standard(Wire):
+    """Lines of a trace on standard input and output."""
+
+    def __init__(self, end, note):
+        self._lines, self._left = Lines(end, note), bytearray()
+
+    @property
+    def waits(self):
+        return len(self._left)
+
+    def readers(self):
+        return [0]
+
+    def writers(self):
+        return [1] if self._left else []
+
+    def send(self, octets):
+        self._left += self._lines.spelled(octets)
+
+    def frames(self, ready):
+        if 1 in ready:
+            try:
+                del self._left[: os.write(1, self._left[:ROOM])]
+            except BlockingIOError:
+                pass
+            except BrokenPipeError:
+                raise Ended from None
+        if 0 in ready:
+            octets = os.read(0, MOST_READ)
+            if not octets:
+                raise Ended
+            yield from self._lines.frames(octets)
+
+
+def addresses(host, port, kind=socket.SOCK_STREAM):
+    """The addresses of a host's port, each with its family."""
+    try:
+        return [(row[0], row[4]) for row in socket.getaddrinfo(host, port, type=kind)]
+    except socket.gaierror as error:
+        raise BadInput(f"{host}: {error.strerror}") from error
+
+
+def written(address):
+    """An address and its port as they are written."""
+    return f"[{address[0]}]:{address[1]}" if ":" in address[0] else f"{address[0]}:{address[1]}"
+
+
+def server(host, port):
+    """Listens at a port of a host, for connections over TCP, and says so."""
+    family, address = addresses(host, port)[0]
+    try:
+        opened = socket.create_server(address[:2], family=family)
+    except OSError as error:
+        raise BadInput(f"{written(address)}: {error.strerror}") from error
+    opened.setblocking(False)
+    x25lines.warn(f"listening on {written(opened.getsockname())}")
+    return opened
+
+
+def accepted(opened):
+    """The connection that comes next to a server, or None where it has gone already."""
+    try:
+        return opened.accept()[0]
+    except OSError:
+        return None
+
+
+class Connection:
+    """A connection over TCP, or one that is being made to an address (`is_open` says which): what waits to be written, and what came.
+
+    Where nothing comes for `t3` seconds, the system asks whether the other end is still there; if not, the connection ends.
+    """
+
+    def __init__(self, opened, t3, address=None):
+        self._socket, self._left = opened, bytearray()
+        self.is_open, self.why = address is None, ""
+        opened.setblocking(False)
+        opened.setsockopt(socket.IPPROTO_TCP, socket.TCP_NODELAY, 1)
+        if t3:
+            self._keep_alive(max(1, round(t3)))
+        self._error = opened.connect_ex(address) if address else 0
+
+    def _keep_alive(self, seconds):
+        self._socket.setsockopt(socket.SOL_SOCKET, socket.SO_KEEPALIVE, 1)
+        values = {"TCP_KEEPIDLE": seconds, "TCP_KEEPINTVL": max(1, seconds // 3), "TCP_KEEPCNT": 3, "TCP_USER_TIMEOUT": 2000 * seconds}
+        for name, value in values.items():
+            if hasattr(socket, name):
+                self._socket.setsockopt(socket.IPPROTO_TCP, getattr(socket, name), value)
+
+    @property
+    def number(self):
+        """The number of its file."""
+        return self._socket.fileno()
+
+    @property
+    def waits(self):
+        """How many octets wait to be written."""
+        return len(self._left)
+
+    def wants_room(self):
+        """Whether it has something to do once there is room."""
+        return bool(self._left) or not self.is_open
+
+    def left(self):
+        """The octets that wait to be written."""
+        return bytes(self._left)
+
+    def send(self, octets):
+        """Has octets written, by and by."""
+        self._left += octets
+
+    def turn(self, ready):
+        """Where its file is ready: writes, and answers the octets that came; None where the connection has ended, or wasn't made."""
+        if self.number not in ready:
+            return b""
+        try:
+            if not self.is_open:
+                self._be_made()
+            if self._left:
+                with contextlib.suppress(BlockingIOError):
+                    del self._left[: self._socket.send(self._left)]
+            octets = self._socket.recv(MOST_READ)
+        except BlockingIOError:
+            return b""
+        except OSError as error:
+            self.why = error.strerror
+            return None
+        return octets or None
+
+    def _be_made(self):
+        error = self._socket.getsockopt(socket.SOL_SOCKET, socket.SO_ERROR)
+        if self._error not in (0, errno.EINPROGRESS):
+            error = self._error
+        if error:
+            raise OSError(error, os.strerror(error))
+        self.is_open = True
+
+    def close(self):
+        """Closes it; what waits is lost."""
+        self._socket.close()
+
+
+class OverTcp(Wire):
+    """Lines of a trace over a connection of TCP; where it ends and `comes_again`, over the next one."""
+
+    def __init__(self, end, note, t3, comes_again):
+        self._end, self._note, self._t3, self._comes_again = end, note, t3, comes_again
+        self._connection = self._lines = None
+        self.has_begun = False
+
+    @property
+    def is_there(self):
+        return self._lines is not None
+
+    @property
+    def waits(self):
+        return self._connection.waits if self.is_there else 0
+
+    def readers(self):
+        return [self._connection.number] if self.is_there else []
+
+    def writers(self):
+        return [self._connection.number] if self._connection and self._connection.wants_room() else []
+
+    def send(self, octets):
+        if self.is_there:
+            self._connection.send(self._lines.spelled(octets))
+
+    def frames(self, ready):
+        octets = self._connection.turn(ready) if self._connection else b""
+        if octets is None:
+            self._lose(self._connection.why or "the other end has closed it")
+        elif self._connection and self._connection.is_open:
+            self._be_there()
+            yield from self._taken(octets)
+
+    def _taken(self, octets):
+        try:
+            yield from self._lines.frames(octets)
+        except BadInput as error:
+            if not self._comes_again:
+                raise
+            self._lose(error)
+
+    def _be_there(self):
+        """The connection stands."""
+        if not self.is_there:
+            self._lines, self.has_begun = Lines(self._end, self._note), True
+
+    def _lose(self, why):
+        """The connection has ended."""
+        self._connection.close()
+        self._connection = self._lines = None
+        if not self._comes_again:
+            raise Ended
+        self._note(f"the connection has ended: {why}")
+
+    def close(self):
+        if self._connection:
+            self._connection.close()
+
+
+class Listening(OverTcp):
+    """Waits for a connection; while there is one, others are told so and closed. Where it `stays`, it waits for the next one."""
+
+    def __init__(self, end, note, place, t3, stays):
+        super().__init__(end, note, t3, stays)
+        self._server = server(*place)
+
+    def readers(self):
+        return [self._server.fileno(), *super().readers()]
+
+    def frames(self, ready):
+        # Of a connection that has something to read that may be its end, which comes before the next one.
+        is_read = self._connection is not None and self._connection.number in ready
+        yield from super().frames(ready)
+        if self._server.fileno() in ready and (self._connection is None or not is_read) and (came := accepted(self._server)):
+            self._take(came)
+
+    def _take(self, came):
+        if self._connection is None:
+            self._connection = Connection(came, self._t3)
+            self._be_there()
+        else:
+            self._note("another client came, and was told that the line is taken")
+            with came, contextlib.suppress(OSError):
+                came.send(b"# the line is taken\n")
+
+    def close(self):
+        super().close()
+        self._server.close()
+
+
+class Calling(OverTcp):
+    """Makes a connection, to one who may listen only after some seconds; where it `retries`, again and again, with a growing pause."""
+
+    def __init__(self, end, note, place, t3, retries):
+        super().__init__(end, note, t3, retries)
+        self._place, self._addresses, self._turns = place, addresses(*place), 0
+        self._pause, self._is_told = PAUSE, False
+        self.due = time.monotonic()
+        self._last = self.due + PATIENCE
+
+    def frames(self, ready):
+        if self.due is not None and time.monotonic() >= self.due:
+            self._try()
+        for octets in super().frames(ready):
+            self._pause = PAUSE
+            yield octets
+
+    def _try(self):
+        """Calls the next address; one that is being called has had its time."""
+        if self._connection:
+            self._lose("it doesn't answer")
+            return
+        family, address = self._addresses[self._turns % len(self._addresses)]
+        self._turns += 1
+        self._connection = Connection(socket.socket(family, socket.SOCK_STREAM), self._t3, address)
+        self.due = time.monotonic() + PATIENCE
+
+    def _be_there(self):
+        super()._be_there()
+        self.due, self._is_told = None, False
+
+    def _lose(self, why):
+        if self.is_there:
+            super()._lose(why)
+        else:
+            self._connection.close()
+            self._connection = None
+            if not self._comes_again and time.monotonic() > self._last:
+                raise BadInput(f"{written(self._place)}: {why}")
+            if self._comes_again and not self._is_told:
+                self._note(f"no connection to {written(self._place)} yet: {why}")
+                self._is_told = True
+        self._wait()
+
+    def _wait(self):
+        """Sets when the next address is called: at once, but for a pause behind the last one."""
+        pause = 0 if self._turns % len(self._addresses) else self._pause
+        self.due = time.monotonic() + pause
+        if self._comes_again and pause:
+            self._pause = min(2 * self._pause, MOST_PAUSE)
+
+
+class Datagrams(Wire):
+    """Frames of lapbether, each in a frame of Ethernet, over a socket that sends to and takes from the other end alone."""
 
     has_fcs = False
-    waits = 0
 
-    def __init__(self, opened, source, take, give):
-        self.reader = self.writer = opened.fileno()
-        self._socket, self._source, self._take, self._give = opened, source, take, give
+    def __init__(self, note, opened, source):
+        self._note, self._socket, self._source = note, opened, source
+        self._last_error = None
+
+    def readers(self):
+        return [self._socket.fileno()]
 
     def send(self, octets):
         """Sends a frame; where there is no room it is lost, as on any line."""
-        with contextlib.suppress(BlockingIOError, ConnectionRefusedError):
-            self._give(ethernet_frame(self._source, octets[:-2]))
-
-    def flush(self):
-        """Nothing waits."""
-        return True
-
-    def read(self):
-        """The frame that came, if it is one of lapbether."""
         try:
-            frame = carried_frame(self._take())
+            self._socket.send(ethernet_frame(self._source, octets[:-2]))
+            self._last_error = None
         except (BlockingIOError, ConnectionRefusedError):
-            frame = None
-        return [] if frame is None else [frame]
+            pass
+        except OSError as error:
+            self._fail(error)
+
+    def frames(self, ready):
+        if self._socket.fileno() in ready:
+            try:
+                frame = carried_frame(self._take())
+            except (BlockingIOError, ConnectionRefusedError):
+                frame = None
+            except OSError as error:
+                frame = None
+                self._fail(error)
+            if frame is not None:
+                yield frame
+
+    def _take(self):
+        return self._socket.recv(MOST_READ)
+
+    def _fail(self, error):
+        """Nothing goes or comes for now; each reason is told once."""
+        if error.errno != self._last_error:
+            self._note(f"frames are lost: {error.strerror}")
+        self._last_error = error.errno
+
+    def close(self):
+        self._socket.close()
 
 
 def ethernet_frame(source, frame):
@@ -119,67 +441,84 @@ def carried_frame(octets):
     return frame[:length] + x25lines.fcs(frame[:length]) if is_whole else None
 
 
-def standard(end):
-    """Standard input and output as a wire."""
-    return Stream(end, 0, 1)
+def over_udp(end, note, local, host, remote):
+    """Datagrams between a port of this host, at the one address from which the other host is reached, and a port of that host."""
+    family, peer = addresses(host, remote, socket.SOCK_DGRAM)[0]
+    with socket.socket(family, socket.SOCK_DGRAM) as probe:
+        probe.connect(peer)
+        own = probe.getsockname()[0]
+    opened = socket.socket(family, socket.SOCK_DGRAM)
+    try:
+        opened.bind((own, local))
+    except OSError as error:
+        raise BadInput(f"{written((own, local))}: {error.strerror}") from error
+    opened.connect(peer)
+    opened.setblocking(False)
+    x25lines.warn(f"bound to {written(opened.getsockname())}")
+    # A made-up address of a station of Ethernet, marked as assigned by hand.
+    return Datagrams(note, opened, bytes([2, 0, 0, 0, 0, 1 if end == "dte" else 2]))
 
 
-def _connected(end, connection):
-    connection.setblocking(False)
-    connection.setsockopt(socket.IPPROTO_TCP, socket.TCP_NODELAY, 1)
-    # The number stays open without the object.
-    number = connection.detach()
-    return Stream(end, number, number)
+class Ethernet(Datagrams):
+    """An interface of Ethernet, by its name; while it is down or away, it is looked at once a second."""
 
+    def __init__(self, note, interface):
+        if not hasattr(socket, "AF_PACKET"):
+            raise BadInput("an interface of Ethernet can be joined on Linux alone")
+        super().__init__(note, None, None)
+        self._interface = interface
+        self.is_there = self.has_begun = False
+        self._open()
+        mtu = struct.unpack_from("i", self._asked(GET_MTU), 16)[0]
+        self.most_size = min(MOST_SIZE, max(0, mtu - OVERHEAD).bit_length() - 1)
+        x25lines.warn(f"{interface} has an MTU of {mtu}: packets of up to {1 << self.most_size} octets fit (size {self.most_size})")
+        self._look()
 
-def listening(end, host, port):
-    """Waits for one connection over TCP."""
-    with socket.create_server((host, port)) as server:
-        x25lines.warn("listening on {}:{}".format(*server.getsockname()[:2]))
-        return _connected(end, server.accept()[0])
+    def _open(self):
+        self._socket = socket.socket(socket.AF_PACKET, socket.SOCK_RAW, 0)
+        self._socket.bind((self._interface, lan.LAPBETHER))
+        self._socket.setblocking(False)
+        self._source = self._socket.getsockname()[4]
 
+    def _asked(self, request):
+        """What Linux answers to a request about the interface."""
+        return fcntl.ioctl(self._socket, request, struct.pack("16s24x", self._interface.encode()))
 
-def calling(end, host, port):
-    """Makes a connection over TCP, to one who may listen only after some seconds."""
-    last = time.monotonic() + PATIENCE
-    while True:
+    def _look(self):
+        """Looks whether the interface is up."""
+        self.is_there = bool(struct.unpack_from("h", self._asked(GET_FLAGS), 16)[0] & IS_UP)
+        self.has_begun = self.has_begun or self.is_there
+        self.due = None if self.is_there else time.monotonic() + LOOK
+
+    def readers(self):
+        return super().readers() if self.is_there else []
+
+    def send(self, octets):
+        if self.is_there:
+            super().send(octets)
+
+    def frames(self, ready):
+        if self.due is not None and time.monotonic() >= self.due:
+            self._come_back()
+        yield from super().frames(ready if self.is_there else ())
+
+    def _come_back(self):
         try:
-            return _connected(end, socket.create_connection((host, port), timeout=PATIENCE))
-        except ConnectionRefusedError:
-            if time.monotonic() > last:
-                raise
-            time.sleep(PAUSE)
+            self._socket.close()
+            self._open()
+            self._look()
+        except OSError:
+            self.due = time.monotonic() + LOOK
+        if self.is_there:
+            self._note(f"{self._interface} is up")
 
-
-def over_udp(end, local, host, remote):
-    """Datagrams between a local port and one of a host. What others send isn't taken."""
-    opened = socket.socket(socket.AF_INET, socket.SOCK_DGRAM)
-    opened.bind(("127.0.0.1" if host == "127.0.0.1" else "", local))
-    opened.setblocking(False)
-    peer = socket.gethostbyname(host), remote
-
-    def take():
-        octets, sender = opened.recvfrom(MOST_READ)
-        return octets if sender == peer else b""
-
-    return Datagrams(opened, _address(end), take, lambda octets: opened.sendto(octets, peer))
-
-
-def over_ethernet(interface):
-    """An interface of Ethernet, by its name."""
-    if not hasattr(socket, "AF_PACKET"):
-        raise BadInput("an interface of Ethernet can be joined on Linux alone")
-    opened = socket.socket(socket.AF_PACKET, socket.SOCK_RAW, socket.htons(lan.LAPBETHER))
-    opened.bind((interface, lan.LAPBETHER))
-    opened.setblocking(False)
-
-    def take():
-        octets, sender = opened.recvfrom(MOST_READ)
+    def _take(self):
+        octets, sender = self._socket.recvfrom(MOST_READ)
         return b"" if sender[2] == socket.PACKET_OUTGOING else octets
 
-    return Datagrams(opened, opened.getsockname()[4], take, opened.send)
-
-
-def _address(end):
-    """A made-up address of a station of Ethernet, marked as assigned by hand."""
-    return bytes([2, 0, 0, 0, 0, 1 if end == "dte" else 2])
+    def _fail(self, error):
+        if error.errno in GONE:
+            self._note(f"{self._interface}: {error.strerror}; waiting for it")
+            self.is_there, self.due = False, time.monotonic() + LOOK
+        else:
+            super()._fail(error)

@@ -3,10 +3,12 @@
 import os
 import re
 import shutil
+import signal
 import socket
 import subprocess
 import sys
 import threading
+import time
 import unittest
 
 import support
@@ -125,7 +127,9 @@ class Two(ToolCase):
         dte_files, dte_told = self.by_files("dte", OPENING + "dte send 1 0 6869\n")
         script += f"{{ {bridge} --ethernet x0 --quiet 8 {' '.join(dce_files)} dce & {bridge} --ethernet x1 {' '.join(dte_files)} dte; wait; }}"
         done = subprocess.run(["unshare", "-n", "sh", "-c", script], capture_output=True, timeout=SECONDS)
-        self.assertEqual((done.returncode, done.stderr), (0, b""))
+        self.assertEqual(done.returncode, 0, done.stderr)
+        said = "bridge.py: {} has an MTU of 1500: packets of up to 1024 octets fit (size 10)"
+        self.assertEqual(sorted(done.stderr.decode().splitlines()), [said.format(name) for name in ("x0", "x1")])
         self.assert_call(self.told(dte_told), self.told(dce_told))
 
     def test_a_command_that_is_refused(self):
@@ -133,10 +137,186 @@ class Two(ToolCase):
         dte = self.begin("dte", *words, "--t1", "1", "--quiet", "3")
         dce.stdin.close()
         out, said = dte.communicate("dte call 1 2 -\n", timeout=SECONDS)
-        self.assertEqual((dte.returncode, out), (1, "! 9\n"), said)
+        self.assertEqual((dte.returncode, out), (1, "! 9\n# ! 9, the link isn't up: 'dte call 1 2 -'\n"), said)
         dce.stdout.close()
         dce.stderr.close()
         dce.wait(SECONDS)
+
+    def hears(self, child, beginning):
+        """The next notice that begins so."""
+        line = "nothing"
+        while line and not line.startswith(beginning):
+            line = child.stdout.readline().rstrip("\n")
+        self.assertTrue(line, f"{beginning} didn't come")
+        return line
+
+    @staticmethod
+    def asks(child, *commands):
+        child.stdin.write("".join(f"{command}\n" for command in commands))
+        child.stdin.flush()
+
+    def joined(self, *words):
+        """Two bridges that stay, by TCP, with a call between them. Either may be killed: the DCE listens again, the DTE calls again."""
+        same = ["--stay", "--t1", "0.3", "--n2", "5", *words]
+        dce, line = self.listening(*same)
+        dte = self.begin("dte", *line, "--retry", *same)
+        self.open_call(dte, dce)
+        return dte, dce, [*line, "--retry", *same]
+
+    def open_call(self, dte, dce):
+        self.asks(dte, "dte connect", "wait dte restarted", CALL)
+        self.hears(dce, "dce incoming")
+        self.asks(dce, "dce accept 1")
+        self.hears(dte, "dte connected")
+
+    def finish(self, *children):
+        for child in children:
+            child.kill()
+            child.communicate(timeout=SECONDS)
+
+    def test_connect_behind_disconnect(self):
+        dte, dce, _ = self.joined()
+        for _ in range(3):
+            self.asks(dte, "dte disconnect", "wait dte linkdown")
+            self.hears(dce, "dce linkdown disc")
+            self.open_call(dte, dce)
+        # Of either end.
+        self.asks(dce, "dce disconnect", "wait dce linkdown", "dce connect")
+        self.hears(dte, "dte restarted")
+        self.asks(dte, CALL)
+        self.hears(dce, "dce incoming")
+        self.finish(dte, dce)
+
+    def test_a_bridge_is_killed(self):
+        """.. at each stage: while it listens or calls, while the link is set up, with a call, with messages under way; another one goes on."""
+        dte, dce, words = self.joined()
+        for stage in range(4):
+            with self.subTest(stage):
+                if stage == 1:
+                    self.asks(dte, "dte connect")
+                elif stage == 2:
+                    self.open_call(dte, dce)
+                elif stage == 3:
+                    self.open_call(dte, dce)
+                    self.asks(dte, *[f"dte send 1 0 {message('dte', number)}" for number in range(200)])
+                    self.hears(dce, "dce message")
+                self.finish(dte)
+                dte = self.begin("dte", *words)
+        self.open_call(dte, dce)
+        port = words[words.index("--connect") + 1]
+        self.finish(dce)
+        again = self.begin("dce", "--listen", port, "--stay", "--t1", "0.3", "--n2", "5")
+        self.hears(dte, "# the connection has ended")
+        self.hears(dte, "dte linkdown")
+        self.open_call(dte, again)
+        self.finish(dte, again)
+
+    def test_a_station_is_killed(self):
+        dte, dce, _ = self.joined()
+        with open(f"/proc/{dte.pid}/task/{dte.pid}/children") as file:
+            os.kill(int(file.read().split()[0]), signal.SIGKILL)
+        self.asks(dte, "dte send 1 0 41")
+        _, said = dte.communicate(timeout=SECONDS)
+        self.assertEqual((dte.returncode, said.count("\n")), (2, 1), said)
+        self.hears(dce, "# the connection has ended")
+        self.finish(dce)
+
+    def test_signals_end_with_disc(self):
+        for number, status in ((signal.SIGTERM, 143), (signal.SIGINT, 130)):
+            dte, dce, _ = self.joined()
+            dte.send_signal(number)
+            self.hears(dce, "dce linkdown disc")
+            out, said = dte.communicate(timeout=SECONDS)
+            self.assertEqual((dte.returncode, out.splitlines()[-1], said), (status, "dte linkdown local", ""))
+            self.finish(dce)
+
+    def test_a_line_that_dies_silently(self):
+        """Nothing comes any more, and the connection stands: the circuit's RR isn't acknowledged, and the link goes down."""
+        dte, dce, _ = self.joined("--t3", "0.5")
+        time.sleep(2)
+        dce.send_signal(signal.SIGSTOP)
+        # That is the next notice: what the bridge itself asks isn't told.
+        self.assertEqual(dte.stdout.readline(), "dte linkdown retries\n")
+        dce.send_signal(signal.SIGCONT)
+        self.hears(dce, "dce linkdown")
+        self.finish(dte, dce)
+
+    def test_readers_that_stall(self):
+        """Neither user reads while 3,000 messages of a kilobyte are sent each way: nothing is lost, and the link stands."""
+        sent = {end: [f"{end}{number:04d}".encode().hex() * 140 for number in range(3000)] for end in ("dte", "dce")}
+        for end, opening in (("dte", OPENING), ("dce", ANSWER)):
+            self.file(end, (opening + "".join(f"{end} send 1 0 {octets}\n" for octets in sent[end])).encode())
+        dce, line = self.listening("--t1", "1", "--stay", "--commands", os.path.join(self.folder, "dce"))
+        dte = self.begin("dte", *line, "--t1", "1", "--stay", "--commands", os.path.join(self.folder, "dte"))
+        time.sleep(5)
+        told = {"dte": [], "dce": []}
+
+        def take(child, notices):
+            came = 0
+            while came < 3000 and (line := child.stdout.readline()):
+                notices.append(line.rstrip("\n"))
+                came += " message " in line
+
+        takers = [threading.Thread(target=take, args=(child, told[end]), daemon=True) for end, child in (("dte", dte), ("dce", dce))]
+        for taker in takers:
+            taker.start()
+        for taker in takers:
+            taker.join(SECONDS)
+        for end, other in (("dte", "dce"), ("dce", "dte")):
+            self.assertEqual(messages(told[end]), sent[other])
+            self.assertEqual([it for it in told[end] if "linkdown" in it or "left out" in it], [])
+        self.assertTrue(any("is held" in it for it in told["dte"] + told["dce"]))
+        self.finish(dte, dce)
+
+    def test_a_trace_with_losses_is_whole(self):
+        """Of two bridges one loses frames: what its trace has breaks no rule."""
+        trace = os.path.join(self.folder, "trace")
+        sends = "".join(f"{{0}} send 1 0 {message('dte', number)}\n" for number in range(300))
+        same = ["--t1", "0.5", "--quiet", "8", "--n2", "200"]
+        dce, line = self.listening(*same)
+        dte = self.begin("dte", *line, *same, "--lose", "0.1", "--damage", "0.05", "--trace", trace)
+        self.play(dte, dce, OPENING + sends.format("dte"), ANSWER + sends.format("dce"))
+        rows = support.read(trace).splitlines()
+        given = b"".join(row.split(b"\t")[1] + b"\n" for row in rows)
+        told = subprocess.run([support.PROGRAM, "judge"], input=given, capture_output=True, timeout=60)
+        self.assertEqual((told.returncode, re.findall(b".* ! .*", told.stdout)), (0, []))
+
+    @unittest.skipUnless(os.geteuid() == 0 and shutil.which("ip") and shutil.which("unshare"), "only root makes interfaces of Ethernet, by ip and unshare")
+    def test_an_interface_that_goes_down(self):
+        """.. for some seconds, and one that is taken away and comes again; and calls whose packets don't fit."""
+        bridge = f"{sys.executable} -u {os.path.join(support.TOOLS, 'bridge.py')} --x25 {support.PROGRAM} --t1 0.5 --n2 100 --stay"
+        make = "ip link add x0 mtu 1000 type veth peer name x1 mtu 1000 && ip link set x0 up && ip link set x1 up"
+        script = f"""{make}
+        mkfifo "$1/dte.in" "$1/dce.in"
+        {bridge} --ethernet x0 dce <"$1/dce.in" >"$1/dce.out" 2>"$1/dce.err" & dce=$!
+        {bridge} --ethernet x1 dte <"$1/dte.in" >"$1/dte.out" 2>"$1/dte.err" & dte=$!
+        exec 3>"$1/dce.in" 4>"$1/dte.in"
+        comes() {{ for i in $(seq 300); do grep -q "$2" "$1" && return; sleep 0.1; done; echo "no $2" >&2; exit 1; }}
+        printf 'dte connect\nwait dte restarted\ndte call 1 2 - 10 10 2 2\ndte call 1 2 - 9 9 2 2\n' >&4
+        comes "$1/dce.out" incoming
+        echo 'dce accept 1' >&3
+        comes "$1/dte.out" connected
+        ip link set x0 down
+        comes "$1/dce.out" 'waiting for it'
+        echo 'dte send 1 0 41' >&4
+        sleep 1
+        ip link set x0 up
+        comes "$1/dce.out" 'x0 is up'
+        comes "$1/dce.out" 'data=41$'
+        ip link del x0
+        comes "$1/dce.out" 'x0: .*waiting for it'
+        comes "$1/dte.out" 'x1: .*waiting for it'
+        {make}
+        echo 'dte send 1 0 42' >&4
+        comes "$1/dce.out" 'data=42$'
+        kill $dce $dte
+        wait
+        """
+        done = subprocess.run(["unshare", "-n", "sh", "-c", script, "sh", self.folder], capture_output=True, timeout=SECONDS)
+        told = {name: support.read(os.path.join(self.folder, name)).decode() for name in ("dte.out", "dce.out", "dte.err", "dce.err")}
+        self.assertEqual((done.returncode, done.stderr), (0, b""), told)
+        self.assertEqual(told["dte.err"], "bridge.py: x1 has an MTU of 1000: packets of up to 512 octets fit (size 9)\n")
+        self.assertIn("! 34\n# ! 34, packet sizes over 9 (512 octets) don't fit the line: 'dte call 1 2 - 10 10 2 2'\n", told["dte.out"])
 
     def exchange(self, count, *words):
         """Joins two by TCP, and sends so many messages each way; answers what both said at the end."""

@@ -3,6 +3,7 @@
 import os
 import re
 import subprocess
+import sys
 import unittest
 
 import support
@@ -37,6 +38,15 @@ class Examples(ToolCase):
                     done = subprocess.run(["bash", "-c", command], cwd=self.folder, env=self.environment, capture_output=True, text=True, timeout=60)
                     self.assertEqual(done.stdout, output, done.stderr)
         self.assertEqual(sorted(os.listdir(self.folder)), ["build", "examples", "tools"])
+
+    def test_the_program_in_python(self):
+        text = support.read("docs/MANUAL.md").decode()
+        lines = re.search(r"^    import subprocess\n(?:(?:    .*)?\n)+", text, re.MULTILINE)[0]
+        program = re.sub("^    ", "", lines, flags=re.MULTILINE)
+        self.assertLessEqual(len([line for line in program.splitlines() if line.strip() and '"""' not in line]), 25)
+        written = re.search(r"^It writes `(.*)`\.$", text, re.MULTILINE)[1]
+        done = subprocess.run([sys.executable, "-c", program], env=self.environment, capture_output=True, text=True, timeout=60)
+        self.assertEqual((done.stdout, done.stderr), (written + "\n", ""))
 
     def test_each_subcommand_has_one(self):
         usage = subprocess.run([support.PROGRAM, "--help"], capture_output=True, text=True, timeout=60).stdout

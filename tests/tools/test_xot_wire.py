@@ -1,0 +1,301 @@
+"""Tests of XOT in bridge.py: what a wire makes of packets without the program, and circuits of bridges with it."""
+
+import os
+import re
+import shutil
+import socket
+import subprocess
+import sys
+import threading
+import time
+import unittest
+
+import samples
+import support
+from support import ToolCase
+
+import xot_wire
+
+CALL = bytes.fromhex("10010b431234567000c0ffee")
+IN_FULL = bytes.fromhex("10010b431234567006420707430202c0ffee")
+PROPOSAL = bytes.fromhex("06420808430303")
+ACCEPT = bytes.fromhex("10010f0006420707430202")
+SECONDS = 120
+
+
+class Facilities(unittest.TestCase):
+    def test_a_call_says_sizes_and_windows(self):
+        self.assertEqual(xot_wire.in_full(CALL, xot_wire.USUAL), IN_FULL)
+        self.assertEqual(xot_wire.in_full(IN_FULL, xot_wire.USUAL), IN_FULL)
+        windows = bytes.fromhex("10010b00" + "03430303" + "01")
+        self.assertEqual(xot_wire.in_full(windows, xot_wire.USUAL), bytes.fromhex("10010b00" + "06420707430303" + "01"))
+
+    def test_an_acceptance_says_those_of_the_call_where_it_says_none(self):
+        proposed = xot_wire.facilities(PROPOSAL[1:])
+        self.assertEqual(xot_wire.in_full(bytes.fromhex("10010f"), proposed), bytes.fromhex("10010f00") + PROPOSAL)
+        self.assertEqual(xot_wire.in_full(bytes.fromhex("10010f0003420707"), proposed), bytes.fromhex("10010f00" + "06420707430303"))
+
+    def test_facilities_of_all_lengths_are_passed_over(self):
+        field = bytes.fromhex("0101" + "420809" + "85010203" + "c5020102" + "430203")
+        self.assertEqual(xot_wire.facilities(field), {0x42: b"\x42\x08\x09", 0x43: b"\x43\x02\x03"})
+        self.assertEqual(xot_wire.facilities(b"\xc5"), {})
+
+
+@support.needs_station
+class Circuits(ToolCase):
+    def begin(self, end, *words):
+        """Starts a bridge, whose notices come one by one."""
+        command = [sys.executable, "-u", os.path.join(support.TOOLS, "bridge.py"), end, "--x25", support.PROGRAM, "--quiet", "1", *words]
+        child = subprocess.Popen(command, stdin=subprocess.PIPE, stdout=subprocess.PIPE, stderr=subprocess.PIPE, text=True, bufsize=1)
+        # Whoever waits in vain for a notice comes to the end of them.
+        timer = threading.Timer(SECONDS, child.kill)
+        timer.start()
+        self.addCleanup(self.finish, child, timer)
+        return child
+
+    @staticmethod
+    def finish(child, timer):
+        timer.cancel()
+        child.kill()
+        child.wait()
+        for file in (child.stdin, child.stdout, child.stderr):
+            file.close()
+
+    def listening(self, *words):
+        """A bridge of the DCE that is called, and its port."""
+        child = self.begin("dce", "--xot-listen", "0", "--stay", *words)
+        return child, int(child.stderr.readline().rpartition(":")[2])
+
+    def hears(self, child, beginning):
+        """The next notice that begins so."""
+        told = ["nothing"]
+        while not told[-1].startswith(beginning):
+            told.append(child.stdout.readline().rstrip("\n"))
+            self.assertTrue(told[-1], (beginning, told))
+        return told[-1]
+
+    @staticmethod
+    def asks(child, *commands):
+        child.stdin.write("".join(f"{command}\n" for command in commands))
+        child.stdin.flush()
+
+    def client(self, port):
+        """A connection of another who speaks XOT."""
+        line = socket.create_connection(("127.0.0.1", port), timeout=30)
+        self.addCleanup(line.close)
+        return line
+
+    @staticmethod
+    def takes(line):
+        """The next packet of a connection; nothing at its end."""
+        header = line.recv(4, socket.MSG_WAITALL)
+        return line.recv(int.from_bytes(header[2:], "big"), socket.MSG_WAITALL) if header else b""
+
+    def test_one_who_calls(self):
+        child, port = self.listening()
+        line = self.client(port)
+        # In two parts, and behind a packet of the other end that it hasn't to know.
+        line.sendall(samples.xot(b"\x10\x07" + CALL[2:])[:9])
+        time.sleep(0.1)
+        line.sendall(samples.xot(b"\x10\x07" + CALL[2:])[9:])
+        self.hears(child, "dce incoming ch=1 at 1.0.0 called=123 calling=4567 data=c0ffee")
+        self.asks(child, "dce accept 1")
+        self.assertEqual(self.takes(line), ACCEPT)
+        line.sendall(samples.xot(bytes.fromhex("1007006869"), bytes.fromhex("1000f121"), bytes.fromhex("10072341")))
+        self.assertEqual(self.hears(child, "dce message"), "dce message ch=1 at 1.0.0 q=0 data=6869")
+        self.assertEqual(self.hears(child, "dce interrupt"), "dce interrupt ch=1 at 1.0.0 data=41")
+        self.assertEqual([self.takes(line), self.takes(line)], [bytes.fromhex("100121"), bytes.fromhex("100127")])
+        self.asks(child, "dce send 1 1 616263")
+        self.assertEqual(self.takes(line), bytes.fromhex("900120616263"))
+        line.sendall(samples.xot(bytes.fromhex("1007130000")))
+        self.hears(child, "dce cleared ch=1 cause=0 diag=0")
+        self.assertEqual((self.takes(line), self.takes(line)), (bytes.fromhex("100117"), b""))
+
+    def test_a_connection_that_ends_clears_its_circuit(self):
+        child, port = self.listening("--channels", "2")
+        lines = [self.client(port) for _ in range(2)]
+        for channel, line in enumerate(lines, 1):
+            line.sendall(samples.xot(CALL))
+            self.hears(child, f"dce incoming ch={channel}")
+            self.asks(child, f"dce accept {channel}")
+            self.takes(line)
+        lines[0].close()
+        self.hears(child, "dce cleared ch=1 cause=9 diag=0")
+        # Its channel is free again, and the other circuit stands.
+        again = self.client(port)
+        again.sendall(samples.xot(CALL))
+        self.hears(child, "dce incoming ch=1")
+        lines[1].sendall(samples.xot(bytes.fromhex("10010041")))
+        self.hears(child, "dce message ch=2 at 1.0.0 q=0 data=41")
+        # A clear that the other end never confirms.
+        self.asks(child, "dce clear 2")
+        self.takes(lines[1])
+        self.assertEqual(self.takes(lines[1]), bytes.fromhex("1002130000"))
+        lines[1].close()
+        self.hears(child, "dce cleardone ch=2")
+
+    def test_more_calls_than_channels(self):
+        child, port = self.listening("--channels", "1")
+        lines = [self.client(port) for _ in range(2)]
+        lines[0].sendall(samples.xot(CALL))
+        self.hears(child, "dce incoming ch=1")
+        lines[1].sendall(samples.xot(CALL))
+        self.assertEqual((self.takes(lines[1]), self.takes(lines[1])), (bytes.fromhex("1001130547"), b""))
+        self.hears(child, "# a call came, and no channel is free")
+
+    def test_what_is_no_circuit(self):
+        """Other versions, lengths and packets end a connection, and that alone."""
+        child, port = self.listening()
+        for octets in (b"GET / HTTP/1.1\r\n\r\n", b"\0\1\0\3" + CALL[:3], b"\0\0\0\2\x10\1", b"\0\0\xff\xff", samples.xot(b"\x10\0\xfb\0\0"), samples.xot(b"\x10\1\0A"), b""):
+            line = self.client(port)
+            line.sendall(octets)
+            line.shutdown(socket.SHUT_WR)
+            self.assertEqual(line.recv(100), b"", octets)
+            line.close()
+        line = self.client(port)
+        line.sendall(samples.xot(CALL))
+        self.hears(child, "dce incoming ch=1")
+        line.sendall(samples.xot(b"\x10\0\xfb\0\0"))
+        self.hears(child, "# the connection of channel 1 has ended: it brought 1000fb0000, which isn't of one circuit")
+        self.hears(child, "dce cleared ch=1 cause=9 diag=0")
+
+    def test_one_who_is_called(self):
+        with socket.create_server(("127.0.0.1", 0)) as server:
+            server.settimeout(30)
+            child = self.begin("dte", "--xot", "127.0.0.1:{}".format(server.getsockname()[1]), "--channels", "2", "--stay")
+            self.hears(child, "dte restarted")
+            self.asks(child, "dte call 123 4567 c0ffee", "dte call 1 2 - 8 8 3 3")
+            lines = [server.accept()[0] for _ in range(2)]
+            for line in lines:
+                self.addCleanup(line.close)
+                line.settimeout(30)
+        told = {it[1]: (it, line) for line in lines for it in [self.takes(line)]}
+        numbers = sorted(told)
+        (first, one), (second, other) = (told[number] for number in (numbers if told[numbers[0]][0].endswith(b"\xff\xee") else numbers[::-1]))
+        self.assertEqual((first[2:], second[2:]), (IN_FULL[2:], bytes.fromhex("0b111200"[:4] + "12" + "06420808430303")))
+        # An acceptance that says nothing takes what was proposed.
+        other.sendall(samples.xot(second[:2] + b"\x0f"))
+        self.assertRegex(self.hears(child, "dte connected"), "size=8,8 win=3,3$")
+        one.sendall(samples.xot(first[:2] + b"\x13\x05\x00"))
+        self.hears(child, f"dte cleared ch={first[1]} cause=5 diag=0")
+        self.assertEqual((self.takes(one)[2:], self.takes(one)), (b"\x17", b""))
+        self.asks(child, "dte restart")
+        self.hears(child, "dte restartdone")
+        self.assertEqual(self.takes(other), b"")
+        self.asks(child, "dte disconnect", "wait dte linkdown", "dte connect")
+        self.hears(child, "dte linkup")
+        self.hears(child, "dte restarted")
+
+    def test_nobody_is_there(self):
+        child = self.begin("dte", "--xot", "127.0.0.1:1", "--stay")
+        self.asks(child, "wait dte restarted", "dte call 1 2 -")
+        self.hears(child, "# the connection of channel 1 has ended: Connection refused")
+        self.hears(child, "dte cleared ch=1 cause=9 diag=0")
+        child, _ = self.listening()
+        self.asks(child, "wait dce restarted", "dce call 1 2 -")
+        self.hears(child, "dce cleared ch=1 cause=13 diag=0")
+
+    def test_circuits_of_two_bridges(self):
+        """Four circuits at once, made by either end, 200 messages each way on each; what goes between them is X.25 over TCP to others, too."""
+        dce, port = self.listening("--channels", "4")
+        between = Between(port)
+        self.addCleanup(between.close)
+        dte = self.begin("dte", "--xot", f"127.0.0.1:{between.port}", "--channels", "4", "--stay")
+        proposals = ("", " 8 8 3 3", " 4 10 1 7", " 7 7 2 2")
+        self.hears(dte, "dte restarted")
+        channels = {}
+        for number, proposal in enumerate(proposals):
+            self.asks(dte, f"dte call 1 2 {number:02x}{proposal}")
+            far = int(re.search(r"ch=(\d+)", self.hears(dce, "dce incoming"))[1])
+            self.asks(dce, f"dce accept {far}")
+            near = int(re.search(r"ch=(\d+)", self.hears(dte, "dte connected"))[1])
+            channels[near] = far
+        sent = {near: [f"{near:02x}{number:04x}" * (1 + 150 * (number % 50 == 3)) for number in range(200)] for near in channels}
+        came = {}
+
+        def take(child, end):
+            told = {}
+            while sum(map(len, told.values())) < 800:
+                found = re.match(rf"{end} message ch=(\d+) at \S+ q=0 data=(\w+)", child.stdout.readline())
+                if found:
+                    told.setdefault(int(found[1]), []).append(found[2])
+            came[end] = told
+
+        takers = [threading.Thread(target=take, args=(child, end), daemon=True) for child, end in ((dte, "dte"), (dce, "dce"))]
+        for taker in takers:
+            taker.start()
+        for place in range(200):
+            for near, far in channels.items():
+                self.asks(dte, f"dte send {near} 0 {sent[near][place]}")
+                self.asks(dce, f"dce send {far} 0 {sent[near][place]}")
+        for taker in takers:
+            taker.join(SECONDS)
+        self.assertEqual(came["dte"], sent)
+        self.assertEqual(came["dce"], {far: sent[near] for near, far in channels.items()})
+        for near, far in channels.items():
+            self.asks(dte, f"dte clear {near}")
+            self.hears(dte, f"dte cleardone ch={near}")
+        capture = self.file("capture", between.capture())
+        if shutil.which("tshark"):
+            shown = subprocess.run(["tshark", "-n", "-r", capture, "-Y", "x25"], capture_output=True, text=True, timeout=SECONDS).stdout
+            self.assertGreater(shown.count("\n"), 1600)
+            self.assertNotIn("alformed", shown)
+        listed = support.run("pcap2x25.py", "--list", capture)
+        self.assertEqual((listed.returncode, listed.stdout.count(b"\n")), (0, 4))
+        for number in range(1, 5):
+            trace = support.run("pcap2x25.py", "--connection", str(number), capture).stdout
+            told = subprocess.run([support.PROGRAM, "judge"], input=trace, capture_output=True, timeout=60)
+            self.assertEqual((told.returncode, re.findall(b".*(?: ! |fault).*", told.stdout)), (0, []))
+            self.assertGreater(trace.count(b"\n"), 800)
+
+
+class Between:
+    """Carries connections to a port, and keeps what went."""
+
+    def __init__(self, port):
+        self._target, self._kept, self._lock = port, [], threading.Lock()
+        self._server = socket.create_server(("127.0.0.1", 0))
+        self.port = self._server.getsockname()[1]
+        self._sockets = [self._server]
+        threading.Thread(target=self._accept, daemon=True).start()
+
+    def _accept(self):
+        client = 0
+        while True:
+            try:
+                near = self._server.accept()[0]
+            except OSError:
+                return
+            far = socket.create_connection(("127.0.0.1", self._target))
+            client += 1
+            self._sockets += [near, far]
+            for to_server, source, target in ((True, near, far), (False, far, near)):
+                threading.Thread(target=self._carry, args=(client, to_server, source, target), daemon=True).start()
+
+    def _carry(self, client, to_server, source, target):
+        sequence = 0
+        while True:
+            try:
+                octets = source.recv(1400)
+                if not octets:
+                    target.shutdown(socket.SHUT_WR)
+                    return
+                with self._lock:
+                    self._kept.append(samples.ipv4(to_server, samples.tcp(to_server, sequence, octets), client=client))
+                sequence += len(octets)
+                target.sendall(octets)
+            except OSError:
+                return
+
+    def capture(self):
+        """A capture of what went."""
+        with self._lock:
+            return samples.pcap([(0, place, packet) for place, packet in enumerate(self._kept)], link_type=101)
+
+    def close(self):
+        for each in self._sockets:
+            each.close()
+
+
+if __name__ == "__main__":
+    unittest.main()
