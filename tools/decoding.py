@@ -5,7 +5,7 @@ import re
 import shutil
 import subprocess
 
-from x25lines import BadInput
+from x25lines import BadInput, FrameLine, fcs
 
 BUILT = os.path.join(os.path.dirname(os.path.dirname(os.path.abspath(__file__))), "build", "x25")
 MISSING = "frames in hexadecimal digits need the program x25: build it (make x25) or name it (--x25)"
@@ -32,6 +32,16 @@ def let_end(child):
     except BrokenPipeError:
         pass
     child.wait()
+
+
+# SABM of the DTE, and the UA of the DCE.
+SET_UP = FrameLine(">", bytes.fromhex("013febdf")), FrameLine("<", bytes.fromhex("01738357"))
+
+
+def _taken(frame):
+    """The RR by which the other end says that it took an I frame."""
+    octets = bytes([1 if frame.direction == ">" else 3, ((frame.octets[1] >> 1) + 1 & 7) << 5 | 1])
+    return FrameLine("<" if frame.direction == ">" else ">", octets + fcs(octets))
 
 
 class Decoder:
@@ -74,26 +84,32 @@ class Decoder:
 
 
 class Judge:
-    """Has the program judge the frames of each connection by themselves, but for those that were made up, which are decoded."""
+    """Has the program judge the frames of each connection by themselves.
+
+    Around packets that came without frames it hears a link that is set up and takes each of them at once, so that only they are judged.
+    """
 
     def __init__(self, program, window, words=()):
         self._program = program
         self._words = ["--k", str(window), *words]
-        self._decoder = Decoder(program, words)
         self._judges = {}
 
     def __enter__(self):
         return self
 
     def __exit__(self, *_):
-        for decoder in (self._decoder, *self._judges.values()):
-            decoder.__exit__()
+        for judge in self._judges.values():
+            judge.__exit__()
 
     def text(self, frame, connection=None):
         """The text of a frame line, and behind ` ! ` the end and the rule that it breaks, or behind ` ~ ` what is noted."""
-        if connection is not None and connection.is_made_up:
-            return self._decoder.text(frame)
         number = 1 if connection is None else connection.number
+        is_made_up = connection is not None and connection.is_made_up
         if number not in self._judges:
             self._judges[number] = Decoder(self._program, self._words, "judge")
-        return self._judges[number].text(frame)
+            for made_up in SET_UP if is_made_up else ():
+                self._judges[number].text(made_up)
+        text = self._judges[number].text(frame)
+        if is_made_up:
+            self._judges[number].text(_taken(frame))
+        return text

@@ -16,7 +16,7 @@ aren't shown, their packets are.
               once, though its frame be repeated
   --stats     writes at the end how many frames, packets and octets of data went each way, and how many I frames came out of order or again
   --judge     says behind a frame which end broke which rule of the link or the packet layer with it, and what may be noted (`x25 judge`), of each connection by itself; --k
-              is the window. Not of frames that were made up around packets, nor of lines of `x25 decode`
+              is the window. Of packets without frames (XOT, LLC) the rules of the packet layer alone; not of lines of `x25 decode`
   --channel   shows the packets of a channel alone; 0 is that of RESTART. With --stats it counts them
 
 The program is the one that --x25 or the variable X25 names, or `x25` of the PATH, or else build/x25 of this repository. Colours

@@ -197,11 +197,28 @@ class Dump(ToolCase):
         self.assertEqual(self.dump(given, "--judge", "--x25", support.PROGRAM), expected.decode().replace(OVER, ""))
 
     @support.needs_program
-    def test_connections_are_judged_apart_and_frames_that_were_made_up_not(self):
+    def test_connections_are_judged_apart(self):
         frames = [b"\x01\x01\x3f", b"\x00\x01\x73", b"\x01\x01\x00\x10\x01\x01", b"\x01\x01\x00\x10\x01\x01"]
         rows = self.dump(samples.pcap([(at, 0, frame) for at, frame in enumerate(frames)]), "--judge", "--x25", support.PROGRAM, status=1).splitlines()
         self.assertEqual([" ! " in row for row in rows], [False] * 4 + [True])
         self.assertEqual(self.dump(self.capture(), "--judge", "--x25", support.PROGRAM), self.dump(self.capture(), "--x25", support.PROGRAM))
+
+    @support.needs_program
+    def test_packets_without_frames_are_judged(self):
+        """Ten messages, each taken, so that no window of the link is in the way, and then a P(S) that skips."""
+        ways = [(True, CALL), (False, bytes.fromhex("10010f"))]
+        for number in range(10):
+            ways += [(True, bytes([0x10, 1, number % 8 << 1, 0x41])), (False, bytes([0x10, 1, (number + 1) % 8 << 5 | 1]))]
+        ways.append((True, bytes([0x10, 1, 3 << 1, 0x41])))
+        records, sequences = [], {True: 1, False: 1}
+        for at, (is_of_client, packet) in enumerate(ways):
+            stream = samples.xot(packet)
+            records.append((at, 0, samples.ethernet(samples.ipv4(is_of_client, samples.tcp(is_of_client, sequences[is_of_client], stream)))))
+            sequences[is_of_client] += len(stream)
+        rows = self.dump(samples.pcap(records, link_type=1), "--judge", "--x25", support.PROGRAM, status=1).splitlines()
+        self.assertEqual(len(rows), 1 + len(ways))
+        self.assertEqual([row for row in rows if " ! " in row], [rows[-1]])
+        self.assertIn("P(S) isn't the next one (4.4.1.1): it should be 2", rows[-1])
 
     @support.needs_program
     def test_a_capture_without_x25(self):

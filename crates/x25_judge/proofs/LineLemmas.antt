@@ -1,5 +1,5 @@
 -- What answers lines, and one that is too long.
-use Rattle.std.proofs.Common.{◌≡◌, ◌||◌, ℕ, Bool, true, false, List, [], ◌∷◌, ◌++◌, ap, refl, codes, None}
+use Rattle.std.proofs.Common.{◌≡◌, ◌||◌, ℕ, true, false, List, [], ◌∷◌, ◌++◌, ap, refl, codes, None}
 use Rattle.x25_decode.specs.Decoding.{sent_in}
 use Rattle.x25_judge.specs.Judge.{answer_to, sent_of, text_of, has_fault}
 use Rattle.x25_judge.specs.declared.judge.Judge.{Judge}

@@ -6,9 +6,11 @@ use Rattle.x25_decode.specs.Decoding.{mark_of, n1, sent_in}
 use Rattle.x25_frame.specs.Frame.{PlainFrame}
 use Rattle.x25_frame.specs.Reading.{frame_of}
 use Rattle.x25_frame.specs.declared.error.FrameError.{FrameError}
+use Rattle.x25_frame.specs.declared.error.FrameError.TheVariants.{Short, BadFcs, BadAddress, Undefined, NoInfoAllowed, TooLong}
 use Rattle.x25_io.specs.Lines.{lines_of}
 use Rattle.x25_text.specs.FrameText.{reading_text}
 use Rattle.x25_packet_judge.specs.Book as book
+use Rattle.x25_judge.specs.Held.{none_held, is_same, keeps}
 use Rattle.x25_judge.specs.Note.{note_text}
 use Rattle.x25_judge.specs.RuleText.{rule_text}
 use Rattle.x25_judge.specs.Sides.{no_end, sees, misses}
@@ -18,12 +20,20 @@ use Rattle.x25_judge.specs.declared.judge.Remark.{Remark}
 use Rattle.x25_packet_judge.specs.declared.packet_rule.PacketRule.{PacketRule}
 use Rattle.x25_judge.specs.declared.note.Note.{Note}
 use Rattle.x25_judge.specs.declared.rule.Rule.{Rule}
-use Rattle.x25_judge.specs.declared.rule.Rule.TheVariants.{Packet}
+use Rattle.x25_judge.specs.declared.rule.Rule.TheVariants.{NoFrame, Packet}
 use Rattle.x25_judge.specs.declared.sides.Sides.{Sides}
 
 -- before anything was sent: k, and whether the user data of a CALL may be long
 abbrev pub begins : ℕ → Bool → Judge
-begins window long_data = record { window = window; long_data = long_data; dte = no_end; dce = no_end; book = book.empty }
+begins window long_data = record {
+  window = window;
+  long_data = long_data;
+  dte = no_end;
+  dce = no_end;
+  dte_held = none_held;
+  dce_held = none_held;
+  book = book.empty;
+}
 
 -- ---- a frame
 
@@ -32,9 +42,18 @@ abbrev pub sides_of : Role → Judge → Sides
 sides_of Dte j = record { own = j.dte; other = j.dce; rule = None; note = None }
 sides_of Dce j = record { own = j.dce; other = j.dte; rule = None; note = None }
 
+-- the octets of its I frames
+abbrev pub held_of : Role → Judge → List (List ℕ)
+held_of Dte j = j.dte_held
+held_of Dce j = j.dce_held
+
 abbrev pub behind : Role → Sides → Book → Judge → Judge
-behind Dte t b j = record { window = j.window; long_data = j.long_data; dte = t.own; dce = t.other; book = b }
-behind Dce t b j = record { window = j.window; long_data = j.long_data; dte = t.other; dce = t.own; book = b }
+behind Dte t b j = record j { dte = t.own; dce = t.other; book = b }
+behind Dce t b j = record j { dte = t.other; dce = t.own; book = b }
+
+abbrev pub holding : Role → List (List ℕ) → Judge → Judge
+holding Dte held j = record j { dte_held = held }
+holding Dce held j = record j { dce_held = held }
 
 -- a rule of the link layer is told before one of the packet layer
 abbrev pub all_told : Option Rule → Option PacketRule → Option Rule
@@ -62,6 +81,15 @@ abbrev pub remark_text : Role → Option Rule → Option Note → List ℕ
 remark_text from None note = noted_text note
 remark_text from (Some rule) _ = end_of from ++ rule_text rule
 
+-- octets that aren't damaged and spell no frame count against their sender
+abbrev pub no_frame : FrameError → Option Rule
+no_frame Short = None
+no_frame BadFcs = None
+no_frame BadAddress = None
+no_frame (Undefined control) = Some NoFrame
+no_frame (NoInfoAllowed control) = Some NoFrame
+no_frame TooLong = Some NoFrame
+
 abbrev pub told_of : Judge → Role → Result PlainFrame FrameError → Sides → Option Rule → Option Note → Book → Answer
 told_of j from read t rule note b = record {
   next = behind from t b j;
@@ -71,7 +99,7 @@ told_of j from read t rule note b = record {
 
 -- a frame, as it is seen by the link layer and by the packet layer
 abbrev pub told_seen : Judge → Role → PlainFrame → Sides → book.Seen → Answer
-told_seen j from frame t s = told_of j from (Ok frame) t (all_told t.rule s.rule) t.note s.book
+told_seen j from frame t s = told_of (holding from (keeps (held_of from j) frame) j) from (Ok frame) t (all_told t.rule s.rule) t.note s.book
 
 abbrev pub told_frame : Judge → Role → PlainFrame → Sides → Answer
 told_frame j from frame t = told_seen j from frame t (book.sees from j.long_data frame (is_some t.rule) j.book)
@@ -79,9 +107,12 @@ told_frame j from frame t = told_seen j from frame t (book.sees from j.long_data
 abbrev pub remark_of : Judge → Role → PlainFrame → Sides → Remark
 remark_of j from frame t = record { rule = all_told t.rule (book.sees from j.long_data frame (is_some t.rule) j.book).rule; note = t.note }
 
+abbrev pub seen_by : Judge → Role → PlainFrame → Sides
+seen_by j from frame = sees j.window (is_same (held_of from j) frame) frame (sides_of from j)
+
 abbrev pub read_of : Judge → Role → Result PlainFrame FrameError → Answer
-read_of j from (Ok frame) = told_frame j from frame (sees j.window frame (sides_of from j))
-read_of j from (Err e) = told_of j from (Err e) (misses (sides_of from j)) None None (book.misses from j.book)
+read_of j from (Ok frame) = told_frame j from frame (seen_by j from frame)
+read_of j from (Err e) = told_of j from (Err e) (misses (sides_of from j)) (no_frame e) None (book.misses from j.book)
 
 -- a line that is none of a trace counts as faulty
 abbrev pub sent_of : Judge → Option (Role × List ℕ) → Answer

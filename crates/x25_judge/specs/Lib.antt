@@ -1,4 +1,5 @@
 pub mod Note
+pub mod Held
 pub mod RuleText
 pub mod Way
 pub mod Sides

@@ -3,11 +3,11 @@
 use Rattle.std.specs.Prelude.{ℕ, ◌+◌, ◌-◌, ◌==◌, nat_lt, Bool, true, false, not, ◌&&◌, ◌||◌, if◌then◌else◌, min, Option, Some, None}
 use Rattle.x25_frame.specs.Frame.{PlainFrame, info, rr, rnr, rej, sabm, disc, ua, dm, frmr}
 use Rattle.x25_judge.specs.Note.{first_note}
-use Rattle.x25_judge.specs.Way.{fresh, lost, missed, unheard, answered, heard, rejected, sent_back, sent}
+use Rattle.x25_judge.specs.Way.{fresh, lost, missed, unheard, answered, answered_again, answering_again, heard, rejected, sent_back, sent}
 use Rattle.x25_judge.specs.declared.note.Note.{Note}
 use Rattle.x25_judge.specs.declared.note.Note.TheVariants.{PollAgain, PollUnseen}
 use Rattle.x25_judge.specs.declared.rule.Rule.{Rule}
-use Rattle.x25_judge.specs.declared.rule.Rule.TheVariants.{NotUp, NoPoll}
+use Rattle.x25_judge.specs.declared.rule.Rule.TheVariants.{UaUnasked, NotUp, NoPoll}
 use Rattle.x25_judge.specs.declared.sides.Phase.{Phase}
 use Rattle.x25_judge.specs.declared.sides.Phase.TheVariants.{Unseen, Out, Waiting, Answered, Up}
 use Rattle.x25_judge.specs.declared.sides.End.{End}
@@ -28,14 +28,6 @@ awaits_ua Out = false
 awaits_ua Waiting = true
 awaits_ua Answered = false
 awaits_ua Up = false
-
--- UA may be awaited
-abbrev pub is_asking : Phase → Bool
-is_asking Unseen = false
-is_asking Out = false
-is_asking Waiting = true
-is_asking Answered = true
-is_asking Up = false
 
 abbrev pub is_unseen : Phase → Bool
 is_unseen Unseen = true
@@ -103,7 +95,7 @@ unsure Up = Up
 -- ---- parts
 
 abbrev pub no_end : End
-no_end = record { phase = Unseen; polls = 0; is_polling = false; is_followed = false; way = fresh false }
+no_end = record { phase = Unseen; polls = 0; is_polling = false; is_followed = false; asked = 0; way = fresh false }
 
 abbrev pub with_way : Way → End → End
 with_way way e = record e { way = way }
@@ -113,6 +105,9 @@ with_phase phase e = record e { phase = phase }
 
 abbrev pub with_polls : ℕ → Bool → End → End
 with_polls polls is_polling e = record e { polls = polls; is_polling = is_polling }
+
+abbrev pub with_asked : ℕ → End → End
+with_asked asked e = record e { asked = asked }
 
 -- an I frame of it is acknowledged where fewer are unacknowledged than before
 abbrev pub followed_to : Way → End → End
@@ -153,7 +148,7 @@ polls t = if t.own.is_polling then notes (Some PollAgain) (asks_on true t) else 
 
 -- one fewer; 255 stand for that many or more
 abbrev pub fewer : ℕ → ℕ
-fewer polls = if nat_lt polls 255 then polls - 1 else polls
+fewer count = if nat_lt count 255 then count - 1 else count
 
 abbrev pub poll_answered : Sides → Sides
 poll_answered t = with_other (with_polls (fewer t.other.polls) false t.other) t
@@ -198,11 +193,11 @@ rejects t = of_other (rejected t.other.way) t
 abbrev pub sends_back : ℕ → Sides → Sides
 sends_back number t = with_other (with_way (sent_back number t.other.way) t.other) t
 
-abbrev pub numbers : ℕ → ℕ → Bool → Sides → Sides
-numbers window ns p t = of_own (sent window ns p t.own.way) t
+abbrev pub numbers : ℕ → ℕ → Bool → Bool → Sides → Sides
+numbers window ns p is_same t = of_own (sent window ns p is_same t.own.way) t
 
-unfoldable pub sends_info : ℕ → ℕ → ℕ → Bool → Sides → Sides
-sends_info window ns nr p t = numbers window ns p (hears nr (bits true p (runs t)))
+unfoldable pub sends_info : ℕ → ℕ → ℕ → Bool → Bool → Sides → Sides
+sends_info window ns nr p is_same t = numbers window ns p is_same (hears nr (bits true p (runs t)))
 
 abbrev pub if_answer : Bool → Bool → ℕ → Sides → Sides
 if_answer command pf nr t = if pf && not command then sends_back nr t else t
@@ -215,14 +210,44 @@ sends_reject command nr pf t = sends_back nr (rejects (hears nr (bits command pf
 
 -- ---- unnumbered frames
 
+-- SABM or DISC may be answered by UA
+abbrev pub asks_more : Sides → Sides
+asks_more t = with_own (with_asked (min (t.own.asked + 1) 255) t.own) t
+
+abbrev pub answers : Sides → Sides
+answers t = with_other (with_asked (fewer t.other.asked) t.other) t
+
+-- None that was seen may be answered (DM may answer any command), and none of before the trace, since it shows that an I frame of the end that asks was acknowledged.
+abbrev pub is_unasked : Sides → Bool
+is_unasked t = t.other.is_followed && t.other.asked == 0
+
 -- SABM: its numbers begin anew, and so do the N(R)s of an end that awaits UA itself
 abbrev pub asks : Sides → Sides
 asks t = with_own (with_phase (asking t.own.phase) (with_way (fresh (awaits_ua t.other.phase)) t.own)) t
 
--- UA: its numbers and its N(R)s begin anew
+-- the I frames of an end behind a UA that it sent, by where the other end stands: its numbers begin anew
+abbrev pub accepting_way : Phase → Way → Way
+accepting_way Unseen w = fresh false
+accepting_way Out w = fresh false
+accepting_way Waiting w = fresh true
+accepting_way Answered w = answering_again w
+accepting_way Up w = answering_again w
+
+-- .. and those of the other end, from whose SABM on the N(R)s begin anew
+abbrev pub accepted_way : Phase → Way → Way
+accepted_way Unseen w = lost w
+accepted_way Out w = lost w
+accepted_way Waiting w = answered w
+accepted_way Answered w = answered w
+accepted_way Up w = answered_again w
+
+-- UA
 abbrev pub accepts : Sides → Sides
-accepts t = with_other (with_phase (accepted t.other.phase) (with_way (answered t.other.way) t.other))
-    (with_own (with_phase (accepting t.own.phase) (with_way (fresh (is_asking t.other.phase)) t.own)) t)
+accepts t = with_other (with_phase (accepted t.other.phase) (with_way (accepted_way t.other.phase t.other.way) t.other))
+    (with_own (with_phase (accepting t.own.phase) (with_way (accepting_way t.other.phase t.own.way) t.own)) t)
+
+abbrev pub accepts_asked : Bool → Sides → Sides
+accepts_asked f t = if is_unasked t then tells (Some UaUnasked) t else accepts (answers (answers_if f t))
 
 abbrev pub declines : Sides → Sides
 declines t = with_own (with_phase (declining t.own.phase) t.own) t
@@ -233,19 +258,19 @@ leaves t = with_own (with_phase Out t.own) t
 
 -- ---- any frame
 
--- the first end sends it
-unfoldable pub sees : ℕ → PlainFrame → Sides → Sides
-sees window (info ns nr p octets) t = sends_info window ns nr p t
-sees window (rr command nr pf) t = sends_ready command nr pf t
-sees window (rnr command nr pf) t = sends_ready command nr pf t
-sees window (rej command nr pf) t = sends_reject command nr pf t
-sees window (sabm p) t = asks (asks_if p t)
-sees window (disc p) t = leaves (asks_if p t)
-sees window (ua f) t = accepts (answers_if f t)
-sees window (dm f) t = declines (answers_if f t)
-sees window (frmr f why) t = leaves (answers_if f t)
+-- the first end sends it: an I frame with the octets that its last one of this number had, or with others
+unfoldable pub sees : ℕ → Bool → PlainFrame → Sides → Sides
+sees window is_same (info ns nr p octets) t = sends_info window ns nr p is_same t
+sees window is_same (rr command nr pf) t = sends_ready command nr pf t
+sees window is_same (rnr command nr pf) t = sends_ready command nr pf t
+sees window is_same (rej command nr pf) t = sends_reject command nr pf t
+sees window is_same (sabm p) t = asks (asks_more (asks_if p t))
+sees window is_same (disc p) t = leaves (asks_more (asks_if p t))
+sees window is_same (ua f) t = accepts_asked f t
+sees window is_same (dm f) t = declines (answers_if f t)
+sees window is_same (frmr f why) t = leaves (answers_if f t)
 
 -- octets that spell none: a frame that was damaged, which may have been any
 unfoldable pub misses : Sides → Sides
-misses t = asks_on t.own.is_polling (with_other (with_phase (accepted t.other.phase) (with_way (unheard t.other.way) t.other))
-    (with_own (with_phase (unsure t.own.phase) (with_way (missed t.own.way) t.own)) t))
+misses t = asks_more (asks_on t.own.is_polling (with_other (with_phase (accepted t.other.phase) (with_way (unheard t.other.way) t.other))
+    (with_own (with_phase (unsure t.own.phase) (with_way (missed t.own.way) t.own)) t)))

@@ -5,9 +5,9 @@ use Rattle.x25_packet_judge.specs.Numbers.{apart}
 use Rattle.x25_judge.specs.declared.note.Note.{Note}
 use Rattle.x25_judge.specs.declared.note.Note.TheVariants.{SentAgain, SentBehindDamage, HeardBehindDamage}
 use Rattle.x25_judge.specs.declared.rule.Rule.{Rule}
-use Rattle.x25_judge.specs.declared.rule.Rule.TheVariants.{Unsent, Falls, RejectAgain, OverWindow, Skips, Repeats}
+use Rattle.x25_judge.specs.declared.rule.Rule.TheVariants.{Unsent, Falls, RejectAgain, OverWindow, Skips, Repeats, Differs}
 use Rattle.x25_judge.specs.declared.way.Sight.{Sight}
-use Rattle.x25_judge.specs.declared.way.Sight.TheVariants.{Unseen, Astray, Sure}
+use Rattle.x25_judge.specs.declared.way.Sight.TheVariants.{Unseen, Deaf, Astray, Sure}
 use Rattle.x25_judge.specs.declared.way.Way.{Way}
 use Rattle.x25_judge.specs.declared.way.Told.{Told}
 
@@ -21,38 +21,57 @@ breaks rule w = record { way = w; rule = Some rule; note = None }
 abbrev pub notes : Note → Way → Told
 notes note w = record { way = w; rule = None; note = Some note }
 
--- the end's numbers begin from 0; they are known where the other end's N(R)s begin from there too
-abbrev pub fresh : Bool → Way
-fresh is_known = record {
-  sight = if is_known then Sure else Unseen;
+-- the end's numbers begin from 0
+abbrev pub begun : Sight → Way
+begun sight = record {
+  sight = sight;
   next = 0;
+  ever = 0;
+  kept = 0;
   behind = 0;
   pending = 0;
   causes = 0;
   reach = 8;
+  farthest = 0;
   is_rejected = false;
   is_missed = false;
 }
 
+-- .. known where the other end's N(R)s begin from there too
+abbrev pub fresh : Bool → Way
+fresh is_known = begun (if is_known then Sure else Unseen)
+
 -- no I frame was sent since
 abbrev pub is_fresh : Way → Bool
-is_fresh w = w.next == 0 && (w.pending == 0 && w.behind == 0)
+is_fresh w = w.ever == 0
 
 abbrev pub is_sure_sight : Sight → Bool
 is_sure_sight Unseen = false
+is_sure_sight Deaf = false
 is_sure_sight Astray = false
 is_sure_sight Sure = true
 
 abbrev pub is_unseen_sight : Sight → Bool
 is_unseen_sight Unseen = true
+is_unseen_sight Deaf = false
 is_unseen_sight Astray = false
 is_unseen_sight Sure = false
+
+abbrev pub may_hear_sight : Sight → Bool
+may_hear_sight Unseen = false
+may_hear_sight Deaf = false
+may_hear_sight Astray = true
+may_hear_sight Sure = true
 
 abbrev pub is_sure : Way → Bool
 is_sure w = is_sure_sight w.sight
 
 abbrev pub is_unseen : Way → Bool
 is_unseen w = is_unseen_sight w.sight
+
+-- N(R)s are about its numbers
+abbrev pub may_hear : Way → Bool
+may_hear w = may_hear_sight w.sight
 
 abbrev pub lost : Way → Way
 lost w = record w { sight = Unseen }
@@ -72,6 +91,15 @@ unheard w = if is_sure w then astray w else w
 abbrev pub answered : Way → Way
 answered w = if is_fresh w then fresh true else lost w
 
+-- .. again, to a SABM that was sent again before the first answer came, and may have been the damaged frame
+abbrev pub answered_again : Way → Way
+answered_again w = if w.is_missed then lost w else w
+
+-- The end answers again: its numbers begin anew, but the N(R)s of the other end, which is up by the first answer, go on where I frames were
+-- sent since.
+abbrev pub answering_again : Way → Way
+answering_again w = begun (if is_fresh w then Sure else Deaf)
+
 -- the lowest N(R) that may come: the last one
 abbrev pub awaited : Way → ℕ
 awaited w = apart w.next w.pending
@@ -82,9 +110,9 @@ place w = apart w.next w.behind
 
 -- ---- N(R): from the last one to the number of the next new I frame (section 2.3.4.9)
 
--- one that isn't has fallen, or acknowledges what was never sent, whichever is nearer
+-- one that isn't has fallen to one that was valid before, or acknowledges what was never sent, whichever is nearer
 abbrev pub invalid : ℕ → Way → Rule
-invalid ahead w = if nat_lt (8 - ahead) (ahead - w.pending) then Falls (awaited w) else Unsent w.next
+invalid ahead w = if nat_le (8 - ahead) (w.ever - w.pending) && nat_lt (8 - ahead) (ahead - w.pending) then Falls (awaited w) else Unsent w.next
 
 -- all below is acknowledged, and where that is more than before, what was asked for by REJ has come
 abbrev pub acknowledged : ℕ → Way → Way
@@ -101,7 +129,7 @@ abbrev pub heard_ahead : ℕ → Way → Told
 heard_ahead ahead w = if nat_le ahead w.pending then quiet (acknowledged ahead w) else strayed ahead w
 
 abbrev pub heard : ℕ → Way → Told
-heard number w = if is_unseen w then quiet w else heard_ahead (apart number (awaited w)) w
+heard number w = if may_hear w then heard_ahead (apart number (awaited w)) w else quiet w
 
 -- ---- REJ, once for a gap (section 2.4.5.4)
 
@@ -112,8 +140,12 @@ rejected w = if is_sure w && w.is_rejected
 
 -- ---- what sets V(S) back to an N(R): REJ, and the answer to a poll (sections 2.4.5.5 and 2.4.5.9)
 
+-- the farther of two places, where V(S) may still be set back to the second
+abbrev pub farther : ℕ → Way → ℕ
+farther far w = if nat_lt 0 w.causes && nat_lt far w.farthest then w.farthest else far
+
 abbrev pub sent_back : ℕ → Way → Way
-sent_back number w = record w { causes = min (w.causes + 1) 255; reach = apart w.next number }
+sent_back number w = record w { causes = min (w.causes + 1) 255; reach = apart w.next number; farthest = farther (apart w.next number) w }
 
 -- ---- N(S)
 
@@ -121,10 +153,13 @@ abbrev pub grown_to : ℕ → ℕ → ℕ → Way → Way
 grown_to count reach pending w = record {
   sight = if nat_lt 7 pending then Astray else w.sight;
   next = min (w.next + count) 255 % 8;
+  ever = min (w.ever + count) 255;
+  kept = if count == 1 then min (w.kept + 1) 255 else 1;
   behind = 0;
   pending = if nat_lt 7 pending then 7 else pending;
   causes = if nat_lt 7 reach then 0 else w.causes;
   reach = if nat_lt 7 reach then 8 else reach;
+  farthest = min (w.farthest + count) 255;
   is_rejected = w.is_rejected;
   is_missed = false;
 }
@@ -153,28 +188,57 @@ sent_new window w = if is_sure w && nat_le window w.pending
     then breaks (OverWindow window) (astray (grown 1 w))
     else quiet (grown 1 w)
 
+-- one of the numbers that were sent one by one, and with these octets
+abbrev pub is_repeated : Bool → ℕ → Way → Bool
+is_repeated is_same back w = is_same && nat_le back w.kept
+
+-- .. or, as it is near, one of the numbers that were sent
+abbrev pub was_sent : Bool → ℕ → Way → Bool
+was_sent is_same back w = nat_le back w.ever && (is_repeated is_same back w || (nat_le back w.pending || nat_le back 4))
+
 -- nothing explains it
-abbrev pub unexplained : ℕ → Way → Told
-unexplained back w =
+abbrev pub unexplained : Bool → ℕ → Way → Told
+unexplained is_same back w =
     if back == 0 then told (grown 1 w) (Skips (place w)) w
     else if nat_lt back w.behind then told (repeated back w) (Skips (place w)) w
-    else if nat_le back w.pending || nat_le back 4 then told (repeated back w) (Repeats (place w)) w
+    else if was_sent is_same back w then told (repeated back w) (Repeats (place w)) w
     else told (grown (9 - back) w) (Skips (place w)) w
 
+-- Sent again: with the octets that the number had, where these were seen and no frame was missed since.
+abbrev pub again : Bool → ℕ → Way → Way → Told
+again is_same back way w =
+    if not is_same && (nat_le back w.kept && not w.is_missed) then breaks Differs way
+    else notes SentAgain way
+
+-- V(S) may be set back to a number that was sent, and is acknowledged up to there: by timer T1 with P=1, or by a cause, which says no farther
+-- one (section 2.4.5.9)
+abbrev pub may_go_back : Bool → ℕ → Way → Bool
+may_go_back is_poll back w = nat_lt w.behind back
+    && (nat_le (known_pending w) back && (nat_le back w.ever && (is_poll || (nat_lt 0 w.causes && nat_le back w.farthest))))
+
+-- timer T1 needs no cause
+abbrev pub gone_back : Bool → ℕ → Way → Way
+gone_back is_poll back w = if is_poll then repeated back w else went_back back w
+
 -- One that was sent before. Where V(S) was set back, it is the one behind the last, or one that is acknowledged up to there; else
--- V(S) is set back now, to one that is acknowledged up to there, by a cause, or by timer T1 with P=1 (section 2.4.5.9).
-abbrev pub sent_again : Bool → ℕ → Way → Told
-sent_again is_poll back w =
-    if back == w.behind || (nat_le (known_pending w) back && nat_lt back w.behind) then notes SentAgain (repeated back w)
-    else if nat_lt w.behind back && (nat_le (known_pending w) back && (is_poll || nat_lt 0 w.causes)) then notes SentAgain (went_back back w)
-    else unexplained back w
+-- V(S) is set back now.
+abbrev pub sent_again : Bool → Bool → ℕ → Way → Told
+sent_again is_poll is_same back w =
+    if back == w.behind || (nat_le (known_pending w) back && nat_lt back w.behind) then again is_same back (repeated back w) w
+    else if may_go_back is_poll back w then again is_same back (gone_back is_poll back w) w
+    else unexplained is_same back w
 
 -- the number so far before the next new one; that one itself where none is to be sent again, or all are acknowledged
-abbrev pub sent_number : ℕ → Bool → ℕ → Way → Told
-sent_number window is_poll back w =
-    if nat_lt 0 back then sent_again is_poll back w
+abbrev pub sent_number : ℕ → Bool → Bool → ℕ → Way → Told
+sent_number window is_poll is_same back w =
+    if nat_lt 0 back then sent_again is_poll is_same back w
     else if w.behind == 0 || known_pending w == 0 then sent_new window w
-    else unexplained back w
+    else unexplained is_same back w
 
-abbrev pub sent : ℕ → ℕ → Bool → Way → Told
-sent window number is_poll w = if is_unseen w then quiet w else sent_number window is_poll (apart w.next number) w
+-- an I frame before the numbers are known
+abbrev pub counted : Way → Way
+counted w = record w { ever = min (w.ever + 1) 255 }
+
+-- An I frame: with P=1 or not, and with the octets that the last one of this number had or with others.
+abbrev pub sent : ℕ → ℕ → Bool → Bool → Way → Told
+sent window number is_poll is_same w = if is_unseen w then quiet (counted w) else sent_number window is_poll is_same (apart w.next number) w

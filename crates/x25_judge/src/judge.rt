@@ -4,16 +4,18 @@ ghost use Rattle.x25_decode.specs.Decoding.{mark_of, n1};
 ghost use Rattle.x25_frame.specs.Reading.{frame_of};
 ghost use Rattle.x25_frame.specs.Frame.{plain};
 ghost use Rattle.x25_packet_judge.specs.Book.{misses as book_misses};
-ghost use Rattle.x25_judge.specs.Judge.{all_told, answer_to, begins, behind, read_of, noted_text, remark_of, remark_text, sides_of, told_frame};
-ghost use Rattle.x25_judge.specs.Sides.{sees, misses};
+ghost use Rattle.x25_judge.specs.Held.{is_same, keeps};
+ghost use Rattle.x25_judge.specs.Judge.{all_told, answer_to, begins, behind, held_of, holding, no_frame, read_of, noted_text, remark_of, remark_text, seen_by, sides_of, told_frame};
+ghost use Rattle.x25_judge.specs.Sides.{misses};
 
+use crate::held::Held;
 use crate::note::{MOST_NOTE, Note};
 use crate::rule::Rule;
 use crate::rule_text::{MOST_RULE, push_rule};
 use crate::sides::{End, Sides};
 use std::alloc::{AllocError, Global};
 use x25_decode::read_sent;
-use x25_frame::{Frame, N1, Role, decode};
+use x25_frame::{Frame, FrameError, N1, Role, decode};
 use x25_packet_judge::{Book, PacketRule};
 use x25_text::{MOST_OCTETS, MOST_TEXT, ROOM, Text, push_fault, push_frame};
 
@@ -30,6 +32,8 @@ pub(crate) struct Judge {
     pub(crate) long_data: bool,
     pub(crate) dte: End,
     pub(crate) dce: End,
+    pub(crate) dte_held: Held,
+    pub(crate) dce_held: Held,
     pub(crate) book: Book,
 }
 
@@ -50,6 +54,17 @@ fn all_told(rule: Option<Rule>, packet: Option<PacketRule>) -> Option<Rule>
             Some(rule) => Some(Rule::Packet { rule }),
             None => None,
         },
+    }
+}
+
+/// The rule that octets break which spell no frame, where they aren't damaged.
+fn no_frame(error: FrameError) -> Option<Rule>
+    ensures { result ≡ no_frame error }
+{
+    match error {
+        FrameError::Undefined { .. } | FrameError::NoInfoAllowed { .. } | FrameError::TooLong =>
+            Some(Rule::NoFrame),
+        FrameError::Short | FrameError::BadFcs | FrameError::BadAddress => None,
     }
 }
 
@@ -99,12 +114,16 @@ impl Judge {
     pub(crate) fn new(alloc: Global, window: u8, long_data: bool) -> Result<Judge, AllocError>
         ensures { IfOk result (λ judge. judge ≡ begins window long_data) }
     {
+        let dte_held = Held::new(alloc)?;
+        let dce_held = Held::new(alloc)?;
         let book = Book::new(alloc)?;
         Ok(Judge {
             window,
             long_data,
             dte: End::new(),
             dce: End::new(),
+            dte_held,
+            dce_held,
             book,
         })
     }
@@ -144,12 +163,33 @@ impl Judge {
         }
     }
 
+    /// Whether the end's last I frame of this number has the same octets.
+    fn has(&self, from: Role, frame: &Frame) -> bool
+        ensures { result ≡ is_same (held_of from self.now) (plain frame.now) }
+    {
+        match from {
+            Role::Dte => self.dte_held.has(frame),
+            Role::Dce => self.dce_held.has(frame),
+        }
+    }
+
+    fn hold(&mut self, from: Role, frame: &Frame)
+        ensures { self.new ≡ holding from (keeps (held_of from self.old) (plain frame.now)) self.old }
+    {
+        match from {
+            Role::Dte => self.dte_held.keep(frame),
+            Role::Dce => self.dce_held.keep(frame),
+        }
+    }
+
     /// The rule that a frame breaks, and what is noted of it.
     fn sees(&mut self, from: Role, frame: &Frame) -> Remark
-        ensures next { self.new ≡ (told_frame self.old from (plain frame.now) (sees self.old.window (plain frame.now) (sides_of from self.old))).next }
-        ensures remark { result ≡ remark_of self.old from (plain frame.now) (sees self.old.window (plain frame.now) (sides_of from self.old)) }
+        ensures next { self.new ≡ (told_frame self.old from (plain frame.now) (seen_by self.old from (plain frame.now))).next }
+        ensures remark { result ≡ remark_of self.old from (plain frame.now) (seen_by self.old from (plain frame.now)) }
     {
-        let sides = self.sides(from).sees(self.window, frame);
+        let is_same = self.has(from, frame);
+        let sides = self.sides(from).sees(self.window, is_same, frame);
+        self.hold(from, frame);
         let packet = self
             .book
             .sees(from, self.long_data, frame, sides.rule.is_some());
@@ -188,11 +228,11 @@ impl Judge {
             Err(error) => {
                 push_fault(error, text);
                 self.misses(from);
-                let quiet = Remark {
-                    rule: None,
+                let remark = Remark {
+                    rule: no_frame(error),
                     note: None,
                 };
-                tell(from, quiet, text)
+                tell(from, remark, text)
             }
         }
     }

@@ -7,6 +7,8 @@ use x25_packet_judge::PacketRule;
 /// Numbers are N(S) and N(R), and I frames that are unacknowledged; `Packet` is a rule of the packet layer.
 #[derive(Clone, Copy)]
 pub(crate) enum Rule {
+    NoFrame,
+    UaUnasked,
     NotUp,
     NoPoll,
     Unsent { most: u8 },
@@ -15,5 +17,6 @@ pub(crate) enum Rule {
     OverWindow { window: u8 },
     Skips { next: u8 },
     Repeats { next: u8 },
+    Differs,
     Packet { rule: PacketRule },
 }

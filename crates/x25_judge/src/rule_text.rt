@@ -39,6 +39,9 @@ pub(crate) fn push_rule(rule: Rule, text: &mut Text)
             b"N(S) repeats without REJ or a poll (2.4.5.9): it should be ",
             u16::from(next),
         ),
+        Rule::NoFrame => text.push(b"no frame of LAPB has these octets (2.3.5.4)"),
+        Rule::UaUnasked => text.push(b"UA answers SABM or DISC alone (2.3.4.7)"),
+        Rule::Differs => text.push(b"an I frame sent again has other octets (2.4.5.9)"),
         Rule::Packet { rule } => push_packet_rule(rule, text),
     }
 }

@@ -28,6 +28,8 @@ pub(crate) struct End {
     pub(crate) is_polling: bool,
     /// The trace shows all that it sent with P=1 and that may still be answered: an I frame in it was acknowledged.
     pub(crate) is_followed: bool,
+    /// How many SABMs and DISCs of it UA may still answer; 255 where there are more.
+    pub(crate) asked: u8,
     /// Its I frames.
     pub(crate) way: Way,
 }
@@ -51,25 +53,18 @@ fn first(rule: Option<Rule>, next: Option<Rule>) -> Option<Rule>
     }
 }
 
-/// One poll fewer that may be answered; 255 stand for that many or more.
-fn fewer(polls: u8) -> u8
-    ensures { result ≡ definition.fewer polls }
+/// One fewer that may be answered; 255 stand for that many or more.
+fn fewer(count: u8) -> u8
+    ensures { result ≡ definition.fewer count }
 {
-    if polls < u8::MAX {
-        polls.saturating_sub(1)
+    if count < u8::MAX {
+        count.saturating_sub(1)
     } else {
-        polls
+        count
     }
 }
 
 impl Phase {
-    /// Whether a UA may still come to it.
-    fn is_asking(self) -> bool
-        ensures { result ≡ definition.is_asking self }
-    {
-        matches!(self, Phase::Waiting | Phase::Answered)
-    }
-
     fn awaits_ua(self) -> bool
         ensures { result ≡ definition.awaits_ua self }
     {
@@ -132,6 +127,28 @@ impl Phase {
         }
     }
 
+    /// The I frames of an end behind a UA that it sent to one in this phase.
+    fn accepting_way(self, way: Way) -> Way
+        ensures { result ≡ definition.accepting_way self way }
+    {
+        match self {
+            Phase::Unseen | Phase::Out => Way::fresh(false),
+            Phase::Waiting => Way::fresh(true),
+            Phase::Answered | Phase::Up => way.answering_again(),
+        }
+    }
+
+    /// .. and those of this one.
+    fn accepted_way(self, way: Way) -> Way
+        ensures { result ≡ definition.accepted_way self way }
+    {
+        match self {
+            Phase::Unseen | Phase::Out => way.lost(),
+            Phase::Waiting | Phase::Answered => way.answered(),
+            Phase::Up => way.answered_again(),
+        }
+    }
+
     /// Behind a DM that it sent.
     fn declining(self) -> Phase
         ensures { result ≡ definition.declining self }
@@ -163,6 +180,7 @@ impl End {
             polls: 0,
             is_polling: false,
             is_followed: false,
+            asked: 0,
             way: Way::fresh(false),
         }
     }
@@ -187,6 +205,12 @@ impl End {
             is_polling,
             ..self
         }
+    }
+
+    fn with_asked(self, asked: u8) -> End
+        ensures { result ≡ definition.with_asked asked self }
+    {
+        End { asked, ..self }
     }
 
     /// Behind an N(R): fewer I frames are unacknowledged where one of them was acknowledged.
@@ -364,11 +388,11 @@ impl Sides {
     }
 
     #[tactic(auto, unfolding(crate::specs::Sides::sends_info))]
-    fn info(self, window: u8, ns: u8, nr: u8, p: bool) -> Sides
-        ensures { result ≡ definition.sends_info window ns nr p self }
+    fn info(self, window: u8, ns: u8, nr: u8, p: bool, is_same: bool) -> Sides
+        ensures { result ≡ definition.sends_info window ns nr p is_same self }
     {
         let next = self.runs().bits(true, p).hears(nr);
-        next.of_own(next.own.way.sent(window, ns, p))
+        next.of_own(next.own.way.sent(window, ns, p, is_same))
     }
 
     #[tactic(auto, unfolding(crate::specs::Sides::sends_ready))]
@@ -396,6 +420,27 @@ impl Sides {
 
     // ---- unnumbered frames
 
+    /// A SABM or a DISC more may be answered.
+    fn asks_more(self) -> Sides
+        ensures { result ≡ definition.asks_more self }
+    {
+        self.with_own(self.own.with_asked(self.own.asked.saturating_add(1)))
+    }
+
+    /// One of the other end is answered.
+    fn answers(self) -> Sides
+        ensures { result ≡ definition.answers self }
+    {
+        self.with_other(self.other.with_asked(fewer(self.other.asked)))
+    }
+
+    /// Whether a UA answers none.
+    fn is_unasked(self) -> bool
+        ensures { result ≡ definition.is_unasked self }
+    {
+        self.other.is_followed && self.other.asked == 0
+    }
+
     fn asks(self) -> Sides
         ensures { result ≡ definition.asks self }
     {
@@ -406,10 +451,21 @@ impl Sides {
     fn accepts(self) -> Sides
         ensures { result ≡ definition.accepts self }
     {
-        let own = self.own.with_way(Way::fresh(self.other.phase.is_asking()));
-        let other = self.other.with_way(self.other.way.answered());
+        let phase = self.other.phase;
+        let own = self.own.with_way(phase.accepting_way(self.own.way));
+        let other = self.other.with_way(phase.accepted_way(self.other.way));
         self.with_own(own.with_phase(self.own.phase.accepting()))
-            .with_other(other.with_phase(self.other.phase.accepted()))
+            .with_other(other.with_phase(phase.accepted()))
+    }
+
+    fn accepts_asked(self, f: bool) -> Sides
+        ensures { result ≡ definition.accepts_asked f self }
+    {
+        if self.is_unasked() {
+            self.tells(Some(Rule::UaUnasked))
+        } else {
+            self.answers_if(f).answers().accepts()
+        }
     }
 
     fn declines(self) -> Sides
@@ -426,22 +482,23 @@ impl Sides {
 
     // ---- any frame
 
-    /// The first end sends a frame; at most `window` I frames may be unacknowledged.
+    /// The first end sends a frame, an I frame with the octets that its last one of this number had or with others; at most `window` I frames
+    /// may be unacknowledged.
     #[tactic(auto, unfolding(crate::specs::Sides::sees))]
-    pub(crate) fn sees(self, window: u8, frame: &Frame) -> Sides
-        ensures { result ≡ definition.sees window (plain frame.now) self }
+    pub(crate) fn sees(self, window: u8, is_same: bool, frame: &Frame) -> Sides
+        ensures { result ≡ definition.sees window is_same (plain frame.now) self }
     {
         match frame {
-            Frame::I { ns, nr, p, .. } => self.info(window, ns.get(), nr.get(), *p),
+            Frame::I { ns, nr, p, .. } => self.info(window, ns.get(), nr.get(), *p, is_same),
             Frame::Rr { command, nr, pf } | Frame::Rnr { command, nr, pf } => self.ready(
                 *command,
                 nr.get(),
                 *pf,
             ),
             Frame::Rej { command, nr, pf } => self.reject(*command, nr.get(), *pf),
-            Frame::Sabm { p } => self.asks_if(*p).asks(),
-            Frame::Disc { p } => self.asks_if(*p).leaves(),
-            Frame::Ua { f } => self.answers_if(*f).accepts(),
+            Frame::Sabm { p } => self.asks_if(*p).asks_more().asks(),
+            Frame::Disc { p } => self.asks_if(*p).asks_more().leaves(),
+            Frame::Ua { f } => self.accepts_asked(*f),
             Frame::Dm { f } => self.answers_if(*f).declines(),
             Frame::Frmr { f, .. } => self.answers_if(*f).leaves(),
         }
@@ -457,5 +514,6 @@ impl Sides {
         self.with_own(own.with_phase(self.own.phase.unsure()))
             .with_other(other.with_phase(self.other.phase.accepted()))
             .asks_on(self.own.is_polling)
+            .asks_more()
     }
 }

@@ -6,10 +6,12 @@ use crate::note::Note;
 use crate::rule::Rule;
 use x25_packet_judge::apart;
 
-/// What may be said of a way: nothing, since its numbers aren't known; not of its N(R)s, since one of them was at fault; or all.
+/// What may be said of a way: nothing, since its numbers aren't known; not of its N(R)s, since the other end goes on with those of before;
+/// not of its N(R)s until one is valid, since one of them was at fault; or all.
 #[derive(Clone, Copy)]
 pub(crate) enum Sight {
     Unseen,
+    Deaf,
     Astray,
     Sure,
 }
@@ -20,6 +22,10 @@ pub(crate) struct Way {
     pub(crate) sight: Sight,
     /// N(S) of the next new I frame.
     pub(crate) next: u8,
+    /// How many I frames were sent since the numbers began; 255 stand for that many or more.
+    pub(crate) ever: u8,
+    /// How many of the last of them were sent one by one, so that their octets are known.
+    pub(crate) kept: u8,
     /// How far before `next` the place lies from which frames are sent again.
     pub(crate) behind: u8,
     /// How many I frames before `next` no N(R) has acknowledged.
@@ -28,6 +34,8 @@ pub(crate) struct Way {
     pub(crate) causes: u8,
     /// How far before `next` the N(R) of the last of these lies; 8 where none counts.
     pub(crate) reach: u8,
+    /// How far before `next` the farthest N(R) of these lies.
+    pub(crate) farthest: u8,
     /// The number that is awaited was asked for by REJ.
     pub(crate) is_rejected: bool,
     /// A damaged frame may have been an I frame.
@@ -73,27 +81,37 @@ fn notes(note: Note, way: Way) -> Told
 }
 
 impl Way {
-    /// Numbers from 0 on, where they are known.
-    pub(crate) fn fresh(is_known: bool) -> Way
-        ensures { result ≡ definition.fresh is_known }
+    /// Numbers from 0 on.
+    fn begun(sight: Sight) -> Way
+        ensures { result ≡ definition.begun sight }
     {
         Way {
-            sight: if is_known { Sight::Sure } else { Sight::Unseen },
+            sight,
             next: 0,
+            ever: 0,
+            kept: 0,
             behind: 0,
             pending: 0,
             causes: 0,
             reach: 8,
+            farthest: 0,
             is_rejected: false,
             is_missed: false,
         }
+    }
+
+    /// .. where they are known.
+    pub(crate) fn fresh(is_known: bool) -> Way
+        ensures { result ≡ definition.fresh is_known }
+    {
+        Way::begun(if is_known { Sight::Sure } else { Sight::Unseen })
     }
 
     /// Whether no I frame was sent since the numbers began.
     fn is_fresh(self) -> bool
         ensures { result ≡ definition.is_fresh self }
     {
-        self.next == 0 && (self.pending == 0 && self.behind == 0)
+        self.ever == 0
     }
 
     fn is_sure(self) -> bool
@@ -106,6 +124,13 @@ impl Way {
         ensures { result ≡ definition.is_unseen self }
     {
         matches!(self.sight, Sight::Unseen)
+    }
+
+    /// Whether N(R)s are about its numbers.
+    fn may_hear(self) -> bool
+        ensures { result ≡ definition.may_hear self }
+    {
+        matches!(self.sight, Sight::Astray | Sight::Sure)
     }
 
     /// Nothing may be said of it.
@@ -157,6 +182,24 @@ impl Way {
         }
     }
 
+    /// .. again, to a SABM that was sent again before the first answer came.
+    pub(crate) fn answered_again(self) -> Way
+        ensures { result ≡ definition.answered_again self }
+    {
+        if self.is_missed { self.lost() } else { self }
+    }
+
+    /// The end answers again.
+    pub(crate) fn answering_again(self) -> Way
+        ensures { result ≡ definition.answering_again self }
+    {
+        Way::begun(if self.is_fresh() {
+            Sight::Sure
+        } else {
+            Sight::Deaf
+        })
+    }
+
     /// The lowest N(R) that may come.
     fn awaited(self) -> u8
         ensures { result ≡ definition.awaited self }
@@ -177,7 +220,10 @@ impl Way {
     fn invalid(self, ahead: u8) -> Rule
         ensures { result ≡ definition.invalid ahead self }
     {
-        if 8u8.saturating_sub(ahead) < ahead.saturating_sub(self.pending) {
+        let back = 8u8.saturating_sub(ahead);
+        if back <= self.ever.saturating_sub(self.pending)
+            && back < ahead.saturating_sub(self.pending)
+        {
             Rule::Falls {
                 least: self.awaited(),
             }
@@ -215,7 +261,7 @@ impl Way {
     pub(crate) fn heard(self, number: u8) -> Told
         ensures { result ≡ definition.heard number self }
     {
-        if self.is_unseen() {
+        if !self.may_hear() {
             return quiet(self);
         }
         let ahead = apart(number, self.awaited());
@@ -243,13 +289,26 @@ impl Way {
         }
     }
 
+    /// The farther of two places, where V(S) may still be set back to the second.
+    fn farther(self, far: u8) -> u8
+        ensures { result ≡ definition.farther far self }
+    {
+        if 0 < self.causes && far < self.farthest {
+            self.farthest
+        } else {
+            far
+        }
+    }
+
     /// The other end sends what sets V(S) back to an N(R).
     pub(crate) fn sent_back(self, number: u8) -> Way
         ensures { result ≡ definition.sent_back number self }
     {
+        let far = apart(self.next, number);
         Way {
             causes: self.causes.saturating_add(1),
-            reach: apart(self.next, number),
+            reach: far,
+            farthest: self.farther(far),
             ..self
         }
     }
@@ -269,10 +328,17 @@ impl Way {
                 self.sight
             },
             next: self.next.saturating_add(count) % 8,
+            ever: self.ever.saturating_add(count),
+            kept: if count == 1 {
+                self.kept.saturating_add(1)
+            } else {
+                1
+            },
             behind: 0,
             pending: if 7 < pending { 7 } else { pending },
             causes: if 7 < reach { 0 } else { self.causes },
             reach: if 7 < reach { 8 } else { reach },
+            farthest: self.farthest.saturating_add(count),
             is_rejected: self.is_rejected,
             is_missed: false,
         }
@@ -328,51 +394,98 @@ impl Way {
         }
     }
 
+    /// One of the numbers that were sent, where its octets say so or it is near.
+    fn was_sent(self, is_same: bool, back: u8) -> bool
+        ensures { result ≡ definition.was_sent is_same back self }
+    {
+        let is_repeated = is_same && back <= self.kept;
+        back <= self.ever && (is_repeated || (back <= self.pending || back <= 4))
+    }
+
     /// A number that nothing explains.
-    fn unexplained(self, back: u8) -> Told
-        ensures { result ≡ definition.unexplained back self }
+    fn unexplained(self, is_same: bool, back: u8) -> Told
+        ensures { result ≡ definition.unexplained is_same back self }
     {
         let skips = Rule::Skips { next: self.place() };
         if back == 0 {
             self.told(self.grown(1), skips)
         } else if back < self.behind {
             self.told(self.repeated(back), skips)
-        } else if back <= self.pending || back <= 4 {
+        } else if self.was_sent(is_same, back) {
             self.told(self.repeated(back), Rule::Repeats { next: self.place() })
         } else {
             self.told(self.grown(9u8.saturating_sub(back)), skips)
         }
     }
 
-    /// A number before the next new one.
-    fn sent_again(self, is_poll: bool, back: u8) -> Told
-        ensures { result ≡ definition.sent_again is_poll back self }
+    /// A number is sent again, with the octets that it had.
+    fn again(self, is_same: bool, back: u8, way: Way) -> Told
+        ensures { result ≡ definition.again is_same back way self }
     {
-        if back == self.behind || (self.known_pending() <= back && back < self.behind) {
-            notes(Note::SentAgain, self.repeated(back))
-        } else if self.behind < back
-            && (self.known_pending() <= back && (is_poll || 0 < self.causes))
-        {
-            notes(Note::SentAgain, self.went_back(back))
+        if !is_same && (back <= self.kept && !self.is_missed) {
+            breaks(Rule::Differs, way)
         } else {
-            self.unexplained(back)
+            notes(Note::SentAgain, way)
         }
     }
 
-    /// The end sends an I frame.
-    pub(crate) fn sent(self, window: u8, number: u8, is_poll: bool) -> Told
-        ensures { result ≡ definition.sent window number is_poll self }
+    /// Whether V(S) may be set back to a number.
+    fn may_go_back(self, is_poll: bool, back: u8) -> bool
+        ensures { result ≡ definition.may_go_back is_poll back self }
+    {
+        self.behind < back
+            && (self.known_pending() <= back
+                && (back <= self.ever && (is_poll || (0 < self.causes && back <= self.farthest))))
+    }
+
+    /// .. and is.
+    fn gone_back(self, is_poll: bool, back: u8) -> Way
+        ensures { result ≡ definition.gone_back is_poll back self }
+    {
+        if is_poll {
+            self.repeated(back)
+        } else {
+            self.went_back(back)
+        }
+    }
+
+    /// A number before the next new one.
+    fn sent_again(self, is_poll: bool, is_same: bool, back: u8) -> Told
+        ensures { result ≡ definition.sent_again is_poll is_same back self }
+    {
+        if back == self.behind || (self.known_pending() <= back && back < self.behind) {
+            self.again(is_same, back, self.repeated(back))
+        } else if self.may_go_back(is_poll, back) {
+            self.again(is_same, back, self.gone_back(is_poll, back))
+        } else {
+            self.unexplained(is_same, back)
+        }
+    }
+
+    /// An I frame before the numbers are known.
+    fn counted(self) -> Way
+        ensures { result ≡ definition.counted self }
+    {
+        Way {
+            ever: self.ever.saturating_add(1),
+            ..self
+        }
+    }
+
+    /// The end sends an I frame, with the octets that the last one of this number had or with others.
+    pub(crate) fn sent(self, window: u8, number: u8, is_poll: bool, is_same: bool) -> Told
+        ensures { result ≡ definition.sent window number is_poll is_same self }
     {
         if self.is_unseen() {
-            return quiet(self);
+            return quiet(self.counted());
         }
         let back = apart(self.next, number);
         if 0 < back {
-            self.sent_again(is_poll, back)
+            self.sent_again(is_poll, is_same, back)
         } else if self.behind == 0 || self.known_pending() == 0 {
             self.sent_new(window)
         } else {
-            self.unexplained(back)
+            self.unexplained(is_same, back)
         }
     }
 }

@@ -1,5 +1,5 @@
 -- The packet layers of both ends and all their channels, and what a frame changes and breaks. ITU-T X.25 (10/96), sections 3 and 4.
-use Rattle.std.specs.Prelude.{ℕ, ◌%◌, ◌==◌, Bool, not, if◌then◌else◌, List, slice_index_or, slice_set, Option, Some, None, Result, Ok, Err}
+use Rattle.std.specs.Prelude.{ℕ, ◌%◌, ◌==◌, Bool, not, ◌&&◌, if◌then◌else◌, List, slice_index_or, slice_set, Option, Some, None, Result, Ok, Err}
 use Rattle.x25_bits.specs.declared.role.Role.{Role}
 use Rattle.x25_bits.specs.declared.role.Role.TheVariants.{Dte, Dce}
 use Rattle.x25_frame.specs.Frame.{PlainFrame, info, rr, rnr, rej, sabm, disc, ua, dm, frmr}
@@ -83,10 +83,10 @@ takes_on from t channel packet b =
     if not (layer.are_sure t) then record { book = keeps from t b; rule = t.rule }
     else took from t channel (sends packet (pair_of from (layer.are_level t) channel b)) b
 
--- where no restart went before, nothing is known of the end's channels
+-- where no restart and confirmation went before, nothing is known of the end's channels
 unfoldable pub runs : Role → ℕ → PlainPacket → Book → Seen
 runs from channel packet b =
-    if layer.is_begun (layers_of from b).own.restart
+    if layer.runs_early (layers_of from b)
     then takes_on from (layer.runs (layers_of from b)) channel packet (fills from blank b)
     else takes_on from (layer.runs (layers_of from b)) channel packet b
 
@@ -94,9 +94,17 @@ runs from channel packet b =
 unfoldable pub restarts : Role → Layers → Book → Seen
 restarts from t b = record { book = keeps from t (fills from fresh b); rule = t.rule }
 
+-- a confirmation of none that was seen: what is known of channels from there on their calls say; of one that goes again the other end's
+-- calls may have come
+unfoldable pub confirms : Role → Layers → Book → Seen
+confirms from t b =
+    if layer.is_answer t then restarts from (layer.answers_restart t) b
+    else if layer.is_second_answer t then quiet (keeps from (layer.confirms_again t) (fills from blank b))
+    else record { book = keeps from (layer.confirms_unseen t) (fills_both blank b); rule = (layer.confirms_unseen t).rule }
+
 unfoldable pub takes : Role → ℕ → PlainPacket → Book → Seen
 takes from channel (restart cause diagnostic) b = restarts from (layer.restarts (layers_of from b)) b
-takes from channel restart_conf b = restarts from (layer.confirms_restart (layers_of from b)) b
+takes from channel restart_conf b = confirms from (layers_of from b) b
 takes from channel packet b = runs from channel packet b
 
 -- octets that spell none: nothing may be said of their channel, or of restarts where they name none
@@ -143,6 +151,13 @@ sends_info from long_data ns nr octets is_broken b =
 unfoldable pub begins : Role → Layers → Book → Book
 begins from t b = keeps from t (fills_both fresh b)
 
+-- UA; behind frames of the other end, which is up, it comes again, and nothing is known of channels
+unfoldable pub accepts : Role → Layers → Book → Book
+accepts from t b = if t.other.is_fresh then begins from (layer.accepts t) b else keeps from (layer.accepts t) (fills_both blank b)
+
+unfoldable pub accepts_if : Role → Bool → Layers → Book → Book
+accepts_if from is_broken t b = if is_broken && layer.is_unasked t then b else accepts from t b
+
 -- by whether it breaks a rule of the link layer
 unfoldable pub sees : Role → Bool → PlainFrame → Bool → Book → Seen
 sees from long_data (info ns nr p octets) is_broken b = sends_info from long_data ns nr octets is_broken b
@@ -150,7 +165,7 @@ sees from long_data (rr command nr pf) is_broken b = quiet (hears from nr b)
 sees from long_data (rnr command nr pf) is_broken b = quiet (hears from nr b)
 sees from long_data (rej command nr pf) is_broken b = quiet (hears from nr b)
 sees from long_data (sabm p) is_broken b = quiet (begins from (layer.asks (layers_of from b)) b)
-sees from long_data (ua f) is_broken b = quiet (begins from (layer.accepts (layers_of from b)) b)
+sees from long_data (ua f) is_broken b = quiet (accepts_if from is_broken (layers_of from b) b)
 sees from long_data (dm f) is_broken b = quiet (keeps from (layer.declines (layers_of from b)) b)
 sees from long_data (disc p) is_broken b = quiet (keeps from (layer.leaves (layers_of from b)) b)
 sees from long_data (frmr f why) is_broken b = quiet b

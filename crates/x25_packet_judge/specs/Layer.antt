@@ -29,13 +29,38 @@ is_followed Unseen = false
 is_followed Dropped = false
 is_followed Followed = true
 
--- nothing is known
+-- nothing is known but how many SABMs and DISCs of the other end may be answered
+abbrev pub unknown : ℕ → Layer
+unknown asked = record {
+  track = Unseen;
+  is_fresh = false;
+  next = 0;
+  acked = 0;
+  asked = asked;
+  restart = Ready;
+  owed = 0;
+  again = 0;
+  is_sure = true;
+  is_counted = false;
+}
+
 abbrev pub unseen : Layer
-unseen = record { track = Unseen; is_fresh = false; next = 0; acked = 0; asked = 0; restart = Ready; owed = 0; is_sure = true; is_counted = false }
+unseen = unknown 0
 
 -- the link is set up
 abbrev pub begun : ℕ → Layer
-begun asked = record { track = Followed; is_fresh = true; next = 0; acked = 0; asked = asked; restart = Begun; owed = 0; is_sure = true; is_counted = true }
+begun asked = record {
+  track = Followed;
+  is_fresh = true;
+  next = 0;
+  acked = 0;
+  asked = asked;
+  restart = Begun;
+  owed = 0;
+  again = 0;
+  is_sure = true;
+  is_counted = true;
+}
 
 -- packets are followed from an N(R) of the other end on: it has taken none from there on
 abbrev pub found_at : ℕ → Layer → Layer
@@ -47,6 +72,7 @@ found_at number l = record {
   asked = l.asked;
   restart = Ready;
   owed = 0;
+  again = 0;
   is_sure = true;
   is_counted = false;
 }
@@ -91,7 +117,18 @@ abbrev pub unsure : Layer → Layer
 unsure l = record l { is_sure = false; is_counted = false }
 
 abbrev pub uncounted : Layer → Layer
-uncounted l = record l { is_counted = false }
+uncounted l = record l { is_counted = false; owed = 0 }
+
+-- nothing may be said of its restarts, and of its channels what their calls show
+abbrev pub opened : Layer → Layer
+opened l = record l { restart = Ready; owed = 0; is_sure = true; is_counted = false }
+
+-- A RESTART of the other end that is sent again while it waits may be confirmed once more.
+abbrev pub asked_again : Layer → Layer
+asked_again l = record l { again = min (l.again + 1) 255 }
+
+abbrev pub confirmed_again : Layer → Layer
+confirmed_again l = record l { again = l.again - 1 }
 
 abbrev pub found : Restart → Layer → Layer
 found restart l = record l { restart = restart; owed = 0; is_sure = true; is_counted = true }
@@ -153,8 +190,16 @@ moves number t = if is_next number t then with_own (moved t.own) t else t
 abbrev pub asks : Layers → Layers
 asks t = begins t.own.asked (asks_more t)
 
+-- UA again, behind frames that the other end sent since it is up: the packets of the first end are followed from an N(R) on
+abbrev pub accepts_late : Layers → Layers
+accepts_late t = with_other (uncounted t.other) (with_own (unknown (t.own.asked - 1)) t)
+
 abbrev pub accepts : Layers → Layers
-accepts t = begins (t.own.asked - 1) t
+accepts t = if t.other.is_fresh then begins (t.own.asked - 1) t else accepts_late t
+
+-- a UA that nothing asked for
+abbrev pub is_unasked : Layers → Bool
+is_unasked t = t.own.asked == 0
 
 abbrev pub declines : Layers → Layers
 declines t = answers t
@@ -191,33 +236,54 @@ goes_to restart t = with_own (with_restart restart t.own) t
 abbrev pub marks : Restart → Layers → Layers
 marks restart t = with_own (restarted restart t.own) (with_other (owing (t.own.owed == 0) t.other) t)
 
--- one that is repeated while it waits leaves open what its confirmations answer, and so does one behind packets that were missed
-abbrev pub restarts : Layers → Layers
-restarts t = if are_counted t && not (is_asking t.own.restart && nat_lt 0 t.other.owed) then marks Asking t else goes_to Asking (are_unsure t)
-
--- .. until one is confirmed
-abbrev pub finds : Layers → Layers
-finds t = if is_asking t.other.restart then with_other (found Asking t.other) (with_own (found Ready t.own) t) else goes_to Ready (are_unsure t)
-
-abbrev pub confirms_restart : Layers → Layers
-confirms_restart t =
-    if not (are_counted t) then finds t
-    else if nat_lt 0 t.own.owed then marks Ready t
-    else are_unsure (tells RestartUnasked t)
+abbrev pub asks_again : Layers → Layers
+asks_again t = with_other (asked_again t.other) t
 
 abbrev pub is_awaiting : Layers → Bool
-is_awaiting t = are_counted t && nat_lt 0 t.other.owed
+is_awaiting t = is_asking t.own.restart && (are_counted t && nat_lt 0 t.other.owed)
+
+-- One that is sent again while it waits is confirmed once or twice. One behind packets that were missed may be such a one; nothing is
+-- said of channels until it is confirmed.
+abbrev pub restarts : Layers → Layers
+restarts t =
+    if not (are_counted t) then goes_to Asking (are_unsure (asks_again t))
+    else if is_awaiting t then asks_again t
+    else marks Asking t
+
+abbrev pub opens : Layers → Layers
+opens t = with_other (opened t.other) (with_own (opened t.own) t)
+
+-- the confirmation answers a RESTART that was seen
+abbrev pub is_answer : Layers → Bool
+is_answer t = if are_counted t then nat_lt 0 t.own.owed else is_asking t.other.restart
+
+-- .. or answers again one that was sent again
+abbrev pub is_second_answer : Layers → Bool
+is_second_answer t = are_counted t && nat_lt 0 t.own.again
+
+-- .. and behind packets that were missed makes both ends known
+abbrev pub answers_restart : Layers → Layers
+answers_restart t = if are_counted t then marks Ready t else with_other (found Asking t.other) (with_own (found Ready t.own) t)
+
+-- Else it answers a RESTART that wasn't seen, or none.
+abbrev pub confirms_unseen : Layers → Layers
+confirms_unseen t = if are_counted t then opens (tells RestartUnasked t) else opens t
+
+abbrev pub confirms_again : Layers → Layers
+confirms_again t = opens (with_own (confirmed_again t.own) t)
 
 abbrev pub is_begun : Restart → Bool
 is_begun Begun = true
 is_begun Asking = false
 is_begun Ready = false
 
--- A packet of a channel. Where no restart went before, nothing is said of restarts.
-abbrev pub runs_in : Restart → Layers → Layers
-runs_in Begun t = are_uncounted (goes_to Ready t)
-runs_in Asking t = if is_awaiting t then tells RestartAwaited (goes_to Ready t) else goes_to Ready t
-runs_in Ready t = goes_to Ready t
-
+-- A packet of a channel. Where no restart went before, or its confirmation didn't, nothing is said of restarts.
 abbrev pub runs : Layers → Layers
-runs t = runs_in t.own.restart t
+runs t =
+    if is_awaiting t then are_uncounted (goes_to Ready (tells RestartAwaited t))
+    else if is_begun t.own.restart then are_uncounted (goes_to Ready t)
+    else goes_to Ready t
+
+-- .. and nothing of the channels of its sender
+abbrev pub runs_early : Layers → Bool
+runs_early t = is_awaiting t || is_begun t.own.restart

@@ -1,7 +1,7 @@
 -- Both ends of a logical channel, and any packet of it. ITU-T X.25 (10/96), sections 4.1, 4.3 and 4.4.
-use Rattle.std.specs.Prelude.{length, if◌then◌else◌}
+use Rattle.std.specs.Prelude.{Bool, true, false, not, ◌&&◌, length, if◌then◌else◌}
 use Rattle.x25_packet.specs.Packet.{PlainPacket, call, accept, clear, clear_conf, user_data, rr, rnr, interrupt, interrupt_conf, reset, reset_conf, restart, restart_conf}
-use Rattle.x25_packet_judge.specs.Pair.{with_own, breaks, is_known, clears, confirms_clear, starts, settles, finds, finds_call, clears_unknown, calls_unknown, calls, accepts, may_talk}
+use Rattle.x25_packet_judge.specs.Pair.{with_own, breaks, is_known, clears, confirms_clear, starts, starts_early, is_awaiting, settles, finds, finds_call, clears_unknown, calls_unknown, calls, accepts, may_talk}
 use Rattle.x25_packet_judge.specs.Port as port
 use Rattle.x25_packet_judge.specs.Talking.{resets, confirms_reset, goes_on, hears, sends_data, interrupts, confirms_interrupt}
 use Rattle.x25_packet_judge.specs.Terms.{said, usual}
@@ -34,6 +34,12 @@ sends_known (restart cause diagnostic) t = t
 sends_known restart_conf t = t
 sends_known packet t = talks packet (starts t)
 
+-- CLEAR, or its confirmation
+unfoldable pub is_clearing : PlainPacket → Bool
+is_clearing (clear channel cause diagnostic) = true
+is_clearing (clear_conf channel) = true
+is_clearing packet = false
+
 -- where it isn't
 unfoldable pub sends_unknown : PlainPacket → Pair → Pair
 sends_unknown (clear channel cause diagnostic) t = clears_unknown t
@@ -44,6 +50,9 @@ sends_unknown (restart cause diagnostic) t = t
 sends_unknown restart_conf t = t
 sends_unknown packet t = settles t
 
--- the first end sends a packet of the channel
+-- The first end sends a packet of the channel. One that goes before the confirmation of a CLEAR leaves open where the channel stands.
 unfoldable pub sends : PlainPacket → Pair → Pair
-sends packet t = if is_known t then sends_known packet t else sends_unknown packet t
+sends packet t =
+    if not (is_known t) then sends_unknown packet t
+    else if is_awaiting t && not (is_clearing packet) then sends_unknown packet (starts_early t)
+    else sends_known packet t

@@ -49,18 +49,22 @@ is_matched t = t.reaches && (t.own.owed == 0 && t.other.owed == 0)
 abbrev pub marks : Bool → Pair → Pair
 marks is_clearing t = with_own (port.cleared is_clearing t.own) (with_other (port.owing_clear (t.reaches && t.own.owed == 0) t.other) t)
 
+abbrev pub is_awaiting : Pair → Bool
+is_awaiting t = t.own.is_clearing && nat_lt 0 t.other.owed
+
 -- One that is repeated while it waits leaves open what its confirmations answer.
 abbrev pub clears : Pair → Pair
-clears t = if t.own.is_clearing && nat_lt 0 t.other.owed then unknown t else marks true t
+clears t = if is_awaiting t then unknown t else marks true t
 
 abbrev pub confirms_clear : Pair → Pair
 confirms_clear t = if nat_lt 0 t.own.owed then marks false t else tells (Some ClearUnasked) t
 
--- nothing else is sent until CLEAR is confirmed
 abbrev pub starts : Pair → Pair
-starts t = if t.own.is_clearing && nat_lt 0 t.other.owed
-    then tells (Some ClearAwaited) (with_own (port.clearing false t.own) t)
-    else with_own (port.clearing false t.own) t
+starts t = with_own (port.clearing false t.own) t
+
+-- nothing else is sent until CLEAR is confirmed
+abbrev pub starts_early : Pair → Pair
+starts_early t = breaks ClearAwaited t
 
 -- ---- where nothing is known
 

@@ -155,14 +155,14 @@ impl Book {
         first(layers.rule, pair.rule)
     }
 
-    /// .. and where no restart went before, nothing is known of the end's channels.
+    /// .. and where no restart and confirmation went before, nothing is known of the end's channels.
     #[tactic(auto, unfolding(crate::specs::Book::runs))]
     fn runs(&mut self, from: Role, channel: u16, packet: &Packet) -> Option<PacketRule>
         ensures book { self.new ≡ (definition.runs from channel (plain packet.now) self.old).book }
         ensures rule { result ≡ (definition.runs from channel (plain packet.now) self.old).rule }
     {
         let layers = self.layers(from);
-        if layers.is_begun() {
+        if layers.runs_early() {
             self.fill(from, Port::blank());
             self.takes_on(from, layers.runs(), channel, packet)
         } else {
@@ -170,7 +170,7 @@ impl Book {
         }
     }
 
-    /// A RESTART or its confirmation.
+    /// A RESTART, or a confirmation of one that was seen.
     #[tactic(auto, unfolding(crate::specs::Book::restarts))]
     fn restarts(&mut self, from: Role, layers: Layers) -> Option<PacketRule>
         ensures book { self.new ≡ (definition.restarts from layers self.old).book }
@@ -181,6 +181,26 @@ impl Book {
         layers.rule
     }
 
+    /// A confirmation of a RESTART.
+    #[tactic(auto, unfolding(crate::specs::Book::confirms))]
+    fn confirms(&mut self, from: Role, layers: Layers) -> Option<PacketRule>
+        ensures book { self.new ≡ (definition.confirms from layers self.old).book }
+        ensures rule { result ≡ (definition.confirms from layers self.old).rule }
+    {
+        if layers.is_answer() {
+            return self.restarts(from, layers.answers_restart());
+        }
+        if layers.is_second_answer() {
+            self.fill(from, Port::blank());
+            self.keep(from, layers.confirms_again());
+            return None;
+        }
+        let next = layers.confirms_unseen();
+        self.fill_both(Port::blank());
+        self.keep(from, next);
+        next.rule
+    }
+
     /// A packet; the rule that it breaks is answered.
     #[tactic(auto, unfolding(crate::specs::Book::takes))]
     fn takes(&mut self, from: Role, channel: u16, packet: &Packet) -> Option<PacketRule>
@@ -189,7 +209,7 @@ impl Book {
     {
         match packet {
             Packet::Restart { .. } => self.restarts(from, self.layers(from).restarts()),
-            Packet::RestartConf => self.restarts(from, self.layers(from).confirms_restart()),
+            Packet::RestartConf => self.confirms(from, self.layers(from)),
             Packet::Call { .. }
             | Packet::Accept { .. }
             | Packet::Clear { .. }
@@ -279,6 +299,31 @@ impl Book {
         self.keep(from, layers);
     }
 
+    /// A UA, which the other end may have had before.
+    #[tactic(auto, unfolding(crate::specs::Book::accepts))]
+    fn accepts(&mut self, from: Role, layers: Layers)
+        ensures { self.new ≡ definition.accepts from layers self.old }
+    {
+        if layers.other.is_fresh {
+            self.begins(from, layers.accepts());
+        } else {
+            self.fill_both(Port::blank());
+            self.keep(from, layers.accepts());
+        }
+    }
+
+    /// .. and that breaks a rule of the link layer where `is_broken`.
+    #[tactic(auto, unfolding(crate::specs::Book::accepts_if))]
+    fn accepts_if(&mut self, from: Role, is_broken: bool)
+        ensures { self.new ≡ definition.accepts_if from is_broken (definition.layers_of from self.old) self.old }
+    {
+        let layers = self.layers(from);
+        if is_broken && layers.is_unasked() {
+            return;
+        }
+        self.accepts(from, layers);
+    }
+
     /// An I frame, which breaks a rule of the link layer where `is_broken`.
     #[tactic(auto, unfolding(crate::specs::Book::sends_info))]
     fn info(
@@ -330,7 +375,7 @@ impl Book {
                 None
             }
             Frame::Ua { .. } => {
-                self.begins(from, self.layers(from).accepts());
+                self.accepts_if(from, is_broken);
                 None
             }
             Frame::Dm { .. } => {

@@ -36,6 +36,8 @@ pub(crate) struct Layer {
     pub(crate) restart: Restart,
     /// How many RESTARTs and confirmations the other end has sent more than this one.
     pub(crate) owed: u8,
+    /// How many RESTARTs of the other end were sent again while they waited, and may be confirmed once more.
+    pub(crate) again: u8,
     /// Whether anything may be said of its channels.
     pub(crate) is_sure: bool,
     /// Whether anything may be said of its restarts.
@@ -51,21 +53,29 @@ pub(crate) struct Layers {
 }
 
 impl Layer {
-    /// Nothing is known.
-    pub(crate) fn unseen() -> Layer
-        ensures { result ≡ definition.unseen }
+    /// Nothing is known but how many SABMs and DISCs of the other end may be answered.
+    fn unknown(asked: u8) -> Layer
+        ensures { result ≡ definition.unknown asked }
     {
         Layer {
             track: Track::Unseen,
             is_fresh: false,
             next: 0,
             acked: 0,
-            asked: 0,
+            asked,
             restart: Restart::Ready,
             owed: 0,
+            again: 0,
             is_sure: true,
             is_counted: false,
         }
+    }
+
+    /// Nothing is known.
+    pub(crate) fn unseen() -> Layer
+        ensures { result ≡ definition.unseen }
+    {
+        Layer::unknown(0)
     }
 
     /// The link is set up.
@@ -80,6 +90,7 @@ impl Layer {
             asked,
             restart: Restart::Begun,
             owed: 0,
+            again: 0,
             is_sure: true,
             is_counted: true,
         }
@@ -97,6 +108,7 @@ impl Layer {
             asked: self.asked,
             restart: Restart::Ready,
             owed: 0,
+            again: 0,
             is_sure: true,
             is_counted: false,
         }
@@ -229,6 +241,39 @@ impl Layer {
     {
         Layer {
             is_counted: false,
+            owed: 0,
+            ..self
+        }
+    }
+
+    /// Nothing may be said of its restarts, and of its channels what their calls show.
+    fn opened(self) -> Layer
+        ensures { result ≡ definition.opened self }
+    {
+        Layer {
+            restart: Restart::Ready,
+            owed: 0,
+            is_sure: true,
+            is_counted: false,
+            ..self
+        }
+    }
+
+    /// A RESTART of the other end was sent again while it waited.
+    fn asked_again(self) -> Layer
+        ensures { result ≡ definition.asked_again self }
+    {
+        Layer {
+            again: self.again.saturating_add(1),
+            ..self
+        }
+    }
+
+    fn confirmed_again(self) -> Layer
+        ensures { result ≡ definition.confirmed_again self }
+    {
+        Layer {
+            again: self.again.saturating_sub(1),
             ..self
         }
     }
@@ -365,11 +410,30 @@ impl Layers {
         self.asks_more().begins(self.own.asked)
     }
 
+    /// .. UA again, behind frames that the other end sent since it is up.
+    fn accepts_late(self) -> Layers
+        ensures { result ≡ definition.accepts_late self }
+    {
+        self.with_own(Layer::unknown(self.own.asked.saturating_sub(1)))
+            .with_other(self.other.uncounted())
+    }
+
     /// .. UA.
     pub(crate) fn accepts(self) -> Layers
         ensures { result ≡ definition.accepts self }
     {
-        self.begins(self.own.asked.saturating_sub(1))
+        if self.other.is_fresh {
+            self.begins(self.own.asked.saturating_sub(1))
+        } else {
+            self.accepts_late()
+        }
+    }
+
+    /// Whether a UA was asked for by nothing.
+    pub(crate) fn is_unasked(self) -> bool
+        ensures { result ≡ definition.is_unasked self }
+    {
+        self.own.asked == 0
     }
 
     /// .. DM.
@@ -447,67 +511,111 @@ impl Layers {
             .with_own(self.own.restarted(restart))
     }
 
-    pub(crate) fn restarts(self) -> Layers
-        ensures { result ≡ definition.restarts self }
+    fn asks_again(self) -> Layers
+        ensures { result ≡ definition.asks_again self }
     {
-        let is_again = self.own.is_asking() && 0 < self.other.owed;
-        if self.are_counted() && !is_again {
-            self.marks(Restart::Asking)
-        } else {
-            self.unsure().goes_to(Restart::Asking)
-        }
+        self.with_other(self.other.asked_again())
     }
 
-    /// .. where nothing is sure.
-    fn finds(self) -> Layers
-        ensures { result ≡ definition.finds self }
-    {
-        if self.other.is_asking() {
-            self.with_own(self.own.found(Restart::Ready))
-                .with_other(self.other.found(Restart::Asking))
-        } else {
-            self.unsure().goes_to(Restart::Ready)
-        }
-    }
-
-    pub(crate) fn confirms_restart(self) -> Layers
-        ensures { result ≡ definition.confirms_restart self }
-    {
-        if !self.are_counted() {
-            self.finds()
-        } else if 0 < self.own.owed {
-            self.marks(Restart::Ready)
-        } else {
-            self.tells(PacketRule::RestartUnasked).unsure()
-        }
-    }
-
+    /// Whether a RESTART of the end waits for its confirmation.
     fn is_awaiting(self) -> bool
         ensures { result ≡ definition.is_awaiting self }
     {
-        self.are_counted() && 0 < self.other.owed
+        self.own.is_asking() && (self.are_counted() && 0 < self.other.owed)
+    }
+
+    pub(crate) fn restarts(self) -> Layers
+        ensures { result ≡ definition.restarts self }
+    {
+        if !self.are_counted() {
+            self.asks_again().unsure().goes_to(Restart::Asking)
+        } else if self.is_awaiting() {
+            self.asks_again()
+        } else {
+            self.marks(Restart::Asking)
+        }
+    }
+
+    fn opens(self) -> Layers
+        ensures { result ≡ definition.opens self }
+    {
+        self.with_own(self.own.opened())
+            .with_other(self.other.opened())
+    }
+
+    /// Whether a confirmation answers a RESTART that was seen.
+    pub(crate) fn is_answer(self) -> bool
+        ensures { result ≡ definition.is_answer self }
+    {
+        if self.are_counted() {
+            0 < self.own.owed
+        } else {
+            self.other.is_asking()
+        }
+    }
+
+    /// .. or answers again one that was sent again.
+    pub(crate) fn is_second_answer(self) -> bool
+        ensures { result ≡ definition.is_second_answer self }
+    {
+        self.are_counted() && 0 < self.own.again
+    }
+
+    /// .. and behind packets that were missed makes both ends known.
+    pub(crate) fn answers_restart(self) -> Layers
+        ensures { result ≡ definition.answers_restart self }
+    {
+        if self.are_counted() {
+            self.marks(Restart::Ready)
+        } else {
+            self.with_own(self.own.found(Restart::Ready))
+                .with_other(self.other.found(Restart::Asking))
+        }
+    }
+
+    /// Else it answers a RESTART that wasn't seen, or none.
+    pub(crate) fn confirms_unseen(self) -> Layers
+        ensures { result ≡ definition.confirms_unseen self }
+    {
+        if self.are_counted() {
+            self.tells(PacketRule::RestartUnasked).opens()
+        } else {
+            self.opens()
+        }
+    }
+
+    pub(crate) fn confirms_again(self) -> Layers
+        ensures { result ≡ definition.confirms_again self }
+    {
+        self.with_own(self.own.confirmed_again()).opens()
     }
 
     /// Whether the end sent nothing since the set-up of the link.
-    pub(crate) fn is_begun(self) -> bool
+    fn is_begun(self) -> bool
         ensures { result ≡ definition.is_begun self.own.restart }
     {
         matches!(self.own.restart, Restart::Begun)
+    }
+
+    /// Whether a packet of a channel goes before a restart or its confirmation.
+    pub(crate) fn runs_early(self) -> bool
+        ensures { result ≡ definition.runs_early self }
+    {
+        self.is_awaiting() || self.is_begun()
     }
 
     /// A packet of a channel.
     pub(crate) fn runs(self) -> Layers
         ensures { result ≡ definition.runs self }
     {
-        let next = self.goes_to(Restart::Ready);
-        match self.own.restart {
-            Restart::Begun => next.uncounted(),
-            Restart::Asking => if self.is_awaiting() {
-                next.tells(PacketRule::RestartAwaited)
-            } else {
-                next
-            },
-            Restart::Ready => next,
+        if self.is_awaiting() {
+            self.tells(PacketRule::RestartAwaited)
+                .goes_to(Restart::Ready)
+                .uncounted()
+        } else if self.is_begun() {
+            self.goes_to(Restart::Ready).uncounted()
+        } else {
+            self.goes_to(Restart::Ready)
         }
     }
 }

@@ -9,6 +9,14 @@ use crate::port::Call;
 use crate::terms::Terms;
 use x25_packet::Packet;
 
+/// Whether it is a CLEAR or its confirmation.
+#[tactic(auto, unfolding(crate::specs::Packets::is_clearing))]
+fn is_clearing(packet: &Packet) -> bool
+    ensures { result ≡ definition.is_clearing (plain packet.now) }
+{
+    matches!(packet, Packet::Clear { .. } | Packet::ClearConf { .. })
+}
+
 impl Pair {
     /// A packet that belongs to a call.
     #[tactic(auto, unfolding(crate::specs::Packets::speaks))]
@@ -96,10 +104,12 @@ impl Pair {
     pub(crate) fn sends(self, packet: &Packet) -> Pair
         ensures { result ≡ definition.sends (plain packet.now) self }
     {
-        if self.is_known() {
-            self.sends_known(packet)
-        } else {
+        if !self.is_known() {
             self.sends_unknown(packet)
+        } else if self.is_awaiting() && !is_clearing(packet) {
+            self.starts_early().sends_unknown(packet)
+        } else {
+            self.sends_known(packet)
         }
     }
 }

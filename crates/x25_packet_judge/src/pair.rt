@@ -86,11 +86,17 @@ impl Pair {
             .with_own(self.own.cleared(is_clearing))
     }
 
+    /// Whether a CLEAR of the end waits for its confirmation.
+    pub(crate) fn is_awaiting(self) -> bool
+        ensures { result ≡ definition.is_awaiting self }
+    {
+        self.own.is_clearing && 0 < self.other.owed
+    }
+
     pub(crate) fn clears(self) -> Pair
         ensures { result ≡ definition.clears self }
     {
-        let is_again = self.own.is_clearing && 0 < self.other.owed;
-        if is_again {
+        if self.is_awaiting() {
             self.unknown()
         } else {
             self.marks(true)
@@ -107,16 +113,17 @@ impl Pair {
         }
     }
 
-    /// Nothing but a CLEAR is sent until it is confirmed.
     pub(crate) fn starts(self) -> Pair
         ensures { result ≡ definition.starts self }
     {
-        let next = self.with_own(self.own.clearing(false));
-        if self.own.is_clearing && 0 < self.other.owed {
-            next.tells(Some(PacketRule::ClearAwaited))
-        } else {
-            next
-        }
+        self.with_own(self.own.clearing(false))
+    }
+
+    /// Nothing but a CLEAR is sent until it is confirmed.
+    pub(crate) fn starts_early(self) -> Pair
+        ensures { result ≡ definition.starts_early self }
+    {
+        self.breaks(PacketRule::ClearAwaited)
     }
 
     // ---- where nothing is known

@@ -17,3 +17,12 @@ returns-in-Skips-clause-text c = c.push_number-in-Skips.ensures.text ∙ ap (λ 
 
 pub returns-in-Repeats-clause-text : goal.returns-in-Repeats-clause-text
 returns-in-Repeats-clause-text c = c.push_number-in-Repeats.ensures.text ∙ ap (λ n. c.args.text.now ++ rule_text (Repeats n)) c.from-in-Repeats.ensures ∙ ap (λ r. c.args.text.now ++ rule_text r) (sym c.in-Repeats.is)
+
+pub returns-in-NoFrame-clause-text : goal.returns-in-NoFrame-clause-text
+returns-in-NoFrame-clause-text c = c.push-in-NoFrame.ensures.text ∙ ap (λ r. c.args.text.now ++ rule_text r) (sym c.in-NoFrame.is)
+
+pub returns-in-UaUnasked-clause-text : goal.returns-in-UaUnasked-clause-text
+returns-in-UaUnasked-clause-text c = c.push-in-UaUnasked.ensures.text ∙ ap (λ r. c.args.text.now ++ rule_text r) (sym c.in-UaUnasked.is)
+
+pub returns-in-Differs-clause-text : goal.returns-in-Differs-clause-text
+returns-in-Differs-clause-text c = c.push-in-Differs.ensures.text ∙ ap (λ r. c.args.text.now ++ rule_text r) (sym c.in-Differs.is)

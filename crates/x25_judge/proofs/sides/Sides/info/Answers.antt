@@ -6,4 +6,4 @@ pub returns : goal.returns
 unfolding sends_info
 returns c =
     let heard = c.hears-next.ensures ∙ ap (hears c.args.nr) (c.bits.ensures ∙ ap (bits true c.args.p) c.runs.ensures) in
-    c.of_own.ensures ∙ ap (λ told. of_own told c.hears-next.result) c.sent.ensures ∙ ap (numbers c.args.window c.args.ns c.args.p) heard
+    c.of_own.ensures ∙ ap (λ told. of_own told c.hears-next.result) c.sent.ensures ∙ ap (numbers c.args.window c.args.ns c.args.p c.args.is_same) heard

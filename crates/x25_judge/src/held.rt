@@ -1,0 +1,84 @@
+//! The octets of the last I frame of each number that an end sent.
+ghost use Rattle.std.specs.Prelude.{◌≡◌, ◌≤◌, [], ℕ, IfOk, List, length, vec_capacity};
+ghost use Rattle.x25_frame.specs.Frame.{plain};
+ghost use Rattle.x25_judge.specs.Held.{is_same, keeps, none_held};
+
+use std::alloc::{AllocError, Global};
+use std::marker::Model;
+use x25_frame::Frame;
+use x25_text::{ROOM, Text};
+
+/// How many numbers there are.
+const NUMBERS: usize = 8;
+
+/// A text for each number: no call but `new` takes memory.
+#[derive(Drop)]
+pub(crate) struct Held {
+    slots: Vec<Text>,
+}
+
+impl Model for Held {
+    ghost Value = { List (List ℕ) };
+
+    ghost view = { λ h. h.slots.items };
+
+    ghost invariant = { λ h. length h.slots.items ≡ 8 };
+}
+
+/// No octets of each number.
+#[tactic(auto, unfolding(crate::specs::Held::none_held))]
+fn fill_up(alloc: Global, slots: &mut Vec<Text>) -> Result<(), AllocError>
+    requires empty { slots.old.items ≡ [] }
+    requires room { 8 ≤ vec_capacity slots.old }
+    ensures items { IfOk result (λ _. slots.new.items ≡ none_held) }
+    ensures size { IfOk result (λ _. length slots.new.items ≡ 8) }
+{
+    for _ in 0..NUMBERS {
+        slots.push_reserved(Text::new(alloc)?);
+    }
+    Ok(())
+}
+
+impl Held {
+    /// No octets. Err: no memory.
+    pub(crate) fn new(alloc: Global) -> Result<Held, AllocError>
+        ensures { IfOk result (λ held. held ≡ none_held) }
+    {
+        let mut slots = Vec::with_capacity(alloc, NUMBERS)?;
+        fill_up(alloc, &mut slots)?;
+        Ok(Held { slots })
+    }
+
+    /// Whether an I frame has the octets of the last one of its number.
+    #[tactic(auto, unfolding(crate::specs::Held::is_same))]
+    pub(crate) fn has(&self, frame: &Frame) -> bool
+        ensures { result ≡ is_same self.now (plain frame.now) }
+    {
+        match frame {
+            Frame::I { ns, info, .. } => self.slots[usize::from(ns.get()) % NUMBERS].as_slice()
+                == *info,
+            Frame::Rr { .. }
+            | Frame::Rnr { .. }
+            | Frame::Rej { .. }
+            | Frame::Sabm { .. }
+            | Frame::Disc { .. }
+            | Frame::Ua { .. }
+            | Frame::Dm { .. }
+            | Frame::Frmr { .. } => false,
+        }
+    }
+
+    /// Holds the octets of an I frame.
+    #[tactic(auto, unfolding(crate::specs::Held::keeps))]
+    pub(crate) fn keep(&mut self, frame: &Frame)
+        ensures { self.new ≡ keeps self.old (plain frame.now) }
+    {
+        if let Frame::I { ns, info, .. } = frame {
+            let slot = &mut self.slots[usize::from(ns.get()) % NUMBERS];
+            slot.clear();
+            if info.len() <= ROOM {
+                slot.push(info);
+            }
+        }
+    }
+}
