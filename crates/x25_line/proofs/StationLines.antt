@@ -280,7 +280,7 @@ module _ (reads : ReadsSpelled) (from : Role) (n1 : ℕ) where
 
 -- ---- what is lost or damaged
 
-taken_out_behind : (p : Option ℕ) (g : Frame (List ℕ)) (gs : List (Frame (List ℕ))) → taken_out (one_more p) (g ∷ gs) ≡ g ∷ taken_out p gs
+pub taken_out_behind : (p : Option ℕ) (g : Frame (List ℕ)) (gs : List (Frame (List ℕ))) → taken_out (one_more p) (g ∷ gs) ≡ g ∷ taken_out p gs
 taken_out_behind None g gs = refl
 taken_out_behind (Some n) g gs = refl
 

@@ -15,7 +15,7 @@ WithAnyPeer Holds =
     (c : Settings) → 1 ≤ c.window → c.window ≤ 7 → (w : Joined) → IsReached (Unit {0}) c w → w.near.came_up ≡ false
     → Holds w
 
--- .. that sends nothing that is answered by FRMR
+-- the same with one that sends nothing that is answered by FRMR
 abbrev pub WithAnyLapbPeer : (Joined → Type 0) → Type 0
 WithAnyLapbPeer Holds =
     (c : Settings) → 1 ≤ c.window → c.window ≤ 7 → (w : Joined) → IsReached ⊥ c w → w.near.came_up ≡ false → Holds w

@@ -1,0 +1,290 @@
+"""Random runs of one station and a peer that keeps the rules of docs/PEER.md, and is odd in all that these leave free.
+
+    peer_runs.py [--program PROGRAM] [--from SEED] [RUNS]
+
+The station is `x25 station dte`; the peer is the DCE, played here: it sends again at any time and in any order, polls and answers unasked,
+says nothing for long, acknowledges late, passes over frames that it might hear or take, and sends octets that are no frame. The line loses
+frames both ways. Above the links a call is set up, and messages go both ways. What either end took has to be a beginning of what was handed
+down at the other, after each step; no FRMR may be sent. At the end the line is good and the peer plain, and everything has to arrive.
+
+Exit status: 0; 1 where a run fails, with its seed; 2 for bad words, or where there is no program.
+"""
+
+import argparse
+import os
+import random
+import subprocess
+import sys
+
+ROOT = os.path.dirname(os.path.dirname(os.path.abspath(__file__)))
+sys.path[:0] = [os.path.dirname(os.path.abspath(__file__)), os.path.join(ROOT, "tools")]
+
+from program import find_program  # noqa: E402
+from x25lines import fcs  # noqa: E402
+
+STEPS, MESSAGES = 250, 12
+INFORMATION, RR, RNR, REJ = 0, 1, 5, 9
+COMMAND, RESPONSE = 3, 1
+
+
+class Failed(Exception):
+    """What held of neither end, as text."""
+
+
+def begins(taken, given, what):
+    if taken != given[: len(taken)]:
+        raise Failed(f"{what}: {taken} of {given}")
+
+
+class Peer:
+    """The link of the peer: numbers are whole. Its rules are those of docs/PEER.md, by their number."""
+
+    def __init__(self, dice):
+        self.dice = dice
+        self.given, self.taken = [], []
+        self.acked = self.sent = self.told = 0
+
+    def numbers(self):
+        """The numbers that it may send (2, 3)."""
+        return range(max(0, self.sent - 7), min(self.acked + 7, len(self.given)))
+
+    def packet(self, number):
+        """The packet of this number, each time (1)."""
+        return self.given[number]
+
+    def acknowledges(self, late):
+        """What an N(R) stands for: any from the last one to the number of packets that it took (5)."""
+        return self.dice.randint(self.told, len(self.taken)) if late else len(self.taken)
+
+    def wants(self, number):
+        """Whether it may take the packet of an I frame with this N(S) (4)."""
+        return number == len(self.taken) % 8
+
+    def hears(self, number):
+        """By an N(R) all below it is acknowledged (6)."""
+        self.acked += (number - self.acked) % 8
+
+    def frame(self, control, command, poll, late, packet=b""):
+        """A frame with an N(R)."""
+        self.told = self.acknowledges(late)
+        octets = bytes([COMMAND if command else RESPONSE, self.told % 8 << 5 | poll << 4 | control]) + packet
+        return octets + fcs(octets)
+
+    def item(self, number, poll=False, late=False):
+        """The I frame of this number."""
+        self.sent = max(self.sent, number + 1)
+        return self.frame(number % 8 << 1, True, poll, late, self.packet(number))
+
+    def comes(self, octets, hears=True, takes=True):
+        """What comes to it; answers the packet that it took."""
+        control, packet = octets[1], octets[2:-2]
+        if control & 3 == 3:
+            return None
+        if hears:
+            self.hears(control // 32)
+        if control & 1 == 0 and takes and self.wants(control // 2 % 8):
+            self.taken.append(packet)
+            return packet
+        return None
+
+
+class Call:
+    """The packet layer of the peer: one call on channel 1, which the station is to accept, and messages of one packet each."""
+
+    def __init__(self, peer):
+        self.peer = peer
+        self.open = False
+        self.messages, self.taken = [], []
+        self.acked = 0
+
+    def take(self, packet):
+        kind = packet[2]
+        if kind == 0xFB:
+            self.peer.given += [bytes.fromhex("1000ff"), bytes.fromhex("10010b431234567000")]
+        elif kind == 0x0F:
+            self.open = True
+        elif kind & 1 == 0:
+            self.taken.append(packet[3:])
+            self.peer.given.append(bytes([0x10, 1, len(self.taken) % 8 << 5 | 1]))
+        if kind & 1 == 0 or kind & 31 in (1, 5):
+            self.acked += (kind // 32 - self.acked) % 8
+
+    def send(self):
+        """One message more, where the call is up and its window open."""
+        if self.open and len(self.messages) < MESSAGES and len(self.messages) < self.acked + 2:
+            number, message = len(self.messages), b"peer %d" % len(self.messages)
+            self.messages.append(message)
+            self.peer.given.append(bytes([0x10, 1, len(self.taken) % 8 << 5 | number % 8 << 1]) + message)
+
+
+class Station:
+    """The program, asked a line at a time, and its user, who accepts the call."""
+
+    def __init__(self, program, way):
+        words = [program, "station", "dte", "--n2", "255"]
+        self.run = subprocess.Popen(words, stdin=subprocess.PIPE, stdout=subprocess.PIPE, text=True)
+        self.way = way
+        self.sent, self.messages, self.asked = [], [], []
+        self.open = False
+        self.answer()
+
+    def answer(self):
+        """Takes what the station writes up to its mark; answers whether it refused the line."""
+        refused = False
+        while True:
+            line = self.run.stdout.readline().rstrip("\n")
+            words = line.split()
+            if not line or line[0] == "?" or "linkdown" in words:
+                raise Failed(f"the station: {line}")
+            if line[0] == ".":
+                self.timer = words[1] != "off"
+                return refused
+            if line[0] == ">":
+                self.way.append(bytes.fromhex(words[1]))
+            elif line[0] == "!":
+                refused = True
+            elif words[1] == "incoming":
+                self.asked.append("dte accept 1")
+            elif words[1] == "message":
+                self.messages.append(bytes.fromhex(words[-1].removeprefix("data=")))
+
+    def ask(self, line):
+        self.run.stdin.write(line + "\n")
+        self.run.stdin.flush()
+        refused = self.answer()
+        while self.asked:
+            self.ask(self.asked.pop())
+            self.open = True
+        return refused
+
+    def send(self):
+        """One message more, where the call is up."""
+        if self.open and len(self.sent) < MESSAGES:
+            message = b"station %d" % len(self.sent)
+            if not self.ask(f"dte send 1 0 {message.hex()}"):
+                self.sent.append(message)
+
+
+class Run:
+    def __init__(self, program, seed, peer):
+        self.dice = dice = random.Random(seed)
+        self.out, self.back = [], []
+        self.peer = peer(dice)
+        self.call = Call(self.peer)
+        self.station = Station(program, self.out)
+        self.loss, self.deaf, self.late, self.again, self.talk, self.noise, self.fires = (
+            dice.choice(chances) for chances in ((0, 0.05, 0.2), (0, 0.1, 0.4), (0, 0.5, 0.9), (0, 0.1, 0.4), (0, 0.1, 0.4), (0, 0.1), (0.01, 0.05))
+        )
+
+    def chance(self, odds):
+        return self.dice.random() < odds
+
+    def comes(self, plain=False):
+        """The front frame comes to the peer."""
+        octets = self.out.pop(0)
+        if plain or not self.chance(self.loss):
+            packet = self.peer.comes(octets, plain or not self.chance(self.deaf), plain or not self.chance(self.deaf))
+            if packet is not None:
+                self.call.take(packet)
+        return octets
+
+    def delivered(self, plain=False):
+        """The front frame comes to the station."""
+        octets = self.back.pop(0)
+        if plain or not self.chance(self.loss):
+            self.station.ask("< " + octets.hex())
+
+    def speaks(self):
+        """The peer sends, or not."""
+        late, poll = self.chance(self.late), self.chance(0.2)
+        numbers = self.peer.numbers()
+        if numbers and self.chance(self.again):
+            self.back.append(self.peer.item(self.dice.choice(numbers), poll, late))
+        elif self.peer.sent in numbers:
+            self.back.append(self.peer.item(self.peer.sent, poll, late))
+        if self.chance(self.talk):
+            self.back.append(self.peer.frame(self.dice.choice((RR, RR, RNR, REJ)), self.chance(0.5), poll, late))
+        if self.chance(self.noise):
+            self.back.append(bytes(self.dice.randrange(256) for _ in range(self.dice.randrange(3))))
+
+    def step(self):
+        what = self.dice.randrange(6)
+        if what < 2 and self.out:
+            self.comes()
+        elif what < 4 and self.back:
+            self.delivered()
+        elif what == 4 and len(self.back) < 8:
+            self.speaks()
+        elif what == 5:
+            self.dice.choice((self.call.send, self.station.send))()
+        if self.station.timer and self.chance(self.fires):
+            self.station.ask("t1 dte")
+
+    def holds(self):
+        begins(self.station.messages, self.call.messages, "messages of the peer")
+        begins(self.call.taken, self.station.sent, "messages of the station")
+
+    def settle(self):
+        """The line is good and the peer plain: what comes is answered, and what isn't acknowledged goes again."""
+        for _ in range(40):
+            while self.out or self.back:
+                while self.back:
+                    self.delivered(plain=True)
+                while self.out:
+                    octets = self.comes(plain=True)
+                    polls = octets[0] == RESPONSE and octets[1] & 3 != 3 and octets[1] & 0x10
+                    self.back.append(self.peer.frame(RR, False, bool(polls), False))
+                for number in range(self.peer.sent, min(self.peer.acked + 7, len(self.peer.given))):
+                    self.back.append(self.peer.item(number))
+                self.holds()
+            self.call.send()
+            self.station.send()
+            self.back += [self.peer.item(number) for number in range(self.peer.acked, min(self.peer.acked + 7, len(self.peer.given)))]
+            if self.station.timer:
+                self.station.ask("t1 dte")
+        if len(self.station.messages) != MESSAGES or len(self.call.taken) != MESSAGES:
+            raise Failed(f"{len(self.station.messages)} and {len(self.call.taken)} of {MESSAGES} messages arrived")
+
+    def play(self):
+        self.station.ask("dte connect")
+        self.out.clear()
+        ua = bytes([RESPONSE, 0x73])
+        self.station.ask("< " + (ua + fcs(ua)).hex())
+        for _ in range(STEPS):
+            self.step()
+            self.holds()
+        self.settle()
+
+
+def play(program, seed, peer=Peer):
+    """Answers why the run of this seed fails, or None."""
+    run = Run(program, seed, peer)
+    try:
+        run.play()
+    except Failed as failed:
+        return str(failed)
+    finally:
+        run.station.run.kill()
+        run.station.run.communicate()
+    return None
+
+
+def main():
+    parser = argparse.ArgumentParser(description=__doc__.splitlines()[0])
+    parser.add_argument("--program", default=find_program())
+    parser.add_argument("--from", dest="first", type=int, default=1, metavar="SEED")
+    parser.add_argument("runs", nargs="?", type=int, default=10000, metavar="RUNS")
+    words = parser.parse_args()
+    if not words.program or words.runs < 1:
+        parser.error("there is no program" if not words.program else "RUNS is 1 or more")
+    for seed in range(words.first, words.first + words.runs):
+        why = play(words.program, seed)
+        if why:
+            print(f"seed {seed}: {why}")
+            return 1
+    print(f"{words.runs} runs: order was kept, no FRMR was sent, and everything arrived")
+    return 0
+
+
+if __name__ == "__main__":
+    sys.exit(main())
