@@ -9,9 +9,8 @@ mod entry;
 mod error;
 mod law;
 mod linking;
-mod lists;
 mod receiving;
-mod spent;
+mod reusing;
 mod station;
 mod step;
 

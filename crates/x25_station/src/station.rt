@@ -4,8 +4,6 @@ ghost use Rattle.x25_station.specs.code.FitsParts.{AreMeant};
 use crate::config::Cfg;
 use crate::entering::TextMemory;
 use crate::error::StationError;
-use crate::lists::Lists;
-use crate::step::Step;
 use std::alloc::Global;
 use x25_bits::{Blanks, Role, Seq};
 use x25_frame::N1;
@@ -21,8 +19,6 @@ pub struct Station {
     pub(crate) layer: Layer,
     /// Memory for texts of entries.
     pub(crate) texts: TextMemory,
-    /// Lists for what later calls answer.
-    pub(crate) lists: Lists,
     pub(crate) alloc: Global,
     ghost meant: { AreMeant link layer },
     ghost aside: { IsFewAside link layer texts },
@@ -61,7 +57,6 @@ impl Station {
             link,
             layer,
             texts: Blanks::new(alloc),
-            lists: Lists::new(alloc),
             alloc,
         })
     }
@@ -129,15 +124,6 @@ impl Station {
         ensures { result ≤ 32 }
     {
         self.link.returned()
-    }
-
-    /// Takes back what a call answered: its lists serve later calls, and the memory of frames that are still in them later frames. The
-    /// station is as before.
-    pub fn give_back(&mut self, step: Step)
-        ensures { (c : Settings) (s : State) → FitsStation c self.old s → FitsStation c self.new s }
-    {
-        let frames = self.lists.give_back(step);
-        self.link.give_back_list(frames);
     }
 
     /// Takes the memory of a frame back, of this station or of another, for one that is sent later. The station is as before.

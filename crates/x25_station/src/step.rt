@@ -1,9 +1,14 @@
+ghost use Rattle.std.specs.Prelude.{◌≡◌, OnOk, IfErr};
+ghost use Rattle.x25_station.specs.code.FitsStation.{HasPlaces, IsEmpty};
+
 use crate::entry::Entry;
+use crate::error::StationError;
+use std::alloc::Global;
 
 /// The most frames that a call of a station answers: nine in the link's step, seven I frames of the layer's packets, and an RR.
 pub const MOST_FRAMES: usize = 17;
 
-/// The most entries that a call of a station makes, and one more: LinkDown and LinkUp, or two that the layer tells.
+/// The most entries that a call of a station makes.
 pub const MOST_ENTRIES: usize = 3;
 
 /// What a call of a station answers: the frames to send, frame check sequence included, and the entries of the transcript, each in
@@ -12,4 +17,33 @@ pub const MOST_ENTRIES: usize = 3;
 pub struct Step {
     pub frames: Vec<Vec<u8>>,
     pub entries: Vec<Entry>,
+}
+
+impl Step {
+    /// A step for calls to answer into.
+    pub fn new(alloc: Global) -> Step
+        ensures { IsEmpty result }
+    {
+        Step {
+            frames: Vec::new(alloc),
+            entries: Vec::new(alloc),
+        }
+    }
+
+    /// Room for what a call answers.
+    #[inline(always)]
+    pub(crate) fn make_room(&mut self) -> Result<(), StationError>
+        requires { IsEmpty self.old }
+        ensures empty { IsEmpty self.new }
+        ensures places { OnOk result (HasPlaces self.new) }
+        ensures refused { IfErr result (λ e. e ≡ StationError.NoMemory) }
+    {
+        if self.frames.reserve(MOST_FRAMES).is_err() {
+            return Err(StationError::NoMemory);
+        }
+        if self.entries.reserve(MOST_ENTRIES).is_err() {
+            return Err(StationError::NoMemory);
+        }
+        Ok(())
+    }
 }

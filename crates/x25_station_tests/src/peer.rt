@@ -59,6 +59,7 @@ struct End {
     alloc: Global,
     role: Role,
     station: Box<Station>,
+    out: Step,
 }
 
 impl End {
@@ -68,12 +69,13 @@ impl End {
             alloc,
             role,
             station,
+            out: Step::new(alloc),
         })
     }
 
-    fn shown(&self, answer: Result<Step, StationError>) -> Result<Line, Fail> {
+    fn shown(&self, answer: Result<(), StationError>) -> Result<Line, Fail> {
         match answer {
-            Ok(step) => step_lines(self.alloc, self.role, &step),
+            Ok(()) => step_lines(self.alloc, self.role, &self.out),
             Err(error) => Ok(refusal_line(self.alloc, error)?),
         }
     }
@@ -81,11 +83,11 @@ impl End {
     fn happens(&mut self, act: Act) -> Result<Line, Fail> {
         match act {
             Act::Connect => {
-                let answer = connect(&mut self.station);
+                let answer = connect(&mut self.station, &mut self.out);
                 self.shown(answer)
             }
             Act::T1 => {
-                let answer = fire(&mut self.station);
+                let answer = fire(&mut self.station, &mut self.out);
                 self.shown(answer)
             }
             Act::Ask(command) => self.asks(1, command),
@@ -136,9 +138,9 @@ impl End {
 
     fn asks(&mut self, count: u16, command: Cmd<'_>) -> Result<Line, Fail> {
         for _ in 1..count {
-            let _lost = ask(&mut self.station, command)?;
+            ask(&mut self.station, command, &mut self.out)?;
         }
-        let answer = ask(&mut self.station, command);
+        let answer = ask(&mut self.station, command, &mut self.out);
         self.shown(answer)
     }
 
@@ -156,7 +158,7 @@ impl End {
 
     fn takes(&mut self, octets: &str) -> Result<Line, Fail> {
         let octets = hex::decode(self.alloc, octets)?;
-        let answer = receive(&mut self.station, octets.as_slice());
+        let answer = receive(&mut self.station, octets.as_slice(), &mut self.out);
         self.shown(answer)
     }
 
@@ -166,7 +168,7 @@ impl End {
             Role::Dce => Role::Dte,
         };
         let octets = octets_of(self.alloc, from, frame)?;
-        let answer = receive(&mut self.station, octets.as_slice());
+        let answer = receive(&mut self.station, octets.as_slice(), &mut self.out);
         self.shown(answer)
     }
 
@@ -241,7 +243,7 @@ pub fn play_at(
     Ok(())
 }
 
-/// .. of so many channels, whose calls have at most 16 octets of user data.
+/// Plays tables at stations of so many channels, whose calls have at most 16 octets of user data.
 pub fn play(
     rt: &impl Abort,
     alloc: Global,

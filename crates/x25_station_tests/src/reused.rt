@@ -1,11 +1,12 @@
-//! Memory that is given back to a station, and what it sends in it.
+//! Memory of steps and of frames that serves a station again.
 
-use crate::calls::{connect, receive, station};
+use crate::calls::{connect, reuse, station};
 use crate::peer::settings;
 use std::alloc::Global;
 use std::process::Abort;
 use std::test::Fail;
-use x25_station::{Role, Station, Step};
+use x25_layer::Stretch;
+use x25_station::{Asked, Entry, Role, Said, Station, Step};
 
 /// SABM with P=1 of the DTE.
 static SABM: [u8; 4] = [0x01, 0x3f, 0xeb, 0xdf];
@@ -27,11 +28,12 @@ fn is_in_forty(rt: &impl Abort, step: &Step) -> Result<(), Fail> {
 fn sends_in_forty(rt: &impl Abort, alloc: Global, station: &mut Station) -> Result<(), Fail> {
     gives(alloc, station, 40)?;
     assert_eq!(rt; station.returned(), 1);
-    let step = connect(station)?;
+    let mut out = Step::new(alloc);
+    connect(station, &mut out)?;
     assert_eq!(rt; station.returned(), 0);
-    is_in_forty(rt, &step)?;
-    station.give_back(step);
-    assert_eq!(rt; station.returned(), 1);
+    is_in_forty(rt, &out)?;
+    reuse(station, &mut out);
+    assert_eq!(rt; (out.frames.is_empty(), station.returned()), (true, 1));
     Ok(())
 }
 
@@ -39,34 +41,6 @@ fn sends_in_forty(rt: &impl Abort, alloc: Global, station: &mut Station) -> Resu
 fn a_frame_is_sent_in_memory_that_was_given_back(rt: HostRuntime) -> Result<(), Fail> {
     let mut station = station(rt.alloc(), Role::Dte, settings(1, false))?;
     sends_in_forty(&rt, rt.alloc(), &mut station)
-}
-
-// How many frames and entries the lists of a step have memory for.
-fn places(step: &Step) -> (usize, usize) {
-    (step.frames.capacity(), step.entries.capacity())
-}
-
-// The lists of a step are made long, and given back.
-fn gives_long_lists(station: &mut Station) -> Result<(usize, usize), Fail> {
-    let mut step = receive(station, SABM.as_slice())?;
-    step.frames.reserve(40)?;
-    step.entries.reserve(20)?;
-    let long = places(&step);
-    station.give_back(step);
-    Ok(long)
-}
-
-fn uses_long_lists(rt: &impl Abort, station: &mut Station) -> Result<(), Fail> {
-    let long = gives_long_lists(station)?;
-    let step = receive(station, SABM.as_slice())?;
-    assert_eq!(rt; places(&step), long);
-    Ok(())
-}
-
-#[test]
-fn the_lists_of_a_step_serve_a_later_one(rt: HostRuntime) -> Result<(), Fail> {
-    let mut station = station(rt.alloc(), Role::Dce, settings(1, false))?;
-    uses_long_lists(&rt, &mut station)
 }
 
 fn keeps_thirty_two(rt: &impl Abort, alloc: Global, station: &mut Station) -> Result<(), Fail> {
@@ -83,4 +57,39 @@ fn keeps_thirty_two(rt: &impl Abort, alloc: Global, station: &mut Station) -> Re
 fn no_more_than_thirty_two_frames_are_kept(rt: HostRuntime) -> Result<(), Fail> {
     let mut station = station(rt.alloc(), Role::Dte, settings(1, false))?;
     keeps_thirty_two(&rt, rt.alloc(), &mut station)
+}
+
+const STRETCH: Stretch = Stretch {
+    restarts: 1,
+    clears: 0,
+    resets: 0,
+};
+
+// The entry of a message that was sent on a channel.
+fn sent(alloc: Global, channel: u16) -> Result<Entry, Fail> {
+    let user = vec![in alloc; 9u8; 40]?;
+    Ok(Entry::OnChannel {
+        channel,
+        name: STRETCH,
+        said: Said::Asked(Asked::Send { q: false, user }),
+    })
+}
+
+fn empties(rt: &impl Abort, alloc: Global, station: &mut Station) -> Result<(), Fail> {
+    let mut out = Step::new(alloc);
+    reuse(station, &mut out);
+    assert_eq!(rt; out.entries.is_empty(), true);
+    for channel in [1u16, 2] {
+        out.entries.push(Entry::LinkUp)?;
+        out.entries.push(sent(alloc, channel)?)?;
+        reuse(station, &mut out);
+        assert_eq!(rt; out.entries.is_empty(), true);
+    }
+    Ok(())
+}
+
+#[test]
+fn entries_that_were_read_are_taken_back(rt: HostRuntime) -> Result<(), Fail> {
+    let mut station = station(rt.alloc(), Role::Dte, settings(1, false))?;
+    empties(&rt, rt.alloc(), &mut station)
 }
