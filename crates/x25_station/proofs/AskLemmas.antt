@@ -23,7 +23,7 @@ use Rattle.x25_station.specs.Error.{of_layer}
 use Rattle.x25_station.specs.Config.{Settings, link_settings, layer_settings}
 use Rattle.x25_station.specs.Entry.{StationEntry}
 use Rattle.x25_station.specs.Station.{Station, all_put, view_of, waiting_after}
-use Rattle.x25_station.specs.Step.{Outcome, Did, Refused, did, requests, entries_of_outcome}
+use Rattle.x25_station.specs.Step.{Outcome, Refused, did, requests, entries_of_outcome}
 use Rattle.x25_station.specs.laws.KeepLaw.{KeptBy}
 use Rattle.x25_station.specs.code.PlainEntry.{plain_entry}
 use Rattle.x25_station.specs.code.FitsParts.{FitsParts}

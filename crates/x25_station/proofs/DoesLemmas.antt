@@ -1,5 +1,5 @@
 -- A call does what the definition says of it, by what the calls of its link or of its layer did.
-use Rattle.std.proofs.Common.{◌≡◌, ◌≤◌, [], length, map, vec_len, Result, Ok, Err, inl, inr, refl, ap, sym, subst, arith}
+use Rattle.std.proofs.Common.{◌≡◌, ◌≤◌, [], length, map, vec_len, Result, Ok, Err, OnErr, inl, inr, refl, ap, sym, subst, arith}
 use Rattle.std.proofs.lemmas.List.{length-map}
 use Rattle.x25_link.specs.Station.{LinkStation}
 use Rattle.x25_link.specs.Link.{alone}
@@ -16,6 +16,7 @@ use Rattle.x25_station.specs.declared.error.StationError.{StationError}
 use Rattle.x25_station.specs.declared.error.StationError.TheVariants as error
 use Rattle.x25_station.specs.declared.station.Station as code
 use Rattle.x25_station.specs.declared.step.Step as code_step
+use Rattle.x25_station.specs.declared.timer.Timer.{Timer}
 use Rattle.x25_station.specs.Error.{of_layer}
 use Rattle.x25_station.specs.Command.{Requests}
 use Rattle.x25_station.specs.Config.{Settings, link_settings, layer_settings}
@@ -77,15 +78,19 @@ foresees v out e said empty is = declines v v out (error.Layer e) said (λ c s f
 
 -- ---- a call that is made once memory was given back, which changes no state that the station stands for
 
-pub reused : (old mid new : code.Station) (out : code_step.Step) (result : Result Unit StationError) (said : Settings → Station → Outcome)
-    → ((c : Settings) (s : Station) → FitsStation c old s → FitsStation c mid s) → Does mid new out result said → Does old new out result said
-reused old mid new out result said same d = record {
+retimed : (out : code_step.Step) (timer : Timer) (result : Result Unit StationError) → OnErr result (IsEmpty out) → OnErr result (IsEmpty (record out { timer = timer }))
+retimed out timer (Ok u) empty = tt
+retimed out timer (Err e) empty = record { frames = empty.frames; entries = empty.entries }
+
+pub reused : (old mid new : code.Station) (out : code_step.Step) (timer : Timer) (result : Result Unit StationError) (said : Settings → Station → Outcome)
+    → ((c : Settings) (s : Station) → FitsStation c old s → FitsStation c mid s) → Does mid new out result said → Does old new (record out { timer = timer }) result said
+reused old mid new out timer result said same d = record {
   state = λ c s fits. d.state c s (same c s fits);
   frames = λ c s fits. d.frames c s (same c s fits);
   entries = λ c s fits. d.entries c s (same c s fits);
   refused = λ c s fits. d.refused c s (same c s fits);
   stays = λ c s fits. d.stays c s (same c s fits);
-  empty = d.empty;
+  empty = retimed out timer result d.empty;
   few_frames = d.few_frames;
   few_entries = d.few_entries;
 }

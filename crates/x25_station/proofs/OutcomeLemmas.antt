@@ -1,5 +1,5 @@
 -- What a call answers, by what its link's call answers.
-use Rattle.std.proofs.Common.{◌≡◌, Bool, true, false, if◌then◌else◌, map, Option, Some, None, Result, Ok, Err, OnOk, OnErr, inl, refl, ap, sym, subst, ◌∙◌}
+use Rattle.std.proofs.Common.{◌≡◌, Bool, true, false, if◌then◌else◌, map, Option, Some, None, Result, Ok, Err, inl, refl, ap, ◌∙◌}
 use Rattle.std.proofs.Math.Logic.{∥∥₁_map}
 use Rattle.x25_frame.specs.Spelling.{spelling_of}
 use Rattle.x25_link.specs.declared.error.LinkError.{LinkError}

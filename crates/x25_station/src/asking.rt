@@ -1,5 +1,5 @@
 //! What the user asks of the packet layer: the layer's call, and its entry.
-ghost use Rattle.std.specs.Prelude.{ℕ, List, length, Bool, ◌≡◌, Some, true, string_bytes, IfOk, IfErr, IfSome};
+ghost use Rattle.std.specs.Prelude.{ℕ, List, length, Bool, ◌≡◌, Some, true, false, string_bytes, IfOk, IfErr, IfSome};
 ghost use Rattle.x25_circuit.specs.Circuit.{Circuit};
 ghost use Rattle.x25_circuit.specs.Calling.{Calls, Accepts, Sends as CircuitSends};
 ghost use Rattle.x25_circuit.specs.Request.{plain_request};
@@ -11,6 +11,7 @@ ghost use Rattle.x25_layer.specs.laws.Transcript.{name_of};
 ghost use Rattle.x25_layer.specs.laws.TwoLayers.{shown};
 ghost use Rattle.x25_station.specs.Command.{command_of};
 ghost use Rattle.x25_station.specs.Entry.{of_channel};
+ghost use Rattle.x25_station.specs.code.Clock.{TellsTimer};
 ghost use Rattle.x25_station.specs.code.FitsStation.{FitsStation, Does, IsEmpty};
 ghost use Rattle.x25_station.specs.code.PlainEntry.{plain_entry, plain_asked, plain_said};
 ghost use Rattle.x25_station.specs.Config.{Settings};
@@ -127,12 +128,25 @@ impl Station {
     /// Else 70 alone, and 70 may come in place of each of these. The station is as before then.
     #[inline(always)]
     pub fn command(&mut self, command: Cmd<'_>, out: &mut Step) -> Result<(), StationError>
-        ensures { Does self.old self.new out.new result (λ c s. commands c s (command_of command.entry)) }
+        ensures does { Does self.old self.new out.new result (λ c s. commands c s (command_of command.entry)) }
+        ensures timer { TellsTimer self.old out.new.timer result false (λ c s. commands c s (command_of command.entry)) }
     {
         self.reuse(out);
-        match self.refusal(&command) {
+        let before = self.clock();
+        let answer = self.obey(&command, out);
+        out.timer = self.timer_behind(before, false, out.entries.as_slice());
+        answer
+    }
+
+    // Does what the user asks, into a step that is empty, where no refusal is known before.
+    #[inline(always)]
+    fn obey(&mut self, command: &Cmd<'_>, out: &mut Step) -> Result<(), StationError>
+        requires { IsEmpty out.old }
+        ensures { Does self.old self.new out.new result (λ c s. commands c s (command_of command.now)) }
+    {
+        match self.refusal(command) {
             Some(error) => Err(StationError::Layer(error)),
-            None => self.carry_out(&command, out),
+            None => self.carry_out(command, out),
         }
     }
 

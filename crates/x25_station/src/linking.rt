@@ -1,9 +1,10 @@
 //! Calls that the link alone answers, and at LinkDown the packet layer.
-ghost use Rattle.std.specs.Prelude.{◌≡◌, ℕ, ◌+◌, ◌<◌, ◌≤◌, ◌++◌, map, None, vec_len, vec_capacity};
+ghost use Rattle.std.specs.Prelude.{◌≡◌, ℕ, ◌+◌, ◌<◌, ◌≤◌, ◌++◌, map, true, false, None, vec_len, vec_capacity};
 ghost use Rattle.x25_layer.specs.Layer.{Layer as LayerState, LayerSettings};
 ghost use Rattle.x25_layer.specs.code.FitsLayer.{FitsLayer};
 ghost use Rattle.x25_layer.specs.Room.{HasRoom};
 ghost use Rattle.x25_station.specs.Entry.{entries_down};
+ghost use Rattle.x25_station.specs.code.Clock.{TellsTimer};
 ghost use Rattle.x25_station.specs.code.FitsStation.{FitsStation, Does, IsEmpty, RefusesExactly};
 ghost use Rattle.x25_station.specs.code.PlainEntry.{plain_entry};
 ghost use Rattle.x25_station.specs.Config.{Settings};
@@ -26,9 +27,13 @@ impl Station {
     pub fn connect(&mut self, out: &mut Step) -> Result<(), StationError>
         ensures does { Does self.old self.new out.new result connects }
         ensures exactly { (c : Settings) (s : State) → FitsStation c self.old s → RefusesExactly result (connects c s) }
+        ensures timer { TellsTimer self.old out.new.timer result false connects }
     {
         self.reuse(out);
-        self.set_up(out)
+        let before = self.clock();
+        let answer = self.set_up(out);
+        out.timer = self.timer_behind(before, false, out.entries.as_slice());
+        answer
     }
 
     // Begins to set the link up, into a step that is empty.
@@ -66,10 +71,14 @@ impl Station {
     ///
     /// 11 where the timer doesn't run, and else 70 alone; 70 may come in place of 11. The station is as before then.
     pub fn t1(&mut self, out: &mut Step) -> Result<(), StationError>
-        ensures { Does self.old self.new out.new result fires }
+        ensures does { Does self.old self.new out.new result fires }
+        ensures timer { TellsTimer self.old out.new.timer result true fires }
     {
         self.reuse(out);
-        self.fire(out)
+        let before = self.clock();
+        let answer = self.fire(out);
+        out.timer = self.timer_behind(before, answer.is_ok(), out.entries.as_slice());
+        answer
     }
 
     // T1 fires, into a step that is empty.

@@ -8,6 +8,7 @@ ghost use Rattle.x25_layer.specs.code.FitsLayer.{FitsLayer};
 ghost use Rattle.x25_layer.specs.Room.{HasRoom, HaveAtMost, IsNotFull};
 ghost use Rattle.x25_layer.specs.Rounds.{Putting, hears, comes_up};
 ghost use Rattle.x25_station.specs.Entry.{entries_up, entries_noted};
+ghost use Rattle.x25_station.specs.code.Clock.{TellsTimer};
 ghost use Rattle.x25_station.specs.code.FitsStation.{FitsStation, Does, HasPlaces, IsEmpty};
 ghost use Rattle.x25_station.specs.code.PlainEntry.{plain_entry};
 ghost use Rattle.x25_station.specs.Receiving.{kept_of, CanPut};
@@ -161,8 +162,22 @@ impl Station {
     pub fn receive(&mut self, octets: &[u8], out: &mut Step) -> Result<(), StationError>
         ensures does { Does self.old self.new out.new result (λ c s. Did (receives c s octets.now)) }
         ensures refused { IfErr result (λ e. e ≡ StationError.NoMemory) }
+        ensures timer { TellsTimer self.old out.new.timer result false (λ c s. Did (receives c s octets.now)) }
     {
         self.reuse(out);
+        let before = self.clock();
+        let answer = self.come(octets, out);
+        out.timer = self.timer_behind(before, false, out.entries.as_slice());
+        answer
+    }
+
+    // Octets come, into a step that is empty.
+    #[inline(always)]
+    fn come(&mut self, octets: &[u8], out: &mut Step) -> Result<(), StationError>
+        requires { IsEmpty out.old }
+        ensures does { Does self.old self.new out.new result (λ c s. Did (receives c s octets.now)) }
+        ensures refused { IfErr result (λ e. e ≡ StationError.NoMemory) }
+    {
         if self.is_full() {
             return self.abandon(octets, out);
         }

@@ -5,7 +5,7 @@ use crate::config::Cfg;
 use crate::entering::TextMemory;
 use crate::error::StationError;
 use std::alloc::Global;
-use x25_bits::{Blanks, Role, Seq};
+use x25_bits::{Blanks, Role};
 use x25_frame::N1;
 use x25_layer::{Layer, LayerError, Stretch};
 use x25_link::{Link, LinkError};
@@ -25,7 +25,7 @@ pub struct Station {
 }
 
 impl Station {
-    ghost use Rattle.std.specs.Prelude.{◌≡◌, ◌+◌, ◌≤◌, ◌%◌, IfOk};
+    ghost use Rattle.std.specs.Prelude.{◌≡◌, ◌+◌, ◌≤◌, IfOk};
     ghost use Rattle.x25_station.specs.code.FitsStation.{FitsStation, RefusesWith};
     ghost use Rattle.x25_station.specs.Config.{Settings, layer_settings, settings_from, config_refusal};
     ghost use Rattle.x25_station.specs.Station.{Station as State, new_station};
@@ -80,16 +80,6 @@ impl Station {
         ensures { (c : Settings) (s : State) → FitsStation c self.now s → result ≡ timer_runs s.link.phase s.link }
     {
         self.link.timer_runs()
-    }
-
-    /// The number of the first I frame that the other end didn't acknowledge: all below it are.
-    ///
-    /// T1 begins anew at a step behind which it runs, and before which it didn't; that was its firing; that told LinkUp; or behind which
-    /// this number is another one: see `deadlines_are_true`.
-    pub fn acknowledged(&self) -> Seq
-        ensures { (c : Settings) (s : State) → FitsStation c self.now s → result.number ≡ s.link.outgoing.acked % 8 }
-    {
-        self.link.acknowledged()
     }
 
     /// How many octets have come of the message of which some packets came on a channel, at most 65,535; 0 where there is none, or the

@@ -1,8 +1,9 @@
-ghost use Rattle.std.specs.Prelude.{◌≡◌, OnOk, IfErr};
+ghost use Rattle.std.specs.Prelude.{◌≡◌, ◌+◌, ◌≤◌, vec_len, vec_capacity, OnOk, IfErr};
 ghost use Rattle.x25_station.specs.code.FitsStation.{HasPlaces, IsEmpty};
 
 use crate::entry::Entry;
 use crate::error::StationError;
+use crate::timer::Timer;
 use std::alloc::Global;
 
 /// The most frames that a call of a station answers: nine in the link's step, seven I frames of the layer's packets, and an RR.
@@ -12,21 +13,37 @@ pub const MOST_FRAMES: usize = 17;
 pub const MOST_ENTRIES: usize = 3;
 
 /// What a call of a station answers: the frames to send, frame check sequence included, and the entries of the transcript, each in
-/// order. The entry of an accepted command is the first.
+/// order, and what becomes of timer T1. The entry of an accepted command is the first.
 #[derive(Debug, Drop)]
 pub struct Step {
     pub frames: Vec<Vec<u8>>,
     pub entries: Vec<Entry>,
+    pub timer: Timer,
+}
+
+/// Room for the frames of a call behind those that there are.
+#[inline(always)]
+pub(crate) fn make_room_for_frames(frames: &mut Vec<Vec<u8>>) -> Result<(), StationError>
+    ensures items { frames.new.items ≡ frames.old.items }
+    ensures room { OnOk result (vec_len frames.new + 17 ≤ vec_capacity frames.new) }
+    ensures refused { IfErr result (λ e. e ≡ StationError.NoMemory) }
+{
+    match frames.reserve(MOST_FRAMES) {
+        Ok(()) => Ok(()),
+        Err(_) => Err(StationError::NoMemory),
+    }
 }
 
 impl Step {
     /// A step for calls to answer into.
     pub fn new(alloc: Global) -> Step
-        ensures { IsEmpty result }
+        ensures empty { IsEmpty result }
+        ensures timer { result.timer ≡ Timer.Off }
     {
         Step {
             frames: Vec::new(alloc),
             entries: Vec::new(alloc),
+            timer: Timer::Off,
         }
     }
 

@@ -33,6 +33,11 @@ pub fn ask(station: &mut Station, command: Cmd<'_>, out: &mut Step) -> Result<()
     station.command(command, out)
 }
 
+/// What waits is pulled behind a step.
+pub fn pull(station: &mut Station, out: &mut Step) -> Result<(), StationError> {
+    station.pull(out)
+}
+
 /// Why a message of so many octets would be refused, as far as that is known before.
 pub fn message_refusal(station: &Station, channel: u16, count: usize) -> Option<StationError> {
     station.message_refusal(channel, count)

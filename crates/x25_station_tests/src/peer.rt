@@ -1,6 +1,6 @@
 //! A station, and tables of what happens at it: the other end's frames come from the table.
 
-use crate::calls::{ask, connect, fire, receive, station};
+use crate::calls::{ask, connect, fire, pull, receive, station};
 use crate::texts::{lines, refusal_line, step_lines, stretch_line};
 use std::alloc::Global;
 use std::process::Abort;
@@ -8,7 +8,7 @@ use std::str::from_utf8;
 use std::test::Fail;
 use x25_bits::Seq;
 use x25_frame::{Frame, encode};
-use x25_station::{Cfg, Cmd, Role, Station, StationError, Step};
+use x25_station::{Cfg, Cmd, Role, Station, StationError, Step, Timer};
 use x25_transcript::Line;
 
 /// What happens at a station.
@@ -32,7 +32,9 @@ pub enum Act {
     HearRr(u8),
     /// Nothing happens. It is shown whether the station is idle, and whether it awaits UA.
     Idle,
-    /// Nothing happens. It is shown whether T1 runs, and the number of the first frame that isn't acknowledged.
+    /// What waits is pulled behind what happened last. Both are shown.
+    Pull,
+    /// Nothing happens. It is shown whether T1 runs, and what became of it at what happened last.
     Timer,
     /// Nothing happens. The name of the stretch that is open on this channel is shown.
     Stretch(u16),
@@ -90,6 +92,10 @@ impl End {
                 let answer = fire(&mut self.station, &mut self.out);
                 self.shown(answer)
             }
+            Act::Pull => {
+                let answer = pull(&mut self.station, &mut self.out);
+                self.shown(answer)
+            }
             Act::Ask(command) => self.asks(1, command),
             Act::AskMany(count, command) => self.asks(count, command),
             Act::SendLong(count) => self.sends(count),
@@ -128,12 +134,15 @@ impl End {
     }
 
     fn timer(&self) -> Result<Line, Fail> {
-        let first = self.station.acknowledged().get();
-        let number = format!(in self.alloc; "{first}")?;
+        let became = match self.out.timer {
+            Timer::Off => "off",
+            Timer::Begins => "begins",
+            Timer::GoesOn => "goes on",
+        };
         if self.station.timer_runs() {
-            return Ok(lines(self.alloc, &["T1 runs", number.as_str()])?);
+            return Ok(lines(self.alloc, &["T1 runs", became])?);
         }
-        Ok(lines(self.alloc, &["T1 is off", number.as_str()])?)
+        Ok(lines(self.alloc, &["T1 is off", became])?)
     }
 
     fn asks(&mut self, count: u16, command: Cmd<'_>) -> Result<Line, Fail> {

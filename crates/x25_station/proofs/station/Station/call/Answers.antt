@@ -23,7 +23,7 @@ pub invariant_of-self : goal.invariant_of-self
 invariant_of-self c = record {
   meant = still_meant _ _ _ _ c.args.self.now.meant (λ c' s fits.
       let request = Dials c.args.called.now c.args.calling.now c.args.user.now c.args.params in
-      let a = answers c.in-Ok.channel c' _ c.call_with.new.link c.sent_into.new.self _ c.call_with.new.self (record { frames = c.sent_into.new.frames; entries = c.enter.new.entries }) s request fits
+      let a = answers c.in-Ok.channel c' _ c.call_with.new.link c.sent_into.new.self _ c.call_with.new.self (record { frames = c.sent_into.new.frames; entries = c.enter.new.entries; timer = c.make_room.new.self.timer }) s request fits
       c.in-Ok.ensures.does.layer c.in-Ok.ensures.does.link c.sent_into.ensures.station (ap (λ o. o.made) c.sent_into.ensures.outbox) (c.sent_into.ensures.frames ∙ ap (λ frames. map (λ frame. frame.items) frames ++ c.call_with.new.link.outbox.made) c.make_room.ensures.empty.frames)
       (c.steps_keep_bounds.ensures.command c' s (Requests request) fits.kept) in
       leaves_some c' _ _ (requests c' s request) a.state a.refused);
@@ -51,7 +51,7 @@ invariant_of-self-in-Err-1 c = record {
 pub returns-in-Ok : goal.returns-in-Ok
 returns-in-Ok c =
     let request = Dials c.args.called.now c.args.calling.now c.args.user.now c.args.params in
-    let r : code_step.Step = record { frames = c.sent_into.new.frames; entries = c.enter.new.entries } in
+    let r : code_step.Step = record { frames = c.sent_into.new.frames; entries = c.enter.new.entries; timer = c.make_room.new.self.timer } in
     did_request c.in-Ok.channel c.args.self.now _ c.call_with.new.link r request c.in-Ok.ensures.does.layer c.in-Ok.ensures.does.link c.sent_into.ensures.station (ap (λ o. o.made) c.sent_into.ensures.outbox) (c.sent_into.ensures.frames ∙ ap (λ frames. map (λ frame. frame.items) frames ++ c.call_with.new.link.outbox.made) c.make_room.ensures.empty.frames)
     c.steps_keep_bounds.ensures.command c.holds_few.ensures.window c.holds_few.ensures.stand
     (λ c' s fits.

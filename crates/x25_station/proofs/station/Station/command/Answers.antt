@@ -1,8 +1,14 @@
-use Rattle.x25_station.proofs.DoesLemmas.{foresees, reused}
+use Rattle.std.proofs.Common.{false, refl, ap, map, ◌∙◌}
+use Rattle.x25_station.specs.code.PlainEntry.{plain_entry}
+use Rattle.x25_station.proofs.ClockLemmas.{timed, always, not_ever}
+use Rattle.x25_station.proofs.DoesLemmas.{reused}
 use Rattle.x25_station.proofs.station.Station.command.Goals as goal
 
-pub returns-in-Some : goal.returns-in-Some
-returns-in-Some c = reused _ c.reuse.new.self _ _ _ _ c.reuse.ensures.fits (foresees c.reuse.new.self _ c.in-Some.error _ c.reuse.ensures.empty c.in-Some.ensures)
+pub returns-clause-does : goal.returns-clause-does
+returns-clause-does c = reused _ c.reuse.new.self _ c.obey-answer.new.out c.timer_behind-out.result _ _ c.reuse.ensures.fits c.obey-answer.ensures
 
-pub returns-in-None : goal.returns-in-None
-returns-in-None c = reused _ c.reuse.new.self _ _ _ _ c.reuse.ensures.fits c.carry_out.ensures
+pub returns-clause-timer : goal.returns-clause-timer
+returns-clause-timer c = λ c' s fits.
+    let now = c.reuse.ensures.fits c' s fits in
+    timed c' s c.reuse.new.self c.obey-answer.new.self c.obey-answer.new.out c.timer_behind-out.result now c.obey-answer.result _ false false c.obey-answer.ensures (always c.obey-answer.result refl) (not_ever c.obey-answer.result refl)
+    (λ step near entries. c.timer_behind-out.ensures c' s step (c.clock-before.ensures c' s now) near (ap (map plain_entry) c.as_slice.ensures.value ∙ entries))

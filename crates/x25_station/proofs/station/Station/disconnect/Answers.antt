@@ -56,12 +56,12 @@ returns-in-Ok c = record {
   frames = λ c' s fits.
       let k = disconnect_step (link_settings c') s.link in
       let step : Step = led_by (disconnect_asked ∷ []) (follows c' s.layer k) in
-      sends_unless c' (record { frames = c.exchange.new.frames; entries = c.note_down.new.entries }) (disconnect_refusal s.link.phase) step
+      sends_unless c' (record { frames = c.exchange.new.frames; entries = c.note_down.new.entries; timer = c.args.out.now.timer }) (disconnect_refusal s.link.phase) step
       (ap (λ made. map (λ frame. frame.items) made.items) c.exchange.ensures.frames ∙ frames_down c' s.layer k _ (follows c' s.layer k) (disconnect_down c' s.layer s.link) (c.in-Ok.ensures.answer (link_settings c') s.link fits.link).frames);
   entries = λ c' s fits.
       let k = disconnect_step (link_settings c') s.link in
       let step : Step = led_by (disconnect_asked ∷ []) (follows c' s.layer k) in
-      enters_unless (record { frames = c.exchange.new.frames; entries = c.note_down.new.entries }) (disconnect_refusal s.link.phase) step
+      enters_unless (record { frames = c.exchange.new.frames; entries = c.note_down.new.entries; timer = c.args.out.now.timer }) (disconnect_refusal s.link.phase) step
       (entries_noted_down s.layer k (disconnect_asked ∷ []) _ _ (follows c' s.layer k) (disconnect_down c' s.layer s.link) (ap (λ n. n.down) (c.in-Ok.ensures.answer (link_settings c') s.link fits.link).notes)
       (c.note_down.ensures.entries ∙ ap (λ es. map plain_entry es ++ entries_down c.in-Ok.step.notes.down) (c.push_reserved.ensures.items ∙ ap (λ es. es ++ DisconnectAsked ∷ []) (c.reserve.ensures.items ∙ c.requires.entries))));
   refused = λ c' s fits.

@@ -1,4 +1,4 @@
-use Rattle.std.proofs.Common.{arith, ◌≤◌, length, [], sym, subst, ap, ◌∙◌, ◌++◌, map}
+use Rattle.std.proofs.Common.{arith, length, [], sym, subst, ap, ◌∙◌, ◌++◌, map}
 use Rattle.x25_frame.specs.Spelling.{spelling_of}
 use Rattle.x25_link.specs.Link.{timer_refusal, timer_step}
 use Rattle.x25_link.specs.declared.heard.Heard.{Heard}
@@ -58,11 +58,11 @@ returns-in-Ok c = record {
       let k = timer_step (link_settings c') s.link in
       let none = c.make_room.ensures.empty.frames in
       let out = map (spelling_of c'.role) k.side.out in
-      sends_unless c' (record { frames = c.t1_into.new.frames; entries = c.note_down.new.entries }) (timer_refusal s.link) (follows c' s.layer k)
+      sends_unless c' (record { frames = c.t1_into.new.frames; entries = c.note_down.new.entries; timer = c.make_room.new.self.timer }) (timer_refusal s.link) (follows c' s.layer k)
       (frames_down c' s.layer k _ (follows c' s.layer k) (timer_down c' s.layer s.link) (c.in-Ok.ensures.does.frames (link_settings c') s.link fits.link ∙ ap (λ frames. map (λ frame. frame.items) frames ++ out) none));
   entries = λ c' s fits.
       let k = timer_step (link_settings c') s.link in
-      enters_unless (record { frames = c.t1_into.new.frames; entries = c.note_down.new.entries }) (timer_refusal s.link) (follows c' s.layer k)
+      enters_unless (record { frames = c.t1_into.new.frames; entries = c.note_down.new.entries; timer = c.make_room.new.self.timer }) (timer_refusal s.link) (follows c' s.layer k)
       (entries_noted_down s.layer k [] _ _ (follows c' s.layer k) (timer_down c' s.layer s.link) (ap (λ n. n.down) (c.in-Ok.ensures.does.notes (link_settings c') s.link fits.link))
       (c.note_down.ensures.entries ∙ ap (λ es. map plain_entry es ++ entries_down c.in-Ok.heard.notes.down) c.make_room.ensures.empty.entries));
   refused = λ c' s fits.
@@ -82,4 +82,4 @@ returns-in-Err c = declines c.args.self.now _ _ _ fires (λ c' s fits.
     refused Heard Unit c.in-Err.error _ (timer_refusal s.link) (follows c' s.layer (timer_step (link_settings c') s.link)) (timer_named s.link) c.of_link.ensures
     (c.in-Err.ensures.refused (link_settings c') s.link fits.link))
     (λ c' s fits. subst (λ l. FitsParts c' l c.args.self.now.layer s) (sym c.in-Err.ensures.does.err) fits)
-    (subst (λ frames. IsEmpty (record { frames = frames; entries = c.make_room.new.self.entries })) (sym c.in-Err.ensures.err) c.make_room.ensures.empty)
+    (subst (λ frames. IsEmpty (record { frames = frames; entries = c.make_room.new.self.entries; timer = c.make_room.new.self.timer })) (sym c.in-Err.ensures.err) c.make_room.ensures.empty)

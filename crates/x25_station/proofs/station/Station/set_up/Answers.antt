@@ -1,4 +1,4 @@
-use Rattle.std.proofs.Common.{arith, ◌≤◌, length, map, vec_len, ap, sym, subst, ◌∙◌, ◌≡◌}
+use Rattle.std.proofs.Common.{arith, ◌≤◌, length, map, vec_len, ap, sym, subst, ◌∙◌}
 use Rattle.x25_link.specs.Link.{connect_refusal, connect_step}
 use Rattle.x25_link.specs.code.FitsLink.{FitsLink}
 use Rattle.x25_link.specs.declared.step.Step as link_step
@@ -39,7 +39,7 @@ invariant_of-self-in-Err-1 c = record { meant = subst (λ l. AreMeant l c.args.s
 
 pub returns-in-Ok-clause-does : goal.returns-in-Ok-clause-does
 returns-in-Ok-clause-does c =
-    let r : code_step.Step = record { frames = c.exchange.new.frames; entries = c.args.out.now.entries } in
+    let r : code_step.Step = record { frames = c.exchange.new.frames; entries = c.args.out.now.entries; timer = c.args.out.now.timer } in
     let few : length c.in-Ok.step.frames.items ≤ 9 = least_by_meaning _ _ (length c.in-Ok.step.frames.items) 9 c.args.self.now.meant (λ c' s fits.
     let lk = link_settings c' in
     few_frames c'.role c.in-Ok.step.frames.items (λ frame. frame.items) (connect_step lk s.link).side.out 9 (c.in-Ok.ensures.answer lk s.link fits.link).frames

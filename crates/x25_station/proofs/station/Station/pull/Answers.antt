@@ -1,0 +1,10 @@
+use Rattle.std.proofs.Common.{◌∙◌, ap}
+use Rattle.x25_station.specs.Pulling.{pulled}
+use Rattle.x25_station.specs.Timer.{pulled_timer, runs}
+use Rattle.x25_station.proofs.station.Station.pull.Goals as goal
+
+pub returns-in-Ok-clause-timer : goal.returns-in-Ok-clause-timer
+returns-in-Ok-clause-timer c = λ c' s fits.
+    c.pulled-out.ensures
+    ∙ ap (λ b. pulled_timer c.args.out.now.timer b c.clock.result.runs) (c.clock-before.ensures c' s fits).0
+    ∙ ap (λ b. pulled_timer c.args.out.now.timer (runs s) b) (c.clock.ensures c' (pulled c' s).near (c.in-Ok.ensures.pulls.state c' s fits)).0
