@@ -1,8 +1,7 @@
 //! A station between what a program has: a line, a timer and a user.
 use std::alloc::AllocError;
 use thiserror::Error;
-use x25_bits::Seq;
-use x25_station::{Cmd, Entry, Station, StationError, Step};
+use x25_station::{Cmd, Entry, Station, StationError, Step, Timer as T1};
 
 /// The line that leads away from a station.
 pub(crate) trait Line {
@@ -53,92 +52,55 @@ impl From<AllocError> for Trouble {
     }
 }
 
-// What tells, behind an event, whether timer T1 begins anew.
-#[derive(Clone, Copy)]
-struct Before {
-    timer_runs: bool,
-    acknowledged: Seq,
-}
-
-fn happen(station: &mut Station, event: Event<'_>) -> Result<Step, StationError> {
+fn happen(station: &mut Station, event: Event<'_>, step: &mut Step) -> Result<(), StationError> {
     match event {
-        Event::Frame(octets) => station.receive(octets),
-        Event::Fired => station.t1(),
-        Event::Asked(command) => station.command(command),
+        Event::Frame(octets) => station.receive(octets, step),
+        Event::Fired => station.t1(step),
+        Event::Asked(command) => station.command(command, step),
     }
 }
 
-fn is_up(entries: &[Entry]) -> bool {
-    for entry in entries {
-        if matches!(entry, Entry::LinkUp) {
-            return true;
-        }
-    }
-    false
+// What waits in the circuits goes, so that no message is left there while nothing is on the line.
+fn pull(station: &mut Station, step: &mut Step) -> Result<(), StationError> {
+    station.pull(step)
 }
 
-// T1 begins anew where it didn't run before, where it fired, where a frame was acknowledged and where the link came up.
-fn set_timer<T: Timer>(
-    before: Before,
-    station: &Station,
-    has_fired: bool,
-    entries: &[Entry],
+// What a station answered goes on: frames to the line, notices to the user, and timer T1 is set.
+fn hand_on<L: Line, T: Timer, U: User>(
+    step: &Step,
+    line: &mut L,
     timer: &mut T,
-) {
-    if !station.timer_runs() {
-        timer.stop();
-        return;
+    user: &mut U,
+) -> Result<(), AllocError> {
+    for entry in step.entries.as_slice() {
+        user.notice(entry)?;
     }
-    let is_acknowledged = before.acknowledged != station.acknowledged();
-    if !before.timer_runs || has_fired || is_acknowledged || is_up(entries) {
-        timer.start();
-    }
-}
-
-fn send_all<L: Line>(frames: &[Vec<u8>], line: &mut L) -> Result<(), AllocError> {
-    for frame in frames {
+    for frame in step.frames.as_slice() {
         line.send(frame.as_slice())?;
+    }
+    match step.timer {
+        T1::Off => timer.stop(),
+        T1::Begins => timer.start(),
+        T1::GoesOn => {}
     }
     Ok(())
 }
 
-// What waits in the circuits goes, so that no message is left there while nothing is on the line. Where the link isn't up, or a restart is
-// under way, that is refused, and nothing waits.
-fn send_what_waits<L: Line>(station: &mut Station, line: &mut L) -> Result<(), Trouble> {
-    match station.pull() {
-        Ok(step) => Ok(send_all(step.frames.as_slice(), line)?),
-        Err(StationError::NoMemory) => Err(Trouble::NoMemory),
-        Err(_) => Ok(()),
-    }
-}
-
-/// Gives an event to a station. What it answers goes on: frames to the line, notices to the user, and timer T1 is set.
+/// Gives an event to a station, and hands on what it answers. The step is kept from event to event.
 pub(crate) fn drive<L: Line, T: Timer, U: User>(
     station: &mut Station,
+    step: &mut Step,
     event: Event<'_>,
     line: &mut L,
     timer: &mut T,
     user: &mut U,
 ) -> Result<(), Trouble> {
-    let before = Before {
-        timer_runs: station.timer_runs(),
-        acknowledged: station.acknowledged(),
-    };
-    let step = match happen(station, event) {
-        Ok(step) => step,
-        Err(error) => return Err(Trouble::Refused(error)),
-    };
-    for entry in step.entries.as_slice() {
-        user.notice(entry)?;
+    if let Err(error) = happen(station, event, step) {
+        return Err(Trouble::Refused(error));
     }
-    send_all(step.frames.as_slice(), line)?;
-    send_what_waits(station, line)?;
-    set_timer(
-        before,
-        station,
-        matches!(event, Event::Fired),
-        step.entries.as_slice(),
-        timer,
-    );
+    if pull(station, step).is_err() {
+        return Err(Trouble::NoMemory);
+    }
+    hand_on(step, line, timer, user)?;
     Ok(())
 }

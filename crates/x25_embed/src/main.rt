@@ -10,7 +10,7 @@ use crate::in_memory::{Flag, Frames, Told};
 use anyhow::Result;
 use std::alloc::Global;
 use std::io::{self, Write};
-use x25_station::{Cfg, Cmd, Role, Station, StationError};
+use x25_station::{Cfg, Cmd, Role, Station, StationError, Step};
 
 /// As many frames as a run delivers at most, each way, before it gives up.
 const MOST_DELIVERIES: usize = 1_000;
@@ -26,6 +26,7 @@ const SETTINGS: Cfg = Cfg {
 #[derive(Drop)]
 struct End {
     station: Box<Station>,
+    step: Step,
     out: Frames,
     timer: Flag,
     told: Told,
@@ -44,6 +45,7 @@ impl End {
         let station = boxed(alloc, Station::new(alloc, role, SETTINGS)?)?;
         Ok(End {
             station,
+            step: Step::new(alloc),
             out: Frames::new(alloc),
             timer: Flag { runs: false },
             told: Told::new(alloc, role),
@@ -53,6 +55,7 @@ impl End {
     fn happen(&mut self, event: Event<'_>) -> Result<(), Trouble> {
         drive(
             &mut self.station,
+            &mut self.step,
             event,
             &mut self.out,
             &mut self.timer,

@@ -1,5 +1,4 @@
 pub mod rows
-pub mod MarkLemmas
 pub mod SayingLemmas
 pub mod StandLemmas
 pub mod LeaveLemmas

@@ -1,29 +1,36 @@
 -- How it stands after a turn.
-use Rattle.std.proofs.Common.{◌≡◌, ◌≢◌, ◌∙◌, ℕ, Bool, true, false, List, [], ◌∷◌, ◌++◌, length, map, arith, Option, Result, Ok, Err, IfOk, ap, ap₂, sym, subst, refl, inl, inr}
+use Rattle.std.proofs.Common.{◌≡◌, ◌∙◌, ◌==◌, ℕ, Bool, true, false, List, [], ◌∷◌, ◌++◌, map, Option, Ok, ap, sym, subst, refl, inl, inr}
 use Rattle.std.specs.Prelude.{◌||◌}
 use Rattle.std.proofs.lemmas.List.{append-nil, map-append}
 use Rattle.std.proofs.Math.Bool.{or-false, or-true}
 use Rattle.x25_bits.specs.declared.role.Role.{Role}
 use Rattle.x25_io.specs.code.Written.{AppendsPrefix, Tells}
-use Rattle.x25_io.specs.declared.fault.Fault.{Fault}
-use Rattle.x25_layer.specs.Calls.{PullsAll}
+use Rattle.x25_layer.specs.Calls.{PullsAll, LayerOutcome, Accepted, Declined, layer_outcome}
+use Rattle.x25_layer.specs.Rounds.{Answered, Went, Refuses, calls}
+use Rattle.x25_frame.specs.Frame.{PlainFrame}
+use Rattle.x25_link.specs.Link.{alone}
 use Rattle.x25_frame.specs.Spelling.{spelling_of}
 use Rattle.x25_station.specs.declared.error.StationError.{StationError}
 use Rattle.x25_station.specs.declared.error.StationError.TheVariants.{NoMemory}
 use Rattle.x25_station.specs.declared.station.Station as code
 use Rattle.x25_station.specs.declared.step.Step as code_step
 use Rattle.x25_station.specs.Entry.{StationEntry}
-use Rattle.x25_station.specs.Command.{Requests}
+use Rattle.x25_station.specs.declared.timer.Timer.{Timer}
+use Rattle.x25_station.specs.Pulling.{pulled, pulled_of}
+use Rattle.x25_station.specs.Timer.{timer_pulled}
+use Rattle.x25_station.specs.laws.TimerLaw as timer
+use Rattle.x25_station.specs.laws.TimerLaw.{Event}
+use Rattle.x25_station.specs.code.Pulls.{Pulls}
 use Rattle.x25_station.specs.code.FitsStation as fits
 use Rattle.x25_station.specs.code.FitsStation.{FitsStation}
 use Rattle.x25_station.specs.code.PlainEntry.{plain_entry}
-use Rattle.x25_station.specs.Config.{Settings}
+use Rattle.x25_station.specs.Config.{Settings, link_settings, layer_settings}
 use Rattle.x25_station.specs.Error.{number_of}
-use Rattle.x25_station.specs.Station.{Station}
-use Rattle.x25_station.specs.Step.{Step, Outcome, Did, Refused, commands}
+use Rattle.x25_station.specs.Station.{Station, view_of, waiting_after}
+use Rattle.x25_station.specs.Step.{Step, Outcome, Did, Refused, did, requests, entries_of_outcome}
 use Rattle.x25_console.specs.Telling.{nothing_line, refusal_line}
 use Rattle.x25_io.proofs.ToldLemmas.{prefix_more}
-use Rattle.x25_pipe.specs.Pipe.{Saying, enters, sends, refuses, reads_nothing, saying_line, sayings_text, has_refusal, Turn, and_then, said, step_told, pulled_behind, with_pulls}
+use Rattle.x25_pipe.specs.Pipe.{Saying, enters, sends, refuses, reads_nothing, saying_line, sayings_text, has_refusal, Turn, and_then, said, step_told, pulled_behind, and_pulls, with_pulls, timer_with_pulls}
 use Rattle.x25_pipe.specs.code.Stands.{Stands, IsStep, IsError, answer_told}
 use Rattle.x25_pipe.specs.declared.pipe.Pipe.{Pipe}
 use Rattle.x25_pipe.proofs.SayingLemmas.{parts_text, parts_refused}
@@ -131,42 +138,49 @@ is_step c v step P f (Refused e) h = absurd h.accepted
 
 -- ---- what is pulled behind it
 
-pub empty : {T : Type 0} (xs : List T) → length xs ≡ 0 → xs ≡ []
-empty [] none = refl
-empty (x ∷ xs) none = absurd (omega (arith, none))
+abbrev behind : Step → Step → Step
+behind step pulls = record { near = pulls.near; out = step.out ++ pulls.out; entries = step.entries ++ pulls.entries }
 
-module _ (c : Settings) (v u : code.Station) (step : code_step.Step) where
-  -- frames of pulls behind those of a step
-  step_pulls : (pulled both : code_step.Step) (plain : Step) (o : Outcome) → IsStep c v step (Did plain) → IsStep c u pulled o → pulled.entries.items ≡ []
-      → both.frames.items ≡ step.frames.items ++ pulled.frames.items → both.entries ≡ step.entries → IsStep c u both (Did (pulled_behind plain o))
-  step_pulls pulled both plain (Did pulls) h k none frames entries = record {
-    leaves = k.leaves;
-    sends = ap (λ fs. map (λ frame. frame.items) fs) frames ∙ map-append (λ frame. frame.items) step.frames.items pulled.frames.items
-        ∙ ap₂ (λ (xs ys : List (List ℕ)). xs ++ ys) h.sends k.sends ∙ sym (map-append (spelling_of c.role) plain.out pulls.out);
-    enters = ap (λ es. map plain_entry es.items) entries ∙ h.enters ∙ sym (append-nil plain.entries) ∙ ap (λ es. plain.entries ++ es) (sym (ap (map plain_entry) none) ∙ k.enters);
-    accepted = tt;
-  }
-  step_pulls pulled both plain (Refused e) h k none frames entries = absurd k.accepted
+both_are : (step : Step) (o : Outcome) → pulled_behind step o ≡ behind step (pulled_of step.near o)
+both_are step (Did pulls) = refl
+both_are step (Refused e) =
+    ap (λ (out : List PlainFrame). record { near = step.near; out = out; entries = step.entries }) (sym (append-nil step.out))
+    ∙ ap (λ (entries : List StationEntry). record { near = step.near; out = step.out ++ []; entries = entries }) (sym (append-nil step.entries))
 
-  pub pulled_step : (pulled : code_step.Step) (o : Outcome) (r : Result code_step.Step Fault) → IsStep c v step o → ((s : Station) → FitsStation c v s → IsStep c u pulled (commands c s (Requests PullsAll)))
-      → pulled.entries.items ≡ [] → IfOk r (λ both. both.frames.items ≡ step.frames.items ++ pulled.frames.items) → IfOk r (λ both. both.entries ≡ step.entries) → IfOk r (λ both. IsStep c u both (with_pulls c o))
-  pulled_step pulled (Did plain) (Ok both) h pulls none frames entries = step_pulls pulled both plain (commands c plain.near (Requests PullsAll)) h (pulls plain.near h.leaves) none frames entries
-  pulled_step pulled (Refused e) (Ok both) h pulls none frames entries = absurd h.accepted
-  pulled_step pulled o (Err fault) h pulls none frames entries = tt
+pub both_is : (c : Settings) (step : Step) → and_pulls c step ≡ behind step (pulled c step.near)
+both_is c step = both_are step (requests c step.near PullsAll)
 
-  -- .. or the step alone
-  step_alone : (error : StationError) (o : Outcome) → IsStep c v step o
-      → ((s : Station) → FitsStation c v s → (let x : Result code_step.Step StationError = Err error in fits.RefusesExactly x (commands c s (Requests PullsAll))))
-      → ((s : Station) → FitsStation c v s → FitsStation c u s) → (error ≡ NoMemory → ⊥) → IsStep c u step (with_pulls c o)
-  step_alone error (Refused e) h refused stays other = absurd h.accepted
-  step_alone error (Did plain) h refused stays other = by (commands c plain.near (Requests PullsAll)) (refused plain.near h.leaves)
-    where
-      by : (o : Outcome) → (let x : Result code_step.Step StationError = Err error in fits.RefusesExactly x o) → IsStep c u step (Did (pulled_behind plain o))
-      by (Did pulls) is = absurd (other is)
-      by (Refused e) is = record { leaves = stays plain.near h.leaves; sends = h.sends; enters = h.enters; accepted = tt }
+-- pulls have no entries
+none_in : (c : Settings) (s : Station) (o : LayerOutcome) (a : Answered) → (pulled_of s (did c (alone s.link) (entries_of_outcome (layer_settings c) s.layer PullsAll o) a)).entries ≡ []
+none_in c s (Accepted next packet) (Went p) = refl
+none_in c s (Declined e) (Went p) = refl
+none_in c s o (Refuses e) = refl
 
-  pub alone_step : (error : StationError) (o : Outcome) (r : Result code_step.Step Fault) → IsStep c v step o
-      → ((s : Station) → FitsStation c v s → (let x : Result code_step.Step StationError = Err error in fits.RefusesExactly x (commands c s (Requests PullsAll))))
-      → ((s : Station) → FitsStation c v s → FitsStation c u s) → IfOk r (λ found. found ≡ step) → IfOk r (λ found. error ≢ NoMemory) → IfOk r (λ found. IsStep c u found (with_pulls c o))
-  alone_step error o (Ok found) h refused stays same other = subst (λ (x : code_step.Step). IsStep c u x (with_pulls c o)) (sym same) (step_alone error o h refused stays other)
-  alone_step error o (Err fault) h refused stays same other = tt
+none_entered : (c : Settings) (s : Station) → (pulled c s).entries ≡ []
+none_entered c s =
+    let lc = layer_settings c in
+    none_in c s (layer_outcome lc (waiting_after (link_settings c) s.link [] == 256) s.layer PullsAll) (calls (view_of (link_settings c) s.link) lc s.layer PullsAll)
+
+module _ (c : Settings) (v u : code.Station) (step both : code_step.Step) where
+  pub pulled_step : (w : Unit) (o : Outcome) → IsStep c v step o → Pulls v u (map (λ frame. frame.items) step.frames.items) (map (λ frame. frame.items) both.frames.items) (Ok w)
+      → both.entries ≡ step.entries → IsStep c u both (with_pulls c o)
+  pulled_step w (Did plain) h p entries =
+      let pulls : Step = pulled c plain.near in
+      subst (λ (x : Step). IsStep c u both (Did x)) (sym (both_is c plain)) (record {
+        leaves = p.state c plain.near h.leaves;
+        sends = p.frames c plain.near h.leaves ∙ ap (λ (xs : List (List ℕ)). xs ++ map (spelling_of c.role) pulls.out) h.sends ∙ sym (map-append (spelling_of c.role) plain.out pulls.out);
+        enters = ap (λ es. map plain_entry es.items) entries ∙ h.enters ∙ sym (append-nil plain.entries) ∙ ap (λ es. plain.entries ++ es) (sym (none_entered c plain.near));
+        accepted = tt;
+      })
+  pulled_step w (Refused e) h p entries = absurd h.accepted
+
+  pub pulled_timer_is : (s : Station) (event : Event) (o : Outcome) → IsStep c v step o → ((n : Station) → FitsStation c v n → both.timer ≡ timer_pulled step.timer n (pulled c n).near)
+      → step.timer ≡ timer.timer s event o → both.timer ≡ timer_with_pulls c s event o
+  pulled_timer_is s event (Did plain) h is same =
+      is plain.near h.leaves ∙ ap (λ (t : Timer). timer_pulled t plain.near (pulled c plain.near).near) same
+      ∙ ap (λ (x : Step). timer_pulled (timer.timer s event (Did plain)) plain.near x.near) (sym (both_is c plain))
+  pulled_timer_is s event (Refused e) h is same = absurd h.accepted
+
+-- what a call answered is the step of its definition
+pub is_step_of : (w : Unit) (v u : code.Station) (step : code_step.Step) (sayd : Settings → Station → Outcome) (c : Settings) (s : Station) → fits.Does v u step (Ok w) sayd → FitsStation c v s → IsStep c u step (sayd c s)
+is_step_of w v u step sayd c s d f = record { leaves = d.state c s f; sends = d.frames c s f; enters = d.entries c s f; accepted = d.refused c s f }

@@ -1,4 +1,3 @@
 pub mod Pipe
-pub mod Mark
 pub mod code
 pub mod rows

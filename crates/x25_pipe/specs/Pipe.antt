@@ -25,7 +25,10 @@ use Rattle.x25_station.specs.Station.{Station, new_station}
 use Rattle.x25_station.specs.Step.{Step, Outcome, Did, Refused, commands}
 use Rattle.x25_station.specs.Station.Told.{is_idle}
 use Rattle.x25_station.specs.laws.TimerLaw as timer
-use Rattle.x25_station.specs.laws.TimerLaw.{Event, Comes, Asks, Fires, Mark, Off, On, Start}
+use Rattle.x25_station.specs.laws.TimerLaw.{Event, Comes, Asks, Fires}
+use Rattle.x25_station.specs.Timer.{standing, timer_pulled}
+use Rattle.x25_station.specs.declared.timer.Timer.{Timer}
+use Rattle.x25_station.specs.declared.timer.Timer.TheVariants.{Off, Begins, GoesOn}
 
 -- ---- what a line asks for: this end's commands and T1, and frames of the other end
 
@@ -83,12 +86,12 @@ pub data Saying : Type 0 where
   sends : (octets : List ℕ) → Saying
   reads_nothing : Saying
   refuses : (error : StationError) → Saying
-  marks : (mark : Mark) → (is_idle : Bool) → Saying
+  marks : (timer : Timer) → (is_idle : Bool) → Saying
 
-abbrev pub mark_text : Mark → List ℕ
+abbrev pub mark_text : Timer → List ℕ
 mark_text Off = codes "off"
-mark_text On = codes "on"
-mark_text Start = codes "start"
+mark_text GoesOn = codes "on"
+mark_text Begins = codes "start"
 
 abbrev pub work_text : Bool → List ℕ
 work_text true = codes "idle"
@@ -100,7 +103,7 @@ saying_line end (enters e) = entry_line end e
 saying_line end (sends octets) = frame_line end octets
 saying_line end reads_nothing = nothing_line
 saying_line end (refuses error) = refusal_line (number_of error)
-saying_line end (marks mark is_idle) = codes ". " ++ mark_text mark ++ codes " " ++ work_text is_idle ++ codes "\n"
+saying_line end (marks timer is_idle) = codes ". " ++ mark_text timer ++ codes " " ++ work_text is_idle ++ codes "\n"
 
 abbrev pub sayings_text : Role → List Saying → List ℕ
 sayings_text end sayings = flat_map (saying_line end) sayings
@@ -110,7 +113,7 @@ is_refusal (enters e) = false
 is_refusal (sends octets) = false
 is_refusal reads_nothing = true
 is_refusal (refuses error) = true
-is_refusal (marks mark is_idle) = false
+is_refusal (marks timer is_idle) = false
 
 abbrev pub has_refusal : List Saying → Bool
 has_refusal sayings = list_any is_refusal sayings
@@ -133,16 +136,13 @@ abbrev pub and_then : (Station → Turn) → Turn → Turn
 and_then rest t = record { next = (rest t.next).next; sayings = t.sayings ++ (rest t.next).sayings }
 
 -- one mark, and whether the station has work
-abbrev pub mark_turn : Settings → Mark → Station → Turn
-mark_turn c mark s = said s (marks mark (is_idle c s) ∷ [])
+abbrev pub mark_turn : Settings → Timer → Station → Turn
+mark_turn c timer s = said s (marks timer (is_idle c s) ∷ [])
 
-abbrev pub marked : Settings → Mark → Station → List Saying → Turn
-marked c mark s sayings = and_then (mark_turn c mark) (said s sayings)
+abbrev pub marked : Settings → Timer → Station → List Saying → Turn
+marked c timer s sayings = and_then (mark_turn c timer) (said s sayings)
 
 -- behind no event T1 is as it was
-abbrev pub standing : Station → Mark
-standing s = timer.mark_of (timer.runs s) false
-
 abbrev pub standing_turn : Settings → Station → Turn
 standing_turn c s = mark_turn c (standing s) s
 
@@ -153,11 +153,19 @@ abbrev pub outcome_told : Settings → Outcome → List Saying
 outcome_told c (Did step) = step_told c step
 outcome_told c (Refused error) = refuses error ∷ []
 
-abbrev pub turn_of : Settings → Station → Event → Outcome → Turn
-turn_of c s event o = marked c (timer.mark s event o) (timer.after s o) (outcome_told c o)
+abbrev pub turn_of : Settings → Timer → Station → Outcome → Turn
+turn_of c t s o = marked c t (timer.after s o) (outcome_told c o)
+
+-- what T1 becomes at an event and the pulls behind it
+abbrev pub timer_with_pulls : Settings → Station → Event → Outcome → Timer
+timer_with_pulls c s event (Did step) = timer_pulled (timer.timer s event (Did step)) step.near (and_pulls c step).near
+timer_with_pulls c s event (Refused e) = standing s
+
+abbrev pub pulling_turn : Settings → Station → Event → Outcome → Turn
+pulling_turn c s event o = turn_of c (timer_with_pulls c s event o) s (with_pulls c o)
 
 unfoldable pub event_turn : Settings → Station → Event → Turn
-event_turn c s event = turn_of c s event (with_pulls c (timer.outcome c s event))
+event_turn c s event = pulling_turn c s event (timer.outcome c s event)
 
 abbrev pub asked_turn : Settings → Station → Option Event → Turn
 asked_turn c s None = marked c (standing s) s (reads_nothing ∷ [])

@@ -6,7 +6,6 @@
 
 mod answerer;
 mod law;
-mod mark;
 mod pipe;
 mod running;
 mod telling;

@@ -1,23 +1,23 @@
 //! A station, and what is told of it.
-ghost use Rattle.std.specs.Prelude.{◌≡◌, ◌≢◌, ◌↔◌, ◌+◌, ◌++◌, ◌≤◌, IfErr, IfOk, IsTrue, vec_capacity, vec_len};
+ghost use Rattle.std.specs.Prelude.{◌≡◌, ◌↔◌, ◌++◌, ◌≤◌, IfErr, IfOk, IsTrue};
 ghost use Rattle.x25_pipe.specs.Pipe.{is_same as are_same};
 
-use crate::mark::{Mark, Watch, tells_up};
 use crate::telling::{tell_entries, tell_frames, tell_mark, tell_refusal};
 use std::alloc::Global;
 use x25_console::{read_user, station_command, tell_nothing};
 use x25_decode::read_sent;
 use x25_io::{Fault, Output, Sink};
 use x25_script::{Command, ScriptLine, read_line};
-use x25_station::{Cfg, Role, Station, StationError, Step};
+use x25_station::{Cfg, Role, Station, StationError, Step, Timer};
 use x25_text::MOST_OCTETS;
 use x25_transcript::Line;
 
-/// The station at an end, the octets of a frame and of a command, the line that tells, and what waits to be written.
+/// The station at an end, what it answered last, the octets of a frame and of a command, the line that tells, and what waits to be written.
 #[derive(Drop)]
 pub(crate) struct Pipe {
     end: Role,
     station: Station,
+    step: Step,
     octets: [u8; MOST_OCTETS],
     user: Vec<u8>,
     line: Line,
@@ -34,44 +34,11 @@ fn is_same(end: Role, found: Role) -> bool
     )
 }
 
-/// Puts frames behind others, in memory that was set aside.
-fn append(frames: &mut Vec<Vec<u8>>, more: Vec<Vec<u8>>)
-    requires { vec_len frames.old + vec_len more ≤ vec_capacity frames.old }
-    ensures items { frames.new.items ≡ frames.old.items ++ more.items }
-{
-    for frame in more {
-        frames.push_reserved(frame);
-    }
-}
-
-/// A step with further frames behind its own.
-fn with_frames(mut step: Step, more: Vec<Vec<u8>>) -> Result<Step, Fault>
-    ensures frames { IfOk result (λ both. both.frames.items ≡ step.frames.items ++ more.items) }
-    ensures entries { IfOk result (λ both. both.entries ≡ step.entries) }
-    ensures memory { IfErr result (λ fault. fault ≡ Fault.NoMemory) }
-{
-    step.frames.reserve(more.len())?;
-    append(&mut step.frames, more);
-    Ok(step)
-}
-
 /// Whether memory was refused.
 fn is_memory(error: StationError) -> bool
     ensures { IsTrue result ↔ (error ≡ StationError.NoMemory) }
 {
     matches!(error, StationError::NoMemory)
-}
-
-/// The step alone, where a pull behind it was refused; want of memory is a fault.
-fn unless_memory(step: Step, error: StationError) -> Result<Step, Fault>
-    ensures alone { IfOk result (λ found. found ≡ step) }
-    ensures other { IfOk result (λ found. error ≢ StationError.NoMemory) }
-    ensures memory { IfErr result (λ fault. fault ≡ Fault.NoMemory) }
-{
-    if is_memory(error) {
-        return Err(Fault::NoMemory);
-    }
-    Ok(step)
 }
 
 impl Pipe {
@@ -86,10 +53,9 @@ impl Pipe {
     ghost use Rattle.x25_station.specs.Config.{Settings, config_refusal, settings_from};
     ghost use Rattle.x25_station.specs.Station.{Station as State, new_station};
     ghost use Rattle.x25_station.specs.Step.{Outcome};
-    ghost use Rattle.x25_station.specs.laws.TimerLaw.{Asks, Comes, Event, Fires, Mark as TimerMark, is_firing as is_firing_of};
-    ghost use Rattle.x25_pipe.specs.Pipe.{asked_turn, event_turn, mark_turn, only_of, read_event, sayings_text, script_event, standing_turn, trace_event, turn, turn_of, with_pulls};
+    ghost use Rattle.x25_station.specs.laws.TimerLaw.{Asks, Comes, Event, Fires, timer as timer_of};
+    ghost use Rattle.x25_pipe.specs.Pipe.{asked_turn, event_turn, mark_turn, only_of, pulling_turn, read_event, sayings_text, script_event, standing_turn, trace_event, turn, turn_of};
     ghost use Rattle.x25_pipe.specs.code.Stands.{IsError, IsStep, Stands, Stood, Turns, answer_told};
-    ghost use Rattle.x25_pipe.specs.Mark.{Watches, plain_mark};
 
     /// A station that never was up, and nothing was told.
     pub(crate) fn new(alloc: Global, end: Role, cfg: Cfg) -> Result<Pipe, Fault>
@@ -108,6 +74,7 @@ impl Pipe {
         Ok(Pipe {
             end,
             station,
+            step: Step::new(alloc),
             octets: [0; MOST_OCTETS],
             user: Vec::new(alloc),
             line,
@@ -133,15 +100,14 @@ impl Pipe {
         }
     }
 
-    /// Tells a mark, and writes what waits.
-    fn mark<W: Sink>(&mut self, mark: Mark, writer: &mut W) -> Result<(), Fault>
-        ensures turns { (c : Settings) (old : Option (List ℕ)) (shown : TimerMark) → plain_mark mark ≡ shown
-            → Turns c old (W.contents writer.old) (W.contents writer.new) self.old self.new result (mark_turn c shown) }
+    /// Tells the mark of what T1 became, and writes what waits.
+    fn mark<W: Sink>(&mut self, writer: &mut W) -> Result<(), Fault>
+        ensures turns { (c : Settings) (old : Option (List ℕ)) → Turns c old (W.contents writer.old) (W.contents writer.new) self.old self.new result (mark_turn c self.old.step.timer) }
         ensures written { OnOk result (self.new.output ≡ []) }
         ensures faults { MarksFaults W.Sink writer.old writer.new result }
     {
         let is_idle = self.station.idle();
-        tell_mark(mark, is_idle, &mut self.output, writer)?;
+        tell_mark(self.step.timer, is_idle, &mut self.output, writer)?;
         self.flush(writer)
     }
 
@@ -151,85 +117,58 @@ impl Pipe {
         ensures written { OnOk result (self.new.output ≡ []) }
         ensures faults { MarksFaults W.Sink writer.old writer.new result }
     {
-        let mark = Watch::of(&self.station).standing();
-        self.mark(mark, writer)
+        self.station.reuse(&mut self.step);
+        self.mark(writer)
     }
 
     /// Tells the entries of a step, and behind these its frames.
-    fn tell_answer<W: Sink>(&mut self, step: &Step, writer: &mut W) -> Result<(), Fault>
-        ensures tells { TellsMore result (W.contents writer.old) (W.contents writer.new) self.old.output self.new.output (sayings_text self.old.end (answer_told step.now)) }
+    fn tell_answer<W: Sink>(&mut self, writer: &mut W) -> Result<(), Fault>
+        ensures tells { TellsMore result (W.contents writer.old) (W.contents writer.new) self.old.output self.new.output (sayings_text self.old.end (answer_told self.old.step)) }
         ensures station { self.new.station ≡ self.old.station }
+        ensures step { self.new.step ≡ self.old.step }
         ensures role { self.new.end ≡ self.old.end }
         ensures is_refused { self.new.is_refused ≡ self.old.is_refused }
         ensures faults { MarksFaults W.Sink writer.old writer.new result }
     {
-        let entries = step.entries.as_slice();
+        let entries = self.step.entries.as_slice();
         tell_entries(&mut self.line, self.end, entries, &mut self.output, writer)?;
-        let frames = step.frames.as_slice();
+        let frames = self.step.frames.as_slice();
         tell_frames(&mut self.line, self.end, frames, &mut self.output, writer)
     }
 
-    /// Tells a step of the station, which stood as `before` says: its entries, its frames and its mark.
-    fn tell_step<W: Sink>(
-        &mut self,
-        before: Watch,
-        is_firing: bool,
-        step: &Step,
-        writer: &mut W,
-    ) -> Result<(), Fault>
-        ensures stood { (c : Settings) (old : Option (List ℕ)) (s : State) (event : Event) (o : Outcome) (told : List ℕ) (refused : Bool)
-            → Watches before s → is_firing ≡ is_firing_of event → IsStep c self.old.station step.now o → self.old.end ≡ c.role
+    /// Tells a step of the station: its entries, its frames and its mark.
+    fn tell_step<W: Sink>(&mut self, writer: &mut W) -> Result<(), Fault>
+        ensures stood { (c : Settings) (old : Option (List ℕ)) (s : State) (o : Outcome) (told : List ℕ) (refused : Bool)
+            → IsStep c self.old.station self.old.step o → self.old.end ≡ c.role
             → Tells old (W.contents writer.old) self.old.output told → self.old.is_refused ≡ refused
-            → Stood c old (W.contents writer.new) self.new told refused result (turn_of c s event o) }
+            → Stood c old (W.contents writer.new) self.new told refused result (turn_of c self.old.step.timer s o) }
         ensures written { OnOk result (self.new.output ≡ []) }
         ensures faults { MarksFaults W.Sink writer.old writer.new result }
     {
-        self.tell_answer(step, writer)?;
-        let is_up = tells_up(step.entries.as_slice());
-        let next = Watch::of(&self.station);
-        self.mark(before.behind(next, is_firing, is_up), writer)
+        self.tell_answer(writer)?;
+        self.mark(writer)
     }
 
-    /// Pulls what waits in the circuits behind a step, of which the frames of both are. Where that is refused it is the step alone.
-    fn pull_behind(&mut self, step: Step) -> Result<Step, Fault>
-        ensures pulled { (c : Settings) (o : Outcome) → IsStep c self.old.station step o → IfOk result (λ both. IsStep c self.new.station both (with_pulls c o)) }
-        ensures role { self.new.end ≡ self.old.end }
-        ensures output { self.new.output ≡ self.old.output }
-        ensures is_refused { self.new.is_refused ≡ self.old.is_refused }
-        ensures memory { IfErr result (λ fault. fault ≡ Fault.NoMemory) }
+    /// Pulls what waits behind a step of the station, and tells both.
+    fn follow_up<W: Sink>(&mut self, writer: &mut W) -> Result<(), Fault>
+        ensures stood { (c : Settings) (old : Option (List ℕ)) (s : State) (event : Event) (o : Outcome) (told : List ℕ) (refused : Bool)
+            → IsStep c self.old.station self.old.step o → self.old.step.timer ≡ timer_of s event o → self.old.end ≡ c.role
+            → Tells old (W.contents writer.old) self.old.output told → self.old.is_refused ≡ refused
+            → Stood c old (W.contents writer.new) self.new told refused result (pulling_turn c s event o) }
+        ensures written { OnOk result (self.new.output ≡ []) }
+        ensures faults { MarksFaults W.Sink writer.old writer.new result }
     {
-        match self.station.pull() {
-            Ok(pulled) => with_frames(step, pulled.frames),
-            Err(error) => unless_memory(step, error),
+        match self.station.pull(&mut self.step) {
+            Ok(()) => self.tell_step(writer),
+            Err(_) => Err(Fault::NoMemory),
         }
-    }
-
-    /// Pulls what waits behind a step of the station, which stood as `before` says, and tells both. Its lists and frames are given back.
-    fn follow_up<W: Sink>(
-        &mut self,
-        before: Watch,
-        is_firing: bool,
-        step: Step,
-        writer: &mut W,
-    ) -> Result<(), Fault>
-        ensures stood { (c : Settings) (old : Option (List ℕ)) (s : State) (event : Event) (o : Outcome) (told : List ℕ) (refused : Bool)
-            → Watches before s → is_firing ≡ is_firing_of event → IsStep c self.old.station step o → self.old.end ≡ c.role
-            → Tells old (W.contents writer.old) self.old.output told → self.old.is_refused ≡ refused
-            → Stood c old (W.contents writer.new) self.new told refused result (turn_of c s event (with_pulls c o)) }
-        ensures written { OnOk result (self.new.output ≡ []) }
-        ensures faults { MarksFaults W.Sink writer.old writer.new result }
-    {
-        let both = self.pull_behind(step)?;
-        self.tell_step(before, is_firing, &both, writer)?;
-        self.station.give_back(both);
-        Ok(())
     }
 
     /// Tells that an event is refused; want of memory is a fault.
     fn refuse<W: Sink>(&mut self, error: StationError, writer: &mut W) -> Result<(), Fault>
         ensures stood { (c : Settings) (old : Option (List ℕ)) (s : State) (event : Event) (o : Outcome) (told : List ℕ) (refused : Bool)
             → Stands c old (W.contents writer.old) self.old s told refused → IsError error o
-            → Stood c old (W.contents writer.new) self.new told refused result (turn_of c s event (with_pulls c o)) }
+            → Stood c old (W.contents writer.new) self.new told refused result (pulling_turn c s event o) }
         ensures written { OnOk result (self.new.output ≡ []) }
         ensures faults { MarksFaults W.Sink writer.old writer.new result }
     {
@@ -259,9 +198,9 @@ impl Pipe {
         ensures written { OnOk result (self.new.output ≡ []) }
         ensures faults { MarksFaults W.Sink writer.old writer.new result }
     {
-        let before = Watch::of(&self.station);
-        match self.station.receive(&self.octets[..count]) {
-            Ok(step) => self.follow_up(before, false, step, writer),
+        let octets = &self.octets[..count];
+        match self.station.receive(octets, &mut self.step) {
+            Ok(()) => self.follow_up(writer),
             Err(error) => self.refuse(error, writer),
         }
     }
@@ -288,12 +227,9 @@ impl Pipe {
         ensures faults { MarksFaults W.Sink writer.old writer.new result }
     {
         let count = read_user(&command, &mut self.user)?;
-        let before = Watch::of(&self.station);
-        match self
-            .station
-            .command(station_command(&command, &self.user[..count]))
-        {
-            Ok(step) => self.follow_up(before, false, step, writer),
+        let asked = station_command(&command, &self.user[..count]);
+        match self.station.command(asked, &mut self.step) {
+            Ok(()) => self.follow_up(writer),
             Err(error) => self.refuse(error, writer),
         }
     }
@@ -304,9 +240,8 @@ impl Pipe {
         ensures written { OnOk result (self.new.output ≡ []) }
         ensures faults { MarksFaults W.Sink writer.old writer.new result }
     {
-        let before = Watch::of(&self.station);
-        match self.station.t1() {
-            Ok(step) => self.follow_up(before, true, step, writer),
+        match self.station.t1(&mut self.step) {
+            Ok(()) => self.follow_up(writer),
             Err(error) => self.refuse(error, writer),
         }
     }

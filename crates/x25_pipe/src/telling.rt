@@ -6,12 +6,10 @@ ghost use Rattle.x25_console.specs.Telling.{refusal_line as line_of_refusal};
 ghost use Rattle.x25_station.specs.code.PlainEntry.{plain_entry};
 ghost use Rattle.x25_station.specs.Error.{number_of};
 ghost use Rattle.x25_pipe.specs.Pipe.{enters, marks, saying_line, sayings_text, sends};
-ghost use Rattle.x25_pipe.specs.Mark.{plain_mark};
 
-use crate::mark::Mark;
 use x25_console::{tell, write_frame, write_refusal};
 use x25_io::{Fault, Output, Sink};
-use x25_station::{Entry, Role, StationError};
+use x25_station::{Entry, Role, StationError, Timer};
 use x25_transcript::{Line, write_entry};
 
 #[tactic(auto, unfolding(crate::specs::Pipe::saying_line))]
@@ -92,28 +90,28 @@ pub(crate) fn tell_refusal<W: Sink>(
 
 /// The line of a mark: what T1 does, and whether the station is idle.
 #[tactic(auto, unfolding(crate::specs::Pipe::saying_line))]
-fn mark_line(mark: Mark, is_idle: bool) -> &'static [u8]
-    ensures { (end : Role) → result.now ≡ saying_line end (marks (plain_mark mark) is_idle) }
+fn mark_line(timer: Timer, is_idle: bool) -> &'static [u8]
+    ensures { (end : Role) → result.now ≡ saying_line end (marks timer is_idle) }
 {
-    match (mark, is_idle) {
-        (Mark::Off, true) => b". off idle\n",
-        (Mark::Off, false) => b". off busy\n",
-        (Mark::On, true) => b". on idle\n",
-        (Mark::On, false) => b". on busy\n",
-        (Mark::Start, true) => b". start idle\n",
-        (Mark::Start, false) => b". start busy\n",
+    match (timer, is_idle) {
+        (Timer::Off, true) => b". off idle\n",
+        (Timer::Off, false) => b". off busy\n",
+        (Timer::GoesOn, true) => b". on idle\n",
+        (Timer::GoesOn, false) => b". on busy\n",
+        (Timer::Begins, true) => b". start idle\n",
+        (Timer::Begins, false) => b". start busy\n",
     }
 }
 
 /// Tells a mark.
 pub(crate) fn tell_mark<W: Sink>(
-    mark: Mark,
+    timer: Timer,
     is_idle: bool,
     output: &mut Output,
     writer: &mut W,
 ) -> Result<(), Fault>
-    ensures tells { (end : Role) → TellsMore result (W.contents writer.old) (W.contents writer.new) output.old output.new (saying_line end (marks (plain_mark mark) is_idle)) }
+    ensures tells { (end : Role) → TellsMore result (W.contents writer.old) (W.contents writer.new) output.old output.new (saying_line end (marks timer is_idle)) }
     ensures faults { MarksFaults W.Sink writer.old writer.new result }
 {
-    tell(mark_line(mark, is_idle), output, writer)
+    tell(mark_line(timer, is_idle), output, writer)
 }

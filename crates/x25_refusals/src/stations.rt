@@ -13,6 +13,7 @@ use x25_world::{Direction, Event};
 struct End {
     role: Role,
     station: Box<Station>,
+    out: Step,
     wire: Wire,
 }
 
@@ -29,20 +30,20 @@ fn made(alloc: Global, role: Role, cfg: Cfg) -> Result<Box<Station>, StationErro
     boxed(alloc, Station::new(alloc, role, cfg)?).ok_or(StationError::NoMemory)
 }
 
-fn connect(station: &mut Station) -> Result<Step, StationError> {
-    station.connect()
+fn connect(station: &mut Station, out: &mut Step) -> Result<(), StationError> {
+    station.connect(out)
 }
 
-fn ask(station: &mut Station, command: Cmd<'_>) -> Result<Step, StationError> {
-    station.command(command)
+fn ask(station: &mut Station, command: Cmd<'_>, out: &mut Step) -> Result<(), StationError> {
+    station.command(command, out)
 }
 
-fn fire(station: &mut Station) -> Result<Step, StationError> {
-    station.t1()
+fn fire(station: &mut Station, out: &mut Step) -> Result<(), StationError> {
+    station.t1(out)
 }
 
-fn receive(station: &mut Station, octets: &[u8]) -> Result<Step, StationError> {
-    station.receive(octets)
+fn receive(station: &mut Station, octets: &[u8], out: &mut Step) -> Result<(), StationError> {
+    station.receive(octets, out)
 }
 
 fn station(
@@ -62,24 +63,33 @@ fn station(
 }
 
 /// Shows what a step tells and sends, and puts its frames on the line to the other end.
-fn goes_on(from: Role, step: Step, to: &mut Wire, shown: &mut Lines) -> Result<(), AllocError> {
+fn goes_on(
+    from: Role,
+    step: &mut Step,
+    to: &mut Wire,
+    shown: &mut Lines,
+) -> Result<(), AllocError> {
     for entry in step.entries.as_slice() {
         shown.push_entry(from, entry)?;
     }
     for frame in step.frames.as_slice() {
         shown.push_frame(from, frame.as_slice())?;
     }
-    to.put(step.frames)
+    for frame in step.frames.drain(..) {
+        to.put_one(frame)?;
+    }
+    Ok(())
 }
 
 fn answered(
     from: Role,
-    answer: Result<Step, StationError>,
+    answer: Result<(), StationError>,
+    step: &mut Step,
     to: &mut Wire,
     shown: &mut Lines,
 ) -> Result<Outcome, Trouble> {
     match answer {
-        Ok(step) => {
+        Ok(()) => {
             goes_on(from, step, to, shown)?;
             Ok(Outcome::Accepted)
         }
@@ -94,6 +104,7 @@ impl End {
             Ok(station) => Ok(End {
                 role,
                 station,
+                out: Step::new(alloc),
                 wire,
             }),
             Err(_) => Err(Trouble::NoMemory),
@@ -107,14 +118,15 @@ impl End {
         shown: &mut Lines,
     ) -> Result<Outcome, Trouble> {
         let answer = match command {
-            Cmd::Connect => connect(&mut self.station),
-            _ => ask(&mut self.station, command),
+            Cmd::Connect => connect(&mut self.station, &mut self.out),
+            _ => ask(&mut self.station, command, &mut self.out),
         };
-        answered(self.role, answer, to, shown)
+        answered(self.role, answer, &mut self.out, to, shown)
     }
 
     fn fires(&mut self, to: &mut Wire, shown: &mut Lines) -> Result<Outcome, Trouble> {
-        answered(self.role, fire(&mut self.station), to, shown)
+        let answer = fire(&mut self.station, &mut self.out);
+        answered(self.role, answer, &mut self.out, to, shown)
     }
 
     /// The front frame arrives. It leaves the line where it is accepted.
@@ -122,8 +134,8 @@ impl End {
         let Some(octets) = self.wire.front() else {
             return Ok(Outcome::Refused(50));
         };
-        let answer = receive(&mut self.station, octets);
-        let outcome = answered(self.role, answer, to, shown)?;
+        let answer = receive(&mut self.station, octets, &mut self.out);
+        let outcome = answered(self.role, answer, &mut self.out, to, shown)?;
         if matches!(outcome, Outcome::Accepted) {
             self.wire.take_off(0);
         }

@@ -35,8 +35,14 @@ impl Wire {
     /// Puts frames on the line.
     pub(crate) fn put(&mut self, frames: Vec<Vec<u8>>) -> Result<(), AllocError> {
         for frame in frames {
-            self.frames.push(frame)?;
+            self.put_one(frame)?;
         }
+        Ok(())
+    }
+
+    /// Puts a frame on the line.
+    pub(crate) fn put_one(&mut self, frame: Vec<u8>) -> Result<(), AllocError> {
+        self.frames.push(frame)?;
         Ok(())
     }
 

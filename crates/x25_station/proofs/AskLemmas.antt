@@ -23,7 +23,7 @@ use Rattle.x25_station.specs.Error.{of_layer}
 use Rattle.x25_station.specs.Config.{Settings, link_settings, layer_settings}
 use Rattle.x25_station.specs.Entry.{StationEntry}
 use Rattle.x25_station.specs.Station.{Station, all_put, view_of, waiting_after}
-use Rattle.x25_station.specs.Step.{Outcome, Did, Refused, did, requests, entries_of_outcome}
+use Rattle.x25_station.specs.Step.{Outcome, Refused, did, requests, entries_of_outcome}
 use Rattle.x25_station.specs.laws.KeepLaw.{KeptBy}
 use Rattle.x25_station.specs.code.PlainEntry.{plain_entry}
 use Rattle.x25_station.specs.code.FitsParts.{FitsParts}
@@ -43,29 +43,29 @@ after_puts c m packets t fits = subst (λ (x : LinkState). FitsWhole m x) (put_b
 
 -- ---- an accepted call
 
-pub leaves_did : {T : Type 0} (u : T) (c : Settings) (s : LinkStation) (m n : ShownLink) (z : layer_code.Layer) (r : code_step.Step) (entries : List StationEntry) (a : Answered) → LayerGives (layer_settings c) z (Ok u) a
+pub leaves_did : {T : Type 0} (u : T) (c : Settings) (s : LinkStation) (m n : ShownLink) (z : layer_code.Layer) (entries : List StationEntry) (a : Answered) → LayerGives (layer_settings c) z (Ok u) a
     → LinkGives (FitsWhole m) after_put_to (kept_of (link_settings c) (alone s)) (Ok u) a → n.station ≡ m.station → n.outbox.made ≡ [] → KeptBy (did c (alone s) entries a)
-    → station.LeavesParts c n z (Ok r) (did c (alone s) entries a)
-leaves_did u c s m n z r entries (Went p) layer link same none kept = record {
+    → station.LeavesParts {T = Unit} c n z (Ok tt) (did c (alone s) entries a)
+leaves_did u c s m n z entries (Went p) layer link same none kept = record {
   link = taken_link (link_settings c) m n _ same (after_puts (link_settings c) m p.put (alone s) link).link;
   layer = layer;
   kept = kept;
   sent = none;
 }
-leaves_did u c s m n z r entries (Refuses e) layer link same none kept = absurd (ok_err u e layer)
+leaves_did u c s m n z entries (Refuses e) layer link same none kept = absurd (ok_err u e layer)
 
 pub sends_did : {T : Type 0} (u : T) (c : Settings) (s : LinkStation) (m : ShownLink) (r : code_step.Step) (entries : List StationEntry) (a : Answered)
-    → LinkGives (FitsWhole m) after_put_to (kept_of (link_settings c) (alone s)) (Ok u) a → map (λ frame. frame.items) r.frames.items ≡ m.outbox.made → station.Sends c (Ok r) (did c (alone s) entries a)
+    → LinkGives (FitsWhole m) after_put_to (kept_of (link_settings c) (alone s)) (Ok u) a → map (λ frame. frame.items) r.frames.items ≡ m.outbox.made → station.Sends {T = Unit} c r (Ok tt) (did c (alone s) entries a)
 sends_did u c s m r entries (Went p) link made = made ∙ (after_puts (link_settings c) m p.put (alone s) link).kept
 sends_did u c s m r entries (Refuses e) link made = tt
 
-pub enters_did : (c : Settings) (s : LinkStation) (r : code_step.Step) (entries : List StationEntry) (a : Answered) → ((p : Putting) → a ≡ Went p → map plain_entry r.entries.items ≡ entries) → station.Enters (Ok r) (did c (alone s) entries a)
+pub enters_did : (c : Settings) (s : LinkStation) (r : code_step.Step) (entries : List StationEntry) (a : Answered) → ((p : Putting) → a ≡ Went p → map plain_entry r.entries.items ≡ entries) → station.Enters {T = Unit} r (Ok tt) (did c (alone s) entries a)
 enters_did c s r entries (Went p) entered = entered p refl
 enters_did c s r entries (Refuses e) entered = tt
 
-pub goes_did : {T : Type 0} (u : T) (c : Settings) (s : LinkStation) (z : layer_code.Layer) (r : code_step.Step) (entries : List StationEntry) (a : Answered) → LayerGives (layer_settings c) z (Ok u) a → station.Refuses (Ok r) (did c (alone s) entries a)
-goes_did u c s z r entries (Went p) layer = tt
-goes_did u c s z r entries (Refuses e) layer = absurd (ok_err u e layer)
+pub goes_did : {T : Type 0} (u : T) (c : Settings) (s : LinkStation) (z : layer_code.Layer) (entries : List StationEntry) (a : Answered) → LayerGives (layer_settings c) z (Ok u) a → station.Refuses {T = Unit} (Ok tt) (did c (alone s) entries a)
+goes_did u c s z entries (Went p) layer = tt
+goes_did u c s z entries (Refuses e) layer = absurd (ok_err u e layer)
 
 -- ---- a refused call
 
@@ -84,14 +84,6 @@ pub refused_exactly_did : (T U : Type 0) (e : LayerError) (found : StationError)
     → (let x : Result T LayerError = Err e in LayerGives (layer_settings c) z x a) → (let x : Result U StationError = Err found in station.RefusesExactly x (did c (alone s) entries a))
 refused_exactly_did T U e found c s z entries (Went p) named is layer = is ∙ ap of_layer layer
 refused_exactly_did T U e found c s z entries (Refuses x) named is layer = ap (λ y. Err y) (is ∙ ap of_layer (err_is T LayerError e x layer) ∙ named)
-
-pub accepted_is : (r : code_step.Step) (o : Outcome) → (let x : Result code_step.Step StationError = Ok r in station.RefusesExactly x o) → (let x : Result code_step.Step StationError = Ok r in station.Refuses x o)
-accepted_is r (Did step) h = tt
-accepted_is r (Refused e) h = absurd (ok_err r e h)
-
-pub goes_exactly : (r : code_step.Step) (o : Outcome) → (let x : Result code_step.Step StationError = Ok r in station.Refuses x o) → (let x : Result code_step.Step StationError = Ok r in station.RefusesExactly x o)
-goes_exactly r (Did step) h = tt
-goes_exactly r (Refused e) h = absurd h
 
 abbrev IsNamedOutcome : LayerOutcome → Type 0
 IsNamedOutcome (Accepted next packet) = Unit {0}
@@ -181,9 +173,9 @@ refuses_before (Some e) c l y s request fits clause =
     (subst (λ (view : LinkView). calls view lc s.layer request ≡ Refuses e) (same_view (link_settings c) s.link) (clause lc s.layer (kept_of (link_settings c) (alone s.link)) fits.layer (whole c l y s fits)))
 
 pub record Answers (c : Settings) (n : ShownLink) (z : layer_code.Layer) (r : code_step.Step) (outcome : Outcome) : Type 0 where
-  pub state : station.LeavesParts c n z (Ok r) outcome
-  pub frames : station.Sends c (Ok r) outcome
-  pub refused : station.Refuses (Ok r) outcome
+  pub state : station.LeavesParts {T = Unit} c n z (Ok tt) outcome
+  pub frames : station.Sends {T = Unit} c r (Ok tt) outcome
+  pub refused : station.Refuses {T = Unit} (Ok tt) outcome
 
 -- an accepted call of the layer, from the link l and the layer y to m and z, and then to n, from which the frames are taken
 pub answers : {T : Type 0} (u : T) (c : Settings) (l m n : ShownLink) (y z : layer_code.Layer) (r : code_step.Step) (s : Station) (request : LayerRequest) → FitsParts c l y s → Layers l y z (Ok u) request → Links l m y (Ok u) request
@@ -195,9 +187,9 @@ answers u c l m n y z r s request fits layers links same none made kept =
     let lc : LayerSettings = layer_settings c in
     let entries : List StationEntry = entries_of_outcome lc s.layer request (layer_outcome lc (waiting_after (link_settings c) s.link [] == 256) s.layer request) in
     record {
-      state = leaves_did u c s.link m n z r entries a layer link same none kept;
+      state = leaves_did u c s.link m n z entries a layer link same none kept;
       frames = sends_did u c s.link m r entries a link made;
-      refused = goes_did u c s.link z r entries a layer;
+      refused = goes_did u c s.link z entries a layer;
     }
 
 -- a call of the layer that is refused, or finds no memory

@@ -1,5 +1,5 @@
 -- A call does what the definition says of it, by what the calls of its link or of its layer did.
-use Rattle.std.proofs.Common.{◌≡◌, ◌≤◌, [], length, map, vec_len, Result, Ok, Err, inr, refl, ap, arith}
+use Rattle.std.proofs.Common.{◌≡◌, ◌≤◌, [], length, map, vec_len, Result, Ok, Err, OnErr, inl, inr, refl, ap, sym, subst, arith}
 use Rattle.std.proofs.lemmas.List.{length-map}
 use Rattle.x25_link.specs.Station.{LinkStation}
 use Rattle.x25_link.specs.Link.{alone}
@@ -16,6 +16,7 @@ use Rattle.x25_station.specs.declared.error.StationError.{StationError}
 use Rattle.x25_station.specs.declared.error.StationError.TheVariants as error
 use Rattle.x25_station.specs.declared.station.Station as code
 use Rattle.x25_station.specs.declared.step.Step as code_step
+use Rattle.x25_station.specs.declared.timer.Timer.{Timer}
 use Rattle.x25_station.specs.Error.{of_layer}
 use Rattle.x25_station.specs.Command.{Requests}
 use Rattle.x25_station.specs.Config.{Settings, link_settings, layer_settings}
@@ -24,7 +25,7 @@ use Rattle.x25_station.specs.Receiving.{kept_of}
 use Rattle.x25_station.specs.code.FitsParts.{AreMeant}
 use Rattle.x25_station.specs.Step.{Outcome, Did, Refused, requests}
 use Rattle.x25_station.specs.laws.KeepLaw.{CommandKeeps}
-use Rattle.x25_station.specs.code.FitsStation.{FitsStation, Does, Leaves, Sends, Enters, Refuses}
+use Rattle.x25_station.specs.code.FitsStation.{FitsStation, Does, IsEmpty, Leaves, Sends, Enters, Refuses}
 use Rattle.x25_station.proofs.AskLemmas.{Layers, Links, Answers, answers, answered_by, link_gives, after_puts, refuses, still_fits}
 use Rattle.x25_station.proofs.TakeLemmas.{least_by_meaning, few_made}
 use Rattle.x25_station.proofs.FrameLemmas.{few_put}
@@ -32,39 +33,67 @@ use Rattle.x25_station.proofs.ResultLemmas.{ok_err}
 
 -- ---- a refused call: nothing is left, sent or entered
 
-nothing_left : (c : Settings) (v : code.Station) (e : StationError) (o : Outcome) → (let r : Result code_step.Step StationError = Err e in Leaves c v r o)
+nothing_left : (c : Settings) (v : code.Station) (e : StationError) (o : Outcome) → (let r : Result Unit StationError = Err e in Leaves c v r o)
 nothing_left c v e (Did step) = tt
 nothing_left c v e (Refused d) = tt
 
-nothing_sent : (c : Settings) (e : StationError) (o : Outcome) → Sends c (Err e) o
-nothing_sent c e (Did step) = tt
-nothing_sent c e (Refused d) = tt
+nothing_sent : (c : Settings) (out : code_step.Step) (e : StationError) (o : Outcome) → (let r : Result Unit StationError = Err e in Sends c out r o)
+nothing_sent c out e (Did step) = tt
+nothing_sent c out e (Refused d) = tt
 
-nothing_entered : (e : StationError) (o : Outcome) → Enters (Err e) o
-nothing_entered e (Did step) = tt
-nothing_entered e (Refused d) = tt
+nothing_entered : (out : code_step.Step) (e : StationError) (o : Outcome) → (let r : Result Unit StationError = Err e in Enters out r o)
+nothing_entered out e (Did step) = tt
+nothing_entered out e (Refused d) = tt
 
-pub declines : (old new : code.Station) (e : StationError) (said : Settings → Station → Outcome)
-    → ((c : Settings) (s : Station) → FitsStation c old s → (let r : Result code_step.Step StationError = Err e in Refuses r (said c s)))
-    → ((c : Settings) (s : Station) → FitsStation c old s → FitsStation c new s)
-    → Does old new (Err e) said
-declines old new e said refuses stays = record {
+pub declines : (old new : code.Station) (out : code_step.Step) (e : StationError) (said : Settings → Station → Outcome)
+    → ((c : Settings) (s : Station) → FitsStation c old s → (let r : Result Unit StationError = Err e in Refuses r (said c s)))
+    → ((c : Settings) (s : Station) → FitsStation c old s → FitsStation c new s) → IsEmpty out
+    → Does old new out (Err e) said
+declines old new out e said refuses stays empty = record {
   state = λ c s fits. nothing_left c new e (said c s);
-  frames = λ c s fits. nothing_sent c e (said c s);
-  entries = λ c s fits. nothing_entered e (said c s);
+  frames = λ c s fits. nothing_sent c out e (said c s);
+  entries = λ c s fits. nothing_entered out e (said c s);
   refused = refuses;
   stays = stays;
-  few_frames = tt;
-  few_entries = tt;
+  empty = empty;
+  few_frames = let none : length out.frames.items ≡ 0 = ap length empty.frames in grind (arith, none, out.frames.ok);
+  few_entries = let none : length out.entries.items ≡ 0 = ap length empty.entries in grind (arith, none, out.entries.ok);
 }
 
--- .. for want of memory, before anything is done
-wants_memory : (o : Outcome) → (let r : Result code_step.Step StationError = Err error.NoMemory in Refuses r o)
+-- for want of memory, before anything is done
+wants_memory : (o : Outcome) → (let r : Result Unit StationError = Err error.NoMemory in Refuses r o)
 wants_memory (Did step) = refl
 wants_memory (Refused e) = inr refl
 
-pub lacks_memory : (v : code.Station) (said : Settings → Station → Outcome) → Does v v (Err error.NoMemory) said
-lacks_memory v said = declines v v error.NoMemory said (λ c s fits. wants_memory (said c s)) (λ c s fits. fits)
+pub lacks_memory : (v : code.Station) (out : code_step.Step) (said : Settings → Station → Outcome) → IsEmpty out → Does v v out (Err error.NoMemory) said
+lacks_memory v out said empty = declines v v out error.NoMemory said (λ c s fits. wants_memory (said c s)) (λ c s fits. fits) empty
+
+-- on a ground that the layer tells before
+foreseen : (e : LayerError) (o : Outcome) → o ≡ Refused (error.Layer e) → (let r : Result Unit StationError = Err (error.Layer e) in Refuses r o)
+foreseen e o is = subst (λ (x : Outcome). (let r : Result Unit StationError = Err (error.Layer e) in Refuses r x)) (sym is) (inl refl)
+
+pub foresees : (v : code.Station) (out : code_step.Step) (e : LayerError) (said : Settings → Station → Outcome) → IsEmpty out
+    → ((c : Settings) (s : Station) → FitsStation c v s → said c s ≡ Refused (error.Layer e)) → Does v v out (Err (error.Layer e)) said
+foresees v out e said empty is = declines v v out (error.Layer e) said (λ c s fits. foreseen e (said c s) (is c s fits)) (λ c s fits. fits) empty
+
+-- ---- a call that is made once memory was given back, which changes no state that the station stands for
+
+retimed : (out : code_step.Step) (timer : Timer) (result : Result Unit StationError) → OnErr result (IsEmpty out) → OnErr result (IsEmpty (record out { timer = timer }))
+retimed out timer (Ok u) empty = tt
+retimed out timer (Err e) empty = record { frames = empty.frames; entries = empty.entries }
+
+pub reused : (old mid new : code.Station) (out : code_step.Step) (timer : Timer) (result : Result Unit StationError) (said : Settings → Station → Outcome)
+    → ((c : Settings) (s : Station) → FitsStation c old s → FitsStation c mid s) → Does mid new out result said → Does old new (record out { timer = timer }) result said
+reused old mid new out timer result said same d = record {
+  state = λ c s fits. d.state c s (same c s fits);
+  frames = λ c s fits. d.frames c s (same c s fits);
+  entries = λ c s fits. d.entries c s (same c s fits);
+  refused = λ c s fits. d.refused c s (same c s fits);
+  stays = λ c s fits. d.stays c s (same c s fits);
+  empty = retimed out timer result d.empty;
+  few_frames = d.few_frames;
+  few_entries = d.few_entries;
+}
 
 -- ---- a command to the layer
 
@@ -81,7 +110,7 @@ made_few u l m y request h links small stand = least_by_meaning l y (length m.ou
 -- From the link and the layer of the old station its call led to the link m, from which the frames were taken, and to the layer of the new one.
 pub did_request : {T : Type 0} (u : T) (old new : code.Station) (m : ShownLink) (r : code_step.Step) (request : LayerRequest) → Layers old.link old.layer new.layer (Ok u) request → Links old.link m old.layer (Ok u) request
     → new.link.station ≡ m.station → new.link.outbox.made ≡ [] → map (λ frame. frame.items) r.frames.items ≡ m.outbox.made → CommandKeeps → WindowIsSmall → FewStand
-    → ((c : Settings) (s : Station) → FitsStation c old s → Enters (Ok r) (requests c s request)) → vec_len r.entries ≤ 3 → Does old new (Ok r) (λ c s. requests c s request)
+    → ((c : Settings) (s : Station) → FitsStation c old s → Enters {T = Unit} r (Ok tt) (requests c s request)) → vec_len r.entries ≤ 3 → Does old new r (Ok tt) (λ c s. requests c s request)
 did_request u old new m r request layers links same none made keeps small stand entered few =
     let parts : (c : Settings) (s : Station) → FitsStation c old s → Answers c new.link new.layer r (requests c s request) =
     λ c s fits. answers u c old.link m new.link old.layer new.layer r s request fits layers links same none made (keeps c s (Requests request) fits.kept) in
@@ -96,13 +125,14 @@ did_request u old new m r request layers links same none made keeps small stand 
       entries = entered;
       refused = λ c s fits. (parts c s fits).refused;
       stays = λ c s fits. tt;
+      empty = tt;
       few_frames = few_out;
       few_entries = few;
     }
 
-pub declines_request : (T : Type 0) (e : LayerError) (found : StationError) (old new : code.Station) (request : LayerRequest) → found ≡ of_layer e
+pub declines_request : (T : Type 0) (e : LayerError) (found : StationError) (old new : code.Station) (out : code_step.Step) (request : LayerRequest) → found ≡ of_layer e
     → (let x : Result T LayerError = Err e in Layers old.link old.layer new.layer x request) → ((d : LayerSettings) (k : Layer) → FitsLayer d old.layer k → FitsLayer d new.layer k)
-    → ((x : LinkState) → FitsWhole old.link x → FitsWhole new.link x) → Does old new (Err found) (λ c s. requests c s request)
-declines_request T e found old new request is layers layer_stays link_stays =
-    declines old new found (λ c s. requests c s request) (λ c s fits. refuses T code_step.Step e found c old.link old.layer new.layer s request fits is layers)
-    (λ c s fits. still_fits c old.link new.link old.layer new.layer s fits (layer_stays (layer_settings c) s.layer fits.layer) link_stays)
+    → ((x : LinkState) → FitsWhole old.link x → FitsWhole new.link x) → IsEmpty out → Does old new out (Err found) (λ c s. requests c s request)
+declines_request T e found old new out request is layers layer_stays link_stays empty =
+    declines old new out found (λ c s. requests c s request) (λ c s fits. refuses T Unit e found c old.link old.layer new.layer s request fits is layers)
+    (λ c s fits. still_fits c old.link new.link old.layer new.layer s fits (layer_stays (layer_settings c) s.layer fits.layer) link_stays) empty

@@ -11,7 +11,6 @@ use Rattle.x25_link.specs.code.FitsLink.{ShownLink, FitsLink}
 use Rattle.x25_layer.specs.Layer.{Layer}
 use Rattle.x25_layer.specs.code.FitsLayer.{FitsLayer}
 use Rattle.x25_layer.specs.declared.layer.Layer as layer_code
-use Rattle.x25_station.specs.declared.step.Step as code_step
 use Rattle.x25_station.specs.Config.{Settings, link_settings, layer_settings}
 use Rattle.x25_station.specs.Entry.{StationEntry, entries_down}
 use Rattle.x25_station.specs.Station.{Station}
@@ -64,9 +63,9 @@ fits_down c v y l k step down near is link layer sent kept =
       sent = sent;
     }
 
-pub leaves_down : (c : Settings) (v : ShownLink) (y : layer_code.Layer) (r : code_step.Step) (o : Option LinkError) (l : Layer) (k : LinkStep) (step : Step) (down : Option Reason) → step.near ≡ (downs l k.side k.notes.down).near
-    → down ≡ k.notes.down → FitsLink (link_settings c) v k.side.near → FitsLayer (layer_settings c) y (layer_down l down) → v.outbox.made ≡ [] → KeptBy (unless o step) → LeavesParts c v y (Ok r) (unless o step)
-leaves_down c v y r o l k step down near is link layer sent kept = leaves_unless c v y r o step kept (λ now. fits_down c v y l k step down near is link layer sent now)
+pub leaves_down : (c : Settings) (v : ShownLink) (y : layer_code.Layer) (o : Option LinkError) (l : Layer) (k : LinkStep) (step : Step) (down : Option Reason) → step.near ≡ (downs l k.side k.notes.down).near
+    → down ≡ k.notes.down → FitsLink (link_settings c) v k.side.near → FitsLayer (layer_settings c) y (layer_down l down) → v.outbox.made ≡ [] → KeptBy (unless o step) → LeavesParts {T = Unit} c v y (Ok tt) (unless o step)
+leaves_down c v y o l k step down near is link layer sent kept = leaves_unless c v y o step kept (λ now. fits_down c v y l k step down near is link layer sent now)
 
 -- ---- what it answers
 

@@ -31,7 +31,7 @@ went_fits u c z a p gives is = subst (λ (x : Answered). LayerGives (layer_setti
 
 pub asked_enters : {T : Type 0} (u : T) (c : Settings) (l : ShownLink) (y z : layer_code.Layer) (s : Station) (r : code_step.Step) (h : ℕ) (request : circuit.Request) → FitsParts c l y s → Layers l y z (Ok u) (Asks h request)
     → ((k : Layer) → FitsLayer (layer_settings c) z k → is_channel c.channels h ≡ true → map plain_entry r.entries.items ≡ of_channel (record { channel = h; name = name_of k h; said = Asked (shown (k.circuits h) request) }) ∷ [])
-    → Enters (Ok r) (requests c s (Asks h request))
+    → Enters {T = Unit} r (Ok tt) (requests c s (Asks h request))
 asked_enters u c l y z s r h request fits layers entered =
     let view : LinkView = view_of (link_settings c) s.link in
     let lc : LayerSettings = layer_settings c in
@@ -42,7 +42,7 @@ pub dialled_enters : (c : Settings) (l : ShownLink) (y z : layer_code.Layer) (s 
     → free_channel c.role s.layer.circuits c.channels ≡ Some h
     → ((k : Layer) → FitsLayer (layer_settings c) z k → is_channel c.channels h ≡ true →
     map plain_entry r.entries.items ≡ of_channel (record { channel = h; name = name_of k h; said = Asked (circuit.Calls called calling user params) }) ∷ [])
-    → Enters (Ok r) (requests c s (Dials called calling user params))
+    → Enters {T = Unit} r (Ok tt) (requests c s (Dials called calling user params))
 dialled_enters c l y z s r h called calling user params fits layers free entered =
     let view : LinkView = view_of (link_settings c) s.link in
     let lc : LayerSettings = layer_settings c in
@@ -51,10 +51,10 @@ dialled_enters c l y z s r h called calling user params fits layers free entered
     entered p.layer (went_fits h c z _ p (layer_gives (Ok h) c l y z s request fits layers) is) (free_is_channel c.role s.layer.circuits c.channels h free)
     ∙ sym (dialled_entry view lc s.layer h called calling user params p is free))
 
-pub restart_enters : (c : Settings) (s : Station) (r : code_step.Step) → map plain_entry r.entries.items ≡ restart_asked ∷ [] → Enters (Ok r) (requests c s Restarts)
+pub restart_enters : (c : Settings) (s : Station) (r : code_step.Step) → map plain_entry r.entries.items ≡ restart_asked ∷ [] → Enters {T = Unit} r (Ok tt) (requests c s Restarts)
 restart_enters c s r entered =
     enters_did c s.link r (entries_by c s Restarts) (answered_by c s Restarts) (λ p is. entered ∙ sym (restart_entry (view_of (link_settings c) s.link) (layer_settings c) s.layer p is))
 
-pub pull_enters : (c : Settings) (s : Station) (r : code_step.Step) → map plain_entry r.entries.items ≡ [] → Enters (Ok r) (requests c s PullsAll)
+pub pull_enters : (c : Settings) (s : Station) (r : code_step.Step) → map plain_entry r.entries.items ≡ [] → Enters {T = Unit} r (Ok tt) (requests c s PullsAll)
 pull_enters c s r entered =
     enters_did c s.link r (entries_by c s PullsAll) (answered_by c s PullsAll) (λ p is. entered ∙ sym (pull_entry (view_of (link_settings c) s.link) (layer_settings c) s.layer p is))

@@ -27,3 +27,5 @@ pub mod rows
 pub mod FewLemmas
 pub mod TimerLemmas
 pub mod DoesLemmas
+pub mod PullLemmas
+pub mod ClockLemmas

@@ -1,5 +1,5 @@
 -- What a call answers, by what its link's call answers.
-use Rattle.std.proofs.Common.{◌≡◌, Bool, true, false, if◌then◌else◌, map, Option, Some, None, Result, Ok, Err, OnOk, OnErr, inl, refl, ap, sym, subst, ◌∙◌}
+use Rattle.std.proofs.Common.{◌≡◌, Bool, true, false, if◌then◌else◌, map, Option, Some, None, Result, Ok, Err, inl, refl, ap, ◌∙◌}
 use Rattle.std.proofs.Math.Logic.{∥∥₁_map}
 use Rattle.x25_frame.specs.Spelling.{spelling_of}
 use Rattle.x25_link.specs.declared.error.LinkError.{LinkError}
@@ -25,39 +25,32 @@ use Rattle.x25_station.proofs.ResultLemmas.{ok_err, err_is}
 
 -- ---- an accepted call, which the link may refuse
 
-pub leaves_unless : (c : Settings) (l : ShownLink) (y : layer_code.Layer) (r : code_step.Step) (o : Option LinkError) (step : Step) → KeptBy (unless o step) → (IsKept step.near → FitsParts c l y step.near)
-    → LeavesParts c l y (Ok r) (unless o step)
-leaves_unless c l y r None step kept fits = fits kept
-leaves_unless c l y r (Some e) step kept fits = tt
+pub leaves_unless : (c : Settings) (l : ShownLink) (y : layer_code.Layer) (o : Option LinkError) (step : Step) → KeptBy (unless o step) → (IsKept step.near → FitsParts c l y step.near)
+    → LeavesParts {T = Unit} c l y (Ok tt) (unless o step)
+leaves_unless c l y None step kept fits = fits kept
+leaves_unless c l y (Some e) step kept fits = tt
 
-pub sends_unless : (c : Settings) (r : code_step.Step) (o : Option LinkError) (step : Step) → map (λ frame. frame.items) r.frames.items ≡ map (spelling_of c.role) step.out → Sends c (Ok r) (unless o step)
+pub sends_unless : (c : Settings) (r : code_step.Step) (o : Option LinkError) (step : Step) → map (λ frame. frame.items) r.frames.items ≡ map (spelling_of c.role) step.out → Sends {T = Unit} c r (Ok tt) (unless o step)
 sends_unless c r None step frames = frames
 sends_unless c r (Some e) step frames = tt
 
-pub enters_unless : (r : code_step.Step) (o : Option LinkError) (step : Step) → map plain_entry r.entries.items ≡ step.entries → Enters (Ok r) (unless o step)
+pub enters_unless : (r : code_step.Step) (o : Option LinkError) (step : Step) → map plain_entry r.entries.items ≡ step.entries → Enters {T = Unit} r (Ok tt) (unless o step)
 enters_unless r None step entries = entries
 enters_unless r (Some e) step entries = tt
 
 -- ---- so that the station stands for some state again
-pub leaves_some : (c : Settings) (l : ShownLink) (y : layer_code.Layer) (r : code_step.Step) (o : Outcome) → LeavesParts c l y (Ok r) o → Refuses (Ok r) o → (d : Settings) × (s : Station) × FitsParts d l y s
-leaves_some c l y r (Did step) fits none = (c, step.near, fits)
-leaves_some c l y r (Refused e) fits none = absurd none
+pub leaves_some : (c : Settings) (l : ShownLink) (y : layer_code.Layer) (o : Outcome) → LeavesParts {T = Unit} c l y (Ok tt) o → Refuses {T = Unit} (Ok tt) o → (d : Settings) × (s : Station) × FitsParts d l y s
+leaves_some c l y (Did step) fits none = (c, step.near, fits)
+leaves_some c l y (Refused e) fits none = absurd none
 
 pub still_meant : (l m : ShownLink) (y z : layer_code.Layer) → AreMeant l y → ((c : Settings) (s : Station) → FitsParts c l y s → (d : Settings) × (t : Station) × FitsParts d m z t) → AreMeant m z
 still_meant l m y z h f = ∥∥₁_map h (λ w. f w.0 w.1 w.2)
 
--- .. also where it isn't known yet whether the link's call was accepted
-pub fits_unless : {T : Type 0} (k : Result T LinkError) (X : Type 0) (c : Settings) (l m : ShownLink) (y : layer_code.Layer) (s : Station) (o : Option LinkError) (step : Step) → FitsParts c l y s
-    → link.Refuses o k → OnErr k (m ≡ l) → OnOk k X → KeptBy (unless o step) → (X → IsKept step.near → FitsParts c m y step.near) → (d : Settings) × (t : Station) × FitsParts d m y t
-fits_unless (Ok k) X c l m y s None step fits goes stays known kept next = (c, step.near, next known kept)
-fits_unless (Ok k) X c l m y s (Some e) step fits goes stays known kept next = absurd (ok_err k e goes)
-fits_unless (Err e) X c l m y s o step fits goes stays known kept next = (c, s, subst (λ (x : ShownLink). FitsParts c x y s) (sym stays) fits)
-
 -- ---- the link's refusal, or its want of memory
 
-pub goes_exactly : {T : Type 0} (k : T) (r : code_step.Step) (o : Option LinkError) (step : Step) → link.Refuses o (Ok k) → RefusesExactly (Ok r) (unless o step)
-goes_exactly k r None step h = tt
-goes_exactly k r (Some e) step h = absurd (ok_err k e h)
+pub goes_exactly : {T : Type 0} (k : T) (o : Option LinkError) (step : Step) → link.Refuses o (Ok k) → RefusesExactly {T = Unit} (Ok tt) (unless o step)
+goes_exactly k None step h = tt
+goes_exactly k (Some e) step h = absurd (ok_err k e h)
 
 -- the link's own refusals aren't want of memory
 abbrev pub IsNamed : Option LinkError → Type 0
@@ -69,10 +62,10 @@ pub refused_exactly : (T U : Type 0) (e : LinkError) (found : StationError) (o :
 refused_exactly T U e found None step named is h = is ∙ ap of_link h
 refused_exactly T U e found (Some x) step named is h = ap (λ y. Err y) (is ∙ ap of_link (err_is T LinkError e x h) ∙ named)
 
--- .. where memory was wanted first
-pub goes : {T : Type 0} (k : T) (r : code_step.Step) (o : Option LinkError) (step : Step) → link.Refuses o (Ok k) → Refuses (Ok r) (unless o step)
-goes k r None step h = tt
-goes k r (Some e) step h = absurd (ok_err k e h)
+-- where memory was wanted first
+pub goes : {T : Type 0} (k : T) (o : Option LinkError) (step : Step) → link.Refuses o (Ok k) → Refuses {T = Unit} (Ok tt) (unless o step)
+goes k None step h = tt
+goes k (Some e) step h = absurd (ok_err k e h)
 
 pub refused : (T U : Type 0) (e : LinkError) (found : StationError) (o : Option LinkError) (step : Step) → IsNamed o → found ≡ of_link e → (let x : Result T LinkError = Err e in link.Refuses o x)
     → (let x : Result U StationError = Err found in Refuses x (unless o step))

@@ -1,4 +1,4 @@
--- A deadline that is held by the marks stands exactly while T1 runs.
+-- A deadline that is held by what T1 becomes stands exactly while T1 runs.
 use Rattle.std.proofs.Common.{◌≡◌, Bool, true, false, not, ◌||◌, if◌then◌else◌, List, [], ◌∷◌, Some, None, refl, sym, ◌∙◌}
 use Rattle.std.proofs.lemmas.Bool.{true≢false}
 use Rattle.x25_link.specs.declared.error.LinkError.TheVariants as link_error
@@ -8,20 +8,24 @@ use Rattle.x25_station.specs.Config.{Settings, link_settings}
 use Rattle.x25_station.specs.Station.{Station}
 use Rattle.x25_station.specs.Step.{Step, Outcome, Did, Refused, follows, unless}
 use Rattle.x25_station.specs.laws.TimerLaw as law
-use Rattle.x25_station.specs.laws.TimerLaw.{Event, Watched, mark_of, heeds, runs, after, watched_by, watched_from}
+use Rattle.x25_station.specs.laws.TimerLaw.{Event, Watched, heeds, after, watched_by, watched_from}
+use Rattle.x25_station.specs.Timer.{runs, timer_of, pulled_timer}
+use Rattle.x25_station.specs.Pulling.{pulled}
+use Rattle.x25_station.specs.declared.timer.Timer.{Timer}
+use Rattle.x25_station.specs.declared.timer.Timer.TheVariants.{Begins}
 
 -- where T1 ran before and nothing began it anew, the deadline stood
-heeded : (ran behind other stands : Bool) → stands ≡ ran → heeds (mark_of behind (not ran || other)) stands ≡ behind
+heeded : (ran behind other stands : Bool) → stands ≡ ran → heeds (timer_of behind (not ran || other)) stands ≡ behind
 heeded ran false other stands is = refl
 heeded false true other stands is = refl
 heeded true true false stands is = is
 heeded true true true stands is = refl
 
-refused_heeded : (ran stands : Bool) → stands ≡ ran → heeds (mark_of ran false) stands ≡ ran
+refused_heeded : (ran stands : Bool) → stands ≡ ran → heeds (timer_of ran false) stands ≡ ran
 refused_heeded false stands is = refl
 refused_heeded true stands is = is
 
-marked : (s : Station) (event : Event) (o : Outcome) (stands : Bool) → stands ≡ runs s → heeds (law.mark s event o) stands ≡ runs (after s o)
+marked : (s : Station) (event : Event) (o : Outcome) (stands : Bool) → stands ≡ runs s → heeds (law.timer s event o) stands ≡ runs (after s o)
 marked s event (Did step) stands is = heeded (runs s) (runs step.near) _ stands is
 marked s event (Refused e) stands is = refused_heeded (runs s) stands is
 
@@ -47,3 +51,20 @@ refused false step is = refl
 
 pub off_is_refused : law.OffIsRefused
 off_is_refused c s is = refused (runs s) (follows c s.layer (timer_step (link_settings c) s.link)) is
+
+pulled_heeded : (first : Timer) (ran behind stands : Bool) → heeds first stands ≡ ran → heeds (pulled_timer first ran behind) stands ≡ behind
+pulled_heeded first ran false stands is = refl
+pulled_heeded first true true stands is = is
+pulled_heeded first false true stands is = refl
+
+pub pull_is_heeded : law.PullIsHeeded
+pull_is_heeded c s first stands is = pulled_heeded first (runs s) (runs (pulled c s).near) stands is
+
+due : (ran runs_on other : Bool) → runs_on ≡ true → other ≡ true → timer_of runs_on (not ran || other) ≡ Begins
+due ran false other on is = absurd (true≢false (sym on))
+due ran true false on is = absurd (true≢false (sym is))
+due false true true on is = refl
+due true true true on is = refl
+
+pub begins_where_due : law.BeginsWhereDue
+begins_where_due s event step on is = due (runs s) (runs step.near) _ on is

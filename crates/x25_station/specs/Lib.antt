@@ -4,6 +4,8 @@ pub mod Command
 pub mod Entry
 pub mod Station
 pub mod Step
+pub mod Pulling
+pub mod Timer
 pub mod Receiving
 pub mod code
 pub mod laws

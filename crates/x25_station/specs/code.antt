@@ -3,3 +3,5 @@ pub mod PlainEntry
 pub mod Aside
 pub mod FitsParts
 pub mod FitsStation
+pub mod Clock
+pub mod Pulls

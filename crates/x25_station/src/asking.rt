@@ -1,5 +1,5 @@
 //! What the user asks of the packet layer: the layer's call, and its entry.
-ghost use Rattle.std.specs.Prelude.{ℕ, List, length, Bool, ◌≡◌, ◌<◌, ◌≤◌, ◌++◌, [], ◌∷◌, Some, map, vec_len, vec_capacity, true, string_bytes, IfOk, IfErr, IfSome, OnErr};
+ghost use Rattle.std.specs.Prelude.{ℕ, List, length, Bool, ◌≡◌, Some, true, false, string_bytes, IfOk, IfErr, IfSome};
 ghost use Rattle.x25_circuit.specs.Circuit.{Circuit};
 ghost use Rattle.x25_circuit.specs.Calling.{Calls, Accepts, Sends as CircuitSends};
 ghost use Rattle.x25_circuit.specs.Request.{plain_request};
@@ -11,7 +11,8 @@ ghost use Rattle.x25_layer.specs.laws.Transcript.{name_of};
 ghost use Rattle.x25_layer.specs.laws.TwoLayers.{shown};
 ghost use Rattle.x25_station.specs.Command.{command_of};
 ghost use Rattle.x25_station.specs.Entry.{of_channel};
-ghost use Rattle.x25_station.specs.code.FitsStation.{FitsStation, Does, answered, RefusesExactly};
+ghost use Rattle.x25_station.specs.code.Clock.{TellsTimer};
+ghost use Rattle.x25_station.specs.code.FitsStation.{FitsStation, Does, IsEmpty};
 ghost use Rattle.x25_station.specs.code.PlainEntry.{plain_entry, plain_asked, plain_said};
 ghost use Rattle.x25_station.specs.Config.{Settings};
 ghost use Rattle.x25_station.specs.Station.{Station as State};
@@ -22,8 +23,6 @@ use crate::entering::enter;
 use crate::entry::{Asked, Entry, Said};
 use crate::error::StationError;
 use crate::law::steps_keep_bounds;
-use crate::linking::moved;
-use crate::lists::make_room;
 use crate::station::Station;
 use crate::step::Step;
 use std::alloc::Global;
@@ -128,37 +127,26 @@ impl Station {
     /// channel is free; then, but for a message, with 10 where 256 packets wait; and then as the circuit refuses it, with 30 to 34.
     /// Else 70 alone, and 70 may come in place of each of these. The station is as before then.
     #[inline(always)]
-    pub fn command(&mut self, command: Cmd<'_>) -> Result<Step, StationError>
-        ensures { Does self.old self.new result (λ c s. commands c s (command_of command.entry)) }
+    pub fn command(&mut self, command: Cmd<'_>, out: &mut Step) -> Result<(), StationError>
+        ensures does { Does self.old self.new out.new result (λ c s. commands c s (command_of command.entry)) }
+        ensures timer { TellsTimer self.old out.new.timer result false (λ c s. commands c s (command_of command.entry)) }
     {
-        let mut step = self.lists.step();
-        match self.command_into(command, &mut step.frames, &mut step.entries) {
-            Ok(()) => Ok(step),
-            Err(error) => {
-                let _ = self.lists.give_back(step);
-                Err(error)
-            }
-        }
+        self.reuse(out);
+        let before = self.clock();
+        let answer = self.obey(&command, out);
+        out.timer = self.timer_behind(before, false, out.entries.as_slice());
+        answer
     }
 
-    /// Does what the user asks, as `command`. Frames and entries come into lists that the caller keeps, and that are empty before; where
-    /// it is refused they stay empty.
+    // Does what the user asks, into a step that is empty, where no refusal is known before.
     #[inline(always)]
-    pub fn command_into(
-        &mut self,
-        command: Cmd<'_>,
-        frames: &mut Vec<Vec<u8>>,
-        entries: &mut Vec<Entry>,
-    ) -> Result<(), StationError>
-        requires frames { frames.old.items ≡ [] }
-        requires entries { entries.old.items ≡ [] }
-        ensures does { Does self.old self.new (answered (record { frames = frames.new; entries = entries.new }) result) (λ c s. commands c s (command_of command.entry)) }
-        ensures no_frames { OnErr result (frames.new.items ≡ []) }
-        ensures no_entries { OnErr result (entries.new.items ≡ []) }
+    fn obey(&mut self, command: &Cmd<'_>, out: &mut Step) -> Result<(), StationError>
+        requires { IsEmpty out.old }
+        ensures { Does self.old self.new out.new result (λ c s. commands c s (command_of command.now)) }
     {
-        match self.refusal(&command) {
+        match self.refusal(command) {
             Some(error) => Err(StationError::Layer(error)),
-            None => self.carry_out(&command, frames, entries),
+            None => self.carry_out(command, out),
         }
     }
 
@@ -192,7 +180,7 @@ impl Station {
         self.layer.refusal(&self.link, channel, request)
     }
 
-    // .. a message of so many octets
+    // Why a message of so many octets would be refused on a channel now, if it would.
     #[inline(always)]
     fn refuses_message(&self, channel: u16, count: usize) -> Option<LayerError>
         ensures { (c : Settings) (s : State) (q : Bool) (user : List ℕ) → length user ≡ count → FitsStation c self.now s → IfSome result (λ e. requests c s (Asks channel (CircuitSends q user)) ≡ Refused (StationError.Layer e)) }
@@ -200,7 +188,7 @@ impl Station {
         self.layer.message_refusal(&self.link, channel, count)
     }
 
-    // .. any call
+    // Why any call would be refused now, if it would.
     #[inline(always)]
     fn refuses_calls(&self) -> Option<LayerError>
         ensures { (c : Settings) (s : State) (called calling user : List ℕ) (params : Params) → FitsStation c self.now s → IfSome result (λ e. requests c s (Dials called calling user params) ≡ Refused (StationError.Layer e)) }
@@ -221,83 +209,54 @@ impl Station {
 
     // Does what the user asks.
     #[inline(never)]
-    fn carry_out(
-        &mut self,
-        command: &Cmd<'_>,
-        frames: &mut Vec<Vec<u8>>,
-        entries: &mut Vec<Entry>,
-    ) -> Result<(), StationError>
-        requires frames { frames.old.items ≡ [] }
-        requires entries { entries.old.items ≡ [] }
-        ensures does { Does self.old self.new (answered (record { frames = frames.new; entries = entries.new }) result) (λ c s. commands c s (command_of command.now)) }
-        ensures no_frames { OnErr result (frames.new.items ≡ []) }
-        ensures no_entries { OnErr result (entries.new.items ≡ []) }
+    fn carry_out(&mut self, command: &Cmd<'_>, out: &mut Step) -> Result<(), StationError>
+        requires { IsEmpty out.old }
+        ensures { Does self.old self.new out.new result (λ c s. commands c s (command_of command.now)) }
     {
         match command {
-            Cmd::Accept { channel } => self.ask(
-                *channel,
-                Request::Accept { answer: None },
-                frames,
-                entries,
-            ),
-            Cmd::AcceptWith { channel, params } => {
-                self.accept_with(*channel, *params, frames, entries)
-            }
-            Cmd::Clear { channel } => self.ask(*channel, Request::Clear, frames, entries),
-            Cmd::Send { channel, q, user } => self.send(*channel, *q, user, frames, entries),
+            Cmd::Accept { channel } => self.ask(*channel, Request::Accept { answer: None }, out),
+            Cmd::AcceptWith { channel, params } => { self.accept_with(*channel, *params, out) }
+            Cmd::Clear { channel } => self.ask(*channel, Request::Clear, out),
+            Cmd::Send { channel, q, user } => self.send(*channel, *q, user, out),
             Cmd::Interrupt { channel, user } => self.ask(
                 *channel,
                 Request::Interrupt { user },
-                frames,
-                entries,
+                out,
             ),
-            Cmd::Reset { channel } => self.ask(*channel, Request::Reset, frames, entries),
-            Cmd::Ready { channel } => self.ask(*channel, Request::Ready, frames, entries),
-            Cmd::NotReady { channel } => self.ask(*channel, Request::NotReady, frames, entries),
+            Cmd::Reset { channel } => self.ask(*channel, Request::Reset, out),
+            Cmd::Ready { channel } => self.ask(*channel, Request::Ready, out),
+            Cmd::NotReady { channel } => self.ask(*channel, Request::NotReady, out),
             Cmd::Call {
                 called,
                 calling,
                 user,
-            } => self.call(called, calling, user, Params::default(), frames, entries),
+            } => self.call(called, calling, user, Params::default(), out),
             Cmd::CallWith {
                 called,
                 calling,
                 user,
                 params,
-            } => self.call(called, calling, user, *params, frames, entries),
-            Cmd::Restart => self.restart(frames, entries),
-            Cmd::Pull => {
-                let answer = self.pull();
-                moved(answer, frames, entries)
-            }
-            Cmd::Connect => {
-                let answer = self.connect_asked();
-                moved(answer, frames, entries)
-            }
-            Cmd::Disconnect => self.disconnect(frames, entries),
+            } => self.call(called, calling, user, *params, out),
+            Cmd::Restart => self.restart(out),
+            Cmd::Pull => self.pull_asked(out),
+            Cmd::Connect => self.connect_asked(out),
+            Cmd::Disconnect => self.disconnect(out),
         }
     }
 
-    /// Hands the data packets that wait in the circuits of all channels down to the link, in rounds, while fewer than 8 packets wait
-    /// there, and does nothing else (profile). It has no entry.
-    ///
-    /// Each accepted command and each packet that comes does so too. A step in which the link acts by itself doesn't, so that a message may
-    /// wait in its circuit while nothing is on its way: one who calls this behind each step after which fewer than 8 packets wait leaves none
-    /// to wait so.
-    ///
-    /// 9 where the link isn't up, 40 while a restart is under way, and else 70 alone. The station is as before then.
-    pub fn pull(&mut self) -> Result<Step, StationError>
-        ensures does { Does self.old self.new result (λ c s. requests c s PullsAll) }
-        ensures exactly { (c : Settings) (s : State) → FitsStation c self.old s → RefusesExactly result (requests c s PullsAll) }
-        ensures no_entries { IfOk result (λ answer. vec_len answer.entries ≡ 0) }
+    // The data packets that wait in the circuits of all channels are handed down to the link, in rounds, while fewer than 8 packets wait
+    // there (profile).
+    fn pull_asked(&mut self, out: &mut Step) -> Result<(), StationError>
+        requires { IsEmpty out.old }
+        ensures { Does self.old self.new out.new result (λ c s. requests c s PullsAll) }
     {
         steps_keep_bounds();
         holds_few();
-        let entries = Vec::new(self.alloc);
+        out.make_room()?;
         match self.layer.pull(&mut self.link) {
             Ok(()) => {
-                let frames = self.link.sent();
-                Ok(Step { frames, entries })
+                self.link.sent_into(&mut out.frames);
+                Ok(())
             }
             Err(error) => Err(StationError::of_layer(error)),
         }
@@ -308,14 +267,10 @@ impl Station {
         &mut self,
         channel: u16,
         params: Params,
-        frames: &mut Vec<Vec<u8>>,
-        entries: &mut Vec<Entry>,
+        out: &mut Step,
     ) -> Result<(), StationError>
-        requires frames { frames.old.items ≡ [] }
-        requires entries { entries.old.items ≡ [] }
-        ensures does { Does self.old self.new (answered (record { frames = frames.new; entries = entries.new }) result) (λ c s. requests c s (Asks channel (Accepts (Some params)))) }
-        ensures no_frames { OnErr result (frames.new.items ≡ []) }
-        ensures no_entries { OnErr result (entries.new.items ≡ []) }
+        requires { IsEmpty out.old }
+        ensures { Does self.old self.new out.new result (λ c s. requests c s (Asks channel (Accepts (Some params)))) }
     {
         let answer = Proposal::new(params);
         self.ask(
@@ -323,8 +278,7 @@ impl Station {
             Request::Accept {
                 answer: Some(&answer),
             },
-            frames,
-            entries,
+            out,
         )
     }
 
@@ -335,26 +289,22 @@ impl Station {
         calling: &str,
         user: &[u8],
         params: Params,
-        frames: &mut Vec<Vec<u8>>,
-        entries: &mut Vec<Entry>,
+        out: &mut Step,
     ) -> Result<(), StationError>
-        requires frames { frames.old.items ≡ [] }
-        requires entries { entries.old.items ≡ [] }
-        ensures does { Does self.old self.new (answered (record { frames = frames.new; entries = entries.new }) result) (λ c s. requests c s (Dials called.now calling.now user.now params)) }
-        ensures no_frames { OnErr result (frames.new.items ≡ []) }
-        ensures no_entries { OnErr result (entries.new.items ≡ []) }
+        requires { IsEmpty out.old }
+        ensures { Does self.old self.new out.new result (λ c s. requests c s (Dials called.now calling.now user.now params)) }
     {
         steps_keep_bounds();
         holds_few();
         let asked = asked_call(self.alloc, called, calling, user, params)?;
-        make_room(frames, entries)?;
+        out.make_room()?;
         match self
             .layer
             .call_with(&mut self.link, called, calling, user, params)
         {
             Ok(channel) => {
-                enter(&self.layer, entries, channel, Said::Asked(asked));
-                self.link.sent_into(frames);
+                enter(&self.layer, &mut out.entries, channel, Said::Asked(asked));
+                self.link.sent_into(&mut out.frames);
                 Ok(())
             }
             Err(error) => Err(StationError::of_layer(error)),
@@ -368,19 +318,15 @@ impl Station {
         channel: u16,
         q: bool,
         user: &[u8],
-        frames: &mut Vec<Vec<u8>>,
-        entries: &mut Vec<Entry>,
+        out: &mut Step,
     ) -> Result<(), StationError>
-        requires frames { frames.old.items ≡ [] }
-        requires entries { entries.old.items ≡ [] }
-        ensures does { Does self.old self.new (answered (record { frames = frames.new; entries = entries.new }) result) (λ c s. requests c s (Asks channel (CircuitSends q user.now))) }
-        ensures no_frames { OnErr result (frames.new.items ≡ []) }
-        ensures no_entries { OnErr result (entries.new.items ≡ []) }
+        requires { IsEmpty out.old }
+        ensures { Does self.old self.new out.new result (λ c s. requests c s (Asks channel (CircuitSends q user.now))) }
     {
         let shown = self.copied_for(channel, user)?;
         let user = self.copied_for(channel, user)?;
         let asked = Asked::Send { q, user: shown };
-        self.ask_as(channel, Request::Send { q, user }, asked, frames, entries)
+        self.ask_as(channel, Request::Send { q, user }, asked, out)
     }
 
     // A copy of the user data of a message, in the memory of an earlier one of the channel where that has room. The station is as before.
@@ -403,44 +349,36 @@ impl Station {
         &mut self,
         channel: u16,
         request: Request<'_>,
-        frames: &mut Vec<Vec<u8>>,
-        entries: &mut Vec<Entry>,
+        out: &mut Step,
     ) -> Result<(), StationError>
-        requires frames { frames.old.items ≡ [] }
-        requires entries { entries.old.items ≡ [] }
-        ensures does { Does self.old self.new (answered (record { frames = frames.new; entries = entries.new }) result) (λ c s. requests c s (Asks channel (plain_request request.entry))) }
-        ensures no_frames { OnErr result (frames.new.items ≡ []) }
-        ensures no_entries { OnErr result (entries.new.items ≡ []) }
+        requires { IsEmpty out.old }
+        ensures { Does self.old self.new out.new result (λ c s. requests c s (Asks channel (plain_request request.entry))) }
     {
         let asked = asked_of(self.alloc, &request)?;
-        self.ask_as(channel, request, asked, frames, entries)
+        self.ask_as(channel, request, asked, out)
     }
 
-    // .. which the entry shows so.
+    // What is asked of the circuit of a channel, which the entry shows so.
     #[inline(always)]
     fn ask_as(
         &mut self,
         channel: u16,
         request: Request<'_>,
         asked: Asked,
-        frames: &mut Vec<Vec<u8>>,
-        entries: &mut Vec<Entry>,
+        out: &mut Step,
     ) -> Result<(), StationError>
         requires shown { (x : Circuit) → shown x (plain_asked asked) ≡ shown x (plain_request request) }
-        requires frames { frames.old.items ≡ [] }
-        requires entries { entries.old.items ≡ [] }
-        ensures does { Does self.old self.new (answered (record { frames = frames.new; entries = entries.new }) result) (λ c s. requests c s (Asks channel (plain_request request.entry))) }
-        ensures no_frames { OnErr result (frames.new.items ≡ []) }
-        ensures no_entries { OnErr result (entries.new.items ≡ []) }
+        requires empty { IsEmpty out.old }
+        ensures { Does self.old self.new out.new result (λ c s. requests c s (Asks channel (plain_request request.entry))) }
     {
         steps_keep_bounds();
         holds_few();
-        make_room(frames, entries)?;
+        out.make_room()?;
         match self.layer.ask(&mut self.link, channel, request) {
             Ok(()) => {
                 let asked = as_shown(&self.layer, channel, asked);
-                enter(&self.layer, entries, channel, Said::Asked(asked));
-                self.link.sent_into(frames);
+                enter(&self.layer, &mut out.entries, channel, Said::Asked(asked));
+                self.link.sent_into(&mut out.frames);
                 Ok(())
             }
             Err(error) => Err(StationError::of_layer(error)),
@@ -448,24 +386,17 @@ impl Station {
     }
 
     // A restart of the packet layer.
-    fn restart(
-        &mut self,
-        frames: &mut Vec<Vec<u8>>,
-        entries: &mut Vec<Entry>,
-    ) -> Result<(), StationError>
-        requires frames { frames.old.items ≡ [] }
-        requires entries { entries.old.items ≡ [] }
-        ensures does { Does self.old self.new (answered (record { frames = frames.new; entries = entries.new }) result) (λ c s. requests c s Restarts) }
-        ensures no_frames { OnErr result (frames.new.items ≡ []) }
-        ensures no_entries { OnErr result (entries.new.items ≡ []) }
+    fn restart(&mut self, out: &mut Step) -> Result<(), StationError>
+        requires { IsEmpty out.old }
+        ensures { Does self.old self.new out.new result (λ c s. requests c s Restarts) }
     {
         steps_keep_bounds();
         holds_few();
-        make_room(frames, entries)?;
+        out.make_room()?;
         match self.layer.restart(&mut self.link) {
             Ok(()) => {
-                entries.push_reserved(Entry::RestartAsked);
-                self.link.sent_into(frames);
+                out.entries.push_reserved(Entry::RestartAsked);
+                self.link.sent_into(&mut out.frames);
                 Ok(())
             }
             Err(error) => Err(StationError::of_layer(error)),

@@ -9,11 +9,12 @@ mod entry;
 mod error;
 mod law;
 mod linking;
-mod lists;
+mod pulling;
 mod receiving;
-mod spent;
+mod reusing;
 mod station;
 mod step;
+mod timer;
 
 pub use command::Cmd;
 pub use config::Cfg;
@@ -24,5 +25,6 @@ pub use law::{
 };
 pub use station::Station;
 pub use step::{MOST_ENTRIES, MOST_FRAMES, Step};
+pub use timer::Timer;
 pub use x25_bits::Role;
 pub use x25_frame::N1;

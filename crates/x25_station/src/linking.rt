@@ -1,10 +1,11 @@
 //! Calls that the link alone answers, and at LinkDown the packet layer.
-ghost use Rattle.std.specs.Prelude.{◌≡◌, ℕ, ◌+◌, ◌<◌, ◌≤◌, ◌++◌, [], map, None, vec_len, vec_capacity, IfOk, OnErr};
+ghost use Rattle.std.specs.Prelude.{◌≡◌, ℕ, ◌+◌, ◌<◌, ◌≤◌, ◌++◌, map, true, false, None, vec_len, vec_capacity};
 ghost use Rattle.x25_layer.specs.Layer.{Layer as LayerState, LayerSettings};
 ghost use Rattle.x25_layer.specs.code.FitsLayer.{FitsLayer};
 ghost use Rattle.x25_layer.specs.Room.{HasRoom};
 ghost use Rattle.x25_station.specs.Entry.{entries_down};
-ghost use Rattle.x25_station.specs.code.FitsStation.{FitsStation, Does, answered, RefusesExactly};
+ghost use Rattle.x25_station.specs.code.Clock.{TellsTimer};
+ghost use Rattle.x25_station.specs.code.FitsStation.{FitsStation, Does, IsEmpty, RefusesExactly};
 ghost use Rattle.x25_station.specs.code.PlainEntry.{plain_entry};
 ghost use Rattle.x25_station.specs.Config.{Settings};
 ghost use Rattle.x25_station.specs.Station.{Station as State};
@@ -13,7 +14,6 @@ ghost use Rattle.x25_station.specs.Step.{connects, connects_asked, disconnects, 
 use crate::entry::Entry;
 use crate::error::StationError;
 use crate::law::steps_keep_bounds;
-use crate::lists::make_room;
 use crate::station::Station;
 use crate::step::Step;
 use std::mem;
@@ -24,88 +24,73 @@ impl Station {
     /// Begins to set the link up. No entry is made.
     ///
     /// 12 where it is being set up, 13 where it is closed, 15 where it is up, and else 70 alone. The station is as before then.
-    pub fn connect(&mut self) -> Result<Step, StationError>
-        ensures does { Does self.old self.new result connects }
+    pub fn connect(&mut self, out: &mut Step) -> Result<(), StationError>
+        ensures does { Does self.old self.new out.new result connects }
         ensures exactly { (c : Settings) (s : State) → FitsStation c self.old s → RefusesExactly result (connects c s) }
+        ensures timer { TellsTimer self.old out.new.timer result false connects }
+    {
+        self.reuse(out);
+        let before = self.clock();
+        let answer = self.set_up(out);
+        out.timer = self.timer_behind(before, false, out.entries.as_slice());
+        answer
+    }
+
+    // Begins to set the link up, into a step that is empty.
+    fn set_up(&mut self, out: &mut Step) -> Result<(), StationError>
+        requires { IsEmpty out.old }
+        ensures does { Does self.old self.new out.new result connects }
+        ensures exactly { (c : Settings) (s : State) → FitsStation c self.old s → RefusesExactly result (connects c s) }
+        ensures entries { out.new.entries ≡ out.old.entries }
     {
         steps_keep_bounds();
         holds_few();
         match self.link.connect() {
-            Ok(step) => Ok(Step {
-                frames: step.frames,
-                entries: Vec::new(self.alloc),
-            }),
+            Ok(step) => {
+                exchange(&mut self.link, &mut out.frames, step.frames);
+                Ok(())
+            }
             Err(error) => Err(StationError::of_link(error)),
         }
     }
 
     /// Begins to set the link up, as a command, which has an entry.
-    pub(crate) fn connect_asked(&mut self) -> Result<Step, StationError>
-        ensures { Does self.old self.new result connects_asked }
+    pub(crate) fn connect_asked(&mut self, out: &mut Step) -> Result<(), StationError>
+        requires { IsEmpty out.old }
+        ensures { Does self.old self.new out.new result connects_asked }
     {
-        let Ok(mut entries) = Vec::with_capacity(self.alloc, 1) else {
+        if out.entries.reserve(1).is_err() {
             return Err(StationError::NoMemory);
-        };
-        entries.push_reserved(Entry::ConnectAsked);
-        let step = self.connect()?;
-        Ok(Step {
-            frames: step.frames,
-            entries,
-        })
-    }
-
-    /// Begins to set the link up, as `connect` does. Frames and entries come into lists that the caller keeps, and that are empty before;
-    /// where it is refused they stay empty.
-    pub fn connect_into(
-        &mut self,
-        frames: &mut Vec<Vec<u8>>,
-        entries: &mut Vec<Entry>,
-    ) -> Result<(), StationError>
-        requires frames { frames.old.items ≡ [] }
-        requires entries { entries.old.items ≡ [] }
-        ensures does { Does self.old self.new (answered (record { frames = frames.new; entries = entries.new }) result) connects }
-        ensures exactly { (c : Settings) (s : State) → FitsStation c self.old s → RefusesExactly (answered (record { frames = frames.new; entries = entries.new }) result) (connects c s) }
-        ensures no_frames { OnErr result (frames.new.items ≡ []) }
-        ensures no_entries { OnErr result (entries.new.items ≡ []) }
-    {
-        let answer = self.connect();
-        moved(answer, frames, entries)
+        }
+        self.set_up(out)?;
+        out.entries.push_reserved(Entry::ConnectAsked);
+        Ok(())
     }
 
     /// A firing of timer T1 of the link.
     ///
     /// 11 where the timer doesn't run, and else 70 alone; 70 may come in place of 11. The station is as before then.
-    pub fn t1(&mut self) -> Result<Step, StationError>
-        ensures { Does self.old self.new result fires }
+    pub fn t1(&mut self, out: &mut Step) -> Result<(), StationError>
+        ensures does { Does self.old self.new out.new result fires }
+        ensures timer { TellsTimer self.old out.new.timer result true fires }
     {
-        let mut step = self.lists.step();
-        match self.t1_into(&mut step.frames, &mut step.entries) {
-            Ok(()) => Ok(step),
-            Err(error) => {
-                let _ = self.lists.give_back(step);
-                Err(error)
-            }
-        }
+        self.reuse(out);
+        let before = self.clock();
+        let answer = self.fire(out);
+        out.timer = self.timer_behind(before, answer.is_ok(), out.entries.as_slice());
+        answer
     }
 
-    /// A firing of timer T1 of the link, as `t1`. Frames and entries come into lists that the caller keeps, and that are empty before;
-    /// where it is refused they stay empty.
-    pub fn t1_into(
-        &mut self,
-        frames: &mut Vec<Vec<u8>>,
-        entries: &mut Vec<Entry>,
-    ) -> Result<(), StationError>
-        requires frames { frames.old.items ≡ [] }
-        requires entries { entries.old.items ≡ [] }
-        ensures does { Does self.old self.new (answered (record { frames = frames.new; entries = entries.new }) result) fires }
-        ensures no_frames { OnErr result (frames.new.items ≡ []) }
-        ensures no_entries { OnErr result (entries.new.items ≡ []) }
+    // T1 fires, into a step that is empty.
+    fn fire(&mut self, out: &mut Step) -> Result<(), StationError>
+        requires { IsEmpty out.old }
+        ensures { Does self.old self.new out.new result fires }
     {
         steps_keep_bounds();
-        make_room(frames, entries)?;
-        match self.link.t1_into(frames) {
+        out.make_room()?;
+        match self.link.t1_into(&mut out.frames) {
             Ok(heard) => {
-                note_down(&mut self.layer, heard.notes.down, entries);
+                note_down(&mut self.layer, heard.notes.down, &mut out.entries);
                 Ok(())
             }
             Err(error) => Err(StationError::of_link(error)),
@@ -113,27 +98,20 @@ impl Station {
     }
 
     /// Disconnects the link, for good.
-    pub(crate) fn disconnect(
-        &mut self,
-        frames: &mut Vec<Vec<u8>>,
-        entries: &mut Vec<Entry>,
-    ) -> Result<(), StationError>
-        requires frames { frames.old.items ≡ [] }
-        requires entries { entries.old.items ≡ [] }
-        ensures does { Does self.old self.new (answered (record { frames = frames.new; entries = entries.new }) result) disconnects }
-        ensures no_frames { OnErr result (frames.new.items ≡ []) }
-        ensures no_entries { OnErr result (entries.new.items ≡ []) }
+    pub(crate) fn disconnect(&mut self, out: &mut Step) -> Result<(), StationError>
+        requires { IsEmpty out.old }
+        ensures { Does self.old self.new out.new result disconnects }
     {
         steps_keep_bounds();
         holds_few();
-        if entries.reserve(2).is_err() {
+        if out.entries.reserve(2).is_err() {
             return Err(StationError::NoMemory);
         }
         match self.link.disconnect() {
             Ok(step) => {
-                entries.push_reserved(Entry::DisconnectAsked);
-                exchange(&mut self.link, frames, step.frames);
-                note_down(&mut self.layer, step.notes.down, entries);
+                out.entries.push_reserved(Entry::DisconnectAsked);
+                exchange(&mut self.link, &mut out.frames, step.frames);
+                note_down(&mut self.layer, step.notes.down, &mut out.entries);
                 Ok(())
             }
             Err(error) => Err(StationError::of_link(error)),
@@ -166,26 +144,4 @@ pub(crate) fn exchange(link: &mut Link, frames: &mut Vec<Vec<u8>>, made: Vec<Vec
 {
     let used = mem::replace(frames, made);
     link.give_back_list(used);
-}
-
-/// What a call answered comes into lists, which are empty before.
-pub(crate) fn moved(
-    answer: Result<Step, StationError>,
-    frames: &mut Vec<Vec<u8>>,
-    entries: &mut Vec<Entry>,
-) -> Result<(), StationError>
-    requires frames { frames.old.items ≡ [] }
-    requires entries { entries.old.items ≡ [] }
-    ensures answer { answered (record { frames = frames.new; entries = entries.new }) result ≡ answer }
-    ensures no_frames { OnErr result (frames.new.items ≡ []) }
-    ensures no_entries { OnErr result (entries.new.items ≡ []) }
-{
-    match answer {
-        Ok(step) => {
-            *frames = step.frames;
-            *entries = step.entries;
-            Ok(())
-        }
-        Err(error) => Err(error),
-    }
 }

@@ -1,6 +1,5 @@
 //! Octets that come: the step of the link, and what the packet layer does at it.
-ghost use Rattle.std.specs.Prelude.{◌≡◌, ℕ, ◌+◌, ◌-◌, ◌<◌, ◌≤◌, ◌++◌, List, [], length, max, map, true, false, None, option_copied, vec_len, vec_capacity, IfSome, IfOk, IfErr, OnOk, OnErr};
-ghost use Rattle.x25_frame.specs.Reading.{is_intact};
+ghost use Rattle.std.specs.Prelude.{◌≡◌, ℕ, ◌+◌, ◌-◌, ◌<◌, ◌≤◌, ◌++◌, List, length, max, map, true, false, None, option_copied, vec_len, vec_capacity, IfSome, IfErr, OnOk};
 ghost use Rattle.x25_link.specs.Station.{Side};
 ghost use Rattle.x25_link.specs.Link.{alone};
 ghost use Rattle.x25_link.specs.code.FitsLink.{FitsWhole, up_of};
@@ -9,7 +8,8 @@ ghost use Rattle.x25_layer.specs.code.FitsLayer.{FitsLayer};
 ghost use Rattle.x25_layer.specs.Room.{HasRoom, HaveAtMost, IsNotFull};
 ghost use Rattle.x25_layer.specs.Rounds.{Putting, hears, comes_up};
 ghost use Rattle.x25_station.specs.Entry.{entries_up, entries_noted};
-ghost use Rattle.x25_station.specs.code.FitsStation.{FitsStation, Does, answered};
+ghost use Rattle.x25_station.specs.code.Clock.{TellsTimer};
+ghost use Rattle.x25_station.specs.code.FitsStation.{FitsStation, Does, HasPlaces, IsEmpty};
 ghost use Rattle.x25_station.specs.code.PlainEntry.{plain_entry};
 ghost use Rattle.x25_station.specs.Receiving.{kept_of, CanPut};
 ghost use Rattle.x25_station.specs.Config.{Settings, link_settings, layer_settings};
@@ -21,10 +21,9 @@ use crate::entry::Entry;
 use crate::error::StationError;
 use crate::law::steps_keep_bounds;
 use crate::linking::{exchange, note_down};
-use crate::lists::make_room;
 use crate::station::Station;
 use crate::step::Step;
-use x25_frame::{is_intact, reading_is_the_grammar as reads_frames};
+use x25_frame::reading_is_the_grammar as reads_frames;
 use x25_layer::Layer;
 use x25_link::{Link, Notes, OrderedLink, holds_few, notes_what_changes};
 use x25_packet::reading_is_the_grammar;
@@ -52,7 +51,7 @@ fn come_up(layer: &mut Layer, link: &mut Link, entries: &mut Vec<Entry>)
     layer.up(link).unwrap();
 }
 
-// .. that isn't one of data transfer with which nothing is wrong.
+// A packet that the link hands up and that isn't one of data transfer with which nothing is wrong.
 #[cold]
 #[inline(never)]
 fn hear_other(
@@ -160,59 +159,29 @@ impl Station {
     /// and the link goes down.
     ///
     /// 70 alone. The octets aren't taken then, and the station is as before.
-    pub fn receive(&mut self, octets: &[u8]) -> Result<Step, StationError>
-        ensures does { Does self.old self.new result (λ c s. Did (receives c s octets.now)) }
+    pub fn receive(&mut self, octets: &[u8], out: &mut Step) -> Result<(), StationError>
+        ensures does { Does self.old self.new out.new result (λ c s. Did (receives c s octets.now)) }
         ensures refused { IfErr result (λ e. e ≡ StationError.NoMemory) }
+        ensures timer { TellsTimer self.old out.new.timer result false (λ c s. Did (receives c s octets.now)) }
     {
-        let mut step = self.lists.step();
-        match self.receive_into(octets, &mut step.frames, &mut step.entries) {
-            Ok(()) => Ok(step),
-            Err(error) => {
-                let _ = self.lists.give_back(step);
-                Err(error)
-            }
-        }
+        self.reuse(out);
+        let before = self.clock();
+        let answer = self.come(octets, out);
+        out.timer = self.timer_behind(before, false, out.entries.as_slice());
+        answer
     }
 
-    /// Takes octets as `receive` does. Frames and entries come into lists that the caller keeps, and that are empty before; where it is
-    /// refused they stay empty.
-    pub fn receive_into(
-        &mut self,
-        octets: &[u8],
-        frames: &mut Vec<Vec<u8>>,
-        entries: &mut Vec<Entry>,
-    ) -> Result<(), StationError>
-        requires frames { frames.old.items ≡ [] }
-        requires entries { entries.old.items ≡ [] }
-        ensures does { Does self.old self.new (answered (record { frames = frames.new; entries = entries.new }) result) (λ c s. Did (receives c s octets.now)) }
+    // Octets come, into a step that is empty.
+    #[inline(always)]
+    fn come(&mut self, octets: &[u8], out: &mut Step) -> Result<(), StationError>
+        requires { IsEmpty out.old }
+        ensures does { Does self.old self.new out.new result (λ c s. Did (receives c s octets.now)) }
         ensures refused { IfErr result (λ e. e ≡ StationError.NoMemory) }
-        ensures no_frames { OnErr result (frames.new.items ≡ []) }
-        ensures no_entries { OnErr result (entries.new.items ≡ []) }
-    {
-        self.receive_checked_into(octets, is_intact(octets), frames, entries)
-    }
-
-    /// Takes octets as `receive_into` does, where it is known whether they are intact, as a controller of the line may tell: four or more, with
-    /// their frame check sequence behind the others.
-    pub fn receive_checked_into(
-        &mut self,
-        octets: &[u8],
-        intact: bool,
-        frames: &mut Vec<Vec<u8>>,
-        entries: &mut Vec<Entry>,
-    ) -> Result<(), StationError>
-        requires intact { intact ≡ is_intact octets.now }
-        requires frames { frames.old.items ≡ [] }
-        requires entries { entries.old.items ≡ [] }
-        ensures does { Does self.old self.new (answered (record { frames = frames.new; entries = entries.new }) result) (λ c s. Did (receives c s octets.now)) }
-        ensures refused { IfErr result (λ e. e ≡ StationError.NoMemory) }
-        ensures no_frames { OnErr result (frames.new.items ≡ []) }
-        ensures no_entries { OnErr result (entries.new.items ≡ []) }
     {
         if self.is_full() {
-            return self.abandon(octets, frames, entries);
+            return self.abandon(octets, out);
         }
-        self.take(octets, intact, frames, entries)
+        self.take(octets, out)
     }
 
     // Whether the link is up and a count is at its most.
@@ -231,55 +200,41 @@ impl Station {
     // A count is at its most: the octets are dropped, and the link goes down.
     #[cold]
     #[inline(never)]
-    fn abandon(
-        &mut self,
-        octets: &[u8],
-        frames: &mut Vec<Vec<u8>>,
-        entries: &mut Vec<Entry>,
-    ) -> Result<(), StationError>
+    fn abandon(&mut self, octets: &[u8], out: &mut Step) -> Result<(), StationError>
         requires up { up_of self.old.link ≡ true }
         requires full { (c : Settings) (s : State) → FitsStation c self.old s → abandons c s ≡ true }
-        requires frames { frames.old.items ≡ [] }
-        requires entries { entries.old.items ≡ [] }
-        ensures does { Does self.old self.new (answered (record { frames = frames.new; entries = entries.new }) result) (λ c s. Did (receives c s octets.now)) }
+        requires empty { IsEmpty out.old }
+        ensures does { Does self.old self.new out.new result (λ c s. Did (receives c s octets.now)) }
         ensures refused { IfErr result (λ e. e ≡ StationError.NoMemory) }
-        ensures no_frames { OnErr result (frames.new.items ≡ []) }
-        ensures no_entries { OnErr result (entries.new.items ≡ []) }
     {
         steps_keep_bounds();
         holds_few();
-        if entries.reserve(1).is_err() {
+        if out.entries.reserve(1).is_err() {
             return Err(StationError::NoMemory);
         }
         let step = self.link.abandon();
-        exchange(&mut self.link, frames, step.frames);
-        note_down(&mut self.layer, step.notes.down, entries);
+        exchange(&mut self.link, &mut out.frames, step.frames);
+        note_down(&mut self.layer, step.notes.down, &mut out.entries);
         Ok(())
     }
 
     // Sets memory aside for all that octets may bring, with so many of user data: room for frames and entries, and their texts. However
     // many they are, it is for 16 packets, 3 texts and 4,096 octets a circuit, or for what was before.
-    fn set_aside(
-        &mut self,
-        len: usize,
-        frames: &mut Vec<Vec<u8>>,
-        entries: &mut Vec<Entry>,
-    ) -> Result<(), StationError>
+    fn set_aside(&mut self, len: usize, out: &mut Step) -> Result<(), StationError>
+        requires { IsEmpty out.old }
         ensures fits { (c : Settings) (s : State) → FitsStation c self.old s → FitsStation c self.new s }
         ensures left { IsNotFull self.old.layer → IsNotFull self.new.layer }
         ensures room { OnOk result (HasRoom len self.new.layer self.new.link.outbox.long) }
         ensures texts { OnOk result (3 ≤ self.new.texts) }
-        ensures frames { frames.new.items ≡ frames.old.items }
-        ensures frames_room { OnOk result (vec_len frames.new + 17 ≤ vec_capacity frames.new) }
-        ensures entries { entries.new.items ≡ entries.old.items }
-        ensures entries_room { OnOk result (vec_len entries.new + 3 ≤ vec_capacity entries.new) }
+        ensures empty { IsEmpty out.new }
+        ensures places { OnOk result (HasPlaces out.new) }
         ensures refused { IfErr result (λ e. e ≡ StationError.NoMemory) }
         ensures most_texts { self.new.texts ≤ max self.old.texts 3 }
         ensures most_memory { self.new.layer.memory ≤ max self.old.layer.memory 16 }
         ensures most_spares { self.new.link.outbox.long ≤ max self.old.link.outbox.long 16 }
         ensures most_circuits { (bound : ℕ) → 4096 ≤ bound → HaveAtMost bound self.old.layer.circuits.items → HaveAtMost bound self.new.layer.circuits.items }
     {
-        make_room(frames, entries)?;
+        out.make_room()?;
         if self.texts.reserve(MOST_TEXTS).is_err() {
             return Err(StationError::NoMemory);
         }
@@ -291,29 +246,19 @@ impl Station {
 
     // Octets that the link takes.
     #[inline(always)]
-    fn take(
-        &mut self,
-        octets: &[u8],
-        intact: bool,
-        frames: &mut Vec<Vec<u8>>,
-        entries: &mut Vec<Entry>,
-    ) -> Result<(), StationError>
-        requires intact { intact ≡ is_intact octets.now }
+    fn take(&mut self, octets: &[u8], out: &mut Step) -> Result<(), StationError>
         requires left { up_of self.old.link ≡ true → IsNotFull self.old.layer }
         requires goes_on { (c : Settings) (s : State) → FitsStation c self.old s → abandons c s ≡ false }
-        requires frames { frames.old.items ≡ [] }
-        requires entries { entries.old.items ≡ [] }
-        ensures does { Does self.old self.new (answered (record { frames = frames.new; entries = entries.new }) result) (λ c s. Did (receives c s octets.now)) }
+        requires empty { IsEmpty out.old }
+        ensures does { Does self.old self.new out.new result (λ c s. Did (receives c s octets.now)) }
         ensures refused { IfErr result (λ e. e ≡ StationError.NoMemory) }
-        ensures no_frames { OnErr result (frames.new.items ≡ []) }
-        ensures no_entries { OnErr result (entries.new.items ≡ []) }
     {
         steps_keep_bounds();
         notes_what_changes();
         holds_few();
         reads_frames();
-        self.set_aside(octets.len().saturating_sub(HEADERS), frames, entries)?;
-        match self.link.take_checked_into(octets, intact, frames) {
+        self.set_aside(octets.len().saturating_sub(HEADERS), out)?;
+        match self.link.take_into(octets, &mut out.frames) {
             Ok(heard) => {
                 follow(
                     &mut self.layer,
@@ -321,9 +266,9 @@ impl Station {
                     &mut self.texts,
                     heard.notes,
                     heard.packet,
-                    entries,
+                    &mut out.entries,
                 );
-                self.link.sent_into(frames);
+                self.link.sent_into(&mut out.frames);
                 Ok(())
             }
             Err(error) => Err(StationError::of_link(error)),

@@ -4,10 +4,8 @@ ghost use Rattle.x25_station.specs.code.FitsParts.{AreMeant};
 use crate::config::Cfg;
 use crate::entering::TextMemory;
 use crate::error::StationError;
-use crate::lists::Lists;
-use crate::step::Step;
 use std::alloc::Global;
-use x25_bits::{Blanks, Role, Seq};
+use x25_bits::{Blanks, Role};
 use x25_frame::N1;
 use x25_layer::{Layer, LayerError, Stretch};
 use x25_link::{Link, LinkError};
@@ -21,15 +19,13 @@ pub struct Station {
     pub(crate) layer: Layer,
     /// Memory for texts of entries.
     pub(crate) texts: TextMemory,
-    /// Lists for what later calls answer.
-    pub(crate) lists: Lists,
     pub(crate) alloc: Global,
     ghost meant: { AreMeant link layer },
     ghost aside: { IsFewAside link layer texts },
 }
 
 impl Station {
-    ghost use Rattle.std.specs.Prelude.{◌≡◌, ◌+◌, ◌≤◌, ◌%◌, IfOk};
+    ghost use Rattle.std.specs.Prelude.{◌≡◌, ◌+◌, ◌≤◌, IfOk};
     ghost use Rattle.x25_station.specs.code.FitsStation.{FitsStation, RefusesWith};
     ghost use Rattle.x25_station.specs.Config.{Settings, layer_settings, settings_from, config_refusal};
     ghost use Rattle.x25_station.specs.Station.{Station as State, new_station};
@@ -61,7 +57,6 @@ impl Station {
             link,
             layer,
             texts: Blanks::new(alloc),
-            lists: Lists::new(alloc),
             alloc,
         })
     }
@@ -85,16 +80,6 @@ impl Station {
         ensures { (c : Settings) (s : State) → FitsStation c self.now s → result ≡ timer_runs s.link.phase s.link }
     {
         self.link.timer_runs()
-    }
-
-    /// The number of the first I frame that the other end didn't acknowledge: all below it are.
-    ///
-    /// T1 begins anew at a step behind which it runs, and before which it didn't; that was its firing; that told LinkUp; or behind which
-    /// this number is another one: see `deadlines_are_true`.
-    pub fn acknowledged(&self) -> Seq
-        ensures { (c : Settings) (s : State) → FitsStation c self.now s → result.number ≡ s.link.outgoing.acked % 8 }
-    {
-        self.link.acknowledged()
     }
 
     /// How many octets have come of the message of which some packets came on a channel, at most 65,535; 0 where there is none, or the
@@ -129,15 +114,6 @@ impl Station {
         ensures { result ≤ 32 }
     {
         self.link.returned()
-    }
-
-    /// Takes back what a call answered: its lists serve later calls, and the memory of frames that are still in them later frames. The
-    /// station is as before.
-    pub fn give_back(&mut self, step: Step)
-        ensures { (c : Settings) (s : State) → FitsStation c self.old s → FitsStation c self.new s }
-    {
-        let frames = self.lists.give_back(step);
-        self.link.give_back_list(frames);
     }
 
     /// Takes the memory of a frame back, of this station or of another, for one that is sent later. The station is as before.

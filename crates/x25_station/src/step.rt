@@ -1,15 +1,66 @@
+ghost use Rattle.std.specs.Prelude.{◌≡◌, ◌+◌, ◌≤◌, vec_len, vec_capacity, OnOk, IfErr};
+ghost use Rattle.x25_station.specs.code.FitsStation.{HasPlaces, IsEmpty};
+
 use crate::entry::Entry;
+use crate::error::StationError;
+use crate::timer::Timer;
+use std::alloc::Global;
 
 /// The most frames that a call of a station answers: nine in the link's step, seven I frames of the layer's packets, and an RR.
 pub const MOST_FRAMES: usize = 17;
 
-/// The most entries that a call of a station makes, and one more: LinkDown and LinkUp, or two that the layer tells.
+/// The most entries that a call of a station makes.
 pub const MOST_ENTRIES: usize = 3;
 
 /// What a call of a station answers: the frames to send, frame check sequence included, and the entries of the transcript, each in
-/// order. The entry of an accepted command is the first.
+/// order, and what becomes of timer T1. The entry of an accepted command is the first.
 #[derive(Debug, Drop)]
 pub struct Step {
     pub frames: Vec<Vec<u8>>,
     pub entries: Vec<Entry>,
+    pub timer: Timer,
+}
+
+/// Room for the frames of a call behind those that there are.
+#[inline(always)]
+pub(crate) fn make_room_for_frames(frames: &mut Vec<Vec<u8>>) -> Result<(), StationError>
+    ensures items { frames.new.items ≡ frames.old.items }
+    ensures room { OnOk result (vec_len frames.new + 17 ≤ vec_capacity frames.new) }
+    ensures refused { IfErr result (λ e. e ≡ StationError.NoMemory) }
+{
+    match frames.reserve(MOST_FRAMES) {
+        Ok(()) => Ok(()),
+        Err(_) => Err(StationError::NoMemory),
+    }
+}
+
+impl Step {
+    /// A step for calls to answer into.
+    pub fn new(alloc: Global) -> Step
+        ensures empty { IsEmpty result }
+        ensures timer { result.timer ≡ Timer.Off }
+    {
+        Step {
+            frames: Vec::new(alloc),
+            entries: Vec::new(alloc),
+            timer: Timer::Off,
+        }
+    }
+
+    /// Room for what a call answers.
+    #[inline(always)]
+    pub(crate) fn make_room(&mut self) -> Result<(), StationError>
+        requires { IsEmpty self.old }
+        ensures empty { IsEmpty self.new }
+        ensures places { OnOk result (HasPlaces self.new) }
+        ensures refused { IfErr result (λ e. e ≡ StationError.NoMemory) }
+    {
+        if self.frames.reserve(MOST_FRAMES).is_err() {
+            return Err(StationError::NoMemory);
+        }
+        if self.entries.reserve(MOST_ENTRIES).is_err() {
+            return Err(StationError::NoMemory);
+        }
+        Ok(())
+    }
 }

@@ -1,10 +1,7 @@
 //! The calls of a station without their claims: a body that makes one of the station's own carries all that it promises.
 
-ghost use Rattle.std.specs.Prelude.{◌≡◌, []};
-
 use std::alloc::Global;
-use x25_frame::is_intact;
-use x25_station::{Cfg, Cmd, Entry, Role, Station, StationError, Step};
+use x25_station::{Cfg, Cmd, Role, Station, StationError, Step};
 
 // A station in a place of its own: a body that holds the box lets go of it by one call, and not of each part of the station.
 fn boxed(alloc: Global, station: Station) -> Result<Box<Station>, StationError> {
@@ -19,69 +16,26 @@ pub fn station(alloc: Global, role: Role, cfg: Cfg) -> Result<Box<Station>, Stat
     boxed(alloc, Station::new(alloc, role, cfg)?)
 }
 
-pub fn connect(station: &mut Station) -> Result<Step, StationError> {
-    station.connect()
+pub fn connect(station: &mut Station, out: &mut Step) -> Result<(), StationError> {
+    station.connect(out)
 }
 
 /// Timer T1 fires.
-pub fn fire(station: &mut Station) -> Result<Step, StationError> {
-    station.t1()
+pub fn fire(station: &mut Station, out: &mut Step) -> Result<(), StationError> {
+    station.t1(out)
 }
 
-pub fn receive(station: &mut Station, octets: &[u8]) -> Result<Step, StationError> {
-    station.receive(octets)
+pub fn receive(station: &mut Station, octets: &[u8], out: &mut Step) -> Result<(), StationError> {
+    station.receive(octets, out)
 }
 
-pub fn ask(station: &mut Station, command: Cmd<'_>) -> Result<Step, StationError> {
-    station.command(command)
+pub fn ask(station: &mut Station, command: Cmd<'_>, out: &mut Step) -> Result<(), StationError> {
+    station.command(command, out)
 }
 
-// Lists of a step are emptied, for a call to answer into.
-fn empty(lists: &mut Step)
-    ensures frames { lists.new.frames.items ≡ [] }
-    ensures entries { lists.new.entries.items ≡ [] }
-{
-    lists.frames.clear();
-    lists.entries.clear();
-}
-
-/// The lists of `lists` are kept from call to call.
-pub fn connect_into(station: &mut Station, lists: &mut Step) -> Result<(), StationError> {
-    empty(lists);
-    station.connect_into(&mut lists.frames, &mut lists.entries)
-}
-
-pub fn fire_into(station: &mut Station, lists: &mut Step) -> Result<(), StationError> {
-    empty(lists);
-    station.t1_into(&mut lists.frames, &mut lists.entries)
-}
-
-pub fn receive_into(
-    station: &mut Station,
-    octets: &[u8],
-    lists: &mut Step,
-) -> Result<(), StationError> {
-    empty(lists);
-    station.receive_into(octets, &mut lists.frames, &mut lists.entries)
-}
-
-pub fn receive_checked_into(
-    station: &mut Station,
-    octets: &[u8],
-    lists: &mut Step,
-) -> Result<(), StationError> {
-    empty(lists);
-    let intact = is_intact(octets);
-    station.receive_checked_into(octets, intact, &mut lists.frames, &mut lists.entries)
-}
-
-pub fn ask_into(
-    station: &mut Station,
-    command: Cmd<'_>,
-    lists: &mut Step,
-) -> Result<(), StationError> {
-    empty(lists);
-    station.command_into(command, &mut lists.frames, &mut lists.entries)
+/// What waits is pulled behind a step.
+pub fn pull(station: &mut Station, out: &mut Step) -> Result<(), StationError> {
+    station.pull(out)
 }
 
 /// Why a message of so many octets would be refused, as far as that is known before.
@@ -89,7 +43,7 @@ pub fn message_refusal(station: &Station, channel: u16, count: usize) -> Option<
     station.message_refusal(channel, count)
 }
 
-/// The station takes entries back that were read.
-pub fn give_back_entries(station: &mut Station, entries: &mut Vec<Entry>) {
-    station.give_back_entries(entries);
+/// The station takes a step back that was read.
+pub fn reuse(station: &mut Station, out: &mut Step) {
+    station.reuse(out);
 }

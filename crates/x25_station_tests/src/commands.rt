@@ -130,11 +130,44 @@ const FULL_QUEUE: [Row; 8] = [
     (HearRr(3), &["I cmd P=0 S=1 R=2 | RR ch=1 R=0"]),
 ];
 
-static TABLES: [Table; 4] = [
+// Seven packets are sent, eight wait, and the message behind them waits in its circuit until it is pulled.
+const MESSAGE_BEHIND_PACKETS: [Row; 14] = [
+    (AskMany(15, Cmd::Ready { channel: 1 }), &["dte ready ch=1"]),
+    (Ask(SEND), &["dte send ch=1 at 1.0.0 q=0 data=6869"]),
+    (Act::Pull, &["dte send ch=1 at 1.0.0 q=0 data=6869"]),
+    (
+        HearRr(1),
+        &[
+            "I cmd P=0 S=1 R=2 | RR ch=1 R=0",
+            "I cmd P=0 S=2 R=2 | RR ch=1 R=0",
+            "I cmd P=0 S=3 R=2 | RR ch=1 R=0",
+            "I cmd P=0 S=4 R=2 | RR ch=1 R=0",
+            "I cmd P=0 S=5 R=2 | RR ch=1 R=0",
+            "I cmd P=0 S=6 R=2 | RR ch=1 R=0",
+            "I cmd P=0 S=7 R=2 | RR ch=1 R=0",
+        ],
+    ),
+    (HearRr(0), &["I cmd P=0 S=0 R=2 | RR ch=1 R=0"]),
+    (Act::Timer, &["T1 runs", "begins"]),
+    (HearRr(0), &[]),
+    (Act::Timer, &["T1 runs", "goes on"]),
+    (HearRr(1), &[]),
+    (Act::Timer, &["T1 is off", "off"]),
+    (
+        Act::Pull,
+        &["I cmd P=0 S=1 R=2 | DATA ch=1 S=0 R=0 M=0 Q=0 data=6869"],
+    ),
+    (Act::Timer, &["T1 runs", "begins"]),
+    (HearRr(2), &[]),
+    (Act::Idle, &["idle"]),
+];
+
+static TABLES: [Table; 5] = [
     ("data", &DATA),
     ("reset, clear and restart", &RESET_CLEAR_AND_RESTART),
     ("messages that wait", &MESSAGES_THAT_WAIT),
     ("a full queue", &FULL_QUEUE),
+    ("a message behind packets", &MESSAGE_BEHIND_PACKETS),
 ];
 
 #[test]

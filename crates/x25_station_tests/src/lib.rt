@@ -10,11 +10,7 @@ mod commands;
 #[cfg(test)]
 mod errors;
 #[cfg(test)]
-mod given_back;
-#[cfg(test)]
 mod hearing;
-#[cfg(test)]
-mod kept_lists;
 #[cfg(test)]
 mod linking;
 #[cfg(test)]
@@ -22,10 +18,12 @@ mod long_data;
 #[cfg(test)]
 mod octets;
 #[cfg(test)]
+mod one_step;
+#[cfg(test)]
 mod peer;
 #[cfg(test)]
-mod rows;
+mod reused;
 #[cfg(test)]
-mod spent;
+mod rows;
 #[cfg(test)]
 mod texts;

@@ -3,7 +3,7 @@
 use crate::calls::station;
 use crate::peer::{Act, Row, Table, play};
 use crate::rows::{CALL, READY_DTE, SEND, UA};
-use Act::{Ask, Connect, HearRr, Idle, Stretch, T1, Take, Timer};
+use Act::{Ask, Connect, HearRr, Idle, Pull, Stretch, T1, Take, Timer};
 use std::alloc::Global;
 use std::test::Fail;
 use x25_station::{Cfg, Cmd, Role, StationError};
@@ -30,19 +30,23 @@ fn a_setting_out_of_its_range(rt: HostRuntime) {
     }
 }
 
-const NO_ANSWER: [Row; 14] = [
+const NO_ANSWER: [Row; 18] = [
     (Idle, &["not idle"]),
-    (Timer, &["T1 is off", "0"]),
+    (Timer, &["T1 is off", "off"]),
     (Stretch(1), &["-"]),
     (Ask(Cmd::Restart), &["! 9"]),
     (Ask(Cmd::Pull), &["! 9"]),
+    (Pull, &[]),
     (T1, &["! 11"]),
     (Connect, &["SABM cmd P=1"]),
-    (Timer, &["T1 runs", "0"]),
+    (Timer, &["T1 runs", "begins"]),
     (Connect, &["! 12"]),
+    (Timer, &["T1 runs", "goes on"]),
     (Ask(SEND), &["! 9"]),
     (T1, &["SABM cmd P=1"]),
+    (Timer, &["T1 runs", "begins"]),
     (T1, &["dte linkdown retries"]),
+    (Timer, &["T1 is off", "off"]),
     (T1, &["! 11"]),
     (Connect, &["SABM cmd P=1"]),
 ];
@@ -80,9 +84,9 @@ fn links_that_are_down(rt: HostRuntime) -> Result<(), Fail> {
 
 const CLOSED: [Row; 9] = [
     (Connect, &["! 15"]),
-    (Timer, &["T1 runs", "0"]),
+    (Timer, &["T1 runs", "goes on"]),
     (HearRr(1), &[]),
-    (Timer, &["T1 is off", "1"]),
+    (Timer, &["T1 is off", "off"]),
     (T1, &["! 11"]),
     (Idle, &["idle"]),
     (

@@ -126,6 +126,7 @@ fn few_octets(alloc: Global, number: u64) -> Result<Vec<u8>, Fail> {
 struct Peer {
     alloc: Global,
     station: Box<Station>,
+    out: Step,
     seen: Seen,
 }
 
@@ -140,19 +141,21 @@ impl Peer {
         Ok(Peer {
             alloc,
             station,
+            out: Step::new(alloc),
             seen,
         })
     }
 
     fn accepts(&mut self) {
-        if let Ok(step) = ask(&mut self.station, Cmd::Accept { channel: 1 }) {
-            self.seen.step(&step);
+        let command = Cmd::Accept { channel: 1 };
+        if ask(&mut self.station, command, &mut self.out).is_ok() {
+            self.seen.step(&self.out);
         }
     }
 
     fn sends(&mut self, octets: &[u8]) -> Result<(), Fail> {
-        let step = receive(&mut self.station, octets)?;
-        self.seen.step(&step);
+        receive(&mut self.station, octets, &mut self.out)?;
+        self.seen.step(&self.out);
         self.accepts();
         Ok(())
     }

@@ -1,6 +1,6 @@
 //! A station, and tables of what happens at it: the other end's frames come from the table.
 
-use crate::calls::{ask, connect, fire, receive, station};
+use crate::calls::{ask, connect, fire, pull, receive, station};
 use crate::texts::{lines, refusal_line, step_lines, stretch_line};
 use std::alloc::Global;
 use std::process::Abort;
@@ -8,7 +8,7 @@ use std::str::from_utf8;
 use std::test::Fail;
 use x25_bits::Seq;
 use x25_frame::{Frame, encode};
-use x25_station::{Cfg, Cmd, Role, Station, StationError, Step};
+use x25_station::{Cfg, Cmd, Role, Station, StationError, Step, Timer};
 use x25_transcript::Line;
 
 /// What happens at a station.
@@ -32,7 +32,9 @@ pub enum Act {
     HearRr(u8),
     /// Nothing happens. It is shown whether the station is idle, and whether it awaits UA.
     Idle,
-    /// Nothing happens. It is shown whether T1 runs, and the number of the first frame that isn't acknowledged.
+    /// What waits is pulled behind what happened last. Both are shown.
+    Pull,
+    /// Nothing happens. It is shown whether T1 runs, and what became of it at what happened last.
     Timer,
     /// Nothing happens. The name of the stretch that is open on this channel is shown.
     Stretch(u16),
@@ -59,6 +61,7 @@ struct End {
     alloc: Global,
     role: Role,
     station: Box<Station>,
+    out: Step,
 }
 
 impl End {
@@ -68,12 +71,13 @@ impl End {
             alloc,
             role,
             station,
+            out: Step::new(alloc),
         })
     }
 
-    fn shown(&self, answer: Result<Step, StationError>) -> Result<Line, Fail> {
+    fn shown(&self, answer: Result<(), StationError>) -> Result<Line, Fail> {
         match answer {
-            Ok(step) => step_lines(self.alloc, self.role, &step),
+            Ok(()) => step_lines(self.alloc, self.role, &self.out),
             Err(error) => Ok(refusal_line(self.alloc, error)?),
         }
     }
@@ -81,11 +85,15 @@ impl End {
     fn happens(&mut self, act: Act) -> Result<Line, Fail> {
         match act {
             Act::Connect => {
-                let answer = connect(&mut self.station);
+                let answer = connect(&mut self.station, &mut self.out);
                 self.shown(answer)
             }
             Act::T1 => {
-                let answer = fire(&mut self.station);
+                let answer = fire(&mut self.station, &mut self.out);
+                self.shown(answer)
+            }
+            Act::Pull => {
+                let answer = pull(&mut self.station, &mut self.out);
                 self.shown(answer)
             }
             Act::Ask(command) => self.asks(1, command),
@@ -126,19 +134,22 @@ impl End {
     }
 
     fn timer(&self) -> Result<Line, Fail> {
-        let first = self.station.acknowledged().get();
-        let number = format!(in self.alloc; "{first}")?;
+        let became = match self.out.timer {
+            Timer::Off => "off",
+            Timer::Begins => "begins",
+            Timer::GoesOn => "goes on",
+        };
         if self.station.timer_runs() {
-            return Ok(lines(self.alloc, &["T1 runs", number.as_str()])?);
+            return Ok(lines(self.alloc, &["T1 runs", became])?);
         }
-        Ok(lines(self.alloc, &["T1 is off", number.as_str()])?)
+        Ok(lines(self.alloc, &["T1 is off", became])?)
     }
 
     fn asks(&mut self, count: u16, command: Cmd<'_>) -> Result<Line, Fail> {
         for _ in 1..count {
-            let _lost = ask(&mut self.station, command)?;
+            ask(&mut self.station, command, &mut self.out)?;
         }
-        let answer = ask(&mut self.station, command);
+        let answer = ask(&mut self.station, command, &mut self.out);
         self.shown(answer)
     }
 
@@ -156,7 +167,7 @@ impl End {
 
     fn takes(&mut self, octets: &str) -> Result<Line, Fail> {
         let octets = hex::decode(self.alloc, octets)?;
-        let answer = receive(&mut self.station, octets.as_slice());
+        let answer = receive(&mut self.station, octets.as_slice(), &mut self.out);
         self.shown(answer)
     }
 
@@ -166,7 +177,7 @@ impl End {
             Role::Dce => Role::Dte,
         };
         let octets = octets_of(self.alloc, from, frame)?;
-        let answer = receive(&mut self.station, octets.as_slice());
+        let answer = receive(&mut self.station, octets.as_slice(), &mut self.out);
         self.shown(answer)
     }
 
@@ -241,7 +252,7 @@ pub fn play_at(
     Ok(())
 }
 
-/// .. of so many channels, whose calls have at most 16 octets of user data.
+/// Plays tables at stations of so many channels, whose calls have at most 16 octets of user data.
 pub fn play(
     rt: &impl Abort,
     alloc: Global,

@@ -35,14 +35,14 @@ Turns c old now next p q result turn = (s : Station) (told : List ℕ) (refused 
 
 -- a step, which is the one that the definition says
 pub record IsStep (c : Settings) (v : code.Station) (step : code_step.Step) (o : Outcome) : Type 0 where
-  pub leaves : fits.Leaves {T = code_step.Step} c v (Ok step) o
-  pub sends : fits.Sends c (Ok step) o
-  pub enters : fits.Enters (Ok step) o
-  pub accepted : fits.Refuses {T = code_step.Step} (Ok step) o
+  pub leaves : fits.Leaves {T = Unit} c v (Ok tt) o
+  pub sends : fits.Sends {T = Unit} c step (Ok tt) o
+  pub enters : fits.Enters {T = Unit} step (Ok tt) o
+  pub accepted : fits.Refuses {T = Unit} (Ok tt) o
 
 -- an error, which is the one that the definition says, or want of memory
 abbrev pub IsError : StationError → Outcome → Type 0
-IsError error o = fits.Refuses {T = code_step.Step} (Err error) o
+IsError error o = fits.Refuses {T = Unit} (Err error) o
 
 -- what is said of a step that was answered
 abbrev pub answer_told : code_step.Step → List Saying

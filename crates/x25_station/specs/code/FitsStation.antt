@@ -1,5 +1,5 @@
 -- Which states of the definition a station stands for, and what its calls answer.
-use Rattle.std.specs.Prelude.{◌≡◌, ◌≤◌, ◌⊎◌, map, vec_len, Option, Some, None, Result, Ok, Err, OnOk, OnErr, IfOk, IfErr, IsErrAnd}
+use Rattle.std.specs.Prelude.{◌≡◌, ◌+◌, ◌≤◌, ◌⊎◌, [], map, vec_len, vec_capacity, Option, Some, None, Result, Err, OnOk, OnErr, IfErr, IsErrAnd}
 use Rattle.x25_frame.specs.Spelling.{spelling_of}
 use Rattle.x25_link.specs.code.FitsLink.{ShownLink}
 use Rattle.x25_layer.specs.declared.layer.Layer as layer_code
@@ -27,40 +27,47 @@ abbrev pub Leaves : {T : Type 0} → Settings → code.Station → Result T Stat
 Leaves c v result outcome = LeavesParts c v.link v.layer result outcome
 
 -- the frames are those of the step, as the octets that spell them
-abbrev pub Sends : Settings → Result code_step.Step StationError → Outcome → Type 0
-Sends c result (Did step) = IfOk result (λ answer. map (λ frame. frame.items) answer.frames.items ≡ map (spelling_of c.role) step.out)
-Sends c result (Refused e) = Unit {0}
+abbrev pub Sends : {T : Type 0} → Settings → code_step.Step → Result T StationError → Outcome → Type 0
+Sends c out result (Did step) = OnOk result (map (λ frame. frame.items) out.frames.items ≡ map (spelling_of c.role) step.out)
+Sends c out result (Refused e) = Unit {0}
 
 -- the entries are those of the step
-abbrev pub Enters : Result code_step.Step StationError → Outcome → Type 0
-Enters result (Did step) = IfOk result (λ answer. map plain_entry answer.entries.items ≡ step.entries)
-Enters result (Refused e) = Unit {0}
+abbrev pub Enters : {T : Type 0} → code_step.Step → Result T StationError → Outcome → Type 0
+Enters out result (Did step) = OnOk result (map plain_entry out.entries.items ≡ step.entries)
+Enters out result (Refused e) = Unit {0}
 
 -- a call is refused where the definition refuses it, with its error or with 70, and else with 70 alone
 abbrev pub Refuses : {T : Type 0} → Result T StationError → Outcome → Type 0
 Refuses result (Did step) = IfErr result (λ e. e ≡ error.NoMemory)
 Refuses result (Refused e) = IsErrAnd result (λ found. (found ≡ e) ⊎ (found ≡ error.NoMemory))
 
--- .. with its error and nothing else
+-- a call is refused where the definition refuses it, with its error and nothing else
 abbrev pub RefusesExactly : {T : Type 0} → Result T StationError → Outcome → Type 0
 RefusesExactly result (Did step) = IfErr result (λ e. e ≡ error.NoMemory)
 RefusesExactly result (Refused e) = result ≡ Err e
 
+-- nothing is in it
+pub record IsEmpty (out : code_step.Step) : Type 0 where
+  pub frames : out.frames.items ≡ []
+  pub entries : out.entries.items ≡ []
+
+-- it has room for all that a call answers
+pub record HasPlaces (out : code_step.Step) : Type 0 where
+  pub frames : vec_len out.frames + 17 ≤ vec_capacity out.frames
+  pub entries : vec_len out.entries + 3 ≤ vec_capacity out.entries
+
 -- A call does what the definition says of it: of each state that the station stood for it leaves that step's, and answers its frames and
--- entries; or it is refused, and the station is as before. It answers at most so many frames and entries, whatever they are.
-pub record Does (old new : code.Station) (result : Result code_step.Step StationError) (said : Settings → Station → Outcome) : Type 0 where
+-- entries; or it is refused, the station is as before, and nothing is answered. It answers at most so many frames and entries, whatever they
+-- are.
+pub record Does (old new : code.Station) (out : code_step.Step) (result : Result Unit StationError) (said : Settings → Station → Outcome) : Type 0 where
   pub state : (c : Settings) (s : Station) → FitsStation c old s → Leaves c new result (said c s)
-  pub frames : (c : Settings) (s : Station) → FitsStation c old s → Sends c result (said c s)
-  pub entries : (c : Settings) (s : Station) → FitsStation c old s → Enters result (said c s)
+  pub frames : (c : Settings) (s : Station) → FitsStation c old s → Sends c out result (said c s)
+  pub entries : (c : Settings) (s : Station) → FitsStation c old s → Enters out result (said c s)
   pub refused : (c : Settings) (s : Station) → FitsStation c old s → Refuses result (said c s)
   pub stays : (c : Settings) (s : Station) → FitsStation c old s → OnErr result (FitsStation c new s)
-  pub few_frames : IfOk result (λ answer. vec_len answer.frames ≤ 17)
-  pub few_entries : IfOk result (λ answer. vec_len answer.entries ≤ 3)
-
--- What a call answers whose frames and entries come into lists that its caller keeps, and that are empty before: these lists, or its refusal.
-abbrev pub answered : {T : Type 0} → code_step.Step → Result T StationError → Result code_step.Step StationError
-answered lists (Ok u) = Ok lists
-answered lists (Err e) = Err e
+  pub empty : OnErr result (IsEmpty out)
+  pub few_frames : vec_len out.frames ≤ 17
+  pub few_entries : vec_len out.entries ≤ 3
 
 -- a call that makes a station is refused with this, or else with 70 alone
 abbrev pub RefusesWith : {T : Type 0} → Result T StationError → Option StationError → Type 0

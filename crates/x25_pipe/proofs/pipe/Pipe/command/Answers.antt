@@ -1,10 +1,11 @@
-use Rattle.std.proofs.Common.{refl, subst}
+use Rattle.std.proofs.Common.{subst}
 use Rattle.std.proofs.lemmas.Result.{err_from_is_err_and}
 use Rattle.x25_station.specs.Command.{command_of}
 use Rattle.x25_station.specs.laws.TimerLaw.{Asks, outcome}
 use Rattle.x25_io.proofs.ToldLemmas.{told_more}
 use Rattle.x25_pipe.specs.Pipe.{event_turn}
 use Rattle.x25_pipe.specs.code.Stands.{Stood}
+use Rattle.x25_pipe.proofs.StandLemmas.{is_step_of}
 use Rattle.x25_pipe.proofs.pipe.Pipe.command.Goals as goal
 
 pub returns-in_err-count-clause-turns : goal.returns-in_err-count-clause-turns
@@ -15,16 +16,14 @@ returns-in_err-count-clause-turns g c = λ k old s told refused h.
 pub returns-in-Ok-clause-turns : goal.returns-in-Ok-clause-turns
 unfolding event_turn
 returns-in-Ok-clause-turns g c = λ k old s told refused h.
-    let came = c.in-Ok.ensures in
-    let event = Asks (command_of c.station_command.result) in
-    subst (λ asked. Stood k old (g.W.Sink.contents c.follow_up.new.writer) c.follow_up.new.self told refused c.follow_up.result (event_turn k s (Asks asked))) c.station_command.ensures
-    (c.follow_up.ensures.stood k old s event (outcome k s event) told refused (c.of-before.ensures k s h.fits) refl
-    (record { leaves = came.state k s h.fits; sends = came.frames k s h.fits; enters = came.entries k s h.fits; accepted = came.refused k s h.fits }) h.role h.tells h.status)
+    let event = Asks (command_of c.station_command-asked.result) in
+    subst (λ asked. Stood k old (g.W.Sink.contents c.follow_up.new.writer) c.follow_up.new.self told refused c.follow_up.result (event_turn k s (Asks asked))) c.station_command-asked.ensures
+    (c.follow_up.ensures.stood k old s event (outcome k s event) told refused (is_step_of c.in-Ok.field-0 _ _ c.command.new.out _ k s c.in-Ok.ensures.does h.fits) (c.in-Ok.ensures.timer k s h.fits) h.role h.tells h.status)
 
 pub returns-in-Err-clause-turns : goal.returns-in-Err-clause-turns
 unfolding event_turn
 returns-in-Err-clause-turns g c = λ k old s told refused h.
-    let event = Asks (command_of c.station_command.result) in
-    subst (λ asked. Stood k old (g.W.Sink.contents c.refuse.new.writer) c.refuse.new.self told refused c.refuse.result (event_turn k s (Asks asked))) c.station_command.ensures
+    let event = Asks (command_of c.station_command-asked.result) in
+    subst (λ asked. Stood k old (g.W.Sink.contents c.refuse.new.writer) c.refuse.new.self told refused c.refuse.result (event_turn k s (Asks asked))) c.station_command-asked.ensures
     (c.refuse.ensures.stood k old s event (outcome k s event) told refused
-    (record { fits = c.in-Err.ensures.stays k s h.fits; role = h.role; tells = h.tells; status = h.status }) (c.in-Err.ensures.refused k s h.fits))
+    (record { fits = c.in-Err.ensures.does.stays k s h.fits; role = h.role; tells = h.tells; status = h.status }) (c.in-Err.ensures.does.refused k s h.fits))

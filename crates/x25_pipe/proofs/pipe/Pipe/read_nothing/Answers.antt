@@ -1,6 +1,7 @@
 use Rattle.std.proofs.Common.{◌∷◌, [], refl}
 use Rattle.std.proofs.lemmas.Result.{err_from_is_err_and, MatchResult-weaker}
-use Rattle.x25_pipe.specs.Pipe.{mark_turn, reads_nothing, said, standing}
+use Rattle.x25_station.specs.Timer.{standing}
+use Rattle.x25_pipe.specs.Pipe.{mark_turn, reads_nothing, said}
 use Rattle.x25_pipe.proofs.StandLemmas.{begins_before, begins_behind, begins_told, nothing_said, stands_behind, stands_refused}
 use Rattle.x25_pipe.proofs.pipe.Pipe.read_nothing.Goals as goal
 

@@ -1,15 +1,14 @@
-use Rattle.std.proofs.Common.{refl, take}
+use Rattle.std.proofs.Common.{take}
 use Rattle.x25_station.specs.laws.TimerLaw.{Comes, outcome}
 use Rattle.x25_pipe.specs.Pipe.{event_turn}
+use Rattle.x25_pipe.proofs.StandLemmas.{is_step_of}
 use Rattle.x25_pipe.proofs.pipe.Pipe.receive.Goals as goal
 
 pub returns-in-Ok-clause-turns : goal.returns-in-Ok-clause-turns
 unfolding event_turn
 returns-in-Ok-clause-turns g c = λ k old s told refused h.
-    let came = c.in-Ok.ensures.does in
     let event = Comes (take c.args.count c.args.self.now.octets) in
-    c.follow_up.ensures.stood k old s event (outcome k s event) told refused (c.of-before.ensures k s h.fits) refl
-    (record { leaves = came.state k s h.fits; sends = came.frames k s h.fits; enters = came.entries k s h.fits; accepted = tt }) h.role h.tells h.status
+    c.follow_up.ensures.stood k old s event (outcome k s event) told refused (is_step_of c.in-Ok.field-0 _ _ c.receive.new.out _ k s c.in-Ok.ensures.does h.fits) (c.in-Ok.ensures.timer k s h.fits) h.role h.tells h.status
 
 pub returns-in-Err-clause-turns : goal.returns-in-Err-clause-turns
 unfolding event_turn

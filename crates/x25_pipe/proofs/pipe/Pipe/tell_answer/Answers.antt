@@ -11,7 +11,7 @@ pub returns-in_err-tell_entries-clause-tells : goal.returns-in_err-tell_entries-
 returns-in_err-tell_entries-clause-tells g c = λ old told h.
     let p = err_from_is_err_and c.from_residual.result c.from_residual.ensures.1 in
     let end = c.args.self.now.end in
-    let step = c.args.step.now in
+    let step = c.args.self.now.step in
     rw p.1 (part_of_all old _ told _ _ _ (text-append end (map enters (map plain_entry step.entries.items)) (map sends (map (λ frame. frame.items) step.frames.items)))
     (subst (λ entries. AppendsPrefix old (g.W.Sink.contents c.tell_entries.new.writer) (told ++ sayings_text end (map enters (map plain_entry entries)))) c.as_slice-entries.ensures.value
     (c.in_err-tell_entries.ensures.tells old told h)))
@@ -19,7 +19,7 @@ returns-in_err-tell_entries-clause-tells g c = λ old told h.
 pub returns-clause-tells : goal.returns-clause-tells
 returns-clause-tells g c = λ old told h.
     let end = c.args.self.now.end in
-    let step = c.args.step.now in
+    let step = c.args.self.now.step in
     let both =
     ap (λ entries. (told ++ sayings_text end (map enters (map plain_entry entries))) ++ sayings_text end (map sends (map (λ frame. frame.items) c.as_slice-frames.result.now))) c.as_slice-entries.ensures.value
     ∙ ap (λ frames. (told ++ sayings_text end (map enters (map plain_entry step.entries.items))) ++ sayings_text end (map sends (map (λ frame. frame.items) frames))) c.as_slice-frames.ensures.value

@@ -55,13 +55,14 @@ returns-clause-does c = record {
       let k : LinkStep = abandon_step (link_settings c') s.link in
       let answer = c.abandon-step.ensures.answer (link_settings c') s.link fits.link in
       entries_noted_down s.layer k [] _ _ (receives c' s c.args.octets.now) (gives_up c' s c.args.octets.now (c.requires.full c' s fits)) (ap (λ n. n.down) answer.notes)
-      (c.note_down.ensures.entries ∙ ap (λ es. map plain_entry es ++ entries_down c.abandon-step.result.notes.down) (c.reserve.ensures.items ∙ c.requires.entries));
+      (c.note_down.ensures.entries ∙ ap (λ es. map plain_entry es ++ entries_down c.abandon-step.result.notes.down) (c.reserve.ensures.items ∙ c.requires.empty.entries));
   refused = λ c' s fits. tt;
   stays = λ c' s fits. tt;
+  empty = tt;
   few_frames = let few : length c.abandon-step.result.frames.items ≤ 9 = least_by_meaning _ _ (length c.abandon-step.result.frames.items) 9 c.args.self.now.meant (λ c' s fits.
       let lk = link_settings c' in
       few_frames c'.role c.abandon-step.result.frames.items (λ frame. frame.items) (abandon_step lk s.link).side.out 9 (c.abandon-step.ensures.answer lk s.link fits.link).frames
       (abandon_few lk s.link (c.holds_few.ensures.window lk c.args.self.now.link s.link fits.link))) in
       subst (λ made. vec_len made ≤ 17) (sym c.exchange.ensures.frames) (grind (arith, few, c.abandon-step.result.frames.ok));
-  few_entries = grind (arith, c.note_down.ensures.length, c.reserve.ensures.len, c.requires.entries, c.args.entries.now.ok);
+  few_entries = grind (arith, c.note_down.ensures.length, c.reserve.ensures.len, ap length c.requires.empty.entries, c.args.out.now.entries.ok);
 }

@@ -1,4 +1,4 @@
-use Rattle.std.proofs.Common.{arith, [], ◌∷◌, ◌++◌, ap, ◌∙◌, map, ◌≡◌}
+use Rattle.std.proofs.Common.{arith, [], ◌∷◌, ◌++◌, ap, ◌∙◌, length, map, ◌≡◌}
 use Rattle.x25_circuit.specs.Request.{plain_request}
 use Rattle.x25_layer.specs.Calls.{Asks}
 use Rattle.x25_layer.specs.laws.Transcript.{Asked, name_of}
@@ -18,16 +18,16 @@ use Rattle.x25_station.proofs.station.Station.ask_as.Goals as goal
 pub sent_into-requires : goal.sent_into-requires
 sent_into-requires c =
     let few = made_few c.in-Ok.field-0 _ c.ask.new.link _ (Asks c.args.channel (plain_request c.args.request)) c.args.self.now.meant c.in-Ok.ensures.link c.holds_few.ensures.window c.holds_few.ensures.stand in
-    grind (arith, few, c.in_ok-make_room.ensures.frames_room)
+    grind (arith, few, c.in_ok-make_room.ensures.places.frames)
 
 pub invariant_of-self : goal.invariant_of-self
 invariant_of-self c = record {
   meant = still_meant _ _ _ _ c.args.self.now.meant (λ c' s fits.
       let request = Asks c.args.channel (plain_request c.args.request) in
-      let a = answers c.in-Ok.field-0 c' _ c.ask.new.link c.sent_into.new.self _ c.ask.new.self (record { frames = c.sent_into.new.frames; entries = c.enter.new.entries }) s request fits
-      c.in-Ok.ensures.layer c.in-Ok.ensures.link c.sent_into.ensures.station (ap (λ o. o.made) c.sent_into.ensures.outbox) (c.sent_into.ensures.frames ∙ ap (λ frames. map (λ frame. frame.items) frames ++ c.ask.new.link.outbox.made) (c.make_room.ensures.frames ∙ c.requires.frames))
+      let a = answers c.in-Ok.field-0 c' _ c.ask.new.link c.sent_into.new.self _ c.ask.new.self (record { frames = c.sent_into.new.frames; entries = c.enter.new.entries; timer = c.make_room.new.self.timer }) s request fits
+      c.in-Ok.ensures.layer c.in-Ok.ensures.link c.sent_into.ensures.station (ap (λ o. o.made) c.sent_into.ensures.outbox) (c.sent_into.ensures.frames ∙ ap (λ frames. map (λ frame. frame.items) frames ++ c.ask.new.link.outbox.made) c.make_room.ensures.empty.frames)
       (c.steps_keep_bounds.ensures.command c' s (Requests request) fits.kept) in
-      leaves_some c' _ _ (record { frames = c.sent_into.new.frames; entries = c.enter.new.entries }) (requests c' s request) a.state a.refused);
+      leaves_some c' _ _ (requests c' s request) a.state a.refused);
   aside =
       let before = c.args.self.now.aside in
       let packets = c.in-Ok.ensures.most_memory in
@@ -49,19 +49,19 @@ invariant_of-self-in-Err-1 c = record {
       record { packets = omega (arith, packets, low); spares = omega (arith, spares, few); texts = before.texts };
 }
 
-pub returns-in-Ok-clause-does : goal.returns-in-Ok-clause-does
-returns-in-Ok-clause-does c =
+pub returns-in-Ok : goal.returns-in-Ok
+returns-in-Ok c =
     let request = Asks c.args.channel (plain_request c.args.request) in
-    let r : code_step.Step = record { frames = c.sent_into.new.frames; entries = c.enter.new.entries } in
-    did_request c.in-Ok.field-0 c.args.self.now _ c.ask.new.link r request c.in-Ok.ensures.layer c.in-Ok.ensures.link c.sent_into.ensures.station (ap (λ o. o.made) c.sent_into.ensures.outbox) (c.sent_into.ensures.frames ∙ ap (λ frames. map (λ frame. frame.items) frames ++ c.ask.new.link.outbox.made) (c.make_room.ensures.frames ∙ c.requires.frames))
+    let r : code_step.Step = record { frames = c.sent_into.new.frames; entries = c.enter.new.entries; timer = c.make_room.new.self.timer } in
+    did_request c.in-Ok.field-0 c.args.self.now _ c.ask.new.link r request c.in-Ok.ensures.layer c.in-Ok.ensures.link c.sent_into.ensures.station (ap (λ o. o.made) c.sent_into.ensures.outbox) (c.sent_into.ensures.frames ∙ ap (λ frames. map (λ frame. frame.items) frames ++ c.ask.new.link.outbox.made) c.make_room.ensures.empty.frames)
     c.steps_keep_bounds.ensures.command c.holds_few.ensures.window c.holds_few.ensures.stand
     (λ c' s fits.
     let h = c.args.channel in
     asked_enters c.in-Ok.field-0 c' _ _ c.ask.new.self s r h (plain_request c.args.request) fits c.in-Ok.ensures.layer (λ k after configured.
     c.enter.ensures.entered (layer_settings c') k after configured
-    ∙ ap (λ es. map plain_entry es ++ of_channel (record { channel = h; name = name_of k h; said = plain_said (said.Asked c.as_shown-asked.result) }) ∷ []) (c.make_room.ensures.entries ∙ c.requires.entries)
+    ∙ ap (λ es. map plain_entry es ++ of_channel (record { channel = h; name = name_of k h; said = plain_said (said.Asked c.as_shown-asked.result) }) ∷ []) c.make_room.ensures.empty.entries
     ∙ ap (λ q. of_channel (record { channel = h; name = name_of k h; said = Asked q }) ∷ []) (c.as_shown-asked.ensures (layer_settings c') k after configured ∙ c.requires.shown (k.circuits h))))
-    (grind (arith, c.enter.ensures.length, c.make_room.ensures.entries, c.requires.entries, c.make_room.new.entries.ok))
+    (grind (arith, c.enter.ensures.length, ap length c.make_room.ensures.empty.entries, c.make_room.new.self.entries.ok))
 
-pub returns-in-Err-clause-does : goal.returns-in-Err-clause-does
-returns-in-Err-clause-does c = declines_request _ c.in-Err.error _ c.args.self.now _ (Asks c.args.channel (plain_request c.args.request)) c.of_layer.ensures c.in-Err.ensures.layer c.in-Err.ensures.layer_stays c.in-Err.ensures.link_stays
+pub returns-in-Err : goal.returns-in-Err
+returns-in-Err c = declines_request _ c.in-Err.error _ c.args.self.now _ _ (Asks c.args.channel (plain_request c.args.request)) c.of_layer.ensures c.in-Err.ensures.layer c.in-Err.ensures.layer_stays c.in-Err.ensures.link_stays c.make_room.ensures.empty

@@ -1,4 +1,4 @@
-use Rattle.std.proofs.Common.{arith, [], ◌∷◌, ◌++◌, ap, ◌∙◌, map, ◌≡◌}
+use Rattle.std.proofs.Common.{arith, [], ◌∷◌, ◌++◌, ap, ◌∙◌, length, map, ◌≡◌}
 use Rattle.x25_layer.specs.Calls.{Dials}
 use Rattle.x25_layer.specs.laws.Transcript.{Asked, name_of}
 use Rattle.x25_station.specs.declared.entry.Said.TheVariants as said
@@ -17,16 +17,16 @@ use Rattle.x25_station.proofs.station.Station.call.Goals as goal
 pub sent_into-requires : goal.sent_into-requires
 sent_into-requires c =
     let few = made_few c.in-Ok.channel _ c.call_with.new.link _ (Dials c.args.called.now c.args.calling.now c.args.user.now c.args.params) c.args.self.now.meant c.in-Ok.ensures.does.link c.holds_few.ensures.window c.holds_few.ensures.stand in
-    grind (arith, few, c.in_ok-make_room.ensures.frames_room)
+    grind (arith, few, c.in_ok-make_room.ensures.places.frames)
 
 pub invariant_of-self : goal.invariant_of-self
 invariant_of-self c = record {
   meant = still_meant _ _ _ _ c.args.self.now.meant (λ c' s fits.
       let request = Dials c.args.called.now c.args.calling.now c.args.user.now c.args.params in
-      let a = answers c.in-Ok.channel c' _ c.call_with.new.link c.sent_into.new.self _ c.call_with.new.self (record { frames = c.sent_into.new.frames; entries = c.enter.new.entries }) s request fits
-      c.in-Ok.ensures.does.layer c.in-Ok.ensures.does.link c.sent_into.ensures.station (ap (λ o. o.made) c.sent_into.ensures.outbox) (c.sent_into.ensures.frames ∙ ap (λ frames. map (λ frame. frame.items) frames ++ c.call_with.new.link.outbox.made) (c.make_room.ensures.frames ∙ c.requires.frames))
+      let a = answers c.in-Ok.channel c' _ c.call_with.new.link c.sent_into.new.self _ c.call_with.new.self (record { frames = c.sent_into.new.frames; entries = c.enter.new.entries; timer = c.make_room.new.self.timer }) s request fits
+      c.in-Ok.ensures.does.layer c.in-Ok.ensures.does.link c.sent_into.ensures.station (ap (λ o. o.made) c.sent_into.ensures.outbox) (c.sent_into.ensures.frames ∙ ap (λ frames. map (λ frame. frame.items) frames ++ c.call_with.new.link.outbox.made) c.make_room.ensures.empty.frames)
       (c.steps_keep_bounds.ensures.command c' s (Requests request) fits.kept) in
-      leaves_some c' _ _ (record { frames = c.sent_into.new.frames; entries = c.enter.new.entries }) (requests c' s request) a.state a.refused);
+      leaves_some c' _ _ (requests c' s request) a.state a.refused);
   aside =
       let before = c.args.self.now.aside in
       let packets = c.in-Ok.ensures.does.most_memory in
@@ -48,19 +48,19 @@ invariant_of-self-in-Err-1 c = record {
       record { packets = omega (arith, packets, low); spares = omega (arith, spares, few); texts = before.texts };
 }
 
-pub returns-in-Ok-clause-does : goal.returns-in-Ok-clause-does
-returns-in-Ok-clause-does c =
+pub returns-in-Ok : goal.returns-in-Ok
+returns-in-Ok c =
     let request = Dials c.args.called.now c.args.calling.now c.args.user.now c.args.params in
-    let r : code_step.Step = record { frames = c.sent_into.new.frames; entries = c.enter.new.entries } in
-    did_request c.in-Ok.channel c.args.self.now _ c.call_with.new.link r request c.in-Ok.ensures.does.layer c.in-Ok.ensures.does.link c.sent_into.ensures.station (ap (λ o. o.made) c.sent_into.ensures.outbox) (c.sent_into.ensures.frames ∙ ap (λ frames. map (λ frame. frame.items) frames ++ c.call_with.new.link.outbox.made) (c.make_room.ensures.frames ∙ c.requires.frames))
+    let r : code_step.Step = record { frames = c.sent_into.new.frames; entries = c.enter.new.entries; timer = c.make_room.new.self.timer } in
+    did_request c.in-Ok.channel c.args.self.now _ c.call_with.new.link r request c.in-Ok.ensures.does.layer c.in-Ok.ensures.does.link c.sent_into.ensures.station (ap (λ o. o.made) c.sent_into.ensures.outbox) (c.sent_into.ensures.frames ∙ ap (λ frames. map (λ frame. frame.items) frames ++ c.call_with.new.link.outbox.made) c.make_room.ensures.empty.frames)
     c.steps_keep_bounds.ensures.command c.holds_few.ensures.window c.holds_few.ensures.stand
     (λ c' s fits.
     let h = c.in-Ok.channel in
     dialled_enters c' _ _ c.call_with.new.self s r h c.args.called.now c.args.calling.now c.args.user.now c.args.params fits c.in-Ok.ensures.does.layer (c.in-Ok.ensures.channel (layer_settings c') s.layer fits.layer) (λ k after configured.
     c.enter.ensures.entered (layer_settings c') k after configured
-    ∙ ap (λ es. map plain_entry es ++ of_channel (record { channel = h; name = name_of k h; said = plain_said (said.Asked c.in_ok-asked.asked) }) ∷ []) (c.make_room.ensures.entries ∙ c.requires.entries)
+    ∙ ap (λ es. map plain_entry es ++ of_channel (record { channel = h; name = name_of k h; said = plain_said (said.Asked c.in_ok-asked.asked) }) ∷ []) c.make_room.ensures.empty.entries
     ∙ ap (λ q. of_channel (record { channel = h; name = name_of k h; said = Asked q }) ∷ []) c.in_ok-asked.ensures.ok))
-    (grind (arith, c.enter.ensures.length, c.make_room.ensures.entries, c.requires.entries, c.make_room.new.entries.ok))
+    (grind (arith, c.enter.ensures.length, ap length c.make_room.ensures.empty.entries, c.make_room.new.self.entries.ok))
 
-pub returns-in-Err-clause-does : goal.returns-in-Err-clause-does
-returns-in-Err-clause-does c = declines_request _ c.in-Err.error _ c.args.self.now _ (Dials c.args.called.now c.args.calling.now c.args.user.now c.args.params) c.of_layer.ensures c.in-Err.ensures.does.layer c.in-Err.ensures.does.layer_stays c.in-Err.ensures.does.link_stays
+pub returns-in-Err : goal.returns-in-Err
+returns-in-Err c = declines_request _ c.in-Err.error _ c.args.self.now _ _ (Dials c.args.called.now c.args.calling.now c.args.user.now c.args.params) c.of_layer.ensures c.in-Err.ensures.does.layer c.in-Err.ensures.does.layer_stays c.in-Err.ensures.does.link_stays c.make_room.ensures.empty

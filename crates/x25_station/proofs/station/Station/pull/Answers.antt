@@ -1,61 +1,10 @@
-use Rattle.std.proofs.Common.{arith, ap, map, ◌≡◌}
-use Rattle.x25_layer.specs.Calls.{PullsAll}
-use Rattle.x25_station.specs.declared.step.Step as code_step
-use Rattle.x25_station.specs.Command.{Requests}
-use Rattle.x25_station.specs.code.PlainEntry.{plain_entry}
-use Rattle.x25_station.specs.Config.{layer_settings}
-use Rattle.x25_station.specs.Step.{requests}
-use Rattle.x25_station.proofs.OutcomeLemmas.{leaves_some, still_meant}
-use Rattle.x25_station.proofs.AskLemmas.{answers, goes_exactly, refuses_exactly, still_fits}
-use Rattle.x25_station.proofs.DoesLemmas.{did_request, declines_request}
-use Rattle.x25_station.proofs.EnteredLemmas.{pull_enters}
+use Rattle.std.proofs.Common.{◌∙◌, ap}
+use Rattle.x25_station.specs.Pulling.{pulled}
+use Rattle.x25_station.specs.Timer.{pulled_timer, runs}
 use Rattle.x25_station.proofs.station.Station.pull.Goals as goal
 
-pub invariant_of-self : goal.invariant_of-self
-invariant_of-self c = record {
-  meant = still_meant _ _ _ _ c.args.self.now.meant (λ c' s fits.
-      let request = PullsAll in
-      let a = answers c.in-Ok.field-0 c' _ c.pull.new.link c.sent-frames.new.self _ c.pull.new.self (record { frames = c.sent-frames.result; entries = c.new-entries.result }) s request fits
-      c.in-Ok.ensures.layer c.in-Ok.ensures.link c.sent-frames.ensures.station (ap (λ o. o.made) c.sent-frames.ensures.outbox) c.sent-frames.ensures.frames
-      (c.steps_keep_bounds.ensures.command c' s (Requests request) fits.kept) in
-      leaves_some c' _ _ (record { frames = c.sent-frames.result; entries = c.new-entries.result }) (requests c' s request) a.state a.refused);
-  aside =
-      let before = c.args.self.now.aside in
-      let packets = c.in-Ok.ensures.most_memory in
-      let low = before.packets in
-      let spares : c.sent-frames.new.self.outbox.long ≡ 0 = ap (λ o. o.long) c.sent-frames.ensures.outbox in
-      record { packets = omega (arith, packets, low); spares = omega (arith, spares); texts = before.texts };
-}
-
-pub invariant_of-self-in-Err-1 : goal.invariant_of-self-in-Err-1
-invariant_of-self-in-Err-1 c = record {
-  meant = still_meant _ _ _ _ c.args.self.now.meant (λ c' s fits.
-      (c', s, still_fits c' c.args.self.now.link c.pull.new.link _ c.pull.new.self s fits (c.in-Err.ensures.layer_stays (layer_settings c') s.layer fits.layer) c.in-Err.ensures.link_stays));
-  aside =
-      let before = c.args.self.now.aside in
-      let packets = c.in-Err.ensures.most_memory in
-      let spares = c.in-Err.ensures.most_spares in
-      let low = before.packets in
-      let few = before.spares in
-      record { packets = omega (arith, packets, low); spares = omega (arith, spares, few); texts = before.texts };
-}
-
-pub returns-in-Ok-clause-does : goal.returns-in-Ok-clause-does
-returns-in-Ok-clause-does c =
-    let request = PullsAll in
-    let r : code_step.Step = record { frames = c.sent-frames.result; entries = c.new-entries.result } in
-    did_request c.in-Ok.field-0 c.args.self.now _ c.pull.new.link r request c.in-Ok.ensures.layer c.in-Ok.ensures.link c.sent-frames.ensures.station (ap (λ o. o.made) c.sent-frames.ensures.outbox) c.sent-frames.ensures.frames
-    c.steps_keep_bounds.ensures.command c.holds_few.ensures.window c.holds_few.ensures.stand
-    (λ c' s fits.
-    pull_enters c' s r (ap (λ es. map plain_entry es) c.new-entries.ensures.items))
-    (grind (arith, c.new-entries.ensures.len))
-
-pub returns-in-Err-clause-does : goal.returns-in-Err-clause-does
-returns-in-Err-clause-does c = declines_request _ c.in-Err.error _ c.args.self.now _ (PullsAll) c.of_layer.ensures c.in-Err.ensures.layer c.in-Err.ensures.layer_stays c.in-Err.ensures.link_stays
-
-pub returns-in-Ok-clause-exactly : goal.returns-in-Ok-clause-exactly
-returns-in-Ok-clause-exactly c = λ c' s fits.
-    goes_exactly (record { frames = c.sent-frames.result; entries = c.new-entries.result }) (requests c' s PullsAll) ((returns-in-Ok-clause-does c).refused c' s fits)
-
-pub returns-in-Err-clause-exactly : goal.returns-in-Err-clause-exactly
-returns-in-Err-clause-exactly c = λ c' s fits. refuses_exactly _ code_step.Step c.in-Err.error _ c' _ _ c.pull.new.self s PullsAll fits c.of_layer.ensures c.in-Err.ensures.layer
+pub returns-in-Ok-clause-timer : goal.returns-in-Ok-clause-timer
+returns-in-Ok-clause-timer c = λ c' s fits.
+    c.pulled-out.ensures
+    ∙ ap (λ b. pulled_timer c.args.out.now.timer b c.clock.result.runs) (c.clock-before.ensures c' s fits).0
+    ∙ ap (λ b. pulled_timer c.args.out.now.timer (runs s) b) (c.clock.ensures c' (pulled c' s).near (c.in-Ok.ensures.pulls.state c' s fits)).0

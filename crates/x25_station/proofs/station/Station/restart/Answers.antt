@@ -1,4 +1,4 @@
-use Rattle.std.proofs.Common.{arith, [], ◌∷◌, ◌++◌, ap, ◌∙◌, map, ◌≡◌}
+use Rattle.std.proofs.Common.{arith, [], ◌∷◌, ◌++◌, ap, ◌∙◌, length, map, ◌≡◌}
 use Rattle.x25_layer.specs.Calls.{Restarts}
 use Rattle.x25_station.specs.declared.entry.Entry.TheVariants.{RestartAsked}
 use Rattle.x25_station.specs.declared.step.Step as code_step
@@ -15,16 +15,16 @@ use Rattle.x25_station.proofs.station.Station.restart.Goals as goal
 pub sent_into-requires : goal.sent_into-requires
 sent_into-requires c =
     let few = made_few c.in-Ok.field-0 _ c.restart.new.link _ Restarts c.args.self.now.meant c.in-Ok.ensures.link c.holds_few.ensures.window c.holds_few.ensures.stand in
-    grind (arith, few, c.in_ok-make_room.ensures.frames_room)
+    grind (arith, few, c.in_ok-make_room.ensures.places.frames)
 
 pub invariant_of-self : goal.invariant_of-self
 invariant_of-self c = record {
   meant = still_meant _ _ _ _ c.args.self.now.meant (λ c' s fits.
       let request = Restarts in
-      let a = answers c.in-Ok.field-0 c' _ c.restart.new.link c.sent_into.new.self _ c.restart.new.self (record { frames = c.sent_into.new.frames; entries = c.push_reserved.new.self }) s request fits
-      c.in-Ok.ensures.layer c.in-Ok.ensures.link c.sent_into.ensures.station (ap (λ o. o.made) c.sent_into.ensures.outbox) (c.sent_into.ensures.frames ∙ ap (λ frames. map (λ frame. frame.items) frames ++ c.restart.new.link.outbox.made) (c.make_room.ensures.frames ∙ c.requires.frames))
+      let a = answers c.in-Ok.field-0 c' _ c.restart.new.link c.sent_into.new.self _ c.restart.new.self (record { frames = c.sent_into.new.frames; entries = c.push_reserved.new.self; timer = c.make_room.new.self.timer }) s request fits
+      c.in-Ok.ensures.layer c.in-Ok.ensures.link c.sent_into.ensures.station (ap (λ o. o.made) c.sent_into.ensures.outbox) (c.sent_into.ensures.frames ∙ ap (λ frames. map (λ frame. frame.items) frames ++ c.restart.new.link.outbox.made) c.make_room.ensures.empty.frames)
       (c.steps_keep_bounds.ensures.command c' s (Requests request) fits.kept) in
-      leaves_some c' _ _ (record { frames = c.sent_into.new.frames; entries = c.push_reserved.new.self }) (requests c' s request) a.state a.refused);
+      leaves_some c' _ _ (requests c' s request) a.state a.refused);
   aside =
       let before = c.args.self.now.aside in
       let packets = c.in-Ok.ensures.most_memory in
@@ -46,15 +46,15 @@ invariant_of-self-in-Err-1 c = record {
       record { packets = omega (arith, packets, low); spares = omega (arith, spares, few); texts = before.texts };
 }
 
-pub returns-in-Ok-clause-does : goal.returns-in-Ok-clause-does
-returns-in-Ok-clause-does c =
+pub returns-in-Ok : goal.returns-in-Ok
+returns-in-Ok c =
     let request = Restarts in
-    let r : code_step.Step = record { frames = c.sent_into.new.frames; entries = c.push_reserved.new.self } in
-    did_request c.in-Ok.field-0 c.args.self.now _ c.restart.new.link r request c.in-Ok.ensures.layer c.in-Ok.ensures.link c.sent_into.ensures.station (ap (λ o. o.made) c.sent_into.ensures.outbox) (c.sent_into.ensures.frames ∙ ap (λ frames. map (λ frame. frame.items) frames ++ c.restart.new.link.outbox.made) (c.make_room.ensures.frames ∙ c.requires.frames))
+    let r : code_step.Step = record { frames = c.sent_into.new.frames; entries = c.push_reserved.new.self; timer = c.make_room.new.self.timer } in
+    did_request c.in-Ok.field-0 c.args.self.now _ c.restart.new.link r request c.in-Ok.ensures.layer c.in-Ok.ensures.link c.sent_into.ensures.station (ap (λ o. o.made) c.sent_into.ensures.outbox) (c.sent_into.ensures.frames ∙ ap (λ frames. map (λ frame. frame.items) frames ++ c.restart.new.link.outbox.made) c.make_room.ensures.empty.frames)
     c.steps_keep_bounds.ensures.command c.holds_few.ensures.window c.holds_few.ensures.stand
     (λ c' s fits.
-    restart_enters c' s r (ap (λ es. map plain_entry es) (c.push_reserved.ensures.items ∙ ap (λ es. es ++ RestartAsked ∷ []) (c.make_room.ensures.entries ∙ c.requires.entries))))
-    (grind (arith, c.push_reserved.ensures.len, c.make_room.ensures.entries, c.requires.entries, c.make_room.new.entries.ok))
+    restart_enters c' s r (ap (λ es. map plain_entry es) (c.push_reserved.ensures.items ∙ ap (λ es. es ++ RestartAsked ∷ []) c.make_room.ensures.empty.entries)))
+    (grind (arith, c.push_reserved.ensures.len, ap length c.make_room.ensures.empty.entries, c.make_room.new.self.entries.ok))
 
-pub returns-in-Err-clause-does : goal.returns-in-Err-clause-does
-returns-in-Err-clause-does c = declines_request _ c.in-Err.error _ c.args.self.now _ (Restarts) c.of_layer.ensures c.in-Err.ensures.layer c.in-Err.ensures.layer_stays c.in-Err.ensures.link_stays
+pub returns-in-Err : goal.returns-in-Err
+returns-in-Err c = declines_request _ c.in-Err.error _ c.args.self.now _ _ Restarts c.of_layer.ensures c.in-Err.ensures.layer c.in-Err.ensures.layer_stays c.in-Err.ensures.link_stays c.make_room.ensures.empty

@@ -20,20 +20,20 @@ use Rattle.x25_station.proofs.TakeLemmas.{handed_short, up_can_put, handed_can_p
 use Rattle.x25_station.proofs.TookLemmas.{put_behind, took_fits, took_sends, took_enters}
 use Rattle.x25_station.proofs.station.Station.take.Goals as goal
 
-pub take_checked_into-requires-clause-meant : goal.take_checked_into-requires-clause-meant
-take_checked_into-requires-clause-meant c = link_meant _ _ c.set_aside.new.self.meant
+pub take_into-requires-clause-meant : goal.take_into-requires-clause-meant
+take_into-requires-clause-meant c = link_meant _ _ c.set_aside.new.self.meant
 
 pub follow-requires-clause-up : goal.follow-requires-clause-up
-follow-requires-clause-up c = λ is. put_by_meaning _ c.take_checked_into.new.self _ c.args.self.now.meant (λ c' s fits.
+follow-requires-clause-up c = λ is. put_by_meaning _ c.take_into.new.self _ c.args.self.now.meant (λ c' s fits.
     let lk = link_settings c' in
     let before = (c.in_ok-set_aside.ensures.fits c' s fits).link in
-    up_can_put c.notes_what_changes.ensures.take c' c.take_checked_into.new.self c.args.octets.now s.link (c.in-Ok.ensures.does.state lk s.link before) (sym (ap (λ (n : Notes). n.up) (c.in-Ok.ensures.does.notes lk s.link before)) ∙ is))
+    up_can_put c.notes_what_changes.ensures.take c' c.take_into.new.self c.args.octets.now s.link (c.in-Ok.ensures.does.state lk s.link before) (sym (ap (λ (n : Notes). n.up) (c.in-Ok.ensures.does.notes lk s.link before)) ∙ is))
 
 pub follow-requires-clause-put : goal.follow-requires-clause-put
-follow-requires-clause-put c = if_some c.in-Ok.heard.packet (λ x. CanPut c.take_checked_into.new.self) (λ p is. put_by_meaning _ c.take_checked_into.new.self _ c.args.self.now.meant (λ c' s fits.
+follow-requires-clause-put c = if_some c.in-Ok.heard.packet (λ x. CanPut c.take_into.new.self) (λ p is. put_by_meaning _ c.take_into.new.self _ c.args.self.now.meant (λ c' s fits.
     let lk = link_settings c' in
     let before = (c.in_ok-set_aside.ensures.fits c' s fits).link in
-    handed_can_put c.notes_what_changes.ensures.take c.notes_what_changes.ensures.take_hands_up c' c.take_checked_into.new.self c.args.octets.now s.link p.now (c.in-Ok.ensures.does.state lk s.link before)
+    handed_can_put c.notes_what_changes.ensures.take c.notes_what_changes.ensures.take_hands_up c' c.take_into.new.self c.args.octets.now s.link p.now (c.in-Ok.ensures.does.state lk s.link before)
     (sym (c.in-Ok.ensures.does.packet lk s.link before) ∙ ap option_copied is)))
 
 pub follow-requires-clause-left : goal.follow-requires-clause-left
@@ -46,12 +46,12 @@ follow-requires-clause-left c = if_some c.in-Ok.heard.packet (λ x. IsNotFull c.
 pub follow-requires-clause-room : goal.follow-requires-clause-room
 follow-requires-clause-room c =
     let bytes : All (λ octet. octet < 256) c.args.octets.now = All-from_get_or (λ octet. octet < 256) c.args.octets.now 0 (λ i low. omega (arith, c.type_inv.octets i)) in
-    if_some c.in-Ok.heard.packet (λ p. HasRoom (length p.now - 3) c.set_aside.new.self.layer c.take_checked_into.new.self.outbox.long) (λ p is.
+    if_some c.in-Ok.heard.packet (λ p. HasRoom (length p.now - 3) c.set_aside.new.self.layer c.take_into.new.self.outbox.long) (λ p is.
     let short : length p.now + 4 ≤ length c.args.octets.now = least_by_meaning _ _ (length p.now + 4) (length c.args.octets.now) c.args.self.now.meant (λ c' s fits.
     let lk = link_settings c' in
     handed_short c.reading_is_the_grammar.ensures.spelled c.notes_what_changes.ensures.take_hands_up lk c.args.octets.now s.link p.now bytes
     (sym (c.in-Ok.ensures.does.packet lk s.link (c.in_ok-set_aside.ensures.fits c' s fits).link) ∙ ap option_copied is)) in
-    less_room (length p.now - 3) c.saturating_sub.result c.set_aside.new.self.layer c.set_aside.new.self.link.outbox.long c.take_checked_into.new.self.outbox.long
+    less_room (length p.now - 3) c.saturating_sub.result c.set_aside.new.self.layer c.set_aside.new.self.link.outbox.long c.take_into.new.self.outbox.long
     (omega (arith, short, c.saturating_sub.ensures))
     (sym (ap (λ o. o.long) c.in-Ok.ensures.does.outbox)) c.in_ok-set_aside.ensures.room)
 
@@ -61,14 +61,14 @@ sent_into-requires c =
     let lk = link_settings c' in
     let k : LinkStep = take_step lk c.args.octets.now s.link in
     let before = c.in_ok-set_aside.ensures.fits c' s fits in
-    let whole : FitsWhole c.take_checked_into.new.self (kept_of lk (alone k.side.near)) = record { link = c.in-Ok.ensures.does.state lk s.link before.link; kept = ap (λ o. o.made) c.in-Ok.ensures.does.outbox ∙ before.sent } in
+    let whole : FitsWhole c.take_into.new.self (kept_of lk (alone k.side.near)) = record { link = c.in-Ok.ensures.does.state lk s.link before.link; kept = ap (λ o. o.made) c.in-Ok.ensures.does.outbox ∙ before.sent } in
     let step = put_behind c' s k (option_copied c.in-Ok.heard.packet) c.in-Ok.heard.notes in
     let link = c.follow.ensures.link c' s.layer k.side before.layer whole in
     few_made c'.role c.follow.new.link.outbox.made (all_put lk step.put (alone k.side.near)).out 8 link.kept
-    (few_put lk step.put k.side.near (c.holds_few.ensures.window lk c.take_checked_into.new.self k.side.near whole.link) (c.holds_few.ensures.stand lk c.take_checked_into.new.self k.side.near whole.link).place_low)) in
-    let own = c.take_checked_into.ensures.few in
-    let held = c.take_checked_into.ensures.capacity in
-    let room = c.in_ok-set_aside.ensures.frames_room in
+    (few_put lk step.put k.side.near (c.holds_few.ensures.window lk c.take_into.new.self k.side.near whole.link) (c.holds_few.ensures.stand lk c.take_into.new.self k.side.near whole.link).place_low)) in
+    let own = c.take_into.ensures.few in
+    let held = c.take_into.ensures.capacity in
+    let room = c.in_ok-set_aside.ensures.places.frames in
     omega (arith, more, own, held, room)
 
 pub invariant_of-self : goal.invariant_of-self
@@ -77,7 +77,7 @@ invariant_of-self c = record {
       let lk = link_settings c' in
       let k : LinkStep = take_step lk c.args.octets.now s.link in
       let before = c.in_ok-set_aside.ensures.fits c' s fits in
-      let whole : FitsWhole c.take_checked_into.new.self (kept_of lk (alone k.side.near)) = record { link = c.in-Ok.ensures.does.state lk s.link before.link; kept = ap (λ o. o.made) c.in-Ok.ensures.does.outbox ∙ before.sent } in (
+      let whole : FitsWhole c.take_into.new.self (kept_of lk (alone k.side.near)) = record { link = c.in-Ok.ensures.does.state lk s.link before.link; kept = ap (λ o. o.made) c.in-Ok.ensures.does.outbox ∙ before.sent } in (
         c',
         (receives c' s c.args.octets.now).near,
         took_fits c' s c.args.octets.now (option_copied c.in-Ok.heard.packet) c.in-Ok.heard.notes c.follow.new.link c.sent_into.new.self c.follow.new.layer (c.requires.goes_on c' s fits) (c.in-Ok.ensures.does.packet lk s.link before.link, c.in-Ok.ensures.does.notes lk s.link before.link)
@@ -103,7 +103,7 @@ returns-in-Ok-clause-does c = record {
       let lk = link_settings c' in
       let k : LinkStep = take_step lk c.args.octets.now s.link in
       let before = c.in_ok-set_aside.ensures.fits c' s fits in
-      let whole : FitsWhole c.take_checked_into.new.self (kept_of lk (alone k.side.near)) = record { link = c.in-Ok.ensures.does.state lk s.link before.link; kept = ap (λ o. o.made) c.in-Ok.ensures.does.outbox ∙ before.sent } in
+      let whole : FitsWhole c.take_into.new.self (kept_of lk (alone k.side.near)) = record { link = c.in-Ok.ensures.does.state lk s.link before.link; kept = ap (λ o. o.made) c.in-Ok.ensures.does.outbox ∙ before.sent } in
       took_fits c' s c.args.octets.now (option_copied c.in-Ok.heard.packet) c.in-Ok.heard.notes c.follow.new.link c.sent_into.new.self c.follow.new.layer (c.requires.goes_on c' s fits) (c.in-Ok.ensures.does.packet lk s.link before.link, c.in-Ok.ensures.does.notes lk s.link before.link)
       (c.follow.ensures.link c' s.layer k.side before.layer whole) (c.follow.ensures.layer c' s.layer k.side before.layer whole) c.sent_into.ensures.station (ap (λ o. o.made) c.sent_into.ensures.outbox)
       (c.steps_keep_bounds.ensures.receive c' s c.args.octets.now fits.kept);
@@ -111,9 +111,9 @@ returns-in-Ok-clause-does c = record {
       let lk = link_settings c' in
       let k : LinkStep = take_step lk c.args.octets.now s.link in
       let before = c.in_ok-set_aside.ensures.fits c' s fits in
-      let whole : FitsWhole c.take_checked_into.new.self (kept_of lk (alone k.side.near)) = record { link = c.in-Ok.ensures.does.state lk s.link before.link; kept = ap (λ o. o.made) c.in-Ok.ensures.does.outbox ∙ before.sent } in
+      let whole : FitsWhole c.take_into.new.self (kept_of lk (alone k.side.near)) = record { link = c.in-Ok.ensures.does.state lk s.link before.link; kept = ap (λ o. o.made) c.in-Ok.ensures.does.outbox ∙ before.sent } in
       let link = c.follow.ensures.link c' s.layer k.side before.layer whole in
-      let none = c.set_aside.ensures.frames ∙ c.requires.frames in
+      let none = c.set_aside.ensures.empty.frames in
       let out = map (spelling_of c'.role) k.side.out in
       c.sent_into.ensures.frames
       ∙ took_sends c' s c.args.octets.now (option_copied c.in-Ok.heard.packet) c.in-Ok.heard.notes _ _ (c.requires.goes_on c' s fits) (c.in-Ok.ensures.does.packet lk s.link before.link, c.in-Ok.ensures.does.notes lk s.link before.link)
@@ -122,28 +122,29 @@ returns-in-Ok-clause-does c = record {
       let lk = link_settings c' in
       let k : LinkStep = take_step lk c.args.octets.now s.link in
       let before = c.in_ok-set_aside.ensures.fits c' s fits in
-      let whole : FitsWhole c.take_checked_into.new.self (kept_of lk (alone k.side.near)) = record { link = c.in-Ok.ensures.does.state lk s.link before.link; kept = ap (λ o. o.made) c.in-Ok.ensures.does.outbox ∙ before.sent } in
+      let whole : FitsWhole c.take_into.new.self (kept_of lk (alone k.side.near)) = record { link = c.in-Ok.ensures.does.state lk s.link before.link; kept = ap (λ o. o.made) c.in-Ok.ensures.does.outbox ∙ before.sent } in
       let noted = entries_noted c.in-Ok.heard.notes ++ entries_heard (layer_settings c') s.layer (option_copied c.in-Ok.heard.packet) c.in-Ok.heard.notes.down c.in-Ok.heard.notes.up in
       took_enters c' s c.args.octets.now (option_copied c.in-Ok.heard.packet) c.in-Ok.heard.notes _ (c.requires.goes_on c' s fits) (c.in-Ok.ensures.does.packet lk s.link before.link, c.in-Ok.ensures.does.notes lk s.link before.link)
-      (c.follow.ensures.entries c' s.layer k.side before.layer whole ∙ ap (λ es. map plain_entry es ++ noted) (c.set_aside.ensures.entries ∙ c.requires.entries));
+      (c.follow.ensures.entries c' s.layer k.side before.layer whole ∙ ap (λ es. map plain_entry es ++ noted) c.set_aside.ensures.empty.entries);
   refused = λ c' s fits. tt;
   stays = λ c' s fits. tt;
+  empty = tt;
   few_frames =
       let more : length c.follow.new.link.outbox.made ≤ 8 = least_by_meaning _ _ (length c.follow.new.link.outbox.made) 8 c.args.self.now.meant (λ c' s fits.
       let lk = link_settings c' in
       let k : LinkStep = take_step lk c.args.octets.now s.link in
       let before = c.in_ok-set_aside.ensures.fits c' s fits in
-      let whole : FitsWhole c.take_checked_into.new.self (kept_of lk (alone k.side.near)) = record { link = c.in-Ok.ensures.does.state lk s.link before.link; kept = ap (λ o. o.made) c.in-Ok.ensures.does.outbox ∙ before.sent } in
+      let whole : FitsWhole c.take_into.new.self (kept_of lk (alone k.side.near)) = record { link = c.in-Ok.ensures.does.state lk s.link before.link; kept = ap (λ o. o.made) c.in-Ok.ensures.does.outbox ∙ before.sent } in
       let step = put_behind c' s k (option_copied c.in-Ok.heard.packet) c.in-Ok.heard.notes in
       let link = c.follow.ensures.link c' s.layer k.side before.layer whole in
       few_made c'.role c.follow.new.link.outbox.made (all_put lk step.put (alone k.side.near)).out 8 link.kept
-      (few_put lk step.put k.side.near (c.holds_few.ensures.window lk c.take_checked_into.new.self k.side.near whole.link) (c.holds_few.ensures.stand lk c.take_checked_into.new.self k.side.near whole.link).place_low)) in
-      let none : length c.set_aside.new.frames.items ≡ 0 = ap length (c.set_aside.ensures.frames ∙ c.requires.frames) in
-      let first = c.set_aside.new.frames.ok.0 in
-      let own = c.take_checked_into.ensures.few in
-      let middle = c.take_checked_into.new.frames.ok.0 in
-      let all = count_behind c.take_checked_into.new.frames.items c.sent_into.new.frames.items (λ frame. frame.items) c.follow.new.link.outbox.made c.sent_into.ensures.frames in
+      (few_put lk step.put k.side.near (c.holds_few.ensures.window lk c.take_into.new.self k.side.near whole.link) (c.holds_few.ensures.stand lk c.take_into.new.self k.side.near whole.link).place_low)) in
+      let none : length c.set_aside.new.out.frames.items ≡ 0 = ap length c.set_aside.ensures.empty.frames in
+      let first = c.set_aside.new.out.frames.ok.0 in
+      let own = c.take_into.ensures.few in
+      let middle = c.take_into.new.frames.ok.0 in
+      let all = count_behind c.take_into.new.frames.items c.sent_into.new.frames.items (λ frame. frame.items) c.follow.new.link.outbox.made c.sent_into.ensures.frames in
       let held = c.sent_into.new.frames.ok.0 in
       omega (arith, more, none, first, own, middle, all, held);
-  few_entries = grind (arith, c.follow.ensures.length, c.set_aside.ensures.entries, c.requires.entries, c.set_aside.new.entries.ok);
+  few_entries = grind (arith, c.follow.ensures.length, ap length c.set_aside.ensures.empty.entries, c.set_aside.new.out.entries.ok);
 }

@@ -1,0 +1,88 @@
+-- What timer T1 does behind a step.
+use Rattle.std.proofs.Common.{◌≡◌, ◌∙◌, ◌+◌, ◌<◌, ◌≤◌, ◌==◌, ℕ, Bool, true, false, List, [], length, drop, map, get_or, Result, Ok, Err, OnOk, OnErr, ap, sym, refl}
+use Rattle.std.specs.Prelude.{not, ◌||◌, ◌%◌}
+use Rattle.std.specs.Result.{is_ok}
+use Rattle.std.proofs.lemmas.Bool.{true≢false, eq-eqb}
+use Rattle.std.proofs.lemmas.List.{at_drop_more, drop_all}
+use Rattle.x25_station.specs.declared.entry.Entry.{Entry}
+use Rattle.x25_station.specs.code.PlainEntry.{plain_entry}
+use Rattle.x25_station.specs.Station.{Station}
+use Rattle.x25_station.specs.Step.{Step, Outcome, Did, Refused}
+use Rattle.x25_station.specs.Config.{Settings}
+use Rattle.x25_station.specs.code.FitsStation.{FitsStation, Does, Leaves, Enters, Refuses}
+use Rattle.x25_station.specs.code.Clock.{IsTimer}
+use Rattle.x25_station.specs.declared.error.StationError.{StationError}
+use Rattle.x25_station.specs.declared.station.Station as code
+use Rattle.x25_station.specs.declared.step.Step as code_step
+use Rattle.x25_station.specs.declared.timer.Timer.{Timer}
+use Rattle.x25_station.specs.Timer.{is_link_up, is_acknowledged, tells_up, runs, standing, timer_of, timer_at}
+
+-- among some entries the link came up
+abbrev pub up : List Entry → Bool
+up entries = tells_up (map plain_entry entries)
+
+module _ (entries : List Entry) (i : ℕ) (entry : Entry) (inside : i < length entries) (is : entry ≡ get_or entries i entry) (same : up (drop i entries) ≡ up entries) where
+  next : (b : Bool) → is_link_up (plain_entry entry) ≡ b → (b || up (drop (i + 1) entries)) ≡ up entries
+  next b e = ap (λ b. b || up (drop (i + 1) entries)) (sym e ∙ ap (λ x. is_link_up (plain_entry x)) is) ∙ sym (at_drop_more up entries i entry inside) ∙ same
+
+  pub up_here : is_link_up (plain_entry entry) ≡ true → true ≡ up entries
+  up_here e = next true e
+
+  pub up_behind : is_link_up (plain_entry entry) ≡ false → up (drop (i + 1) entries) ≡ up entries
+  up_behind e = next false e
+
+pub up_nowhere : (entries : List Entry) (i : ℕ) → length entries ≤ i → up (drop i entries) ≡ up entries → false ≡ up entries
+up_nowhere entries i all same = sym (ap up (drop_all i entries all)) ∙ same
+
+pub timer_is : (s : Station) (step : Step) (before behind fired up another : Bool) → before ≡ runs s → behind ≡ runs step.near → up ≡ tells_up step.entries
+    → another ≡ is_acknowledged s.link step.near.link → timer_of behind (not before || (fired || (up || another))) ≡ timer_at s fired (Did step)
+timer_is s step before behind fired up another e f h k =
+    ap (λ b. timer_of b (not before || (fired || (up || another)))) f
+    ∙ ap (λ b. timer_of (runs step.near) (not b || (fired || (up || another)))) e
+    ∙ ap (λ b. timer_of (runs step.near) (not (runs s) || (fired || (b || another)))) h
+    ∙ ap (λ b. timer_of (runs step.near) (not (runs s) || (fired || (tells_up step.entries || b)))) k
+
+-- ---- what a call answers
+
+-- a step that does nothing leaves T1 as it was
+abbrev none : Station → Step
+none s = record { near = s; out = []; entries = [] }
+
+unmoved : (runs : Bool) (same : Bool) → same ≡ true → timer_of runs (not runs || (false || (false || not same))) ≡ timer_of runs false
+unmoved false same is = refl
+unmoved true true is = refl
+unmoved true false is = absurd (true≢false (sym is))
+
+pub stands : (s : Station) → timer_at s false (Did (none s)) ≡ standing s
+stands s = unmoved (runs s) (s.link.outgoing.acked % 8 == s.link.outgoing.acked % 8) (eq-eqb _ _ refl)
+
+module _ (c : Settings) (s : Station) (mid new : code.Station) (out : code_step.Step) (t : Timer) (fits : FitsStation c mid s) where
+  accepted : (has_fired : Bool) (o : Outcome) → ((step : Step) → FitsStation c new step.near → map plain_entry out.entries.items ≡ step.entries → t ≡ timer_at s has_fired (Did step))
+      → Leaves {T = Unit} c new (Ok tt) o → Enters {T = Unit} out (Ok tt) o → Refuses {T = Unit} (Ok tt) o → t ≡ timer_at s has_fired o
+  accepted has_fired (Did step) h leaves enters none = h step leaves enters
+  accepted has_fired (Refused e) h leaves enters none = absurd none
+
+  pub timed : (result : Result Unit StationError) (said : Settings → Station → Outcome) (fired has_fired : Bool) → Does mid new out result said → OnOk result (fired ≡ has_fired) → OnErr result (fired ≡ false)
+      → ((step : Step) → FitsStation c new step.near → map plain_entry out.entries.items ≡ step.entries → t ≡ timer_at s fired (Did step)) → IsTimer s has_fired t result (said c s)
+  timed (Ok u) said fired has_fired d is not_fired h =
+      accepted has_fired (said c s) (λ step near entries. h step near entries ∙ ap (λ b. timer_at s b (Did step)) is) (d.state c s fits) (d.entries c s fits) (d.refused c s fits)
+  timed (Err e) said fired has_fired d is not_fired h =
+      h (none s) (d.stays c s fits) (ap (map plain_entry) d.empty.entries) ∙ ap (λ b. timer_at s b (Did (none s))) not_fired ∙ stands s
+
+-- ---- whether T1 fired
+
+pub always : {E P : Type 0} (r : Result Unit E) → P → OnOk r P
+always (Ok u) p = p
+always (Err e) p = tt
+
+pub not_ever : {E P : Type 0} (r : Result Unit E) → P → OnErr r P
+not_ever (Ok u) p = tt
+not_ever (Err e) p = p
+
+pub ok_fired : {E : Type 0} (r : Result Unit E) (b : Bool) → b ≡ is_ok r → OnOk r (b ≡ true)
+ok_fired (Ok u) b is = is
+ok_fired (Err e) b is = tt
+
+pub err_fired : {E : Type 0} (r : Result Unit E) (b : Bool) → b ≡ is_ok r → OnErr r (b ≡ false)
+err_fired (Ok u) b is = tt
+err_fired (Err e) b is = is

@@ -1,0 +1,14 @@
+use Rattle.std.proofs.Common.{false, refl, ap, map, ◌∙◌}
+use Rattle.x25_station.specs.code.PlainEntry.{plain_entry}
+use Rattle.x25_station.proofs.ClockLemmas.{timed, always, not_ever}
+use Rattle.x25_station.proofs.DoesLemmas.{reused}
+use Rattle.x25_station.proofs.station.Station.command.Goals as goal
+
+pub returns-clause-does : goal.returns-clause-does
+returns-clause-does c = reused _ c.reuse.new.self _ c.obey-answer.new.out c.timer_behind-out.result _ _ c.reuse.ensures.fits c.obey-answer.ensures
+
+pub returns-clause-timer : goal.returns-clause-timer
+returns-clause-timer c = λ c' s fits.
+    let now = c.reuse.ensures.fits c' s fits in
+    timed c' s c.reuse.new.self c.obey-answer.new.self c.obey-answer.new.out c.timer_behind-out.result now c.obey-answer.result _ false false c.obey-answer.ensures (always c.obey-answer.result refl) (not_ever c.obey-answer.result refl)
+    (λ step near entries. c.timer_behind-out.ensures c' s step (c.clock-before.ensures c' s now) near (ap (map plain_entry) c.as_slice.ensures.value ∙ entries))

@@ -1,0 +1,59 @@
+use Rattle.std.proofs.Common.{arith, ap, ◌∙◌, ◌++◌, length, map, ◌≡◌}
+use Rattle.x25_layer.specs.Calls.{PullsAll}
+use Rattle.x25_station.specs.declared.step.Step as code_step
+use Rattle.x25_station.specs.Command.{Requests}
+use Rattle.x25_station.specs.code.PlainEntry.{plain_entry}
+use Rattle.x25_station.specs.Config.{layer_settings}
+use Rattle.x25_station.specs.Step.{requests}
+use Rattle.x25_station.proofs.OutcomeLemmas.{leaves_some, still_meant}
+use Rattle.x25_station.proofs.AskLemmas.{answers, still_fits}
+use Rattle.x25_station.proofs.DoesLemmas.{did_request, made_few, declines_request}
+use Rattle.x25_station.proofs.EnteredLemmas.{pull_enters}
+use Rattle.x25_station.proofs.station.Station.pull_asked.Goals as goal
+
+pub sent_into-requires : goal.sent_into-requires
+sent_into-requires c =
+    let few = made_few c.in-Ok.field-0 _ c.pull.new.link _ PullsAll c.args.self.now.meant c.in-Ok.ensures.link c.holds_few.ensures.window c.holds_few.ensures.stand in
+    grind (arith, few, c.in_ok-make_room.ensures.places.frames)
+
+pub invariant_of-self : goal.invariant_of-self
+invariant_of-self c = record {
+  meant = still_meant _ _ _ _ c.args.self.now.meant (λ c' s fits.
+      let request = PullsAll in
+      let a = answers c.in-Ok.field-0 c' _ c.pull.new.link c.sent_into.new.self _ c.pull.new.self (record { frames = c.sent_into.new.frames; entries = c.make_room.new.self.entries; timer = c.make_room.new.self.timer }) s request fits
+      c.in-Ok.ensures.layer c.in-Ok.ensures.link c.sent_into.ensures.station (ap (λ o. o.made) c.sent_into.ensures.outbox) (c.sent_into.ensures.frames ∙ ap (λ frames. map (λ frame. frame.items) frames ++ c.pull.new.link.outbox.made) c.make_room.ensures.empty.frames)
+      (c.steps_keep_bounds.ensures.command c' s (Requests request) fits.kept) in
+      leaves_some c' _ _ (requests c' s request) a.state a.refused);
+  aside =
+      let before = c.args.self.now.aside in
+      let packets = c.in-Ok.ensures.most_memory in
+      let low = before.packets in
+      let spares : c.sent_into.new.self.outbox.long ≡ 0 = ap (λ o. o.long) c.sent_into.ensures.outbox in
+      record { packets = omega (arith, packets, low); spares = omega (arith, spares); texts = before.texts };
+}
+
+pub invariant_of-self-in-Err-1 : goal.invariant_of-self-in-Err-1
+invariant_of-self-in-Err-1 c = record {
+  meant = still_meant _ _ _ _ c.args.self.now.meant (λ c' s fits.
+      (c', s, still_fits c' c.args.self.now.link c.pull.new.link _ c.pull.new.self s fits (c.in-Err.ensures.layer_stays (layer_settings c') s.layer fits.layer) c.in-Err.ensures.link_stays));
+  aside =
+      let before = c.args.self.now.aside in
+      let packets = c.in-Err.ensures.most_memory in
+      let spares = c.in-Err.ensures.most_spares in
+      let low = before.packets in
+      let few = before.spares in
+      record { packets = omega (arith, packets, low); spares = omega (arith, spares, few); texts = before.texts };
+}
+
+pub returns-in-Ok : goal.returns-in-Ok
+returns-in-Ok c =
+    let request = PullsAll in
+    let r : code_step.Step = record { frames = c.sent_into.new.frames; entries = c.make_room.new.self.entries; timer = c.make_room.new.self.timer } in
+    did_request c.in-Ok.field-0 c.args.self.now _ c.pull.new.link r request c.in-Ok.ensures.layer c.in-Ok.ensures.link c.sent_into.ensures.station (ap (λ o. o.made) c.sent_into.ensures.outbox) (c.sent_into.ensures.frames ∙ ap (λ frames. map (λ frame. frame.items) frames ++ c.pull.new.link.outbox.made) c.make_room.ensures.empty.frames)
+    c.steps_keep_bounds.ensures.command c.holds_few.ensures.window c.holds_few.ensures.stand
+    (λ c' s fits.
+    pull_enters c' s r (ap (λ es. map plain_entry es) c.make_room.ensures.empty.entries))
+    (grind (arith, ap length c.make_room.ensures.empty.entries, c.make_room.new.self.entries.ok))
+
+pub returns-in-Err : goal.returns-in-Err
+returns-in-Err c = declines_request _ c.in-Err.error _ c.args.self.now _ _ PullsAll c.of_layer.ensures c.in-Err.ensures.layer c.in-Err.ensures.layer_stays c.in-Err.ensures.link_stays c.make_room.ensures.empty

@@ -1,0 +1,88 @@
+//! Memory of a step that serves again, once it was read.
+ghost use Rattle.std.specs.Prelude.{◌≡◌, []};
+ghost use Rattle.x25_station.specs.code.FitsStation.{FitsStation, IsEmpty};
+ghost use Rattle.x25_station.specs.Config.{Settings};
+ghost use Rattle.x25_station.specs.Station.{Station as State};
+ghost use Rattle.x25_station.specs.Timer.{standing};
+
+use crate::entry::{Asked, Entry, Said, Told};
+use crate::station::Station;
+use crate::step::Step;
+use x25_link::Link;
+
+// The memory of frames serves frames that the link sends later.
+fn take_frames_back(link: &mut Link, frames: &mut Vec<Vec<u8>>)
+    ensures link { link.new ≡ link.old }
+    ensures frames { frames.new.items ≡ [] }
+{
+    while let Some(octets) = frames.pop() {
+        link.give_back(octets);
+    }
+}
+
+impl Station {
+    /// Takes a step back that was read, of this station or of another, and leaves it empty: the memory of its frames serves frames that are
+    /// sent later, and that of a message that was sent or delivered, which is that of the last entry, a later message of its channel. Timer T1
+    /// goes on in it, or is off. The station is as before. Each call does so at first with the step that it is given.
+    ///
+    /// Memory for more than 4,103 octets of a frame or 4,096 of a message is let go of, and so is what is left over where 32 frames, or two
+    /// messages of the channel, are kept.
+    #[inline(always)]
+    pub fn reuse(&mut self, out: &mut Step)
+        ensures fits { (c : Settings) (s : State) → FitsStation c self.old s → FitsStation c self.new s }
+        ensures empty { IsEmpty out.new }
+        ensures timer { (c : Settings) (s : State) → FitsStation c self.old s → out.new.timer ≡ standing s }
+    {
+        out.timer = self.clock().standing();
+        if !out.frames.is_empty() {
+            self.reuse_frames(&mut out.frames);
+        }
+        if !out.entries.is_empty() {
+            self.reuse_entries(&mut out.entries);
+        }
+    }
+
+    fn reuse_frames(&mut self, frames: &mut Vec<Vec<u8>>)
+        ensures fits { (c : Settings) (s : State) → FitsStation c self.old s → FitsStation c self.new s }
+        ensures empty { frames.new.items ≡ [] }
+    {
+        take_frames_back(&mut self.link, frames);
+    }
+
+    fn reuse_entries(&mut self, entries: &mut Vec<Entry>)
+        ensures fits { (c : Settings) (s : State) → FitsStation c self.old s → FitsStation c self.new s }
+        ensures empty { entries.new.items ≡ [] }
+    {
+        if let Some(last) = entries.pop() {
+            self.reuse_entry(last);
+        }
+        if !entries.is_empty() {
+            entries.clear();
+        }
+    }
+
+    fn reuse_entry(&mut self, entry: Entry)
+        ensures { (c : Settings) (s : State) → FitsStation c self.old s → FitsStation c self.new s }
+    {
+        if let Entry::OnChannel { channel, said, .. } = entry {
+            self.reuse_message(channel, said);
+        }
+    }
+
+    fn reuse_message(&mut self, channel: u16, said: Said)
+        ensures { (c : Settings) (s : State) → FitsStation c self.old s → FitsStation c self.new s }
+    {
+        match said {
+            Said::Asked(Asked::Send { user, .. }) => self.keep(channel, user),
+            Said::Told(Told::Delivered(message)) => self.keep(channel, message.user.into_vec()),
+            _ => {}
+        }
+    }
+
+    // Memory of a channel.
+    fn keep(&mut self, channel: u16, memory: Vec<u8>)
+        ensures { (c : Settings) (s : State) → FitsStation c self.old s → FitsStation c self.new s }
+    {
+        self.layer.give_back(channel, memory);
+    }
+}
