@@ -154,7 +154,7 @@ module _ (c : Settings) (v u : code.Station) (step : code_step.Step) where
   pulled_step pulled (Refused e) (Ok both) h pulls none frames entries = absurd h.accepted
   pulled_step pulled o (Err fault) h pulls none frames entries = tt
 
-  -- .. or the step alone
+  -- the step alone, where the pull is refused
   step_alone : (error : StationError) (o : Outcome) → IsStep c v step o
       → ((s : Station) → FitsStation c v s → (let x : Result code_step.Step StationError = Err error in fits.RefusesExactly x (commands c s (Requests PullsAll))))
       → ((s : Station) → FitsStation c v s → FitsStation c u s) → (error ≡ NoMemory → ⊥) → IsStep c u step (with_pulls c o)

@@ -11,16 +11,14 @@ use x25_io::{Fault, Output, Sink};
 use x25_script::{Command, ScriptLine, read_line};
 use x25_station::{Cfg, Role, Station, StationError, Step};
 use x25_text::MOST_OCTETS;
-use x25_transcript::Line;
 
-/// The station at an end, the octets of a frame and of a command, the line that tells, and what waits to be written.
+/// The station at an end, the octets of a frame and of a command, and what waits to be written.
 #[derive(Drop)]
 pub(crate) struct Pipe {
     end: Role,
     station: Station,
     octets: [u8; MOST_OCTETS],
     user: Vec<u8>,
-    line: Line,
     output: Output,
     is_refused: bool,
 }
@@ -101,7 +99,6 @@ impl Pipe {
         ensures memory { IfErr result (λ fault. fault ≡ Fault.NoMemory) }
     {
         let output = Output::new(alloc)?;
-        let line = Line::new(alloc)?;
         let Ok(station) = Station::new(alloc, end, cfg) else {
             return Err(Fault::NoMemory);
         };
@@ -110,7 +107,6 @@ impl Pipe {
             station,
             octets: [0; MOST_OCTETS],
             user: Vec::new(alloc),
-            line,
             output,
             is_refused: false,
         })
@@ -164,9 +160,9 @@ impl Pipe {
         ensures faults { MarksFaults W.Sink writer.old writer.new result }
     {
         let entries = step.entries.as_slice();
-        tell_entries(&mut self.line, self.end, entries, &mut self.output, writer)?;
+        tell_entries(self.end, entries, &mut self.output, writer)?;
         let frames = step.frames.as_slice();
-        tell_frames(&mut self.line, self.end, frames, &mut self.output, writer)
+        tell_frames(self.end, frames, &mut self.output, writer)
     }
 
     /// Tells a step of the station, which stood as `before` says: its entries, its frames and its mark.
@@ -237,7 +233,7 @@ impl Pipe {
             return Err(Fault::NoMemory);
         }
         self.is_refused = true;
-        tell_refusal(&mut self.line, error, &mut self.output, writer)?;
+        tell_refusal(error, &mut self.output, writer)?;
         self.mark_standing(writer)
     }
 
