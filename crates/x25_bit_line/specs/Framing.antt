@@ -14,7 +14,7 @@ abbrev pub sent_bits : Option (Role × List ℕ) → List Bool
 sent_bits None = []
 sent_bits (Some sent) = framed sent.1
 
--- .. for a line; nothing where it is none of a trace
+-- what is put there for a line: nothing where it is none of a trace
 unfoldable pub line_bits : List ℕ → List Bool
 line_bits line = sent_bits (sent_in line)
 

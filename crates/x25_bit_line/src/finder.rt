@@ -49,22 +49,15 @@ impl TextTaker for Finder {
         let mut left = piece;
         while !left.is_empty() {
             let (front, rest) = left.split_at(left.len().min(PIECE));
-            if let Err(_) = take_octets(&mut self.deframer, &mut self.lines, front, writer) {
-                return Err(Fault::Write);
-            }
+            take_octets(&mut self.deframer, &mut self.lines, front, writer)?;
             left = rest;
         }
-        match self.lines.flush(writer) {
-            Ok(()) => Ok(()),
-            Err(_) => Err(Fault::Write),
-        }
+        Ok(self.lines.flush(writer)?)
     }
 
     fn end<W: Sink>(mut self, writer: &mut W) -> Result<u8, Fault> {
-        match self.lines.flush(writer) {
-            Ok(()) => Ok(0),
-            Err(_) => Err(Fault::Write),
-        }
+        self.lines.flush(writer)?;
+        Ok(0)
     }
 
     fn give_up<W: Sink>(mut self, writer: &mut W) -> Fault {

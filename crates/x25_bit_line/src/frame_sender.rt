@@ -67,10 +67,7 @@ impl FrameSender {
         ensures memory { IsErrOf result Fault.NoMemory → ⊥ }
         ensures read { IsErrOf result Fault.Read → ⊥ }
     {
-        match self.output.flush(writer) {
-            Ok(()) => Ok(()),
-            Err(_) => Err(Fault::Write),
-        }
+        Ok(self.output.flush(writer)?)
     }
 
     /// Passes over a line that is none of a trace: where it is no comment, it is refused.

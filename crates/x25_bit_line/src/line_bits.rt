@@ -75,9 +75,7 @@ impl LineBits {
     {
         for index in 0..self.bits.len() / 8 {
             let octet = octet_at(&self.bits, 8 * index);
-            if let Err(_) = output.tell(&[octet], writer) {
-                return Err(Fault::Write);
-            }
+            output.tell(&[octet], writer)?;
         }
         Ok(())
     }

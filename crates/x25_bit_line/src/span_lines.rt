@@ -1,21 +1,9 @@
 //! The lines that tell of spans.
-ghost use Rattle.std.specs.Prelude.{◌≡◌};
-ghost use Rattle.x25_decode.specs.Decoding.{mark_of};
-
 use std::alloc::{AllocError, Global};
 use x25_bits::{Role, Span};
+use x25_decode::mark;
 use x25_io::{Failed, Output, Sink};
 use x25_text::{MOST_OCTETS, Text};
-
-/// The mark of what an end sends.
-fn mark(from: Role) -> &'static [u8]
-    ensures { result.now ≡ mark_of from }
-{
-    match from {
-        Role::Dte => b"> ",
-        Role::Dce => b"< ",
-    }
-}
 
 /// The lines for spans of the line on which an end sends: those that wait to be written.
 ///

@@ -1,4 +1,5 @@
-//! What is common to programs that hold stations: what a line asks of a station, and lines that tell of frames and refusals.
+//! What is common to programs that hold stations: what a line asks of a station, and lines that tell of entries, frames
+//! and refusals.
 //!
 //! docs/FORMATS.md has the texts. Profile.
 #![tactic(auto)]
@@ -7,4 +8,4 @@ mod commands;
 mod telling;
 
 pub use commands::{read_octets, read_user, station_command};
-pub use telling::{FRAME_LINE, push_frame_line, tell, tell_nothing, write_frame, write_refusal};
+pub use telling::{tell, tell_entries, tell_frame, tell_nothing, tell_refusal};

@@ -1,5 +1,5 @@
 //! What answers a line.
-ghost use Rattle.std.specs.Prelude.{◌≡◌, ◌+◌, ◌*◌, ◌≤◌, ◌++◌, ◌∷◌, Some, None, false, codes, length, take, IfSome, MatchOption};
+ghost use Rattle.std.specs.Prelude.{◌≡◌, ◌+◌, ◌*◌, ◌≤◌, ◌++◌, Some, None, false, codes, length, take, IfSome, MatchOption};
 ghost use Rattle.x25_frame.specs.Reading.{frame_of};
 ghost use Rattle.x25_decode.specs.Decoding.{answer_to, is_refused, mark_of, n1, octets_in, sender_of, sent_in, sent_text};
 ghost use Rattle.x25_decode.specs.code.Front.{StandsInFront};
@@ -22,13 +22,15 @@ fn sender(mark: u8) -> Option<Role>
     Some(if mark == b'>' { Role::Dte } else { Role::Dce })
 }
 
-/// The mark of an end.
-fn mark(from: Role) -> u8
-    ensures { mark_of from ≡ result ∷ codes " " }
+/// The mark of what an end sent, with the blank behind it.
+#[inline(always)]
+pub fn mark(from: Role) -> &'static [u8]
+    ensures mark { result.now ≡ mark_of from }
+    ensures size { length result.now ≡ 2 }
 {
     match from {
-        Role::Dte => b'>',
-        Role::Dce => b'<',
+        Role::Dte => b"> ",
+        Role::Dce => b"< ",
     }
 }
 
@@ -87,7 +89,7 @@ fn push_answer(long_data: bool, from: Role, octets: &[u8], text: &mut Text)
     requires room { length text.old + MOST_ANSWER ≤ ROOM }
     ensures { text.new ≡ text.old ++ (sent_text long_data (Some (from, octets.now)) ++ codes "\n") }
 {
-    text.push(&[mark(from), b' ']);
+    text.push(mark(from));
     push_reading(long_data, from, octets, text);
     text.push(b"\n");
 }

@@ -194,21 +194,14 @@ impl TextTaker for Decoder {
     ghost may_want = { ⊥ };
 
     fn take_piece<W: Sink>(&mut self, piece: &[u8], writer: &mut W) -> Result<(), Fault> {
-        let Ok(left) = self.take_lines(piece, writer) else {
-            return Err(Fault::Write);
-        };
+        let left = self.take_lines(piece, writer)?;
         self.held.hold(left);
-        match self.output.flush(writer) {
-            Ok(()) => Ok(()),
-            Err(_) => Err(Fault::Write),
-        }
+        Ok(self.output.flush(writer)?)
     }
 
     fn end<W: Sink>(mut self, writer: &mut W) -> Result<u8, Fault> {
-        match self.finish(writer) {
-            Ok(()) => Ok(u8::from(self.is_refused)),
-            Err(_) => Err(Fault::Write),
-        }
+        self.finish(writer)?;
+        Ok(u8::from(self.is_refused))
     }
 
     fn give_up<W: Sink>(mut self, writer: &mut W) -> Fault {

@@ -177,10 +177,8 @@ pub fn vectors<W: Sink>(alloc: Global, writer: &mut W) -> Result<u8, Fault>
     ensures write { IsErrOf result Fault.Write → W.is_marked writer.new ≡ true }
 {
     let mut text = Text::new(alloc)?;
-    match write_verdicts(&mut text, writer) {
-        Ok(all_right) => Ok(u8::from(!all_right)),
-        Err(_) => Err(Fault::Write),
-    }
+    let all_right = write_verdicts(&mut text, writer)?;
+    Ok(u8::from(!all_right))
 }
 
 /// Each stored vector holds: the definitions give its answer.

@@ -2,7 +2,8 @@
 use crate::driving::{Line, Timer, User};
 use std::alloc::{AllocError, Global};
 use x25_station::{Entry, Role};
-use x25_transcript::entry_line;
+use x25_text::Text;
+use x25_transcript::push_entry;
 
 /// Frames that were sent and haven't come yet, the first in front.
 #[derive(Drop)]
@@ -56,24 +57,19 @@ impl Timer for Flag {
 /// What was reported to the user of an end, as lines of a transcript.
 #[derive(Drop)]
 pub(crate) struct Told {
-    alloc: Global,
     end: Role,
-    pub text: Vec<u8>,
+    pub text: Text,
 }
 
 impl Told {
-    pub(crate) fn new(alloc: Global, end: Role) -> Told {
-        Told {
-            alloc,
-            end,
-            text: Vec::new(alloc),
-        }
+    pub(crate) fn new(alloc: Global, end: Role) -> Result<Told, AllocError> {
+        let text = Text::new(alloc)?;
+        Ok(Told { end, text })
     }
 }
 
 impl User for Told {
     fn notice(&mut self, entry: &Entry) -> Result<(), AllocError> {
-        let line = entry_line(self.alloc, self.end, entry)?;
-        self.text.extend_from_slice(line.as_slice())
+        push_entry(self.end, entry, &mut self.text)
     }
 }

@@ -42,13 +42,16 @@ fn boxed(alloc: Global, station: Station) -> Result<Box<Station>, StationError> 
 
 impl End {
     fn new(alloc: Global, role: Role) -> Result<End, StationError> {
+        let Ok(told) = Told::new(alloc, role) else {
+            return Err(StationError::NoMemory);
+        };
         let station = boxed(alloc, Station::new(alloc, role, SETTINGS)?)?;
         Ok(End {
             station,
             step: Step::new(alloc),
             out: Frames::new(alloc),
             timer: Flag { runs: false },
-            told: Told::new(alloc, role),
+            told,
         })
     }
 

@@ -1,6 +1,7 @@
 ghost use Rattle.std.specs.Prelude.{◌≡◌};
-ghost use Rattle.x25_io.specs.declared.fault.Fault.TheVariants.{NoMemory};
+ghost use Rattle.x25_io.specs.declared.fault.Fault.TheVariants.{NoMemory, Write};
 
+use crate::device::Failed;
 use std::alloc::AllocError;
 use thiserror::Error;
 
@@ -46,5 +47,14 @@ impl From<x25_bits::NoMemory> for Fault {
 
     fn from(_error: x25_bits::NoMemory) -> Fault {
         Fault::NoMemory
+    }
+}
+
+/// Of a writer: a failed read is no error of a call that has a writer alone.
+impl From<Failed> for Fault {
+    ghost from_gives = { λ _ fault. fault ≡ Write };
+
+    fn from(_failed: Failed) -> Fault {
+        Fault::Write
     }
 }

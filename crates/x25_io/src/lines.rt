@@ -1,23 +1,11 @@
-ghost use Rattle.std.specs.Prelude.{◌≡◌, ◌==◌, ◌<◌, ◌++◌, ◌∷◌, not, IfSome, MatchOption, if◌then◌else◌, length};
-ghost use Rattle.std.specs.Int.{trailing_zeros, w64};
+ghost use Rattle.std.specs.Prelude.{◌≡◌, ◌<◌, ◌++◌, ◌∷◌, not, IfSome, MatchOption, length};
 ghost use Rattle.std.specs.List.{prefix_len};
 ghost use Rattle.memchr.specs.Find.{IsFirstByte, is_byte};
 ghost use Rattle.x25_io.specs.Lines.{IsOpen};
 
 use memchr::memchr;
 use std::simd::prelude::*;
-
-/// The place of the lowest bit that is set, 16 where none is.
-#[inline(always)]
-fn lowest_set(mask: u64) -> usize
-    ensures { result ≡ (if mask == 0 then 16 else trailing_zeros w64 mask) }
-{
-    if mask == 0 {
-        16
-    } else {
-        mask.trailing_zeros() as usize
-    }
-}
+use x25_text::lowest_set;
 
 /// The place of the first line feed of sixteen octets, 16 where there is none.
 #[inline(always)]

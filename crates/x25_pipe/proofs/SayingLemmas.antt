@@ -1,15 +1,24 @@
 -- The text of what is said, one saying after another.
-use Rattle.std.proofs.Common.{◌≡◌, ◌∙◌, ◌+◌, ◌<◌, ℕ, Bool, List, [], ◌∷◌, ◌++◌, length, take, drop, map, get_or, append_assoc, ap, sym}
+use Rattle.std.proofs.Common.{◌≡◌, ◌∙◌, ◌+◌, ◌<◌, ℕ, Bool, List, [], ◌∷◌, ◌++◌, length, take, drop, map, get_or, append_assoc, ap, refl, sym}
 use Rattle.std.specs.Prelude.{◌||◌}
 use Rattle.std.proofs.lemmas.Grind.{flat_map-append}
 use Rattle.std.proofs.lemmas.List.{append-nil, map-append, take_more, take-append-drop}
 use Rattle.std.proofs.lemmas.List.Folds.{list_any-append}
 use Rattle.std.proofs.Math.Bool.{or_assoc}
 use Rattle.x25_bits.specs.declared.role.Role.{Role}
-use Rattle.x25_pipe.specs.Pipe.{Saying, saying_line, sayings_text, is_refusal, has_refusal}
+use Rattle.x25_console.specs.Telling.{entries_text}
+use Rattle.x25_station.specs.Entry.{StationEntry}
+use Rattle.x25_transcript.specs.EntryText.{entry_line}
+use Rattle.x25_pipe.specs.Pipe.{Saying, enters, saying_line, sayings_text, is_refusal, has_refusal}
 
 pub text-append : (end : Role) (xs ys : List Saying) → sayings_text end (xs ++ ys) ≡ sayings_text end xs ++ sayings_text end ys
 text-append end xs ys = flat_map-append (saying_line end) xs ys
+
+-- the lines of entries
+pub entries_said : (end : Role) (entries : List StationEntry) → entries_text end entries ≡ sayings_text end (map enters entries)
+unfolding saying_line
+entries_said end [] = refl
+entries_said end (e ∷ entries) = ap (λ text. entry_line end e ++ text) (entries_said end entries)
 
 -- what is said in two parts
 pub parts_text : (end : Role) (told : List ℕ) (first second : List Saying) → (told ++ sayings_text end first) ++ sayings_text end second ≡ told ++ sayings_text end (first ++ second)

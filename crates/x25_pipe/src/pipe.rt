@@ -10,9 +10,8 @@ use x25_io::{Fault, Output, Sink};
 use x25_script::{Command, ScriptLine, read_line};
 use x25_station::{Cfg, Role, Station, StationError, Step, Timer};
 use x25_text::MOST_OCTETS;
-use x25_transcript::Line;
 
-/// The station at an end, what it answered last, the octets of a frame and of a command, the line that tells, and what waits to be written.
+/// The station at an end, what it answered last, the octets of a frame and of a command, and what waits to be written.
 #[derive(Drop)]
 pub(crate) struct Pipe {
     end: Role,
@@ -20,7 +19,6 @@ pub(crate) struct Pipe {
     step: Step,
     octets: [u8; MOST_OCTETS],
     user: Vec<u8>,
-    line: Line,
     output: Output,
     is_refused: bool,
 }
@@ -67,7 +65,6 @@ impl Pipe {
         ensures memory { IfErr result (λ fault. fault ≡ Fault.NoMemory) }
     {
         let output = Output::new(alloc)?;
-        let line = Line::new(alloc)?;
         let Ok(station) = Station::new(alloc, end, cfg) else {
             return Err(Fault::NoMemory);
         };
@@ -77,7 +74,6 @@ impl Pipe {
             step: Step::new(alloc),
             octets: [0; MOST_OCTETS],
             user: Vec::new(alloc),
-            line,
             output,
             is_refused: false,
         })
@@ -131,9 +127,9 @@ impl Pipe {
         ensures faults { MarksFaults W.Sink writer.old writer.new result }
     {
         let entries = self.step.entries.as_slice();
-        tell_entries(&mut self.line, self.end, entries, &mut self.output, writer)?;
+        tell_entries(self.end, entries, &mut self.output, writer)?;
         let frames = self.step.frames.as_slice();
-        tell_frames(&mut self.line, self.end, frames, &mut self.output, writer)
+        tell_frames(self.end, frames, &mut self.output, writer)
     }
 
     /// Tells a step of the station: its entries, its frames and its mark.
@@ -176,7 +172,7 @@ impl Pipe {
             return Err(Fault::NoMemory);
         }
         self.is_refused = true;
-        tell_refusal(&mut self.line, error, &mut self.output, writer)?;
+        tell_refusal(error, &mut self.output, writer)?;
         self.mark_standing(writer)
     }
 

@@ -7,85 +7,53 @@ ghost use Rattle.x25_station.specs.code.PlainEntry.{plain_entry};
 ghost use Rattle.x25_station.specs.Error.{number_of};
 ghost use Rattle.x25_pipe.specs.Pipe.{enters, marks, saying_line, sayings_text, sends};
 
-use x25_console::{tell, write_frame, write_refusal};
+use x25_console::{tell, tell_frame};
 use x25_io::{Fault, Output, Sink};
 use x25_station::{Entry, Role, StationError, Timer};
-use x25_transcript::{Line, write_entry};
 
-#[tactic(auto, unfolding(crate::specs::Pipe::saying_line))]
-fn tell_entry<W: Sink>(
-    line: &mut Line,
-    end: Role,
-    entry: &Entry,
-    output: &mut Output,
-    writer: &mut W,
-) -> Result<(), Fault>
-    ensures tells { TellsMore result (W.contents writer.old) (W.contents writer.new) output.old output.new (saying_line end (enters (plain_entry entry.now))) }
-    ensures faults { MarksFaults W.Sink writer.old writer.new result }
-{
-    write_entry(end, entry, line)?;
-    tell(line.as_slice(), output, writer)
-}
-
-#[tactic(auto, unfolding(crate::specs::Pipe::saying_line))]
-fn tell_frame<W: Sink>(
-    line: &mut Line,
-    end: Role,
-    frame: &Vec<u8>,
-    output: &mut Output,
-    writer: &mut W,
-) -> Result<(), Fault>
-    ensures tells { TellsMore result (W.contents writer.old) (W.contents writer.new) output.old output.new (saying_line end (sends frame.now.items)) }
-    ensures faults { MarksFaults W.Sink writer.old writer.new result }
-{
-    write_frame(end, frame.as_slice(), line)?;
-    tell(line.as_slice(), output, writer)
-}
-
+/// Tells the entries of a step.
 pub(crate) fn tell_entries<W: Sink>(
-    line: &mut Line,
     end: Role,
     entries: &[Entry],
     output: &mut Output,
     writer: &mut W,
 ) -> Result<(), Fault>
-    ensures tells { TellsMore result (W.contents writer.old) (W.contents writer.new) output.old output.new (sayings_text end (map enters (map plain_entry entries.now))) }
+    ensures tells { TellsMore result (W.contents writer.old) (W.contents writer.new) output.old output.new
+        (sayings_text end (map enters (map plain_entry entries.now))) }
     ensures faults { MarksFaults W.Sink writer.old writer.new result }
 {
-    for entry in entries {
-        tell_entry(line, end, entry, output, writer)?;
-    }
-    Ok(())
+    x25_console::tell_entries(end, entries, output, writer)
 }
 
+/// Tells the frames of a step.
+#[tactic(auto, unfolding(crate::specs::Pipe::saying_line))]
 pub(crate) fn tell_frames<W: Sink>(
-    line: &mut Line,
     end: Role,
     frames: &[Vec<u8>],
     output: &mut Output,
     writer: &mut W,
 ) -> Result<(), Fault>
-    ensures tells { TellsMore result (W.contents writer.old) (W.contents writer.new) output.old output.new (sayings_text end (map sends (map (λ frame. frame.items) frames.now))) }
+    ensures tells { TellsMore result (W.contents writer.old) (W.contents writer.new) output.old output.new
+        (sayings_text end (map sends (map (λ frame. frame.items) frames.now))) }
     ensures faults { MarksFaults W.Sink writer.old writer.new result }
 {
     for frame in frames {
-        tell_frame(line, end, frame, output, writer)?;
+        tell_frame(end, frame.as_slice(), output, writer)?;
     }
     Ok(())
 }
 
 /// Tells that what a line asks for is refused.
 pub(crate) fn tell_refusal<W: Sink>(
-    line: &mut Line,
     error: StationError,
     output: &mut Output,
     writer: &mut W,
 ) -> Result<(), Fault>
-    ensures tells { TellsMore result (W.contents writer.old) (W.contents writer.new) output.old output.new (line_of_refusal (number_of error)) }
+    ensures tells { TellsMore result (W.contents writer.old) (W.contents writer.new) output.old output.new
+        (line_of_refusal (number_of error)) }
     ensures faults { MarksFaults W.Sink writer.old writer.new result }
 {
-    write_refusal(error.number(), line)?;
-    tell(line.as_slice(), output, writer)
+    x25_console::tell_refusal(error.number(), output, writer)
 }
 
 /// The line of a mark: what T1 does, and whether the station is idle.
@@ -110,7 +78,8 @@ pub(crate) fn tell_mark<W: Sink>(
     output: &mut Output,
     writer: &mut W,
 ) -> Result<(), Fault>
-    ensures tells { (end : Role) → TellsMore result (W.contents writer.old) (W.contents writer.new) output.old output.new (saying_line end (marks timer is_idle)) }
+    ensures tells { (end : Role) → TellsMore result (W.contents writer.old) (W.contents writer.new) output.old output.new
+        (saying_line end (marks timer is_idle)) }
     ensures faults { MarksFaults W.Sink writer.old writer.new result }
 {
     tell(mark_line(timer, is_idle), output, writer)

@@ -1,7 +1,8 @@
 //! Lines that are shown, in memory whose refused growths are asked for again: one refusal doesn't end the player itself.
 use std::alloc::{AllocError, Global};
 use x25_station::{Entry, Role};
-use x25_transcript::{Line, entry_line};
+use x25_text::Text;
+use x25_transcript::entry_line;
 
 /// As many characters are set aside at first.
 const ROOM: usize = 8_192;
@@ -22,23 +23,23 @@ pub(crate) fn end_name(end: Role) -> &'static [u8] {
 }
 
 /// A frame as a trace has it.
-fn frame_line(alloc: Global, from: Role, octets: &[u8]) -> Result<Line, AllocError> {
-    let mut line = Line::new(alloc)?;
+fn frame_line(alloc: Global, from: Role, octets: &[u8]) -> Result<Text, AllocError> {
+    let mut text = Text::new(alloc)?;
     match from {
-        Role::Dte => line.push(b"> ")?,
-        Role::Dce => line.push(b"< ")?,
+        Role::Dte => text.try_push(b"> ")?,
+        Role::Dce => text.try_push(b"< ")?,
     }
-    line.push_hexadecimal(octets)?;
-    line.push(b"\n")?;
-    Ok(line)
+    text.try_push_hexadecimal(octets)?;
+    text.try_push(b"\n")?;
+    Ok(text)
 }
 
 /// A label, a number and a line feed.
-fn number_line(alloc: Global, label: &[u8], number: u64) -> Result<Line, AllocError> {
-    let mut line = Line::new(alloc)?;
-    line.push_number(label, number)?;
-    line.push(b"\n")?;
-    Ok(line)
+fn number_line(alloc: Global, label: &[u8], number: u64) -> Result<Text, AllocError> {
+    let mut text = Text::new(alloc)?;
+    text.try_push_number(label, number)?;
+    text.try_push(b"\n")?;
+    Ok(text)
 }
 
 impl Lines {

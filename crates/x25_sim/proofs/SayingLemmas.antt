@@ -1,14 +1,23 @@
 -- The text of what is said, one saying after another.
-use Rattle.std.proofs.Common.{◌≡◌, ◌∙◌, ◌+◌, ◌<◌, ◌≤◌, ℕ, List, [], ◌∷◌, ◌++◌, Some, None, slice_get, length, take, drop, map, get_or, ap, sym, arith}
+use Rattle.std.proofs.Common.{◌≡◌, ◌∙◌, ◌+◌, ◌<◌, ◌≤◌, ℕ, List, [], ◌∷◌, ◌++◌, Some, None, slice_get, length, take, drop, map, get_or, ap, refl, sym, arith}
 use Rattle.std.proofs.lemmas.Grind.{flat_map-append}
 use Rattle.std.proofs.lemmas.List.{append-nil, map-append, take_more, take-append-drop, drop-append-le, length-take-le}
 use Rattle.std.proofs.lemmas.Option.{get_or_from_slice_get, slice_get-get_or}
 use Rattle.x25_bits.specs.declared.role.Role.{Role}
+use Rattle.x25_console.specs.Telling.{entries_text}
+use Rattle.x25_station.specs.Entry.{StationEntry}
+use Rattle.x25_transcript.specs.EntryText.{entry_line}
 use Rattle.x25_world.specs.World.{OnTap, tapped}
-use Rattle.x25_sim.specs.Telling.{Saying, taps, saying_line, sayings_text}
+use Rattle.x25_sim.specs.Telling.{Saying, enters_at, taps, saying_line, sayings_text}
 
 pub text-append : (xs ys : List Saying) → sayings_text (xs ++ ys) ≡ sayings_text xs ++ sayings_text ys
 text-append xs ys = flat_map-append saying_line xs ys
+
+-- the lines of entries
+pub entries_said : (at : Role) (entries : List StationEntry) → entries_text at entries ≡ sayings_text (map (enters_at at) entries)
+unfolding saying_line
+entries_said at [] = refl
+entries_said at (e ∷ entries) = ap (λ text. entry_line at e ++ text) (entries_said at entries)
 
 module _ {X Y : Type 0} (plain : X → Y) (says : Y → Saying) where
   -- what is said of some
@@ -21,19 +30,6 @@ module _ {X Y : Type 0} (plain : X → Y) (says : Y → Saying) where
 
   one : (x : X) → text_of_all (x ∷ []) ≡ saying_line (says (plain x))
   one x = append-nil (saying_line (says (plain x)))
-
-  -- of one more
-  pub all_more : (xs : List X) (i : ℕ) (x : X) → i < length xs → x ≡ get_or xs i x → text_of_all (take (i + 1) xs) ≡ text_of_all (take i xs) ++ saying_line (says (plain x))
-  all_more xs i x inside is =
-      ap text_of_all (take_more xs i x inside) ∙ all-append (take i xs) (get_or xs i x ∷ [])
-      ∙ ap (λ t. text_of_all (take i xs) ++ t) (one (get_or xs i x) ∙ ap (λ y. saying_line (says (plain y))) (sym is))
-
-  -- of those before a place, of the one there, and of the rest
-  pub all_parts : (xs : List X) (i : ℕ) (x : X) → i < length xs → x ≡ get_or xs i x
-      → text_of_all xs ≡ (text_of_all (take i xs) ++ saying_line (says (plain x))) ++ text_of_all (drop (i + 1) xs)
-  all_parts xs i x inside is =
-      ap text_of_all (sym (take-append-drop (i + 1) xs)) ∙ all-append (take (i + 1) xs) (drop (i + 1) xs)
-      ∙ ap (λ t. t ++ text_of_all (drop (i + 1) xs)) (all_more xs i x inside is)
 
 -- ---- frames on the line, which an end put behind so many that were there before
 

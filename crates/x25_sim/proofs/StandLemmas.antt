@@ -48,7 +48,7 @@ module _ (cfg : Cfg) (tap : Bool) (old now next : Option (List ℕ)) (s u : Stag
         subst (BeginsAt old next told) (sym (happened_turn tap w o accepted))
         (subst (λ a. AppendsPrefix old next (told ++ sayings_text (told_between a w (after w o)))) h.asked b)
 
-    -- .. where nothing would be said of a refusal
+    -- the same where nothing would be said of a refusal
     pub stands_tried : FitsWorld cfg u.world (after w o) (all_of (after w o)) → u.tap ≡ s.tap → u.is_refused ≡ s.is_refused
         → Tells old next u.output (told ++ sayings_text (told_between s.tap w (after w o))) → StandsAt cfg tap old next u told refused (tried_of tap w o)
     stands_tried fits asked status tells =
@@ -76,7 +76,7 @@ module _ (cfg : Cfg) (tap : Bool) (old now next : Option (List ℕ)) (s u : Stag
     begins_refused b =
         subst (BeginsAt old next told) (sym (declined_turn tap w o error refusal)) (subst (λ t. AppendsPrefix old next (told ++ t)) (sym (refusal_told error)) b)
 
-    -- .. and nothing is said of it
+    -- nothing is said of the refusal
     pub stands_left_out : FitsWorld cfg u.world w (all_of w) → u.tap ≡ s.tap → u.is_refused ≡ s.is_refused → Tells old next u.output told
         → StandsAt cfg tap old next u told refused (tried_of tap w o)
     stands_left_out fits asked status tells =

@@ -54,7 +54,7 @@ first_told : (cfg : Cfg) (down : Bool) → (opening cfg down).transcript ≡ []
 first_told cfg true = refl
 first_told cfg false = connected_tells cfg
 
--- .. and whose frames are on the line to the DCE
+-- its frames are on the line to the DCE
 first_put : (cfg : Cfg) (down : Bool) → (opening cfg down).tap ≡ tapped Dte (opening cfg down).out
 first_put cfg true = refl
 first_put cfg false = connected_taps cfg

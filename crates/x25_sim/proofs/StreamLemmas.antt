@@ -87,14 +87,14 @@ unfolding turn
 obeyed cfg tap old now next s u result line asked few e h = λ w told refused stands.
     subst (λ read. Stood cfg tap old next u told refused result (asked_turn cfg tap w read)) (sym (asks line asked few e)) (h w told refused stands)
 
--- .. as a command of an end
+-- the same of a command of an end
 pub obeyed_at : (cfg : Cfg) (tap : Bool) (old now next : Option (List ℕ)) (s u : Stage) (result : Result Unit Fault) (line text : List ℕ) (end : Role) (asked : PlainCommand)
     → length line ≤ most_line → line_in line ≡ option_map (command end) (command_in text) → command_in text ≡ Some asked
     → Turns cfg tap old now next s u result (line_turn cfg tap (command end asked)) → Turns cfg tap old now next s u result (turn cfg tap line)
 obeyed_at cfg tap old now next s u result line text end asked few e f h =
     obeyed cfg tap old now next s u result line (command end asked) few (e ∙ ap (option_map (command end)) f) h
 
--- .. or nothing that a line can ask for
+-- the same of nothing that a line can ask for
 pub unread_at : (cfg : Cfg) (tap : Bool) (old now next : Option (List ℕ)) (s u : Stage) (result : Result Unit Fault) (line text : List ℕ) (end : Role)
     → length line ≤ most_line → line_in line ≡ option_map (command end) (command_in text) → command_in text ≡ None
     → Turns cfg tap old now next s u result (λ w. asked_turn cfg tap w None) → Turns cfg tap old now next s u result (turn cfg tap line)

@@ -91,7 +91,7 @@ abbrev pub unless_empty : (World → Turn) → World → Option Role → Turn
 unless_empty rest w None = quiet w
 unless_empty rest w (Some at) = rest w
 
--- .. again and again, as long as that puts frames on the line
+-- both pulls and what they put, again and again, as long as frames are on the line
 unfoldable pub emptied : Cfg → Bool → ℕ → World → Turn
 emptied cfg tap zero w = quiet w
 emptied cfg tap (suc n) w = and_then (λ v. unless_empty (emptied cfg tap n) v (next_end v.out v.back)) (pulled cfg tap w)

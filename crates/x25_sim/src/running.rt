@@ -56,7 +56,7 @@ pub fn sim<R: Source, W: Sink>(
         → WritesOnce HasNoProcedureError cfg down tap script (W.contents writer.old) (W.contents writer.new))) }
     ensures window { OnOk result (IfSome (R.remaining reader.old) (λ script. length script < 2 ^ 64 - 1
         → WritesSetUp IsInWindow cfg down tap script (W.contents writer.old) (W.contents writer.new))) }
-    // .. and of every script those on sessions.
+    // And of every script those on sessions.
     ensures sessions { OnOk result (IfSome (R.remaining reader.old) (λ script. length script < 2 ^ 64 - 1
         → Writes SessionsKeepOrder cfg down tap script (W.contents writer.old) (W.contents writer.new))) }
 

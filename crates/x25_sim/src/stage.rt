@@ -12,18 +12,16 @@ use x25_console::{read_octets, read_user, station_command, tell_nothing};
 use x25_io::{Fault, Output, Sink};
 use x25_script::{Command, ScriptLine, Sent};
 use x25_station::{Cfg, Cmd, Entry};
-use x25_transcript::Line;
 use x25_world::{
     Direction, Event, Role, SABM_ARRIVES, UA_ARRIVES, World, WorldError, two_stations_keep_order,
 };
 
-/// A world whose transcript and frames were told and let go of, the line that tells, and what waits to be written.
+/// A world whose transcript and frames were told and let go of, and what waits to be written.
 #[derive(Drop)]
 pub(crate) struct Stage {
     world: World,
     told: Vec<Entry>,
     tap: bool,
-    line: Line,
     output: Output,
     is_refused: bool,
 }
@@ -94,7 +92,6 @@ impl Stage {
         ensures memory { IfErr result (λ fault. fault ≡ Fault.NoMemory) }
     {
         let output = Output::new(alloc)?;
-        let line = Line::new(alloc)?;
         let Ok(world) = first_world(alloc, down, cfg) else {
             return Err(Fault::NoMemory);
         };
@@ -102,7 +99,6 @@ impl Stage {
             world,
             told: Vec::new(alloc),
             tap,
-            line,
             output,
             is_refused: false,
         })
@@ -117,15 +113,7 @@ impl Stage {
         ensures faults { MarksFaults W.Sink writer.old writer.new result }
     {
         let away = away_from(at);
-        tell_frames(
-            &mut self.line,
-            at,
-            &self.world,
-            away,
-            before,
-            &mut self.output,
-            writer,
-        )
+        tell_frames(at, &self.world, away, before, &mut self.output, writer)
     }
 
     /// Tells the step of an end: its entries, and behind these its frames where they are asked for, which stand on the line behind so many.
@@ -140,13 +128,7 @@ impl Stage {
         ensures is_refused { self.new.is_refused ≡ self.old.is_refused }
         ensures faults { MarksFaults W.Sink writer.old writer.new result }
     {
-        tell_entries(
-            &mut self.line,
-            at,
-            self.told.as_slice(),
-            &mut self.output,
-            writer,
-        )?;
+        tell_entries(at, self.told.as_slice(), &mut self.output, writer)?;
         if !self.tap {
             return Ok(());
         }
@@ -193,7 +175,7 @@ impl Stage {
             return Err(Fault::NoMemory);
         }
         self.is_refused = true;
-        tell_refusal(&mut self.line, error, &mut self.output, writer)
+        tell_refusal(error, &mut self.output, writer)
     }
 
     /// An event happens, and is told, or it is told that it is refused.

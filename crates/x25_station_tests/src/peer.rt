@@ -9,7 +9,7 @@ use std::test::Fail;
 use x25_bits::Seq;
 use x25_frame::{Frame, encode};
 use x25_station::{Cfg, Cmd, Role, Station, StationError, Step, Timer};
-use x25_transcript::Line;
+use x25_text::Text;
 
 /// What happens at a station.
 #[derive(Clone, Copy, Debug)]
@@ -75,14 +75,14 @@ impl End {
         })
     }
 
-    fn shown(&self, answer: Result<(), StationError>) -> Result<Line, Fail> {
+    fn shown(&self, answer: Result<(), StationError>) -> Result<Text, Fail> {
         match answer {
             Ok(()) => step_lines(self.alloc, self.role, &self.out),
             Err(error) => Ok(refusal_line(self.alloc, error)?),
         }
     }
 
-    fn happens(&mut self, act: Act) -> Result<Line, Fail> {
+    fn happens(&mut self, act: Act) -> Result<Text, Fail> {
         match act {
             Act::Connect => {
                 let answer = connect(&mut self.station, &mut self.out);
@@ -127,13 +127,13 @@ impl End {
         }
     }
 
-    fn joined(&self, channel: u16) -> Result<Line, Fail> {
+    fn joined(&self, channel: u16) -> Result<Text, Fail> {
         let count = self.station.octets_joined(channel);
         let shown = format!(in self.alloc; "{count}")?;
         Ok(lines(self.alloc, &[shown.as_str()])?)
     }
 
-    fn timer(&self) -> Result<Line, Fail> {
+    fn timer(&self) -> Result<Text, Fail> {
         let became = match self.out.timer {
             Timer::Off => "off",
             Timer::Begins => "begins",
@@ -145,7 +145,7 @@ impl End {
         Ok(lines(self.alloc, &["T1 is off", became])?)
     }
 
-    fn asks(&mut self, count: u16, command: Cmd<'_>) -> Result<Line, Fail> {
+    fn asks(&mut self, count: u16, command: Cmd<'_>) -> Result<Text, Fail> {
         for _ in 1..count {
             ask(&mut self.station, command, &mut self.out)?;
         }
@@ -153,7 +153,7 @@ impl End {
         self.shown(answer)
     }
 
-    fn sends(&mut self, count: usize) -> Result<Line, Fail> {
+    fn sends(&mut self, count: usize) -> Result<Text, Fail> {
         let user = vec![in self.alloc; 7u8; count]?;
         self.asks(
             1,
@@ -165,13 +165,13 @@ impl End {
         )
     }
 
-    fn takes(&mut self, octets: &str) -> Result<Line, Fail> {
+    fn takes(&mut self, octets: &str) -> Result<Text, Fail> {
         let octets = hex::decode(self.alloc, octets)?;
         let answer = receive(&mut self.station, octets.as_slice(), &mut self.out);
         self.shown(answer)
     }
 
-    fn receives(&mut self, frame: &Frame) -> Result<Line, Fail> {
+    fn receives(&mut self, frame: &Frame) -> Result<Text, Fail> {
         let from = match self.role {
             Role::Dte => Role::Dce,
             Role::Dce => Role::Dte,
@@ -181,7 +181,7 @@ impl End {
         self.shown(answer)
     }
 
-    fn hears(&mut self, count: u16, first: u8, nr: u8, packet: &str) -> Result<Line, Fail> {
+    fn hears(&mut self, count: u16, first: u8, nr: u8, packet: &str) -> Result<Text, Fail> {
         let info = hex::decode(self.alloc, packet)?;
         let mut ns = Seq::modulo(first);
         for _ in 1..count {

@@ -223,8 +223,8 @@ pub fn read_digits(digits: &[u8], octets: &mut [u8])
 }
 
 /// The place of the lowest bit that is set, 16 where none is.
-#[inline]
-fn lowest_set(mask: u64) -> usize
+#[inline(always)]
+pub fn lowest_set(mask: u64) -> usize
     ensures { result ≡ (if mask == 0 then 16 else trailing_zeros w64 mask) }
 {
     if mask == 0 {

@@ -10,7 +10,7 @@ mod text;
 
 pub use frame_text::{MOST_TEXT, push_fault, push_frame};
 pub use hexadecimal::{
-    is_hexadecimal, read_digits, read_hexadecimal, read_line, write_hexadecimal,
+    is_hexadecimal, lowest_set, read_digits, read_hexadecimal, read_line, write_hexadecimal,
 };
 pub use packet_text::{MOST_PACKET_TEXT, push_information, push_packet};
 pub use text::{MOST_OCTETS, ROOM, Text, digit};

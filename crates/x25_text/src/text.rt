@@ -1,5 +1,6 @@
 //! A text that waits to be written.
-ghost use Rattle.std.specs.Prelude.{◌≡◌, ◌↔◌, ◌+◌, ◌*◌, ◌≤◌, ◌<◌, ◌++◌, [], ◌∷◌, ℕ, List, IfOk, IsTrue, length, take, decimal};
+ghost use Rattle.std.specs.Prelude.{◌≡◌, ◌↔◌, ◌+◌, ◌*◌, ◌≤◌, ◌<◌, ◌++◌, [], ◌∷◌, ℕ, List, IfOk, OnOk, OnErr, IsTrue};
+ghost use Rattle.std.specs.Prelude.{length, take, decimal};
 ghost use Rattle.std.specs.List.{flat_map};
 ghost use Rattle.x25_frame.specs.Spelling.{bit};
 ghost use Rattle.x25_text.specs.Text.{octet_text, octets_text};
@@ -11,7 +12,7 @@ use std::alloc::{AllocError, Global};
 use std::marker::Model;
 use x25_frame::Seq;
 
-/// The characters that a text has room for.
+/// The characters that a text has room for at least.
 pub const ROOM: usize = 65_536;
 
 /// The most octets of a frame: with 4,099 octets of information, address, control and frame check sequence.
@@ -29,19 +30,62 @@ impl Model for Text {
 
     ghost view = { λ text. take text.count text.buffer.items };
 
-    ghost invariant = { λ text. (length text.buffer.items ≡ ROOM) × (text.count ≤ ROOM) };
+    ghost invariant = { λ text. (ROOM ≤ length text.buffer.items) × (text.count ≤ length text.buffer.items) };
 }
 
-/// Writes the octets as hexadecimal digits from a place on.
-#[inline]
-fn write_from(octets: &[u8], buffer: &mut [u8], from: usize)
-    requires few { length octets.now ≤ MOST_OCTETS }
-    requires room { from + 2 * length octets.now ≤ length buffer.old }
-    ensures text { take (from + 2 * length octets.now) buffer.new ≡ take from buffer.old ++ flat_map octet_text octets.now }
+/// Makes the buffer longer, so that `more` characters have room behind the first `count`, which stay.
+#[cold]
+fn grow(buffer: &mut Vec<u8>, count: usize, more: usize) -> Result<(), AllocError>
+    requires held { count ≤ length buffer.old.items }
+    requires short { length buffer.old.items ≤ count + more }
+    ensures room { OnOk result (count + more ≤ length buffer.new.items) }
+    ensures kept { take count buffer.new.items ≡ take count buffer.old.items }
+    ensures size { length buffer.old.items ≤ length buffer.new.items }
+{
+    let Some(end) = count.checked_add(more) else {
+        return Err(AllocError);
+    };
+    buffer.resize(end, 0u8)
+}
+
+/// Makes room for `more` characters behind the first `count`, which stay.
+#[inline(always)]
+fn make_room(buffer: &mut Vec<u8>, count: usize, more: usize) -> Result<(), AllocError>
+    requires { count ≤ length buffer.old.items }
+    ensures room { OnOk result (count + more ≤ length buffer.new.items) }
+    ensures kept { take count buffer.new.items ≡ take count buffer.old.items }
+    ensures size { length buffer.old.items ≤ length buffer.new.items }
+{
+    if more <= buffer.len() - count {
+        return Ok(());
+    }
+    grow(buffer, count, more)
+}
+
+/// Puts characters behind the first `count`, and answers how many there are then.
+#[inline(always)]
+fn put(buffer: &mut [u8], count: usize, characters: &[u8]) -> usize
+    requires room { count + length characters.now ≤ length buffer.old }
+    ensures text { take result buffer.new ≡ take count buffer.old ++ characters.now }
+    ensures count { result ≡ count + length characters.now }
     ensures size { length buffer.new ≡ length buffer.old }
 {
-    let digits = &mut buffer[from..from + 2 * octets.len()];
-    write_hexadecimal(octets, digits);
+    let end = count + characters.len();
+    buffer[count..end].copy_from_slice(characters);
+    end
+}
+
+/// Puts octets as hexadecimal digits behind the first `count` characters, and answers how many there are then.
+#[inline]
+fn put_hexadecimal(buffer: &mut [u8], count: usize, octets: &[u8]) -> usize
+    requires room { count + 2 * length octets.now ≤ length buffer.old }
+    ensures text { take result buffer.new ≡ take count buffer.old ++ flat_map octet_text octets.now }
+    ensures count { result ≡ count + 2 * length octets.now }
+    ensures size { length buffer.new ≡ length buffer.old }
+{
+    let end = count + 2 * octets.len();
+    write_hexadecimal(octets, &mut buffer[count..end]);
+    end
 }
 
 /// A number of one digit as a character.
@@ -113,9 +157,8 @@ impl Text {
         ensures text { self.new ≡ self.old ++ characters.now }
         ensures size { length self.new ≡ length self.old + length characters.now }
     {
-        let end = self.count + characters.len();
-        self.buffer[self.count..end].copy_from_slice(characters);
-        self.count = end;
+        let buffer = self.buffer.as_mut_slice();
+        self.count = put(buffer, self.count, characters);
     }
 
     /// Appends a number of one digit.
@@ -171,8 +214,8 @@ impl Text {
         ensures text { self.new ≡ self.old ++ flat_map octet_text octets.now }
         ensures size { length self.new ≡ length self.old + 2 * length octets.now }
     {
-        write_from(octets, self.buffer.as_mut_slice(), self.count);
-        self.count += 2 * octets.len();
+        let buffer = self.buffer.as_mut_slice();
+        self.count = put_hexadecimal(buffer, self.count, octets);
     }
 
     /// Appends the octets as hexadecimal digits, `-` where there are none.
@@ -185,6 +228,64 @@ impl Text {
         match octets {
             [] => self.push(b"-"),
             _ => self.push_hexadecimal(octets),
+        }
+    }
+
+    /// Appends characters, however many. Err: no memory.
+    #[inline(always)]
+    pub fn try_push(&mut self, characters: &[u8]) -> Result<(), AllocError>
+        ensures text { OnOk result (self.new ≡ self.old ++ characters.now) }
+        ensures unchanged { OnErr result (self.new ≡ self.old) }
+    {
+        make_room(&mut self.buffer, self.count, characters.len())?;
+        self.count = put(self.buffer.as_mut_slice(), self.count, characters);
+        Ok(())
+    }
+
+    // Appends two parts, or neither.
+    #[inline(always)]
+    fn try_push_both(&mut self, first: &[u8], second: &[u8]) -> Result<(), AllocError>
+        ensures text { OnOk result (self.new ≡ self.old ++ (first.now ++ second.now)) }
+        ensures unchanged { OnErr result (self.new ≡ self.old) }
+    {
+        make_room(&mut self.buffer, self.count, first.len() + second.len())?;
+        let buffer = self.buffer.as_mut_slice();
+        let middle = put(buffer, self.count, first);
+        self.count = put(buffer, middle, second);
+        Ok(())
+    }
+
+    /// Appends a label and then a number in decimal. Err: no memory.
+    #[inline(always)]
+    pub fn try_push_number(&mut self, label: &[u8], number: u64) -> Result<(), AllocError>
+        ensures text { OnOk result (self.new ≡ self.old ++ (label.now ++ decimal number)) }
+        ensures unchanged { OnErr result (self.new ≡ self.old) }
+    {
+        if number < 10 {
+            return self.try_push_both(label, &[digit(number as u8)]);
+        }
+        let mut figures = Buffer::new();
+        self.try_push_both(label, figures.format(number).as_bytes())
+    }
+
+    /// Appends octets as hexadecimal digits, however many. Err: no memory.
+    pub fn try_push_hexadecimal(&mut self, octets: &[u8]) -> Result<(), AllocError>
+        ensures text { OnOk result (self.new ≡ self.old ++ flat_map octet_text octets.now) }
+        ensures unchanged { OnErr result (self.new ≡ self.old) }
+    {
+        make_room(&mut self.buffer, self.count, 2 * octets.len())?;
+        self.count = put_hexadecimal(self.buffer.as_mut_slice(), self.count, octets);
+        Ok(())
+    }
+
+    /// Appends octets as hexadecimal digits, `-` where there are none, however many. Err: no memory.
+    pub fn try_push_octets(&mut self, octets: &[u8]) -> Result<(), AllocError>
+        ensures text { OnOk result (self.new ≡ self.old ++ octets_text octets.now) }
+        ensures unchanged { OnErr result (self.new ≡ self.old) }
+    {
+        match octets {
+            [] => self.try_push(b"-"),
+            _ => self.try_push_hexadecimal(octets),
         }
     }
 }

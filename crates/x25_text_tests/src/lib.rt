@@ -1,4 +1,4 @@
-//! Tests of `x25_text`: octets of frames and packets beside their texts, and digits beside `hex`.
+//! Tests of `x25_text`: octets of frames and packets beside their texts, digits beside `hex`, and the buffer.
 #![tactic(auto)]
 
 #[cfg(test)]
@@ -7,3 +7,5 @@ mod digits;
 mod frames;
 #[cfg(test)]
 mod packets;
+#[cfg(test)]
+mod texts;

@@ -4,9 +4,5 @@
 #![tactic(auto)]
 
 mod entry_text;
-mod line;
-mod message_line;
 
-pub use entry_text::{entry_line, write_entry};
-pub use line::Line;
-pub use message_line::{SHORT_LINE, push_message};
+pub use entry_text::{entry_line, push_entry};

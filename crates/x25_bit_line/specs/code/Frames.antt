@@ -26,6 +26,6 @@ pub record WritesLines (old now : Option (List ℕ)) (lines : List (List ℕ)) (
   pub appends : Appends old now part
   pub same : part ++ octets_of (filled (left ++ flat_map line_bits lines)) ≡ framed_octets input
 
--- .. and the line that has begun
+-- the same, where a line has begun
 abbrev pub WritesFrames : Option (List ℕ) → Option (List ℕ) → List ℕ → List ℕ → Type 0
 WritesFrames old now rest input = LinesEnded (λ lines. WritesLines old now lines input) rest

@@ -19,6 +19,6 @@ pub record WritesLines (c : Settings) (old now : Option (List ℕ)) (lines : Lis
   pub appends : Appends old now part
   pub same : part ++ sayings_text c.role (turns c lines at).sayings ≡ sayings_text c.role whole.sayings
 
--- .. and of the line that has begun
+-- the same, where a line has begun
 abbrev pub WritesEnded : Settings → Option (List ℕ) → Option (List ℕ) → List ℕ → Turn → Type 0
 WritesEnded c old now rest whole = LinesEnded (λ lines. WritesLines c old now lines whole) rest

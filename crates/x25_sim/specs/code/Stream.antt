@@ -26,6 +26,6 @@ pub record WritesLines (cfg : Cfg) (tap : Bool) (old now : Option (List ℕ)) (l
   pub appends : Appends old now part
   pub same : part ++ sayings_text (turns cfg tap lines at).sayings ≡ sayings_text whole.sayings
 
--- .. and of the line that has begun
+-- the same, where a line has begun
 abbrev pub WritesEnded : Cfg → Bool → Option (List ℕ) → Option (List ℕ) → List ℕ → Turn → Type 0
 WritesEnded cfg tap old now rest whole = LinesEnded (λ lines. WritesLines cfg tap old now lines whole) rest

@@ -60,7 +60,7 @@ abbrev pub OfScripts : (Cfg → World → Type 0) → Type 0
 OfScripts Holds = (cfg : Cfg) → config_refusal cfg ≡ None → (down tap : Bool) (script : List ℕ) → IsUpAtMostOnce cfg (simulated cfg down tap script).next
     → Holds cfg (simulated cfg down tap script).next
 
--- .. from a link just set up, which isn't set up anew
+-- the same from a link just set up, which isn't set up anew
 abbrev pub OfScriptsSetUp : (Cfg → World → Type 0) → Type 0
 OfScriptsSetUp Holds = (cfg : Cfg) → config_refusal cfg ≡ None → (tap : Bool) (script : List ℕ) → IsUpOnce cfg (simulated cfg false tap script).next
     → Holds cfg (simulated cfg false tap script).next
@@ -85,6 +85,6 @@ OfAllScripts Holds = (cfg : Cfg) → config_refusal cfg ≡ None → (down tap :
 abbrev pub HealIsTheSchedule : Type 0
 HealIsTheSchedule = (cfg : Cfg) (tap : Bool) (w : World) → (line_turn cfg tap heal w).next ≡ run cfg (healing cfg w) w
 
--- .. and brings about what that does
+-- it brings about what that schedule does
 abbrev pub HealBringsAll : Cfg → World → Type 0
 HealBringsAll cfg w = (tap : Bool) → ArrivesByHealing cfg w (line_turn cfg tap heal w).next

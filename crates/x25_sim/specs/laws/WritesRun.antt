@@ -17,10 +17,10 @@ pub record Writes (Holds : Cfg → World → Type 0) (cfg : Cfg) (down tap : Boo
   pub frames : tap ≡ true → frames_in sayings ≡ (simulated cfg down tap script).next.tap
   pub holds : Holds cfg (simulated cfg down tap script).next
 
--- .. as long as neither end goes up a second time
+-- the same, as long as neither end goes up a second time
 abbrev pub WritesOnce : (Cfg → World → Type 0) → Cfg → Bool → Bool → List ℕ → Option (List ℕ) → Option (List ℕ) → Type 0
 WritesOnce Holds cfg down tap script old now = IsUpAtMostOnce cfg (simulated cfg down tap script).next → Writes Holds cfg down tap script old now
 
--- .. of a script that begins with the link set up, which isn't set up anew
+-- the same of a script that begins with the link set up, which isn't set up anew
 abbrev pub WritesSetUp : (Cfg → World → Type 0) → Cfg → Bool → Bool → List ℕ → Option (List ℕ) → Option (List ℕ) → Type 0
 WritesSetUp Holds cfg down tap script old now = down ≡ false → IsUpOnce cfg (simulated cfg down tap script).next → Writes Holds cfg down tap script old now

@@ -1,16 +1,12 @@
-use Rattle.std.proofs.Common.{◌++◌, append_assoc, take, map, subst}
-use Rattle.std.proofs.lemmas.Result.{err_from_is_err_and}
-use Rattle.x25_io.specs.code.Written.{AppendsPrefix}
+use Rattle.std.proofs.Common.{◌++◌, map, subst}
+use Rattle.std.specs.Prelude.{MatchResult}
+use Rattle.x25_io.specs.code.Written.{AppendsPrefix, Tells}
 use Rattle.x25_station.specs.code.PlainEntry.{plain_entry}
-use Rattle.x25_pipe.specs.Pipe.{enters, saying_line, sayings_text}
-use Rattle.x25_io.proofs.ToldLemmas.{part_of_all}
-use Rattle.x25_pipe.proofs.SayingLemmas.{all_parts}
+use Rattle.x25_pipe.proofs.SayingLemmas.{entries_said}
 use Rattle.x25_pipe.proofs.telling.tell_entries.Goals as goal
 
-pub returns-in_err-tell_entry-clause-tells : goal.returns-in_err-tell_entry-clause-tells
-returns-in_err-tell_entry-clause-tells g c = λ old told h.
-    let p = err_from_is_err_and c.from_residual.result c.from_residual.ensures.1 in
-    let first = sayings_text c.args.end (map enters (map plain_entry (take c.loop-entry.entry-index c.args.entries.now))) in
-    rw p.1 (part_of_all old _ told (first ++ saying_line c.args.end (enters (plain_entry c.entry-item.result))) _ _
-    (all_parts c.args.end plain_entry enters c.args.entries.now c.loop-entry.entry-index c.entry-item.result c.loop-entry-test.true c.entry-item.is)
-    (subst (AppendsPrefix old (g.W.Sink.contents c.tell_entry.new.writer)) (append_assoc told first _) (c.in_err-tell_entry.ensures.tells old (told ++ first) (c.loop-entry.invariant.1 old told h))))
+pub returns-clause-tells : goal.returns-clause-tells
+returns-clause-tells g c = λ old told h.
+    let written = g.W.Sink.contents c.tell_entries.new.writer in
+    subst (λ text. MatchResult c.tell_entries.result (λ _. Tells old written c.tell_entries.new.output (told ++ text)) (λ _. AppendsPrefix old written (told ++ text)))
+    (entries_said c.args.end (map plain_entry c.args.entries.now)) (c.tell_entries.ensures.tells old told h)

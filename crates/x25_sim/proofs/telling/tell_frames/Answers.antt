@@ -9,6 +9,7 @@ use Rattle.x25_sim.proofs.telling.tell_frames.Goals as goal
 use Rattle.x25_sim.proofs.telling.tell_frames.Goals.{in-Some+in_ok-tell_frame, in_default}
 
 pub returns-in_err-tell_frame-clause-tells : goal.returns-in_err-tell_frame-clause-tells
+unfolding saying_line
 returns-in_err-tell_frame-clause-tells g c = λ old told h.
     let p = err_from_is_err_and c.from_residual.result c.from_residual.ensures.1 in
     let frames = line_of c.args.world.now c.args.direction in
@@ -19,6 +20,7 @@ returns-in_err-tell_frame-clause-tells g c = λ old told h.
     (subst (AppendsPrefix old (g.W.Sink.contents c.tell_frame.new.writer)) (append_assoc told first _) (c.in_err-tell_frame.ensures.tells old (told ++ first) (c.loop-place.invariant.2 old told h))))
 
 pub loop-place-preserved : goal.loop-place-preserved
+unfolding saying_line
 loop-place-preserved g c =
     let frames = line_of c.args.world.now c.args.direction in
     let within = subst (λ n. c.loop-place.place < n) c.on_line-place-end.ensures c.loop-place-test.true in

@@ -4,4 +4,4 @@ use Rattle.x25_transcript.proofs.entry_text.push_digits.Given as goal
 
 -- the first digits are appended
 abbrev pub invariant-loop-digit : goal.invariant-loop-digit
-invariant-loop-digit l = l.line ≡ l.initial.line ++ flat_map decimal (take l.digit-index l.digits)
+invariant-loop-digit l = l.text ≡ l.initial.text ++ flat_map decimal (take l.digit-index l.digits)
