@@ -11,7 +11,7 @@ use Rattle.x25_io.specs.Lines.{lines_of}
 use Rattle.x25_text.specs.FrameText.{reading_text}
 use Rattle.x25_packet_judge.specs.Book as book
 use Rattle.x25_judge.specs.Held.{none_held, is_same, keeps}
-use Rattle.x25_judge.specs.Note.{note_text}
+use Rattle.x25_judge.specs.Note.{first_note, note_text, unjudged_note}
 use Rattle.x25_judge.specs.RuleText.{rule_text}
 use Rattle.x25_judge.specs.Sides.{no_end, sees, misses}
 use Rattle.x25_packet_judge.specs.declared.book.Book.{Book}
@@ -99,13 +99,15 @@ told_of j from read t rule note b = record {
 
 -- a frame, as it is seen by the link layer and by the packet layer
 abbrev pub told_seen : Judge → Role → PlainFrame → Sides → book.Seen → Answer
-told_seen j from frame t s = told_of (holding from (keeps (held_of from j) frame) j) from (Ok frame) t (all_told t.rule s.rule) t.note s.book
+told_seen j from frame t s = told_of (holding from (keeps (held_of from j) frame) j) from (Ok frame) t (all_told t.rule s.rule) (first_note (unjudged_note s.unjudged) t.note) s.book
 
 abbrev pub told_frame : Judge → Role → PlainFrame → Sides → Answer
 told_frame j from frame t = told_seen j from frame t (book.sees from j.long_data frame (is_some t.rule) j.book)
 
 abbrev pub remark_of : Judge → Role → PlainFrame → Sides → Remark
-remark_of j from frame t = record { rule = all_told t.rule (book.sees from j.long_data frame (is_some t.rule) j.book).rule; note = t.note }
+remark_of j from frame t =
+    let s = book.sees from j.long_data frame (is_some t.rule) j.book in
+    record { rule = all_told t.rule s.rule; note = first_note (unjudged_note s.unjudged) t.note }
 
 abbrev pub seen_by : Judge → Role → PlainFrame → Sides
 seen_by j from frame = sees j.window (is_same (held_of from j) frame) frame (sides_of from j)

@@ -9,7 +9,7 @@ ghost use Rattle.x25_judge.specs.Judge.{all_told, answer_to, begins, behind, hel
 ghost use Rattle.x25_judge.specs.Sides.{misses};
 
 use crate::held::Held;
-use crate::note::{MOST_NOTE, Note};
+use crate::note::{MOST_NOTE, Note, first_note, push_note, unjudged_note};
 use crate::rule::Rule;
 use crate::rule_text::{MOST_RULE, push_rule};
 use crate::sides::{End, Sides};
@@ -106,7 +106,7 @@ fn push_noted(note: Option<Note>, text: &mut Text)
         return;
     };
     text.push(b" ~ note: ");
-    text.push(note.words());
+    push_note(note, text);
 }
 
 impl Judge {
@@ -190,13 +190,13 @@ impl Judge {
         let is_same = self.has(from, frame);
         let sides = self.sides(from).sees(self.window, is_same, frame);
         self.hold(from, frame);
-        let packet = self
+        let verdict = self
             .book
             .sees(from, self.long_data, frame, sides.rule.is_some());
         self.keep(from, sides);
         Remark {
-            rule: all_told(sides.rule, packet),
-            note: sides.note,
+            rule: all_told(sides.rule, verdict.rule),
+            note: first_note(unjudged_note(verdict.unjudged), sides.note),
         }
     }
 

@@ -1,10 +1,15 @@
 //! What may be noted of a frame that breaks no rule.
-ghost use Rattle.std.specs.Prelude.{◌≡◌, ◌≤◌, length};
+ghost use Rattle.std.specs.Prelude.{◌≡◌, ◌+◌, ◌≤◌, ◌++◌, length};
 ghost use Rattle.x25_judge.specs.Note as definition;
 
-/// What a loss, damage or a trace that begins in the middle explains. ITU-T X.25 (10/96); the section is in the text of each.
+use x25_text::{ROOM, Text};
+
+/// What isn't judged, and what a loss, damage or a trace that begins in the middle explains. ITU-T X.25 (10/96); the section is in the text of
+/// each.
 #[derive(Clone, Copy)]
 pub(crate) enum Note {
+    Unjudged { channel: u16 },
+    NoneJudged,
     SentAgain,
     SentBehindDamage,
     HeardBehindDamage,
@@ -25,18 +30,40 @@ pub(crate) fn first_note(note: Option<Note>, next: Option<Note>) -> Option<Note>
     }
 }
 
-impl Note {
-    /// What it says.
-    pub(crate) fn words(self) -> &'static [u8]
-        ensures words { result.now ≡ definition.note_text self }
-        ensures few { length result.now ≤ MOST_NOTE }
-    {
-        match self {
-            Note::SentAgain => b"an I frame is sent again (2.4.5.9)",
-            Note::SentBehindDamage => b"N(S) is out of order behind a damaged frame (2.4.5.1)",
-            Note::HeardBehindDamage => b"N(R) is out of range behind a damaged frame (2.3.4.9)",
-            Note::PollAgain => b"P=1 again, and no F=1 answered the last one (2.4.3)",
-            Note::PollUnseen => b"F=1 answers no P=1 that the trace shows (2.4.3)",
-        }
+/// The note of a channel that isn't judged; 0 stands for all.
+pub(crate) fn unjudged_note(channel: Option<u16>) -> Option<Note>
+    ensures { result ≡ definition.unjudged_note channel }
+{
+    match channel {
+        None => None,
+        Some(channel) => if channel == 0 {
+            Some(Note::NoneJudged)
+        } else {
+            Some(Note::Unjudged { channel })
+        },
+    }
+}
+
+/// Appends what a note says.
+pub(crate) fn push_note(note: Note, text: &mut Text)
+    requires { length text.old + MOST_NOTE ≤ ROOM }
+    ensures text { text.new ≡ text.old ++ definition.note_text note }
+    ensures size { length text.new ≤ length text.old + MOST_NOTE }
+{
+    match note {
+        Note::Unjudged { channel } => text.push_number(
+            b"not judged before a RESTART, a CLEAR or a CALL is answered (4.1): channel ",
+            channel,
+        ),
+        Note::NoneJudged => text.push(b"no channel is judged before a RESTART is answered (3.3.1)"),
+        Note::SentAgain => text.push(b"an I frame is sent again (2.4.5.9)"),
+        Note::SentBehindDamage => text.push(
+            b"N(S) is out of order behind a damaged frame (2.4.5.1)",
+        ),
+        Note::HeardBehindDamage => text.push(
+            b"N(R) is out of range behind a damaged frame (2.3.4.9)",
+        ),
+        Note::PollAgain => text.push(b"P=1 again, and no F=1 answered the last one (2.4.3)"),
+        Note::PollUnseen => text.push(b"F=1 answers no P=1 that the trace shows (2.4.3)"),
     }
 }

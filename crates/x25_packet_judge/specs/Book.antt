@@ -1,5 +1,5 @@
 -- The packet layers of both ends and all their channels, and what a frame changes and breaks. ITU-T X.25 (10/96), sections 3 and 4.
-use Rattle.std.specs.Prelude.{ℕ, ◌%◌, ◌==◌, Bool, not, ◌&&◌, if◌then◌else◌, List, slice_index_or, slice_set, Option, Some, None, Result, Ok, Err}
+use Rattle.std.specs.Prelude.{ℕ, ◌%◌, ◌==◌, Bool, not, ◌&&◌, ◌||◌, if◌then◌else◌, is_some, List, slice_index_or, slice_set, Option, Some, None, Result, Ok, Err}
 use Rattle.x25_bits.specs.declared.role.Role.{Role}
 use Rattle.x25_bits.specs.declared.role.Role.TheVariants.{Dte, Dce}
 use Rattle.x25_frame.specs.Frame.{PlainFrame, info, rr, rnr, rej, sabm, disc, ua, dm, frmr}
@@ -10,7 +10,7 @@ use Rattle.x25_packet.specs.declared.error.PacketError.{PacketError}
 use Rattle.x25_packet_judge.specs.Layer as layer
 use Rattle.x25_packet_judge.specs.PacketRule.{first}
 use Rattle.x25_packet_judge.specs.Packets.{sends}
-use Rattle.x25_packet_judge.specs.Pair.{unknown}
+use Rattle.x25_packet_judge.specs.Pair.{is_known, noted, unknown}
 use Rattle.x25_packet_judge.specs.Port.{all_alike, blank, fresh}
 use Rattle.x25_packet_judge.specs.declared.book.Book.{Book}
 use Rattle.x25_packet_judge.specs.declared.layer.Layers.{Layers}
@@ -67,20 +67,32 @@ puts Dce channel p b = record {
 
 -- ---- a packet
 
+-- behind a frame: the rule that its packet breaks, and a channel that isn't judged from there on; 0 stands for all
 pub record Seen : Type 0 where
   pub book : Book
   pub rule : Option PacketRule
+  pub unjudged : Option ℕ
+
+abbrev pub told : Book → Option PacketRule → Seen
+told b rule = record { book = b; rule = rule; unjudged = None }
 
 abbrev pub quiet : Book → Seen
-quiet b = record { book = b; rule = None }
+quiet b = told b None
+
+-- the channel isn't judged, which is noted once
+abbrev pub blind : Role → ℕ → Pair → Book → Seen
+blind from channel p b = record { book = puts from channel (noted p) b; rule = None; unjudged = if p.own.is_noted || p.other.is_noted then None else Some channel }
 
 -- both ends of its channel, behind it
+abbrev pub put_by : Role → ℕ → Pair → Option PacketRule → Book → Seen
+put_by from channel p rule b = if is_known p || is_some rule then told (puts from channel p b) rule else blind from channel p b
+
 abbrev pub took : Role → Layers → ℕ → Pair → Book → Seen
-took from t channel p b = record { book = puts from channel p (keeps from t b); rule = first t.rule p.rule }
+took from t channel p b = put_by from channel p (first t.rule p.rule) (keeps from t b)
 
 unfoldable pub takes_on : Role → Layers → ℕ → PlainPacket → Book → Seen
 takes_on from t channel packet b =
-    if not (layer.are_sure t) then record { book = keeps from t b; rule = t.rule }
+    if not (layer.are_sure t) then blind from channel (pair_of from (layer.are_level t) channel b) (keeps from t b)
     else took from t channel (sends packet (pair_of from (layer.are_level t) channel b)) b
 
 -- where no restart and confirmation went before, nothing is known of the end's channels
@@ -92,15 +104,16 @@ runs from channel packet b =
 
 -- RESTART and its confirmation: all channels of the end that sends begin anew
 unfoldable pub restarts : Role → Layers → Book → Seen
-restarts from t b = record { book = keeps from t (fills from fresh b); rule = t.rule }
+restarts from t b = told (keeps from t (fills from fresh b)) t.rule
 
--- a confirmation of none that was seen: what is known of channels from there on their calls say; of one that goes again the other end's
--- calls may have come
+-- A confirmation of none that was seen, or again of one that was sent again: of the channels of its sender nothing is known, and of the other
+-- end's what was followed.
 unfoldable pub confirms : Role → Layers → Book → Seen
 confirms from t b =
     if layer.is_answer t then restarts from (layer.answers_restart t) b
     else if layer.is_second_answer t then quiet (keeps from (layer.confirms_again t) (fills from blank b))
-    else record { book = keeps from (layer.confirms_unseen t) (fills_both blank b); rule = (layer.confirms_unseen t).rule }
+    else if layer.are_sure t then told (keeps from (layer.confirms_unseen t) (fills from blank b)) (layer.confirms_unseen t).rule
+    else told (keeps from (layer.confirms_unseen t) (fills_both blank b)) (layer.confirms_unseen t).rule
 
 unfoldable pub takes : Role → ℕ → PlainPacket → Book → Seen
 takes from channel (restart cause diagnostic) b = restarts from (layer.restarts (layers_of from b)) b
@@ -108,14 +121,14 @@ takes from channel restart_conf b = confirms from (layers_of from b) b
 takes from channel packet b = runs from channel packet b
 
 -- octets that spell none: nothing may be said of their channel, or of restarts where they name none
-abbrev pub misses_on : Role → ℕ → Book → Book
+abbrev pub misses_on : Role → ℕ → Book → Seen
 misses_on from channel b =
-    if channel == 0 then keeps from (layer.are_unsure (layers_of from b)) b
-    else puts from channel (unknown (pair_of from (layer.are_level (layers_of from b)) channel b)) b
+    if channel == 0 then record { book = keeps from (layer.are_unsure (layers_of from b)) b; rule = None; unjudged = Some 0 }
+    else blind from channel (unknown (pair_of from (layer.are_level (layers_of from b)) channel b)) b
 
 abbrev pub takes_read : Role → ℕ → Result PlainPacket PacketError → Book → Seen
 takes_read from channel (Ok packet) b = takes from channel packet b
-takes_read from channel (Err e) b = quiet (misses_on from channel b)
+takes_read from channel (Err e) b = misses_on from channel b
 
 abbrev pub reads_on : Role → Bool → List ℕ → Option ℕ → Book → Seen
 reads_on from long_data octets None b = quiet b

@@ -190,9 +190,13 @@ moves number t = if is_next number t then with_own (moved t.own) t else t
 abbrev pub asks : Layers → Layers
 asks t = begins t.own.asked (asks_more t)
 
--- UA again, behind frames that the other end sent since it is up: the packets of the first end are followed from an N(R) on
+-- UA again, behind frames that the other end sent since it is up: the packets of the first end are followed from an N(R) on, or from the UA
+-- on where it sent nothing since the first one
+abbrev pub late : Layer → Layer
+late l = if l.is_fresh then begun (l.asked - 1) else unknown (l.asked - 1)
+
 abbrev pub accepts_late : Layers → Layers
-accepts_late t = with_other (uncounted t.other) (with_own (unknown (t.own.asked - 1)) t)
+accepts_late t = with_other (uncounted t.other) (with_own (late t.own) t)
 
 abbrev pub accepts : Layers → Layers
 accepts t = if t.other.is_fresh then begins (t.own.asked - 1) t else accepts_late t

@@ -12,6 +12,7 @@ use Rattle.x25_packet_judge.specs.declared.pair.Pair.{Pair}
 use Rattle.x25_packet_judge.specs.declared.port.Call.{Call}
 use Rattle.x25_packet_judge.specs.declared.port.Call.TheVariants.{Idle, Called, Calling, Collided, Answered, Open}
 use Rattle.x25_packet_judge.specs.declared.port.Port.{Port}
+use Rattle.x25_packet_judge.specs.declared.port.Talk.{Talk}
 use Rattle.x25_packet_judge.specs.declared.terms.Terms.{Terms}
 
 abbrev pub is_dce : Role → Bool
@@ -31,6 +32,9 @@ tells rule t = record t { rule = first t.rule rule }
 abbrev pub unknown : Pair → Pair
 unknown t = with_other (port.unknown t.other) (with_own (port.unknown t.own) t)
 
+abbrev pub noted : Pair → Pair
+noted t = with_other (port.noted t.other) (with_own (port.noted t.own) t)
+
 -- a rule is broken that leaves open where the call stands
 abbrev pub breaks : PacketRule → Pair → Pair
 breaks rule t = unknown (tells (Some rule) t)
@@ -43,11 +47,21 @@ is_known t = t.own.is_known && t.other.is_known
 abbrev pub is_matched : Pair → Bool
 is_matched t = t.reaches && (t.own.owed == 0 && t.other.owed == 0)
 
+-- .. and as many RESETs and confirmations
+abbrev pub is_together : Pair → Bool
+is_together t = is_matched t && (t.own.talk.owed == 0 && t.other.talk.owed == 0)
+
+-- What the first end sent before a CLEAR or RESET, until the other end answers it; what it answers itself is past.
+abbrev pub keeps_former : Bool → Talk → Pair → Pair
+keeps_former is_known talk t =
+    with_other (port.with_former port.no_former t.other) (with_own (port.with_former (port.former_of is_known talk) t.own) t)
+
 -- ---- clearing (sections 4.1.7 to 4.1.9)
 
 -- CLEAR or its confirmation
 abbrev pub marks : Bool → Pair → Pair
-marks is_clearing t = with_own (port.cleared is_clearing t.own) (with_other (port.owing_clear (t.reaches && t.own.owed == 0) t.other) t)
+marks is_clearing t = keeps_former (is_clearing && is_together t) t.own.talk
+    (with_own (port.cleared is_clearing t.own) (with_other (port.owing_clear (t.reaches && t.own.owed == 0) t.other) t))
 
 abbrev pub is_awaiting : Pair → Bool
 is_awaiting t = t.own.is_clearing && nat_lt 0 t.other.owed

@@ -9,6 +9,7 @@ use Rattle.x25_packet_judge.specs.declared.message.Message.TheVariants.{Ended}
 use Rattle.x25_packet_judge.specs.declared.port.Call.{Call}
 use Rattle.x25_packet_judge.specs.declared.port.Call.TheVariants.{Idle, Called, Calling, Collided, Answered, Open}
 use Rattle.x25_packet_judge.specs.declared.port.Talk.{Talk}
+use Rattle.x25_packet_judge.specs.declared.port.Former.{Former}
 use Rattle.x25_packet_judge.specs.declared.port.Port.{Port}
 use Rattle.x25_packet_judge.specs.declared.terms.Terms.{Terms}
 
@@ -48,16 +49,25 @@ interrupting is_interrupting t = record t { is_interrupting = is_interrupting }
 abbrev pub resetting : Bool → Talk → Talk
 resetting is_resetting t = record t { is_resetting = is_resetting }
 
+-- before a RESET or a CLEAR of this end that the other one hasn't answered: what it sent, where it is known
+abbrev pub former_of : Bool → Talk → Former
+former_of is_known t = record { is_known = is_known; flow = t.flow; is_interrupting = t.is_interrupting }
+
+abbrev pub no_former : Former
+no_former = record { is_known = false; flow = flow.fresh; is_interrupting = false }
+
 -- ---- a channel
 
 abbrev pub idle : Bool → Bool → ℕ → Port
 idle is_known is_clearing owed = record {
   is_known = is_known;
+  is_noted = false;
   is_clearing = is_clearing;
   owed = owed;
   call = Idle;
   terms = usual;
   talk = begun false 0 0 0;
+  former = no_former;
 }
 
 -- behind a restart
@@ -70,6 +80,10 @@ blank = idle false false 0
 -- nothing of it waits for a confirmation or an acceptance, as far as is known
 abbrev pub settled : Port → Port
 settled p = record p { is_clearing = false; call = Idle }
+
+-- it was noted that nothing is said of it
+abbrev pub noted : Port → Port
+noted p = record p { is_noted = true }
 
 abbrev pub unknown : Port → Port
 unknown p = record p { is_known = false; is_clearing = false; call = Idle }
@@ -107,6 +121,15 @@ in_call call p = record p { call = call }
 
 abbrev pub proposing : Terms → Port → Port
 proposing terms p = record p { terms = terms }
+
+abbrev pub with_former : Former → Port → Port
+with_former former p = record p { former = former }
+
+abbrev pub with_former_flow : Flow → Port → Port
+with_former_flow f p = with_former (record { is_known = p.former.is_known; flow = f; is_interrupting = p.former.is_interrupting }) p
+
+abbrev pub confirmed_former : Port → Port
+confirmed_former p = with_former (record { is_known = p.former.is_known; flow = p.former.flow; is_interrupting = false }) p
 
 abbrev pub with_talk : Talk → Port → Port
 with_talk talk p = record p { talk = talk }

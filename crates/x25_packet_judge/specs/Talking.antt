@@ -1,9 +1,9 @@
 -- Both ends of a logical channel: data, interrupts and resets, and the rules on them. ITU-T X.25 (10/96), sections 4.3 and 4.4; what
 -- is said behind a fault is profile.
-use Rattle.std.specs.Prelude.{ℕ, ◌==◌, nat_lt, Bool, true, false, not, ◌&&◌, if◌then◌else◌, Some}
+use Rattle.std.specs.Prelude.{ℕ, ◌==◌, nat_lt, Bool, true, false, ◌&&◌, if◌then◌else◌, Some}
 use Rattle.x25_packet_judge.specs.Flow.{heard, sent}
 use Rattle.x25_packet_judge.specs.Message.{after, broken}
-use Rattle.x25_packet_judge.specs.Pair.{with_own, with_other, tells, unknown, is_matched}
+use Rattle.x25_packet_judge.specs.Pair.{with_own, with_other, tells, unknown, is_matched, is_together, keeps_former}
 use Rattle.x25_packet_judge.specs.Port as port
 use Rattle.x25_packet_judge.specs.declared.flow.FlowTold.{FlowTold}
 use Rattle.x25_packet_judge.specs.declared.packet_rule.PacketRule.TheVariants.{ResetAwaited, ResetUnasked, InterruptAgain, InterruptUnasked}
@@ -16,16 +16,12 @@ with_own_talk talk t = with_own (port.with_talk talk t.own) t
 abbrev pub with_other_talk : Talk → Pair → Pair
 with_other_talk talk t = with_other (port.with_talk talk t.other) t
 
--- each end has sent as many RESETs and confirmations as the other
-abbrev pub is_together : Pair → Bool
-is_together t = is_matched t && (t.own.talk.owed == 0 && t.other.talk.owed == 0)
-
 -- ---- resetting (section 4.4.3)
 
 -- RESET or its confirmation
 abbrev pub marks_reset : Bool → Pair → Pair
-marks_reset is_resetting t =
-    with_own_talk (port.reset is_resetting t.own.talk) (with_other_talk (port.owing (is_matched t && t.own.talk.owed == 0) t.other.talk) t)
+marks_reset is_resetting t = keeps_former (is_resetting && is_together t) t.own.talk
+    (with_own_talk (port.reset is_resetting t.own.talk) (with_other_talk (port.owing (is_matched t && t.own.talk.owed == 0) t.other.talk) t))
 
 -- one that is repeated while it waits leaves open what its confirmations answer
 abbrev pub resets : Pair → Pair
@@ -48,9 +44,16 @@ of_other told t = tells told.rule (with_other_talk (port.with_flow told.flow t.o
 abbrev pub of_own : FlowTold → Pair → Pair
 of_own told t = tells told.rule (with_own_talk (port.with_flow told.flow t.own.talk) t)
 
--- a P(R) is about the other end's data packets
+abbrev pub of_former : FlowTold → Pair → Pair
+of_former told t = tells told.rule (with_other (port.with_former_flow told.flow t.other) t)
+
+-- A P(R) is about the other end's data packets; while its RESET or CLEAR is on the way, about those before, since the end confirms these
+-- before it sends anything else.
 abbrev pub hears : ℕ → Pair → Pair
-hears number t = if is_together t then of_other (heard number t.other.talk.flow) t else t
+hears number t =
+    if is_together t then of_other (heard number t.other.talk.flow) t
+    else if t.other.former.is_known then of_former (heard number t.other.former.flow) t
+    else t
 
 abbrev pub numbers : ℕ → Pair → Pair
 numbers number t = of_own (sent t.own.talk.window number t.own.talk.flow) t
@@ -72,6 +75,6 @@ interrupts t = if t.own.talk.is_interrupting
 
 abbrev pub confirms_interrupt : Pair → Pair
 confirms_interrupt t =
-    if not (is_together t) then t
-    else if t.other.talk.is_interrupting then with_other_talk (port.interrupting false t.other.talk) t
-    else tells (Some InterruptUnasked) t
+    if is_together t then (if t.other.talk.is_interrupting then with_other_talk (port.interrupting false t.other.talk) t else tells (Some InterruptUnasked) t)
+    else if t.other.former.is_known then (if t.other.former.is_interrupting then with_other (port.confirmed_former t.other) t else tells (Some InterruptUnasked) t)
+    else t

@@ -1,5 +1,5 @@
 //! The packet layers of both ends and all their channels.
-ghost use Rattle.std.specs.Prelude.{◌≡◌, IfOk};
+ghost use Rattle.std.specs.Prelude.{◌≡◌, IfOk, None};
 ghost use Rattle.x25_frame.specs.Frame.{plain as plain_frame};
 ghost use Rattle.x25_packet.specs.Packet.{plain};
 ghost use Rattle.x25_packet_judge.specs.Book as definition;
@@ -20,6 +20,23 @@ pub struct Book {
     pub(crate) dce: Layer,
     pub(crate) dte_ports: Ports,
     pub(crate) dce_ports: Ports,
+}
+
+/// What is told of a packet: the rule that it breaks, and a channel that isn't judged from there on, of which 0 stands for all.
+#[derive(Clone, Copy)]
+pub struct Verdict {
+    pub rule: Option<PacketRule>,
+    pub unjudged: Option<u16>,
+}
+
+fn told(rule: Option<PacketRule>) -> Verdict
+    ensures rule { result.rule ≡ rule }
+    ensures unjudged { result.unjudged ≡ None }
+{
+    Verdict {
+        rule,
+        unjudged: None,
+    }
 }
 
 fn other(role: Role) -> Role
@@ -134,32 +151,60 @@ impl Book {
         }
     }
 
+    /// The channel isn't judged, which is noted once.
+    fn blind(&mut self, from: Role, channel: u16, pair: Pair) -> Verdict
+        ensures book { self.new ≡ (definition.blind from channel pair self.old).book }
+        ensures rule { result.rule ≡ None }
+        ensures unjudged { result.unjudged ≡ (definition.blind from channel pair self.old).unjudged }
+    {
+        self.put(from, channel, pair.noted());
+        Verdict {
+            rule: None,
+            unjudged: if pair.own.is_noted || pair.other.is_noted {
+                None
+            } else {
+                Some(channel)
+            },
+        }
+    }
+
+    /// Both ends of a channel, behind a packet.
+    fn put_by(&mut self, from: Role, channel: u16, pair: Pair, rule: Option<PacketRule>) -> Verdict
+        ensures book { self.new ≡ (definition.put_by from channel pair rule self.old).book }
+        ensures rule { result.rule ≡ (definition.put_by from channel pair rule self.old).rule }
+        ensures unjudged { result.unjudged ≡ (definition.put_by from channel pair rule self.old).unjudged }
+    {
+        if pair.is_known() || rule.is_some() {
+            self.put(from, channel, pair);
+            told(rule)
+        } else {
+            self.blind(from, channel, pair)
+        }
+    }
+
     /// A packet of a channel.
     #[tactic(auto, unfolding(crate::specs::Book::takes_on))]
-    fn takes_on(
-        &mut self,
-        from: Role,
-        layers: Layers,
-        channel: u16,
-        packet: &Packet,
-    ) -> Option<PacketRule>
+    fn takes_on(&mut self, from: Role, layers: Layers, channel: u16, packet: &Packet) -> Verdict
         ensures book { self.new ≡ (definition.takes_on from layers channel (plain packet.now) self.old).book }
-        ensures rule { result ≡ (definition.takes_on from layers channel (plain packet.now) self.old).rule }
+        ensures rule { result.rule ≡ (definition.takes_on from layers channel (plain packet.now) self.old).rule }
+        ensures unjudged { result.unjudged ≡ (definition.takes_on from layers channel (plain packet.now) self.old).unjudged }
     {
+        let pair = self.pair(from, layers.are_level(), channel);
         self.keep(from, layers);
-        if !layers.are_sure() {
-            return layers.rule;
+        if layers.are_sure() {
+            let next = pair.sends(packet);
+            self.put_by(from, channel, next, first(layers.rule, next.rule))
+        } else {
+            self.blind(from, channel, pair)
         }
-        let pair = self.pair(from, layers.are_level(), channel).sends(packet);
-        self.put(from, channel, pair);
-        first(layers.rule, pair.rule)
     }
 
     /// .. and where no restart and confirmation went before, nothing is known of the end's channels.
     #[tactic(auto, unfolding(crate::specs::Book::runs))]
-    fn runs(&mut self, from: Role, channel: u16, packet: &Packet) -> Option<PacketRule>
+    fn runs(&mut self, from: Role, channel: u16, packet: &Packet) -> Verdict
         ensures book { self.new ≡ (definition.runs from channel (plain packet.now) self.old).book }
-        ensures rule { result ≡ (definition.runs from channel (plain packet.now) self.old).rule }
+        ensures rule { result.rule ≡ (definition.runs from channel (plain packet.now) self.old).rule }
+        ensures unjudged { result.unjudged ≡ (definition.runs from channel (plain packet.now) self.old).unjudged }
     {
         let layers = self.layers(from);
         if layers.runs_early() {
@@ -172,20 +217,22 @@ impl Book {
 
     /// A RESTART, or a confirmation of one that was seen.
     #[tactic(auto, unfolding(crate::specs::Book::restarts))]
-    fn restarts(&mut self, from: Role, layers: Layers) -> Option<PacketRule>
+    fn restarts(&mut self, from: Role, layers: Layers) -> Verdict
         ensures book { self.new ≡ (definition.restarts from layers self.old).book }
-        ensures rule { result ≡ (definition.restarts from layers self.old).rule }
+        ensures rule { result.rule ≡ (definition.restarts from layers self.old).rule }
+        ensures unjudged { result.unjudged ≡ (definition.restarts from layers self.old).unjudged }
     {
         self.fill(from, Port::fresh());
         self.keep(from, layers);
-        layers.rule
+        told(layers.rule)
     }
 
     /// A confirmation of a RESTART.
     #[tactic(auto, unfolding(crate::specs::Book::confirms))]
-    fn confirms(&mut self, from: Role, layers: Layers) -> Option<PacketRule>
+    fn confirms(&mut self, from: Role, layers: Layers) -> Verdict
         ensures book { self.new ≡ (definition.confirms from layers self.old).book }
-        ensures rule { result ≡ (definition.confirms from layers self.old).rule }
+        ensures rule { result.rule ≡ (definition.confirms from layers self.old).rule }
+        ensures unjudged { result.unjudged ≡ (definition.confirms from layers self.old).unjudged }
     {
         if layers.is_answer() {
             return self.restarts(from, layers.answers_restart());
@@ -193,19 +240,26 @@ impl Book {
         if layers.is_second_answer() {
             self.fill(from, Port::blank());
             self.keep(from, layers.confirms_again());
-            return None;
+            return told(None);
         }
         let next = layers.confirms_unseen();
-        self.fill_both(Port::blank());
-        self.keep(from, next);
-        next.rule
+        if layers.are_sure() {
+            self.fill(from, Port::blank());
+            self.keep(from, next);
+            told(next.rule)
+        } else {
+            self.fill_both(Port::blank());
+            self.keep(from, next);
+            told(next.rule)
+        }
     }
 
-    /// A packet; the rule that it breaks is answered.
+    /// A packet; what is told of it is answered.
     #[tactic(auto, unfolding(crate::specs::Book::takes))]
-    fn takes(&mut self, from: Role, channel: u16, packet: &Packet) -> Option<PacketRule>
+    fn takes(&mut self, from: Role, channel: u16, packet: &Packet) -> Verdict
         ensures book { self.new ≡ (definition.takes from channel (plain packet.now) self.old).book }
-        ensures rule { result ≡ (definition.takes from channel (plain packet.now) self.old).rule }
+        ensures rule { result.rule ≡ (definition.takes from channel (plain packet.now) self.old).rule }
+        ensures unjudged { result.unjudged ≡ (definition.takes from channel (plain packet.now) self.old).unjudged }
     {
         match packet {
             Packet::Restart { .. } => self.restarts(from, self.layers(from).restarts()),
@@ -225,33 +279,36 @@ impl Book {
     }
 
     /// Octets that spell no packet: nothing may be said of their channel, or of restarts where they name none.
-    fn misses_on(&mut self, from: Role, channel: u16)
-        ensures { self.new ≡ definition.misses_on from channel self.old }
+    fn misses_on(&mut self, from: Role, channel: u16) -> Verdict
+        ensures book { self.new ≡ (definition.misses_on from channel self.old).book }
+        ensures rule { result.rule ≡ None }
+        ensures unjudged { result.unjudged ≡ (definition.misses_on from channel self.old).unjudged }
     {
         let layers = self.layers(from);
         if channel == 0 {
             self.keep(from, layers.unsure());
-        } else {
-            let pair = self.pair(from, layers.are_level(), channel).unknown();
-            self.put(from, channel, pair);
+            return Verdict {
+                rule: None,
+                unjudged: Some(0),
+            };
         }
+        let pair = self.pair(from, layers.are_level(), channel).unknown();
+        self.blind(from, channel, pair)
     }
 
-    /// The information of an I frame; the rule that it breaks is answered.
+    /// The information of an I frame; what is told of it is answered.
     #[tactic(auto, unfolding(crate::specs::Book::reads))]
-    fn reads(&mut self, from: Role, long_data: bool, octets: &[u8]) -> Option<PacketRule>
+    fn reads(&mut self, from: Role, long_data: bool, octets: &[u8]) -> Verdict
         ensures book { self.new ≡ (definition.reads from long_data octets.now self.old).book }
-        ensures rule { result ≡ (definition.reads from long_data octets.now self.old).rule }
+        ensures rule { result.rule ≡ (definition.reads from long_data octets.now self.old).rule }
+        ensures unjudged { result.unjudged ≡ (definition.reads from long_data octets.now self.old).unjudged }
     {
         let Some(channel) = channel(octets) else {
-            return None;
+            return told(None);
         };
         match decode_within(longest_user(long_data), octets) {
             Ok(packet) => self.takes(from, channel, &packet),
-            Err(_) => {
-                self.misses_on(from, channel);
-                None
-            }
+            Err(_) => self.misses_on(from, channel),
         }
     }
 
@@ -269,24 +326,19 @@ impl Book {
         }
     }
 
-    /// An I frame that breaks no rule of the link layer; the rule that its packet breaks is answered.
+    /// An I frame that breaks no rule of the link layer; what is told of its packet is answered.
     #[tactic(auto, unfolding(crate::specs::Book::moves))]
-    fn moves(
-        &mut self,
-        from: Role,
-        long_data: bool,
-        number: u8,
-        octets: &[u8],
-    ) -> Option<PacketRule>
+    fn moves(&mut self, from: Role, long_data: bool, number: u8, octets: &[u8]) -> Verdict
         ensures book { self.new ≡ (definition.moves from long_data number octets.now self.old).book }
-        ensures rule { result ≡ (definition.moves from long_data number octets.now self.old).rule }
+        ensures rule { result.rule ≡ (definition.moves from long_data number octets.now self.old).rule }
+        ensures unjudged { result.unjudged ≡ (definition.moves from long_data number octets.now self.old).unjudged }
     {
         let layers = self.layers(from);
         self.keep(from, layers.moves(number));
         if layers.may_judge(number) {
             self.reads(from, long_data, octets)
         } else {
-            None
+            told(None)
         }
     }
 
@@ -333,30 +385,26 @@ impl Book {
         numbers: (u8, u8),
         octets: &[u8],
         is_broken: bool,
-    ) -> Option<PacketRule>
+    ) -> Verdict
         ensures book { self.new ≡ (definition.sends_info from long_data numbers.0 numbers.1 octets.now is_broken self.old).book }
-        ensures rule { result ≡ (definition.sends_info from long_data numbers.0 numbers.1 octets.now is_broken self.old).rule }
+        ensures rule { result.rule ≡ (definition.sends_info from long_data numbers.0 numbers.1 octets.now is_broken self.old).rule }
+        ensures unjudged { result.unjudged ≡ (definition.sends_info from long_data numbers.0 numbers.1 octets.now is_broken self.old).unjudged }
     {
         if is_broken {
             self.keep(from, self.layers(from).lost());
-            None
+            told(None)
         } else {
             self.hears(from, numbers.1);
             self.moves(from, long_data, numbers.0, octets)
         }
     }
 
-    /// The end sends a frame, which breaks a rule of the link layer where `is_broken`; the rule that its packet breaks is answered.
+    /// The end sends a frame, which breaks a rule of the link layer where `is_broken`; what is told of its packet is answered.
     #[tactic(auto, unfolding(crate::specs::Book::sees))]
-    pub fn sees(
-        &mut self,
-        from: Role,
-        long_data: bool,
-        frame: &Frame,
-        is_broken: bool,
-    ) -> Option<PacketRule>
+    pub fn sees(&mut self, from: Role, long_data: bool, frame: &Frame, is_broken: bool) -> Verdict
         ensures book { self.new ≡ (definition.sees from long_data (plain_frame frame.now) is_broken self.old).book }
-        ensures rule { result ≡ (definition.sees from long_data (plain_frame frame.now) is_broken self.old).rule }
+        ensures rule { result.rule ≡ (definition.sees from long_data (plain_frame frame.now) is_broken self.old).rule }
+        ensures unjudged { result.unjudged ≡ (definition.sees from long_data (plain_frame frame.now) is_broken self.old).unjudged }
     {
         match frame {
             Frame::I { ns, nr, info, .. } => self.info(
@@ -368,25 +416,25 @@ impl Book {
             ),
             Frame::Rr { nr, .. } | Frame::Rnr { nr, .. } | Frame::Rej { nr, .. } => {
                 self.hears(from, nr.get());
-                None
+                told(None)
             }
             Frame::Sabm { .. } => {
                 self.begins(from, self.layers(from).asks());
-                None
+                told(None)
             }
             Frame::Ua { .. } => {
                 self.accepts_if(from, is_broken);
-                None
+                told(None)
             }
             Frame::Dm { .. } => {
                 self.keep(from, self.layers(from).declines());
-                None
+                told(None)
             }
             Frame::Disc { .. } => {
                 self.keep(from, self.layers(from).leaves());
-                None
+                told(None)
             }
-            Frame::Frmr { .. } => None,
+            Frame::Frmr { .. } => told(None),
         }
     }
 

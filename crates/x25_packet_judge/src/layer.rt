@@ -167,6 +167,18 @@ impl Layer {
         }
     }
 
+    /// Behind a UA of it that comes again, where the other end sent frames since the first one.
+    fn late(self) -> Layer
+        ensures { result ≡ definition.late self }
+    {
+        let asked = self.asked.saturating_sub(1);
+        if self.is_fresh {
+            Layer::begun(asked)
+        } else {
+            Layer::unknown(asked)
+        }
+    }
+
     fn with_asked(self, asked: u8) -> Layer
         ensures { result ≡ definition.with_asked asked self }
     {
@@ -414,7 +426,7 @@ impl Layers {
     fn accepts_late(self) -> Layers
         ensures { result ≡ definition.accepts_late self }
     {
-        self.with_own(Layer::unknown(self.own.asked.saturating_sub(1)))
+        self.with_own(self.own.late())
             .with_other(self.other.uncounted())
     }
 

@@ -17,7 +17,7 @@ mod ports;
 mod talking;
 mod terms;
 
-pub use book::Book;
+pub use book::{Book, Verdict};
 pub use numbers::apart;
 pub use packet_rule::PacketRule;
 pub use packet_rule_text::{MOST_PACKET_RULE, push_packet_rule};

@@ -3,7 +3,7 @@ ghost use Rattle.std.specs.Prelude.{◌≡◌};
 ghost use Rattle.x25_packet_judge.specs.Pair as definition;
 
 use crate::packet_rule::{PacketRule, first};
-use crate::port::{Call, Port};
+use crate::port::{Call, Port, Talk};
 use crate::terms::Terms;
 use x25_frame::Role;
 
@@ -55,6 +55,14 @@ impl Pair {
             .with_other(self.other.unknown())
     }
 
+    /// It was noted that nothing may be said of the channel.
+    pub(crate) fn noted(self) -> Pair
+        ensures { result ≡ definition.noted self }
+    {
+        self.with_own(self.own.noted())
+            .with_other(self.other.noted())
+    }
+
     /// A rule is broken that leaves open where the call stands.
     pub(crate) fn breaks(self, rule: PacketRule) -> Pair
         ensures { result ≡ definition.breaks rule self }
@@ -75,6 +83,21 @@ impl Pair {
         self.reaches && (self.own.owed == 0 && self.other.owed == 0)
     }
 
+    /// Whether what is sent belongs to the same stretch at both ends, from a set-up or a reset to the next.
+    pub(crate) fn is_together(self) -> bool
+        ensures { result ≡ definition.is_together self }
+    {
+        self.is_matched() && (self.own.talk.owed == 0 && self.other.talk.owed == 0)
+    }
+
+    /// Keeps what the first end sent before a CLEAR or RESET.
+    pub(crate) fn keeps_former(self, is_known: bool, talk: Talk) -> Pair
+        ensures { result ≡ definition.keeps_former is_known talk self }
+    {
+        let own = self.own.with_former(talk.former(is_known));
+        self.with_own(own).with_other(self.other.without_former())
+    }
+
     // ---- clearing
 
     /// A CLEAR or its confirmation.
@@ -82,8 +105,10 @@ impl Pair {
         ensures { result ≡ definition.marks is_clearing self }
     {
         let is_more = self.reaches && self.own.owed == 0;
+        let is_kept = is_clearing && self.is_together();
         self.with_other(self.other.owing(is_more))
             .with_own(self.own.cleared(is_clearing))
+            .keeps_former(is_kept, self.own.talk)
     }
 
     /// Whether a CLEAR of the end waits for its confirmation.

@@ -35,11 +35,21 @@ pub(crate) struct Talk {
     pub(crate) most: u16,
 }
 
+/// What an end had sent before a RESET or a CLEAR that the other end hasn't answered, where it is known.
+#[derive(Clone, Copy)]
+pub(crate) struct Former {
+    pub(crate) is_known: bool,
+    pub(crate) flow: Flow,
+    pub(crate) is_interrupting: bool,
+}
+
 /// One end of a logical channel.
 #[derive(Clone, Copy)]
 pub(crate) struct Port {
     /// Whether anything may be said of it.
     pub(crate) is_known: bool,
+    /// It was noted that nothing may.
+    pub(crate) is_noted: bool,
     /// CLEAR was sent, and nothing behind it yet.
     pub(crate) is_clearing: bool,
     /// How many CLEARs and confirmations the other end has sent more than this one.
@@ -48,9 +58,33 @@ pub(crate) struct Port {
     /// What is proposed.
     pub(crate) terms: Terms,
     pub(crate) talk: Talk,
+    pub(crate) former: Former,
+}
+
+impl Former {
+    fn none() -> Former
+        ensures { result ≡ definition.no_former }
+    {
+        Former {
+            is_known: false,
+            flow: Flow::fresh(),
+            is_interrupting: false,
+        }
+    }
 }
 
 impl Talk {
+    /// What was sent, before a RESET or a CLEAR.
+    pub(crate) fn former(self, is_known: bool) -> Former
+        ensures { result ≡ definition.former_of is_known self }
+    {
+        Former {
+            is_known,
+            flow: self.flow,
+            is_interrupting: self.is_interrupting,
+        }
+    }
+
     /// Behind a RESET, its confirmation, or the set-up of a call.
     fn begun(is_resetting: bool, owed: u8, window: u8, most: u16) -> Talk
         ensures { result ≡ definition.begun is_resetting owed window most }
@@ -130,11 +164,13 @@ impl Port {
     {
         Port {
             is_known,
+            is_noted: false,
             is_clearing,
             owed,
             call: Call::Idle,
             terms: Terms::usual(),
             talk: Talk::begun(false, 0, 0, 0),
+            former: Former::none(),
         }
     }
 
@@ -159,6 +195,16 @@ impl Port {
         Port {
             is_clearing: false,
             call: Call::Idle,
+            ..self
+        }
+    }
+
+    /// It was noted that nothing may be said of it.
+    pub(crate) fn noted(self) -> Port
+        ensures { result ≡ definition.noted self }
+    {
+        Port {
+            is_noted: true,
             ..self
         }
     }
@@ -245,6 +291,39 @@ impl Port {
         ensures { result ≡ definition.proposing terms self }
     {
         Port { terms, ..self }
+    }
+
+    pub(crate) fn with_former(self, former: Former) -> Port
+        ensures { result ≡ definition.with_former former self }
+    {
+        Port { former, ..self }
+    }
+
+    pub(crate) fn without_former(self) -> Port
+        ensures { result ≡ definition.with_former definition.no_former self }
+    {
+        self.with_former(Former::none())
+    }
+
+    pub(crate) fn with_former_flow(self, flow: Flow) -> Port
+        ensures { result ≡ definition.with_former_flow flow self }
+    {
+        self.with_former(Former {
+            is_known: self.former.is_known,
+            flow,
+            is_interrupting: self.former.is_interrupting,
+        })
+    }
+
+    /// An interrupt of before is confirmed.
+    pub(crate) fn confirmed_former(self) -> Port
+        ensures { result ≡ definition.confirmed_former self }
+    {
+        self.with_former(Former {
+            is_known: self.former.is_known,
+            flow: self.former.flow,
+            is_interrupting: false,
+        })
     }
 
     pub(crate) fn with_talk(self, talk: Talk) -> Port

@@ -22,13 +22,6 @@ impl Pair {
         self.with_other(self.other.with_talk(talk))
     }
 
-    /// Whether what is sent belongs to the same stretch at both ends, from a set-up or a reset to the next.
-    fn is_together(self) -> bool
-        ensures { result ≡ definition.is_together self }
-    {
-        self.is_matched() && (self.own.talk.owed == 0 && self.other.talk.owed == 0)
-    }
-
     // ---- resetting
 
     /// A RESET or its confirmation.
@@ -36,8 +29,10 @@ impl Pair {
         ensures { result ≡ definition.marks_reset is_resetting self }
     {
         let is_more = self.is_matched() && self.own.talk.owed == 0;
+        let is_kept = is_resetting && self.is_together();
         self.with_other_talk(self.other.talk.owing(is_more))
             .with_own_talk(self.own.talk.reset(is_resetting))
+            .keeps_former(is_kept, self.own.talk)
     }
 
     pub(crate) fn resets(self) -> Pair
@@ -89,12 +84,21 @@ impl Pair {
             .tells(told.rule)
     }
 
-    /// A P(R) is about the other end's data packets.
+    fn of_former(self, told: FlowTold) -> Pair
+        ensures { result ≡ definition.of_former told self }
+    {
+        self.with_other(self.other.with_former_flow(told.flow))
+            .tells(told.rule)
+    }
+
+    /// A P(R) is about the other end's data packets; while its RESET or CLEAR is on the way, about those before.
     pub(crate) fn hears(self, number: u8) -> Pair
         ensures { result ≡ definition.hears number self }
     {
         if self.is_together() {
             self.of_other(self.other.talk.flow.heard(number))
+        } else if self.other.former.is_known {
+            self.of_former(self.other.former.flow.heard(number))
         } else {
             self
         }
@@ -136,12 +140,21 @@ impl Pair {
     pub(crate) fn confirms_interrupt(self) -> Pair
         ensures { result ≡ definition.confirms_interrupt self }
     {
-        if !self.is_together() {
-            self
-        } else if self.other.talk.is_interrupting {
-            self.with_other_talk(self.other.talk.interrupting(false))
+        let unasked = self.tells(Some(PacketRule::InterruptUnasked));
+        if self.is_together() {
+            if self.other.talk.is_interrupting {
+                self.with_other_talk(self.other.talk.interrupting(false))
+            } else {
+                unasked
+            }
+        } else if self.other.former.is_known {
+            if self.other.former.is_interrupting {
+                self.with_other(self.other.confirmed_former())
+            } else {
+                unasked
+            }
         } else {
-            self.tells(Some(PacketRule::InterruptUnasked))
+            self
         }
     }
 }
