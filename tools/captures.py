@@ -1,11 +1,15 @@
-"""Capture files: the records of pcap and pcapng, read one at a time, and pcapng written.
+"""Capture files: the records of pcap and pcapng, read as they come, and pcapng written.
 
 The formats are those of the IETF drafts draft-ietf-opsawg-pcap and draft-ietf-opsawg-pcapng.
 """
 
+import functools
+import itertools
+import math
 import struct
 from typing import NamedTuple, Optional
 
+import x25lines
 from x25lines import NANOSECONDS, BadInput
 
 PCAP_MAGIC = {
@@ -15,31 +19,40 @@ PCAP_MAGIC = {
     b"\x4d\x3c\xb2\xa1": ("<", 1),
 }
 SECTION, INTERFACE, OLD_PACKET, SIMPLE_PACKET, PACKET = 0x0A0D0D0A, 1, 2, 3, 6
+# What the blocks of packets begin with: the interface, but for a simple one; the time, but for that; how many octets were captured, but for
+# that; how many there were.
+FIELDS = {PACKET: "IIIII", OLD_PACKET: "HxxIIII", SIMPLE_PACKET: "I"}
+SECTION_TYPE = struct.pack("<I", SECTION)
 BYTE_ORDER = 0x1A2B3C4D
 BYTE_ORDERS = {struct.pack(order + "I", BYTE_ORDER): order for order in "<>"}
 
 END_OF_OPTIONS, FLAGS, RESOLUTION, CLOCK_OFFSET, FCS_LENGTH = 0, 2, 9, 14, 13
 # Of the flags of a packet: the direction, and why it was received with an error.
 INBOUND, OUTBOUND, DIRECTION = 1, 2, 3
+IS_OUTBOUND = {INBOUND: False, OUTBOUND: True, 0: None, 3: None}
 CRC_ERROR, TOO_SHORT = 1 << 24, 1 << 26
 
+NO_CAPTURE = "neither a pcap nor a pcapng file"
 # No capture program takes more of a packet; a longer record is a wrong length.
 MOST_CAPTURED = 262_144
 # A block that holds no packet may be longer than one that does, but not without bound.
 MOST_BLOCK = 16_777_216
 
 
-class Record(NamedTuple):
+class Record:
     """One captured packet. Its time is in nanoseconds; None is what the capture doesn't say."""
 
-    number: int
-    link_type: int
-    octets: bytes
-    length: int
-    time: Optional[int] = None
-    is_outbound: Optional[bool] = None
-    fcs_octets: Optional[int] = None
-    flags: int = 0
+    __slots__ = ("number", "link_type", "octets", "length", "time", "is_outbound", "fcs_octets", "flags")
+
+    def __init__(self, number, link_type, octets, length, time=None, is_outbound=None, fcs_octets=None, flags=0):
+        self.number = number
+        self.link_type = link_type
+        self.octets = octets
+        self.length = length
+        self.time = time
+        self.is_outbound = is_outbound
+        self.fcs_octets = fcs_octets
+        self.flags = flags
 
     def is_cut(self):
         """True where the capture holds a part of the packet alone."""
@@ -47,193 +60,208 @@ class Record(NamedTuple):
 
 
 class Interface(NamedTuple):
-    """What a section says of one of its interfaces; `clock` is the number of ticks a second."""
+    """What a section says of one of its interfaces; `ticks` of its clock are `tick` nanoseconds, and it began at `offset`."""
 
     link_type: int
-    clock: int
+    tick: int
+    ticks: int
     offset: int
     fcs_octets: Optional[int]
 
 
+def blocks(file):
+    """Yields the records of a capture, of whichever format, in lists, each of those that are there at once.
+
+    A file that isn't one, or breaks off, is bad input, told behind the records before that.
+    """
+    reader, rest = None, b""
+    for octets in x25lines.pieces(file):
+        rest += octets
+        if reader is None and len(rest) >= 4:
+            reader = _reader(rest[:4])
+        records = []
+        try:
+            rest = rest[reader.read(rest, records) :] if reader else rest
+        finally:
+            yield records
+    if reader is None:
+        raise BadInput(NO_CAPTURE)
+    if rest:
+        raise BadInput(f"the file ends within {reader.next()}")
+
+
 def records(file):
-    """Yields the records of a capture, of whichever format; a file that isn't one, or breaks off, is bad input."""
-    magic = file.read(4)
+    """Yields the records of a capture one by one."""
+    return itertools.chain.from_iterable(blocks(file))
+
+
+def _reader(magic):
+    """What reads a file that begins so."""
     if magic in PCAP_MAGIC:
-        return _pcap_records(file, *PCAP_MAGIC[magic])
-    if magic == struct.pack("<I", SECTION):
-        return _pcapng_records(file)
-    raise BadInput("neither a pcap nor a pcapng file")
+        return _Pcap(*PCAP_MAGIC[magic])
+    if magic == SECTION_TYPE:
+        return _Pcapng()
+    raise BadInput(NO_CAPTURE)
 
 
-def _exactly(file, count, what):
-    octets = file.read(count)
-    if len(octets) < count:
-        raise BadInput(f"the file ends within {what}")
-    return octets
+class _Pcap:
+    """Reads a pcap file; `tick` is the nanoseconds of its unit of time."""
+
+    def __init__(self, order, tick):
+        self._file_header, self._header = struct.Struct(order + "IHHiIII"), struct.Struct(order + "IIII")
+        self._tick = tick
+        self._link_type = self._fcs_octets = None
+        self._number = 0
+
+    def next(self):
+        """What is read next."""
+        return "the file header" if self._link_type is None else f"record {self._number + 1}"
+
+    def read(self, octets, records):
+        """Adds the records of these octets that are whole; answers how many octets these are."""
+        at = 0
+        if self._link_type is None:
+            if len(octets) < self._file_header.size:
+                return 0
+            at = self._begin(octets)
+        while at + 16 <= len(octets):
+            whole, part, captured, length = self._header.unpack_from(octets, at)
+            if not 0 < captured <= MOST_CAPTURED:
+                raise _wrong_length(captured, self._number + 1)
+            end = at + 16 + captured
+            if end > len(octets):
+                break
+            self._number += 1
+            time = whole * NANOSECONDS + part * self._tick
+            records.append(Record(self._number, self._link_type, octets[at + 16 : end], length, time, None, self._fcs_octets))
+            at = end
+        return at
+
+    def _begin(self, octets):
+        """Reads the header of the file; answers its length."""
+        network = self._file_header.unpack_from(octets)[6]
+        self._link_type = network & 0x03FF_FFFF
+        self._fcs_octets = 2 * (network >> 28) if network & 0x0400_0000 else None
+        return self._file_header.size
 
 
-def _pcap_records(file, order, tick):
-    """The records of a pcap file behind its magic; `tick` is the nanoseconds of its unit of time."""
-    network = struct.unpack(order + "HHiIII", _exactly(file, 20, "the file header"))[5]
-    link_type = network & 0x03FF_FFFF
-    fcs_octets = 2 * (network >> 28) if network & 0x0400_0000 else None
-    number = 0
-    while header := file.read(16):
-        number += 1
-        what = f"record {number}"
-        if len(header) < 16:
-            raise BadInput(f"the file ends within the header of {what}")
-        whole, part, captured, length = struct.unpack(order + "IIII", header)
-        _check_captured(captured, what)
-        octets = _exactly(file, captured, what)
-        yield Record(number, link_type, octets, length, whole * NANOSECONDS + part * tick, None, fcs_octets)
+def _wrong_length(captured, number):
+    """What is told of a record that says it has so many octets."""
+    return BadInput(f"record {number} has a wrong length, {captured:,} octets" if captured else f"record {number} holds no octets")
 
 
-def _check_captured(captured, what):
-    if captured > MOST_CAPTURED:
-        raise BadInput(f"{what} has a wrong length, {captured:,} octets")
-    if captured == 0:
-        raise BadInput(f"{what} holds no octets")
+class _Pcapng:
+    """Reads a pcapng file, block by block."""
 
+    def __init__(self):
+        self._number = 0
+        self._order = None
+        self._head = struct.Struct("<II").unpack_from
 
-def _pcapng_records(file):
-    """The records of a pcapng file behind the type of its first block."""
-    order, interfaces, number, kind = "<", [], 0, SECTION
-    while True:
-        if kind == SECTION:
-            order, interfaces = _begin_section(file), []
+    def next(self):
+        """What is read next."""
+        return "a section header" if self._order is None else f"a block behind record {self._number}"
+
+    def read(self, octets, records):
+        """Adds the records of these octets that are whole; answers how many octets these are."""
+        at, most = 0, len(octets)
+        while at + 8 <= most:
+            kind, length = self._head(octets, at)
+            # The type of a section reads the same in both orders.
+            if kind == SECTION:
+                if at + 12 > most:
+                    break
+                self._begin(octets[at + 8 : at + 12])
+                length = self._head(octets, at)[1]
+            if length % 4 or not (28 if kind == SECTION else 12) <= length <= MOST_BLOCK:
+                raise BadInput(f"{self.next()} has a wrong length, {length:,} octets")
+            end = at + length
+            if end > most:
+                break
+            if self._word(octets, end - 4)[0] != length:
+                raise BadInput(f"the two lengths of {self.next()} differ")
+            if kind in self._fields:
+                self._number += 1
+                records.append(self._packet(kind, octets, at + 8, end - 4))
+            elif kind == INTERFACE:
+                self._interfaces.append(_interface(octets[at + 8 : end - 4], self._order))
+            at = end
+        return at
+
+    def _begin(self, magic):
+        """Begins a section, whose header shows the order of its octets."""
+        if magic not in BYTE_ORDERS:
+            raise BadInput("a section header has no byte order")
+        order = self._order = BYTE_ORDERS[magic]
+        self._head, self._word = struct.Struct(order + "II").unpack_from, struct.Struct(order + "I").unpack_from
+        self._fields = {kind: struct.Struct(order + form) for kind, form in FIELDS.items()}
+        self._interfaces = []
+
+    def _packet(self, kind, octets, start, end):
+        """The record of a packet, whose block has its body there."""
+        fields = self._fields[kind]
+        if end - start < fields.size:
+            raise BadInput(f"record {self._number} is too short")
+        start += fields.size
+        if kind == SIMPLE_PACKET:
+            # How many octets were captured isn't said.
+            length, = fields.unpack_from(octets, start - fields.size)
+            index, captured = 0, min(length, end - start)
         else:
-            body = _block_body(file, order, number)
-            if kind == INTERFACE:
-                interfaces.append(_interface(body, order))
-            elif kind in (PACKET, SIMPLE_PACKET, OLD_PACKET):
-                number += 1
-                yield _PACKET_READERS[kind](body, order, interfaces, number)
-        octets = file.read(4)
-        if not octets:
-            return
-        if len(octets) < 4:
-            raise BadInput("the file ends within the type of a block")
-        # The type of a section reads the same in both orders.
-        kind = struct.unpack(order + "I", octets)[0]
-
-
-def _begin_section(file):
-    """Reads a section header behind its type; answers the byte order of the section."""
-    head = _exactly(file, 8, "a section header")
-    order = BYTE_ORDERS.get(head[4:])
-    if order is None:
-        raise BadInput("a section header has no byte order")
-    length = struct.unpack(order + "I", head[:4])[0]
-    _check_block(length, 28, "a section header")
-    rest = _exactly(file, length - 12, "a section header")
-    _check_trailer(rest, length, order, "a section header")
-    return order
-
-
-def _block_body(file, order, number):
-    """Reads a block behind its type: its length, its body, its length again; answers the body."""
-    what = f"a block behind record {number}"
-    length = struct.unpack(order + "I", _exactly(file, 4, what))[0]
-    _check_block(length, 12, what)
-    rest = _exactly(file, length - 8, what)
-    _check_trailer(rest, length, order, what)
-    return rest[:-4]
-
-
-def _check_block(length, least, what):
-    if not least <= length <= MOST_BLOCK or length % 4:
-        raise BadInput(f"{what} has a wrong length, {length:,} octets")
-
-
-def _check_trailer(rest, length, order, what):
-    if rest[-4:] != struct.pack(order + "I", length):
-        raise BadInput(f"the two lengths of {what} differ")
-
-
-def _fields(order, form, body, what):
-    """Unpacks the beginning of a body; answers its values."""
-    if len(body) < struct.calcsize(order + form):
-        raise BadInput(f"{what} is too short")
-    return struct.unpack_from(order + form, body)
+            index, high, low, captured, length = fields.unpack_from(octets, start - fields.size)
+        if not 0 < captured <= MOST_CAPTURED or captured > end - start:
+            raise _wrong_length(captured, self._number)
+        if index >= len(self._interfaces):
+            raise BadInput(f"record {self._number} names the interface {index}, which the file doesn't describe")
+        link_type, tick, ticks, offset, fcs_octets = self._interfaces[index]
+        if kind == SIMPLE_PACKET:
+            return Record(self._number, link_type, octets[start : start + captured], length, fcs_octets=fcs_octets)
+        flags = _flags(octets[start + (captured + 3 & ~3) : end], self._order)
+        if flags is None:
+            raise BadInput(f"an option of record {self._number} has a wrong length")
+        time = (high << 32 | low) * tick // ticks + offset
+        fcs_octets = flags >> 5 & 0xF or fcs_octets
+        return Record(self._number, link_type, octets[start : start + captured], length, time if time > 0 else 0, IS_OUTBOUND[flags & DIRECTION], fcs_octets, flags)
 
 
 def _interface(body, order):
-    link_type = _fields(order, "HHI", body, "an interface block")[0]
-    options = _options(body[8:], order, "an interface block")
-    resolution = options.get(RESOLUTION, b"\x06")[:1] or b"\x06"
-    value = resolution[0]
-    clock = 2 ** (value & 0x7F) if value & 0x80 else 10**value
-    offset = options.get(CLOCK_OFFSET, b"")
-    fcs_octets = options.get(FCS_LENGTH, b"")
-    return Interface(
-        link_type,
-        clock,
-        struct.unpack(order + "q", offset)[0] if len(offset) == 8 else 0,
-        fcs_octets[0] if fcs_octets else None,
-    )
+    if len(body) < 8:
+        raise BadInput("an interface block is too short")
+    options = _options(body[8:], order)
+    if options is None:
+        raise BadInput("an option of an interface block has a wrong length")
+    resolution = (options.get(RESOLUTION) or b"\x06")[0]
+    ticks = 2 ** (resolution & 0x7F) if resolution & 0x80 else 10**resolution
+    shared = math.gcd(ticks, NANOSECONDS)
+    offset, fcs_octets = options.get(CLOCK_OFFSET, b""), options.get(FCS_LENGTH)
+    seconds = struct.unpack(order + "q", offset)[0] if len(offset) == 8 else 0
+    link_type = struct.unpack_from(order + "H", body)[0]
+    return Interface(link_type, NANOSECONDS // shared, ticks // shared, seconds * NANOSECONDS, fcs_octets[0] if fcs_octets else None)
 
 
-def _options(octets, order, what):
-    """The options of a block, by their code; of a code that comes twice the first counts."""
-    options = {}
-    while len(octets) >= 4:
-        code, length = struct.unpack_from(order + "HH", octets)
+# The options of most packets of a file are the same.
+@functools.lru_cache(maxsize=256)
+def _flags(octets, order):
+    """The flags of a packet with these options, 0 where none of these has them; None where the options can't be read."""
+    options = _options(octets, order)
+    if options is None:
+        return None
+    flags = options.get(FLAGS, b"")
+    return struct.unpack(order + "I", flags)[0] if len(flags) == 4 else 0
+
+
+def _options(octets, order):
+    """The options of a block, by their code, or None where one has a wrong length; of a code that comes twice the first counts."""
+    options, at = {}, 0
+    while at + 4 <= len(octets):
+        code, length = struct.unpack_from(order + "HH", octets, at)
         if code == END_OF_OPTIONS:
             break
-        if length > len(octets) - 4:
-            raise BadInput(f"an option of {what} has a wrong length")
-        options.setdefault(code, octets[4 : 4 + length])
-        octets = octets[4 + (length + 3) // 4 * 4 :]
+        if length > len(octets) - at - 4:
+            return None
+        options.setdefault(code, octets[at + 4 : at + 4 + length])
+        at += 4 + (length + 3) // 4 * 4
     return options
-
-
-def _packet(body, order, interfaces, number):
-    what = f"record {number}"
-    index, high, low, captured, length = _fields(order, "IIIII", body, what)
-    return _enhanced(body, order, interfaces, number, index, high << 32 | low, captured, length)
-
-
-def _old_packet(body, order, interfaces, number):
-    index, _, high, low, captured, length = _fields(order, "HHIIII", body, f"record {number}")
-    return _enhanced(body, order, interfaces, number, index, high << 32 | low, captured, length)
-
-
-def _enhanced(body, order, interfaces, number, index, ticks, captured, length):
-    """A packet with its time and options; in both its blocks the octets begin at 20."""
-    what = f"record {number}"
-    interface = _interface_of(interfaces, index, what)
-    octets = _captured(body, 20, captured, what)
-    options = _options(body[20 + (captured + 3) // 4 * 4 :], order, what)
-    flags = struct.unpack(order + "I", options[FLAGS])[0] if len(options.get(FLAGS, b"")) == 4 else 0
-    time = ticks * NANOSECONDS // interface.clock + interface.offset * NANOSECONDS
-    is_outbound = {INBOUND: False, OUTBOUND: True}.get(flags & DIRECTION)
-    fcs_octets = flags >> 5 & 0xF or interface.fcs_octets
-    return Record(number, interface.link_type, octets, length, max(time, 0), is_outbound, fcs_octets, flags)
-
-
-def _simple_packet(body, order, interfaces, number):
-    what = f"record {number}"
-    length = _fields(order, "I", body, what)[0]
-    interface = _interface_of(interfaces, 0, what)
-    octets = _captured(body, 4, min(length, len(body) - 4), what)
-    return Record(number, interface.link_type, octets, length, None, None, interface.fcs_octets)
-
-
-_PACKET_READERS = {PACKET: _packet, OLD_PACKET: _old_packet, SIMPLE_PACKET: _simple_packet}
-
-
-def _interface_of(interfaces, index, what):
-    if index >= len(interfaces):
-        raise BadInput(f"{what} names the interface {index}, which the file doesn't describe")
-    return interfaces[index]
-
-
-def _captured(body, start, captured, what):
-    _check_captured(captured, what)
-    if captured > len(body) - start:
-        raise BadInput(f"{what} has a wrong length, {captured:,} octets")
-    return body[start : start + captured]
 
 
 class Writer:

@@ -29,25 +29,22 @@ from x25lines import BadInput
 LEAST_WIDTH, MOST_WIDTH = 40, 400
 
 
-def rows(decoder, lines):
-    """Yields a row for each line, given with its number."""
-    for number, line in lines:
-        it = reading(number, line)
-        yield Frame(it.direction, decoder.text(it), None, time_of(it)) if isinstance(it, x25lines.FrameLine) else it
+def rows(decoder, blocks):
+    """Yields the rows of the lines of each block, which is given with the number of its first line. Bad input is told behind the rows before."""
+    for first, lines in blocks:
+        found = []
+        try:
+            for number, (line, answer) in enumerate(zip(lines, decoding.answers(decoder, lines)), first):
+                found.append(Frame(answer[1][0], answer[1][2:], None, x25lines.seconds(answer[0])) if answer else row(number, line))
+        finally:
+            yield found
 
 
-def time_of(frame):
-    """The time of a frame line as a chart shows it."""
-    return "" if frame.time is None else x25lines.seconds(frame.time)
-
-
-def reading(number, line):
-    """What a line is: a frame still in digits, or the row that it makes."""
-    frame = x25lines.frame_line(line)
-    if frame is not None:
-        return frame
+def row(number, line):
+    """The row that a line makes that holds no frame in digits."""
     if found := decoding.TEXT_LINE.fullmatch(line):
-        return Frame(found[2].decode(), found[3].decode(), None, (found[1] or b"").decode())
+        text = found[2].decode()
+        return Frame(text[0], text[2:], None, (found[1] or b"").decode())
     if found := x25lines.ENTRY_LINE.fullmatch(line):
         return Entry(found[1].decode(), found[2].decode())
     if x25lines.REFUSAL_LINE.fullmatch(line):
@@ -58,23 +55,23 @@ def reading(number, line):
 def rows_of_script(decoder, program, file, words):
     """The rows of the run of a script, with what became of each frame."""
     run = simruns.run(program, file, words)
-    drawn = list(rows(decoder, run.lines))
+    drawn, = rows(decoder, [(1, run.lines)])
     for index, fate in run.fates.items():
         drawn[index] = drawn[index]._replace(fate=fate)
-    return drawn
+    return [drawn]
 
 
-def draw(rows, options, out):
-    """Writes the chart of some rows."""
+def draw(blocks, options, out):
+    """Writes the chart of the rows of some blocks."""
     if options.svg:
-        rows = list(itertools.islice(rows, drawing.Svg.MOST_ROWS + 1))
-        if len(rows) > drawing.Svg.MOST_ROWS:
+        blocks = [list(itertools.islice(itertools.chain.from_iterable(blocks), drawing.Svg.MOST_ROWS + 1))]
+        if len(blocks[0]) > drawing.Svg.MOST_ROWS:
             raise BadInput(f"a picture has at most {drawing.Svg.MOST_ROWS:,} rows: cut the trace, or draw it as text")
-        chart = drawing.Svg(options.width, len(rows))
+        chart = drawing.Svg(options.width, len(blocks[0]))
     else:
         chart = drawing.Text(options.width)
-    for line in itertools.chain(chart.begin(), map(chart.row, rows), chart.end()):
-        out.write(line + "\n")
+    for lines in itertools.chain([chart.begin()], (map(chart.row, block) for block in blocks), [chart.end()]):
+        out.write("".join([f"{line}\n" for line in lines]))
 
 
 def words():
@@ -100,7 +97,7 @@ def main():
         if options.script:
             drawn = rows_of_script(decoder, options.x25, file, options.sim.split())
         else:
-            drawn = rows(decoder, x25lines.lines_of(file))
+            drawn = rows(decoder, x25lines.blocks_of_lines(file))
         draw(drawn, options, sys.stdout)
     return 0
 

@@ -1,17 +1,19 @@
-"""The program's `decode` as a child process that answers frame by frame, and where the program is found."""
+"""The program's `decode` as a child process that answers what it is asked, and where the program is found."""
 
 import os
 import re
+import select
 import shutil
 import subprocess
 
-from x25lines import BadInput, FrameLine, fcs
+import x25lines
+from x25lines import BadInput, fcs
 
 BUILT = os.path.join(os.path.dirname(os.path.dirname(os.path.abspath(__file__))), "build", "x25")
 MISSING = "frames in hexadecimal digits need the program x25: build it (make x25) or name it (--x25)"
 MISSING_STATION = "a station needs the program x25: build it (make x25) or name it (--x25)"
 # A line of `decode`, with a time and a tab before it where there is one.
-TEXT_LINE = re.compile(rb"(?:([0-9.]{1,30})\t)?([<>]) ((?:I|RR|RNR|REJ|SABM|DISC|UA|DM|FRMR|fault) [ -~]*)")
+TEXT_LINE = re.compile(rb"(?:([0-9.]{1,30})\t)?([<>] (?:I|RR|RNR|REJ|SABM|DISC|UA|DM|FRMR|fault) [ -~]*)")
 
 
 def find_program():
@@ -35,17 +37,28 @@ def let_end(child):
 
 
 # SABM of the DTE, and the UA of the DCE.
-SET_UP = FrameLine(">", bytes.fromhex("013febdf")), FrameLine("<", bytes.fromhex("01738357"))
+SET_UP = "> 013febdf", "< 01738357"
 
 
-def _taken(frame):
-    """The RR by which the other end says that it took an I frame."""
-    octets = bytes([1 if frame.direction == ">" else 3, ((frame.octets[1] >> 1) + 1 & 7) << 5 | 1])
-    return FrameLine("<" if frame.direction == ">" else ">", octets + fcs(octets))
+def _taken(line):
+    """The line of the RR by which the other end says that it took the I frame of a line."""
+    direction, control = line[0], int(line[4:6], 16)
+    octets = bytes([1 if direction == ">" else 3, ((control >> 1) + 1 & 7) << 5 | 1])
+    return f"{'<' if direction == '>' else '>'} {(octets + fcs(octets)).hex()}"
+
+
+def answers(decoder, lines, connection=None):
+    """What is answered to the frames of some lines: of each its time, in nanoseconds or None, and its text; None where a line has no frame in
+    hexadecimal digits."""
+    read = [x25lines.timed(line) for line in lines]
+    asked = [frame[1] for frame in read if frame]
+    texts = iter(decoder.texts(asked, [connection] * len(asked)))
+    return [frame and (frame[0], next(texts)) for frame in read]
 
 
 class Decoder:
-    """Gives frames to a task of the program, one at a time, so that a line is answered before the next is there."""
+    """Gives frames to a task of the program, which answers each by a line: those that are there at once together, so that what comes live is
+    answered before the next is there."""
 
     def __init__(self, program, words=(), task="decode"):
         self._program = program
@@ -60,19 +73,33 @@ class Decoder:
         if self._child is not None:
             let_end(self._child)
 
-    def text(self, frame, connection=None):
-        """The text of a frame line, without its direction, whatever the connection."""
+    def texts(self, lines, connections=()):
+        """The answers to some lines of a trace, each with its direction, whatever the connections."""
+        if not lines:
+            return []
         if self._child is None:
             self._child = self._begun()
-        try:
-            self._child.stdin.write(frame.text().encode() + b"\n")
-            self._child.stdin.flush()
-            line = self._child.stdout.readline()
-        except BrokenPipeError:
-            line = b""
-        if not line.endswith(b"\n") or line[:2] != f"{frame.direction} ".encode():
+        *texts, rest = self._answers("".join([f"{line}\n" for line in lines]).encode(), len(lines)).decode("ascii", "replace").split("\n")
+        if rest or [text[:2] for text in texts] != [line[:2] for line in lines]:
             raise BadInput(f"{self._program} {self._task} didn't answer line by line")
-        return line[2:-1].decode("ascii", "replace")
+        return texts
+
+    def _answers(self, asked, count):
+        """Writes what is asked and reads so many lines, each as there is room for it or as it is there: so neither pipe can fill."""
+        writer, reader = self._child.stdin.fileno(), self._child.stdout.fileno()
+        answers = []
+        while count > 0:
+            readable, writable, _ = select.select([reader], [writer] if asked else [], [])
+            try:
+                asked = asked[os.write(writer, asked[: select.PIPE_BUF]) :] if writable else asked
+            except BrokenPipeError:
+                asked = b""
+            if readable:
+                answers.append(os.read(reader, x25lines.PIECE))
+                count -= answers[-1].count(b"\n")
+                if not answers[-1]:
+                    break
+        return b"".join(answers)
 
     def _begun(self):
         if self._program is None:
@@ -101,15 +128,24 @@ class Judge:
         for judge in self._judges.values():
             judge.__exit__()
 
-    def text(self, frame, connection=None):
-        """The text of a frame line, and behind ` ! ` the end and the rule that it breaks, or behind ` ~ ` what is noted."""
-        number = 1 if connection is None else connection.number
-        is_made_up = connection is not None and connection.is_made_up
-        if number not in self._judges:
-            self._judges[number] = Decoder(self._program, self._words, "judge")
-            for made_up in SET_UP if is_made_up else ():
-                self._judges[number].text(made_up)
-        text = self._judges[number].text(frame)
+    def texts(self, lines, connections):
+        """The answers to some lines of a trace, each of a connection, and behind ` ! ` the end and the rule that it breaks, or behind ` ~ ` what is
+        noted."""
+        groups = {}
+        for place, connection in enumerate(connections):
+            groups.setdefault(None if connection is None else (connection.number, connection.is_made_up), []).append(place)
+        texts = [None] * len(lines)
+        for group, places in groups.items():
+            for place, text in zip(places, self._group_texts(group, [lines[place] for place in places])):
+                texts[place] = text
+        return texts
+
+    def _group_texts(self, group, lines):
+        """The answers to lines of one connection. Of one whose frames are made up the link is set up first, and each I frame taken at once."""
+        _, is_made_up = group or (None, False)
+        if group not in self._judges:
+            self._judges[group] = Decoder(self._program, self._words, "judge")
+            self._judges[group].texts(SET_UP if is_made_up else ())
         if is_made_up:
-            self._judges[number].text(_taken(frame))
-        return text
+            return self._judges[group].texts([told for line in lines for told in (line, _taken(line))])[::2]
+        return self._judges[group].texts(lines)

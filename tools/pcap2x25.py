@@ -39,7 +39,7 @@ import captures
 import lan
 import x25lines
 import xot
-from x25lines import BadInput, FrameLine
+from x25lines import BadInput
 
 LAPB_WITH_DIRECTION, SITA = 207, 196
 SITA_HEADER, SITA_RECEIVED, SITA_NO_PROTOCOL, SITA_LAPB = 5, 1, 0, 1
@@ -57,7 +57,7 @@ class Connection:
         self.number = number
         self.name = name
         self.is_made_up = is_made_up
-        self.sent = Counter()
+        self.sent = {direction: 0 for direction in OTHER}
 
     def row(self):
         """The line of a list of connections."""
@@ -65,10 +65,14 @@ class Connection:
 
 
 class Converter:
-    """Turns records into frame lines. `notes` counts what was left out, by why, and `passed` what was no X.25."""
+    """Turns records into frames. `notes` counts what was left out, by why, and `passed` what was no X.25.
+
+    What reads a kind of record adds each frame that it finds in it, by `_add`.
+    """
 
     def __init__(self, options):
         self._options = options
+        self._found, self._now = [], 0
         self._frame_readers = {LAPB_WITH_DIRECTION: self._with_direction, SITA: self._sita}
         self._connections = {}
         self.notes, self.passed = Counter(), Counter()
@@ -80,100 +84,95 @@ class Converter:
         """The connections up to here, in the order of their numbers."""
         return list(self._connections.values())
 
-    def lines(self, records):
-        """Yields the frame lines of the connection that was asked for, or of the first one."""
-        wanted = self._options.connection or 1
-        for connection, line in self.found(records):
-            if connection.number == wanted:
-                yield line
+    def blocks(self, blocks):
+        """Yields, for each block of records, connection, time and line of each frame. Bad input is told behind the frames before it."""
+        for records in blocks:
+            self._found = []
+            try:
+                for record in records:
+                    self._take(record)
+            finally:
+                yield self._found
+        self._found = []
+        self._add_packets(self._xot.end())
+        yield self._found
 
-    def found(self, records):
-        """Yields connection and frame line of each frame of a capture."""
-        time = 0
-        for record in records:
-            time = self._time(record)
-            yield from self._timed(self._frames(record), time)
-        yield from self._timed(self._packets(self._xot.end()), time)
+    def _add(self, key, name, is_of_dte, octets, is_made_up=False):
+        """Adds a frame of the connection with a key, or a packet, for which a frame is made up."""
+        direction = "<>"[is_of_dte != self._options.swap]
+        connection = self._connections.get(key) or self._begun(key, name, is_made_up)
+        if connection is not None:
+            connection.name = name
+            frame = self._framed(connection, direction, octets) if is_made_up else octets
+            connection.sent[direction] += 1
+            self._found.append((connection, self._now, f"{direction} {frame.hex()}"))
 
-    def _timed(self, frames, time):
-        """Yields each frame with its connection, where they count it, and the time."""
-        for key, name, is_made_up, direction, octets in frames:
-            if self._options.swap:
-                direction = OTHER[direction]
-            connection = self._connection(key, name, is_made_up)
-            if connection is not None:
-                frame = self._framed(connection, direction, octets) if is_made_up else octets
-                connection.sent[direction] += 1
-                yield connection, FrameLine(direction, frame, time)
-
-    def _connection(self, key, name, is_made_up):
-        """The connection of a name, or None where there are too many."""
-        if key not in self._connections:
-            if len(self._connections) == MOST_CONNECTIONS:
-                self.notes[f"frame of a connection behind the first {MOST_CONNECTIONS:,}"] += 1
-                return None
-            self._connections[key] = Connection(len(self._connections) + 1, name, is_made_up)
-        self._connections[key].name = name
+    def _begun(self, key, name, is_made_up):
+        """A new connection, or None where there are too many."""
+        if len(self._connections) == MOST_CONNECTIONS:
+            self.notes[f"frame of a connection behind the first {MOST_CONNECTIONS:,}"] += 1
+            return None
+        self._connections[key] = Connection(len(self._connections) + 1, name, is_made_up)
         return self._connections[key]
 
-    def _time(self, record):
-        if record.time is not None and record.time > x25lines.MOST_TIME:
+    def _take(self, record):
+        """Takes a record; one without a time stands at 0."""
+        self._now = record.time or 0
+        if self._now > x25lines.MOST_TIME:
             self.notes["time that no line can have: 0 stands for it"] += 1
-            return 0
-        return record.time or 0
-
-    def _frames(self, record):
-        """Yields of the frames of a record: key and name of the connection, whether a packet needs a frame, direction, octets."""
-        if record.link_type == self._options.lapb:
-            yield from self._bare(record)
-        elif record.link_type in self._frame_readers:
-            yield from self._frame_readers[record.link_type](record)
-        elif record.link_type in lan.HEADERS:
-            yield from self._lan(record)
-        elif record.link_type in xot.IP_AT:
-            yield from self._packets(self._xot.take(record.octets[xot.IP_AT[record.link_type] :]))
+            self._now = 0
+        link_type = record.link_type
+        if link_type == self._options.lapb:
+            self._bare(record)
+        elif link_type in self._frame_readers:
+            self._frame_readers[link_type](record)
+        elif link_type in lan.HEADERS:
+            self._lan(record)
+        elif link_type in xot.IP_AT:
+            self._add_packets(self._xot.take(record.octets[xot.IP_AT[link_type] :]))
         else:
-            self.notes[f"record of the link type {record.link_type}, of which nothing is read (--help lists those that are)"] += 1
+            self.notes[f"record of the link type {link_type}, of which nothing is read (--help lists those that are)"] += 1
 
     def _lan(self, record):
         """Ethernet and cooked captures: frames of lapbether, packets of LLC and of XOT."""
         it = lan.carried(record)
         if it is None:
             self.passed["frame that is shorter than its header"] += 1
+        elif it.kind == lan.TYPE_IPV4 or it.kind == lan.TYPE_IPV6:
+            self._add_packets(self._xot.take(it.octets))
         elif it.kind == lan.LAPBETHER:
             for is_of_dte, frame in self._lapbether.take(it, record.is_cut()):
-                yield "lapbether", self._lapbether.name(), False, ">" if is_of_dte else "<", frame + x25lines.fcs(frame)
-        elif it.kind in (lan.TYPE_IPV4, lan.TYPE_IPV6):
-            yield from self._packets(self._xot.take(it.octets))
+                self._add("lapbether", self._lapbether.name(), is_of_dte, frame + x25lines.fcs(frame))
         elif it.kind == lan.COOKED_LLC and it.octets[:1] == bytes([lan.X25_ACCESS_POINT]):
-            yield from self._packets(self._llc.take(it, record.is_cut()))
+            self._add_packets(self._llc.take(it, record.is_cut()))
         else:
             self.passed["frame of LLC with another access point" if it.kind == lan.COOKED_LLC else f"frame of the type {it.kind:04x}"] += 1
 
-    def _packets(self, packets):
-        """Yields the packets of connections without frames of LAPB."""
+    def _add_packets(self, packets):
+        """Adds the packets of connections without frames of LAPB."""
         for name, is_of_dte, packet in packets:
             if len(packet) > x25lines.MOST_INFORMATION:
                 self.notes["packet that is longer than a frame may be"] += 1
             else:
-                yield name, name, True, ">" if is_of_dte else "<", packet
+                self._add(name, name, is_of_dte, packet, is_made_up=True)
 
     def _with_direction(self, record):
         """LAPB_WITH_DIR: an octet that is 0 where the frame was received, then the frame."""
-        is_sent = record.octets[0] != 0
-        yield from self._frame(record, is_sent, record.octets[1:])
+        self._frame(record, record.octets[0] != 0, record.octets[1:])
 
     def _sita(self, record):
         """SITA: five octets, the last of them the protocol, then the frame."""
-        if len(record.octets) < SITA_HEADER:
+        octets = record.octets
+        if len(octets) < SITA_HEADER:
             raise BadInput(f"record {record.number} is shorter than its header")
-        flags, protocol, octets = record.octets[0], record.octets[4], record.octets[SITA_HEADER:]
-        is_sent = not flags & SITA_RECEIVED if record.is_outbound is None else record.is_outbound
+        protocol, is_sent = octets[4], record.is_outbound
+        if is_sent is None:
+            is_sent = not octets[0] & SITA_RECEIVED
         if protocol == SITA_LAPB:
-            yield from self._frame(record, is_sent, octets)
+            self._frame(record, is_sent, octets[SITA_HEADER:])
         elif protocol == SITA_NO_PROTOCOL and record.flags & (captures.CRC_ERROR | captures.TOO_SHORT):
             # What came with an error was captured as it stood on the line.
-            yield from self._whole(record, is_sent, octets)
+            self._frame(record, is_sent, octets[SITA_HEADER:], has_fcs=True)
         else:
             self.notes[f"SITA record of protocol {protocol}"] += 1
 
@@ -184,20 +183,18 @@ class Converter:
             if self._options.sent_by is None:
                 raise BadInput(f"record {record.number} has no direction: say whose frames these are with --from dte or --from dce")
             is_sent = self._options.sent_by == "dte"
-        yield from self._frame(record, is_sent, record.octets)
+        self._frame(record, is_sent, record.octets)
 
-    def _frame(self, record, is_sent, octets):
+    def _frame(self, record, is_sent, octets, has_fcs=False):
         """A frame of LAPB, whose frame check sequence is added where the capture lacks it."""
-        has_fcs = self._options.fcs or record.fcs_octets == 2
-        yield from self._whole(record, is_sent, octets if has_fcs else octets + x25lines.fcs(octets))
-
-    def _whole(self, record, is_sent, octets):
+        if not (has_fcs or self._options.fcs or record.fcs_octets == 2):
+            octets += x25lines.fcs(octets)
         if record.is_cut():
             self.notes["frame that was captured in part"] += 1
         elif len(octets) > x25lines.MOST_OCTETS:
             self.notes["frame that is longer than a line may be"] += 1
         else:
-            yield "LAPB", "LAPB", False, ">" if is_sent else "<", octets
+            self._add("LAPB", "LAPB", is_sent, octets)
 
     @staticmethod
     def _framed(connection, direction, packet):
@@ -252,20 +249,22 @@ def words():
     return parser.parse_args()
 
 
-def write_list(converter, records):
+def write_list(converter, blocks):
     """Writes the connections of a capture."""
-    for _ in converter.found(records):
+    for _ in converter.blocks(blocks):
         pass
     for connection in converter.connections():
         sys.stdout.write(connection.row() + "\n")
     return converter.tell()
 
 
-def write_lines(converter, records, options):
-    """Writes the lines of a connection."""
-    for line in converter.lines(records):
-        sys.stdout.write(line.text(options.time) + "\n")
-    connections, wanted = len(converter.connections()), options.connection or 1
+def write_lines(converter, blocks, options):
+    """Writes the lines of a connection, those of each block at once."""
+    wanted = options.connection or 1
+    for found in converter.blocks(blocks):
+        lines = [(time, line) for connection, time, line in found if connection.number == wanted]
+        sys.stdout.write("".join([f"{x25lines.seconds(time)}\t{line}\n" if options.time else f"{line}\n" for time, line in lines]))
+    connections = len(converter.connections())
     if 0 < connections < wanted:
         raise BadInput(f"there are {connections} connections, and no number {wanted}")
     status = converter.tell()
@@ -279,8 +278,8 @@ def main():
     options = words()
     converter = Converter(options)
     with x25lines.opened(options.file) as file:
-        records = captures.records(file)
-        return write_list(converter, records) if options.list else write_lines(converter, records, options)
+        blocks = captures.blocks(file)
+        return write_list(converter, blocks) if options.list else write_lines(converter, blocks, options)
 
 
 if __name__ == "__main__":

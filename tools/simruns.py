@@ -20,7 +20,7 @@ MOST_EVENTS = 200_000
 
 
 class Run(NamedTuple):
-    """The lines of a run, each with its number, and by the place of a line what became of its frame."""
+    """The lines of a run, and by the place of a line what became of its frame."""
 
     lines: list
     fates: dict
@@ -138,4 +138,4 @@ class Line:
         """The run up to here; what is on the line still waits there."""
         left = [place for places in self._waiting.values() for place in places]
         fates = {place: WAITING for place in left if place not in self._fates} | self._fates
-        return Run([(number, line.encode()) for number, line in enumerate(self.lines, 1)], fates)
+        return Run([line.encode() for line in self.lines], fates)

@@ -31,7 +31,6 @@ import os
 import re
 import sys
 from collections import Counter
-from typing import NamedTuple, Optional
 
 import captures
 import decoding
@@ -45,23 +44,12 @@ from x25lines import BadInput
 CAPTURE = (b"\xa1", b"\xd4", b"\x4d", b"\x0a")
 RED, BLUE, GREEN, GREY, PLAIN = "\x1b[31m", "\x1b[34m", "\x1b[32m", "\x1b[90m", "\x1b[0m"
 CHANNEL = re.compile(r" ch=(\d+)")
-RESTARTS = re.compile(r"\| RESTART|^restart")
+RESTARTS = re.compile(r"\| RESTART|^(?:dte|dce) restart")
 A_ROW = 16
 # What stands before the end and the rule that it breaks, and before what is noted.
 RULE, NOTE = " ! ", " ~ "
 # The kinds of frames and packets in the order of a statistic.
 FRAMES = ("I", "RR", "RNR", "REJ", "SABM", "DISC", "UA", "DM", "FRMR", "fault")
-
-
-class Shown(NamedTuple):
-    """Something to show: the time as text, the connection's number, `>` or `<` or else the end or nothing, the text."""
-
-    time: str
-    connection: int
-    direction: str
-    text: str
-    is_made_up: bool = False
-    name: Optional[str] = None
 
 
 def channel_of(text):
@@ -79,7 +67,10 @@ def dumped(octets):
 
 
 class Reader:
-    """Yields what there is to show of a capture or of lines, one at a time; `status` is 1 where something wasn't read."""
+    """Yields what there is to show of a capture or of lines, in blocks of what is there at once; `status` is 1 where something wasn't read.
+
+    Each thing is its time as text, its connection, and its text: a frame's with its direction, an entry with its end, a refusal.
+    """
 
     def __init__(self, decoder, options):
         self._decoder = decoder
@@ -88,40 +79,36 @@ class Reader:
 
     def shown(self, file):
         """Whatever the file holds."""
-        return self._captured(file) if file.peek(1)[:1] in CAPTURE else self._lines(file)
+        for block in self._captured(file) if file.peek(1)[:1] in CAPTURE else self._lines(file):
+            if self._options.judge and any(RULE in text for _, _, text in block):
+                self.status = 1
+            yield block
 
     def _captured(self, file):
         converter = pcap2x25.Converter(self._options)
         wanted = self._options.connection
-        for connection, line in converter.found(captures.records(file)):
-            if wanted in (None, connection.number):
-                yield self._frame(line, connection)
+        for found in converter.blocks(captures.blocks(file)):
+            if wanted is not None:
+                found = [it for it in found if it[0].number == wanted]
+            texts = self._decoder.texts([line for _, _, line in found], [connection for connection, _, _ in found])
+            yield [(x25lines.seconds(time), connection, text) for (connection, time, _), text in zip(found, texts)]
         if 0 < len(converter.connections()) < (wanted or 1):
             raise BadInput(f"there are {len(converter.connections())} connections, and no number {wanted}")
         self.status = max(self.status, converter.tell())
 
-    def _frame(self, line, connection=None):
-        time = "" if line.time is None else x25lines.seconds(line.time)
-        text = self._decoder.text(line, connection)
-        if self._options.judge and RULE in text:
-            self.status = 1
-        if connection is None:
-            return Shown(time, 1, line.direction, text)
-        return Shown(time, connection.number, line.direction, text, connection.is_made_up, connection.name)
-
     def _lines(self, file):
-        for _, line in x25lines.lines_of(file):
-            frame = x25lines.frame_line(line)
-            if frame is not None:
-                yield self._frame(frame)
-            elif found := decoding.TEXT_LINE.fullmatch(line):
-                yield Shown((found[1] or b"").decode(), 1, found[2].decode(), found[3].decode())
-            elif found := x25lines.ENTRY_LINE.fullmatch(line):
-                yield Shown("", 1, found[1].decode(), found[2].decode())
-            else:
-                is_refusal = x25lines.REFUSAL_LINE.fullmatch(line)
-                self.status = max(self.status, 0 if is_refusal else 1)
-                yield Shown("", 1, "", line.decode() if is_refusal else "? 60")
+        trace = pcap2x25.Connection(1, None, False)
+        for _, lines in x25lines.blocks_of_lines(file):
+            answers = decoding.answers(self._decoder, lines, trace)
+            yield [(x25lines.seconds(answer[0]), trace, answer[1]) if answer else self._other(line, trace) for line, answer in zip(lines, answers)]
+
+    def _other(self, line, trace):
+        """What there is to show of a line that holds no frame in digits."""
+        if found := decoding.TEXT_LINE.fullmatch(line):
+            return (found[1] or b"").decode(), trace, found[2].decode()
+        is_known = x25lines.ENTRY_LINE.fullmatch(line) or x25lines.REFUSAL_LINE.fullmatch(line)
+        self.status = max(self.status, 0 if is_known else 1)
+        return "", trace, line.decode() if is_known else "? 60"
 
 
 class Lines:
@@ -131,30 +118,32 @@ class Lines:
         self._paint = paint
         self._named = set()
 
-    def take(self, it):
+    def take(self, time, connection, text):
         """Yields the lines of something to show."""
-        if it.name is not None and it.connection not in self._named:
-            self._named.add(it.connection)
-            yield self._paint(GREY, f"connection {it.connection}: {it.name}")
-        yield lead(it) + self._text(it)
+        if connection.name is not None and connection.number not in self._named:
+            self._named.add(connection.number)
+            yield self._paint(GREY, f"connection {connection.number}: {connection.name}")
+        yield lead(time, connection) + self._text(connection, text)
 
-    def _text(self, it):
-        if it.direction == "":
-            return self._paint(RED, f"{it.text} {x25names.refusal(it.text)}".rstrip())
-        whole, mark, remark = it.text.partition(RULE if RULE in it.text else NOTE)
+    def _text(self, connection, text):
+        if text[0] in "!?":
+            return self._paint(RED, f"{text} {x25names.refusal(text)}".rstrip())
+        whole, mark, remark = text.partition(RULE if RULE in text else NOTE)
         said = x25names.words(whole)
-        text = whole.partition(" | ")[2] if it.is_made_up else whole
-        colour = RED if "fault" in text or text.startswith("FRMR") else {">": BLUE, "<": GREEN}.get(it.direction, PLAIN)
-        return self._paint(colour, f"{it.direction} {text}") + (self._paint(GREY, f"  ({said})") if said else "") + (self._paint(RED if mark == RULE else GREY, mark + remark) if mark else "")
+        if connection.is_made_up:
+            whole = whole[:2] + whole.partition(" | ")[2]
+        colour = RED if "fault" in whole or whole.startswith("FRMR", 2) else {">": BLUE, "<": GREEN}.get(whole[0], PLAIN)
+        said = self._paint(GREY, f"  ({said})") if said else ""
+        return self._paint(colour, whole) + said + (self._paint(RED if mark == RULE else GREY, mark + remark) if mark else "")
 
     def end(self):
         """Nothing is left at the end."""
         return []
 
 
-def lead(it):
+def lead(time, connection):
     """What stands before the direction: the time, and the connection but for the first."""
-    return (f"{it.time} " if it.time else "") + (f"#{it.connection} " if it.connection > 1 else "")
+    return (f"{time} " if time else "") + (f"#{connection.number} " if connection.number > 1 else "")
 
 
 class Joined:
@@ -166,30 +155,31 @@ class Joined:
         self._lines = {}
         self._last = {}
 
-    def take(self, it):
+    def take(self, time, connection, text):
         """Yields the lines of the messages that a frame completes."""
-        if it.direction in pcap2x25.OTHER:
-            # Frames that were made up count from 0.
-            line = self._lines.setdefault(it.connection, Messages(0 if it.is_made_up else None))
-            self._last[it.connection] = it
-            yield from self._rows(it, line.take(it.direction, it.text))
+        if text[0] in pcap2x25.OTHER:
+            if connection not in self._lines:
+                # Frames that were made up count from 0.
+                self._lines[connection] = Messages(0 if connection.is_made_up else None)
+            self._last[connection] = time
+            yield from self._rows(time, connection, self._lines[connection].take(text[0], text[2:]))
 
-    def _rows(self, it, messages):
+    def _rows(self, time, connection, messages):
         for message in messages:
             if self._channel is None or message.channel in (None, self._channel):
-                yield from self._row(it, message)
+                yield from self._row(lead(time, connection), message)
 
-    def _row(self, it, message):
+    def _row(self, before, message):
         where = "" if message.channel is None else f" ch={message.channel}" + (f" Q={message.q}" if message.q else "")
         count = "" if message.channel is None else f", {len(message.octets):,} octet{'s' if len(message.octets) != 1 else ''}"
         colour = {">": BLUE, "<": GREEN}[message.direction] if where else RED
-        yield lead(it) + self._paint(colour, f"{message.direction}{where} {message.sort}{count}")
+        yield before + self._paint(colour, f"{message.direction}{where} {message.sort}{count}")
         yield from dumped(message.octets)
 
     def end(self):
         """Yields the lines of what is known at the end alone; messages that are begun there aren't shown."""
         for connection, line in self._lines.items():
-            yield from self._rows(self._last[connection], line.end())
+            yield from self._rows(self._last[connection], connection, line.end())
 
 
 class Statistic:
@@ -201,28 +191,29 @@ class Statistic:
         self._due = {}
         self._times = []
 
-    def take(self, it):
+    def take(self, time, connection, text):
         """Counts a frame; shows nothing."""
-        if it.direction in pcap2x25.OTHER:
-            self._names[it.connection] = it.name
-            self._times = [*self._times[:1], it.time]
-            frame, _, packet = it.text.partition(" | ")
-            for kind in self._kinds(it, frame, packet):
-                counts = self._counts.setdefault((it.connection, kind), Counter())
-                counts[it.direction] += len(octets_of(packet.rpartition("data=")[2])) if kind == "octets of data" else 1
+        direction = text[0]
+        if direction in pcap2x25.OTHER:
+            self._names[connection.number] = connection.name
+            self._times = [*self._times[:1], time]
+            frame, _, packet = text[2:].partition(" | ")
+            for kind in self._kinds(connection, direction, frame, packet):
+                counts = self._counts.setdefault((connection.number, kind), Counter())
+                counts[direction] += len(octets_of(packet.rpartition("data=")[2])) if kind == "octets of data" else 1
         return []
 
-    def _kinds(self, it, frame, packet):
+    def _kinds(self, connection, direction, frame, packet):
         """The rows in which a frame counts."""
-        kinds = [] if it.is_made_up else [frame.split(" ")[0]]
+        kinds = [] if connection.is_made_up else [frame.split(" ")[0]]
         kinds += [f"| {packet.split(' ')[0]}"] if packet else []
-        found = I_FRAME.fullmatch(it.text)
-        way = it.connection, it.direction
+        found = I_FRAME.fullmatch(f"{frame} | {packet}")
+        way = connection.number, direction
         if frame.startswith(("SABM", "UA")):
-            self._due = {key: due for key, due in self._due.items() if key[0] != it.connection}
+            self._due = {key: due for key, due in self._due.items() if key[0] != connection.number}
         if found:
             number = int(found[1])
-            if self._due.get(way, number) != number and not it.is_made_up:
+            if self._due.get(way, number) != number and not connection.is_made_up:
                 kinds.append("I frames out of order, or again")
             else:
                 self._due[way] = (number + 1) % 8
@@ -273,15 +264,13 @@ def asked(options):
     return decoding.Judge(options.x25, options.k, long) if options.judge else decoding.Decoder(options.x25, long)
 
 
-def show(view, items, out):
-    """Writes what a view makes of some items, each as soon as it is there; also what it has at the end, where the user ends it."""
+def show(view, blocks, out):
+    """Writes what a view makes of the things of each block; also what it has at the end, where the user ends it."""
     try:
-        for it in items:
-            for line in view.take(it):
-                out.write(line + "\n")
+        for block in blocks:
+            out.write("".join([f"{line}\n" for it in block for line in view.take(*it)]))
     finally:
-        for line in view.end():
-            out.write(line + "\n")
+        out.write("".join([f"{line}\n" for line in view.end()]))
 
 
 def main():
@@ -289,11 +278,11 @@ def main():
     paint = painter()
     with x25lines.opened(options.file) as file, asked(options) as decoder:
         reader = Reader(decoder, options)
-        items = reader.shown(file)
+        blocks = reader.shown(file)
         view = Joined(paint, options.channel) if options.messages else Statistic() if options.stats else Lines(paint)
         if options.channel is not None and not options.messages:
-            items = (it for it in items if channel_of(it.text) == options.channel)
-        show(view, items, sys.stdout)
+            blocks = ([it for it in block if channel_of(it[2]) == options.channel] for block in blocks)
+        show(view, blocks, sys.stdout)
     return reader.status
 
 

@@ -15,14 +15,18 @@ from typing import NamedTuple, Optional
 # Of a frame: 4,099 octets of information between address and control and the frame check sequence.
 MOST_OCTETS = 4103
 MOST_INFORMATION = MOST_OCTETS - 4
+# The characters of a line of a trace without a time.
+MOST_LINE = 2 + 2 * MOST_OCTETS
 # A time, a tab, a direction, a blank and the digits; what is longer is no line of a trace or a run.
 MOST_CHARACTERS = 131_264
 NANOSECONDS = 10**9
 # The latest time that a line can have.
 MOST_TIME = 10**10 * NANOSECONDS - 1
 GZIP = b"\x1f"
+# What is read at once.
+PIECE = 65_536
 
-FRAME_LINE = re.compile(rb"(?:([0-9]{1,10})(?:\.([0-9]{1,9}))?\t)?([<>]) ((?:[0-9a-fA-F]{2})*)")
+FRAME_LINE = re.compile(rb"(?:([0-9]{1,10})(?:\.([0-9]{1,9}))?\t)?([<>] [0-9a-fA-F]*)")
 
 # The other lines of a run of `x25 sim`: an entry of an end, a refusal, a line that was no event.
 ENTRY_LINE = re.compile(rb"(dte|dce) ([a-z][ -~]*)")
@@ -65,30 +69,58 @@ class FrameLine(NamedTuple):
 
 
 def seconds(nanoseconds):
-    """A time as a decimal number of seconds with nine places."""
-    whole, rest = divmod(nanoseconds, NANOSECONDS)
-    return f"{whole}.{rest:09d}"
+    """A time as a decimal number of seconds with nine places; None is written as nothing."""
+    if nanoseconds is None:
+        return ""
+    digits = f"{nanoseconds:010}"
+    return f"{digits[:-9]}.{digits[-9:]}"
+
+
+def timed(line):
+    """Reads a line of a trace, given as octets without its line feed; answers its time in nanoseconds, None where it has none, and the line
+    without it; or None where it is none."""
+    found = FRAME_LINE.fullmatch(line)
+    if not found:
+        return None
+    whole, part, frame = found.groups()
+    if len(frame) % 2 or len(frame) > MOST_LINE:
+        return None
+    time = None if whole is None else int(whole) * NANOSECONDS + int((part or b"").ljust(9, b"0"))
+    return time, frame.decode()
 
 
 def frame_line(line):
-    """Reads a line of a trace, given as octets without its line feed; answers None where it is none."""
-    found = FRAME_LINE.fullmatch(line)
-    if not found or len(found[4]) > 2 * MOST_OCTETS:
-        return None
-    time = None
-    if found[1]:
-        time = int(found[1]) * NANOSECONDS + int((found[2] or b"").ljust(9, b"0"))
-    return FrameLine(found[3].decode(), bytes.fromhex(found[4].decode()), time)
+    """The frame of a line of a trace, given as octets without its line feed; None where it is none."""
+    found = timed(line)
+    return found and FrameLine(found[1][0], bytes.fromhex(found[1][2:]), found[0])
+
+
+def pieces(file):
+    """Yields the octets of a binary file piece by piece: what is there, and no more than a pipe holds. So a file comes in large pieces, and
+    what comes live as it comes."""
+    return iter(lambda: file.read1(PIECE), b"")
+
+
+def blocks_of_lines(file):
+    """Yields the lines of a binary file, each its octets without the line feed, in blocks: the number of the first, and those that are there
+    at once."""
+    number, rest = 1, b""
+    for octets in pieces(file):
+        *lines, rest = (rest + octets).split(b"\n")
+        # The others lie within the piece.
+        if len(lines[0] if lines else rest) > MOST_CHARACTERS:
+            raise BadInput(f"line {number} is longer than {MOST_CHARACTERS:,} characters")
+        if lines:
+            yield number, lines
+            number += len(lines)
+    if rest:
+        yield number, [rest]
 
 
 def lines_of(file):
-    """Yields number and octets of each line of a binary file, without its line feed, holding one at a time."""
-    number = 0
-    while line := file.readline(MOST_CHARACTERS + 1):
-        number += 1
-        if len(line) > MOST_CHARACTERS and not line.endswith(b"\n"):
-            raise BadInput(f"line {number} is longer than {MOST_CHARACTERS:,} characters")
-        yield number, line.removesuffix(b"\n")
+    """Yields number and octets of each line of a binary file, without its line feed."""
+    for number, lines in blocks_of_lines(file):
+        yield from enumerate(lines, number)
 
 
 def shown(line):

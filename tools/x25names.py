@@ -83,7 +83,7 @@ GROUNDS = ("undefined control", "information that mustn't be there", "informatio
 
 CAUSED = re.compile(r"(CLEAR|RESET|RESTART|cleared|wasreset|restarted)\b.* cause=(\d+) diag=(\d+)$")
 DIAGNOSED = re.compile(r"fault \S+ diag=(\d+)$")
-FRAME_REFUSED = re.compile(r"FRMR .*why=([0-9a-f]{6})$")
+FRAME_REFUSED = re.compile(r"^(?:[<>] )?FRMR .*why=([0-9a-f]{6})$")
 CAUSES = {"CLEAR": CLEARING, "cleared": CLEARING, "RESET": RESETTING, "wasreset": RESETTING, "RESTART": RESTARTING, "restarted": RESTARTING}
 
 
@@ -103,12 +103,13 @@ def _grounds(octets):
 
 def words(text):
     """What the numbers of a text of `x25 decode`, or of an entry, say in words; nothing where it has no such numbers."""
-    if found := CAUSED.search(text):
-        cause, diagnostic = _cause(CAUSES[found[1]], int(found[2])), int(found[3])
-        return f"{cause}; {_diagnostic(diagnostic)}" if diagnostic else cause
-    if found := DIAGNOSED.search(text):
-        return _diagnostic(int(found[1]))
-    if found := FRAME_REFUSED.match(text):
+    if "diag=" in text:
+        if found := CAUSED.search(text):
+            cause, diagnostic = _cause(CAUSES[found[1]], int(found[2])), int(found[3])
+            return f"{cause}; {_diagnostic(diagnostic)}" if diagnostic else cause
+        if found := DIAGNOSED.search(text):
+            return _diagnostic(int(found[1]))
+    elif found := FRAME_REFUSED.search(text):
         return _grounds(bytes.fromhex(found[1]))
     return ""
 

@@ -41,17 +41,17 @@ def packet(frame):
 
 
 def convert(file, out):
-    """Writes a packet for each frame line of a file, as soon as it is read."""
+    """Writes a packet for each frame line of a file, those of a block of lines at once."""
     writer = captures.Writer(out, SITA)
-    for number, line in x25lines.lines_of(file):
-        frame = x25lines.frame_line(line)
-        if frame is not None:
-            time = number * MILLISECOND if frame.time is None else frame.time
-            octets, flags = packet(frame)
-            writer.packet(octets, time, flags)
-            out.flush()
-        elif not (x25lines.ENTRY_LINE.fullmatch(line) or x25lines.REFUSAL_LINE.fullmatch(line)):
-            raise BadInput(f"line {number} is no line of a trace or a run: {x25lines.shown(line)}")
+    for first, lines in x25lines.blocks_of_lines(file):
+        for number, line in enumerate(lines, first):
+            frame = x25lines.frame_line(line)
+            if frame is not None:
+                octets, flags = packet(frame)
+                writer.packet(octets, number * MILLISECOND if frame.time is None else frame.time, flags)
+            elif not (x25lines.ENTRY_LINE.fullmatch(line) or x25lines.REFUSAL_LINE.fullmatch(line)):
+                raise BadInput(f"line {number} is no line of a trace or a run: {x25lines.shown(line)}")
+        out.flush()
 
 
 def main():

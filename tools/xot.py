@@ -87,23 +87,28 @@ def segment(octets):
 
 
 class Stream:
-    """One direction of a connection: puts segments in order, and cuts what comes into packets.
+    """One direction of a connection, between two ends: puts segments in order, and cuts what comes into packets.
 
-    Where a capture begins within a connection, the first segment is taken to begin with a packet, as it nearly always does.
+    The DTE is the end that opened the connection to the port of XOT. Where a capture begins within a connection, the first segment is taken
+    to begin with a packet, as it nearly always does.
     """
 
-    def __init__(self, notes):
+    def __init__(self, ends, port, notes):
+        self.is_of_dte = ends[1][1] == port
+        client, server = ends if self.is_of_dte else ends[::-1]
+        self.name = f"XOT {_end(client)} > {_end(server)}"
         self._notes = notes
         self._start = None
         self._next = None
         self._ahead = {}
-        self._held = bytearray()
+        self._held = b""
         self._is_lost = False
 
     def take(self, segment):
-        """Takes a segment; yields the X.25 packets that are whole now."""
+        """Takes a segment; answers the X.25 packets that are whole now."""
+        packets = []
         if segment.flags & SYN and segment.sequence != self._start:
-            yield from self.end()
+            packets += self.end()
             self._begin(segment.sequence)
         if segment.octets:
             start = segment.sequence + bool(segment.flags & SYN)
@@ -113,16 +118,18 @@ class Stream:
             self._in_order()
             if len(self._ahead) > MOST_SEGMENTS:
                 self._pass_gap()
-        yield from self._packets()
+        return packets + self._packets()
 
     def end(self):
-        """Gives up what is missing; yields the packets behind it, and notes what was left within one."""
+        """Gives up what is missing; answers the packets behind it, and notes what was left within one."""
+        packets = []
         while self._ahead:
             self._pass_gap()
-            yield from self._packets()
+            packets += self._packets()
         if self._held:
             self._notes["packet broken off at the end of its connection"] += 1
-            self._held.clear()
+            self._held = b""
+        return packets
 
     def _begin(self, sequence):
         """Begins a connection, whose first octet stands behind the number of its SYN."""
@@ -148,25 +155,26 @@ class Stream:
     def _pass_gap(self):
         """Goes on at the nearest segment; what was held ends within a packet, and so is dropped."""
         self._notes["gap in a connection, octets that weren't captured"] += 1
-        self._held.clear()
+        self._held = b""
         self._is_lost = False
         self._next = min(self._ahead, key=self._distance)
         self._in_order()
 
     def _packets(self):
-        while not self._is_lost and len(self._held) >= 4:
-            version, length = struct.unpack_from(">HH", self._held)
+        """Cuts the packets that are whole off what is held."""
+        packets, at = [], 0
+        while not self._is_lost and len(self._held) - at >= 4:
+            version, length = struct.unpack_from(">HH", self._held, at)
             if version != 0 or length == 0:
                 self._notes["connection that isn't XOT, or was read out of step"] += 1
                 self._is_lost = True
+            elif len(self._held) - at < 4 + length:
                 break
-            if len(self._held) < 4 + length:
-                return
-            packet = bytes(self._held[4 : 4 + length])
-            del self._held[: 4 + length]
-            yield packet
-        if self._is_lost:
-            self._held.clear()
+            else:
+                packets.append(self._held[at + 4 : at + 4 + length])
+                at += 4 + length
+        self._held = b"" if self._is_lost else self._held[at:]
+        return packets
 
 
 def _end(end):
@@ -193,37 +201,28 @@ class Xot:
         self._passed = passed
 
     def take(self, octets):
-        """Takes a packet of IP; yields the connection's name, whether the DTE sent it, and X.25 packet of each that is whole now.
-
-        The DTE is the end that opened the connection to the port of XOT.
-        """
+        """Takes a packet of IP; answers of each X.25 packet that is whole now the connection's name, whether the DTE sent it, and the packet."""
         found, missing = segment(octets)
         if found is None:
             self._passed["packet of IP without a whole segment of TCP"] += 1
-            return
+            return []
         ports = found.source[1], found.target[1]
         if self._port not in ports:
             self._passed[f"segment of TCP like XOT, to or from port {min(ports)} (--port)" if is_like_xot(found.octets) else f"segment of TCP of other ports than {self._port}"] += 1
-            return
+            return []
         if missing > 0:
             self._notes["segment that was captured in part"] += 1
         ends = found.source, found.target
-        stream = self._streams.setdefault(ends, Stream(self._notes))
-        yield from self._told(ends, stream.take(found))
-        if len(self._streams) > MOST_STREAMS:
-            yield from self._close(next(iter(self._streams)))
+        stream = self._streams.get(ends)
+        if stream is None:
+            stream = self._streams[ends] = Stream(ends, self._port, self._notes)
+        packets = [(stream.name, stream.is_of_dte, packet) for packet in stream.take(found)]
+        return packets if len(self._streams) <= MOST_STREAMS else packets + self._close(next(iter(self._streams)))
 
     def end(self):
-        """Ends all connections; yields what they still hold."""
-        for ends in list(self._streams):
-            yield from self._close(ends)
+        """Ends all connections; answers what they still hold."""
+        return [packet for ends in list(self._streams) for packet in self._close(ends)]
 
     def _close(self, ends):
-        yield from self._told(ends, self._streams.pop(ends).end())
-
-    def _told(self, ends, packets):
-        """The packets of one way of a connection, with its name and whether they are the DTE's."""
-        is_of_dte = ends[1][1] == self._port
-        client, server = ends if is_of_dte else ends[::-1]
-        for packet in packets:
-            yield f"XOT {_end(client)} > {_end(server)}", is_of_dte, packet
+        stream = self._streams.pop(ends)
+        return [(stream.name, stream.is_of_dte, packet) for packet in stream.end()]

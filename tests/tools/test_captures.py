@@ -29,7 +29,8 @@ def words(**given):
 def lines(capture, **given):
     """The lines that a capture becomes, as a text, and the notes on what was left out."""
     converter = pcap2x25.Converter(words(**given))
-    text = "".join(line.text() + "\n" for line in converter.lines(captures.records(io.BytesIO(capture))))
+    found = [it for block in converter.blocks(captures.blocks(io.BytesIO(capture))) for it in block]
+    text = "".join(line + "\n" for connection, _, line in found if connection.number == (given.get("connection") or 1))
     return text, dict(converter.notes)
 
 
