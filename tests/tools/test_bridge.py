@@ -378,11 +378,25 @@ class Joined(ToolCase):
         self.assertEqual(self.end()[0], -signal.SIGTERM)
 
     def test_connect_behind_disconnect_begins_a_new_station(self):
-        self.begin(f". off busy\n= dte connect\n! 13\n. off busy\n", "--t1", "60", user=b"dte connect\n")
-        # The station that begins anew reads the same answers, so it is dead too; the bridge tells that.
-        status, notices, _ = self.end()
-        self.assertEqual((status, notices[0]), (1, "! 13"))
-        self.assertEqual([event for _, event in self.asked()], ["dte connect"])
+        """.. once DISC is acknowledged; and where it was sent again, once an answer to that can't come any more."""
+        dead = f"= {UA}\n. off busy\n= dte connect\n! 13\n. off busy\n"
+        for words, again in (["--t1", "60"], ""), (["--t1", "1"], f"= t1 dte\n{DISC}\n. start busy\n"):
+            with self.subTest(words):
+                self.begin(f". off busy\n= dte disconnect\ndte disconnect\n{DISC}\n. start busy\n{again}{dead}", *words, user=b"dte disconnect\ndte connect\n")
+                self.assertEqual(self.gets(), DISC)
+                if again:
+                    self.assertEqual(self.gets(), DISC)
+                time.sleep(0.3)
+                self.assertEqual([event for _, event in self.asked()], ["dte disconnect", "t1 dte"][: 1 + bool(again)])
+                self.sends(UA)
+                begin = time.monotonic()
+                # The new station reads the same answers, and is asked for something else than the first of them.
+                status, notices, said = self.end()
+                self.assertEqual((status, notices[:2]), (1, ["dte disconnect", "? 60"]))
+                self.assertIn("asked 'dte connect' for 'dte disconnect'", said)
+                self.assertEqual([event for _, event in self.asked()], ["dte connect"])
+                if again:
+                    self.assertGreater(time.monotonic() - begin, 0.5)
 
     def test_a_call_on_a_channel_that_there_is_not(self):
         for channel, words in ((5, "--channels 5 would have it"), (300, "a station has at most 16")):
@@ -426,12 +440,8 @@ class Joined(ToolCase):
         """T1 and frames go on, the channel by which messages come is held, and comes again when the reader has read."""
         frames = [line(sealed(bytes([3, 0, number]))) for number in range(120)]
         message = f"dte message ch=2 at 1.0.0 q=0 data={'41' * 2000}"
-        reader, writer = os.pipe()
-        pipe = fcntl.fcntl(writer, 1032)  # F_GETPIPE_SZ of Linux
-        for number in (reader, writer):
-            os.close(number)
-        # What stands in the pipe and in the bridge when it holds the channel.
-        count = -(-(pipe + users.SLOW) // (len(message) + 1))
+        # What stands in the pipe, which holds one, and in the bridge when it holds the channel.
+        count = -(-(len(message) + 1 + users.SLOW) // (len(message) + 1))
         answers = ". off busy\n= dte connect\n. start busy\n"
         for number, frame in enumerate(frames):
             answers += f"= {frame}\n{message}\n. on busy\n"
@@ -439,6 +449,7 @@ class Joined(ToolCase):
                 answers += "= dte notready 2\ndte notready ch=2\n. on busy\n"
         # T1 fires in the midst of it.
         self.begin(answers + "= t1 dte\n. off busy\n= dte ready 2\ndte ready ch=2\n. off idle\n", "--t1", "4", "--stay", user=b"dte connect\n")
+        fcntl.fcntl(self.child.stdout, 1031, 4096)  # F_SETPIPE_SZ of Linux
         self.asked(1)
         for frame in frames:
             self.sends(frame)
