@@ -98,7 +98,7 @@ def shortened(octets):
 
 def called_channel(octets):
     """The channel of a CALL in a frame, or None where it brings none."""
-    is_call = x25lines.is_sealed(octets) and len(octets) >= 7 and not octets[1] & 1 and octets[4] == CALL
+    is_call = len(octets) >= 7 and not octets[1] & 1 and octets[4] == CALL and x25lines.is_sealed(octets)
     return (octets[2] & 15) << 8 | octets[3] if is_call else None
 
 

@@ -117,18 +117,16 @@ class Standard(Wire):
         self._left += self._lines.spelled(octets)
 
     def frames(self, ready):
-        if 1 in ready:
-            try:
-                del self._left[: os.write(1, self._left[:ROOM])]
-            except BlockingIOError:
-                pass
-            except BrokenPipeError:
-                raise Ended from None
-        if 0 in ready:
-            octets = os.read(0, MOST_READ)
-            if not octets:
-                raise Ended
-            yield from self._lines.frames(octets)
+        try:
+            if 1 in ready:
+                with contextlib.suppress(BlockingIOError):
+                    del self._left[: os.write(1, self._left[:ROOM])]
+            octets = os.read(0, MOST_READ) if 0 in ready else None
+        except (BrokenPipeError, ConnectionResetError):
+            octets = b""
+        if octets == b"":
+            raise Ended
+        yield from self._lines.frames(octets or b"")
 
 
 class OverTcp(Wire):
