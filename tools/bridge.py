@@ -215,11 +215,14 @@ class Bridge:
         """How long nothing may happen before the bridge itself has to act, in seconds; None where it has nothing to do."""
         if self._command() is not None or self._has_caught_up():
             return 0
-        settles = self._settles if self._is_settling() else None
-        times = [time for time in (self._deadline, self._wire.due, self._leaves, self._probing(), settles) if time is not None]
+        now = time.monotonic()
+        own = [self._leaves] if self._leaves is not None else [self._deadline, self._probing()]
+        times = [at for at in (self._wire.due, *own) if at is not None]
+        if self._is_dead and now < self._settles:
+            times.append(self._settles)
         if self._is_at_rest():
             times.append(self._last_frame + self._quiet)
-        return max(0, min(times) - time.monotonic()) if times else None
+        return max(0, min(times) - now) if times else None
 
     def _act(self):
         """Where nothing came: T1, or what T3 asks for, or else a command."""

@@ -359,27 +359,30 @@ class Ethernet(Datagrams):
         super().__init__(note, None, None)
         self._interface = interface
         self.is_there = self.has_begun = False
-        self._open()
-        mtu = struct.unpack_from("i", self._asked(GET_MTU), 16)[0]
-        self.most_size = min(MOST_SIZE, max(0, mtu - OVERHEAD).bit_length() - 1)
+        try:
+            mtu = self._open()
+        except OSError as error:
+            raise BadInput(f"{interface}: {error.strerror}") from error
         x25lines.warn(f"{interface} has an MTU of {mtu}: packets of up to {1 << self.most_size} octets fit (size {self.most_size})")
-        self._look()
+        if not self.is_there:
+            note(f"{interface} is down; waiting for it")
 
     def _open(self):
+        """Opens the interface, and looks whether it is up; answers its MTU."""
         self._socket = socket.socket(socket.AF_PACKET, socket.SOCK_RAW, 0)
         self._socket.bind((self._interface, lan.LAPBETHER))
         self._socket.setblocking(False)
         self._source = self._socket.getsockname()[4]
+        self.is_there = bool(struct.unpack_from("h", self._asked(GET_FLAGS), 16)[0] & IS_UP)
+        self.has_begun = self.has_begun or self.is_there
+        self.due = None if self.is_there else time.monotonic() + LOOK
+        mtu = struct.unpack_from("i", self._asked(GET_MTU), 16)[0]
+        self.most_size = min(MOST_SIZE, max(0, mtu - OVERHEAD).bit_length() - 1)
+        return mtu
 
     def _asked(self, request):
         """What Linux answers to a request about the interface."""
         return fcntl.ioctl(self._socket, request, struct.pack("16s24x", self._interface.encode()))
-
-    def _look(self):
-        """Looks whether the interface is up."""
-        self.is_there = bool(struct.unpack_from("h", self._asked(GET_FLAGS), 16)[0] & IS_UP)
-        self.has_begun = self.has_begun or self.is_there
-        self.due = None if self.is_there else time.monotonic() + LOOK
 
     def readers(self):
         return super().readers() if self.is_there else []
@@ -397,7 +400,6 @@ class Ethernet(Datagrams):
         try:
             self._socket.close()
             self._open()
-            self._look()
         except OSError:
             self.due = time.monotonic() + LOOK
         if self.is_there:
