@@ -99,7 +99,7 @@ class Run(ToolCase):
         for row in rows:
             cells = dict(zip(head.strip("| ").split(" | "), re.split(r" \| ", row.strip("| "))))
             self.assertGreater(int(cells["messages"].replace(",", "")), 50, row)
-            self.assertEqual((cells["wrong"], cells["broken rules"]), ("0", "0"), row)
+            self.assertEqual([cells[name] for name in ("wrong", "broken by the near end", "by the far end")], ["0"] * 3, row)
 
 
 if __name__ == "__main__":
