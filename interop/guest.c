@@ -1,5 +1,5 @@
 /* The first and only program of a guest with Linux's X.25 (net/x25, lapb, lapbether): commands come on the console, one a line, and
- * what happens is written there. Each circuit has a number, its slot, in the order in which circuits were opened, from 0.
+ * what happens is written there. Each circuit has a number, its slot, the first that is free, from 0.
  *
  *   link                      takes eth0 and lapb0 up, and makes a route to lapb0 for all addresses: "linked"
  *   down                      takes lapb0 down: "down"
@@ -48,9 +48,9 @@ static pthread_mutex_t console = PTHREAD_MUTEX_INITIALIZER;
 } while (0)
 
 static pthread_mutex_t opening = PTHREAD_MUTEX_INITIALIZER;
+/* The sockets of circuits, by their slots; 0 is none. */
 static int circuits[MOST_CIRCUITS];
 static volatile char is_closing[MOST_CIRCUITS];
-static int circuit_count;
 static int is_echo, is_qbit;
 static int sizes[4];
 
@@ -130,6 +130,9 @@ static void *reader(void *given) {
     }
     close(fd);
     if (is_closing[circuit.slot]) say("closing %d", circuit.slot);
+    pthread_mutex_lock(&opening);
+    circuits[circuit.slot] = is_closing[circuit.slot] = 0;
+    pthread_mutex_unlock(&opening);
     free(octets);
     return 0;
 }
@@ -141,7 +144,7 @@ static void begin(int fd, const char *how, const char *from) {
     memset(&it, 0, sizeof it);
     ioctl(fd, SIOCX25GFACILITIES, &it);
     pthread_mutex_lock(&opening);
-    circuit->slot = circuit_count++;
+    for (circuit->slot = 0; circuit->slot < MOST_CIRCUITS - 1 && circuits[circuit->slot]; circuit->slot++) ;
     circuits[circuit->slot] = fd;
     pthread_mutex_unlock(&opening);
     circuit->is_echo = is_echo;

@@ -61,6 +61,11 @@ class Talker:
                     raise Missing(f"{self.name} didn't say `{beginning}`" + (f" {count} times" if count > 1 else "") + f"; it said {[line[:60] for line in self.said[since:][-6:]]}")
                 self._changed.wait(left)
 
+    def memory(self):
+        """How much memory it has, in kilobytes."""
+        with open(f"/proc/{self._child.pid}/status") as file:
+            return int(re.search(r"VmRSS:\s*(\d+)", file.read())[1])
+
     def stop(self):
         """Has it end, as from the keyboard."""
         self._child.send_signal(signal.SIGINT)

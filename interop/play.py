@@ -251,8 +251,11 @@ COUNTED = ("frames sent, come, lost on the way out, lost on the way in", "firing
 def counted(it):
     """The cells of what is counted, once the bridge has ended."""
     said = " ".join(line.partition("frames: ")[2] for line in it.ours.said if "frames: " in line)
-    numbers = [f"{int(number):,}" for number in re.findall("[0-9]+", said)] or ["?"] * 7
-    return [", ".join(numbers[:4]), numbers[6].replace(",", ""), str(frmrs(it.trace))]
+    found = re.match(r"(\d+) sent, (\d+) came; (\d+) \+ (\d+) lost, .*; T1 fired (\d+) times", said)
+    if not found:
+        return ["not told", "not told", str(frmrs(it.trace))]
+    *frames, fired = (f"{int(number):,}" for number in found.groups())
+    return [", ".join(frames), fired, str(frmrs(it.trace))]
 
 
 def prepare(guest):

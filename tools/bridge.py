@@ -27,7 +27,7 @@ behind it until a notice comes that begins so. Notices are the entries of the tr
 for one that is none; and lines that begin with `#`, the bridge's own words: why that was, and what becomes of the line. They go to
 standard output or to --notices. With --stdio commands have to come by --commands, and notices go to standard error. A command that is
 refused because too much waits (10 and 31) is asked again behind the next frame, and those behind it wait; so do all while the line isn't
-there. `connect` behind `disconnect` begins a new station.
+there. `connect` behind `disconnect` begins a new station, once DISC is acknowledged.
 
 T1 fires --t1 seconds after it began anew, where nothing that came is unread; let it be longer than the way to the other end and
 back. Where nothing came for --t3 seconds, the other end is asked whether it is there: by an RR of a circuit that is open, which it has to
@@ -98,7 +98,7 @@ def shortened(octets):
 
 def called_channel(octets):
     """The channel of a CALL in a frame, or None where it brings none."""
-    is_call = x25lines.is_sealed(octets) and len(octets) >= 7 and not octets[1] & 1 and octets[4] == CALL
+    is_call = len(octets) >= 7 and not octets[1] & 1 and octets[4] == CALL and x25lines.is_sealed(octets)
     return (octets[2] & 15) << 8 | octets[3] if is_call else None
 
 
@@ -172,6 +172,8 @@ class Bridge:
         self._deadline, self._is_idle, self._is_up = None, False, False
         self._is_full, self._held, self._unknown = False, set(), set()
         self._last_frame = self._last_came = time.monotonic()
+        # Whether the link was ended here, and until when an answer to a DISC may come that was sent again.
+        self._is_dead, self._settles = False, 0
         self._leaves = None
         self.status, self.counts = 0, Counter()
 
@@ -213,10 +215,14 @@ class Bridge:
         """How long nothing may happen before the bridge itself has to act, in seconds; None where it has nothing to do."""
         if self._command() is not None or self._has_caught_up():
             return 0
-        times = [time for time in (self._deadline, self._wire.due, self._leaves, self._probing()) if time is not None]
+        now = time.monotonic()
+        own = [self._leaves] if self._leaves is not None else [self._deadline, self._probing()]
+        times = [at for at in (self._wire.due, *own) if at is not None]
+        if self._is_dead and now < self._settles:
+            times.append(self._settles)
         if self._is_at_rest():
             times.append(self._last_frame + self._quiet)
-        return max(0, min(times) - time.monotonic()) if times else None
+        return max(0, min(times) - now) if times else None
 
     def _act(self):
         """Where nothing came: T1, or what T3 asks for, or else a command."""
@@ -232,8 +238,12 @@ class Bridge:
 
     def _command(self):
         """The command that may be asked now."""
-        waits = self._is_full or self._leaves is not None or self._user.notices.is_slow()
+        waits = self._is_full or self._leaves is not None or self._user.notices.is_slow() or self._is_settling()
         return None if waits or not self._wire.is_there or self._wire.waits > MOST_UNSENT else self._user.command()
+
+    def _is_settling(self):
+        """Whether an answer to DISC may still come: a new station would take it for one to its SABM."""
+        return self._is_dead and (self._deadline is not None or time.monotonic() < self._settles)
 
     def _is_at_rest(self):
         """Whether nothing is left to do here, if nothing comes any more."""
@@ -288,6 +298,7 @@ class Bridge:
         """T1 runs out. Where the link goes down by it, no frame comes, so what waited for one is asked again."""
         self._deadline = None
         self._is_full = False
+        self._settles = time.monotonic() + self._options.t1
         self.counts["fired"] += 1
         answer = self._station.ask(f"t1 {self._end}")
         self._heed(answer)
@@ -361,7 +372,7 @@ class Bridge:
         """A station that has ended its link is so for good: another one begins."""
         self._station.begin()
         self._channels, self._held = Channels(), set()
-        self._deadline, self._is_up = None, False
+        self._deadline, self._is_up, self._is_dead = None, False, False
         self._heed(self._station.first)
 
     def _heed(self, answer):
@@ -371,6 +382,7 @@ class Bridge:
             event, channel = self._channels.heed(notice)
             if event in ("linkup", "linkdown"):
                 self._is_up = event == "linkup"
+            self._is_dead = self._is_dead or event == "disconnect"
             self._user.tell(notice)
             if event == "message" and self._user.notices.is_slow():
                 slow.add(channel)

@@ -16,12 +16,13 @@ import struct
 import time
 
 import lan
+import tcp
 import x25lines
+from tcp import MOST_READ
 from x25lines import BadInput
 
 # What `select` finds room for in a pipe: a write of this many octets doesn't block.
 ROOM = select.PIPE_BUF
-MOST_READ = 65_536
 BROADCAST = b"\xff" * 6
 # The shortest frame of Ethernet, without its frame check sequence.
 LEAST_ETHERNET = 60
@@ -116,126 +117,16 @@ class Standard(Wire):
         self._left += self._lines.spelled(octets)
 
     def frames(self, ready):
-        if 1 in ready:
-            try:
-                del self._left[: os.write(1, self._left[:ROOM])]
-            except BlockingIOError:
-                pass
-            except BrokenPipeError:
-                raise Ended from None
-        if 0 in ready:
-            octets = os.read(0, MOST_READ)
-            if not octets:
-                raise Ended
-            yield from self._lines.frames(octets)
-
-
-def addresses(host, port, kind=socket.SOCK_STREAM):
-    """The addresses of a host's port, each with its family."""
-    try:
-        return [(row[0], row[4]) for row in socket.getaddrinfo(host, port, type=kind)]
-    except socket.gaierror as error:
-        raise BadInput(f"{host}: {error.strerror}") from error
-
-
-def written(address):
-    """An address and its port as they are written."""
-    return f"[{address[0]}]:{address[1]}" if ":" in address[0] else f"{address[0]}:{address[1]}"
-
-
-def server(host, port):
-    """Listens at a port of a host, for connections over TCP, and says so."""
-    family, address = addresses(host, port)[0]
-    try:
-        opened = socket.create_server(address[:2], family=family)
-    except OSError as error:
-        raise BadInput(f"{written(address)}: {error.strerror}") from error
-    opened.setblocking(False)
-    x25lines.warn(f"listening on {written(opened.getsockname())}")
-    return opened
-
-
-def accepted(opened):
-    """The connection that comes next to a server, or None where it has gone already."""
-    try:
-        return opened.accept()[0]
-    except OSError:
-        return None
-
-
-class Connection:
-    """A connection over TCP, or one that is being made to an address (`is_open` says which): what waits to be written, and what came.
-
-    Where nothing comes for `t3` seconds, the system asks whether the other end is still there; if not, the connection ends.
-    """
-
-    def __init__(self, opened, t3, address=None):
-        self._socket, self._left = opened, bytearray()
-        self.is_open, self.why = address is None, ""
-        opened.setblocking(False)
-        opened.setsockopt(socket.IPPROTO_TCP, socket.TCP_NODELAY, 1)
-        if t3:
-            self._keep_alive(max(1, round(t3)))
-        self._error = opened.connect_ex(address) if address else 0
-
-    def _keep_alive(self, seconds):
-        self._socket.setsockopt(socket.SOL_SOCKET, socket.SO_KEEPALIVE, 1)
-        values = {"TCP_KEEPIDLE": seconds, "TCP_KEEPINTVL": max(1, seconds // 3), "TCP_KEEPCNT": 3, "TCP_USER_TIMEOUT": 2000 * seconds}
-        for name, value in values.items():
-            if hasattr(socket, name):
-                self._socket.setsockopt(socket.IPPROTO_TCP, getattr(socket, name), value)
-
-    @property
-    def number(self):
-        """The number of its file."""
-        return self._socket.fileno()
-
-    @property
-    def waits(self):
-        """How many octets wait to be written."""
-        return len(self._left)
-
-    def wants_room(self):
-        """Whether it has something to do once there is room."""
-        return bool(self._left) or not self.is_open
-
-    def left(self):
-        """The octets that wait to be written."""
-        return bytes(self._left)
-
-    def send(self, octets):
-        """Has octets written, by and by."""
-        self._left += octets
-
-    def turn(self, ready):
-        """Where its file is ready: writes, and answers the octets that came; None where the connection has ended, or wasn't made."""
-        if self.number not in ready:
-            return b""
         try:
-            if not self.is_open:
-                self._be_made()
-            if self._left:
+            if 1 in ready:
                 with contextlib.suppress(BlockingIOError):
-                    del self._left[: self._socket.send(self._left)]
-            octets = self._socket.recv(MOST_READ)
-        except BlockingIOError:
-            return b""
-        except OSError as error:
-            self.why = error.strerror
-            return None
-        return octets or None
-
-    def _be_made(self):
-        error = self._socket.getsockopt(socket.SOL_SOCKET, socket.SO_ERROR)
-        if self._error not in (0, errno.EINPROGRESS):
-            error = self._error
-        if error:
-            raise OSError(error, os.strerror(error))
-        self.is_open = True
-
-    def close(self):
-        """Closes it; what waits is lost."""
-        self._socket.close()
+                    del self._left[: os.write(1, self._left[:ROOM])]
+            octets = os.read(0, MOST_READ) if 0 in ready else None
+        except (BrokenPipeError, ConnectionResetError):
+            octets = b""
+        if octets == b"":
+            raise Ended
+        yield from self._lines.frames(octets or b"")
 
 
 class OverTcp(Wire):
@@ -303,7 +194,7 @@ class Listening(OverTcp):
 
     def __init__(self, end, note, place, t3, stays):
         super().__init__(end, note, t3, stays)
-        self._server = server(*place)
+        self._server = tcp.server(*place)
 
     def readers(self):
         return [self._server.fileno(), *super().readers()]
@@ -312,12 +203,12 @@ class Listening(OverTcp):
         # Of a connection that has something to read that may be its end, which comes before the next one.
         is_read = self._connection is not None and self._connection.number in ready
         yield from super().frames(ready)
-        if self._server.fileno() in ready and (self._connection is None or not is_read) and (came := accepted(self._server)):
+        if self._server.fileno() in ready and (self._connection is None or not is_read) and (came := tcp.accepted(self._server)):
             self._take(came)
 
     def _take(self, came):
         if self._connection is None:
-            self._connection = Connection(came, self._t3)
+            self._connection = tcp.Connection(came, self._t3)
             self._be_there()
         else:
             self._note("another client came, and was told that the line is taken")
@@ -334,7 +225,7 @@ class Calling(OverTcp):
 
     def __init__(self, end, note, place, t3, retries):
         super().__init__(end, note, t3, retries)
-        self._place, self._addresses, self._turns = place, addresses(*place), 0
+        self._place, self._addresses, self._turns = place, tcp.addresses(*place), 0
         self._pause, self._is_told = PAUSE, False
         self.due = time.monotonic()
         self._last = self.due + PATIENCE
@@ -353,7 +244,7 @@ class Calling(OverTcp):
             return
         family, address = self._addresses[self._turns % len(self._addresses)]
         self._turns += 1
-        self._connection = Connection(socket.socket(family, socket.SOCK_STREAM), self._t3, address)
+        self._connection = tcp.Connection(socket.socket(family, socket.SOCK_STREAM), self._t3, address)
         self.due = time.monotonic() + PATIENCE
 
     def _be_there(self):
@@ -367,9 +258,9 @@ class Calling(OverTcp):
             self._connection.close()
             self._connection = None
             if not self._comes_again and time.monotonic() > self._last:
-                raise BadInput(f"{written(self._place)}: {why}")
+                raise BadInput(f"{tcp.written(self._place)}: {why}")
             if self._comes_again and not self._is_told:
-                self._note(f"no connection to {written(self._place)} yet: {why}")
+                self._note(f"no connection to {tcp.written(self._place)} yet: {why}")
                 self._is_told = True
         self._wait()
 
@@ -443,7 +334,7 @@ def carried_frame(octets):
 
 def over_udp(end, note, local, host, remote):
     """Datagrams between a port of this host, at the one address from which the other host is reached, and a port of that host."""
-    family, peer = addresses(host, remote, socket.SOCK_DGRAM)[0]
+    family, peer = tcp.addresses(host, remote, socket.SOCK_DGRAM)[0]
     with socket.socket(family, socket.SOCK_DGRAM) as probe:
         probe.connect(peer)
         own = probe.getsockname()[0]
@@ -451,10 +342,10 @@ def over_udp(end, note, local, host, remote):
     try:
         opened.bind((own, local))
     except OSError as error:
-        raise BadInput(f"{written((own, local))}: {error.strerror}") from error
+        raise BadInput(f"{tcp.written((own, local))}: {error.strerror}") from error
     opened.connect(peer)
     opened.setblocking(False)
-    x25lines.warn(f"bound to {written(opened.getsockname())}")
+    x25lines.warn(f"bound to {tcp.written(opened.getsockname())}")
     # A made-up address of a station of Ethernet, marked as assigned by hand.
     return Datagrams(note, opened, bytes([2, 0, 0, 0, 0, 1 if end == "dte" else 2]))
 
@@ -468,27 +359,30 @@ class Ethernet(Datagrams):
         super().__init__(note, None, None)
         self._interface = interface
         self.is_there = self.has_begun = False
-        self._open()
-        mtu = struct.unpack_from("i", self._asked(GET_MTU), 16)[0]
-        self.most_size = min(MOST_SIZE, max(0, mtu - OVERHEAD).bit_length() - 1)
+        try:
+            mtu = self._open()
+        except OSError as error:
+            raise BadInput(f"{interface}: {error.strerror}") from error
         x25lines.warn(f"{interface} has an MTU of {mtu}: packets of up to {1 << self.most_size} octets fit (size {self.most_size})")
-        self._look()
+        if not self.is_there:
+            note(f"{interface} is down; waiting for it")
 
     def _open(self):
+        """Opens the interface, and looks whether it is up; answers its MTU."""
         self._socket = socket.socket(socket.AF_PACKET, socket.SOCK_RAW, 0)
         self._socket.bind((self._interface, lan.LAPBETHER))
         self._socket.setblocking(False)
         self._source = self._socket.getsockname()[4]
+        self.is_there = bool(struct.unpack_from("h", self._asked(GET_FLAGS), 16)[0] & IS_UP)
+        self.has_begun = self.has_begun or self.is_there
+        self.due = None if self.is_there else time.monotonic() + LOOK
+        mtu = struct.unpack_from("i", self._asked(GET_MTU), 16)[0]
+        self.most_size = min(MOST_SIZE, max(0, mtu - OVERHEAD).bit_length() - 1)
+        return mtu
 
     def _asked(self, request):
         """What Linux answers to a request about the interface."""
         return fcntl.ioctl(self._socket, request, struct.pack("16s24x", self._interface.encode()))
-
-    def _look(self):
-        """Looks whether the interface is up."""
-        self.is_there = bool(struct.unpack_from("h", self._asked(GET_FLAGS), 16)[0] & IS_UP)
-        self.has_begun = self.has_begun or self.is_there
-        self.due = None if self.is_there else time.monotonic() + LOOK
 
     def readers(self):
         return super().readers() if self.is_there else []
@@ -506,7 +400,6 @@ class Ethernet(Datagrams):
         try:
             self._socket.close()
             self._open()
-            self._look()
         except OSError:
             self.due = time.monotonic() + LOOK
         if self.is_there:

@@ -11,6 +11,7 @@ import socket
 import time
 from collections import deque
 
+import tcp
 import wires
 import x25lines
 
@@ -139,8 +140,8 @@ class Xot(wires.Wire):
 
     def __init__(self, end, note, target, place, channels, t3):
         self._note, self._channels, self._t3 = note, channels, t3
-        self._target = wires.addresses(*target) if target else []
-        self._server = wires.server(*place) if place else None
+        self._target = tcp.addresses(*target) if target else []
+        self._server = tcp.server(*place) if place else None
         self._link, self._has_restarted = Link(end), False
         # Circuits by their channels, channels whose connection has ended and whose clear isn't confirmed, connections that have
         # brought no CALL, and those that end once all is written.
@@ -175,8 +176,8 @@ class Xot(wires.Wire):
             self._server.close()
 
     def frames(self, ready):
-        if self._server and self._server.fileno() in ready and (came := wires.accepted(self._server)):
-            self._coming.append(Circuit(wires.Connection(came, self._t3)))
+        if self._server and self._server.fileno() in ready and (came := tcp.accepted(self._server)):
+            self._coming.append(Circuit(tcp.Connection(came, self._t3)))
             if len(self._coming) > MOST_COMING:
                 self._coming.pop(0).connection.close()
         for it in self._all():
@@ -321,7 +322,7 @@ class Xot(wires.Wire):
     def _call(self, it):
         """Has a circuit's connection made to the next address; what waits goes over that."""
         family, address = it.untried.pop(0)
-        made = wires.Connection(socket.socket(family, socket.SOCK_STREAM), self._t3, address)
+        made = tcp.Connection(socket.socket(family, socket.SOCK_STREAM), self._t3, address)
         if it.connection is not None:
             made.send(it.connection.left())
             it.connection.close()

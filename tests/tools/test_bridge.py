@@ -11,11 +11,13 @@ import subprocess
 import sys
 import time
 import unittest
+from unittest import mock
 
 import support
 from support import ToolCase
 
 import bridge
+import tcp
 import users
 import wires
 import x25lines
@@ -378,11 +380,25 @@ class Joined(ToolCase):
         self.assertEqual(self.end()[0], -signal.SIGTERM)
 
     def test_connect_behind_disconnect_begins_a_new_station(self):
-        self.begin(f". off busy\n= dte connect\n! 13\n. off busy\n", "--t1", "60", user=b"dte connect\n")
-        # The station that begins anew reads the same answers, so it is dead too; the bridge tells that.
-        status, notices, _ = self.end()
-        self.assertEqual((status, notices[0]), (1, "! 13"))
-        self.assertEqual([event for _, event in self.asked()], ["dte connect"])
+        """.. once DISC is acknowledged; and where it was sent again, once an answer to that can't come any more."""
+        dead = f"= {UA}\n. off busy\n= dte connect\n! 13\n. off busy\n"
+        for words, again in (["--t1", "60"], ""), (["--t1", "1"], f"= t1 dte\n{DISC}\n. start busy\n"):
+            with self.subTest(words):
+                self.begin(f". off busy\n= dte disconnect\ndte disconnect\n{DISC}\n. start busy\n{again}{dead}", *words, user=b"dte disconnect\ndte connect\n")
+                self.assertEqual(self.gets(), DISC)
+                if again:
+                    self.assertEqual(self.gets(), DISC)
+                time.sleep(0.3)
+                self.assertEqual([event for _, event in self.asked()], ["dte disconnect", "t1 dte"][: 1 + bool(again)])
+                self.sends(UA)
+                begin = time.monotonic()
+                # The new station reads the same answers, and is asked for something else than the first of them.
+                status, notices, said = self.end()
+                self.assertEqual((status, notices[:2]), (1, ["dte disconnect", "? 60"]))
+                self.assertIn("asked 'dte connect' for 'dte disconnect'", said)
+                self.assertEqual([event for _, event in self.asked()], ["dte connect"])
+                if again:
+                    self.assertGreater(time.monotonic() - begin, 0.5)
 
     def test_a_call_on_a_channel_that_there_is_not(self):
         for channel, words in ((5, "--channels 5 would have it"), (300, "a station has at most 16")):
@@ -426,12 +442,8 @@ class Joined(ToolCase):
         """T1 and frames go on, the channel by which messages come is held, and comes again when the reader has read."""
         frames = [line(sealed(bytes([3, 0, number]))) for number in range(120)]
         message = f"dte message ch=2 at 1.0.0 q=0 data={'41' * 2000}"
-        reader, writer = os.pipe()
-        pipe = fcntl.fcntl(writer, 1032)  # F_GETPIPE_SZ of Linux
-        for number in (reader, writer):
-            os.close(number)
-        # What stands in the pipe and in the bridge when it holds the channel.
-        count = -(-(pipe + users.SLOW) // (len(message) + 1))
+        # What stands in the pipe, which holds one, and in the bridge when it holds the channel.
+        count = -(-(len(message) + 1 + users.SLOW) // (len(message) + 1))
         answers = ". off busy\n= dte connect\n. start busy\n"
         for number, frame in enumerate(frames):
             answers += f"= {frame}\n{message}\n. on busy\n"
@@ -439,6 +451,7 @@ class Joined(ToolCase):
                 answers += "= dte notready 2\ndte notready ch=2\n. on busy\n"
         # T1 fires in the midst of it.
         self.begin(answers + "= t1 dte\n. off busy\n= dte ready 2\ndte ready ch=2\n. off idle\n", "--t1", "4", "--stay", user=b"dte connect\n")
+        fcntl.fcntl(self.child.stdout, 1031, 4096)  # F_SETPIPE_SZ of Linux
         self.asked(1)
         for frame in frames:
             self.sends(frame)
@@ -537,6 +550,73 @@ class Other(ToolCase):
     def test_no_file(self):
         for word in ("--commands", "--trace", "--notices"):
             self.assert_refused(support.run("bridge.py", "dte", "--udp", "0:1", word, "/nowhere/file"), "/nowhere/file")
+
+    def test_it_calls_again_and_again(self):
+        program = self.program(f". off busy\n= {UA}\n. off idle\n= {RESTART}\n. off idle\n")
+        with socket.socket() as free:
+            free.bind(("127.0.0.1", 0))
+            place = free.getsockname()
+        child = Joined.started("dte", "--connect", "localhost:{}".format(place[1]), "--retry", "--stay", "--x25", program)
+        self.addCleanup(child.kill)
+        with child.stdin, child.stdout, child.stderr:
+            self.assertEqual(child.stdout.readline().decode(), f"# no connection to localhost:{place[1]} yet: Connection refused\n")
+            time.sleep(0.5)
+            with socket.create_server(place) as server:
+                for frame in (UA, RESTART):
+                    with server.accept()[0] as line:
+                        line.sendall(f"{frame}\n".encode())
+                        line.shutdown(socket.SHUT_WR)
+                        self.assertEqual(child.stdout.readline(), b"# the connection has ended: the other end has closed it\n")
+            child.terminate()
+            self.assertEqual((child.wait(10), child.stderr.read()), (143, b""))
+
+    def test_nobody_listens(self):
+        with mock.patch.object(wires, "PATIENCE", 0.5):
+            wire = wires.Calling("dte", self.fail, ("127.0.0.1", 1), 60, False)
+        self.addCleanup(wire.close)
+        last = time.monotonic() + 10
+        with self.assertRaisesRegex(x25lines.BadInput, "127.0.0.1:1: Connection refused"):
+            while time.monotonic() < last:
+                list(wire.frames(wire.writers()))
+                time.sleep(0.02)
+
+    def test_the_pause_grows(self):
+        wire = wires.Calling("dte", lambda text: None, ("127.0.0.1", 1), 60, True)
+        self.addCleanup(wire.close)
+        pauses = []
+        with mock.patch.object(time, "monotonic", lambda: sum(pauses)):
+            for _ in range(12):
+                wire.due = 0
+                list(wire.frames([]))
+                while wire.writers():
+                    list(wire.frames(wire.writers()))
+                pauses.append(wire.due - sum(pauses))
+        self.assertEqual([round(it, 1) for it in pauses], [0.1, 0.2, 0.4, 0.8, 1.6, 3.2, 6.4, 12.8, 25.6, 30, 30, 30])
+
+    @unittest.skipUnless(hasattr(socket, "TCP_KEEPIDLE"), "no keepalive that can be set")
+    def test_the_system_asks_whether_the_other_end_is_there(self):
+        for t3, kept in ((30, (1, 30)), (0, (0, None))):
+            with self.subTest(t3), socket.socket() as opened:
+                tcp.Connection(opened, t3)
+                self.assertEqual(opened.getsockopt(socket.SOL_SOCKET, socket.SO_KEEPALIVE), kept[0])
+                if t3:
+                    self.assertEqual(opened.getsockopt(socket.IPPROTO_TCP, socket.TCP_KEEPIDLE), kept[1])
+
+    def test_datagrams_of_ipv6(self):
+        with socket.socket(socket.AF_INET6, socket.SOCK_DGRAM) as peer:
+            try:
+                peer.bind(("::1", 0))
+            except OSError:
+                self.skipTest("no IPv6")
+            peer.settimeout(10)
+            program = self.program(f". off busy\n= dte connect\n{SABM}\n. off idle\n")
+            child = Joined.started("dte", "--udp", f"0:[::1]:{peer.getsockname()[1]}", "--quiet", "0.2", "--x25", program)
+            with child.stdout, child.stderr:
+                child.stdin.write(b"dte connect\n")
+                child.stdin.close()
+                self.assertEqual(peer.recvfrom(2000)[1][0], "::1")
+                self.assertRegex(child.stderr.read(), rb"bound to \[::1\]:\d+\n\Z")
+                child.wait(10)
 
     def test_datagrams(self):
         peer = socket.socket(socket.AF_INET, socket.SOCK_DGRAM)

@@ -287,11 +287,15 @@ class Two(ToolCase):
         bridge = f"{sys.executable} -u {os.path.join(support.TOOLS, 'bridge.py')} --x25 {support.PROGRAM} --t1 0.5 --n2 100 --stay"
         make = "ip link add x0 mtu 1000 type veth peer name x1 mtu 1000 && ip link set x0 up && ip link set x1 up"
         script = f"""{make}
+        ip link set x1 down
         mkfifo "$1/dte.in" "$1/dce.in"
         {bridge} --ethernet x0 dce <"$1/dce.in" >"$1/dce.out" 2>"$1/dce.err" & dce=$!
         {bridge} --ethernet x1 dte <"$1/dte.in" >"$1/dte.out" 2>"$1/dte.err" & dte=$!
         exec 3>"$1/dce.in" 4>"$1/dte.in"
+        {bridge} --ethernet x9 dte && exit 1
         comes() {{ for i in $(seq 300); do grep -q "$2" "$1" && return; sleep 0.1; done; echo "no $2" >&2; exit 1; }}
+        comes "$1/dte.out" 'x1 is down; waiting for it'
+        ip link set x1 up
         printf 'dte connect\nwait dte restarted\ndte call 1 2 - 10 10 2 2\ndte call 1 2 - 9 9 2 2\n' >&4
         comes "$1/dce.out" incoming
         echo 'dce accept 1' >&3
@@ -314,7 +318,7 @@ class Two(ToolCase):
         """
         done = subprocess.run(["unshare", "-n", "sh", "-c", script, "sh", self.folder], capture_output=True, timeout=SECONDS)
         told = {name: support.read(os.path.join(self.folder, name)).decode() for name in ("dte.out", "dce.out", "dte.err", "dce.err")}
-        self.assertEqual((done.returncode, done.stderr), (0, b""), told)
+        self.assertEqual((done.returncode, done.stderr), (0, b"bridge.py: x9: No such device\n"), told)
         self.assertEqual(told["dte.err"], "bridge.py: x1 has an MTU of 1000: packets of up to 512 octets fit (size 9)\n")
         self.assertIn("! 34\n# ! 34, packet sizes over 9 (512 octets) don't fit the line: 'dte call 1 2 - 10 10 2 2'\n", told["dte.out"])
 

@@ -1,0 +1,106 @@
+"""Tests of interop/soak.py: it sees messages that are lost, doubled, out of order or changed, and two stations pass it for some seconds."""
+
+import os
+import re
+import subprocess
+import sys
+import time
+import unittest
+
+import support
+from support import ToolCase
+
+sys.path.append(os.path.join(support.ROOT, "interop"))
+
+import soak
+
+
+def message(number, length=5):
+    return soak.octets_of(number, length)
+
+
+class Checked(unittest.TestCase):
+    def setUp(self):
+        self.ways = soak.Ways()
+        for number in (1, 2, 3):
+            self.ways.send(4, message(number))
+
+    def come(self, *numbers):
+        for number in numbers:
+            self.ways.come(4, message(number))
+
+    def assert_wrong(self, words, *numbers):
+        with self.assertRaisesRegex(soak.Wrong, words):
+            self.come(*numbers)
+
+    def test_all_comes_back(self):
+        self.come(1, 2, 3)
+        self.assertEqual((self.ways.messages, self.ways.octets, self.ways.all_under_way()), (3, 27, 0))
+
+    def test_what_is_lost_is_seen(self):
+        self.assert_wrong("channel 4: 00000003.* came for 00000002", 1, 3)
+        self.assertEqual(self.ways.all_under_way(), 1)
+
+    def test_what_comes_twice(self):
+        self.assert_wrong("message 1 came behind 1", 1, 1)
+
+    def test_what_comes_out_of_order(self):
+        self.assert_wrong("came for 00000001", 2, 1)
+
+    def test_what_is_changed(self):
+        with self.assertRaisesRegex(soak.Wrong, "came for"):
+            self.ways.come(4, message(1)[:-1] + "0")
+        with self.assertRaisesRegex(soak.Wrong, "never sent"):
+            self.ways.come(5, message(9))
+
+    def test_an_age_may_drop_what_is_under_way(self):
+        self.come(1)
+        self.ways.begin_age([4])
+        self.ways.send(4, message(6))
+        self.assertEqual(self.ways.all_under_way(), 1)
+        # An echo of before may still come, but not behind a later one.
+        self.come(3, 6)
+        self.assert_wrong("message 2 came behind 6", 2)
+
+    def test_what_an_age_does_not_excuse(self):
+        self.ways.begin_age([4])
+        for number in (6, 7):
+            self.ways.send(4, message(number))
+        self.assert_wrong("came for 00000006", 7)
+
+
+class Told(unittest.TestCase):
+    """What nobody asked for, by the notices of the near end."""
+
+    def unasked(self, *notices, asked=0):
+        it = soak.Round.__new__(soak.Round)
+        it.counts, it.unasked, it._asked_to_set_up = soak.Counter(), [], time.monotonic() - 1000 + asked
+        for line in notices:
+            it._count("dce", line.split(" ")[1], dict(soak.FIELD.findall(line)), line)
+        return [line for _, line in it.unasked]
+
+    def test_faults_causes_and_links(self):
+        odd = ["dce fault ch=1 diag=27", "dce cleared ch=1 cause=19 diag=20", "dce wasreset ch=1 cause=5 diag=1", "dce linkdown retries", "dce restarted cause=1 diag=0"]
+        usual = ["dce cleared ch=1 cause=0 diag=0", "dce wasreset ch=1 cause=128 diag=0", "dce restarted cause=7 diag=0", "dce linkup"]
+        self.assertEqual(self.unasked(*odd, *usual), odd)
+        links = ["dce linkdown dm", "dce linkdown reset", "dce linkdown frmr-got"]
+        self.assertEqual(self.unasked("dce linkdown disc", "dce linkdown local", *links), links)
+        self.assertEqual(self.unasked(*links, asked=999), links[2:])
+
+
+@support.needs_station
+class Run(ToolCase):
+    def test_some_seconds(self):
+        command = [sys.executable, os.path.join(support.ROOT, "interop", "soak.py"), "--minutes", "0.1", "--round", "5", "--seed", "3"]
+        done = subprocess.run([*command, "--x25", support.PROGRAM, "--traces", self.folder], capture_output=True, text=True, timeout=600)
+        self.assertEqual((done.returncode, done.stderr), (0, ""), done.stdout)
+        head, _, *rows = done.stdout.splitlines()
+        self.assertGreaterEqual(len(rows), 1)
+        for row in rows:
+            cells = dict(zip(head.strip("| ").split(" | "), re.split(r" \| ", row.strip("| "))))
+            self.assertGreater(int(cells["messages"].replace(",", "")), 50, row)
+            self.assertEqual([cells[name] for name in ("wrong", "broken by the near end", "by the far end")], ["0"] * 3, row)
+
+
+if __name__ == "__main__":
+    unittest.main()
