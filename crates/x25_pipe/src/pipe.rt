@@ -12,7 +12,8 @@ use x25_station::{Cfg, Role, Station, StationError, Step, Timer};
 use x25_text::MOST_OCTETS;
 use x25_transcript::Line;
 
-/// The station at an end, what it answered last, the octets of a frame and of a command, the line that tells, and what waits to be written.
+/// The station at an end, what it answered last, the octets of a frame and of a command, the line that tells, and what
+/// waits to be written.
 #[derive(Drop)]
 pub(crate) struct Pipe {
     end: Role,
@@ -102,7 +103,8 @@ impl Pipe {
 
     /// Tells the mark of what T1 became, and writes what waits.
     fn mark<W: Sink>(&mut self, writer: &mut W) -> Result<(), Fault>
-        ensures turns { (c : Settings) (old : Option (List ℕ)) → Turns c old (W.contents writer.old) (W.contents writer.new) self.old self.new result (mark_turn c self.old.step.timer) }
+        ensures turns { (c : Settings) (old : Option (List ℕ)) → Turns c old (W.contents writer.old) (W.contents writer.new)
+            self.old self.new result (mark_turn c self.old.step.timer) }
         ensures written { OnOk result (self.new.output ≡ []) }
         ensures faults { MarksFaults W.Sink writer.old writer.new result }
     {
@@ -123,7 +125,8 @@ impl Pipe {
 
     /// Tells the entries of a step, and behind these its frames.
     fn tell_answer<W: Sink>(&mut self, writer: &mut W) -> Result<(), Fault>
-        ensures tells { TellsMore result (W.contents writer.old) (W.contents writer.new) self.old.output self.new.output (sayings_text self.old.end (answer_told self.old.step)) }
+        ensures tells { TellsMore result (W.contents writer.old) (W.contents writer.new) self.old.output self.new.output
+            (sayings_text self.old.end (answer_told self.old.step)) }
         ensures station { self.new.station ≡ self.old.station }
         ensures step { self.new.step ≡ self.old.step }
         ensures role { self.new.end ≡ self.old.end }
