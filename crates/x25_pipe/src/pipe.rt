@@ -11,7 +11,8 @@ use x25_script::{Command, ScriptLine, read_line};
 use x25_station::{Cfg, Role, Station, StationError, Step, Timer};
 use x25_text::MOST_OCTETS;
 
-/// The station at an end, what it answered last, the octets of a frame and of a command, and what waits to be written.
+/// The station at an end, what it answered last, the octets of a frame and of a command, and what waits to be
+/// written.
 #[derive(Drop)]
 pub(crate) struct Pipe {
     end: Role,
@@ -98,7 +99,8 @@ impl Pipe {
 
     /// Tells the mark of what T1 became, and writes what waits.
     fn mark<W: Sink>(&mut self, writer: &mut W) -> Result<(), Fault>
-        ensures turns { (c : Settings) (old : Option (List ℕ)) → Turns c old (W.contents writer.old) (W.contents writer.new) self.old self.new result (mark_turn c self.old.step.timer) }
+        ensures turns { (c : Settings) (old : Option (List ℕ)) → Turns c old (W.contents writer.old) (W.contents writer.new)
+            self.old self.new result (mark_turn c self.old.step.timer) }
         ensures written { OnOk result (self.new.output ≡ []) }
         ensures faults { MarksFaults W.Sink writer.old writer.new result }
     {
@@ -119,7 +121,8 @@ impl Pipe {
 
     /// Tells the entries of a step, and behind these its frames.
     fn tell_answer<W: Sink>(&mut self, writer: &mut W) -> Result<(), Fault>
-        ensures tells { TellsMore result (W.contents writer.old) (W.contents writer.new) self.old.output self.new.output (sayings_text self.old.end (answer_told self.old.step)) }
+        ensures tells { TellsMore result (W.contents writer.old) (W.contents writer.new) self.old.output self.new.output
+            (sayings_text self.old.end (answer_told self.old.step)) }
         ensures station { self.new.station ≡ self.old.station }
         ensures step { self.new.step ≡ self.old.step }
         ensures role { self.new.end ≡ self.old.end }

@@ -1,4 +1,5 @@
--- What becomes of timer T1 at a step (sections 2.4.4.1, 2.4.5.6 and 2.4.5.9): it is off behind it, begins anew, or goes on.
+-- What becomes of timer T1 at a step (sections 2.4.4.1, 2.4.5.6 and 2.4.5.9): it is off behind it, begins anew, or goes
+-- on.
 use Rattle.std.specs.Prelude.{◌%◌, ◌==◌, Bool, true, false, not, ◌||◌, List, [], ◌∷◌}
 use Rattle.x25_link.specs.Station.{LinkStation}
 use Rattle.x25_link.specs.Link.{timer_runs}
@@ -25,7 +26,8 @@ is_acknowledged before behind = not (before.outgoing.acked % 8 == behind.outgoin
 
 -- T1 didn't run before, this was its firing, the link came up, or a frame was acknowledged
 abbrev pub is_anew : Station → Bool → Step → Bool
-is_anew s has_fired step = not (runs s) || (has_fired || (tells_up step.entries || is_acknowledged s.link step.near.link))
+is_anew s has_fired step =
+    not (runs s) || (has_fired || (tells_up step.entries || is_acknowledged s.link step.near.link))
 
 abbrev pub timer_of : Bool → Bool → Timer
 timer_of false anew = Off

@@ -244,8 +244,8 @@ impl Station {
         }
     }
 
-    // The data packets that wait in the circuits of all channels are handed down to the link, in rounds, while fewer than 8 packets wait
-    // there (profile).
+    // The data packets that wait in the circuits of all channels are handed down to the link, in rounds, while fewer than 8
+    // packets wait there (profile).
     fn pull_asked(&mut self, out: &mut Step) -> Result<(), StationError>
         requires { IsEmpty out.old }
         ensures { Does self.old self.new out.new result (λ c s. requests c s PullsAll) }

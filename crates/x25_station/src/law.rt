@@ -61,8 +61,8 @@ pub fn stations_hold_few()
 
 /// T1 and one who has a clock, over any events from a new station on. He drops his deadline at a step behind which T1 is off, sets it at
 /// one that begins T1 anew, and leaves it at any other and at a refusal: then it stands exactly while T1 runs, so that a firing when it
-/// passes is never refused with 11. So it does for one who sets it once, by what became of T1 at a step and a pull behind it. T1 begins anew
-/// at each step behind which it runs and that was its firing, told LinkUp or acknowledged a frame.
+/// passes is never refused with 11. So it does for one who sets it once, by what became of T1 at a step and a pull behind
+/// it. T1 begins anew at each step behind which it runs and that was its firing, told LinkUp or acknowledged a frame.
 pub fn deadlines_are_true()
     ensures deadline { DeadlineIsTrue }
     ensures taken { FiringIsTaken }

@@ -26,18 +26,21 @@ fn unless_refused(error: LayerError) -> Result<(), StationError>
 }
 
 impl Station {
-    /// Pulls behind a step: hands the data packets that wait in the circuits of all channels down to the link, in rounds, while fewer than
-    /// 8 packets wait there, and puts the frames behind those of the step (profile). It has no entry, and does nothing where the link
-    /// isn't up or a restart is under way.
+    /// Pulls behind a step: hands the data packets that wait in the circuits of all channels down to the link, in rounds,
+    /// while fewer than 8 packets wait there, and puts the frames behind those of the step (profile). It has no entry, and
+    /// does nothing where the link isn't up or a restart is under way.
     ///
-    /// Each accepted command and each packet that comes pulls too. A step in which the link acts by itself doesn't, so that a message may
-    /// wait in its circuit while nothing is on its way: one who calls this behind each step leaves none to wait so.
+    /// Each accepted command and each packet that comes pulls too. A step in which the link acts by itself doesn't, so that
+    /// a message may wait in its circuit while nothing is on its way: one who calls this behind each step leaves none to
+    /// wait so.
     ///
     /// 70 alone. The station is as before then, and so are the frames of the step.
     pub fn pull(&mut self, out: &mut Step) -> Result<(), StationError>
-        ensures pulls { Pulls self.old self.new (map (λ f. f.items) out.old.frames.items) (map (λ f. f.items) out.new.frames.items) result }
+        ensures pulls { Pulls self.old self.new (map (λ f. f.items) out.old.frames.items)
+            (map (λ f. f.items) out.new.frames.items) result }
         ensures entries { out.new.entries ≡ out.old.entries }
-        ensures timer { (c : Settings) (s : State) → FitsStation c self.old s → OnOk result (out.new.timer ≡ timer_pulled out.old.timer s (pulled c s).near) }
+        ensures timer { (c : Settings) (s : State) → FitsStation c self.old s →
+            OnOk result (out.new.timer ≡ timer_pulled out.old.timer s (pulled c s).near) }
         ensures untimed { OnErr result (out.new.timer ≡ out.old.timer) }
         ensures refused { IfErr result (λ e. e ≡ StationError.NoMemory) }
     {
@@ -53,7 +56,8 @@ impl Station {
 
     // The frames of a pull come behind others.
     fn pull_frames(&mut self, frames: &mut Vec<Vec<u8>>) -> Result<(), StationError>
-        ensures pulls { Pulls self.old self.new (map (λ f. f.items) frames.old.items) (map (λ f. f.items) frames.new.items) result }
+        ensures pulls { Pulls self.old self.new (map (λ f. f.items) frames.old.items)
+            (map (λ f. f.items) frames.new.items) result }
         ensures refused { IfErr result (λ e. e ≡ StationError.NoMemory) }
     {
         steps_keep_bounds();

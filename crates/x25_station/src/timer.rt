@@ -14,8 +14,9 @@ use crate::entry::Entry;
 use crate::station::Station;
 use x25_bits::Seq;
 
-/// What becomes of timer T1 at a step, for one who has a clock: he stops it, sets it anew, or leaves it as it is. ITU-T X.25 (10/96),
-/// sections 2.4.4.1, 2.4.5.6 and 2.4.5.9.
+/// What becomes of timer T1 at a step, for one who has a clock: he stops it, sets it anew, or leaves it as it is.
+///
+/// ITU-T X.25 (10/96), sections 2.4.4.1, 2.4.5.6 and 2.4.5.9.
 #[derive(Clone, Copy, Debug, PartialEq, Eq)]
 pub enum Timer {
     /// It doesn't run.
@@ -87,7 +88,8 @@ impl Clock {
 
     // What becomes of T1 at a step that left `next`.
     fn behind(self, next: Clock, has_fired: bool, is_up: bool) -> Timer
-        ensures { (s : State) (step : PlainStep) → Watches self s → Watches next step.near → is_up ≡ tell_up step.entries → result ≡ timer_at s has_fired (Did step) }
+        ensures { (s : State) (step : PlainStep) → Watches self s → Watches next step.near → is_up ≡ tell_up step.entries →
+            result ≡ timer_at s has_fired (Did step) }
     {
         let is_acknowledged = is_another(self.acknowledged, next.acknowledged);
         let is_anew = begins_anew(self.runs, has_fired, is_up, is_acknowledged);
@@ -122,7 +124,8 @@ impl Station {
 
     /// What became of T1 at a step with these entries, which led from where it stood so to this station.
     pub(crate) fn timer_behind(&self, before: Clock, has_fired: bool, entries: &[Entry]) -> Timer
-        ensures { (c : Settings) (s : State) (step : PlainStep) → Watches before s → FitsStation c self.now step.near → map plain_entry entries.now ≡ step.entries → result ≡ timer_at s has_fired (Did step) }
+        ensures { (c : Settings) (s : State) (step : PlainStep) → Watches before s → FitsStation c self.now step.near →
+            map plain_entry entries.now ≡ step.entries → result ≡ timer_at s has_fired (Did step) }
     {
         before.behind(self.clock(), has_fired, tells_up(entries))
     }

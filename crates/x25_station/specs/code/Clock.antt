@@ -20,4 +20,5 @@ IsTimer s has_fired timer (Ok u) o = timer ≡ timer_at s has_fired o
 IsTimer s has_fired timer (Err e) o = timer ≡ standing s
 
 abbrev pub TellsTimer : code.Station → Timer → Result Unit StationError → Bool → (Settings → Station → Outcome) → Type 0
-TellsTimer old timer result has_fired said = (c : Settings) (s : Station) → FitsStation c old s → IsTimer s has_fired timer result (said c s)
+TellsTimer old timer result has_fired said =
+    (c : Settings) (s : Station) → FitsStation c old s → IsTimer s has_fired timer result (said c s)

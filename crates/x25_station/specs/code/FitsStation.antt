@@ -28,7 +28,8 @@ Leaves c v result outcome = LeavesParts c v.link v.layer result outcome
 
 -- the frames are those of the step, as the octets that spell them
 abbrev pub Sends : {T : Type 0} → Settings → code_step.Step → Result T StationError → Outcome → Type 0
-Sends c out result (Did step) = OnOk result (map (λ frame. frame.items) out.frames.items ≡ map (spelling_of c.role) step.out)
+Sends c out result (Did step) =
+    OnOk result (map (λ frame. frame.items) out.frames.items ≡ map (spelling_of c.role) step.out)
 Sends c out result (Refused e) = Unit {0}
 
 -- the entries are those of the step
@@ -56,10 +57,11 @@ pub record HasPlaces (out : code_step.Step) : Type 0 where
   pub frames : vec_len out.frames + 17 ≤ vec_capacity out.frames
   pub entries : vec_len out.entries + 3 ≤ vec_capacity out.entries
 
--- A call does what the definition says of it: of each state that the station stood for it leaves that step's, and answers its frames and
--- entries; or it is refused, the station is as before, and nothing is answered. It answers at most so many frames and entries, whatever they
--- are.
-pub record Does (old new : code.Station) (out : code_step.Step) (result : Result Unit StationError) (said : Settings → Station → Outcome) : Type 0 where
+-- A call does what the definition says of it: of each state that the station stood for it leaves that step's, and answers
+-- its frames and entries; or it is refused, the station is as before, and nothing is answered. It answers at most so many
+-- frames and entries, whatever they are.
+pub record Does (old new : code.Station) (out : code_step.Step) (result : Result Unit StationError)
+    (said : Settings → Station → Outcome) : Type 0 where
   pub state : (c : Settings) (s : Station) → FitsStation c old s → Leaves c new result (said c s)
   pub frames : (c : Settings) (s : Station) → FitsStation c old s → Sends c out result (said c s)
   pub entries : (c : Settings) (s : Station) → FitsStation c old s → Enters out result (said c s)

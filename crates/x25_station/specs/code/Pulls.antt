@@ -9,8 +9,10 @@ use Rattle.x25_station.specs.Station.{Station}
 use Rattle.x25_station.specs.code.FitsStation.{FitsStation}
 
 -- Its frames come behind others; or memory is wanted, and the station and the frames are as before.
-pub record Pulls (old new : code.Station) (before after : List (List ℕ)) (result : Result Unit StationError) : Type 0 where
+pub record Pulls (old new : code.Station) (before after : List (List ℕ)) (result : Result Unit StationError)
+    : Type 0 where
   pub state : (c : Settings) (s : Station) → FitsStation c old s → OnOk result (FitsStation c new (pulled c s).near)
-  pub frames : (c : Settings) (s : Station) → FitsStation c old s → OnOk result (after ≡ before ++ map (spelling_of c.role) (pulled c s).out)
+  pub frames : (c : Settings) (s : Station) → FitsStation c old s →
+      OnOk result (after ≡ before ++ map (spelling_of c.role) (pulled c s).out)
   pub stays : (c : Settings) (s : Station) → FitsStation c old s → OnErr result (FitsStation c new s)
   pub unsent : OnErr result (after ≡ before)

@@ -1,5 +1,5 @@
--- Timer T1 and one who has a clock (profile). Behind each step T1 is off, goes on, or begins anew, and he holds one deadline by that: it
--- is dropped, left as it is, or set. When it passes he fires T1.
+-- Timer T1 and one who has a clock (profile). Behind each step T1 is off, goes on, or begins anew, and he holds one
+-- deadline by that: it is dropped, left as it is, or set. When it passes he fires T1.
 use Rattle.std.specs.Prelude.{◌≡◌, ℕ, Bool, true, false, ◌||◌, List, [], ◌∷◌}
 use Rattle.x25_link.specs.declared.error.LinkError.TheVariants as link_error
 use Rattle.x25_station.specs.declared.error.StationError.TheVariants as error
@@ -79,4 +79,5 @@ PullIsHeeded = (c : Settings) (s : Station) (first : Timer) (stands : Bool) → 
 -- T1 begins anew, where it runs, at its firing, at LinkUp, and where a frame was acknowledged
 abbrev pub BeginsWhereDue : Type 0
 BeginsWhereDue = (s : Station) (event : Event) (step : Step) → runs step.near ≡ true
-    → (is_firing event || (tells_up step.entries || is_acknowledged s.link step.near.link)) ≡ true → timer s event (Did step) ≡ Begins
+    → (is_firing event || (tells_up step.entries || is_acknowledged s.link step.near.link)) ≡ true
+    → timer s event (Did step) ≡ Begins
