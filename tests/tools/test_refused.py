@@ -35,10 +35,10 @@ class Played(unittest.TestCase):
     def test_a_refused_call_changes_nothing_and_is_made_again(self):
         differing, said = said_by(refused.play, PLAYER, 1)
         self.assertEqual(differing, 0, said)
-        for name in ("Link::take", "Station::receive", "World::apply(Deliver)"):
+        for name in ("Link::take", "Station::receive", "World::step(Deliver)"):
             self.assertIn(f"  {name}: ", said)
         # A loss takes no memory.
-        self.assertRegex(said, r"never refused: .*\bWorld::apply\(Lose\)")
+        self.assertRegex(said, r"never refused: .*\bWorld::step\(Lose\)")
 
 
 class Chosen(unittest.TestCase):

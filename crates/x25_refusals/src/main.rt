@@ -67,24 +67,24 @@ static CALLS_OF_STATIONS: [(Kind, &str); 18] = [
 static CALLS_OF_WORLDS: [(Kind, &str); 21] = [
     (Kind::New, "World::start"),
     (Kind::Establish, "World::establish"),
-    (Kind::Call, "World::apply(Call)"),
-    (Kind::CallWith, "World::apply(CallWith)"),
-    (Kind::Accept, "World::apply(Accept)"),
-    (Kind::AcceptWith, "World::apply(AcceptWith)"),
-    (Kind::Clear, "World::apply(Clear)"),
-    (Kind::Send, "World::apply(Send)"),
-    (Kind::Interrupt, "World::apply(Interrupt)"),
-    (Kind::Reset, "World::apply(Reset)"),
-    (Kind::Ready, "World::apply(Ready)"),
-    (Kind::NotReady, "World::apply(NotReady)"),
-    (Kind::Restart, "World::apply(Restart)"),
-    (Kind::Pull, "World::apply(Pull)"),
-    (Kind::Connect, "World::apply(Connect)"),
-    (Kind::Disconnect, "World::apply(Disconnect)"),
-    (Kind::Deliver, "World::apply(Deliver)"),
-    (Kind::Lose, "World::apply(Lose)"),
-    (Kind::Damage, "World::apply(Damage)"),
-    (Kind::T1, "World::apply(T1)"),
+    (Kind::Call, "World::step(Call)"),
+    (Kind::CallWith, "World::step(CallWith)"),
+    (Kind::Accept, "World::step(Accept)"),
+    (Kind::AcceptWith, "World::step(AcceptWith)"),
+    (Kind::Clear, "World::step(Clear)"),
+    (Kind::Send, "World::step(Send)"),
+    (Kind::Interrupt, "World::step(Interrupt)"),
+    (Kind::Reset, "World::step(Reset)"),
+    (Kind::Ready, "World::step(Ready)"),
+    (Kind::NotReady, "World::step(NotReady)"),
+    (Kind::Restart, "World::step(Restart)"),
+    (Kind::Pull, "World::step(Pull)"),
+    (Kind::Connect, "World::step(Connect)"),
+    (Kind::Disconnect, "World::step(Disconnect)"),
+    (Kind::Deliver, "World::step(Deliver)"),
+    (Kind::Lose, "World::step(Lose)"),
+    (Kind::Damage, "World::step(Damage)"),
+    (Kind::T1, "World::step(T1)"),
     (Kind::Heal, "World::heal"),
 ];
 
@@ -122,7 +122,7 @@ fn play_world_up(alloc: Global, script: &Script, book: &mut Book) -> Result<(), 
 }
 
 fn plays_up(ends: &mut Worlds, script: &Script, book: &mut Book) -> Result<(), Trouble> {
-    ends.tells(&mut book.shown)?;
+    ends.shows(&mut book.shown)?;
     plays(ends, script, book)
 }
 
@@ -135,8 +135,7 @@ fn play_world_healed(alloc: Global, script: &Script, book: &mut Book) -> Result<
 
 fn plays_healed(ends: &mut Worlds, script: &Script, book: &mut Book) -> Result<(), Trouble> {
     plays_up(ends, script, book)?;
-    ends.heals(&mut book.counts)?;
-    Ok(ends.tells(&mut book.shown)?)
+    ends.heals(&mut book.counts, &mut book.shown)
 }
 
 /// Writes what is shown.

@@ -1,21 +1,20 @@
-//! A world, and what it told and sent since it began.
+//! A world, and the frames on its line.
 use crate::boxes::boxed;
 use crate::counts::{Counts, Kind};
 use crate::ends::{Ends, Outcome, Seen, Trouble, answers_of};
 use crate::lines::Lines;
 use std::alloc::{AllocError, Global};
-use x25_station::{Cfg, Role};
-use x25_world::{Direction, Entered, Event, Tapped, World, WorldError};
+use x25_station::{Cfg, Entry, Role};
+use x25_world::{Direction, Entered, Event, World, WorldError};
 
-/// A world, and the lines of its transcript and of its tap as they were shown.
+/// A world, what an event or healing tells, and the lines of the frames that were on its line behind the last event.
 #[derive(Drop)]
 pub(crate) struct Worlds {
     alloc: Global,
     world: Box<World>,
-    told: usize,
-    tapped: usize,
-    transcript: Lines,
-    tap: Lines,
+    told: Vec<Entry>,
+    healed: Vec<Entered>,
+    frames: Lines,
 }
 
 // The calls of a world without their claims: a body that makes one of the world's own carries all that it promises.
@@ -28,12 +27,16 @@ fn set_up(alloc: Global, cfg: Cfg) -> Result<Box<World>, WorldError> {
     boxed(alloc, World::establish(alloc, cfg)?).ok_or(WorldError::NoMemory)
 }
 
-fn apply(world: &mut World, event: Event<'static>) -> Result<(), WorldError> {
-    world.apply(event)
+fn step(world: &mut World, event: Event<'static>, told: &mut Vec<Entry>) -> Result<(), WorldError> {
+    world.step(event, told)
 }
 
-fn heal(world: &mut World) -> Result<u64, WorldError> {
-    world.heal()
+fn give_back(world: &mut World, at: Role, told: &mut Vec<Entry>) {
+    world.give_back(at, told);
+}
+
+fn heal(world: &mut World, told: &mut Vec<Entered>) -> Result<u64, WorldError> {
+    world.heal(told)
 }
 
 fn started(alloc: Global, cfg: Cfg, counts: &mut Counts) -> Result<Box<World>, WorldError> {
@@ -58,18 +61,36 @@ fn established(alloc: Global, cfg: Cfg, counts: &mut Counts) -> Result<Box<World
     }
 }
 
-fn push_entries(entries: &[Entered], lines: &mut Lines) -> Result<(), AllocError> {
-    for entered in entries {
-        lines.push_entry(entered.at, &entered.entry)?;
+/// The direction that leads away from an end.
+fn away_from(end: Role) -> Direction {
+    match end {
+        Role::Dte => Direction::ToDce,
+        Role::Dce => Direction::ToDte,
+    }
+}
+
+/// The frames on the line from an end, from this place on.
+fn push_frames(
+    world: &World,
+    from: Role,
+    first: usize,
+    lines: &mut Lines,
+) -> Result<(), AllocError> {
+    let away = away_from(from);
+    for place in first..world.on_line(away) {
+        if let Some(octets) = world.frame(away, place) {
+            lines.push_frame(from, octets)?;
+        }
     }
     Ok(())
 }
 
-fn push_frames(frames: &[Tapped], lines: &mut Lines) -> Result<(), AllocError> {
-    for tapped in frames {
-        lines.push_frame(tapped.from, tapped.octets.as_slice())?;
-    }
-    Ok(())
+/// All frames on the line.
+fn line_of(alloc: Global, world: &World) -> Result<Lines, AllocError> {
+    let mut lines = Lines::new(alloc)?;
+    push_frames(world, Role::Dte, 0, &mut lines)?;
+    push_frames(world, Role::Dce, 0, &mut lines)?;
+    Ok(lines)
 }
 
 /// The number of a refusal, that of the station where it refuses.
@@ -102,79 +123,67 @@ impl Worlds {
     }
 
     fn of(alloc: Global, world: Box<World>) -> Result<Worlds, AllocError> {
-        let transcript = Lines::new(alloc)?;
-        let tap = Lines::new(alloc)?;
+        let frames = line_of(alloc, &world)?;
         Ok(Worlds {
             alloc,
             world,
-            told: 0,
-            tapped: 0,
-            transcript,
-            tap,
+            told: Vec::new(alloc),
+            healed: Vec::new(alloc),
+            frames,
         })
     }
 
-    /// Shows what was told and sent since it was last called.
-    pub(crate) fn tells(&mut self, shown: &mut Lines) -> Result<(), AllocError> {
-        for entered in self.world.transcript().iter().skip(self.told) {
-            shown.push_entry(entered.at, &entered.entry)?;
-            self.transcript.push_entry(entered.at, &entered.entry)?;
+    /// Shows what is on the line.
+    pub(crate) fn shows(&self, shown: &mut Lines) -> Result<(), AllocError> {
+        shown.push(self.frames.as_slice())
+    }
+
+    /// Shows the step of an end, whose frames stand behind so many on the line, and gives its entries back.
+    fn tells(&mut self, at: Role, before: usize, shown: &mut Lines) -> Result<(), AllocError> {
+        for entry in self.told.iter() {
+            shown.push_entry(at, entry)?;
         }
-        self.told = self.world.transcript().len();
-        for tapped in self.world.tap().iter().skip(self.tapped) {
-            shown.push_frame(tapped.from, tapped.octets.as_slice())?;
-            self.tap.push_frame(tapped.from, tapped.octets.as_slice())?;
-        }
-        self.tapped = self.world.tap().len();
+        push_frames(&self.world, at, before, shown)?;
+        give_back(&mut self.world, at, &mut self.told);
+        self.frames = line_of(self.alloc, &self.world)?;
         Ok(())
     }
 
-    fn transcript_begins(&self) -> Result<bool, AllocError> {
-        let mut lines = Lines::new(self.alloc)?;
-        let entries = self.world.transcript().get(..self.told).unwrap_or(&[]);
-        push_entries(entries, &mut lines)?;
-        Ok(lines.as_slice() == self.transcript.as_slice())
+    fn tells_healed(&mut self, shown: &mut Lines) -> Result<(), AllocError> {
+        for entered in self.healed.iter() {
+            shown.push_entry(entered.at, &entered.entry)?;
+        }
+        Ok(())
     }
 
-    fn tap_begins(&self) -> Result<bool, AllocError> {
-        let mut lines = Lines::new(self.alloc)?;
-        let frames = self.world.tap().get(..self.tapped).unwrap_or(&[]);
-        push_frames(frames, &mut lines)?;
-        Ok(lines.as_slice() == self.tap.as_slice())
-    }
-
-    /// Whether all that was told and sent begins as it was shown.
-    fn begins(&self) -> Result<bool, AllocError> {
-        Ok(self.transcript_begins()? && self.tap_begins()?)
-    }
-
-    /// The line is good for a moment. Where memory is refused, what was shown stands, and the line is good again.
-    pub(crate) fn heals(&mut self, counts: &mut Counts) -> Result<(), Trouble> {
+    /// The line is good for a moment, and what is told is shown. Where memory is refused, what was told stands, and the line is good again.
+    pub(crate) fn heals(&mut self, counts: &mut Counts, shown: &mut Lines) -> Result<(), Trouble> {
         counts.called(Kind::Heal);
-        if heal(&mut self.world).is_ok() {
+        let is_healed = heal(&mut self.world, &mut self.healed).is_ok();
+        self.tells_healed(shown)?;
+        if is_healed {
             return Ok(());
         }
         counts.refused(Kind::Heal);
-        self.heals_again()
+        self.heals_again(shown)
     }
 
-    fn heals_again(&mut self) -> Result<(), Trouble> {
-        if !self.begins()? {
-            return Err(Trouble::Changed);
+    fn heals_again(&mut self, shown: &mut Lines) -> Result<(), Trouble> {
+        if heal(&mut self.world, &mut self.healed).is_err() {
+            return Err(Trouble::NoMemory);
         }
-        match heal(&mut self.world) {
-            Ok(_) => Ok(()),
-            Err(_) => Err(Trouble::NoMemory),
-        }
+        Ok(self.tells_healed(shown)?)
     }
 }
 
 impl Ends for Worlds {
     fn happens(&mut self, event: Event<'static>, shown: &mut Lines) -> Result<Outcome, Trouble> {
-        if let Err(error) = apply(&mut self.world, event) {
+        let at = event.at();
+        let before = self.world.on_line(away_from(at));
+        if let Err(error) = step(&mut self.world, event, &mut self.told) {
             return Ok(Outcome::of_number(number_of(error)));
         }
-        self.tells(shown)?;
+        self.tells(at, before, shown)?;
         Ok(Outcome::Accepted)
     }
 
@@ -188,8 +197,7 @@ impl Ends for Worlds {
     }
 
     fn stands(&self) -> Result<bool, AllocError> {
-        let told = self.world.transcript().len();
-        let tapped = self.world.tap().len();
-        Ok(told == self.told && tapped == self.tapped && self.begins()?)
+        let frames = line_of(self.alloc, &self.world)?;
+        Ok(self.told.is_empty() && frames.as_slice() == self.frames.as_slice())
     }
 }

@@ -4,7 +4,7 @@ use Rattle.x25_bits.specs.declared.role.Role.{Role}
 use Rattle.x25_station.specs.declared.config.Cfg.{Cfg}
 use Rattle.x25_world.specs.World.{World, Receives}
 use Rattle.x25_world.specs.code.ShownWorld.{ShownWorld}
-use Rattle.x25_world.specs.code.FitsWorld.{Gone, FitsWorld}
+use Rattle.x25_world.specs.code.FitsWorld.{FitsWorld}
 use Rattle.x25_world.specs.Healing.{next_end}
 use Rattle.x25_sim.specs.Stage.{quiet, and_then, event_turn, delivered_to, drained}
 
@@ -24,5 +24,5 @@ module _ (cfg : Cfg) (tap : Bool) where
   drained_more n m w at e here = ap (λ n. drained cfg tap n w) e ∙ ap (delivered_to cfg tap (drained cfg tap m) w) here
 
 -- what the world tells of its line
-pub line_is : (cfg : Cfg) (v : ShownWorld) (w : World) (gone : Gone) → FitsWorld cfg v w gone → next_end v.to_dce v.to_dte ≡ next_end w.out w.back
-line_is cfg v w gone f = ap (λ front. next_end front v.to_dte) f.to_dce ∙ ap (next_end w.out) f.to_dte
+pub line_is : (cfg : Cfg) (v : ShownWorld) (w : World) → FitsWorld cfg v w → next_end v.to_dce v.to_dte ≡ next_end w.out w.back
+line_is cfg v w f = ap (λ front. next_end front v.to_dte) f.to_dce ∙ ap (next_end w.out) f.to_dte

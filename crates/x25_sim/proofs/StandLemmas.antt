@@ -8,7 +8,7 @@ use Rattle.x25_io.specs.code.Written.{AppendsPrefix, Tells}
 use Rattle.x25_bits.specs.declared.role.Role.TheVariants.{Dte, Dce}
 use Rattle.x25_station.specs.declared.config.Cfg.{Cfg}
 use Rattle.x25_world.specs.World.{World, WorldOutcome, Event, Receives, Happened, Declined, AreAccepted, happens, refusal_of, after, start, connected}
-use Rattle.x25_world.specs.code.FitsWorld.{FitsWorld, all_of}
+use Rattle.x25_world.specs.code.FitsWorld.{FitsWorld}
 use Rattle.x25_world.specs.declared.error.WorldError.{WorldError}
 use Rattle.x25_sim.specs.declared.stage.Stage.{Stage}
 use Rattle.x25_sim.specs.Telling.{Saying, refuses, reads_nothing, sayings_text, saying_line, refusal_number, is_refusal, has_refusal}
@@ -31,7 +31,7 @@ module _ (cfg : Cfg) (tap : Bool) (old now next : Option (List ℕ)) (s u : Stag
   -- ---- an event happened
 
   module _ (accepted : refusal_of o ≡ None) where
-    pub stands_moved : FitsWorld cfg u.world (after w o) (all_of (after w o)) → u.tap ≡ s.tap → u.is_refused ≡ s.is_refused
+    pub stands_moved : FitsWorld cfg u.world (after w o) → u.tap ≡ s.tap → u.is_refused ≡ s.is_refused
         → Tells old next u.output (told ++ sayings_text (told_between s.tap w (after w o))) → StandsAt cfg tap old next u told refused (turn_of tap w o)
     stands_moved fits asked status tells =
         let moved : Turn = record { next = after w o; sayings = told_between tap w (after w o) } in
@@ -49,7 +49,7 @@ module _ (cfg : Cfg) (tap : Bool) (old now next : Option (List ℕ)) (s u : Stag
         (subst (λ a. AppendsPrefix old next (told ++ sayings_text (told_between a w (after w o)))) h.asked b)
 
     -- the same where nothing would be said of a refusal
-    pub stands_tried : FitsWorld cfg u.world (after w o) (all_of (after w o)) → u.tap ≡ s.tap → u.is_refused ≡ s.is_refused
+    pub stands_tried : FitsWorld cfg u.world (after w o) → u.tap ≡ s.tap → u.is_refused ≡ s.is_refused
         → Tells old next u.output (told ++ sayings_text (told_between s.tap w (after w o))) → StandsAt cfg tap old next u told refused (tried_of tap w o)
     stands_tried fits asked status tells =
         subst (StandsAt cfg tap old next u told refused) (sym (happened_tried tap w o accepted)) (stands_moved fits asked status tells)
@@ -65,7 +65,7 @@ module _ (cfg : Cfg) (tap : Bool) (old now next : Option (List ℕ)) (s u : Stag
     stands_refused world asked status tells =
         let declined : Turn = record { next = w; sayings = refuses error ∷ [] } in
         let stands : StandsAt cfg tap old next u told refused declined = record {
-          fits = subst (λ v. FitsWorld cfg v w (all_of w)) (sym world) h.fits;
+          fits = subst (λ v. FitsWorld cfg v w) (sym world) h.fits;
           asked = asked ∙ h.asked;
           tells = subst (λ t. Tells old next u.output (told ++ t)) (sym (refusal_told error)) tells;
           status = status ∙ sym (or-true refused);
@@ -77,7 +77,7 @@ module _ (cfg : Cfg) (tap : Bool) (old now next : Option (List ℕ)) (s u : Stag
         subst (BeginsAt old next told) (sym (declined_turn tap w o error refusal)) (subst (λ t. AppendsPrefix old next (told ++ t)) (sym (refusal_told error)) b)
 
     -- nothing is said of the refusal
-    pub stands_left_out : FitsWorld cfg u.world w (all_of w) → u.tap ≡ s.tap → u.is_refused ≡ s.is_refused → Tells old next u.output told
+    pub stands_left_out : FitsWorld cfg u.world w → u.tap ≡ s.tap → u.is_refused ≡ s.is_refused → Tells old next u.output told
         → StandsAt cfg tap old next u told refused (tried_of tap w o)
     stands_left_out fits asked status tells =
         let stays : StandsAt cfg tap old next u told refused (quiet w) = record {
@@ -102,7 +102,7 @@ module _ (cfg : Cfg) (tap : Bool) (old now next : Option (List ℕ)) (s u : Stag
   pub stands_unread : u.world ≡ s.world → u.tap ≡ s.tap → u.is_refused ≡ true → Tells old next u.output (told ++ codes "? 60\n")
       → StandsAt cfg tap old next u told refused (asked_turn cfg tap w None)
   stands_unread world asked status tells = record {
-    fits = subst (λ v. FitsWorld cfg v w (all_of w)) (sym world) h.fits;
+    fits = subst (λ v. FitsWorld cfg v w) (sym world) h.fits;
     asked = asked ∙ h.asked;
     tells = subst (λ t. Tells old next u.output (told ++ t)) (sym nothing_read) tells;
     status = status ∙ sym (or-true refused);
@@ -140,7 +140,7 @@ module _ (cfg : Cfg) (tap : Bool) (old next : Option (List ℕ)) (u : Stage) (to
 abbrev pub first_turn : Cfg → Bool → Bool → Turn
 first_turn cfg down tap = record { next = opening cfg down; sayings = told_between tap start (opening cfg down) }
 
-pub stands_first : (cfg : Cfg) (down tap : Bool) (old next : Option (List ℕ)) (u : Stage) → FitsWorld cfg u.world (opening cfg down) (all_of (opening cfg down)) → u.tap ≡ tap
+pub stands_first : (cfg : Cfg) (down tap : Bool) (old next : Option (List ℕ)) (u : Stage) → FitsWorld cfg u.world (opening cfg down) → u.tap ≡ tap
     → u.is_refused ≡ false → Tells old next u.output (sayings_text (told_between tap start (opening cfg down))) → StandsAt cfg tap old next u [] false (first_turn cfg down tap)
 stands_first cfg down tap old next u fits asked status tells =
     record { fits = fits; asked = asked; tells = tells; status = status ∙ sym (step_accepts tap start (opening cfg down)) }

@@ -9,7 +9,7 @@ use Rattle.x25_station.specs.declared.config.Cfg.{Cfg}
 use Rattle.x25_station.specs.Entry.{StationEntry}
 use Rattle.x25_world.specs.World.{World, start, entered, tapped, OnTap, AtEnd, WorldOutcome, Happened, Declined, refusal_of, after}
 use Rattle.x25_world.specs.code.ShownWorld.{ShownWorld, line_from}
-use Rattle.x25_world.specs.code.FitsWorld.{FitsWorld, nothing_gone}
+use Rattle.x25_world.specs.code.FitsWorld.{FitsWorld}
 use Rattle.x25_world.specs.declared.error.WorldError.{WorldError}
 use Rattle.x25_sim.specs.Telling.{enters, enters_at, taps, refuses, sayings_text, saying_line, refusal_number, has_refusal}
 use Rattle.x25_console.specs.Telling.{refusal_line}
@@ -59,7 +59,7 @@ first_put : (cfg : Cfg) (down : Bool) → (opening cfg down).tap ≡ tapped Dte 
 first_put cfg true = refl
 first_put cfg false = connected_taps cfg
 
-pub first_frames : (cfg : Cfg) (tap down : Bool) (told : List ℕ) (v : ShownWorld) → tap ≡ true → FitsWorld cfg v (opening cfg down) nothing_gone
+pub first_frames : (cfg : Cfg) (tap down : Bool) (told : List ℕ) (v : ShownWorld) → tap ≡ true → FitsWorld cfg v (opening cfg down)
     → told ++ sayings_text (map taps (tapped Dte (drop 0 (line_from v Dte)))) ≡ told ++ sayings_text (told_between tap start (opening cfg down))
 first_frames cfg true down told v on f =
     let frames = first_put cfg down ∙ ap (λ frames. tapped Dte frames) (sym f.to_dce) in

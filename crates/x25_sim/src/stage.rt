@@ -2,7 +2,7 @@
 ghost use Rattle.std.specs.Prelude.{◌≡◌, ◌≢◌, ◌↔◌, IfErr, IfOk, IsTrue, OnOk, drop, length, map};
 ghost use Rattle.x25_station.specs.code.PlainEntry.{plain_entry};
 ghost use Rattle.x25_bits.specs.Role.{end_of, other};
-ghost use Rattle.x25_world.specs.code.FitsWorld.{FitsWorld, nothing_gone};
+ghost use Rattle.x25_world.specs.code.FitsWorld.{FitsWorld};
 ghost use Rattle.x25_world.specs.code.ShownWorld.{ShownWorld, line_from, line_of};
 ghost use Rattle.x25_sim.specs.code.Stands.{opening};
 
@@ -16,7 +16,7 @@ use x25_world::{
     Direction, Event, Role, SABM_ARRIVES, UA_ARRIVES, World, WorldError, two_stations_keep_order,
 };
 
-/// A world whose transcript and frames were told and let go of, and what waits to be written.
+/// A world of which all was told, and what waits to be written.
 #[derive(Drop)]
 pub(crate) struct Stage {
     world: World,
@@ -38,7 +38,7 @@ fn is_memory(error: WorldError) -> bool
 
 /// Two stations, of which the DTE has asked that the link be set up, or with `down` both links are down.
 fn first_world(alloc: Global, down: bool, cfg: Cfg) -> Result<World, WorldError>
-    ensures { IfOk result (λ world. FitsWorld cfg world (opening cfg down) nothing_gone) }
+    ensures { IfOk result (λ world. FitsWorld cfg world (opening cfg down)) }
 {
     if down {
         World::start(alloc, cfg)
@@ -76,7 +76,6 @@ impl Stage {
     ghost use Rattle.x25_io.specs.code.Written.{AppendsPrefix, Tells, TellsMore};
     ghost use Rattle.x25_station.specs.declared.config.Cfg.{Cfg as Settings};
     ghost use Rattle.x25_world.specs.World.{World as State, start, entered, tapped, WorldOutcome, event_of, refusal_of};
-    ghost use Rattle.x25_world.specs.code.FitsWorld.{Gone, all_of};
     ghost use Rattle.x25_world.specs.Healing.{next_end};
     ghost use Rattle.x25_sim.specs.Telling.{taps, sayings_text};
     ghost use Rattle.x25_sim.specs.Stage.{and_then, asked_turn, drained, emptied, event_turn, fired, healed, line_turn, most_times, opened, pulled, told_between, tried, turn_of};
@@ -142,7 +141,7 @@ impl Stage {
             → next.tap ≡ w.tap ++ tapped at (drop before (line_from self.old.world at))
             → Tells old (W.contents writer.old) self.old.output told → let sayings = told_between self.old.tap w next in
             MatchResult result (λ _. Tells old (W.contents writer.new) self.new.output (told ++ sayings_text sayings)) (λ _. AppendsPrefix old (W.contents writer.new) (told ++ sayings_text sayings)) }
-        ensures world { (cfg : Settings) (w : State) (gone : Gone) → FitsWorld cfg self.old.world w gone → OnOk result (FitsWorld cfg self.new.world w gone) }
+        ensures world { (cfg : Settings) (w : State) → FitsWorld cfg self.old.world w → OnOk result (FitsWorld cfg self.new.world w) }
         ensures tap { self.new.tap ≡ self.old.tap }
         ensures is_refused { self.new.is_refused ≡ self.old.is_refused }
         ensures faults { MarksFaults W.Sink writer.old writer.new result }
@@ -498,23 +497,20 @@ impl Stage {
         }
     }
 
-    /// Tells the frames of the first world where they are asked for, and the world lets go of them.
+    /// Tells the frames of the first world where they are asked for.
     fn begin<W: Sink>(&mut self, writer: &mut W) -> Result<(), Fault>
-        ensures tells { (cfg : Settings) (down : Bool) (old : Option (List ℕ)) (told : List ℕ) → FitsWorld cfg self.old.world (opening cfg down) nothing_gone
+        ensures tells { (cfg : Settings) (down : Bool) (old : Option (List ℕ)) (told : List ℕ) → FitsWorld cfg self.old.world (opening cfg down)
             → Tells old (W.contents writer.old) self.old.output told → let sayings = told_between self.old.tap start (opening cfg down) in
             MatchResult result (λ _. Tells old (W.contents writer.new) self.new.output (told ++ sayings_text sayings)) (λ _. AppendsPrefix old (W.contents writer.new) (told ++ sayings_text sayings)) }
-        ensures world { (cfg : Settings) (w : State) (gone : Gone) → FitsWorld cfg self.old.world w gone → OnOk result (FitsWorld cfg self.new.world w (all_of w)) }
+        ensures world { self.new.world ≡ self.old.world }
         ensures tap { self.new.tap ≡ self.old.tap }
         ensures is_refused { self.new.is_refused ≡ self.old.is_refused }
         ensures faults { MarksFaults W.Sink writer.old writer.new result }
     {
-        if self.tap {
-            self.tell_put(Role::Dte, 0, writer)?;
-            self.world.let_go();
+        if !self.tap {
             return Ok(());
         }
-        self.world.let_go();
-        Ok(())
+        self.tell_put(Role::Dte, 0, writer)
     }
 
     /// What the first world holds is told, and where the DTE has asked that the link be set up, its SABM and the UA are delivered, and that is

@@ -12,16 +12,15 @@ use Rattle.x25_station.specs.Config.{settings_from, layer_settings, config_refus
 use Rattle.x25_station.specs.Command.{Requests}
 use Rattle.x25_station.specs.Station.{Station}
 use Rattle.x25_station.specs.Step.{Outcome, Did, Refused, commands}
-use Rattle.x25_world.specs.World.{World, swapped, WorldOutcome, Happened, Declined, of_station, swapped_back, Event, happens, after, run}
+use Rattle.x25_world.specs.World.{World, AtEnd, swapped, WorldOutcome, Happened, Declined, of_station, swapped_back, Event, happens, after, run}
 use Rattle.x25_world.specs.declared.error.WorldError.{WorldError}
 use Rattle.x25_world.specs.laws.Claims.{ActsInOctets, AreInOctets, IsBeginning}
 use Rattle.x25_world.specs.laws.SessionClaims.{Throughout}
 use Rattle.x25_world.specs.laws.WaitClaims.{pull_at, AllWaitForUsers, HasNoneToPull, PullsLeaveNone, UnpulledWaitForUsers}
 use Rattle.x25_world.specs.Healing.{all_received, firing, next_end, arrivals, most_deliveries, deliveries, one_if, if_accepted, behind, both_tried, pull_round, most_rounds, unless_empty, pull_rounds, fire_and_pull, healing, received_by, received_in, IsDrained, HealsWhereNonePut, HealsFrom, AreReceiptsAndRequests, FreeThroughout, BothMayHeal, HaveArrived, HealsWithPuts, AllArrives, HealingBringsAll}
 use Rattle.x25_world.specs.code.ShownWorld.{ShownWorld}
-use Rattle.x25_world.specs.code.FitsWorld.{Gone, FitsWorld, FitsRun, Leaves}
-use Rattle.x25_world.specs.code.FitsHealing.{GoesBy}
-use Rattle.x25_world.proofs.WorldLemmas.{leaves}
+use Rattle.x25_world.specs.code.FitsWorld.{FitsWorld, FitsRun, Leaves}
+use Rattle.x25_world.specs.code.FitsHealing.{TellingWorld, GoesBy}
 use Rattle.x25_world.proofs.HealingSchedule.{run_append, accepted_append, count_append, tried_is, Begun, goes_on, rest_is}
 
 -- ---- rounds
@@ -64,15 +63,15 @@ module _ (cfg : Cfg) where
   pub line_filled : (n : ℕ) (w : World) → is_none (next_end w.out w.back) ≡ false → left_behind cfg n w ≡ pull_rounds cfg n w
   line_filled n w e = by_frames (pull_rounds cfg n) w (next_end w.out w.back) e
 
-module _ (cfg : Cfg) (events : List Event) (w : World) (gone : Gone) (all done count : ℕ) where
-  abbrev pub next_round : (v : ShownWorld) → done < all → Begun cfg events w v gone (pull_rounds cfg (all - done)) count → Begun cfg events w v gone (behind cfg (pull_round cfg) (left_behind cfg (all - (done + 1)))) count
+module _ (cfg : Cfg) (events : List Event) (w : World) (before : List AtEnd) (all done count : ℕ) where
+  abbrev pub next_round : (v : TellingWorld) → done < all → Begun cfg events w v before (pull_rounds cfg (all - done)) count → Begun cfg events w v before (behind cfg (pull_round cfg) (left_behind cfg (all - (done + 1)))) count
   next_round v low h =
-      rest_is cfg events w v gone (pull_rounds cfg (all - done)) count h (behind cfg (pull_round cfg) (left_behind cfg (all - (done + 1))))
+      rest_is cfg events w v before (pull_rounds cfg (all - done)) count h (behind cfg (pull_round cfg) (left_behind cfg (all - (done + 1))))
       (round_more cfg (all - done) (all - (done + 1)) (run cfg h.done w) (omega (arith, low)))
 
-  pub round_done : (u v : ShownWorld) (more : ℕ) (low : done < all) (h : Begun cfg events w u gone (pull_rounds cfg (all - done)) count)
-      → (let x = run cfg h.done w in GoesBy cfg (pull_round cfg x) x v gone → more ≡ received_in (pull_round cfg x) → Begun cfg events w v gone (left_behind cfg (all - (done + 1))) (count + more))
-  round_done u v more low h goes counted = goes_on cfg events w u v gone (pull_round cfg) (left_behind cfg (all - (done + 1))) count (next_round u low h) more goes counted
+  pub round_done : (u v : TellingWorld) (more : ℕ) (low : done < all) (h : Begun cfg events w u before (pull_rounds cfg (all - done)) count)
+      → (let x = run cfg h.done w in GoesBy cfg (pull_round cfg x) x v before → more ≡ received_in (pull_round cfg x) → Begun cfg events w v before (left_behind cfg (all - (done + 1))) (count + more))
+  round_done u v more low h goes counted = goes_on cfg events w u v before (pull_round cfg) (left_behind cfg (all - (done + 1))) count (next_round u low h) more goes counted
 
 -- ---- how many arrive
 
@@ -179,20 +178,24 @@ healing_octets cfg w =
     octets_append (deliveries cfg w) (fire_and_pull cfg v) (received_octets (arrivals cfg most_deliveries w))
     (octets_append fired (pull_rounds cfg most_rounds x) (both_octets cfg (firing Dte) (firing Dce) v tt tt) (rounds_octets cfg most_rounds x))
 
-pub holds_healed : (Holds : Cfg → World → World → Type 0) {T : Type 0} (r : Result T WorldError) (old new : ShownWorld) (cfg : Cfg) (from : World) (past : List Event) (gone : Gone) → FitsRun cfg from old past gone
-    → (let w = run cfg past from in OnOk r (GoesBy cfg (healing cfg w) w new gone)
+pub holds_healed : (Holds : Cfg → World → World → Type 0) {T : Type 0} (r : Result T WorldError) (old : ShownWorld) (new : TellingWorld) (cfg : Cfg) (from : World) (past : List Event) (before : List AtEnd)
+    → FitsRun cfg from old past
+    → (let w = run cfg past from in OnOk r (GoesBy cfg (healing cfg w) w new before)
     → (AreInOctets (past ++ healing cfg w) → Holds cfg w (run cfg (past ++ healing cfg w) from))
-    → OnOk r (Leaves (λ (c : Cfg) (u : World). Holds c w u) cfg from new (past ++ healing cfg w) gone))
-holds_healed Holds (Err e) old new cfg from past gone h goes law = tt
-holds_healed Holds (Ok x) old new cfg from past gone h goes law =
+    → OnOk r (Leaves (λ (c : Cfg) (u : World). Holds c w u) cfg from new.world (past ++ healing cfg w)))
+holds_healed Holds (Err e) old new cfg from past before h goes law = tt
+holds_healed Holds (Ok x) old new cfg from past before h goes law =
     let w = run cfg past from in
     let octets = octets_append past (healing cfg w) h.octets (healing_octets cfg w) in
-    leaves (λ (c : Cfg) (u : World). Holds c w u) new cfg from (past ++ healing cfg w) gone (record {
-      settings = h.settings;
-      octets = octets;
-      accepted = accepted_append cfg past (healing cfg w) from h.accepted goes.accepted;
-      fits = subst (λ (z : World). FitsWorld cfg new z gone) (sym (run_append cfg past (healing cfg w) from)) goes.fits;
-    }) (law octets)
+    record {
+      fits = record {
+        settings = h.settings;
+        octets = octets;
+        accepted = accepted_append cfg past (healing cfg w) from h.accepted goes.accepted;
+        fits = subst (λ (z : World). FitsWorld cfg new.world z) (sym (run_append cfg past (healing cfg w) from)) goes.fits.fits;
+      };
+      holds = law octets;
+    }
 
 pub heals_from : Throughout HealsWhereNonePut → (cfg : Cfg) → config_refusal cfg ≡ None → (from : World) → IsBeginning cfg from → (past : List Event) → AreInOctets past → HealsFrom cfg (run cfg past from)
 heals_from law cfg fine from begins past octets may none after_all =

@@ -1,16 +1,18 @@
 -- The schedule of healing, event by event: lists that go on, an event that may be refused, deliveries.
-use Rattle.std.proofs.Common.{◌≡◌, ℕ, zero, suc, ◌+◌, ◌-◌, ◌≤◌, ◌<◌, ◌⊎◌, inl, inr, ◌≢◌, List, [], ◌∷◌, ◌++◌, length, Some, None, Result, Ok, Err, OnOk, IfErr, refl, sym, ap, ap₂, ◌∙◌, subst, arith, append_assoc, append-nil, length-append}
+use Rattle.std.proofs.Common.{◌≡◌, ℕ, zero, suc, ◌+◌, ◌-◌, ◌≤◌, ◌<◌, ◌⊎◌, inl, inr, ◌≢◌, List, [], ◌∷◌, ◌++◌, length, map, Some, None, Result, Ok, Err, OnOk, IfErr, refl, sym, ap, ap₂, ◌∙◌, subst, arith, append_assoc, append-nil, length-append}
 use Rattle.x25_bits.specs.declared.role.Role.{Role}
 use Rattle.x25_bits.specs.declared.role.Role.TheVariants.{Dte, Dce}
 use Rattle.x25_station.specs.declared.config.Cfg.{Cfg}
 use Rattle.x25_station.specs.Config.{settings_from}
-use Rattle.x25_world.specs.World.{World, swapped, WorldOutcome, Happened, Declined, swapped_back, delivered, Event, happens, refusal_of, after, run, AreAccepted}
+use Rattle.x25_world.specs.World.{World, AtEnd, swapped, WorldOutcome, Happened, Declined, swapped_back, delivered, Event, happens, refusal_of, after, run, AreAccepted}
 use Rattle.x25_world.specs.declared.error.WorldError.{WorldError}
 use Rattle.x25_world.specs.declared.error.WorldError.TheVariants as error
 use Rattle.x25_world.specs.Healing.{receipt, all_received, next_end, arrivals_from, arrivals, most_deliveries, deliveries, one_if, if_accepted, behind, received_in}
+use Rattle.x25_world.specs.declared.told.Entered.{Entered}
+use Rattle.x25_world.specs.code.PlainTold.{plain_entered}
 use Rattle.x25_world.specs.code.ShownWorld.{ShownWorld}
-use Rattle.x25_world.specs.code.FitsWorld.{Gone, FitsWorld, IsRefusal}
-use Rattle.x25_world.specs.code.FitsHealing.{GoesBy, GoesPartly}
+use Rattle.x25_world.specs.code.FitsWorld.{FitsWorld, IsRefusal}
+use Rattle.x25_world.specs.code.FitsHealing.{TellingWorld, telling, Tells, GoesBy, GoesPartly}
 use Rattle.x25_world.proofs.WorldLemmas.{run-push, AreAccepted-push}
 
 -- ---- lists of events
@@ -24,14 +26,14 @@ accepted_append cfg [] ys w f g = g
 accepted_append cfg (x ∷ xs) ys w f g = (f.0, accepted_append cfg xs ys (after w (happens cfg w x)) f.1 g)
 
 -- one list, and then another
-pub goes_behind : (cfg : Cfg) (xs ys : List Event) (w : World) (u v : ShownWorld) (gone : Gone) → GoesBy cfg xs w u gone → GoesBy cfg ys (run cfg xs w) v gone → GoesBy cfg (xs ++ ys) w v gone
-goes_behind cfg xs ys w u v gone f g = record {
+pub goes_behind : (cfg : Cfg) (xs ys : List Event) (w : World) (u v : TellingWorld) (before : List AtEnd) → GoesBy cfg xs w u before → GoesBy cfg ys (run cfg xs w) v before → GoesBy cfg (xs ++ ys) w v before
+goes_behind cfg xs ys w u v before f g = record {
   accepted = accepted_append cfg xs ys w f.accepted g.accepted;
-  fits = subst (λ (x : World). FitsWorld cfg v x gone) (sym (run_append cfg xs ys w)) g.fits;
+  fits = subst (λ (x : World). Tells cfg v x before) (sym (run_append cfg xs ys w)) g.fits;
 }
 
-pub stops_first : (cfg : Cfg) (xs ys : List Event) (w : World) (v : ShownWorld) (gone : Gone) (e : WorldError) → GoesPartly cfg xs w v gone e → GoesPartly cfg (xs ++ ys) w v gone e
-stops_first cfg xs ys w v gone e h = record {
+pub stops_first : (cfg : Cfg) (xs ys : List Event) (w : World) (v : TellingWorld) (before : List AtEnd) (e : WorldError) → GoesPartly cfg xs w v before e → GoesPartly cfg (xs ++ ys) w v before e
+stops_first cfg xs ys w v before e h = record {
   memory = h.memory;
   done = h.done;
   left = h.left ++ ys;
@@ -39,21 +41,25 @@ stops_first cfg xs ys w v gone e h = record {
   goes = h.goes;
 }
 
-pub stops_behind : (cfg : Cfg) (xs ys : List Event) (w : World) (u v : ShownWorld) (gone : Gone) (e : WorldError) → GoesBy cfg xs w u gone → GoesPartly cfg ys (run cfg xs w) v gone e → GoesPartly cfg (xs ++ ys) w v gone e
-stops_behind cfg xs ys w u v gone e f h = record {
+pub stops_behind : (cfg : Cfg) (xs ys : List Event) (w : World) (u v : TellingWorld) (before : List AtEnd) (e : WorldError) → GoesBy cfg xs w u before → GoesPartly cfg ys (run cfg xs w) v before e → GoesPartly cfg (xs ++ ys) w v before e
+stops_behind cfg xs ys w u v before e f h = record {
   memory = h.memory;
   done = xs ++ h.done;
   left = h.left;
   all = ap (λ (es : List Event). xs ++ es) h.all ∙ sym (append_assoc xs h.done h.left);
-  goes = goes_behind cfg xs h.done w u v gone f h.goes;
+  goes = goes_behind cfg xs h.done w u v before f h.goes;
 }
+
+-- where nothing was told yet
+pub tells_nothing : (cfg : Cfg) (v : ShownWorld) (told : List Entered) (w : World) → told ≡ [] → FitsWorld cfg v w → Tells cfg (telling v told) w w.transcript
+tells_nothing cfg v told w none fits = record { fits = fits; told = sym (append-nil w.transcript) ∙ ap (λ (l : List Entered). w.transcript ++ map plain_entered l) (sym none) }
 
 -- ---- a list that has begun
 
 -- some of the events have happened, so many deliveries among them, and the others are the rest from here
-pub record Begun (cfg : Cfg) (events : List Event) (w : World) (v : ShownWorld) (gone : Gone) (rest : World → List Event) (count : ℕ) : Type 0 where
+pub record Begun (cfg : Cfg) (events : List Event) (w : World) (v : TellingWorld) (before : List AtEnd) (rest : World → List Event) (count : ℕ) : Type 0 where
   pub done : List Event
-  pub goes : GoesBy cfg done w v gone
+  pub goes : GoesBy cfg done w v before
   pub counted : received_in done ≡ count
   pub all : events ≡ done ++ rest (run cfg done w)
 
@@ -61,63 +67,63 @@ pub count_append : (xs ys : List Event) → received_in (xs ++ ys) ≡ received_
 count_append [] ys = omega arith
 count_append (x ∷ xs) ys = let rest = count_append xs ys in omega (arith, rest)
 
-pub begun : (cfg : Cfg) (rest : World → List Event) (w : World) (v : ShownWorld) (gone : Gone) → FitsWorld cfg v w gone → Begun cfg (rest w) w v gone rest 0
-begun cfg rest w v gone fits = record { done = []; goes = record { accepted = tt; fits = fits }; counted = refl; all = refl }
+pub begun : (cfg : Cfg) (rest : World → List Event) (w : World) (v : TellingWorld) (before : List AtEnd) → Tells cfg v w before → Begun cfg (rest w) w v before rest 0
+begun cfg rest w v before fits = record { done = []; goes = record { accepted = tt; fits = fits }; counted = refl; all = refl }
 
-module _ (cfg : Cfg) (events : List Event) (w : World) (u v : ShownWorld) (gone : Gone) (first rest : World → List Event) (count : ℕ) (h : Begun cfg events w u gone (behind cfg first rest) count) where
-  pub goes_on : (more : ℕ) → (let x = run cfg h.done w in GoesBy cfg (first x) x v gone → more ≡ received_in (first x) → Begun cfg events w v gone rest (count + more))
+module _ (cfg : Cfg) (events : List Event) (w : World) (u v : TellingWorld) (before : List AtEnd) (first rest : World → List Event) (count : ℕ) (h : Begun cfg events w u before (behind cfg first rest) count) where
+  pub goes_on : (more : ℕ) → (let x = run cfg h.done w in GoesBy cfg (first x) x v before → more ≡ received_in (first x) → Begun cfg events w v before rest (count + more))
   goes_on more goes counted =
       let x = run cfg h.done w in
       record {
         done = h.done ++ first x;
-        goes = goes_behind cfg h.done (first x) w u v gone h.goes goes;
+        goes = goes_behind cfg h.done (first x) w u v before h.goes goes;
         counted = count_append h.done (first x) ∙ ap₂ (λ (n m : ℕ). n + m) h.counted (sym counted);
         all = h.all ∙ sym (append_assoc h.done (first x) (rest (run cfg (first x) x))) ∙ ap (λ (z : World). (h.done ++ first x) ++ rest z) (sym (run_append cfg h.done (first x) w));
       }
 
-  pub stops_in : (e : WorldError) → (let x = run cfg h.done w in GoesPartly cfg (first x) x v gone e → GoesPartly cfg events w v gone e)
+  pub stops_in : (e : WorldError) → (let x = run cfg h.done w in GoesPartly cfg (first x) x v before e → GoesPartly cfg events w v before e)
   stops_in e partly =
       let x = run cfg h.done w in
-      subst (λ (es : List Event). GoesPartly cfg es w v gone e) (sym h.all)
-      (stops_behind cfg h.done (behind cfg first rest x) w u v gone e h.goes (stops_first cfg (first x) (rest (run cfg (first x) x)) x v gone e partly))
+      subst (λ (es : List Event). GoesPartly cfg es w v before e) (sym h.all)
+      (stops_behind cfg h.done (behind cfg first rest x) w u v before e h.goes (stops_first cfg (first x) (rest (run cfg (first x) x)) x v before e partly))
 
-module _ (cfg : Cfg) (events : List Event) (w : World) (v : ShownWorld) (gone : Gone) (rest : World → List Event) (count : ℕ) (h : Begun cfg events w v gone rest count) where
-  abbrev pub rest_is : (other : World → List Event) → (let x = run cfg h.done w in rest x ≡ other x → Begun cfg events w v gone other count)
+module _ (cfg : Cfg) (events : List Event) (w : World) (v : TellingWorld) (before : List AtEnd) (rest : World → List Event) (count : ℕ) (h : Begun cfg events w v before rest count) where
+  abbrev pub rest_is : (other : World → List Event) → (let x = run cfg h.done w in rest x ≡ other x → Begun cfg events w v before other count)
   rest_is other same = record { done = h.done; goes = h.goes; counted = h.counted; all = h.all ∙ ap (λ (es : List Event). h.done ++ es) same }
 
   all_done : rest (run cfg h.done w) ≡ [] → events ≡ h.done
   all_done none = h.all ∙ ap (λ (es : List Event). h.done ++ es) none ∙ append-nil h.done
 
-  pub went_all : rest (run cfg h.done w) ≡ [] → GoesBy cfg events w v gone
-  went_all none = subst (λ (es : List Event). GoesBy cfg es w v gone) (sym (all_done none)) h.goes
+  pub went_all : rest (run cfg h.done w) ≡ [] → GoesBy cfg events w v before
+  went_all none = subst (λ (es : List Event). GoesBy cfg es w v before) (sym (all_done none)) h.goes
 
   pub counted_all : rest (run cfg h.done w) ≡ [] → count ≡ received_in events
   counted_all none = sym h.counted ∙ ap received_in (sym (all_done none))
 
 -- ---- an event that is accepted or not
 
-pub accepts_one : (cfg : Cfg) (e : Event) (w : World) (v : ShownWorld) (gone : Gone) → FitsWorld cfg v (after w (happens cfg w e)) gone → refusal_of (happens cfg w e) ≡ None → GoesBy cfg (if_accepted cfg e w) w v gone
-accepts_one cfg e w v gone fits accepted = by (happens cfg w e) refl fits accepted
+pub accepts_one : (cfg : Cfg) (e : Event) (w : World) (v : TellingWorld) (before : List AtEnd) → Tells cfg v (after w (happens cfg w e)) before → refusal_of (happens cfg w e) ≡ None → GoesBy cfg (if_accepted cfg e w) w v before
+accepts_one cfg e w v before fits accepted = by (happens cfg w e) refl fits accepted
   where
-    by : (o : WorldOutcome) → happens cfg w e ≡ o → FitsWorld cfg v (after w o) gone → refusal_of o ≡ None → GoesBy cfg (one_if e o) w v gone
+    by : (o : WorldOutcome) → happens cfg w e ≡ o → Tells cfg v (after w o) before → refusal_of o ≡ None → GoesBy cfg (one_if e o) w v before
     by (Happened next) is fits accepted = record {
       accepted = (ap refusal_of is, tt);
-      fits = subst (λ (x : WorldOutcome). FitsWorld cfg v (after w x) gone) (sym is) fits;
+      fits = subst (λ (x : WorldOutcome). Tells cfg v (after w x) before) (sym is) fits;
     }
     by (Declined x) is fits accepted = absurd (cc)
 
-pub leaves_out : (cfg : Cfg) (e : Event) (w : World) (v : ShownWorld) (gone : Gone) (x : WorldError) (r : Result (Unit {0}) WorldError) → OnOk r (x ≢ error.NoMemory) → IsRefusal cfg w e x → FitsWorld cfg v w gone
-    → OnOk r (GoesBy cfg (if_accepted cfg e w) w v gone)
-leaves_out cfg e w v gone x (Err y) other refused fits = tt
-leaves_out cfg e w v gone x (Ok done) other refused fits = elim refused [ inl ground ↦ declined (happens cfg w e) ground | inr memory ↦ absurd (other memory) ]
+pub leaves_out : (cfg : Cfg) (e : Event) (w : World) (v : TellingWorld) (before : List AtEnd) (x : WorldError) (r : Result (Unit {0}) WorldError) → OnOk r (x ≢ error.NoMemory) → IsRefusal cfg w e x → Tells cfg v w before
+    → OnOk r (GoesBy cfg (if_accepted cfg e w) w v before)
+leaves_out cfg e w v before x (Err y) other refused fits = tt
+leaves_out cfg e w v before x (Ok done) other refused fits = elim refused [ inl ground ↦ declined (happens cfg w e) ground | inr memory ↦ absurd (other memory) ]
   where
-    declined : (o : WorldOutcome) → refusal_of o ≡ Some x → GoesBy cfg (one_if e o) w v gone
+    declined : (o : WorldOutcome) → refusal_of o ≡ Some x → GoesBy cfg (one_if e o) w v before
     declined (Happened next) is = absurd (cc)
     declined (Declined y) is = record { accepted = tt; fits = fits }
 
-pub stops_now : (cfg : Cfg) (events : List Event) (w : World) (v : ShownWorld) (gone : Gone) (r : Result (Unit {0}) WorldError) → IfErr r (λ x. x ≡ error.NoMemory) → FitsWorld cfg v w gone → IfErr r (GoesPartly cfg events w v gone)
-stops_now cfg events w v gone (Ok done) memory fits = tt
-stops_now cfg events w v gone (Err x) memory fits = record { memory = memory; done = []; left = events; all = refl; goes = record { accepted = tt; fits = fits } }
+pub stops_now : (cfg : Cfg) (events : List Event) (w : World) (v : TellingWorld) (before : List AtEnd) (r : Result (Unit {0}) WorldError) → IfErr r (λ x. x ≡ error.NoMemory) → Tells cfg v w before → IfErr r (GoesPartly cfg events w v before)
+stops_now cfg events w v before (Ok done) memory fits = tt
+stops_now cfg events w v before (Err x) memory fits = record { memory = memory; done = []; left = events; all = refl; goes = record { accepted = tt; fits = fits } }
 
 -- what is refused changes nothing
 pub tried_is : (cfg : Cfg) (e : Event) (w : World) → run cfg (if_accepted cfg e w) w ≡ after w (happens cfg w e)
@@ -130,8 +136,8 @@ tried_is cfg e w = by (happens cfg w e) refl
 -- ---- deliveries
 
 -- what the world tells of its line
-pub line_is : (cfg : Cfg) (v : ShownWorld) (w : World) (gone : Gone) → FitsWorld cfg v w gone → next_end v.to_dce v.to_dte ≡ next_end w.out w.back
-line_is cfg v w gone f = ap (λ front. next_end front v.to_dte) f.to_dce ∙ ap (next_end w.out) f.to_dte
+pub line_is : (cfg : Cfg) (v : ShownWorld) (w : World) → FitsWorld cfg v w → next_end v.to_dce v.to_dte ≡ next_end w.out w.back
+line_is cfg v w f = ap (λ front. next_end front v.to_dte) f.to_dce ∙ ap (next_end w.out) f.to_dte
 
 none : (back : List (List ℕ)) → next_end [] back ≡ Some Dce → ⊥
 none [] is = cc
@@ -169,20 +175,20 @@ received_append [] ys = refl
 received_append (x ∷ xs) ys = ap (λ (es : List Event). receipt x ∷ es) (received_append xs ys)
 
 -- so many of the deliveries have happened, and the others are those from here
-pub record Delivered (cfg : Cfg) (w : World) (v : ShownWorld) (gone : Gone) (count : ℕ) : Type 0 where
+pub record Delivered (cfg : Cfg) (w : World) (v : TellingWorld) (before : List AtEnd) (count : ℕ) : Type 0 where
   pub done : List Role
-  pub goes : GoesBy cfg (all_received done) w v gone
+  pub goes : GoesBy cfg (all_received done) w v before
   pub counted : length done ≡ count
   pub all : arrivals cfg most_deliveries w ≡ done ++ arrivals cfg (most_deliveries - count) (run cfg (all_received done) w)
 
-pub none_delivered : (cfg : Cfg) (w : World) (v : ShownWorld) (gone : Gone) → FitsWorld cfg v w gone → Delivered cfg w v gone 0
-none_delivered cfg w v gone fits = record { done = []; goes = record { accepted = tt; fits = fits }; counted = refl; all = refl }
+pub none_delivered : (cfg : Cfg) (w : World) (v : TellingWorld) (before : List AtEnd) → Tells cfg v w before → Delivered cfg w v before 0
+none_delivered cfg w v before fits = record { done = []; goes = record { accepted = tt; fits = fits }; counted = refl; all = refl }
 
-pub one_delivered : (cfg : Cfg) (w : World) (u v : ShownWorld) (gone : Gone) (count : ℕ) (at : Role) → count < most_deliveries → (h : Delivered cfg w u gone count) → next_end u.to_dce u.to_dte ≡ Some at
-    → (let x = run cfg (all_received h.done) w in FitsWorld cfg v (after x (happens cfg x (receipt at))) gone) → Delivered cfg w v gone (count + 1)
-one_delivered cfg w u v gone count at low h is fits =
+pub one_delivered : (cfg : Cfg) (w : World) (u v : TellingWorld) (before : List AtEnd) (count : ℕ) (at : Role) → count < most_deliveries → (h : Delivered cfg w u before count) → next_end u.world.to_dce u.world.to_dte ≡ Some at
+    → (let x = run cfg (all_received h.done) w in Tells cfg v (after x (happens cfg x (receipt at))) before) → Delivered cfg w v before (count + 1)
+one_delivered cfg w u v before count at low h is fits =
     let x = run cfg (all_received h.done) w in
-    let here : next_end x.out x.back ≡ Some at = sym (line_is cfg u x gone h.goes.fits) ∙ is in
+    let here : next_end x.out x.back ≡ Some at = sym (line_is cfg u.world x h.goes.fits.fits) ∙ is in
     let events : all_received (h.done ++ at ∷ []) ≡ all_received h.done ++ receipt at ∷ [] = received_append h.done (at ∷ []) in
     let next : run cfg (all_received (h.done ++ at ∷ [])) w ≡ after x (happens cfg x (receipt at)) = ap (λ (es : List Event). run cfg es w) events ∙ run-push cfg (all_received h.done) (receipt at) w in
     let fewer : most_deliveries - count ≡ suc (most_deliveries - (count + 1)) = omega (arith, low) in
@@ -190,7 +196,7 @@ one_delivered cfg w u v gone count at low h is fits =
       done = h.done ++ at ∷ [];
       goes = record {
         accepted = subst (λ (es : List Event). AreAccepted cfg es w) (sym events) (AreAccepted-push cfg (all_received h.done) (receipt at) w h.goes.accepted (found cfg x at here));
-        fits = subst (λ (z : World). FitsWorld cfg v z gone) (sym next) fits;
+        fits = subst (λ (z : World). Tells cfg v z before) (sym next) fits;
       };
       counted = length-append h.done (at ∷ []) ∙ ap (λ (n : ℕ). n + 1) h.counted;
       all = h.all
@@ -201,36 +207,36 @@ one_delivered cfg w u v gone count at low h is fits =
     }
 
 -- all of them have happened
-ended : (cfg : Cfg) (w : World) (v : ShownWorld) (gone : Gone) (count : ℕ) (h : Delivered cfg w v gone count) → arrivals cfg (most_deliveries - count) (run cfg (all_received h.done) w) ≡ []
+ended : (cfg : Cfg) (w : World) (v : TellingWorld) (before : List AtEnd) (count : ℕ) (h : Delivered cfg w v before count) → arrivals cfg (most_deliveries - count) (run cfg (all_received h.done) w) ≡ []
     → arrivals cfg most_deliveries w ≡ h.done
-ended cfg w v gone count h none = h.all ∙ ap (λ (l : List Role). h.done ++ l) none ∙ append-nil h.done
+ended cfg w v before count h none = h.all ∙ ap (λ (l : List Role). h.done ++ l) none ∙ append-nil h.done
 
-pub record AllDelivered (cfg : Cfg) (w : World) (v : ShownWorld) (gone : Gone) (count : ℕ) : Type 0 where
-  pub goes : GoesBy cfg (deliveries cfg w) w v gone
+pub record AllDelivered (cfg : Cfg) (w : World) (v : TellingWorld) (before : List AtEnd) (count : ℕ) : Type 0 where
+  pub goes : GoesBy cfg (deliveries cfg w) w v before
   pub counted : count ≡ length (arrivals cfg most_deliveries w)
 
-all_of_them : (cfg : Cfg) (w : World) (v : ShownWorld) (gone : Gone) (count : ℕ) (h : Delivered cfg w v gone count) → arrivals cfg most_deliveries w ≡ h.done → AllDelivered cfg w v gone count
-all_of_them cfg w v gone count h is = record {
-  goes = subst (λ (l : List Role). GoesBy cfg (all_received l) w v gone) (sym is) h.goes;
+all_of_them : (cfg : Cfg) (w : World) (v : TellingWorld) (before : List AtEnd) (count : ℕ) (h : Delivered cfg w v before count) → arrivals cfg most_deliveries w ≡ h.done → AllDelivered cfg w v before count
+all_of_them cfg w v before count h is = record {
+  goes = subst (λ (l : List Role). GoesBy cfg (all_received l) w v before) (sym is) h.goes;
   counted = sym h.counted ∙ ap length (sym is);
 }
 
-pub ends_drained : (cfg : Cfg) (w : World) (v : ShownWorld) (gone : Gone) (count : ℕ) → Delivered cfg w v gone count → next_end v.to_dce v.to_dte ≡ None → AllDelivered cfg w v gone count
-ends_drained cfg w v gone count h is =
+pub ends_drained : (cfg : Cfg) (w : World) (v : TellingWorld) (before : List AtEnd) (count : ℕ) → Delivered cfg w v before count → next_end v.world.to_dce v.world.to_dte ≡ None → AllDelivered cfg w v before count
+ends_drained cfg w v before count h is =
     let x = run cfg (all_received h.done) w in
-    all_of_them cfg w v gone count h (ended cfg w v gone count h (none_left cfg (most_deliveries - count) x (sym (line_is cfg v x gone h.goes.fits) ∙ is)))
+    all_of_them cfg w v before count h (ended cfg w v before count h (none_left cfg (most_deliveries - count) x (sym (line_is cfg v.world x h.goes.fits.fits) ∙ is)))
 
-pub ends_counted : (cfg : Cfg) (w : World) (v : ShownWorld) (gone : Gone) (count : ℕ) → Delivered cfg w v gone count → most_deliveries ≤ count → AllDelivered cfg w v gone count
-ends_counted cfg w v gone count h most =
+pub ends_counted : (cfg : Cfg) (w : World) (v : TellingWorld) (before : List AtEnd) (count : ℕ) → Delivered cfg w v before count → most_deliveries ≤ count → AllDelivered cfg w v before count
+ends_counted cfg w v before count h most =
     let x = run cfg (all_received h.done) w in
-    all_of_them cfg w v gone count h (ended cfg w v gone count h (no_more cfg (most_deliveries - count) x (omega (arith, most))))
+    all_of_them cfg w v before count h (ended cfg w v before count h (no_more cfg (most_deliveries - count) x (omega (arith, most))))
 
 -- .. or memory was refused at the next
-pub stops_there : (cfg : Cfg) (w : World) (u v : ShownWorld) (gone : Gone) (count : ℕ) (at : Role) (e : WorldError) (h : Delivered cfg w u gone count) → next_end u.to_dce u.to_dte ≡ Some at
-    → (let x = run cfg (all_received h.done) w in FitsWorld cfg v x gone × IsRefusal cfg x (receipt at) e) → GoesPartly cfg (deliveries cfg w) w v gone e
-stops_there cfg w u v gone count at e h is f =
+pub stops_there : (cfg : Cfg) (w : World) (u v : TellingWorld) (before : List AtEnd) (count : ℕ) (at : Role) (e : WorldError) (h : Delivered cfg w u before count) → next_end u.world.to_dce u.world.to_dte ≡ Some at
+    → (let x = run cfg (all_received h.done) w in Tells cfg v x before × IsRefusal cfg x (receipt at) e) → GoesPartly cfg (deliveries cfg w) w v before e
+stops_there cfg w u v before count at e h is f =
     let x = run cfg (all_received h.done) w in
-    let here : next_end x.out x.back ≡ Some at = sym (line_is cfg u x gone h.goes.fits) ∙ is in
+    let here : next_end x.out x.back ≡ Some at = sym (line_is cfg u.world x h.goes.fits.fits) ∙ is in
     let left = arrivals cfg (most_deliveries - count) x in
     record {
       memory = by (happens cfg x (receipt at)) (found cfg x at here) f.1;

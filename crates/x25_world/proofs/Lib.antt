@@ -12,10 +12,8 @@ pub mod FrameOctets
 pub mod SetUpOnce
 pub mod WindowRuns
 pub mod rows
-pub mod OnLineLemmas
-pub mod LateLemmas
-pub mod LetGoLemmas
 pub mod SetUpLemmas
+pub mod LineLemmas
 pub mod SideLemmas
 pub mod WorldLemmas
 pub mod BitDamageLemmas

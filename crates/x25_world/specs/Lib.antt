@@ -2,7 +2,6 @@ pub mod Error
 pub mod SetUp
 pub mod World
 pub mod Healing
-pub mod OnLine
 pub mod BitDamage
 pub mod code
 pub mod laws

@@ -1,5 +1,5 @@
 //! What happens at one end, and on the line to it.
-ghost use Rattle.std.specs.Prelude.{◌≡◌, ◌&&◌, List, ◌+◌, ◌≤◌, ◌++◌, ◌∷◌, ◌<◌, ◌⊎◌, Bool, false, [], length, map, vec_len, vec_capacity, IfErr, OnOk, OnErr, IsErrOf};
+ghost use Rattle.std.specs.Prelude.{◌≡◌, ◌&&◌, ◌+◌, ◌≤◌, ◌++◌, ◌⊎◌, [], length, map, vec_len, vec_capacity, IfErr, OnOk, OnErr, IsErrOf};
 ghost use Rattle.x25_link.specs.Station.{awaits_ua};
 ghost use Rattle.x25_line.specs.laws.Stations.{is_visible};
 ghost use Rattle.x25_station.specs.Command.{command_of};
@@ -11,10 +11,11 @@ ghost use Rattle.x25_station.specs.code.FitsStation.{FitsStation};
 ghost use Rattle.x25_station.specs.Step.{connects, commands};
 ghost use Rattle.x25_world.specs.Error.{error_of};
 ghost use Rattle.x25_world.specs.World as definition;
-ghost use Rattle.x25_world.specs.World.{AtEnd, Happened, Declined, of_station, delivered, is_on_line, fired, on_line, lost, damaged, acts, entered, event_of};
+ghost use Rattle.x25_world.specs.World.{Happened, Declined, of_station, delivered, is_on_line, fired, on_line, lost, damaged, acts, entered, event_of};
 ghost use Rattle.x25_world.specs.code.PlainTold.{plain_entered};
 ghost use Rattle.x25_world.specs.code.ShownLine.{put_by, line_to, with_line_to};
-ghost use Rattle.x25_world.specs.code.FitsWorld.{Gone, FitsSide, FitsParts, HasActed, HasActedAt, TakesMemory, most_told};
+ghost use Rattle.x25_world.specs.code.FitsWorld.{FitsWorld, FitsSide, HasActed, HasActedAt, TakesMemory, most_told};
+ghost use Rattle.x25_world.specs.code.ShownWorld.{shown_with};
 
 use crate::error::WorldError;
 use crate::event::Event;
@@ -24,31 +25,30 @@ use crate::told::Entered;
 use x25_bits::{Role, check};
 use x25_station::{Cmd, Entry, MOST_ENTRIES, MOST_FRAMES, Station, StationError};
 
-/// The event happens at its end, or on the line to it, and what it tells comes into the list, which is empty before, as is the list by which its frames
-/// come on the line. With `taps` they are put on the tap. Refused with the one ground that applies, 50, 51, 52, 53 or 54, or with 70; all is as before then.
+/// The event happens at its end, or on the line to it, and what it tells comes into the list, which is empty before, as is the
+/// list by which its frames come on the line. Refused with the one ground that applies, 50, 51, 52, 53 or 54, or with 70; all is
+/// as before then, and the list of what is told is empty.
 #[inline(always)]
 pub fn act_at_end(
     dte: &mut Station,
     dce: &mut Station,
     line: &mut Line,
-    taps: bool,
     told: &mut Vec<Entry>,
     frames: &mut Vec<Vec<u8>>,
     event: Event,
 ) -> Result<(), WorldError>
     requires empty { told.old.items ≡ [] }
     requires unsent { frames.old.items ≡ [] }
-    requires untapped { taps ≡ false → line.old.tap ≡ [] }
     ensures untold { OnErr result (told.new.items ≡ []) }
     ensures few { vec_len told.new ≤ most_told (event_of event.entry).act }
     ensures memory { IsErrOf result WorldError.NoMemory → TakesMemory (event_of event.entry).act }
-    ensures acted { (cfg : Cfg) (w : definition.World) (gone : Gone) (before : List AtEnd) →
-        FitsParts cfg taps (record { dte = dte.old; dce = dce.old; line = line.old; transcript = before }) w gone →
-        HasActedAt cfg taps (record { dte = dte.new; dce = dce.new; line = line.new; transcript = before }) (entered (event_of event.entry).at (map plain_entry told.new.items)) result w gone (event_of event.entry) }
+    ensures acted { (cfg : Cfg) (w : definition.World) → FitsWorld cfg (shown_with dte.old dce.old line.old) w →
+        HasActedAt cfg (shown_with dte.new dce.new line.new)
+        (entered (event_of event.entry).at (map plain_entry told.new.items)) result w (event_of event.entry) }
 {
     match event.at() {
-        Role::Dte => act(Role::Dte, dte, line, taps, told, frames, event),
-        Role::Dce => act(Role::Dce, dce, line, taps, told, frames, event),
+        Role::Dte => act(Role::Dte, dte, line, told, frames, event),
+        Role::Dce => act(Role::Dce, dce, line, told, frames, event),
     }
 }
 
@@ -59,27 +59,25 @@ fn act(
     at: Role,
     near: &mut Station,
     line: &mut Line,
-    taps: bool,
     told: &mut Vec<Entry>,
     frames: &mut Vec<Vec<u8>>,
     event: Event,
 ) -> Result<(), WorldError>
     requires empty { told.old.items ≡ [] }
     requires unsent { frames.old.items ≡ [] }
-    requires untapped { taps ≡ false → line.old.tap ≡ [] }
     ensures untold { OnErr result (told.new.items ≡ []) }
     ensures few { vec_len told.new ≤ most_told (event_of event.entry).act }
     ensures memory { IsErrOf result WorldError.NoMemory → TakesMemory (event_of event.entry).act }
-    ensures acted { (cfg : Cfg) (w : definition.World) (gone : Gone) (before : List AtEnd) →
-        FitsSide cfg at taps (record { near = near.old; line = line.old; transcript = before }) w gone →
-        HasActed cfg at taps (record { near = near.new; line = line.new; transcript = before }) (entered at (map plain_entry told.new.items)) result w gone (acts (settings_from at cfg) w (event_of event.entry).act) }
+    ensures acted { (cfg : Cfg) (w : definition.World) → FitsSide cfg at near.old line.old w →
+        HasActed cfg at near.new line.new (entered at (map plain_entry told.new.items)) result w
+        (acts (settings_from at cfg) w (event_of event.entry).act) }
 {
     match event {
-        Event::Command(_, cmd) => command(at, near, line, taps, told, frames, cmd),
-        Event::Deliver(_) => deliver(at, near, line, taps, told, frames),
+        Event::Command(_, cmd) => command(at, near, line, told, frames, cmd),
+        Event::Deliver(_) => deliver(at, near, line, told, frames),
         Event::Lose(_, place) => lose(at, line, place),
         Event::Damage(_, place, octets) => damage(at, line, place, octets),
-        Event::T1(_) => fire(at, near, line, taps, told, frames),
+        Event::T1(_) => fire(at, near, line, told, frames),
     }
 }
 
@@ -89,24 +87,22 @@ fn command(
     at: Role,
     near: &mut Station,
     line: &mut Line,
-    taps: bool,
     told: &mut Vec<Entry>,
     frames: &mut Vec<Vec<u8>>,
     cmd: Cmd,
 ) -> Result<(), WorldError>
     requires empty { told.old.items ≡ [] }
     requires unsent { frames.old.items ≡ [] }
-    requires untapped { taps ≡ false → line.old.tap ≡ [] }
     ensures untold { OnErr result (told.new.items ≡ []) }
     ensures few { vec_len told.new ≤ 3 }
-    ensures acted { (cfg : Cfg) (w : definition.World) (gone : Gone) (before : List AtEnd) →
-        FitsSide cfg at taps (record { near = near.old; line = line.old; transcript = before }) w gone →
-        HasActed cfg at taps (record { near = near.new; line = line.new; transcript = before }) (entered at (map plain_entry told.new.items)) result w gone (of_station (settings_from at cfg) w (commands (settings_from at cfg) w.near (command_of cmd.entry))) }
+    ensures acted { (cfg : Cfg) (w : definition.World) → FitsSide cfg at near.old line.old w →
+        HasActed cfg at near.new line.new (entered at (map plain_entry told.new.items)) result w
+        (of_station (settings_from at cfg) w (commands (settings_from at cfg) w.near (command_of cmd.entry))) }
 {
     make_room(line)?;
     match near.command_into(cmd, frames, told) {
         Ok(()) => {
-            put(at, near, line, taps, frames);
+            put(at, line, frames);
             Ok(())
         }
         Err(error) => Err(WorldError::of_station(error)),
@@ -119,18 +115,16 @@ fn deliver(
     at: Role,
     near: &mut Station,
     line: &mut Line,
-    taps: bool,
     told: &mut Vec<Entry>,
     frames: &mut Vec<Vec<u8>>,
 ) -> Result<(), WorldError>
     requires empty { told.old.items ≡ [] }
     requires unsent { frames.old.items ≡ [] }
-    requires untapped { taps ≡ false → line.old.tap ≡ [] }
     ensures untold { OnErr result (told.new.items ≡ []) }
     ensures few { vec_len told.new ≤ 3 }
-    ensures acted { (cfg : Cfg) (w : definition.World) (gone : Gone) (before : List AtEnd) →
-        FitsSide cfg at taps (record { near = near.old; line = line.old; transcript = before }) w gone →
-        HasActed cfg at taps (record { near = near.new; line = line.new; transcript = before }) (entered at (map plain_entry told.new.items)) result w gone (delivered (settings_from at cfg) w w.back) }
+    ensures acted { (cfg : Cfg) (w : definition.World) → FitsSide cfg at near.old line.old w →
+        HasActed cfg at near.new line.new (entered at (map plain_entry told.new.items)) result w
+        (delivered (settings_from at cfg) w w.back) }
 {
     make_room(line)?;
     let Some(octets) = line.get(at, 0) else {
@@ -140,7 +134,7 @@ fn deliver(
         Ok(()) => {
             let octets = line.remove(at, 0);
             give_back(near, octets);
-            put(at, near, line, taps, frames);
+            put(at, line, frames);
             Ok(())
         }
         Err(error) => Err(refused_arrival(error)),
@@ -156,49 +150,18 @@ fn refused_arrival(error: StationError) -> WorldError
     WorldError::of_station(error)
 }
 
-// The frames of a step come on the line, and on the tap with `taps`, in room that there is, and their list is left empty.
+// The frames of a step come on the line, in room that there is, and their list is left empty.
 #[inline(always)]
-fn put(at: Role, near: &mut Station, line: &mut Line, taps: bool, frames: &mut Vec<Vec<u8>>)
-    requires room { vec_len frames.old ≤ line.old.room }
-    requires untapped { taps ≡ false → line.old.tap ≡ [] }
-    ensures line { line.new ≡ put_by taps line.old at (map (λ frame. frame.items) frames.old.items) }
-    ensures near { (c : Settings) (s : StationState) → FitsStation c near.old s → FitsStation c near.new s }
-{
-    if frames.is_empty() {
-        return;
-    }
-    if frames.len() == 1 {
-        if let Some(octets) = frames.pop() {
-            put_one(at, near, line, taps, octets);
-        }
-        return;
-    }
-    put_all(at, near, line, taps, frames);
-}
-
-fn put_all(at: Role, near: &mut Station, line: &mut Line, taps: bool, frames: &mut Vec<Vec<u8>>)
-    requires room { vec_len frames.old ≤ line.old.room }
-    requires untapped { taps ≡ false → line.old.tap ≡ [] }
-    ensures line { line.new ≡ put_by taps line.old at (map (λ frame. frame.items) frames.old.items) }
-    ensures near { (c : Settings) (s : StationState) → FitsStation c near.old s → FitsStation c near.new s }
+fn put(at: Role, line: &mut Line, frames: &mut Vec<Vec<u8>>)
+    requires { vec_len frames.old ≤ line.old.room }
+    ensures { line.new ≡ put_by line.old at (map (λ frame. frame.items) frames.old.items) }
 {
     for octets in frames.drain(..) {
-        put_one(at, near, line, taps, octets);
+        line.put(at, octets);
     }
 }
 
-#[inline(always)]
-fn put_one(at: Role, near: &mut Station, line: &mut Line, taps: bool, octets: Vec<u8>)
-    requires room { 0 < line.old.room }
-    requires untapped { taps ≡ false → line.old.tap ≡ [] }
-    ensures line { line.new ≡ put_by taps line.old at (octets.items ∷ []) }
-    ensures near { (c : Settings) (s : StationState) → FitsStation c near.old s → FitsStation c near.new s }
-{
-    let left = line.put(at, taps, octets);
-    give_back(near, left);
-}
-
-// The memory of a frame, where nothing else holds it, serves frames that the end sends later.
+// The memory of a frame that came serves frames that the end sends later.
 #[inline(always)]
 fn give_back(near: &mut Station, octets: Option<Vec<u8>>)
     ensures { (c : Settings) (s : StationState) → FitsStation c near.old s → FitsStation c near.new s }
@@ -214,18 +177,16 @@ fn fire(
     at: Role,
     near: &mut Station,
     line: &mut Line,
-    taps: bool,
     told: &mut Vec<Entry>,
     frames: &mut Vec<Vec<u8>>,
 ) -> Result<(), WorldError>
     requires empty { told.old.items ≡ [] }
     requires unsent { frames.old.items ≡ [] }
-    requires untapped { taps ≡ false → line.old.tap ≡ [] }
     ensures untold { OnErr result (told.new.items ≡ []) }
     ensures few { vec_len told.new ≤ 3 }
-    ensures acted { (cfg : Cfg) (w : definition.World) (gone : Gone) (before : List AtEnd) →
-        FitsSide cfg at taps (record { near = near.old; line = line.old; transcript = before }) w gone →
-        HasActed cfg at taps (record { near = near.new; line = line.new; transcript = before }) (entered at (map plain_entry told.new.items)) result w gone (fired (settings_from at cfg) w) }
+    ensures acted { (cfg : Cfg) (w : definition.World) → FitsSide cfg at near.old line.old w →
+        HasActed cfg at near.new line.new (entered at (map plain_entry told.new.items)) result w
+        (fired (settings_from at cfg) w) }
 {
     if awaits_frames(at, near, line) {
         return Err(WorldError::OnLine);
@@ -233,7 +194,7 @@ fn fire(
     make_room(line)?;
     match near.t1_into(frames, told) {
         Ok(()) => {
-            put(at, near, line, taps, frames);
+            put(at, line, frames);
             Ok(())
         }
         Err(error) => Err(WorldError::of_station(error)),
@@ -242,7 +203,7 @@ fn fire(
 
 // Whether UA is awaited, and can still come by frames that are on the line.
 fn awaits_frames(at: Role, near: &Station, line: &Line) -> bool
-    ensures { (cfg : Cfg) (w : definition.World) (taps : Bool) (transcript : List AtEnd) (gone : Gone) → FitsSide cfg at taps (record { near = near.now; line = line.now; transcript = transcript }) w gone →
+    ensures { (cfg : Cfg) (w : definition.World) → FitsSide cfg at near.now line.now w →
         result ≡ (awaits_ua w.near.link.phase && is_on_line (settings_from at cfg) w) }
 {
     near.awaits_ua() && is_on_line(at, line)
@@ -253,23 +214,21 @@ pub fn connect(
     at: Role,
     near: &mut Station,
     line: &mut Line,
-    taps: bool,
     told: &mut Vec<Entry>,
     frames: &mut Vec<Vec<u8>>,
 ) -> Result<(), WorldError>
     requires empty { told.old.items ≡ [] }
     requires unsent { frames.old.items ≡ [] }
-    requires untapped { taps ≡ false → line.old.tap ≡ [] }
     ensures untold { OnErr result (told.new.items ≡ []) }
     ensures few { vec_len told.new ≤ 3 }
-    ensures acted { (cfg : Cfg) (w : definition.World) (gone : Gone) (before : List AtEnd) →
-        FitsSide cfg at taps (record { near = near.old; line = line.old; transcript = before }) w gone →
-        HasActed cfg at taps (record { near = near.new; line = line.new; transcript = before }) (entered at (map plain_entry told.new.items)) result w gone (of_station (settings_from at cfg) w (connects (settings_from at cfg) w.near)) }
+    ensures acted { (cfg : Cfg) (w : definition.World) → FitsSide cfg at near.old line.old w →
+        HasActed cfg at near.new line.new (entered at (map plain_entry told.new.items)) result w
+        (of_station (settings_from at cfg) w (connects (settings_from at cfg) w.near)) }
 {
     make_room(line)?;
     match near.connect_into(frames, told) {
         Ok(()) => {
-            put(at, near, line, taps, frames);
+            put(at, line, frames);
             Ok(())
         }
         Err(error) => Err(WorldError::of_station(error)),

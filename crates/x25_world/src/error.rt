@@ -58,10 +58,3 @@ impl WorldError {
         }
     }
 }
-
-/// Why a list of events stops: the first of them that is refused, counted from 0, and its error.
-#[derive(Clone, Copy, Debug, PartialEq, Eq)]
-pub struct WorldRefused {
-    pub index: usize,
-    pub error: WorldError,
-}

@@ -1,11 +1,11 @@
 //! Healing: once the line is good for a moment, what the links were handed down arrives.
-ghost use Rattle.std.specs.Prelude.{◌≡◌, ◌≢◌, ◌↔◌, ◌+◌, ◌*◌, ◌<◌, ◌≤◌, length, option_map, is_none, None, IfOk, IfErr, OnOk, IsTrue};
+ghost use Rattle.std.specs.Prelude.{List, ◌≡◌, ◌≢◌, ◌↔◌, ◌+◌, ◌*◌, ◌<◌, ◌≤◌, length, option_map, is_none, None, IfOk, IfErr, OnOk, IsTrue};
 ghost use Rattle.x25_bits.specs.Role.{end_of};
 ghost use Rattle.x25_station.specs.declared.config.Cfg.{Cfg};
 ghost use Rattle.x25_world.specs.World as definition;
-ghost use Rattle.x25_world.specs.World.{event_of};
-ghost use Rattle.x25_world.specs.code.FitsWorld.{Gone, FitsWorld};
-ghost use Rattle.x25_world.specs.code.FitsHealing.{GoesBy, GoesPartly, HoldsHealed};
+ghost use Rattle.x25_world.specs.World.{AtEnd, event_of};
+ghost use Rattle.x25_world.specs.code.FitsWorld.{FitsWorld};
+ghost use Rattle.x25_world.specs.code.FitsHealing.{Tells, telling, GoesBy, GoesPartly, HoldsHealed};
 ghost use Rattle.x25_world.specs.laws.SessionClaims.{Throughout, SessionsKeepOrder};
 ghost use Rattle.x25_world.specs.rows.WorldRows.{MoreArrives};
 ghost use Rattle.x25_world.specs.Healing.{RestShows, HealsWhereNonePut, HealsWithPuts, DrainsWhereNonePut, HealsFrom, ArrivesByHealing, HealingBringsAll, next_end, arrivals, most_deliveries, deliveries, if_accepted, both_tried, pull_round, most_rounds, pull_rounds, healing, received_in};
@@ -13,6 +13,7 @@ ghost use Rattle.x25_world.specs.Healing.{RestShows, HealsWhereNonePut, HealsWit
 use crate::error::WorldError;
 use crate::event::Event;
 use crate::law::{laws_below, messages_wait_for_users, stations_meet_in_sessions};
+use crate::told::Entered;
 use crate::world::World;
 use x25_bits::Role;
 use x25_line::{Direction, drains_end, one_busy_heals, puts_heal, rest_shows};
@@ -72,14 +73,14 @@ pub fn healing_brings_all()
 impl World {
     /// The line is good for a moment: what is on it arrives, then timer T1 runs out at each end where it runs. What is on the line arrives, and then each
     /// end pulls what waits in its circuits, again and again, as long as that puts frames on the line: at most 4,294,967,295 times, and each time at most
-    /// as many frames arrive. It answers how many frames arrived.
+    /// as many frames arrive. It answers how many frames arrived. What it tells comes into the list, in place of what was there.
     ///
-    /// Refused with 70 alone. What happened before stands.
-    pub fn heal(&mut self) -> Result<u64, WorldError>
-        ensures goes { (cfg : Cfg) (w : definition.World) (gone : Gone) → FitsWorld cfg self.old w gone → OnOk result (GoesBy cfg (healing cfg w) w self.new gone) }
-        ensures counted { (cfg : Cfg) (w : definition.World) (gone : Gone) → FitsWorld cfg self.old w gone → IfOk result (λ count. count ≡ received_in (healing cfg w)) }
+    /// Refused with 70 alone. What happened before stands, and is told.
+    pub fn heal(&mut self, told: &mut Vec<Entered>) -> Result<u64, WorldError>
+        ensures goes { (cfg : Cfg) (w : definition.World) → FitsWorld cfg self.old w → OnOk result (GoesBy cfg (healing cfg w) w (telling self.new told.new.items) w.transcript) }
+        ensures counted { (cfg : Cfg) (w : definition.World) → FitsWorld cfg self.old w → IfOk result (λ count. count ≡ received_in (healing cfg w)) }
         ensures drained { IfOk result (λ count. count + 1 < most_rounds → next_end self.new.to_dce self.new.to_dte ≡ None) }
-        ensures stopped { (cfg : Cfg) (w : definition.World) (gone : Gone) → FitsWorld cfg self.old w gone → IfErr result (GoesPartly cfg (healing cfg w) w self.new gone) }
+        ensures stopped { (cfg : Cfg) (w : definition.World) → FitsWorld cfg self.old w → IfErr result (GoesPartly cfg (healing cfg w) w (telling self.new told.new.items) w.transcript) }
 
         // After each run that leads to the world before, this is proved of the one that is left.
         ensures sessions { HoldsHealed (λ c w u. SessionsKeepOrder c u) self.old self.new result }
@@ -90,34 +91,35 @@ impl World {
         stations_meet_in_sessions();
         stations_heal();
         healing_brings_all();
-        self.go_on()
+        told.clear();
+        self.go_on(told)
     }
 
     // The schedule of `heal`, without the laws of runs.
-    fn go_on(&mut self) -> Result<u64, WorldError>
-        ensures goes { (cfg : Cfg) (w : definition.World) (gone : Gone) → FitsWorld cfg self.old w gone → OnOk result (GoesBy cfg (healing cfg w) w self.new gone) }
-        ensures counted { (cfg : Cfg) (w : definition.World) (gone : Gone) → FitsWorld cfg self.old w gone → IfOk result (λ count. count ≡ received_in (healing cfg w)) }
+    fn go_on(&mut self, told: &mut Vec<Entered>) -> Result<u64, WorldError>
+        ensures goes { (cfg : Cfg) (w : definition.World) (before : List AtEnd) → Tells cfg (telling self.old told.old.items) w before → OnOk result (GoesBy cfg (healing cfg w) w (telling self.new told.new.items) before) }
+        ensures counted { (cfg : Cfg) (w : definition.World) (before : List AtEnd) → Tells cfg (telling self.old told.old.items) w before → IfOk result (λ count. count ≡ received_in (healing cfg w)) }
         ensures drained { IfOk result (λ count. count + 1 < most_rounds → next_end self.new.to_dce self.new.to_dte ≡ None) }
-        ensures stopped { (cfg : Cfg) (w : definition.World) (gone : Gone) → FitsWorld cfg self.old w gone → IfErr result (GoesPartly cfg (healing cfg w) w self.new gone) }
+        ensures stopped { (cfg : Cfg) (w : definition.World) (before : List AtEnd) → Tells cfg (telling self.old told.old.items) w before → IfErr result (GoesPartly cfg (healing cfg w) w (telling self.new told.new.items) before) }
     {
-        let before = self.deliver_all()?;
-        self.attempt_both(Event::T1(Role::Dte), Event::T1(Role::Dce))?;
-        let behind = self.pull_all()?;
+        let before = self.deliver_all(told)?;
+        self.attempt_both(Event::T1(Role::Dte), Event::T1(Role::Dce), told)?;
+        let behind = self.pull_all(told)?;
         Ok(u64::from(before) + behind)
     }
 
     // What is on the line arrives, and then each end pulls what waits in its circuits, as long as that puts frames on the line. It answers how many frames
     // arrived.
-    fn pull_all(&mut self) -> Result<u64, WorldError>
-        ensures goes { (cfg : Cfg) (w : definition.World) (gone : Gone) → FitsWorld cfg self.old w gone → OnOk result (GoesBy cfg (pull_rounds cfg most_rounds w) w self.new gone) }
-        ensures counted { (cfg : Cfg) (w : definition.World) (gone : Gone) → FitsWorld cfg self.old w gone → IfOk result (λ count. count ≡ received_in (pull_rounds cfg most_rounds w)) }
+    fn pull_all(&mut self, told: &mut Vec<Entered>) -> Result<u64, WorldError>
+        ensures goes { (cfg : Cfg) (w : definition.World) (before : List AtEnd) → Tells cfg (telling self.old told.old.items) w before → OnOk result (GoesBy cfg (pull_rounds cfg most_rounds w) w (telling self.new told.new.items) before) }
+        ensures counted { (cfg : Cfg) (w : definition.World) (before : List AtEnd) → Tells cfg (telling self.old told.old.items) w before → IfOk result (λ count. count ≡ received_in (pull_rounds cfg most_rounds w)) }
         ensures drained { IfOk result (λ count. count + 1 < most_rounds → next_end self.new.to_dce self.new.to_dte ≡ None) }
-        ensures stopped { (cfg : Cfg) (w : definition.World) (gone : Gone) → FitsWorld cfg self.old w gone → IfErr result (GoesPartly cfg (pull_rounds cfg most_rounds w) w self.new gone) }
+        ensures stopped { (cfg : Cfg) (w : definition.World) (before : List AtEnd) → Tells cfg (telling self.old told.old.items) w before → IfErr result (GoesPartly cfg (pull_rounds cfg most_rounds w) w (telling self.new told.new.items) before) }
         ensures bounded { IfOk result (λ count. count ≤ most_rounds * most_deliveries) }
     {
         let mut count = 0u64;
         for _ in 0..MOST_ROUNDS {
-            let more = self.pull_round()?;
+            let more = self.pull_round(told)?;
             count += u64::from(more);
             if self.is_line_empty() {
                 return Ok(count);
@@ -127,32 +129,33 @@ impl World {
     }
 
     // What is on the line arrives, and then each end pulls what waits in its circuits. It answers how many frames arrived.
-    fn pull_round(&mut self) -> Result<u32, WorldError>
-        ensures goes { (cfg : Cfg) (w : definition.World) (gone : Gone) → FitsWorld cfg self.old w gone → OnOk result (GoesBy cfg (pull_round cfg w) w self.new gone) }
-        ensures counted { (cfg : Cfg) (w : definition.World) (gone : Gone) → FitsWorld cfg self.old w gone → IfOk result (λ count. count ≡ received_in (pull_round cfg w)) }
+    fn pull_round(&mut self, told: &mut Vec<Entered>) -> Result<u32, WorldError>
+        ensures goes { (cfg : Cfg) (w : definition.World) (before : List AtEnd) → Tells cfg (telling self.old told.old.items) w before → OnOk result (GoesBy cfg (pull_round cfg w) w (telling self.new told.new.items) before) }
+        ensures counted { (cfg : Cfg) (w : definition.World) (before : List AtEnd) → Tells cfg (telling self.old told.old.items) w before → IfOk result (λ count. count ≡ received_in (pull_round cfg w)) }
         ensures none { IfOk result (λ count. count ≡ 0 → next_end self.old.to_dce self.old.to_dte ≡ None) }
-        ensures stopped { (cfg : Cfg) (w : definition.World) (gone : Gone) → FitsWorld cfg self.old w gone → IfErr result (GoesPartly cfg (pull_round cfg w) w self.new gone) }
+        ensures stopped { (cfg : Cfg) (w : definition.World) (before : List AtEnd) → Tells cfg (telling self.old told.old.items) w before → IfErr result (GoesPartly cfg (pull_round cfg w) w (telling self.new told.new.items) before) }
     {
-        let count = self.deliver_all()?;
+        let count = self.deliver_all(told)?;
         self.attempt_both(
             Event::Command(Role::Dte, Cmd::Pull),
             Event::Command(Role::Dce, Cmd::Pull),
+            told,
         )?;
         Ok(count)
     }
 
     // What is on the line arrives, to the DCE first. It answers how many frames.
-    fn deliver_all(&mut self) -> Result<u32, WorldError>
-        ensures goes { (cfg : Cfg) (w : definition.World) (gone : Gone) → FitsWorld cfg self.old w gone → OnOk result (GoesBy cfg (deliveries cfg w) w self.new gone) }
-        ensures counted { (cfg : Cfg) (w : definition.World) (gone : Gone) → FitsWorld cfg self.old w gone → IfOk result (λ count. count ≡ length (arrivals cfg most_deliveries w)) }
+    fn deliver_all(&mut self, told: &mut Vec<Entered>) -> Result<u32, WorldError>
+        ensures goes { (cfg : Cfg) (w : definition.World) (before : List AtEnd) → Tells cfg (telling self.old told.old.items) w before → OnOk result (GoesBy cfg (deliveries cfg w) w (telling self.new told.new.items) before) }
+        ensures counted { (cfg : Cfg) (w : definition.World) (before : List AtEnd) → Tells cfg (telling self.old told.old.items) w before → IfOk result (λ count. count ≡ length (arrivals cfg most_deliveries w)) }
         ensures none { IfOk result (λ count. count ≡ 0 → next_end self.old.to_dce self.old.to_dte ≡ None) }
-        ensures stopped { (cfg : Cfg) (w : definition.World) (gone : Gone) → FitsWorld cfg self.old w gone → IfErr result (GoesPartly cfg (deliveries cfg w) w self.new gone) }
+        ensures stopped { (cfg : Cfg) (w : definition.World) (before : List AtEnd) → Tells cfg (telling self.old told.old.items) w before → IfErr result (GoesPartly cfg (deliveries cfg w) w (telling self.new told.new.items) before) }
     {
         for count in 0..MOST_DELIVERIES {
             let Some(direction) = self.next_direction() else {
                 return Ok(count);
             };
-            self.apply(Event::Deliver(direction))?;
+            self.tell(Event::Deliver(direction), told)?;
         }
         Ok(MOST_DELIVERIES)
     }
@@ -178,23 +181,28 @@ impl World {
     }
 
     // An event happens, where it isn't refused.
-    fn attempt(&mut self, event: Event) -> Result<(), WorldError>
-        ensures goes { (cfg : Cfg) (w : definition.World) (gone : Gone) → FitsWorld cfg self.old w gone → OnOk result (GoesBy cfg (if_accepted cfg (event_of event.entry) w) w self.new gone) }
-        ensures stopped { (cfg : Cfg) (w : definition.World) (gone : Gone) → FitsWorld cfg self.old w gone → IfErr result (GoesPartly cfg (if_accepted cfg (event_of event.entry) w) w self.new gone) }
+    fn attempt(&mut self, event: Event, told: &mut Vec<Entered>) -> Result<(), WorldError>
+        ensures goes { (cfg : Cfg) (w : definition.World) (before : List AtEnd) → Tells cfg (telling self.old told.old.items) w before → OnOk result (GoesBy cfg (if_accepted cfg (event_of event.entry) w) w (telling self.new told.new.items) before) }
+        ensures stopped { (cfg : Cfg) (w : definition.World) (before : List AtEnd) → Tells cfg (telling self.old told.old.items) w before → IfErr result (GoesPartly cfg (if_accepted cfg (event_of event.entry) w) w (telling self.new told.new.items) before) }
     {
-        if let Err(error) = self.apply(event) {
+        if let Err(error) = self.tell(event, told) {
             return unless_memory(error);
         }
         Ok(())
     }
 
     // Two events happen, each where it isn't refused.
-    fn attempt_both(&mut self, first: Event, second: Event) -> Result<(), WorldError>
-        ensures goes { (cfg : Cfg) (w : definition.World) (gone : Gone) → FitsWorld cfg self.old w gone → OnOk result (GoesBy cfg (both_tried cfg (event_of first.entry) (event_of second.entry) w) w self.new gone) }
-        ensures stopped { (cfg : Cfg) (w : definition.World) (gone : Gone) → FitsWorld cfg self.old w gone → IfErr result (GoesPartly cfg (both_tried cfg (event_of first.entry) (event_of second.entry) w) w self.new gone) }
+    fn attempt_both(
+        &mut self,
+        first: Event,
+        second: Event,
+        told: &mut Vec<Entered>,
+    ) -> Result<(), WorldError>
+        ensures goes { (cfg : Cfg) (w : definition.World) (before : List AtEnd) → Tells cfg (telling self.old told.old.items) w before → OnOk result (GoesBy cfg (both_tried cfg (event_of first.entry) (event_of second.entry) w) w (telling self.new told.new.items) before) }
+        ensures stopped { (cfg : Cfg) (w : definition.World) (before : List AtEnd) → Tells cfg (telling self.old told.old.items) w before → IfErr result (GoesPartly cfg (both_tried cfg (event_of first.entry) (event_of second.entry) w) w (telling self.new told.new.items) before) }
     {
-        self.attempt(first)?;
-        self.attempt(second)
+        self.attempt(first, told)?;
+        self.attempt(second, told)
     }
 }
 

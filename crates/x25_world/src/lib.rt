@@ -8,19 +8,18 @@ mod event;
 mod healing;
 mod law;
 mod line;
-mod on_line;
 mod set_up;
 mod told;
 mod world;
 
-pub use error::{WorldError, WorldRefused};
+pub use error::WorldError;
 pub use event::{Event, SABM_ARRIVES, UA_ARRIVES};
 pub use healing::{healing_brings_all, stations_heal};
 pub use law::{
     hands_down_octets, messages_wait_for_users, stations_meet_in_sessions, two_stations_keep_order,
     two_stations_move,
 };
-pub use told::{Entered, Tapped};
+pub use told::Entered;
 pub use world::World;
 pub use x25_bits::{Bits, Role};
 pub use x25_line::Direction;

@@ -1,10 +1,11 @@
 //! Bits that come in the place of those between the flags of a frame.
 
-use crate::calls::{apply, damage_bits, establish, number_of};
+use crate::calls::{damage_bits, establish, number_of, step};
 use crate::play::USUAL;
 use std::alloc::Global;
 use std::process::Abort;
 use std::test::Fail;
+use x25_station::Entry;
 use x25_world::Direction::ToDce;
 use x25_world::{Bits, Event, World};
 
@@ -54,17 +55,16 @@ fn plays_row(
 }
 
 // A delivery to the DCE tells nothing.
-fn tells_nothing(rt: &impl Abort, world: &mut World) {
-    let told = world.transcript().len();
-    assert_eq!(rt; apply(world, Event::Deliver(ToDce)), Ok(()));
-    assert_eq!(rt; world.transcript().len(), told);
+fn tells_nothing(rt: &impl Abort, world: &mut World, told: &mut Vec<Entry>) {
+    assert_eq!(rt; step(world, Event::Deliver(ToDce), told), Ok(()));
+    assert_eq!(rt; told.len(), 0);
 }
 
 fn plays(rt: &impl Abort, alloc: Global, world: &mut World) -> Result<(), Fail> {
     for row in &ROWS {
         plays_row(rt, alloc, world, row)?;
     }
-    tells_nothing(rt, world);
+    tells_nothing(rt, world, &mut Vec::new(alloc));
     Ok(())
 }
 

@@ -2,7 +2,7 @@
 
 use std::alloc::Global;
 use x25_station::{Cfg, Entry};
-use x25_world::{Bits, Direction, Event, Role, World, WorldError, WorldRefused};
+use x25_world::{Bits, Direction, Entered, Event, Role, World, WorldError};
 
 /// The number of a refusal, that of the station where it refuses.
 pub fn number_of(error: WorldError) -> u8 {
@@ -35,10 +35,6 @@ pub fn establish(alloc: Global, cfg: Cfg) -> Result<Box<World>, WorldError> {
     boxed(alloc, World::establish(alloc, cfg)?)
 }
 
-pub fn apply(world: &mut World, event: Event) -> Result<(), WorldError> {
-    world.apply(event)
-}
-
 /// Why a message of so many octets would be refused, as far as that is known before.
 pub fn message_refusal(world: &World, at: Role, channel: u16, count: usize) -> Option<WorldError> {
     world.message_refusal(at, channel, count)
@@ -54,10 +50,6 @@ pub fn give_back(world: &mut World, at: Role, told: &mut Vec<Entry>) {
     world.give_back(at, told);
 }
 
-pub fn run(world: &mut World, events: &[Event]) -> Result<(), WorldRefused> {
-    world.run(events)
-}
-
 pub fn damage_bits(
     world: &mut World,
     direction: Direction,
@@ -67,9 +59,9 @@ pub fn damage_bits(
     world.damage_bits(direction, place, bits)
 }
 
-/// How many frames arrived.
-pub fn heal(world: &mut World) -> Result<u64, WorldError> {
-    world.heal()
+/// How many frames arrived. What is told comes into the list.
+pub fn heal(world: &mut World, told: &mut Vec<Entered>) -> Result<u64, WorldError> {
+    world.heal(told)
 }
 
 /// How many frames are on the line, those to the DCE first.

@@ -10,7 +10,7 @@ use x25_station::{Cfg, Cmd};
 use x25_world::Direction::{ToDce, ToDte};
 use x25_world::Event::{Command, Deliver, Lose, T1};
 use x25_world::Role::{Dce, Dte};
-use x25_world::{Event, World, WorldError};
+use x25_world::{Entered, Event, World, WorldError};
 
 const WINDOW_OF_ONE: Cfg = Cfg {
     k: 1,
@@ -225,7 +225,7 @@ fn tells(rt: &impl Abort, play: &mut Play, opening: &[Act], row: &Row) -> Result
 fn heals(rt: &impl Abort, alloc: Global, opening: &[Act], row: &Row) -> Result<(), Fail> {
     let (_, cfg, _, _) = *row;
     let world = establish(alloc, cfg)?;
-    tells(rt, &mut Play::begin(alloc, world, false), opening, row)
+    tells(rt, &mut Play::begin(alloc, world), opening, row)
 }
 
 #[test]
@@ -240,16 +240,17 @@ fn what_was_lost_arrives(rt: HostRuntime) -> Result<(), Fail> {
 }
 
 // Of a world just set up two RESTART arrive, and what acknowledges them; then nothing is left.
-fn counts(rt: &impl Abort, world: &mut World) -> Result<(), WorldError> {
+fn counts(rt: &impl Abort, world: &mut World, told: &mut Vec<Entered>) -> Result<(), WorldError> {
     for count in [4, 0] {
-        assert_eq!(rt; heal(world)?, count);
+        assert_eq!(rt; heal(world, told)?, count);
     }
+    assert_eq!(rt; told.len(), 0);
     Ok(())
 }
 
 #[test]
 fn arrivals_are_counted(rt: HostRuntime) -> Result<(), Fail> {
     let mut world = establish(rt.alloc(), USUAL)?;
-    counts(&rt, &mut world)?;
+    counts(&rt, &mut world, &mut Vec::new(rt.alloc()))?;
     Ok(())
 }

@@ -10,6 +10,8 @@ mod handed;
 #[cfg(test)]
 mod healing;
 #[cfg(test)]
+mod kept;
+#[cfg(test)]
 mod lists;
 #[cfg(test)]
 mod play;
@@ -19,5 +21,3 @@ mod refusals;
 mod rows;
 #[cfg(test)]
 mod set_ups;
-#[cfg(test)]
-mod steps;

@@ -1,7 +1,8 @@
 //! Many lists of events: what is handed up is what was handed down.
 
-use crate::calls::{apply, establish, heal, number_of, on_line};
+use crate::calls::{establish, number_of, on_line};
 use crate::handed::{Kind, Place, across, count, is_lawful};
+use crate::kept::Kept;
 use std::alloc::Global;
 use std::process::Abort;
 use std::test::Fail;
@@ -9,7 +10,7 @@ use x25_layer::Params;
 use x25_station::{Cfg, Cmd, Entry};
 use x25_world::Direction::{ToDce, ToDte};
 use x25_world::Role::{Dce, Dte};
-use x25_world::{Direction, Event, Role, World, WorldError};
+use x25_world::{Direction, Entered, Event, Role, World, WorldError};
 
 /// How many lists there are, and how many events each has before it is settled.
 const LISTS: usize = 1000;
@@ -182,8 +183,8 @@ fn event(numbers: &mut Numbers, channels: u8) -> (usize, Event<'static>) {
 }
 
 // Whether it was accepted. Memory is never wanted.
-fn is_accepted(rt: &impl Abort, world: &mut World, event: Event) -> bool {
-    match apply(world, event) {
+fn is_accepted(rt: &impl Abort, kept: &mut Kept, event: Event) -> bool {
+    match kept.apply(event) {
         Ok(()) => true,
         Err(error) => {
             assert!(rt; number_of(error) != 70, "{event:?}");
@@ -193,16 +194,22 @@ fn is_accepted(rt: &impl Abort, world: &mut World, event: Event) -> bool {
 }
 
 // The line is good for a moment, three times.
-fn settle(rt: &impl Abort, world: &mut World) -> Result<(), WorldError> {
+fn settle(rt: &impl Abort, kept: &mut Kept) -> Result<(), WorldError> {
     for _ in 0..3u8 {
-        heal(world)?;
-        assert_eq!(rt; on_line(world), (0, 0));
+        kept.heal()?;
+        assert_eq!(rt; on_line(&kept.world), (0, 0));
     }
     Ok(())
 }
 
 // In how many stretches that are open at both ends, with the end that sends idle, all has come.
-fn all_came(rt: &impl Abort, world: &World, channels: u8, list: usize) -> usize {
+fn all_came(
+    rt: &impl Abort,
+    world: &World,
+    transcript: &[Entered],
+    channels: u8,
+    list: usize,
+) -> usize {
     let mut open = 0usize;
     for role in [Dte, Dce] {
         if !world.station(role).idle() {
@@ -225,12 +232,8 @@ fn all_came(rt: &impl Abort, world: &World, channels: u8, list: usize) -> usize 
                     is_up: false,
                 };
                 let up = across(down);
-                let sent = count(world.transcript(), down);
-                assert_eq!(rt;
-                    count(world.transcript(), up),
-                    sent,
-                    "list {list}, {down:?}"
-                );
+                let sent = count(transcript, down);
+                assert_eq!(rt; count(transcript, up), sent, "list {list}, {down:?}");
             }
         }
     }
@@ -246,14 +249,13 @@ struct Tally {
 }
 
 // Whether an end went up again, so that the names of stretches began anew.
-fn is_set_up_anew(world: &World) -> bool {
-    let mut ups = 0usize;
-    for entered in world.transcript() {
+fn is_set_up_anew(transcript: &[Entered]) -> bool {
+    for entered in transcript {
         if matches!(entered.entry, Entry::LinkUp) {
-            ups = ups.saturating_add(1);
+            return true;
         }
     }
-    ups > 2
+    false
 }
 
 impl Tally {
@@ -267,41 +269,41 @@ impl Tally {
 // Plays the events of a list, up to the one by which the link is set up anew. It answers whether there is one.
 fn play_events(
     rt: &impl Abort,
-    world: &mut World,
+    kept: &mut Kept,
     numbers: &mut Numbers,
     channels: u8,
     list: usize,
     tally: &mut Tally,
 ) -> bool {
     for _ in 0..EVENTS {
-        let told = world.transcript().len();
+        let told = kept.transcript.len();
         let (kind, event) = event(numbers, channels);
-        if is_accepted(rt, world, event) {
+        if is_accepted(rt, kept, event) {
             tally.accepts(kind);
         }
-        if is_set_up_anew(world) {
-            is_lawful(rt, world.transcript().get(..told).unwrap_or(&[]), list);
+        if is_set_up_anew(&kept.transcript) {
+            is_lawful(rt, kept.transcript.get(..told).unwrap_or(&[]), list);
             return true;
         }
     }
-    is_lawful(rt, world.transcript(), list);
+    is_lawful(rt, &kept.transcript, list);
     false
 }
 
 // Settles a world in which a list was played, and answers whether the link is set up anew by that.
 fn play_end(
     rt: &impl Abort,
-    world: &mut World,
+    kept: &mut Kept,
     channels: u8,
     list: usize,
     tally: &mut Tally,
 ) -> Result<bool, WorldError> {
-    settle(rt, world)?;
-    if is_set_up_anew(world) {
+    settle(rt, kept)?;
+    if is_set_up_anew(&kept.transcript) {
         return Ok(true);
     }
-    is_lawful(rt, world.transcript(), list);
-    let open = all_came(rt, world, channels, list);
+    is_lawful(rt, &kept.transcript, list);
+    let open = all_came(rt, &kept.world, &kept.transcript, channels, list);
     tally.open = tally.open.saturating_add(open);
     Ok(false)
 }
@@ -309,14 +311,14 @@ fn play_end(
 // Plays a list of events at a world whose link was just set up.
 fn play(
     rt: &impl Abort,
-    world: &mut World,
+    kept: &mut Kept,
     numbers: &mut Numbers,
     channels: u8,
     list: usize,
     tally: &mut Tally,
 ) -> Result<(), WorldError> {
-    if play_events(rt, world, numbers, channels, list, tally)
-        || play_end(rt, world, channels, list, tally)?
+    if play_events(rt, kept, numbers, channels, list, tally)
+        || play_end(rt, kept, channels, list, tally)?
     {
         tally.anew = tally.anew.saturating_add(1);
     }
@@ -331,8 +333,8 @@ fn play_list(
 ) -> Result<(), WorldError> {
     let mut numbers = Numbers::of_list(list);
     let cfg = settings(&mut numbers);
-    let mut world = establish(alloc, cfg)?;
-    play(rt, &mut world, &mut numbers, cfg.channels, list, tally)
+    let mut kept = Kept::of(alloc, establish(alloc, cfg)?);
+    play(rt, &mut kept, &mut numbers, cfg.channels, list, tally)
 }
 
 #[test]

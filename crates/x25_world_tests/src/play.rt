@@ -1,13 +1,13 @@
 //! Events that are played at a world, and the text of its transcript.
 
-use crate::calls::{apply, heal, message_refusal, number_of, on_line, timer_runs};
+use crate::calls::{give_back, heal, message_refusal, number_of, on_line, step, timer_runs};
 use std::alloc::Global;
 use std::process::Abort;
 use std::str;
 use std::test::Fail;
-use x25_station::{Cfg, Cmd};
+use x25_station::{Cfg, Cmd, Entry};
 use x25_transcript::entry_line;
-use x25_world::{Direction, Event, Role, World};
+use x25_world::{Direction, Entered, Event, Role, SABM_ARRIVES, UA_ARRIVES, World};
 
 pub const USUAL: Cfg = Cfg {
     k: 7,
@@ -44,10 +44,10 @@ pub type Row = (&'static str, Cfg, &'static [Act], &'static str);
 #[derive(Drop)]
 pub struct Play {
     world: Box<World>,
+    told: Vec<Entry>,
+    healed: Vec<Entered>,
     text: Vec<u8>,
     alloc: Global,
-    told: usize,
-    lets_go: bool,
 }
 
 fn message(end: Role, channel: u16, user: &'static [u8]) -> Event<'static> {
@@ -56,32 +56,30 @@ fn message(end: Role, channel: u16, user: &'static [u8]) -> Event<'static> {
 }
 
 impl Play {
-    /// What is played at this world. It lets go of what was told after each event, where `lets_go` says so.
-    pub fn begin(alloc: Global, world: Box<World>, lets_go: bool) -> Play {
+    /// What is played at this world.
+    pub fn begin(alloc: Global, world: Box<World>) -> Play {
         Play {
             world,
+            told: Vec::new(alloc),
+            healed: Vec::new(alloc),
             text: Vec::new(alloc),
             alloc,
-            told: 0,
-            lets_go,
         }
     }
 
-    // What was told up to now isn't shown any more.
-    fn pass(&mut self) {
-        if self.lets_go {
-            self.world.let_go();
+    fn write(&mut self, at: Role) -> Result<(), Fail> {
+        for entry in self.told.iter() {
+            let line = entry_line(self.alloc, at, entry)?;
+            self.text.extend_from_slice(line.as_slice())?;
         }
-        self.told = self.world.transcript().len();
+        Ok(())
     }
 
-    // Writes what was told since it was last called.
-    fn tell(&mut self) -> Result<(), Fail> {
-        for entered in self.world.transcript().iter().skip(self.told) {
+    fn write_healed(&mut self) -> Result<(), Fail> {
+        for entered in self.healed.iter() {
             let line = entry_line(self.alloc, entered.at, &entered.entry)?;
             self.text.extend_from_slice(line.as_slice())?;
         }
-        self.pass();
         Ok(())
     }
 
@@ -92,8 +90,9 @@ impl Play {
         Ok(())
     }
 
+    // What it tells is in the list, and nothing where it is refused.
     fn happen(&mut self, event: Event<'static>) -> Result<(), Fail> {
-        match apply(&mut self.world, event) {
+        match step(&mut self.world, event, &mut self.told) {
             Ok(()) => Ok(()),
             Err(error) => self.refuse(number_of(error)),
         }
@@ -101,7 +100,9 @@ impl Play {
 
     fn apply(&mut self, event: Event<'static>) -> Result<(), Fail> {
         self.happen(event)?;
-        self.tell()
+        self.write(event.at())?;
+        give_back(&mut self.world, event.at(), &mut self.told);
+        Ok(())
     }
 
     // A message of which it is known before that it is refused isn't handed down.
@@ -116,7 +117,6 @@ impl Play {
         for _ in 0..count {
             self.happen(event)?;
         }
-        self.pass();
         Ok(())
     }
 
@@ -140,12 +140,11 @@ impl Play {
     }
 
     fn heal(&mut self) -> Result<(), Fail> {
-        heal(&mut self.world)?;
-        self.tell()
+        heal(&mut self.world, &mut self.healed)?;
+        self.write_healed()
     }
 
     fn does(&mut self, acts: &[Act]) -> Result<(), Fail> {
-        self.tell()?;
         for act in acts {
             match *act {
                 Act::Do(event) => self.apply(event)?,
@@ -156,6 +155,12 @@ impl Play {
             }
         }
         Ok(())
+    }
+
+    /// SABM and UA arrive.
+    pub fn sets_up(&mut self) -> Result<(), Fail> {
+        self.apply(SABM_ARRIVES)?;
+        self.apply(UA_ARRIVES)
     }
 
     /// Plays these acts, whose lines aren't shown.
@@ -185,16 +190,4 @@ impl Play {
         let dce = timer_runs(&self.world, Role::Dce);
         (frames, dte, dce)
     }
-}
-
-/// What is played at this world, which has the row's settings, tells the row's lines. What was told is let go of after each event, where
-/// `lets_go` says so.
-pub fn play_row(
-    rt: &impl Abort,
-    alloc: Global,
-    world: Box<World>,
-    row: &Row,
-    lets_go: bool,
-) -> Result<(), Fail> {
-    Play::begin(alloc, world, lets_go).tells(rt, row)
 }

@@ -1,15 +1,15 @@
-//! Refusals: their numbers, settings, and where a list of events stops.
+//! Refusals: their numbers, settings, and which event of a list is refused.
 
-use crate::calls::{establish, number_of, run, start};
+use crate::calls::{establish, number_of, start, step};
 use crate::play::USUAL;
 use std::alloc::Global;
 use std::process::Abort;
 use std::test::Fail;
-use x25_station::{Cfg, Cmd, StationError};
+use x25_station::{Cfg, Cmd, Entry, StationError};
 use x25_world::Direction::{ToDce, ToDte};
 use x25_world::Event::{Command, Damage, Deliver, Lose, T1};
 use x25_world::Role::{Dce, Dte};
-use x25_world::{Event, World, WorldError, WorldRefused};
+use x25_world::{Event, World, WorldError};
 
 /// Each error, its number, and its message.
 static NUMBERS: [(WorldError, u8, &str); 7] = [
@@ -103,20 +103,32 @@ static LISTS: [List; 7] = [
     ),
 ];
 
+// The place and the number of the first refusal. Nothing is told then.
+fn refusal(
+    rt: &impl Abort,
+    world: &mut World,
+    events: &[Event<'static>],
+    told: &mut Vec<Entry>,
+) -> Option<(usize, u8)> {
+    for (index, event) in events.iter().enumerate() {
+        if let Err(error) = step(world, *event, told) {
+            assert_eq!(rt; told.len(), 0, "{event:?}");
+            return Some((index, number_of(error)));
+        }
+    }
+    None
+}
+
 // Each list goes on where the one before stopped.
-fn stops(rt: &impl Abort, world: &mut World) {
+fn stops(rt: &impl Abort, world: &mut World, told: &mut Vec<Entry>) {
     for &(events, wanted) in &LISTS {
-        let stopped = match run(world, events) {
-            Ok(()) => None,
-            Err(WorldRefused { index, error }) => Some((index, number_of(error))),
-        };
-        assert_eq!(rt; stopped, wanted, "{events:?}");
+        assert_eq!(rt; refusal(rt, world, events, told), wanted, "{events:?}");
     }
 }
 
 #[test]
-fn lists_stop_at_the_first_refusal(rt: HostRuntime) -> Result<(), Fail> {
+fn events_are_refused(rt: HostRuntime) -> Result<(), Fail> {
     let mut world = establish(rt.alloc(), USUAL)?;
-    stops(&rt, &mut world);
+    stops(&rt, &mut world, &mut Vec::new(rt.alloc()));
     Ok(())
 }

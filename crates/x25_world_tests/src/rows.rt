@@ -1,16 +1,16 @@
 //! Worked runs: what is played after set-up, and the lines that are told from the beginning.
 
-use crate::calls::{apply, connecting, establish, on_line, run};
+use crate::calls::{connecting, frame, step};
 use crate::play::Act::{Do, Drain, Send};
-use crate::play::{Act, ONE_TRY, Row, USUAL, play_row};
+use crate::play::{Act, ONE_TRY, Play, Row, USUAL};
 use std::alloc::Global;
 use std::process::Abort;
 use std::test::Fail;
-use x25_station::{Cfg, Cmd};
+use x25_station::{Cfg, Cmd, Entry};
 use x25_world::Direction::{ToDce, ToDte};
 use x25_world::Event::{Command, Damage, Deliver, Lose, T1};
 use x25_world::Role::{Dce, Dte};
-use x25_world::{Role, World, WorldError};
+use x25_world::{Direction, World};
 
 const THREE_CHANNELS: Cfg = Cfg {
     k: 7,
@@ -356,66 +356,62 @@ static ROWS: [Row; 14] = [
     ),
 ];
 
-fn play_up(rt: &impl Abort, alloc: Global, row: &Row, lets_go: bool) -> Result<(), Fail> {
+fn tells(rt: &impl Abort, play: &mut Play, row: &Row) -> Result<(), Fail> {
+    play.sets_up()?;
+    play.tells(rt, row)
+}
+
+fn play_up(rt: &impl Abort, alloc: Global, row: &Row) -> Result<(), Fail> {
     let (_, cfg, _, _) = *row;
-    play_row(rt, alloc, establish(alloc, cfg)?, row, lets_go)
+    let world = connecting(alloc, cfg)?;
+    tells(rt, &mut Play::begin(alloc, world), row)
 }
 
 #[test]
 fn runs_tell_their_lines(rt: HostRuntime) -> Result<(), Fail> {
-    for lets_go in [false, true] {
-        for row in &ROWS {
-            play_up(&rt, rt.alloc(), row, lets_go)?;
-        }
+    for row in &ROWS {
+        play_up(&rt, rt.alloc(), row)?;
     }
     Ok(())
 }
 
-/// The frames of set-up, each with the end that sends it.
-static SET_UP: [(Role, &[u8]); 4] = [
-    (Dte, b"\x01\x3f\xeb\xdf"),
-    (Dce, b"\x01\x73\x83\x57"),
-    (Dce, b"\x03\x00\x10\x00\xfb\x07\x00\xc4\x78"),
-    (Dte, b"\x01\x00\x10\x00\xfb\x00\x00\x77\x02"),
+/// The frames on the line to an end.
+type Frames = &'static [&'static [u8]];
+
+const SABM: &[u8] = b"\x01\x3f\xeb\xdf";
+
+const UA: &[u8] = b"\x01\x73\x83\x57";
+
+const DCE_RESTARTS: &[u8] = b"\x03\x00\x10\x00\xfb\x07\x00\xc4\x78";
+
+const DTE_RESTARTS: &[u8] = b"\x01\x00\x10\x00\xfb\x00\x00\x77\x02";
+
+/// What is on the line before each delivery of set-up and behind the last: frames to the DCE and to the DTE.
+static SET_UP: [(Frames, Frames, Direction); 3] = [
+    (&[SABM], &[], ToDce),
+    (&[], &[UA, DCE_RESTARTS], ToDte),
+    (&[DTE_RESTARTS], &[DCE_RESTARTS], ToDce),
 ];
 
-// The tap holds the frames of set-up from this one on, up to that one, which isn't one of them.
-fn taps(rt: &impl Abort, world: &World, first: usize, end: usize) {
-    assert_eq!(rt; world.tap().len(), end.saturating_sub(first));
-    for (tapped, &(from, octets)) in world.tap().iter().zip(SET_UP.iter().skip(first)) {
-        assert_eq!(rt; tapped.from, from);
-        assert_eq!(rt; tapped.octets.as_slice(), octets);
+fn has(rt: &impl Abort, world: &World, direction: Direction, frames: Frames) {
+    assert_eq!(rt; world.on_line(direction), frames.len());
+    for (place, octets) in frames.iter().enumerate() {
+        assert_eq!(rt; frame(world, direction, place), Some(*octets));
     }
+    assert_eq!(rt; frame(world, direction, frames.len()), None);
 }
 
-// Deliveries of set-up are tapped. Where what was told is let go of after each, the tap begins anew, and what is on the line stays there.
-fn taps_set_up(rt: &impl Abort, world: &mut World, lets_go: bool) {
-    let mut first = 0usize;
-    for (direction, count) in [(None, 1), (Some(ToDce), 3), (Some(ToDte), 4)] {
-        if let Some(direction) = direction {
-            assert_eq!(rt; apply(world, Deliver(direction)), Ok(()));
-        }
-        taps(rt, world, first, count);
-        if lets_go {
-            world.let_go();
-            taps(rt, world, 0, 0);
-            first = count;
-        }
+fn puts(rt: &impl Abort, world: &mut World, told: &mut Vec<Entry>) {
+    for &(to_dce, to_dte, next) in &SET_UP {
+        has(rt, world, ToDce, to_dce);
+        has(rt, world, ToDte, to_dte);
+        assert_eq!(rt; step(world, Deliver(next), told), Ok(()));
     }
-    assert_eq!(rt; on_line(world), (1, 1));
-    assert_eq!(rt; run(world, &[Deliver(ToDte), Deliver(ToDce)]), Ok(()));
-}
-
-fn set_up(rt: &impl Abort, alloc: Global, lets_go: bool) -> Result<(), WorldError> {
-    let mut world = connecting(alloc, USUAL)?;
-    taps_set_up(rt, &mut world, lets_go);
-    Ok(())
 }
 
 #[test]
-fn frames_are_tapped(rt: HostRuntime) -> Result<(), Fail> {
-    for lets_go in [false, true] {
-        set_up(&rt, rt.alloc(), lets_go)?;
-    }
+fn frames_of_set_up_are_on_the_line(rt: HostRuntime) -> Result<(), Fail> {
+    let mut world = connecting(rt.alloc(), USUAL)?;
+    puts(&rt, &mut world, &mut Vec::new(rt.alloc()));
     Ok(())
 }

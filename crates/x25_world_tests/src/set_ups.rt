@@ -2,7 +2,7 @@
 
 use crate::calls::start;
 use crate::play::Act::{Do, Drain};
-use crate::play::{Act, ONE_TRY, Row, USUAL, play_row};
+use crate::play::{Act, ONE_TRY, Play, Row, USUAL};
 use std::alloc::Global;
 use std::process::Abort;
 use std::test::Fail;
@@ -129,17 +129,16 @@ static ROWS: [Row; 9] = [
     ),
 ];
 
-fn play_down(rt: &impl Abort, alloc: Global, row: &Row, lets_go: bool) -> Result<(), Fail> {
+fn play_down(rt: &impl Abort, alloc: Global, row: &Row) -> Result<(), Fail> {
     let (_, cfg, _, _) = *row;
-    play_row(rt, alloc, start(alloc, cfg)?, row, lets_go)
+    let world = start(alloc, cfg)?;
+    Play::begin(alloc, world).tells(rt, row)
 }
 
 #[test]
 fn links_come_up_as_asked(rt: HostRuntime) -> Result<(), Fail> {
-    for lets_go in [false, true] {
-        for row in &ROWS {
-            play_down(&rt, rt.alloc(), row, lets_go)?;
-        }
+    for row in &ROWS {
+        play_down(&rt, rt.alloc(), row)?;
     }
     Ok(())
 }

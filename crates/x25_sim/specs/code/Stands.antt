@@ -2,7 +2,7 @@
 use Rattle.std.specs.Prelude.{◌≡◌, ℕ, Bool, true, false, ◌||◌, List, ◌++◌, Option, Result, MatchResult}
 use Rattle.x25_station.specs.declared.config.Cfg.{Cfg}
 use Rattle.x25_world.specs.World.{World, start, connected}
-use Rattle.x25_world.specs.code.FitsWorld.{FitsWorld, all_of, nothing_gone}
+use Rattle.x25_world.specs.code.FitsWorld.{FitsWorld}
 use Rattle.x25_io.specs.code.Written.{AppendsPrefix, Tells}
 use Rattle.x25_io.specs.declared.fault.Fault.{Fault}
 use Rattle.x25_sim.specs.Telling.{sayings_text, has_refusal}
@@ -11,7 +11,7 @@ use Rattle.x25_sim.specs.declared.stage.Stage.{Stage}
 
 -- The writer held `old` at first and holds `now`.
 pub record Stands (cfg : Cfg) (tap : Bool) (old now : Option (List ℕ)) (s : Stage) (w : World) (told : List ℕ) (refused : Bool) : Type 0 where
-  pub fits : FitsWorld cfg s.world w (all_of w)
+  pub fits : FitsWorld cfg s.world w
   pub asked : s.tap ≡ tap
   pub tells : Tells old now s.output told
   pub status : s.is_refused ≡ refused
@@ -23,7 +23,7 @@ opening cfg false = connected cfg
 
 -- it holds that world, and nothing was told
 unfoldable pub IsOpening : Cfg → Bool → Stage → Type 0
-IsOpening cfg down s = FitsWorld cfg s.world (opening cfg down) nothing_gone
+IsOpening cfg down s = FitsWorld cfg s.world (opening cfg down)
 
 -- of a turn: it is told, or at a fault a beginning is written
 abbrev pub Stood : Cfg → Bool → Option (List ℕ) → Option (List ℕ) → Stage → List ℕ → Bool → Result Unit Fault → Turn → Type 0

@@ -5,23 +5,20 @@ use Rattle.x25_bits.specs.declared.role.Role.TheVariants.{Dte, Dce}
 use Rattle.x25_bits.specs.declared.direction.Direction.{Direction}
 use Rattle.x25_bits.specs.declared.direction.Direction.TheVariants.{ToDce, ToDte}
 use Rattle.x25_station.specs.declared.station.Station.{Station}
-use Rattle.x25_world.specs.World.{OnTap, AtEnd}
 use Rattle.x25_world.specs.code.ShownLine.{ShownLine}
 
--- the stations, the octets on the line in each direction, front first, and of tap and transcript what wasn't let go of
+-- the stations, and the octets on the line in each direction, front first
 pub record ShownWorld : Type 0 where
   pub dte : Station
   pub dce : Station
   pub to_dce : List (List ℕ)
   pub to_dte : List (List ℕ)
-  pub tap : List OnTap
-  pub transcript : List AtEnd
 
 abbrev pub line_of : ShownWorld → Direction → List (List ℕ)
 line_of v ToDce = v.to_dce
 line_of v ToDte = v.to_dte
 
--- .. and from an end
+-- the line from an end
 abbrev pub line_from : ShownWorld → Role → List (List ℕ)
 line_from v Dte = v.to_dce
 line_from v Dce = v.to_dte
@@ -30,15 +27,6 @@ abbrev pub station_of : ShownWorld → Role → Station
 station_of v Dte = v.dte
 station_of v Dce = v.dce
 
--- an end, and what it shares with the other
-pub record ShownSide : Type 0 where
-  pub near : Station
-  pub line : ShownLine
-  pub transcript : List AtEnd
-
--- both ends, and what they share
-pub record ShownParts : Type 0 where
-  pub dte : Station
-  pub dce : Station
-  pub line : ShownLine
-  pub transcript : List AtEnd
+-- these stations, and this line between them
+abbrev pub shown_with : Station → Station → ShownLine → ShownWorld
+shown_with dte dce line = record { dte = dte; dce = dce; to_dce = line.to_dce; to_dte = line.to_dte }

@@ -2,28 +2,28 @@ use Rattle.x25_world.proofs.SideLemmas.{line_changes, line_stays, loses_or_not, 
 use Rattle.x25_world.proofs.acting.act.Goals as goal
 
 pub returns-in-Lose-clause-acted : goal.returns-in-Lose-clause-acted
-returns-in-Lose-clause-acted c = λ cfg w gone before side.
+returns-in-Lose-clause-acted c = λ cfg w side.
     let called = c.lose.ensures in
     rw (c.in-Lose.is, c.requires.empty) (record {
-      happened = line_changes cfg c.args.at c.args.taps _ _ _ before w gone c.lose.result _ side (called.happened w side.back) called.only;
+      happened = line_changes cfg c.args.at _ _ _ w c.lose.result _ side (called.happened w side.back) called.only;
       refused = loses_or_not c.lose.result _ (called.refused w side.back);
-      stays = line_stays cfg c.args.at c.args.taps _ _ _ before w gone c.lose.result side called.unchanged;
+      stays = line_stays cfg c.args.at _ _ _ w c.lose.result side called.unchanged;
     })
 
 pub returns-in-Damage-clause-acted : goal.returns-in-Damage-clause-acted
-returns-in-Damage-clause-acted c = λ cfg w gone before side.
+returns-in-Damage-clause-acted c = λ cfg w side.
     let called = c.damage.ensures in
     rw (c.in-Damage.is, c.requires.empty) (record {
-      happened = line_changes cfg c.args.at c.args.taps _ _ _ before w gone c.damage.result _ side (called.happened w side.back) called.only;
+      happened = line_changes cfg c.args.at _ _ _ w c.damage.result _ side (called.happened w side.back) called.only;
       refused = damages_or_not c.damage.result _ (called.refused w side.back);
-      stays = line_stays cfg c.args.at c.args.taps _ _ _ before w gone c.damage.result side called.unchanged;
+      stays = line_stays cfg c.args.at _ _ _ w c.damage.result side called.unchanged;
     })
 
 pub returns-in-Command-clause-acted : goal.returns-in-Command-clause-acted
-returns-in-Command-clause-acted c = λ cfg w gone before side. rw c.in-Command.is (c.command.ensures.acted cfg w gone before side)
+returns-in-Command-clause-acted c = λ cfg w side. rw c.in-Command.is (c.command.ensures.acted cfg w side)
 
 pub returns-in-Deliver-clause-acted : goal.returns-in-Deliver-clause-acted
-returns-in-Deliver-clause-acted c = λ cfg w gone before side. rw c.in-Deliver.is (c.deliver.ensures.acted cfg w gone before side)
+returns-in-Deliver-clause-acted c = λ cfg w side. rw c.in-Deliver.is (c.deliver.ensures.acted cfg w side)
 
 pub returns-in-T1-clause-acted : goal.returns-in-T1-clause-acted
-returns-in-T1-clause-acted c = λ cfg w gone before side. rw c.in-T1.is (c.fire.ensures.acted cfg w gone before side)
+returns-in-T1-clause-acted c = λ cfg w side. rw c.in-T1.is (c.fire.ensures.acted cfg w side)

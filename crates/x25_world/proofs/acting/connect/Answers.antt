@@ -3,23 +3,24 @@ use Rattle.x25_world.proofs.SideLemmas.{shared_of, has_happened, is_refusal, sid
 use Rattle.x25_world.proofs.acting.connect.Goals as goal
 
 pub returns-in-Ok-clause-acted : goal.returns-in-Ok-clause-acted
-returns-in-Ok-clause-acted c = λ cfg w gone before side.
+returns-in-Ok-clause-acted c = λ cfg w side.
     let fits = side.near in
-    let shared = rw (sym c.make_room.ensures.line) at (shared_of cfg c.args.at c.args.taps _ c.args.line.now before w gone c.make_room.new.line.room side) in
+    let shared = rw (sym c.make_room.ensures.line) at (shared_of cfg c.args.at _ c.args.line.now w c.make_room.new.line.room side) in
     let called = c.in-Ok.ensures.does in
     record {
-      happened = rw c.put.ensures.line
-          (has_happened cfg c.args.at c.args.taps c.connect_into.new.self c.put.new.near _ before w gone _ (record { frames = c.connect_into.new.frames; entries = c.connect_into.new.entries }) c.put.ensures.near shared (called.state _ _ fits) (called.frames _ _ fits) (called.entries _ _ fits) (called.refused _ _ fits));
+      happened = rw c.put.ensures
+          (has_happened cfg c.args.at c.connect_into.new.self _ w _ (record { frames = c.connect_into.new.frames; entries = c.connect_into.new.entries }) shared
+          (called.state _ _ fits) (called.frames _ _ fits) (called.entries _ _ fits) (called.refused _ _ fits));
       refused = tt;
       stays = tt;
     }
 
 pub returns-in-Err-clause-acted : goal.returns-in-Err-clause-acted
-returns-in-Err-clause-acted c = λ cfg w gone before side.
+returns-in-Err-clause-acted c = λ cfg w side.
     let fits = side.near in
     let called = c.in-Err.ensures.does in
     record {
       happened = tt;
       refused = rw c.of_station.ensures (is_refusal cfg c.args.at w _ c.in-Err.error (called.refused _ _ fits));
-      stays = rw c.make_room.ensures.line (side_stays cfg c.args.at c.args.taps _ _ c.args.line.now before w gone c.make_room.new.line.room side (called.stays _ _ fits));
+      stays = rw c.make_room.ensures.line (side_stays cfg c.args.at _ _ c.args.line.now w c.make_room.new.line.room side (called.stays _ _ fits));
     }

@@ -5,30 +5,31 @@ use Rattle.x25_world.proofs.SideLemmas.{shared_of, has_happened, is_refusal, sid
 use Rattle.x25_world.proofs.acting.fire.Goals as goal
 
 pub returns-then-awaits_frames-clause-acted : goal.returns-then-awaits_frames-clause-acted
-returns-then-awaits_frames-clause-acted c = λ cfg w gone before side.
-    let held = holds_back (settings_from c.args.at cfg) w (sym (c.awaits_frames.ensures cfg w _ _ gone side) ∙ c.if-awaits_frames.true) in
+returns-then-awaits_frames-clause-acted c = λ cfg w side.
+    let held = holds_back (settings_from c.args.at cfg) w (sym (c.awaits_frames.ensures cfg w side) ∙ c.if-awaits_frames.true) in
     record { happened = tt; refused = inl (ap refusal_of held); stays = side }
 
 pub returns-in-Ok-clause-acted : goal.returns-in-Ok-clause-acted
-returns-in-Ok-clause-acted c = λ cfg w gone before side.
-    let fires = lets_fire (settings_from c.args.at cfg) w (sym (c.awaits_frames.ensures cfg w _ _ gone side) ∙ c.if-awaits_frames.false) in
+returns-in-Ok-clause-acted c = λ cfg w side.
+    let fires = lets_fire (settings_from c.args.at cfg) w (sym (c.awaits_frames.ensures cfg w side) ∙ c.if-awaits_frames.false) in
     let fits = side.near in
-    let shared = rw (sym c.make_room.ensures.line) at (shared_of cfg c.args.at c.args.taps _ c.args.line.now before w gone c.make_room.new.line.room side) in
+    let shared = rw (sym c.make_room.ensures.line) at (shared_of cfg c.args.at _ c.args.line.now w c.make_room.new.line.room side) in
     let called = c.in-Ok.ensures.does in
     record {
-      happened = rw (fires, c.put.ensures.line)
-          (has_happened cfg c.args.at c.args.taps c.t1_into.new.self c.put.new.near _ before w gone _ (record { frames = c.t1_into.new.frames; entries = c.t1_into.new.entries }) c.put.ensures.near shared (called.state _ _ fits) (called.frames _ _ fits) (called.entries _ _ fits) (called.refused _ _ fits));
+      happened = rw (fires, c.put.ensures)
+          (has_happened cfg c.args.at c.t1_into.new.self _ w _ (record { frames = c.t1_into.new.frames; entries = c.t1_into.new.entries }) shared
+          (called.state _ _ fits) (called.frames _ _ fits) (called.entries _ _ fits) (called.refused _ _ fits));
       refused = tt;
       stays = tt;
     }
 
 pub returns-in-Err-clause-acted : goal.returns-in-Err-clause-acted
-returns-in-Err-clause-acted c = λ cfg w gone before side.
-    let fires = lets_fire (settings_from c.args.at cfg) w (sym (c.awaits_frames.ensures cfg w _ _ gone side) ∙ c.if-awaits_frames.false) in
+returns-in-Err-clause-acted c = λ cfg w side.
+    let fires = lets_fire (settings_from c.args.at cfg) w (sym (c.awaits_frames.ensures cfg w side) ∙ c.if-awaits_frames.false) in
     let fits = side.near in
     let called = c.in-Err.ensures.does in
     record {
       happened = tt;
       refused = rw (fires, c.of_station.ensures) (is_refusal cfg c.args.at w _ c.in-Err.error (called.refused _ _ fits));
-      stays = rw c.make_room.ensures.line (side_stays cfg c.args.at c.args.taps _ _ c.args.line.now before w gone c.make_room.new.line.room side (called.stays _ _ fits));
+      stays = rw c.make_room.ensures.line (side_stays cfg c.args.at _ _ c.args.line.now w c.make_room.new.line.room side (called.stays _ _ fits));
     }

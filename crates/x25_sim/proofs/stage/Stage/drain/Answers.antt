@@ -2,7 +2,6 @@ use Rattle.std.proofs.Common.{◌∙◌, ◌-◌, ◌+◌, sym, arith}
 use Rattle.std.proofs.lemmas.Result.{err_from_is_err_and}
 use Rattle.x25_bits.specs.Role.{end_of}
 use Rattle.x25_world.specs.World.{Receives}
-use Rattle.x25_world.specs.code.FitsWorld.{all_of}
 use Rattle.x25_sim.specs.Stage.{drained, event_turn}
 use Rattle.x25_sim.proofs.LeaveLemmas.{none_left, part_done, part_failed}
 use Rattle.x25_sim.proofs.DrainLemmas.{drained_all, drained_empty, drained_more, line_is}
@@ -12,7 +11,7 @@ pub returns-in_default-clause-turns : goal.returns-in_default-clause-turns
 returns-in_default-clause-turns g c = λ cfg tap old w told refused h.
     let l = c.loop.invariant.1 cfg tap old w told refused h in
     none_left cfg tap old _ old c.loop.self c.loop.self told refused _ _ l
-    (drained_empty cfg tap _ l.at (sym (line_is cfg c.loop.self.world l.at (all_of l.at) l.stands.fits) ∙ sym c.in_default.ensures))
+    (drained_empty cfg tap _ l.at (sym (line_is cfg c.loop.self.world l.at l.stands.fits) ∙ sym c.in_default.ensures))
 
 pub returns-in_err-happen-clause-turns : goal.returns-in_err-happen-clause-turns
 returns-in_err-happen-clause-turns g c = λ cfg tap old w told refused h.
@@ -20,7 +19,7 @@ returns-in_err-happen-clause-turns g c = λ cfg tap old w told refused h.
     let l = c.loop.invariant.1 cfg tap old w told refused h in
     let at = end_of c.in-Some.direction in
     rw p.1 (part_failed cfg tap old _ _ c.loop.self c.loop.self told refused _ _ (event_turn cfg tap (record { at = at; act = Receives })) (drained cfg tap (c.args.count - (c.loop.counter + 1))) l
-    (drained_more cfg tap _ _ l.at at (omega (arith, c.loop-test.true)) (sym (line_is cfg c.loop.self.world l.at (all_of l.at) l.stands.fits) ∙ sym c.in-Some.ensures))
+    (drained_more cfg tap _ _ l.at at (omega (arith, c.loop-test.true)) (sym (line_is cfg c.loop.self.world l.at l.stands.fits) ∙ sym c.in-Some.ensures))
     (c.in_err-happen.ensures.turns cfg tap old l.at l.text l.status l.stands))
 
 pub loop-preserved : goal.loop-preserved
@@ -30,7 +29,7 @@ loop-preserved g c = (
       let l = c.loop.invariant.1 cfg tap old w told refused h in
       let at = end_of c.in-Some.direction in
       part_done cfg tap old _ _ c.loop.self c.happen.new.self told refused _ _ (event_turn cfg tap (record { at = at; act = Receives })) (drained cfg tap (c.args.count - (c.loop.counter + 1))) l
-      (drained_more cfg tap _ _ l.at at (omega (arith, c.loop-test.true)) (sym (line_is cfg c.loop.self.world l.at (all_of l.at) l.stands.fits) ∙ sym c.in-Some.ensures))
+      (drained_more cfg tap _ _ l.at at (omega (arith, c.loop-test.true)) (sym (line_is cfg c.loop.self.world l.at l.stands.fits) ∙ sym c.in-Some.ensures))
       (c.in_ok-happen.ensures.turns cfg tap old l.at l.text l.status l.stands),
 )
 

@@ -1,7 +1,6 @@
 use Rattle.std.proofs.Common.{◌∙◌, ◌-◌, ◌+◌, ap, sym, arith}
 use Rattle.std.specs.Prelude.{is_none}
 use Rattle.std.proofs.lemmas.Result.{err_from_is_err_and}
-use Rattle.x25_world.specs.code.FitsWorld.{all_of}
 use Rattle.x25_sim.specs.Stage.{emptied, most_times, pulled}
 use Rattle.x25_sim.proofs.LeaveLemmas.{none_left, left_as, part_done, part_failed}
 use Rattle.x25_sim.proofs.DrainLemmas.{line_is}
@@ -25,7 +24,7 @@ returns-then-is_line_empty-clause-turns g c = λ cfg tap old w told refused h.
     (emptied_more cfg tap _ left l.at (one_less most_times c.loop.counter c.loop-test.true))
     (c.in_ok-pull.ensures.turns cfg tap old l.at l.text l.status l.stands) in
     none_left cfg tap old _ old c.pull.new.self c.pull.new.self told refused _ (left_behind cfg tap left) m
-    (line_empty cfg tap left m.at (sym (ap is_none (line_is cfg c.pull.new.self.world m.at (all_of m.at) m.stands.fits)) ∙ sym c.is_line_empty.ensures ∙ c.if-is_line_empty.true))
+    (line_empty cfg tap left m.at (sym (ap is_none (line_is cfg c.pull.new.self.world m.at m.stands.fits)) ∙ sym c.is_line_empty.ensures ∙ c.if-is_line_empty.true))
 
 pub loop-preserved : goal.loop-preserved
 loop-preserved g c = (
@@ -37,7 +36,7 @@ loop-preserved g c = (
       (emptied_more cfg tap _ left l.at (one_less most_times c.loop.counter c.loop-test.true))
       (c.in_ok-pull.ensures.turns cfg tap old l.at l.text l.status l.stands) in
       left_as cfg tap old _ old c.pull.new.self c.pull.new.self told refused _ (left_behind cfg tap left) (emptied cfg tap left) m
-      (line_filled cfg tap left m.at (sym (ap is_none (line_is cfg c.pull.new.self.world m.at (all_of m.at) m.stands.fits)) ∙ sym c.is_line_empty.ensures ∙ c.if-is_line_empty.false)),
+      (line_filled cfg tap left m.at (sym (ap is_none (line_is cfg c.pull.new.self.world m.at m.stands.fits)) ∙ sym c.is_line_empty.ensures ∙ c.if-is_line_empty.false)),
 )
 
 pub returns-clause-turns : goal.returns-clause-turns

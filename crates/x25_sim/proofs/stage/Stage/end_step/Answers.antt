@@ -9,4 +9,4 @@ returns-in_err-tell_step-clause-tells g c = λ old told w next is put h.
     rw p.1 (c.in_err-tell_step.ensures.tells old told w next is put h)
 
 pub returns-clause-world : goal.returns-clause-world
-returns-clause-world g c = λ cfg w gone f. c.give_back.ensures.fits cfg w gone (subst (λ v. FitsWorld cfg v w gone) (sym c.in_ok-tell_step.ensures.world) f)
+returns-clause-world g c = λ cfg w f. c.give_back.ensures.fits cfg w (subst (λ v. FitsWorld cfg v w) (sym c.in_ok-tell_step.ensures.world) f)

@@ -1,6 +1,5 @@
 use Rattle.std.proofs.lemmas.Result.{MatchResult-weaker}
 use Rattle.x25_world.specs.World.{event_of, happens, after}
-use Rattle.x25_world.specs.code.FitsWorld.{all_of}
 use Rattle.x25_sim.specs.Stage.{event_turn}
 use Rattle.x25_io.proofs.ToldLemmas.{with_ok}
 use Rattle.x25_sim.proofs.StandLemmas.{stands_moved, begins_moved}
@@ -10,13 +9,13 @@ pub returns-in-Ok-clause-turns : goal.returns-in-Ok-clause-turns
 unfolding event_turn
 returns-in-Ok-clause-turns g c = λ cfg tap old w told refused h.
     let o = happens cfg w (event_of c.args.event) in
-    let fits = c.in-Ok.ensures.step cfg w (all_of w) h.fits in
-    let entries = c.in-Ok.ensures.told cfg w (all_of w) h.fits in
-    let put = c.in-Ok.ensures.put cfg w (all_of w) h.fits in
-    let accepted = c.in-Ok.ensures.accepted cfg w (all_of w) h.fits in
+    let fits = c.in-Ok.ensures.step cfg w h.fits in
+    let entries = c.in-Ok.ensures.told cfg w h.fits in
+    let put = c.in-Ok.ensures.put cfg w h.fits in
+    let accepted = c.in-Ok.ensures.accepted cfg w h.fits in
     MatchResult-weaker c.end_step.result
     (with_ok c.end_step.result _ _ _ (c.end_step.ensures.tells old told w (after w o) (rw c.at-at.ensures entries) (rw (c.sent-before.ensures, c.at-at.ensures) put) h.tells)
-    (c.end_step.ensures.world cfg (after w o) (all_of (after w o)) fits))
+    (c.end_step.ensures.world cfg (after w o) fits))
     (λ _ told_all. stands_moved cfg tap old _ _ c.args.self.now c.end_step.new.self w o told refused h accepted told_all.1 c.end_step.ensures.tap c.end_step.ensures.is_refused told_all.0)
     (λ _ begins. begins_moved cfg tap old _ _ c.args.self.now c.end_step.new.self w o told refused h accepted begins)
 
@@ -24,5 +23,5 @@ pub returns-in-Err-clause-turns : goal.returns-in-Err-clause-turns
 unfolding event_turn
 returns-in-Err-clause-turns g c = λ cfg tap old w told refused h.
     c.refuse.ensures.stood cfg tap old w (happens cfg w (event_of c.args.event)) told refused
-    (record { fits = c.in-Err.ensures.stays cfg w (all_of w) h.fits; asked = h.asked; tells = h.tells; status = h.status })
-    (c.in-Err.ensures.refused cfg w (all_of w) h.fits)
+    (record { fits = c.in-Err.ensures.stays cfg w h.fits; asked = h.asked; tells = h.tells; status = h.status })
+    (c.in-Err.ensures.refused cfg w h.fits)

@@ -1,5 +1,6 @@
-use Rattle.std.proofs.Common.{◌∙◌, [], false, subst}
+use Rattle.std.proofs.Common.{◌∙◌, [], false, sym, subst}
 use Rattle.std.proofs.lemmas.Result.{err_from_is_err_and, MatchResult-weaker}
+use Rattle.x25_world.specs.code.FitsWorld.{FitsWorld}
 use Rattle.x25_sim.specs.code.Stands.{IsOpening, opening}
 use Rattle.x25_sim.proofs.StandLemmas.{StandsAt, BeginsAt, begins_before, begins_behind, deliveries, first_turn, opens, stands_behind, stands_first}
 use Rattle.x25_sim.proofs.stage.Stage.open.Goals as goal
@@ -19,7 +20,7 @@ returns-clause-stood g c = λ cfg down old fits status tells.
     let stage = c.attempt_both.new.self in
     let next = g.W.Sink.contents c.attempt_both.new.writer in
     let all = opens cfg down tap (c.two_stations_keep_order.ensures.set_up cfg) in
-    let first = stands_first cfg down tap old _ c.begin.new.self (c.in_ok-begin.ensures.world cfg (opening cfg down) _ fits) c.in_ok-begin.ensures.tap (c.in_ok-begin.ensures.is_refused ∙ status)
+    let first = stands_first cfg down tap old _ c.begin.new.self (subst (λ v. FitsWorld cfg v (opening cfg down)) (sym c.in_ok-begin.ensures.world) fits) c.in_ok-begin.ensures.tap (c.in_ok-begin.ensures.is_refused ∙ status)
     (c.in_ok-begin.ensures.tells cfg down old [] fits tells) in
     MatchResult-weaker c.attempt_both.result (c.attempt_both.ensures.turns cfg tap old _ _ _ first)
     (λ _ stands. subst (StandsAt cfg tap old next stage [] false) all (stands_behind cfg tap old next stage [] false (deliveries cfg tap) (first_turn cfg down tap) stands))

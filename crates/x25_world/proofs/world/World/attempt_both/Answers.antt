@@ -1,28 +1,28 @@
 use Rattle.std.proofs.lemmas.Result.{err_from_is_err_and, on_ok_weaker, IfErr-weaker}
 use Rattle.x25_world.specs.World.{run, event_of}
 use Rattle.x25_world.specs.Healing.{if_accepted, both_tried}
-use Rattle.x25_world.specs.code.FitsHealing.{GoesPartly}
+use Rattle.x25_world.specs.code.FitsHealing.{GoesPartly, telling}
 use Rattle.x25_world.proofs.HealingSchedule.{goes_behind, stops_first, stops_behind}
 use Rattle.x25_world.proofs.world.World.attempt_both.Goals as goal
 
 pub returns-in_err-attempt-clause-stopped : goal.returns-in_err-attempt-clause-stopped
-returns-in_err-attempt-clause-stopped c = λ cfg w gone fits.
+returns-in_err-attempt-clause-stopped c = λ cfg w before fits.
     let p = err_from_is_err_and c.from_residual.result c.from_residual.ensures.1 in
     let one = if_accepted cfg (event_of c.args.first) w in
-    rw (p.1, p.2) (stops_first cfg one (if_accepted cfg (event_of c.args.second) (run cfg one w)) w c.attempt.new.self gone c.in_err-attempt.field-0.0 (c.in_err-attempt.ensures.stopped cfg w gone fits))
+    rw (p.1, p.2) (stops_first cfg one (if_accepted cfg (event_of c.args.second) (run cfg one w)) w (telling c.attempt.new.self c.attempt.new.told.items) before c.in_err-attempt.field-0.0 (c.in_err-attempt.ensures.stopped cfg w before fits))
 
 pub returns-clause-goes : goal.returns-clause-goes
-returns-clause-goes c = λ cfg w gone fits.
+returns-clause-goes c = λ cfg w before fits.
     let one = if_accepted cfg (event_of c.args.first) w in
     let x = run cfg one w in
-    let a = c.in_ok-attempt.ensures.goes cfg w gone fits in
-    on_ok_weaker c.attempt-2.result (λ b. goes_behind cfg one (if_accepted cfg (event_of c.args.second) x) w c.attempt.new.self c.attempt-2.new.self gone a b) (c.attempt-2.ensures.goes cfg x gone a.fits)
+    let a = c.in_ok-attempt.ensures.goes cfg w before fits in
+    on_ok_weaker c.attempt-2.result (λ b. goes_behind cfg one (if_accepted cfg (event_of c.args.second) x) w (telling c.attempt.new.self c.attempt.new.told.items) (telling c.attempt-2.new.self c.attempt-2.new.told.items) before a b) (c.attempt-2.ensures.goes cfg x before a.fits)
 
 pub returns-clause-stopped : goal.returns-clause-stopped
-returns-clause-stopped c = λ cfg w gone fits.
+returns-clause-stopped c = λ cfg w before fits.
     let one = if_accepted cfg (event_of c.args.first) w in
     let x = run cfg one w in
     let two = if_accepted cfg (event_of c.args.second) x in
-    let a = c.in_ok-attempt.ensures.goes cfg w gone fits in
-    IfErr-weaker c.attempt-2.result (GoesPartly cfg two x c.attempt-2.new.self gone) (GoesPartly cfg (both_tried cfg (event_of c.args.first) (event_of c.args.second) w) w c.attempt-2.new.self gone)
-    (λ e partly. stops_behind cfg one two w c.attempt.new.self c.attempt-2.new.self gone e a partly) (c.attempt-2.ensures.stopped cfg x gone a.fits)
+    let a = c.in_ok-attempt.ensures.goes cfg w before fits in
+    IfErr-weaker c.attempt-2.result (GoesPartly cfg two x (telling c.attempt-2.new.self c.attempt-2.new.told.items) before) (GoesPartly cfg (both_tried cfg (event_of c.args.first) (event_of c.args.second) w) w (telling c.attempt-2.new.self c.attempt-2.new.told.items) before)
+    (λ e partly. stops_behind cfg one two w (telling c.attempt.new.self c.attempt.new.told.items) (telling c.attempt-2.new.self c.attempt-2.new.told.items) before e a partly) (c.attempt-2.ensures.stopped cfg x before a.fits)

@@ -1,36 +1,13 @@
-use Rattle.std.proofs.Common.{[], inl, inr, refl}
-use Rattle.x25_world.proofs.WorldLemmas.{made_world, holds_after, connected_up, holds_throughout, goes_on_from, all_of_sessions}
+use Rattle.std.proofs.Common.{inl, inr, refl}
 use Rattle.x25_world.specs.World.{connected}
-use Rattle.x25_world.specs.code.FitsWorld.{nothing_gone}
-use Rattle.x25_world.specs.laws.Claims.{IsLawful, IsNamed, ArrivesAll, HasNoProcedureError}
-use Rattle.x25_world.specs.laws.SessionClaims.{SessionsKeepOrder}
-use Rattle.x25_world.specs.laws.SessionWindow.{SessionsStayInWindow}
+use Rattle.x25_world.specs.code.FitsWorld.{ClaimsOfNew}
+use Rattle.x25_world.proofs.WorldLemmas.{made_world, claims_of_new, all_of_sessions, connected_up}
 use Rattle.x25_world.proofs.world.World.connecting.Goals as goal
 
-pub returns-clause-run : goal.returns-clause-run
-returns-clause-run c = made_world c.args.cfg (connected c.args.cfg) _ c.asking.result c.asking.ensures.refused c.asking.ensures.fits
-    (λ v h. h)
-
-pub returns-clause-lawful : goal.returns-clause-lawful
-returns-clause-lawful c = made_world c.args.cfg (connected c.args.cfg) _ c.asking.result c.asking.ensures.refused c.asking.ensures.fits
-    (λ v h. holds_after IsLawful v c.args.cfg (connected c.args.cfg) [] nothing_gone c.two_stations_keep_order.ensures.lawful (inr (inl refl)) h (connected_up c.args.cfg))
-
-pub returns-clause-named : goal.returns-clause-named
-returns-clause-named c = made_world c.args.cfg (connected c.args.cfg) _ c.asking.result c.asking.ensures.refused c.asking.ensures.fits
-    (λ v h. holds_after IsNamed v c.args.cfg (connected c.args.cfg) [] nothing_gone c.two_stations_keep_order.ensures.named (inr (inl refl)) h (connected_up c.args.cfg))
-
-pub returns-clause-arrives : goal.returns-clause-arrives
-returns-clause-arrives c = made_world c.args.cfg (connected c.args.cfg) _ c.asking.result c.asking.ensures.refused c.asking.ensures.fits
-    (λ v h. holds_after ArrivesAll v c.args.cfg (connected c.args.cfg) [] nothing_gone c.two_stations_keep_order.ensures.arrives (inr (inl refl)) h (connected_up c.args.cfg))
-
-pub returns-clause-quiet : goal.returns-clause-quiet
-returns-clause-quiet c = made_world c.args.cfg (connected c.args.cfg) _ c.asking.result c.asking.ensures.refused c.asking.ensures.fits
-    (λ v h. holds_after HasNoProcedureError v c.args.cfg (connected c.args.cfg) [] nothing_gone c.two_stations_keep_order.ensures.quiet (inr (inl refl)) h (connected_up c.args.cfg))
-
-pub returns-clause-sessions : goal.returns-clause-sessions
-returns-clause-sessions c = made_world c.args.cfg (connected c.args.cfg) _ c.asking.result c.asking.ensures.refused c.asking.ensures.fits
-    (λ v h. let law = c.stations_meet_in_sessions.ensures in holds_throughout SessionsKeepOrder v c.args.cfg (connected c.args.cfg) [] nothing_gone (all_of_sessions law.step law.lawful law.named law.arrives law.unmet law.stand law.quiet law.window) (inr (inl refl)) h)
-
-pub returns-clause-links : goal.returns-clause-links
-returns-clause-links c = made_world c.args.cfg (connected c.args.cfg) _ c.asking.result c.asking.ensures.refused c.asking.ensures.fits
-    (λ v h. goes_on_from SessionsStayInWindow connected v c.args.cfg nothing_gone c.stations_meet_in_sessions.ensures.window (inr (inl refl)) h)
+pub returns-clause-claims : goal.returns-clause-claims
+returns-clause-claims c =
+    let two = c.two_stations_keep_order.ensures in
+    let of = c.stations_meet_in_sessions.ensures in
+    made_world c.args.cfg (connected c.args.cfg) (ClaimsOfNew c.args.cfg (connected c.args.cfg)) c.asking.result c.asking.ensures.refused c.asking.ensures.fits
+    (λ v h. claims_of_new two.lawful two.named two.arrives two.quiet two.window two.up_once (all_of_sessions of.step of.lawful of.named of.arrives of.unmet of.stand of.quiet of.window) of.window
+    c.args.cfg (connected c.args.cfg) v (inr (inl refl)) (connected_up c.args.cfg) h)

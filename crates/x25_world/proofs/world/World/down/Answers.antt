@@ -1,7 +1,6 @@
-use Rattle.std.proofs.Common.{sym, ap, map}
+use Rattle.std.proofs.Common.{ap}
 use Rattle.std.proofs.lemmas.Result.{err_from_is_err_and}
 use Rattle.x25_station.specs.Config.{config_refusal}
-use Rattle.x25_world.specs.code.PlainTold.{plain_entered}
 use Rattle.x25_world.specs.code.ShownLine.{ShownLine}
 use Rattle.x25_world.proofs.WorldLemmas.{made_as, refused_as}
 use Rattle.x25_world.proofs.world.World.down.Goals as goal
@@ -23,6 +22,4 @@ returns-in-Ok-clause-fits c = record {
   dce = c.in-Ok.ensures.fits;
   to_dce = ap (λ (l : ShownLine). l.to_dce) c.new.ensures;
   to_dte = ap (λ (l : ShownLine). l.to_dte) c.new.ensures;
-  tap = sym (ap (λ (l : ShownLine). l.tap) c.new.ensures);
-  transcript = sym (ap (map plain_entered) c.new-in-Ok.ensures.items);
 }

@@ -10,20 +10,20 @@ use Rattle.x25_station.specs.Config.{settings_from}
 use Rattle.x25_station.specs.Station.{Station}
 use Rattle.x25_station.specs.Step.{Outcome, Refused, commands}
 use Rattle.x25_world.specs.World.{World, Commands, of_station, acts_at, swapped, swapped_back, refusal_of}
-use Rattle.x25_world.specs.code.FitsWorld.{FitsWorld, Gone}
+use Rattle.x25_world.specs.code.FitsWorld.{FitsWorld}
 use Rattle.x25_world.specs.code.ShownWorld.{ShownWorld, station_of}
 use Rattle.x25_world.specs.declared.error.WorldError.TheVariants as error
 use Rattle.x25_world.proofs.world.World.message_refusal.Goals as goal
 
 -- what its station refuses an end is refused
-refused_at : (cfg : Cfg) (w : World) (v : ShownWorld) (gone : Gone) (at : Role) (command : Command) (e : StationError) → FitsWorld cfg v w gone
+refused_at : (cfg : Cfg) (w : World) (v : ShownWorld) (at : Role) (command : Command) (e : StationError) → FitsWorld cfg v w
     → ((s : Station) → FitsStation (settings_from at cfg) (station_of v at) s → commands (settings_from at cfg) s command ≡ Refused e)
     → refusal_of (acts_at cfg w at (Commands command)) ≡ Some (error.Station e)
-refused_at cfg w v gone Dte command e fits refuses = ap (λ (o : Outcome). refusal_of (of_station (settings_from Dte cfg) w o)) (refuses w.near fits.dte)
-refused_at cfg w v gone Dce command e fits refuses = ap (λ (o : Outcome). refusal_of (swapped_back (of_station (settings_from Dce cfg) (swapped w) o))) (refuses w.far fits.dce)
+refused_at cfg w v Dte command e fits refuses = ap (λ (o : Outcome). refusal_of (of_station (settings_from Dte cfg) w o)) (refuses w.near fits.dte)
+refused_at cfg w v Dce command e fits refuses = ap (λ (o : Outcome). refusal_of (swapped_back (of_station (settings_from Dce cfg) (swapped w) o))) (refuses w.far fits.dce)
 
 pub returns-in-Some-Layer : goal.returns-in-Some-Layer
-returns-in-Some-Layer c = λ cfg w gone q user same fits.
-    refused_at cfg w c.args.self.now gone c.args.at _ _ fits
+returns-in-Some-Layer c = λ cfg w q user same fits.
+    refused_at cfg w c.args.self.now c.args.at _ _ fits
     (λ s stands. c.in-Some-Layer.ensures (settings_from c.args.at cfg) s q user same (subst (λ (v : code.Station). FitsStation (settings_from c.args.at cfg) v s) (sym c.station.ensures) stands))
     ∙ ap (λ (e : StationError). Some (error.Station e)) c.in-Some-Layer.field-0-is

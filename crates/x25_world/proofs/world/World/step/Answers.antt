@@ -1,21 +1,14 @@
-use Rattle.x25_world.proofs.WorldLemmas.{put_last}
+use Rattle.x25_world.proofs.WorldLemmas.{put_last, run_and_then, claims_hold, all_of_sessions}
 use Rattle.x25_world.proofs.world.World.step.Goals as goal
 
-pub returns-clause-step : goal.returns-clause-step
-returns-clause-step c = λ cfg w gone fits. c.happen_untold.ensures.step cfg w (c.let_go.ensures.fits cfg w gone fits)
-
-pub returns-clause-told : goal.returns-clause-told
-returns-clause-told c = λ cfg w gone fits. c.happen_untold.ensures.told cfg w (c.let_go.ensures.fits cfg w gone fits)
-
 pub returns-clause-put : goal.returns-clause-put
-returns-clause-put c = λ cfg w gone fits.
-    put_last cfg c.args.self.now c.happen_untold.new.self w gone _ c.happen_untold.result fits (c.happen_untold.ensures.step cfg w (c.let_go.ensures.fits cfg w gone fits))
+returns-clause-put c = λ cfg w fits. put_last cfg c.args.self.now c.happen.new.self w _ c.happen.result fits (c.happen.ensures.step cfg w fits)
 
-pub returns-clause-accepted : goal.returns-clause-accepted
-returns-clause-accepted c = λ cfg w gone fits. c.happen_untold.ensures.accepted cfg w (c.let_go.ensures.fits cfg w gone fits)
-
-pub returns-clause-refused : goal.returns-clause-refused
-returns-clause-refused c = λ cfg w gone fits. c.happen_untold.ensures.refused cfg w (c.let_go.ensures.fits cfg w gone fits)
-
-pub returns-clause-stays : goal.returns-clause-stays
-returns-clause-stays c = λ cfg w gone fits. c.happen_untold.ensures.stays cfg w (c.let_go.ensures.fits cfg w gone fits)
+pub returns-clause-claims : goal.returns-clause-claims
+returns-clause-claims c =
+    let two = c.two_stations_keep_order.ensures in
+    let of = c.stations_meet_in_sessions.ensures in
+    let called = c.happen.ensures in
+    claims_hold two.lawful two.named two.arrives two.quiet two.window two.up_once (all_of_sessions of.step of.lawful of.named of.arrives of.unmet of.stand of.quiet of.window) of.window
+    c.args.self.now c.happen.new.self _
+    (λ cfg from past h. run_and_then cfg from _ _ past _ c.happen.result h c.hands_down_octets.ensures (called.step cfg) (called.accepted cfg) (called.stays cfg))

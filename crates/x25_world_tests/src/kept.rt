@@ -1,0 +1,50 @@
+//! A world, and the transcript that is kept of its steps.
+
+use crate::calls::{heal, step};
+use std::alloc::Global;
+use x25_station::Entry;
+use x25_world::{Entered, Event, World, WorldError};
+
+/// A world, and what it told.
+#[derive(Drop)]
+pub struct Kept {
+    pub world: Box<World>,
+    pub transcript: Vec<Entered>,
+    told: Vec<Entry>,
+    healed: Vec<Entered>,
+}
+
+impl Kept {
+    /// Nothing was told of this world yet.
+    pub fn of(alloc: Global, world: Box<World>) -> Kept {
+        Kept {
+            world,
+            transcript: Vec::new(alloc),
+            told: Vec::new(alloc),
+            healed: Vec::new(alloc),
+        }
+    }
+
+    /// The event happens. What it tells comes behind the transcript.
+    pub fn apply(&mut self, event: Event) -> Result<(), WorldError> {
+        step(&mut self.world, event, &mut self.told)?;
+        let at = event.at();
+        for entry in self.told.drain(..) {
+            if self.transcript.push(Entered { at, entry }).is_err() {
+                return Err(WorldError::NoMemory);
+            }
+        }
+        Ok(())
+    }
+
+    /// The line is good for a moment. What is told comes behind the transcript.
+    pub fn heal(&mut self) -> Result<u64, WorldError> {
+        let count = heal(&mut self.world, &mut self.healed)?;
+        for entered in self.healed.drain(..) {
+            if self.transcript.push(entered).is_err() {
+                return Err(WorldError::NoMemory);
+            }
+        }
+        Ok(count)
+    }
+}
