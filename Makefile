@@ -9,12 +9,16 @@
 # make refused       30 minutes       rt, cc, build/x25   refuses each allocation of stored cases and of scripts in turn
 # make wrong-bodies  a minute an edit rt                  tries wrong bodies that the gate leaves out; CRATE="NAME .." of these crates
 # make interop       20 minutes       build/x25, a guest  plays a station against Linux's X.25; interop/README.md says more
-# make clean         a second                             removes what these made
+# make install       a second         build/x25           installs the program, the scripts, the manual page and the documents below PREFIX
+# make uninstall     a second                             removes what that installed
+# make dist          a second         git                 leaves the sources of HEAD at build/x25-VERSION.tar.gz
+# make clean         a second                             removes what the others made here
 #
+# PREFIX is /usr/local where it isn't given, DESTDIR stands before it, and PROGRAM is what is installed in place of build/x25.
 # The times are those of four processors with nothing beside. rt, the command of the Rattle kit, wants up to 4 GB of memory for each
 # processor; cc is a C compiler. All need Python 3.9 or later. What needs build/x25 has it proved first, where it isn't there.
 
-.PHONY: help look x25 demo test golden judge-runs check-tools refused wrong-bodies interop clean kit
+.PHONY: help look x25 demo test golden judge-runs check-tools refused wrong-bodies interop install uninstall dist clean kit
 
 x25: build/x25
 
@@ -26,6 +30,7 @@ look: kit
 
 build/x25: crates.txt $(shell find crates -path '*/out' -prune -o -type f -print) | kit
 	.ci/prove x25 x25_world
+	@git describe --always --dirty --abbrev=8 --exclude '*' > build/commit 2> /dev/null || rm -f build/commit
 
 # The player of scripts whose calls are refused memory.
 build/x25_refusals: crates.txt $(shell find crates -path '*/out' -prune -o -type f -print) | kit
@@ -65,6 +70,42 @@ wrong-bodies: kit
 interop: $(if $(wildcard build/x25),,build/x25)
 	interop/build.sh build/interop
 	python3 interop/play.py build/interop
+
+PREFIX = /usr/local
+PROGRAM = build/x25
+VERSION := $(shell sed -n 's/.*\.version("\(.*\)").*/\1/p' crates/x25_settings/src/parser.rt)
+INSTALLED = $(DESTDIR)$(PREFIX)
+DOCUMENTS = $(INSTALLED)/share/doc/x25
+# The scripts by their names in bin, of which each is a link to its script in lib/x25.
+SCRIPTS = x25dump:x25dump pcap2x25:pcap2x25 x25pcap:x25pcap x25bridge:bridge x25chart:chart
+
+# No dependency has the program proved: `sudo make install` is to install what is there.
+install:
+	@test -x $(PROGRAM) || { echo "There is no $(PROGRAM): make x25 leaves it there." >&2; exit 1; }
+	install -d $(INSTALLED)/bin $(INSTALLED)/lib/x25 $(INSTALLED)/share/man/man1 $(INSTALLED)/share/bash-completion/completions $(DOCUMENTS)/examples/embed
+	install -m 755 $(PROGRAM) $(INSTALLED)/bin/x25
+	install -m 644 $(filter-out tools/manpage.py,$(wildcard tools/*.py)) $(INSTALLED)/lib/x25
+	for pair in $(SCRIPTS); do \
+	    chmod 755 $(INSTALLED)/lib/x25/$${pair#*:}.py && \
+	    ln -sf ../lib/x25/$${pair#*:}.py $(INSTALLED)/bin/$${pair%:*} && \
+	    ln -sf x25.1 $(INSTALLED)/share/man/man1/$${pair%:*}.1 || exit $$?; \
+	done
+	python3 tools/manpage.py --prefix $(PREFIX) > $(INSTALLED)/share/man/man1/x25.1
+	chmod 644 $(INSTALLED)/share/man/man1/x25.1
+	install -m 644 share/x25.bash $(INSTALLED)/share/bash-completion/completions/x25
+	install -m 644 README.md CHANGELOG.md docs/*.md docs/*.svg $(DOCUMENTS)
+	install -m 644 $(wildcard examples/*.*) $(DOCUMENTS)/examples
+	install -m 644 examples/embed/* $(DOCUMENTS)/examples/embed
+	if [ -e $(dir $(PROGRAM))commit ]; then install -m 644 $(dir $(PROGRAM))commit $(DOCUMENTS)/COMMIT; fi
+
+uninstall:
+	for pair in x25:x25 $(SCRIPTS); do rm -f $(INSTALLED)/bin/$${pair%:*} $(INSTALLED)/share/man/man1/$${pair%:*}.1; done
+	rm -f $(INSTALLED)/share/bash-completion/completions/x25
+	rm -rf $(INSTALLED)/lib/x25 $(DOCUMENTS)
+
+dist:
+	mkdir -p build
+	git archive --prefix=x25-$(VERSION)/ -o build/x25-$(VERSION).tar.gz HEAD
 
 clean:
 	rm -rf build crates/*/out

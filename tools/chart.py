@@ -10,7 +10,8 @@ Reads the lines of `x25 decode`, the lines of a trace, also with a time and a ta
 `x25 sim --tap`. Frames in hexadecimal digits are given to `x25 decode`. A run alone doesn't say which of its frames was lost:
 with --script the run is made here from its script, by `x25 sim --tap`, and what the script loses or damages is marked.
 
-The program is the one that --x25 or the variable X25 names, or `x25` of the PATH, or else build/x25 of this repository.
+The program is the one that --x25 or the variable X25 names, or `x25` of the PATH, or else the one that was built or
+installed with this script.
 
 Exit status: 0, or 2 for bad words or bad input, where a chart as text has the rows before it.
 """

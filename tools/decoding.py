@@ -9,7 +9,9 @@ import subprocess
 import x25lines
 from x25lines import BadInput, fcs
 
-BUILT = os.path.join(os.path.dirname(os.path.dirname(os.path.abspath(__file__))), "build", "x25")
+# The program that was built or installed together with this file, which stands in tools/ or lib/x25/.
+FOLDER = os.path.dirname(os.path.realpath(__file__))
+PLACES = [os.path.normpath(os.path.join(FOLDER, place)) for place in ("../build/x25", "../../bin/x25")]
 MISSING = "frames in hexadecimal digits need the program x25: build it (make x25) or name it (--x25)"
 MISSING_STATION = "a station needs the program x25: build it (make x25) or name it (--x25)"
 # A line of `decode`, with a time and a tab before it where there is one.
@@ -17,8 +19,9 @@ TEXT_LINE = re.compile(rb"(?:([0-9.]{1,30})\t)?([<>] (?:I|RR|RNR|REJ|SABM|DISC|U
 
 
 def find_program():
-    """The program that the variable X25 names, or `x25` of the PATH, or else build/x25 of this repository; None where there is none."""
-    return os.environ.get("X25") or shutil.which("x25") or (BUILT if os.path.isfile(BUILT) else None)
+    """The program that the variable X25 names, or `x25` of the PATH, or else the one that was built or installed with this file; None where
+    there is none."""
+    return os.environ.get("X25") or shutil.which("x25") or next(filter(os.path.isfile, PLACES), None)
 
 
 def add_program(parser):
@@ -87,11 +90,11 @@ class Decoder:
     def _answers(self, asked, count):
         """Writes what is asked and reads so many lines, each as there is room for it or as it is there: so neither pipe can fill."""
         writer, reader = self._child.stdin.fileno(), self._child.stdout.fileno()
-        answers = []
+        asked, answers = memoryview(asked), []
         while count > 0:
             readable, writable, _ = select.select([reader], [writer] if asked else [], [])
             try:
-                asked = asked[os.write(writer, asked[: select.PIPE_BUF]) :] if writable else asked
+                asked = asked[os.write(writer, asked) :] if writable else asked
             except BrokenPipeError:
                 asked = b""
             if readable:
@@ -105,9 +108,12 @@ class Decoder:
         if self._program is None:
             raise BadInput(MISSING)
         try:
-            return subprocess.Popen([self._program, self._task, *self._words], stdin=subprocess.PIPE, stdout=subprocess.PIPE)
+            child = subprocess.Popen([self._program, self._task, *self._words], stdin=subprocess.PIPE, stdout=subprocess.PIPE)
         except OSError as error:
             raise BadInput(f"{self._program}: {error.strerror}") from error
+        # So that a write takes what there is room for.
+        os.set_blocking(child.stdin.fileno(), False)
+        return child
 
 
 class Judge:

@@ -2,9 +2,11 @@
 """Makes the manual page x25(1) of docs/MANUAL.md.
 
     manpage.py > x25.1; man ./x25.1
+    manpage.py --prefix /usr/local > /usr/local/share/man/man1/x25.1
 
 Reads what the manual is written in, and no more of Markdown: headings, paragraphs, list items, tables, indented examples, `code`
-and **bold**.
+and **bold**. With --prefix the page is that of what `make install` has put there: the scripts have the names that they have there,
+documents and examples stand where they are there, and what tells of the repository alone is left out.
 
 Exit status: 0, or 2 for bad words or bad input.
 """
@@ -27,7 +29,13 @@ HEAD = [
     "\n.br\n.B x25 deframe\ndte|dce\n.br\n.B x25 frame",
     ".SH DESCRIPTION",
 ]
+SEE_ALSO = [".SH SEE ALSO", "\\fBdocs/FORMATS.md\\fR, \\fBdocs/PROOFS.md\\fR, \\fBtshark\\fR(1), \\fBtcpdump\\fR(1)"]
 RULE = re.compile(r"\|[-| :]+\|")
+# The scripts that have names of their own where they are installed.
+NAMES = {"bridge": "x25bridge", "chart": "x25chart", "pcap2x25": "pcap2x25", "x25dump": "x25dump", "x25pcap": "x25pcap"}
+SCRIPT = re.compile(rf"(?:(?:python3 )?tools/|\b)({'|'.join(NAMES)})\.py\b")
+# Paragraphs that tell of the repository alone.
+OF_THE_REPOSITORY = re.compile("`make |`source share/")
 
 
 def escaped(text):
@@ -64,6 +72,7 @@ def roff(lines):
             yield ".PP"
     if is_example:
         yield ".RE\n.fi"
+    yield from SEE_ALSO
 
 
 def prose(line):
@@ -81,14 +90,25 @@ def prose(line):
         yield inline(line.strip())
 
 
+def installed(lines, prefix):
+    """The lines of the manual as they are true of what is installed below a prefix."""
+    documents = f"{prefix}/share/doc/x25"
+    for paragraph in "\n".join(lines).split("\n\n"):
+        if paragraph.startswith("    ") or not OF_THE_REPOSITORY.search(paragraph):
+            text = SCRIPT.sub(lambda found: NAMES[found[1]], paragraph)
+            text = text.replace("docs/", f"{documents}/").replace("at the root of the repository", f"in `{documents}`").replace("tools/", f"{prefix}/lib/x25/")
+            yield from [*text.split("\n"), ""]
+
+
 def main():
     parser = argparse.ArgumentParser(description=__doc__, formatter_class=argparse.RawDescriptionHelpFormatter)
     parser.add_argument("file", nargs="?", default=MANUAL, metavar="FILE", help="the manual; docs/MANUAL.md where it is missing")
+    parser.add_argument("--prefix", metavar="FOLDER", help="the folder in which the program is installed")
     options = parser.parse_args()
     with x25lines.opened(options.file) as file:
         lines = [line.decode("utf-8", "replace") for _, line in x25lines.lines_of(file)]
-    for line in roff(lines):
-        sys.stdout.write(line + "\n")
+    page = "".join(f"{line}\n" for line in roff(installed(lines, options.prefix) if options.prefix else lines))
+    sys.stdout.write(page.replace("docs/", f"{options.prefix}/share/doc/x25/") if options.prefix else page)
     return 0
 
 

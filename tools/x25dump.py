@@ -19,7 +19,8 @@ aren't shown, their packets are.
               is the window. Of packets without frames (XOT, LLC) the rules of the packet layer alone; not of lines of `x25 decode`
   --channel   shows the packets of a channel alone; 0 is that of RESTART. With --stats it counts them
 
-The program is the one that --x25 or the variable X25 names, or `x25` of the PATH, or else build/x25 of this repository. Colours
+The program is the one that --x25 or the variable X25 names, or `x25` of the PATH, or else the one that was built or
+installed with this script. Colours
 are for a terminal alone, and not where the variable NO_COLOR is set.
 
 Exit status: 0; 1 where a line was none, a rule was broken, nothing was found in a capture, or something was left out; 2 for bad
@@ -43,6 +44,7 @@ from x25lines import BadInput
 # What a capture of either format begins with; no line does.
 CAPTURE = (b"\xa1", b"\xd4", b"\x4d", b"\x0a")
 RED, BLUE, GREEN, GREY, PLAIN = "\x1b[31m", "\x1b[34m", "\x1b[32m", "\x1b[90m", "\x1b[0m"
+COLOURS = {">": BLUE, "<": GREEN}
 CHANNEL = re.compile(r" ch=(\d+)")
 RESTARTS = re.compile(r"\| RESTART|^(?:dte|dce) restart")
 A_ROW = 16
@@ -118,32 +120,46 @@ class Lines:
         self._paint = paint
         self._named = set()
 
-    def take(self, time, connection, text):
-        """Yields the lines of something to show."""
-        if connection.name is not None and connection.number not in self._named:
-            self._named.add(connection.number)
-            yield self._paint(GREY, f"connection {connection.number}: {connection.name}")
-        yield lead(time, connection) + self._text(connection, text)
+    def take(self, block):
+        """Answers the lines of the things of a block."""
+        lines = []
+        for time, connection, text in block:
+            if connection.number not in self._named:
+                self._named.add(connection.number)
+                if connection.name is not None:
+                    lines.append(self._paint(GREY, f"connection {connection.number}: {connection.name}"))
+            lines.append(lead(time, connection) + self._text(connection, text))
+        return lines
 
     def _text(self, connection, text):
         if text[0] in "!?":
             return self._paint(RED, f"{text} {x25names.refusal(text)}".rstrip())
-        whole, mark, remark = text.partition(RULE if RULE in text else NOTE)
+        mark = RULE if RULE in text else NOTE if NOTE in text else None
+        whole, _, remark = text.partition(mark) if mark else (text, "", "")
         said = x25names.words(whole)
         if connection.is_made_up:
             whole = whole[:2] + whole.partition(" | ")[2]
-        colour = RED if "fault" in whole or whole.startswith("FRMR", 2) else {">": BLUE, "<": GREEN}.get(whole[0], PLAIN)
-        said = self._paint(GREY, f"  ({said})") if said else ""
-        return self._paint(colour, whole) + said + (self._paint(RED if mark == RULE else GREY, mark + remark) if mark else "")
+        shown = self._paint(colour_of(whole), whole)
+        if said:
+            shown += self._paint(GREY, f"  ({said})")
+        return shown + self._paint(RED if mark == RULE else GREY, mark + remark) if mark else shown
 
     def end(self):
         """Nothing is left at the end."""
         return []
 
 
+def colour_of(text):
+    """The colour of a frame or an entry."""
+    if text.startswith("FRMR", 2) or "fault" in text:
+        return RED
+    return COLOURS.get(text[0], PLAIN)
+
+
 def lead(time, connection):
     """What stands before the direction: the time, and the connection but for the first."""
-    return (f"{time} " if time else "") + (f"#{connection.number} " if connection.number > 1 else "")
+    number = f"#{connection.number} " if connection.number > 1 else ""
+    return f"{time} {number}" if time else number
 
 
 class Joined:
@@ -155,8 +171,11 @@ class Joined:
         self._lines = {}
         self._last = {}
 
-    def take(self, time, connection, text):
-        """Yields the lines of the messages that a frame completes."""
+    def take(self, block):
+        """Answers the lines of the messages that the frames of a block complete."""
+        return [line for it in block for line in self._taken(*it)]
+
+    def _taken(self, time, connection, text):
         if text[0] in pcap2x25.OTHER:
             if connection not in self._lines:
                 # Frames that were made up count from 0.
@@ -172,7 +191,7 @@ class Joined:
     def _row(self, before, message):
         where = "" if message.channel is None else f" ch={message.channel}" + (f" Q={message.q}" if message.q else "")
         count = "" if message.channel is None else f", {len(message.octets):,} octet{'s' if len(message.octets) != 1 else ''}"
-        colour = {">": BLUE, "<": GREEN}[message.direction] if where else RED
+        colour = COLOURS[message.direction] if where else RED
         yield before + self._paint(colour, f"{message.direction}{where} {message.sort}{count}")
         yield from dumped(message.octets)
 
@@ -191,8 +210,13 @@ class Statistic:
         self._due = {}
         self._times = []
 
-    def take(self, time, connection, text):
-        """Counts a frame; shows nothing."""
+    def take(self, block):
+        """Counts the frames of a block; shows nothing."""
+        for it in block:
+            self._count(*it)
+        return []
+
+    def _count(self, time, connection, text):
         direction = text[0]
         if direction in pcap2x25.OTHER:
             self._names[connection.number] = connection.name
@@ -201,7 +225,6 @@ class Statistic:
             for kind in self._kinds(connection, direction, frame, packet):
                 counts = self._counts.setdefault((connection.number, kind), Counter())
                 counts[direction] += len(octets_of(packet.rpartition("data=")[2])) if kind == "octets of data" else 1
-        return []
 
     def _kinds(self, connection, direction, frame, packet):
         """The rows in which a frame counts."""
@@ -268,7 +291,7 @@ def show(view, blocks, out):
     """Writes what a view makes of the things of each block; also what it has at the end, where the user ends it."""
     try:
         for block in blocks:
-            out.write("".join([f"{line}\n" for it in block for line in view.take(*it)]))
+            out.write("".join([f"{line}\n" for line in view.take(block)]))
     finally:
         out.write("".join([f"{line}\n" for line in view.end()]))
 

@@ -83,7 +83,7 @@ GROUNDS = ("undefined control", "information that mustn't be there", "informatio
 
 CAUSED = re.compile(r"(CLEAR|RESET|RESTART|cleared|wasreset|restarted)\b.* cause=(\d+) diag=(\d+)$")
 DIAGNOSED = re.compile(r"fault \S+ diag=(\d+)$")
-FRAME_REFUSED = re.compile(r"^(?:[<>] )?FRMR .*why=([0-9a-f]{6})$")
+FRAME_REFUSED = re.compile(r"(?:[<>] )?FRMR .*why=([0-9a-f]{6})$")
 CAUSES = {"CLEAR": CLEARING, "cleared": CLEARING, "RESET": RESETTING, "wasreset": RESETTING, "RESTART": RESTARTING, "restarted": RESTARTING}
 
 
@@ -109,7 +109,7 @@ def words(text):
             return f"{cause}; {_diagnostic(diagnostic)}" if diagnostic else cause
         if found := DIAGNOSED.search(text):
             return _diagnostic(int(found[1]))
-    elif found := FRAME_REFUSED.search(text):
+    elif "why=" in text and (found := FRAME_REFUSED.match(text)):
         return _grounds(bytes.fromhex(found[1]))
     return ""
 

@@ -25,7 +25,7 @@ class Page(ToolCase):
     def test_what_the_manual_is_written_in(self):
         text = "## `x25` \"a\"\n\nIt's `--k` **or**\n.no request\n\n    $ a\\b\n\n    'c\n\n| H | I |\n|---|---|\n| a \\| b | c |\n- one\n  two\n"
         drawn = support.run("manpage.py", self.file("manual", text.encode())).stdout.decode()
-        body = drawn.split(".SH DESCRIPTION\n")[1]
+        body = drawn.split(".SH DESCRIPTION\n")[1].split(".SH SEE ALSO\n")[0]
         expected = ".SH x25 \\(dqa\\(dq\n.PP\nIt's \\fB\\-\\-k\\fR \\fBor\\fR\n\\&.no request\n.PP\n.PP\n.nf\n.RS 4\n$ a\\eb\n\\&\n\\&'c\n\\&\n.RE\n.fi\n"
         expected += ".TP\nH\nI\n.TP\na | b\nc\n.IP \\(bu 2\none\ntwo\n"
         self.assertEqual(body, expected)
@@ -33,7 +33,7 @@ class Page(ToolCase):
     def test_the_manual_keeps_its_headings_and_examples(self):
         manual = support.read("docs/MANUAL.md").decode()
         lines = "\n".join(manpage.roff(manual.splitlines())).splitlines()
-        self.assertEqual(sum(line.startswith(".SH") for line in lines), 3 + len(re.findall("^## ", manual, re.MULTILINE)))
+        self.assertEqual(sum(line.startswith(".SH") for line in lines), 4 + len(re.findall("^## ", manual, re.MULTILINE)))
         self.assertEqual(sum(line.startswith("$ ") for line in lines), len(re.findall(r"^    \$ ", manual, re.MULTILINE)))
         self.assertEqual(lines.count(".nf"), lines.count(".fi"))
 

@@ -1,0 +1,102 @@
+"""Tests of `make install`: into an empty folder, run from there by another user, and taken away again."""
+
+import os
+import pwd
+import re
+import shutil
+import subprocess
+import sys
+import unittest
+
+import support
+from support import ToolCase
+from test_manual import EXAMPLE
+
+import manpage
+
+PREFIX = "/usr/local"
+SCRIPTS = ("x25dump", "pcap2x25", "x25pcap", "x25bridge", "x25chart")
+# Who runs what was installed, where the tests run as root and so may be another user.
+OTHER = {"user": pwd.getpwnam("nobody").pw_uid, "group": pwd.getpwnam("nobody").pw_gid, "extra_groups": []} if os.geteuid() == 0 else {}
+
+
+def make(*words):
+    """What `make` does at the root of the repository."""
+    return subprocess.run(["make", "-s", *words], cwd=support.ROOT, env={**os.environ, "MAKEFLAGS": ""}, capture_output=True, text=True, timeout=60)
+
+
+@support.needs_program
+class Installed(ToolCase):
+    def setUp(self):
+        super().setUp()
+        os.chmod(self.folder, 0o755)
+        self.there = self.folder + PREFIX
+        self.documents = f"{self.there}/share/doc/x25"
+        self.words = f"DESTDIR={self.folder}", f"PREFIX={PREFIX}", f"PROGRAM={support.PROGRAM}"
+        done = make("install", *self.words)
+        self.assertEqual((done.returncode, done.stderr), (0, ""))
+
+    def run_there(self, command, has_path=True):
+        """What a command for bash writes, run by another user among the documents; with the folder of the programs on the PATH, or not."""
+        places = [f"{self.there}/bin"] * has_path + [os.path.dirname(os.path.realpath(sys.executable)), "/usr/bin", "/bin"]
+        environment = {"PATH": ":".join(places), "LC_ALL": "C", "HOME": "/"}
+        done = subprocess.run(["bash", "-c", command], cwd=self.documents, env=environment, capture_output=True, text=True, timeout=60, **OTHER)
+        return done.stdout + done.stderr
+
+    def page(self):
+        with open(f"{self.there}/share/man/man1/x25.1") as file:
+            return file.read()
+
+    def test_each_script_runs(self):
+        self.assertRegex(self.run_there("x25 --version"), r"^x25 \d+\.\d+\.\d+\n$")
+        for name in SCRIPTS:
+            self.assertIn(f"usage: {name} ", self.run_there(f"{name} --help"))
+        with open(f"{self.documents}/examples/setup.trace", "rb") as file:
+            decoded = "".join(f"{line}\n" for line in support.decode(file.read()))
+        self.assertEqual(self.run_there("x25dump examples/setup.trace"), decoded)
+        # The program that was installed with a script is found without the PATH.
+        self.assertEqual(self.run_there(f"{self.there}/bin/x25dump examples/setup.trace", has_path=False), decoded)
+
+    def test_each_example_of_the_page_writes_what_stands_below_it(self):
+        manual = support.read("docs/MANUAL.md").decode().splitlines()
+        examples = EXAMPLE.findall("\n".join([*manpage.installed(manual, PREFIX), ""]))
+        self.assertGreater(len(examples), 30)
+        for command, output in examples:
+            with self.subTest(command):
+                command = command.replace(f"{PREFIX}/", f"{self.there}/")
+                self.assertEqual(self.run_there(command), re.sub("^    ", "", output, flags=re.MULTILINE))
+
+    def test_the_page_points_to_nothing_that_is_not_there(self):
+        text = re.sub(r"\\f[BR]|\\&", "", self.page().replace("\\-", "-"))
+        for name in re.findall(rf"{PREFIX}/[\w./]*\w|\bexamples/[\w.]*\w", text):
+            self.assertTrue(os.path.exists(self.folder + name if name[0] == "/" else f"{self.documents}/{name}"), name)
+        self.assertEqual(re.findall(r"\b(?:make [\w-]+|(?:build|docs|tools|share/x25|crates|tests)/\S*)", text.replace(f"{PREFIX}/", "")), [])
+        self.assertIn(".SH SEE ALSO", text)
+
+    def test_completion_and_pages(self):
+        completion = f"{self.there}/share/bash-completion/completions/x25"
+        self.assertEqual(self.run_there(f"source {completion}; complete -p x25"), "complete -o default -F _x25 x25\n")
+        for name in SCRIPTS:
+            self.assertTrue(os.path.samefile(f"{self.there}/share/man/man1/{name}.1", f"{self.there}/share/man/man1/x25.1"))
+        if shutil.which("man"):
+            self.assertIn("X.25 in a page".upper(), self.run_there(f"man -P cat {self.there}/share/man/man1/x25dump.1").upper())
+
+    def test_uninstall_leaves_nothing(self):
+        self.assertEqual(make("uninstall", *self.words).returncode, 0)
+        left = [name for _, _, names in os.walk(self.folder) for name in names]
+        self.assertEqual(left, [])
+
+    def test_the_sources_bear_the_version_of_the_program(self):
+        version = subprocess.run([support.PROGRAM, "--version"], capture_output=True, text=True, timeout=60).stdout.strip()
+        self.assertIn(f"build/{version.replace(' ', '-')}.tar.gz", make("-n", "dist").stdout)
+
+
+class NotBuilt(unittest.TestCase):
+    def test_it_says_what_is_missing(self):
+        done = make("install", "PROGRAM=none", "DESTDIR=/nowhere")
+        self.assertEqual((done.returncode, done.stdout), (2, ""))
+        self.assertIn("There is no none: make x25 leaves it there.", done.stderr)
+
+
+if __name__ == "__main__":
+    unittest.main()
