@@ -115,6 +115,18 @@ class Told(unittest.TestCase):
         self.assertEqual(self.unasked(*links, asked=999), links[2:])
 
 
+class Make(ToolCase):
+    def test_a_program_that_stands_there_needs_no_kit(self):
+        for name in ("Makefile", "crates.txt"):
+            self.file(name, support.read(name))
+        for folder in ("crates", "build"):
+            os.mkdir(os.path.join(self.folder, folder))
+        self.file("build/x25", b"")
+        environment = {**os.environ, "PATH": "/usr/bin:/bin"}
+        done = subprocess.run(["make", "-n", "interop"], cwd=self.folder, env=environment, capture_output=True, text=True, timeout=60)
+        self.assertEqual((done.returncode, done.stdout), (0, "interop/build.sh build/interop\npython3 interop/play.py build/interop\n"), done.stderr)
+
+
 @support.needs_station
 class Run(ToolCase):
     def test_some_seconds(self):
