@@ -69,6 +69,33 @@ class Checked(unittest.TestCase):
         self.assert_wrong("came for 00000006", 7)
 
 
+class Halves(unittest.TestCase):
+    """What Linux makes of a message in two over a reset, and what it doesn't explain."""
+
+    def setUp(self):
+        self.ways = soak.Ways(is_linux=True)
+        for number in (1, 2):
+            self.ways.send(4, message(number, 300))
+        self.ways.begin_age([4])
+        self.ways.send(4, message(3))
+
+    def test_a_front_is_joined_to_the_next_message(self):
+        self.ways.come(4, message(1, 300)[:256] + message(3))
+        self.assertEqual((self.ways.messages, self.ways.halves, self.ways.all_under_way()), (1, 1, 0))
+
+    def test_a_rest_comes_by_itself(self):
+        self.ways.come(4, message(2, 300)[256:])
+        self.ways.come(4, message(3))
+        self.assertEqual((self.ways.messages, self.ways.halves), (1, 1))
+
+    def test_other_octets(self):
+        for data in (message(1, 300)[:256] + message(4), "41" * 20 + message(3), message(9)):
+            with self.assertRaises(soak.Wrong):
+                self.ways.come(4, data)
+        with self.assertRaises(soak.Wrong):
+            soak.Ways().come(4, message(2, 300)[256:])
+
+
 class Told(unittest.TestCase):
     """What nobody asked for, by the notices of the near end."""
 
@@ -86,6 +113,18 @@ class Told(unittest.TestCase):
         links = ["dce linkdown dm", "dce linkdown reset", "dce linkdown frmr-got"]
         self.assertEqual(self.unasked("dce linkdown disc", "dce linkdown local", *links), links)
         self.assertEqual(self.unasked(*links, asked=999), links[2:])
+
+
+class Make(ToolCase):
+    def test_a_program_that_stands_there_needs_no_kit(self):
+        for name in ("Makefile", "crates.txt"):
+            self.file(name, support.read(name))
+        for folder in ("crates", "build"):
+            os.mkdir(os.path.join(self.folder, folder))
+        self.file("build/x25", b"")
+        environment = {**os.environ, "PATH": "/usr/bin:/bin"}
+        done = subprocess.run(["make", "-n", "interop"], cwd=self.folder, env=environment, capture_output=True, text=True, timeout=60)
+        self.assertEqual((done.returncode, done.stdout), (0, "interop/build.sh build/interop\npython3 interop/play.py build/interop\n"), done.stderr)
 
 
 @support.needs_station
