@@ -71,6 +71,27 @@ def stem(path):
     return os.path.splitext(os.path.basename(path))[0].replace("_", "").lower()
 
 
+def crates_and_what_they_use():
+    """The crates of crates.txt, but for those of tests, each with what it stands on, in their order there."""
+    text = support.read(os.path.join(support.ROOT, "crates.txt")).decode()
+    lines = [line.partition(":") for line in text.splitlines() if line.strip() and not line.startswith("#")]
+    return {name.split()[0]: low.split() for name, _, low in lines if not name.endswith("_tests") and name != "x25_failing_devices"}
+
+
+class Crates(unittest.TestCase):
+    """The list of crates in docs/ARCHITECTURE.md has each crate of crates.txt once, behind those that it stands on."""
+
+    def test_each_crate_stands_behind_those_that_it_uses(self):
+        text = support.read(os.path.join(support.ROOT, "docs", "ARCHITECTURE.md")).decode()
+        table = text[text.index("| Crate |"):].split("\n\n")[0].splitlines()[2:]
+        listed = [re.match(r"\| `(\w+)` \| ", row)[1] for row in table]
+        use = crates_and_what_they_use()
+        self.assertEqual(sorted(listed), sorted(use))
+        for place, crate in enumerate(listed):
+            with self.subTest(crate):
+                self.assertEqual([low for low in use[crate] if low in use and low not in listed[:place]], [])
+
+
 class Map(unittest.TestCase):
     def test_each_row_is_whole(self):
         for row in rows():
