@@ -4,7 +4,7 @@ use crate::counts::{Counts, Kind};
 use crate::ends::{Ends, Outcome, Seen, Trouble, answers_of};
 use crate::lines::Lines;
 use std::alloc::{AllocError, Global};
-use x25_station::{Cfg, Entry, Role};
+use x25_station::{Cfg, Role, Step};
 use x25_world::{Direction, Entered, Event, World, WorldError};
 
 /// A world, what an event or healing tells, and the lines of the frames that were on its line behind the last event.
@@ -12,7 +12,7 @@ use x25_world::{Direction, Entered, Event, World, WorldError};
 pub(crate) struct Worlds {
     alloc: Global,
     world: Box<World>,
-    told: Vec<Entry>,
+    step: Step,
     healed: Vec<Entered>,
     frames: Lines,
 }
@@ -27,12 +27,8 @@ fn set_up(alloc: Global, cfg: Cfg) -> Result<Box<World>, WorldError> {
     boxed(alloc, World::establish(alloc, cfg)?).ok_or(WorldError::NoMemory)
 }
 
-fn step(world: &mut World, event: Event<'static>, told: &mut Vec<Entry>) -> Result<(), WorldError> {
-    world.step(event, told)
-}
-
-fn give_back(world: &mut World, at: Role, told: &mut Vec<Entry>) {
-    world.give_back(at, told);
+fn step(world: &mut World, event: Event<'static>, out: &mut Step) -> Result<(), WorldError> {
+    world.step(event, out)
 }
 
 fn heal(world: &mut World, told: &mut Vec<Entered>) -> Result<u64, WorldError> {
@@ -127,7 +123,7 @@ impl Worlds {
         Ok(Worlds {
             alloc,
             world,
-            told: Vec::new(alloc),
+            step: Step::new(alloc),
             healed: Vec::new(alloc),
             frames,
         })
@@ -138,13 +134,12 @@ impl Worlds {
         shown.push(self.frames.as_slice())
     }
 
-    /// Shows the step of an end, whose frames stand behind so many on the line, and gives its entries back.
+    /// Shows the step of an end, whose frames stand behind so many on the line.
     fn tells(&mut self, at: Role, before: usize, shown: &mut Lines) -> Result<(), AllocError> {
-        for entry in self.told.iter() {
+        for entry in self.step.entries.iter() {
             shown.push_entry(at, entry)?;
         }
         push_frames(&self.world, at, before, shown)?;
-        give_back(&mut self.world, at, &mut self.told);
         self.frames = line_of(self.alloc, &self.world)?;
         Ok(())
     }
@@ -180,7 +175,7 @@ impl Ends for Worlds {
     fn happens(&mut self, event: Event<'static>, shown: &mut Lines) -> Result<Outcome, Trouble> {
         let at = event.at();
         let before = self.world.on_line(away_from(at));
-        if let Err(error) = step(&mut self.world, event, &mut self.told) {
+        if let Err(error) = step(&mut self.world, event, &mut self.step) {
             return Ok(Outcome::of_number(number_of(error)));
         }
         self.tells(at, before, shown)?;
@@ -198,6 +193,6 @@ impl Ends for Worlds {
 
     fn stands(&self) -> Result<bool, AllocError> {
         let frames = line_of(self.alloc, &self.world)?;
-        Ok(self.told.is_empty() && frames.as_slice() == self.frames.as_slice())
+        Ok(self.step.entries.is_empty() && frames.as_slice() == self.frames.as_slice())
     }
 }

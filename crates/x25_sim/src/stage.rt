@@ -11,7 +11,7 @@ use std::alloc::Global;
 use x25_console::{read_octets, read_user, station_command, tell_nothing};
 use x25_io::{Fault, Output, Sink};
 use x25_script::{Command, ScriptLine, Sent};
-use x25_station::{Cfg, Cmd, Entry};
+use x25_station::{Cfg, Cmd, Step};
 use x25_world::{
     Direction, Event, Role, SABM_ARRIVES, UA_ARRIVES, World, WorldError, two_stations_keep_order,
 };
@@ -20,7 +20,7 @@ use x25_world::{
 #[derive(Drop)]
 pub(crate) struct Stage {
     world: World,
-    told: Vec<Entry>,
+    step: Step,
     tap: bool,
     output: Output,
     is_refused: bool,
@@ -96,7 +96,7 @@ impl Stage {
         };
         Ok(Stage {
             world,
-            told: Vec::new(alloc),
+            step: Step::new(alloc),
             tap,
             output,
             is_refused: false,
@@ -118,7 +118,7 @@ impl Stage {
     /// Tells the step of an end: its entries, and behind these its frames where they are asked for, which stand on the line behind so many.
     #[inline(always)]
     fn tell_step<W: Sink>(&mut self, at: Role, before: usize, writer: &mut W) -> Result<(), Fault>
-        ensures tells { (old : Option (List ℕ)) (told : List ℕ) (w next : State) → next.transcript ≡ w.transcript ++ entered at (map plain_entry self.old.told.items)
+        ensures tells { (old : Option (List ℕ)) (told : List ℕ) (w next : State) → next.transcript ≡ w.transcript ++ entered at (map plain_entry self.old.step.entries.items)
             → next.tap ≡ w.tap ++ tapped at (drop before (line_from self.old.world at))
             → Tells old (W.contents writer.old) self.old.output told → let sayings = told_between self.old.tap w next in
             MatchResult result (λ _. Tells old (W.contents writer.new) self.new.output (told ++ sayings_text sayings)) (λ _. AppendsPrefix old (W.contents writer.new) (told ++ sayings_text sayings)) }
@@ -127,28 +127,11 @@ impl Stage {
         ensures is_refused { self.new.is_refused ≡ self.old.is_refused }
         ensures faults { MarksFaults W.Sink writer.old writer.new result }
     {
-        tell_entries(at, self.told.as_slice(), &mut self.output, writer)?;
+        tell_entries(at, self.step.entries.as_slice(), &mut self.output, writer)?;
         if !self.tap {
             return Ok(());
         }
         self.tell_put(at, before, writer)
-    }
-
-    /// .. and gives its entries back then.
-    #[inline(always)]
-    fn end_step<W: Sink>(&mut self, at: Role, before: usize, writer: &mut W) -> Result<(), Fault>
-        ensures tells { (old : Option (List ℕ)) (told : List ℕ) (w next : State) → next.transcript ≡ w.transcript ++ entered at (map plain_entry self.old.told.items)
-            → next.tap ≡ w.tap ++ tapped at (drop before (line_from self.old.world at))
-            → Tells old (W.contents writer.old) self.old.output told → let sayings = told_between self.old.tap w next in
-            MatchResult result (λ _. Tells old (W.contents writer.new) self.new.output (told ++ sayings_text sayings)) (λ _. AppendsPrefix old (W.contents writer.new) (told ++ sayings_text sayings)) }
-        ensures world { (cfg : Settings) (w : State) → FitsWorld cfg self.old.world w → OnOk result (FitsWorld cfg self.new.world w) }
-        ensures tap { self.new.tap ≡ self.old.tap }
-        ensures is_refused { self.new.is_refused ≡ self.old.is_refused }
-        ensures faults { MarksFaults W.Sink writer.old writer.new result }
-    {
-        self.tell_step(at, before, writer)?;
-        self.world.give_back(at, &mut self.told);
-        Ok(())
     }
 
     /// How many frames are on the line from an end.
@@ -186,8 +169,8 @@ impl Stage {
     {
         let at = event.at();
         let before = self.sent(at);
-        match self.world.step(event, &mut self.told) {
-            Ok(()) => self.end_step(at, before, writer),
+        match self.world.step(event, &mut self.step) {
+            Ok(()) => self.tell_step(at, before, writer),
             Err(error) => self.refuse(error, writer),
         }
     }
@@ -235,10 +218,10 @@ impl Stage {
     {
         let at = event.at();
         let before = self.sent(at);
-        if let Err(error) = self.world.step(event, &mut self.told) {
+        if let Err(error) = self.world.step(event, &mut self.step) {
             return unless_memory(error);
         }
-        self.end_step(at, before, writer)
+        self.tell_step(at, before, writer)
     }
 
     /// Two events happen, each where it isn't refused.

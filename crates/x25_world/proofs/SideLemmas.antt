@@ -44,18 +44,25 @@ pub shared_of : (cfg : Cfg) (at : Role) (near : code.Station) (line : ShownLine)
 shared_of cfg Dte near line w room side = record { out = side.out; back = side.back }
 shared_of cfg Dce near line w room side = record { out = side.out; back = side.back }
 
+-- .. and nor does memory that serves again
+pub reused : (cfg : Cfg) (at : Role) (near new : code.Station) (line : ShownLine) (w : World) → FitsSide cfg at near line w → FitsStation (settings_from at cfg) new w.near → FitsSide cfg at new line w
+reused cfg at near new line w side fits = record { near = fits; out = side.out; back = side.back }
+
 -- ---- an accepted call of the station
 
+abbrev ok : Result (Unit {0}) StationError
+ok = Ok tt
+
 -- a station that stands for all that another one stood for leaves what that one left
-leaves_on : (c : Settings) (old new : code.Station) (result : Result code_step.Step StationError) (outcome : Outcome)
+leaves_on : (c : Settings) (old new : code.Station) (result : Result (Unit {0}) StationError) (outcome : Outcome)
     → ((k : Settings) (s : Station) → FitsStation k old s → FitsStation k new s) → Leaves c old result outcome → Leaves c new result outcome
 leaves_on c old new (Ok x) (Did step) on leaves = on c step.near leaves
 leaves_on c old new (Err e) (Did step) on leaves = tt
 leaves_on c old new result (Refused e) on leaves = tt
 
 pub has_happened : (cfg : Cfg) (at : Role) (near : code.Station) (line : ShownLine) (w : World) (outcome : Outcome) (answer : code_step.Step)
-    → FitsShared at line w w.back → Leaves (settings_from at cfg) near (let r : Result code_step.Step StationError = Ok answer in r) outcome
-    → Sends (settings_from at cfg) (Ok answer) outcome → Enters (Ok answer) outcome → Refuses (let r : Result code_step.Step StationError = Ok answer in r) outcome
+    → FitsShared at line w w.back → Leaves (settings_from at cfg) near ok outcome
+    → Sends (settings_from at cfg) answer ok outcome → Enters answer ok outcome → Refuses ok outcome
     → HasHappened cfg at near (put_by line at (map (λ frame. frame.items) answer.frames.items)) (entered at (map plain_entry answer.entries.items)) w (of_station (settings_from at cfg) w outcome)
 has_happened cfg at near line w (Did step) answer shared leaves sends enters refuses =
     step_told cfg at near line w w.back step (map (λ frame. frame.items) answer.frames.items) (map plain_entry answer.entries.items) shared leaves sends enters
@@ -72,7 +79,7 @@ its_own station.BadConfig d is = inl (rw (sym is) refl)
 its_own (station.Link x) d is = inl (rw (sym is) refl)
 its_own (station.Layer x) d is = inl (rw (sym is) refl)
 
-pub is_refusal : (cfg : Cfg) (at : Role) (w : World) (outcome : Outcome) (e : StationError) → Refuses (let r : Result code_step.Step StationError = Err e in r) outcome
+pub is_refusal : (cfg : Cfg) (at : Role) (w : World) (outcome : Outcome) (e : StationError) → Refuses (let r : Result (Unit {0}) StationError = Err e in r) outcome
     → (refusal_of (of_station (settings_from at cfg) w outcome) ≡ Some (error_of e)) ⊎ (error_of e ≡ error.NoMemory)
 is_refusal cfg at w (Did step) e refuses = inr (no_memory e refuses)
 is_refusal cfg at w (Refused d) e refuses = elim refuses [ inl is ↦ its_own e d is | inr is ↦ inr (no_memory e is) ]
@@ -99,8 +106,8 @@ taken_off Dce line w octets left shared = record { out = shared.out; back = ap (
 
 pub has_arrived : (cfg : Cfg) (at : Role) (near new : code.Station) (line : ShownLine) (w : World) (back : List (List ℕ)) (octets : List ℕ) (answer : code_step.Step)
     → ((k : Settings) (s : Station) → FitsStation k near s → FitsStation k new s) → FitsShared at line w back → Some octets ≡ slice_get back 0
-    → Leaves (settings_from at cfg) near (let r : Result code_step.Step StationError = Ok answer in r) (Did (receives (settings_from at cfg) w.near octets))
-    → Sends (settings_from at cfg) (Ok answer) (Did (receives (settings_from at cfg) w.near octets)) → Enters (Ok answer) (Did (receives (settings_from at cfg) w.near octets))
+    → Leaves (settings_from at cfg) near ok (Did (receives (settings_from at cfg) w.near octets))
+    → Sends (settings_from at cfg) answer ok (Did (receives (settings_from at cfg) w.near octets)) → Enters answer ok (Did (receives (settings_from at cfg) w.near octets))
     → HasHappened cfg at new (put_by (with_line_to line at (remove (line_to line at) 0)) at (map (λ frame. frame.items) answer.frames.items)) (entered at (map plain_entry answer.entries.items)) w
     (delivered (settings_from at cfg) w back)
 has_arrived cfg at near new line w [] octets answer on shared front leaves sends enters = cc
@@ -109,7 +116,7 @@ has_arrived cfg at near new line w (o ∷ left) octets answer on shared front le
     let step = receives (settings_from at cfg) w.near octets in
     rw (sym same)
     (step_told cfg at new _ w left step (map (λ frame. frame.items) answer.frames.items) (map plain_entry answer.entries.items) (taken_off at line w o left shared)
-    (leaves_on (settings_from at cfg) near new (Ok answer) (Did step) on leaves) sends enters)
+    (leaves_on (settings_from at cfg) near new ok (Did step) on leaves) sends enters)
 
 -- ---- octets on the line are lost, or others come in their place
 

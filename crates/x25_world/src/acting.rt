@@ -1,5 +1,6 @@
 //! What happens at one end, and on the line to it.
-ghost use Rattle.std.specs.Prelude.{◌≡◌, ◌&&◌, ◌+◌, ◌≤◌, ◌++◌, ◌⊎◌, [], length, map, vec_len, vec_capacity, IfErr, OnOk, OnErr, IsErrOf};
+ghost use Rattle.std.specs.Prelude.{◌≡◌, ◌&&◌, ◌+◌, ◌≤◌, ◌++◌, ◌⊎◌, [], length, map, vec_len, vec_capacity, IfErr};
+ghost use Rattle.std.specs.Prelude.{OnOk, OnErr, IsErrOf};
 ghost use Rattle.x25_link.specs.Station.{awaits_ua};
 ghost use Rattle.x25_line.specs.laws.Stations.{is_visible};
 ghost use Rattle.x25_station.specs.Command.{command_of};
@@ -7,11 +8,12 @@ ghost use Rattle.x25_station.specs.code.PlainEntry.{plain_entry};
 ghost use Rattle.x25_station.specs.declared.config.Cfg.{Cfg};
 ghost use Rattle.x25_station.specs.Config.{Settings, settings_from};
 ghost use Rattle.x25_station.specs.Station.{Station as StationState};
-ghost use Rattle.x25_station.specs.code.FitsStation.{FitsStation};
+ghost use Rattle.x25_station.specs.code.FitsStation.{FitsStation, IsEmpty};
 ghost use Rattle.x25_station.specs.Step.{connects, commands};
 ghost use Rattle.x25_world.specs.Error.{error_of};
 ghost use Rattle.x25_world.specs.World as definition;
-ghost use Rattle.x25_world.specs.World.{Happened, Declined, of_station, delivered, is_on_line, fired, on_line, lost, damaged, acts, entered, event_of};
+ghost use Rattle.x25_world.specs.World.{Happened, Declined, of_station, delivered, is_on_line, fired, on_line, lost};
+ghost use Rattle.x25_world.specs.World.{damaged, acts, entered, event_of};
 ghost use Rattle.x25_world.specs.code.PlainTold.{plain_entered};
 ghost use Rattle.x25_world.specs.code.ShownLine.{put_by, line_to, with_line_to};
 ghost use Rattle.x25_world.specs.code.FitsWorld.{FitsWorld, FitsSide, HasActed, HasActedAt, TakesMemory, most_told};
@@ -23,32 +25,30 @@ use crate::line::Line;
 use crate::set_up::is_on_line;
 use crate::told::Entered;
 use x25_bits::{Role, check};
-use x25_station::{Cmd, Entry, MOST_ENTRIES, MOST_FRAMES, Station, StationError};
+use x25_station::{Cmd, Entry, MOST_ENTRIES, MOST_FRAMES, Station, StationError, Step};
 
-/// The event happens at its end, or on the line to it, and what it tells comes into the list, which is empty before, as is the
-/// list by which its frames come on the line. Refused with the one ground that applies, 50, 51, 52, 53 or 54, or with 70; all is
-/// as before then, and the list of what is told is empty.
+/// The event happens at its end, or on the line to it. What it tells comes into the step, in place of what was there,
+/// and its frames go on the line. Refused with the one ground that applies, 50, 51, 52, 53 or 54, or with 70; all is
+/// as before then, and the step is empty.
 #[inline(always)]
 pub fn act_at_end(
     dte: &mut Station,
     dce: &mut Station,
     line: &mut Line,
-    told: &mut Vec<Entry>,
-    frames: &mut Vec<Vec<u8>>,
+    out: &mut Step,
     event: Event,
 ) -> Result<(), WorldError>
-    requires empty { told.old.items ≡ [] }
-    requires unsent { frames.old.items ≡ [] }
-    ensures untold { OnErr result (told.new.items ≡ []) }
-    ensures few { vec_len told.new ≤ most_told (event_of event.entry).act }
+    ensures sent { out.new.frames.items ≡ [] }
+    ensures untold { OnErr result (out.new.entries.items ≡ []) }
+    ensures few { vec_len out.new.entries ≤ most_told (event_of event.entry).act }
     ensures memory { IsErrOf result WorldError.NoMemory → TakesMemory (event_of event.entry).act }
     ensures acted { (cfg : Cfg) (w : definition.World) → FitsWorld cfg (shown_with dte.old dce.old line.old) w →
         HasActedAt cfg (shown_with dte.new dce.new line.new)
-        (entered (event_of event.entry).at (map plain_entry told.new.items)) result w (event_of event.entry) }
+        (entered (event_of event.entry).at (map plain_entry out.new.entries.items)) result w (event_of event.entry) }
 {
     match event.at() {
-        Role::Dte => act(Role::Dte, dte, line, told, frames, event),
-        Role::Dce => act(Role::Dce, dce, line, told, frames, event),
+        Role::Dte => act(Role::Dte, dte, line, out, event),
+        Role::Dce => act(Role::Dce, dce, line, out, event),
     }
 }
 
@@ -59,25 +59,24 @@ fn act(
     at: Role,
     near: &mut Station,
     line: &mut Line,
-    told: &mut Vec<Entry>,
-    frames: &mut Vec<Vec<u8>>,
+    out: &mut Step,
     event: Event,
 ) -> Result<(), WorldError>
-    requires empty { told.old.items ≡ [] }
-    requires unsent { frames.old.items ≡ [] }
-    ensures untold { OnErr result (told.new.items ≡ []) }
-    ensures few { vec_len told.new ≤ most_told (event_of event.entry).act }
+    ensures sent { out.new.frames.items ≡ [] }
+    ensures untold { OnErr result (out.new.entries.items ≡ []) }
+    ensures few { vec_len out.new.entries ≤ most_told (event_of event.entry).act }
     ensures memory { IsErrOf result WorldError.NoMemory → TakesMemory (event_of event.entry).act }
     ensures acted { (cfg : Cfg) (w : definition.World) → FitsSide cfg at near.old line.old w →
-        HasActed cfg at near.new line.new (entered at (map plain_entry told.new.items)) result w
+        HasActed cfg at near.new line.new (entered at (map plain_entry out.new.entries.items)) result w
         (acts (settings_from at cfg) w (event_of event.entry).act) }
 {
+    near.reuse(out);
     match event {
-        Event::Command(_, cmd) => command(at, near, line, told, frames, cmd),
-        Event::Deliver(_) => deliver(at, near, line, told, frames),
+        Event::Command(_, cmd) => command(at, near, line, out, cmd),
+        Event::Deliver(_) => deliver(at, near, line, out),
         Event::Lose(_, place) => lose(at, line, place),
         Event::Damage(_, place, octets) => damage(at, line, place, octets),
-        Event::T1(_) => fire(at, near, line, told, frames),
+        Event::T1(_) => fire(at, near, line, out),
     }
 }
 
@@ -87,22 +86,21 @@ fn command(
     at: Role,
     near: &mut Station,
     line: &mut Line,
-    told: &mut Vec<Entry>,
-    frames: &mut Vec<Vec<u8>>,
+    out: &mut Step,
     cmd: Cmd,
 ) -> Result<(), WorldError>
-    requires empty { told.old.items ≡ [] }
-    requires unsent { frames.old.items ≡ [] }
-    ensures untold { OnErr result (told.new.items ≡ []) }
-    ensures few { vec_len told.new ≤ 3 }
+    requires { IsEmpty out.old }
+    ensures sent { out.new.frames.items ≡ [] }
+    ensures untold { OnErr result (out.new.entries.items ≡ []) }
+    ensures few { vec_len out.new.entries ≤ 3 }
     ensures acted { (cfg : Cfg) (w : definition.World) → FitsSide cfg at near.old line.old w →
-        HasActed cfg at near.new line.new (entered at (map plain_entry told.new.items)) result w
+        HasActed cfg at near.new line.new (entered at (map plain_entry out.new.entries.items)) result w
         (of_station (settings_from at cfg) w (commands (settings_from at cfg) w.near (command_of cmd.entry))) }
 {
     make_room(line)?;
-    match near.command_into(cmd, frames, told) {
+    match near.command(cmd, out) {
         Ok(()) => {
-            put(at, line, frames);
+            put(at, line, &mut out.frames);
             Ok(())
         }
         Err(error) => Err(WorldError::of_station(error)),
@@ -111,30 +109,24 @@ fn command(
 
 // The front frame on the line to the end arrives.
 #[inline(always)]
-fn deliver(
-    at: Role,
-    near: &mut Station,
-    line: &mut Line,
-    told: &mut Vec<Entry>,
-    frames: &mut Vec<Vec<u8>>,
-) -> Result<(), WorldError>
-    requires empty { told.old.items ≡ [] }
-    requires unsent { frames.old.items ≡ [] }
-    ensures untold { OnErr result (told.new.items ≡ []) }
-    ensures few { vec_len told.new ≤ 3 }
+fn deliver(at: Role, near: &mut Station, line: &mut Line, out: &mut Step) -> Result<(), WorldError>
+    requires { IsEmpty out.old }
+    ensures sent { out.new.frames.items ≡ [] }
+    ensures untold { OnErr result (out.new.entries.items ≡ []) }
+    ensures few { vec_len out.new.entries ≤ 3 }
     ensures acted { (cfg : Cfg) (w : definition.World) → FitsSide cfg at near.old line.old w →
-        HasActed cfg at near.new line.new (entered at (map plain_entry told.new.items)) result w
+        HasActed cfg at near.new line.new (entered at (map plain_entry out.new.entries.items)) result w
         (delivered (settings_from at cfg) w w.back) }
 {
     make_room(line)?;
     let Some(octets) = line.get(at, 0) else {
         return Err(WorldError::Empty);
     };
-    match near.receive_into(octets, frames, told) {
+    match near.receive(octets, out) {
         Ok(()) => {
             let octets = line.remove(at, 0);
             give_back(near, octets);
-            put(at, line, frames);
+            put(at, line, &mut out.frames);
             Ok(())
         }
         Err(error) => Err(refused_arrival(error)),
@@ -154,7 +146,8 @@ fn refused_arrival(error: StationError) -> WorldError
 #[inline(always)]
 fn put(at: Role, line: &mut Line, frames: &mut Vec<Vec<u8>>)
     requires { vec_len frames.old ≤ line.old.room }
-    ensures { line.new ≡ put_by line.old at (map (λ frame. frame.items) frames.old.items) }
+    ensures empty { frames.new.items ≡ [] }
+    ensures line { line.new ≡ put_by line.old at (map (λ frame. frame.items) frames.old.items) }
 {
     for octets in frames.drain(..) {
         line.put(at, octets);
@@ -173,28 +166,22 @@ fn give_back(near: &mut Station, octets: Option<Vec<u8>>)
 
 // Timer T1 of the end runs out, which it doesn't while UA is awaited and can still come.
 #[inline(always)]
-fn fire(
-    at: Role,
-    near: &mut Station,
-    line: &mut Line,
-    told: &mut Vec<Entry>,
-    frames: &mut Vec<Vec<u8>>,
-) -> Result<(), WorldError>
-    requires empty { told.old.items ≡ [] }
-    requires unsent { frames.old.items ≡ [] }
-    ensures untold { OnErr result (told.new.items ≡ []) }
-    ensures few { vec_len told.new ≤ 3 }
+fn fire(at: Role, near: &mut Station, line: &mut Line, out: &mut Step) -> Result<(), WorldError>
+    requires { IsEmpty out.old }
+    ensures sent { out.new.frames.items ≡ [] }
+    ensures untold { OnErr result (out.new.entries.items ≡ []) }
+    ensures few { vec_len out.new.entries ≤ 3 }
     ensures acted { (cfg : Cfg) (w : definition.World) → FitsSide cfg at near.old line.old w →
-        HasActed cfg at near.new line.new (entered at (map plain_entry told.new.items)) result w
+        HasActed cfg at near.new line.new (entered at (map plain_entry out.new.entries.items)) result w
         (fired (settings_from at cfg) w) }
 {
     if awaits_frames(at, near, line) {
         return Err(WorldError::OnLine);
     }
     make_room(line)?;
-    match near.t1_into(frames, told) {
+    match near.t1(out) {
         Ok(()) => {
-            put(at, line, frames);
+            put(at, line, &mut out.frames);
             Ok(())
         }
         Err(error) => Err(WorldError::of_station(error)),
@@ -214,21 +201,20 @@ pub fn connect(
     at: Role,
     near: &mut Station,
     line: &mut Line,
-    told: &mut Vec<Entry>,
-    frames: &mut Vec<Vec<u8>>,
+    out: &mut Step,
 ) -> Result<(), WorldError>
-    requires empty { told.old.items ≡ [] }
-    requires unsent { frames.old.items ≡ [] }
-    ensures untold { OnErr result (told.new.items ≡ []) }
-    ensures few { vec_len told.new ≤ 3 }
+    requires { IsEmpty out.old }
+    ensures sent { out.new.frames.items ≡ [] }
+    ensures untold { OnErr result (out.new.entries.items ≡ []) }
+    ensures few { vec_len out.new.entries ≤ 3 }
     ensures acted { (cfg : Cfg) (w : definition.World) → FitsSide cfg at near.old line.old w →
-        HasActed cfg at near.new line.new (entered at (map plain_entry told.new.items)) result w
+        HasActed cfg at near.new line.new (entered at (map plain_entry out.new.entries.items)) result w
         (of_station (settings_from at cfg) w (connects (settings_from at cfg) w.near)) }
 {
     make_room(line)?;
-    match near.connect_into(frames, told) {
+    match near.connect(out) {
         Ok(()) => {
-            put(at, line, frames);
+            put(at, line, &mut out.frames);
             Ok(())
         }
         Err(error) => Err(WorldError::of_station(error)),

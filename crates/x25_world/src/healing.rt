@@ -1,5 +1,6 @@
 //! Healing: once the line is good for a moment, what the links were handed down arrives.
-ghost use Rattle.std.specs.Prelude.{List, ◌≡◌, ◌≢◌, ◌↔◌, ◌+◌, ◌*◌, ◌<◌, ◌≤◌, length, option_map, is_none, None, IfOk, IfErr, OnOk, IsTrue};
+ghost use Rattle.std.specs.Prelude.{List, ◌≡◌, ◌≢◌, ◌↔◌, ◌+◌, ◌*◌, ◌<◌, ◌≤◌, length, option_map, is_none, None, IfOk};
+ghost use Rattle.std.specs.Prelude.{IfErr, OnOk, IsTrue};
 ghost use Rattle.x25_bits.specs.Role.{end_of};
 ghost use Rattle.x25_station.specs.declared.config.Cfg.{Cfg};
 ghost use Rattle.x25_world.specs.World as definition;
@@ -71,16 +72,20 @@ pub fn healing_brings_all()
 }
 
 impl World {
-    /// The line is good for a moment: what is on it arrives, then timer T1 runs out at each end where it runs. What is on the line arrives, and then each
-    /// end pulls what waits in its circuits, again and again, as long as that puts frames on the line: at most 4,294,967,295 times, and each time at most
-    /// as many frames arrive. It answers how many frames arrived. What it tells comes into the list, in place of what was there.
+    /// The line is good for a moment: what is on it arrives, then timer T1 runs out at each end where it runs. What
+    /// is on the line arrives, and then each end pulls what waits in its circuits, again and again, as long as that
+    /// puts frames on the line: at most 4,294,967,295 times, and each time at most as many frames arrive. It answers
+    /// how many frames arrived. What it tells comes into the list, in place of what was there.
     ///
     /// Refused with 70 alone. What happened before stands, and is told.
     pub fn heal(&mut self, told: &mut Vec<Entered>) -> Result<u64, WorldError>
-        ensures goes { (cfg : Cfg) (w : definition.World) → FitsWorld cfg self.old w → OnOk result (GoesBy cfg (healing cfg w) w (telling self.new told.new.items) w.transcript) }
-        ensures counted { (cfg : Cfg) (w : definition.World) → FitsWorld cfg self.old w → IfOk result (λ count. count ≡ received_in (healing cfg w)) }
+        ensures goes { (cfg : Cfg) (w : definition.World) → FitsWorld cfg self.old w →
+            OnOk result (GoesBy cfg (healing cfg w) w (telling self.new told.new.items) w.transcript) }
+        ensures counted { (cfg : Cfg) (w : definition.World) → FitsWorld cfg self.old w →
+            IfOk result (λ count. count ≡ received_in (healing cfg w)) }
         ensures drained { IfOk result (λ count. count + 1 < most_rounds → next_end self.new.to_dce self.new.to_dte ≡ None) }
-        ensures stopped { (cfg : Cfg) (w : definition.World) → FitsWorld cfg self.old w → IfErr result (GoesPartly cfg (healing cfg w) w (telling self.new told.new.items) w.transcript) }
+        ensures stopped { (cfg : Cfg) (w : definition.World) → FitsWorld cfg self.old w →
+            IfErr result (GoesPartly cfg (healing cfg w) w (telling self.new told.new.items) w.transcript) }
 
         // After each run that leads to the world before, this is proved of the one that is left.
         ensures sessions { HoldsHealed (λ c w u. SessionsKeepOrder c u) self.old self.new result }
@@ -97,10 +102,16 @@ impl World {
 
     // The schedule of `heal`, without the laws of runs.
     fn go_on(&mut self, told: &mut Vec<Entered>) -> Result<u64, WorldError>
-        ensures goes { (cfg : Cfg) (w : definition.World) (before : List AtEnd) → Tells cfg (telling self.old told.old.items) w before → OnOk result (GoesBy cfg (healing cfg w) w (telling self.new told.new.items) before) }
-        ensures counted { (cfg : Cfg) (w : definition.World) (before : List AtEnd) → Tells cfg (telling self.old told.old.items) w before → IfOk result (λ count. count ≡ received_in (healing cfg w)) }
+        ensures goes { (cfg : Cfg) (w : definition.World) (before : List AtEnd) →
+            Tells cfg (telling self.old told.old.items) w before →
+            OnOk result (GoesBy cfg (healing cfg w) w (telling self.new told.new.items) before) }
+        ensures counted { (cfg : Cfg) (w : definition.World) (before : List AtEnd) →
+            Tells cfg (telling self.old told.old.items) w before →
+            IfOk result (λ count. count ≡ received_in (healing cfg w)) }
         ensures drained { IfOk result (λ count. count + 1 < most_rounds → next_end self.new.to_dce self.new.to_dte ≡ None) }
-        ensures stopped { (cfg : Cfg) (w : definition.World) (before : List AtEnd) → Tells cfg (telling self.old told.old.items) w before → IfErr result (GoesPartly cfg (healing cfg w) w (telling self.new told.new.items) before) }
+        ensures stopped { (cfg : Cfg) (w : definition.World) (before : List AtEnd) →
+            Tells cfg (telling self.old told.old.items) w before →
+            IfErr result (GoesPartly cfg (healing cfg w) w (telling self.new told.new.items) before) }
     {
         let before = self.deliver_all(told)?;
         self.attempt_both(Event::T1(Role::Dte), Event::T1(Role::Dce), told)?;
@@ -111,10 +122,16 @@ impl World {
     // What is on the line arrives, and then each end pulls what waits in its circuits, as long as that puts frames on the line. It answers how many frames
     // arrived.
     fn pull_all(&mut self, told: &mut Vec<Entered>) -> Result<u64, WorldError>
-        ensures goes { (cfg : Cfg) (w : definition.World) (before : List AtEnd) → Tells cfg (telling self.old told.old.items) w before → OnOk result (GoesBy cfg (pull_rounds cfg most_rounds w) w (telling self.new told.new.items) before) }
-        ensures counted { (cfg : Cfg) (w : definition.World) (before : List AtEnd) → Tells cfg (telling self.old told.old.items) w before → IfOk result (λ count. count ≡ received_in (pull_rounds cfg most_rounds w)) }
+        ensures goes { (cfg : Cfg) (w : definition.World) (before : List AtEnd) →
+            Tells cfg (telling self.old told.old.items) w before →
+            OnOk result (GoesBy cfg (pull_rounds cfg most_rounds w) w (telling self.new told.new.items) before) }
+        ensures counted { (cfg : Cfg) (w : definition.World) (before : List AtEnd) →
+            Tells cfg (telling self.old told.old.items) w before →
+            IfOk result (λ count. count ≡ received_in (pull_rounds cfg most_rounds w)) }
         ensures drained { IfOk result (λ count. count + 1 < most_rounds → next_end self.new.to_dce self.new.to_dte ≡ None) }
-        ensures stopped { (cfg : Cfg) (w : definition.World) (before : List AtEnd) → Tells cfg (telling self.old told.old.items) w before → IfErr result (GoesPartly cfg (pull_rounds cfg most_rounds w) w (telling self.new told.new.items) before) }
+        ensures stopped { (cfg : Cfg) (w : definition.World) (before : List AtEnd) →
+            Tells cfg (telling self.old told.old.items) w before →
+            IfErr result (GoesPartly cfg (pull_rounds cfg most_rounds w) w (telling self.new told.new.items) before) }
         ensures bounded { IfOk result (λ count. count ≤ most_rounds * most_deliveries) }
     {
         let mut count = 0u64;
@@ -130,10 +147,16 @@ impl World {
 
     // What is on the line arrives, and then each end pulls what waits in its circuits. It answers how many frames arrived.
     fn pull_round(&mut self, told: &mut Vec<Entered>) -> Result<u32, WorldError>
-        ensures goes { (cfg : Cfg) (w : definition.World) (before : List AtEnd) → Tells cfg (telling self.old told.old.items) w before → OnOk result (GoesBy cfg (pull_round cfg w) w (telling self.new told.new.items) before) }
-        ensures counted { (cfg : Cfg) (w : definition.World) (before : List AtEnd) → Tells cfg (telling self.old told.old.items) w before → IfOk result (λ count. count ≡ received_in (pull_round cfg w)) }
+        ensures goes { (cfg : Cfg) (w : definition.World) (before : List AtEnd) →
+            Tells cfg (telling self.old told.old.items) w before →
+            OnOk result (GoesBy cfg (pull_round cfg w) w (telling self.new told.new.items) before) }
+        ensures counted { (cfg : Cfg) (w : definition.World) (before : List AtEnd) →
+            Tells cfg (telling self.old told.old.items) w before →
+            IfOk result (λ count. count ≡ received_in (pull_round cfg w)) }
         ensures none { IfOk result (λ count. count ≡ 0 → next_end self.old.to_dce self.old.to_dte ≡ None) }
-        ensures stopped { (cfg : Cfg) (w : definition.World) (before : List AtEnd) → Tells cfg (telling self.old told.old.items) w before → IfErr result (GoesPartly cfg (pull_round cfg w) w (telling self.new told.new.items) before) }
+        ensures stopped { (cfg : Cfg) (w : definition.World) (before : List AtEnd) →
+            Tells cfg (telling self.old told.old.items) w before →
+            IfErr result (GoesPartly cfg (pull_round cfg w) w (telling self.new told.new.items) before) }
     {
         let count = self.deliver_all(told)?;
         self.attempt_both(
@@ -146,10 +169,16 @@ impl World {
 
     // What is on the line arrives, to the DCE first. It answers how many frames.
     fn deliver_all(&mut self, told: &mut Vec<Entered>) -> Result<u32, WorldError>
-        ensures goes { (cfg : Cfg) (w : definition.World) (before : List AtEnd) → Tells cfg (telling self.old told.old.items) w before → OnOk result (GoesBy cfg (deliveries cfg w) w (telling self.new told.new.items) before) }
-        ensures counted { (cfg : Cfg) (w : definition.World) (before : List AtEnd) → Tells cfg (telling self.old told.old.items) w before → IfOk result (λ count. count ≡ length (arrivals cfg most_deliveries w)) }
+        ensures goes { (cfg : Cfg) (w : definition.World) (before : List AtEnd) →
+            Tells cfg (telling self.old told.old.items) w before →
+            OnOk result (GoesBy cfg (deliveries cfg w) w (telling self.new told.new.items) before) }
+        ensures counted { (cfg : Cfg) (w : definition.World) (before : List AtEnd) →
+            Tells cfg (telling self.old told.old.items) w before →
+            IfOk result (λ count. count ≡ length (arrivals cfg most_deliveries w)) }
         ensures none { IfOk result (λ count. count ≡ 0 → next_end self.old.to_dce self.old.to_dte ≡ None) }
-        ensures stopped { (cfg : Cfg) (w : definition.World) (before : List AtEnd) → Tells cfg (telling self.old told.old.items) w before → IfErr result (GoesPartly cfg (deliveries cfg w) w (telling self.new told.new.items) before) }
+        ensures stopped { (cfg : Cfg) (w : definition.World) (before : List AtEnd) →
+            Tells cfg (telling self.old told.old.items) w before →
+            IfErr result (GoesPartly cfg (deliveries cfg w) w (telling self.new told.new.items) before) }
     {
         for count in 0..MOST_DELIVERIES {
             let Some(direction) = self.next_direction() else {
@@ -182,8 +211,14 @@ impl World {
 
     // An event happens, where it isn't refused.
     fn attempt(&mut self, event: Event, told: &mut Vec<Entered>) -> Result<(), WorldError>
-        ensures goes { (cfg : Cfg) (w : definition.World) (before : List AtEnd) → Tells cfg (telling self.old told.old.items) w before → OnOk result (GoesBy cfg (if_accepted cfg (event_of event.entry) w) w (telling self.new told.new.items) before) }
-        ensures stopped { (cfg : Cfg) (w : definition.World) (before : List AtEnd) → Tells cfg (telling self.old told.old.items) w before → IfErr result (GoesPartly cfg (if_accepted cfg (event_of event.entry) w) w (telling self.new told.new.items) before) }
+        ensures goes { (cfg : Cfg) (w : definition.World) (before : List AtEnd) →
+            Tells cfg (telling self.old told.old.items) w before →
+            OnOk result (GoesBy cfg (if_accepted cfg (event_of event.entry) w) w
+            (telling self.new told.new.items) before) }
+        ensures stopped { (cfg : Cfg) (w : definition.World) (before : List AtEnd) →
+            Tells cfg (telling self.old told.old.items) w before →
+            IfErr result (GoesPartly cfg (if_accepted cfg (event_of event.entry) w) w
+            (telling self.new told.new.items) before) }
     {
         if let Err(error) = self.tell(event, told) {
             return unless_memory(error);
@@ -198,8 +233,14 @@ impl World {
         second: Event,
         told: &mut Vec<Entered>,
     ) -> Result<(), WorldError>
-        ensures goes { (cfg : Cfg) (w : definition.World) (before : List AtEnd) → Tells cfg (telling self.old told.old.items) w before → OnOk result (GoesBy cfg (both_tried cfg (event_of first.entry) (event_of second.entry) w) w (telling self.new told.new.items) before) }
-        ensures stopped { (cfg : Cfg) (w : definition.World) (before : List AtEnd) → Tells cfg (telling self.old told.old.items) w before → IfErr result (GoesPartly cfg (both_tried cfg (event_of first.entry) (event_of second.entry) w) w (telling self.new told.new.items) before) }
+        ensures goes { (cfg : Cfg) (w : definition.World) (before : List AtEnd) →
+            Tells cfg (telling self.old told.old.items) w before →
+            OnOk result (GoesBy cfg (both_tried cfg (event_of first.entry) (event_of second.entry) w) w
+            (telling self.new told.new.items) before) }
+        ensures stopped { (cfg : Cfg) (w : definition.World) (before : List AtEnd) →
+            Tells cfg (telling self.old told.old.items) w before →
+            IfErr result (GoesPartly cfg (both_tried cfg (event_of first.entry) (event_of second.entry) w) w
+            (telling self.new told.new.items) before) }
     {
         self.attempt(first, told)?;
         self.attempt(second, told)

@@ -1,4 +1,5 @@
-ghost use Rattle.std.specs.Prelude.{◌≡◌, ◌+◌, ◌<◌, ◌≤◌, [], length, map, remove, OnOk, OnErr, ◌∷◌, option_copied, slice_get};
+ghost use Rattle.std.specs.Prelude.{◌≡◌, ◌+◌, ◌<◌, ◌≤◌, [], length, map, remove, OnOk, OnErr, ◌∷◌, option_copied};
+ghost use Rattle.std.specs.Prelude.{slice_get};
 ghost use Rattle.x25_line.specs.laws.Stations.{replaced};
 ghost use Rattle.x25_world.specs.code.ShownLine.{ShownLine, line_to, with_line_to, put_by};
 ghost use Rattle.std.specs.VecDeque.{deque_len, deque_capacity};
@@ -24,9 +25,14 @@ impl Model for Line {
 
     ghost Value = { ShownLine };
 
-    ghost view = { λ l. record { to_dce = map (λ frame. frame.items) l.to_dce.items; to_dte = map (λ frame. frame.items) l.to_dte.items; room = l.room } };
+    ghost view = { λ l. record {
+      to_dce = map (λ frame. frame.items) l.to_dce.items;
+      to_dte = map (λ frame. frame.items) l.to_dte.items;
+      room = l.room;
+    } };
 
-    ghost invariant = { λ l. (deque_len l.to_dce + l.room ≤ deque_capacity l.to_dce) × (deque_len l.to_dte + l.room ≤ deque_capacity l.to_dte) };
+    ghost invariant = { λ l. (deque_len l.to_dce + l.room ≤ deque_capacity l.to_dce) ×
+        (deque_len l.to_dte + l.room ≤ deque_capacity l.to_dte) };
 }
 
 impl Line {
@@ -98,7 +104,8 @@ impl Line {
         }
     }
 
-    /// The frame at this place on the line to this end, 0 at the front, is taken off it. It answers the frame's octets.
+    /// The frame at this place on the line to this end, 0 at the front, is taken off it. It answers the frame's
+    /// octets.
     #[inline(always)]
     pub fn remove(&mut self, to: Role, place: usize) -> Option<Vec<u8>>
         requires { place < length (line_to self.old to) }

@@ -1,4 +1,5 @@
-ghost use Rattle.std.specs.Prelude.{◌≡◌, ◌≤◌, vec_len, Bool, None, Some, ℕ, List, [], ◌++◌, drop, length, map, option_copied, slice_get, OnOk, OnErr, IfOk, IfErr, IfSome, IsErrOf};
+ghost use Rattle.std.specs.Prelude.{◌≡◌, ◌≤◌, vec_len, Bool, None, Some, ℕ, List, [], ◌++◌, drop, length, map};
+ghost use Rattle.std.specs.Prelude.{option_copied, slice_get, OnOk, OnErr, IfOk, IfErr, IfSome, IsErrOf};
 ghost use Rattle.x25_station.specs.declared.config.Cfg.{Cfg};
 ghost use Rattle.x25_station.specs.code.FitsStation.{FitsStation};
 ghost use Rattle.x25_circuit.specs.Calling.{Sends};
@@ -12,9 +13,11 @@ ghost use Rattle.x25_world.specs.BitDamage.{bit_damage, RefusesBits};
 ghost use Rattle.x25_world.specs.code.PlainTold.{plain_entered};
 ghost use Rattle.x25_world.specs.code.ShownWorld.{line_from, line_of, station_of};
 ghost use Rattle.x25_world.specs.code.FitsHealing.{Tells, telling};
-ghost use Rattle.x25_world.specs.code.FitsWorld.{FitsWorld, Claims, ClaimsOfNew, ClaimsOfSetUp, and_then, IsRefusal, TakesMemory, most_told, RefusesConfig};
+ghost use Rattle.x25_world.specs.code.FitsWorld.{FitsWorld, Claims, ClaimsOfNew, ClaimsOfSetUp, and_then, IsRefusal};
+ghost use Rattle.x25_world.specs.code.FitsWorld.{TakesMemory, most_told, RefusesConfig};
 ghost use Rattle.x25_world.specs.World as definition;
-ghost use Rattle.x25_world.specs.World.{AtEnd, entered, tapped, event_of, happens, after, refusal_of, start, connected, established, Commands};
+ghost use Rattle.x25_world.specs.World.{AtEnd, entered, tapped, event_of, happens, after, refusal_of, start};
+ghost use Rattle.x25_world.specs.World.{connected, established, Commands};
 
 use crate::acting::{act_at_end, connect, enter, make_room_to_enter};
 use crate::bit_damage::octets_of_damage;
@@ -27,7 +30,7 @@ use std::alloc::Global;
 use std::marker::Model;
 use x25_bits::{Bits, Role};
 use x25_line::Direction;
-use x25_station::{Cfg, Entry, Station, StationError};
+use x25_station::{Cfg, Station, StationError, Step};
 
 /// Two stations, and the line between them.
 ///
@@ -37,8 +40,6 @@ pub struct World {
     dte: Station,
     dce: Station,
     line: Line,
-    // Frames on their way from a station to the line. It is empty between calls.
-    frames: Vec<Vec<u8>>,
     alloc: Global,
 }
 
@@ -76,7 +77,6 @@ impl World {
                 dte,
                 dce,
                 line: Line::new(alloc),
-                frames: Vec::new(alloc),
                 alloc,
             }),
             Err(error) => {
@@ -116,22 +116,16 @@ impl World {
 
     // The DTE, whose link is down, asks that it be set up, which tells nothing.
     fn connect(&mut self) -> Result<(), WorldError>
-        ensures fits { (cfg : Cfg) → FitsWorld cfg self.old start → OnOk result (FitsWorld cfg self.new (connected cfg)) }
+        ensures fits { (cfg : Cfg) → FitsWorld cfg self.old start →
+            OnOk result (FitsWorld cfg self.new (connected cfg)) }
         ensures refused { (cfg : Cfg) → FitsWorld cfg self.old start → IfErr result (λ e. e ≡ WorldError.NoMemory) }
     {
-        let mut told = Vec::new(self.alloc);
-        empty(&mut self.frames);
-        connect(
-            Role::Dte,
-            &mut self.dte,
-            &mut self.line,
-            &mut told,
-            &mut self.frames,
-        )
+        let mut out = Step::new(self.alloc);
+        connect(Role::Dte, &mut self.dte, &mut self.line, &mut out)
     }
 
-    /// Two stations whose link was just set up: the DTE has asked, SABM and UA were delivered, each end was told that its link is up,
-    /// and both RESTARTs are on the line.
+    /// Two stations whose link was just set up: the DTE has asked, SABM and UA were delivered, each end was told that
+    /// its link is up, and both RESTARTs are on the line.
     ///
     /// 14 where a setting is out of its range, and else 70 alone.
     pub fn establish(alloc: Global, cfg: Cfg) -> Result<World, WorldError>
@@ -162,84 +156,97 @@ impl World {
 
     // SABM and UA are delivered.
     fn set_up(&mut self, alloc: Global) -> Result<(), WorldError>
-        ensures fits { (cfg : Cfg) → FitsWorld cfg self.old (connected cfg) → OnOk result (FitsWorld cfg self.new (established cfg)) }
-        ensures refused { (cfg : Cfg) → FitsWorld cfg self.old (connected cfg) → IfErr result (λ e. e ≡ WorldError.NoMemory) }
+        ensures fits { (cfg : Cfg) → FitsWorld cfg self.old (connected cfg) →
+            OnOk result (FitsWorld cfg self.new (established cfg)) }
+        ensures refused { (cfg : Cfg) → FitsWorld cfg self.old (connected cfg) →
+            IfErr result (λ e. e ≡ WorldError.NoMemory) }
     {
         two_stations_keep_order();
-        let mut told = Vec::new(alloc);
-        self.happen(SABM_ARRIVES, &mut told)?;
-        self.happen(UA_ARRIVES, &mut told)
+        let mut out = Step::new(alloc);
+        self.happen(SABM_ARRIVES, &mut out)?;
+        self.happen(UA_ARRIVES, &mut out)
     }
 
-    /// Lets the event happen. What it tells comes into the list, in place of what was there, and its frames stand on the line from its end behind
-    /// those that were there: a caller who keeps a transcript and a tap reads them.
+    /// Lets the event happen. The entries that it tells come into the step, in place of what was there, whose memory
+    /// serves again; its frames don't stay there, but stand on the line from its end, behind those that were there. A
+    /// caller who keeps a transcript and a tap reads both.
     ///
-    /// Refused with the one ground that applies, 50, 51, 52, 53 or 54, and else accepted; 70 for want of memory, which refuses no `Lose`. Then the
-    /// world is as before, and the list is empty.
+    /// Refused with the one ground that applies, 50, 51, 52, 53 or 54, and else accepted; 70 for want of memory,
+    /// which refuses no `Lose`. Then the world is as before, and the step is empty.
     #[inline(always)]
-    pub fn step(&mut self, event: Event, told: &mut Vec<Entry>) -> Result<(), WorldError>
-        ensures step { (cfg : Cfg) (w : definition.World) → FitsWorld cfg self.old w → OnOk result (FitsWorld cfg self.new (after w (happens cfg w (event_of event.entry)))) }
+    pub fn step(&mut self, event: Event, out: &mut Step) -> Result<(), WorldError>
+        ensures step { (cfg : Cfg) (w : definition.World) → FitsWorld cfg self.old w →
+            OnOk result (FitsWorld cfg self.new (after w (happens cfg w (event_of event.entry)))) }
         ensures told { (cfg : Cfg) (w : definition.World) → FitsWorld cfg self.old w →
-            OnOk result ((after w (happens cfg w (event_of event.entry))).transcript ≡ w.transcript ++ entered (event_of event.entry).at (map plain_entry told.new.items)) }
-        ensures untold { OnErr result (told.new.items ≡ []) }
-        ensures put { (cfg : Cfg) (w : definition.World) → FitsWorld cfg self.old w → (let at = (event_of event.entry).at in
-            OnOk result ((after w (happens cfg w (event_of event.entry))).tap ≡ w.tap ++ tapped at (drop (length (line_from self.old at)) (line_from self.new at)))) }
-        ensures accepted { (cfg : Cfg) (w : definition.World) → FitsWorld cfg self.old w → OnOk result (refusal_of (happens cfg w (event_of event.entry)) ≡ None) }
-        ensures refused { (cfg : Cfg) (w : definition.World) → FitsWorld cfg self.old w → IfErr result (IsRefusal cfg w (event_of event.entry)) }
-        ensures stays { (cfg : Cfg) (w : definition.World) → FitsWorld cfg self.old w → OnErr result (FitsWorld cfg self.new w) }
+            OnOk result ((after w (happens cfg w (event_of event.entry))).transcript ≡ w.transcript ++ entered
+            (event_of event.entry).at (map plain_entry out.new.entries.items)) }
+        ensures untold { OnErr result (out.new.entries.items ≡ []) }
+        ensures sent { out.new.frames.items ≡ [] }
+        ensures put { (cfg : Cfg) (w : definition.World) → FitsWorld cfg self.old w →
+            (let at = (event_of event.entry).at in
+            OnOk result ((after w (happens cfg w (event_of event.entry))).tap ≡ w.tap ++ tapped at (drop (length
+            (line_from self.old at)) (line_from self.new at)))) }
+        ensures accepted { (cfg : Cfg) (w : definition.World) → FitsWorld cfg self.old w →
+            OnOk result (refusal_of (happens cfg w (event_of event.entry)) ≡ None) }
+        ensures refused { (cfg : Cfg) (w : definition.World) → FitsWorld cfg self.old w →
+            IfErr result (IsRefusal cfg w (event_of event.entry)) }
+        ensures stays { (cfg : Cfg) (w : definition.World) → FitsWorld cfg self.old w →
+            OnErr result (FitsWorld cfg self.new w) }
         ensures memory { IsErrOf result WorldError.NoMemory → TakesMemory (event_of event.entry).act }
         ensures claims { Claims self.old self.new (λ past. and_then past (event_of event.entry) result) }
     {
         two_stations_keep_order();
         stations_meet_in_sessions();
         hands_down_octets(event);
-        self.happen(event, told)
+        self.happen(event, out)
     }
 
     // The step, without the laws of runs.
     #[inline(always)]
-    fn happen(&mut self, event: Event, told: &mut Vec<Entry>) -> Result<(), WorldError>
-        ensures step { (cfg : Cfg) (w : definition.World) → FitsWorld cfg self.old w → OnOk result (FitsWorld cfg self.new (after w (happens cfg w (event_of event.entry)))) }
+    fn happen(&mut self, event: Event, out: &mut Step) -> Result<(), WorldError>
+        ensures step { (cfg : Cfg) (w : definition.World) → FitsWorld cfg self.old w →
+            OnOk result (FitsWorld cfg self.new (after w (happens cfg w (event_of event.entry)))) }
         ensures told { (cfg : Cfg) (w : definition.World) → FitsWorld cfg self.old w →
-            OnOk result ((after w (happens cfg w (event_of event.entry))).transcript ≡ w.transcript ++ entered (event_of event.entry).at (map plain_entry told.new.items)) }
-        ensures untold { OnErr result (told.new.items ≡ []) }
-        ensures few { vec_len told.new ≤ most_told (event_of event.entry).act }
-        ensures accepted { (cfg : Cfg) (w : definition.World) → FitsWorld cfg self.old w → OnOk result (refusal_of (happens cfg w (event_of event.entry)) ≡ None) }
-        ensures refused { (cfg : Cfg) (w : definition.World) → FitsWorld cfg self.old w → IfErr result (IsRefusal cfg w (event_of event.entry)) }
-        ensures stays { (cfg : Cfg) (w : definition.World) → FitsWorld cfg self.old w → OnErr result (FitsWorld cfg self.new w) }
+            OnOk result ((after w (happens cfg w (event_of event.entry))).transcript ≡ w.transcript ++ entered
+            (event_of event.entry).at (map plain_entry out.new.entries.items)) }
+        ensures untold { OnErr result (out.new.entries.items ≡ []) }
+        ensures sent { out.new.frames.items ≡ [] }
+        ensures few { vec_len out.new.entries ≤ most_told (event_of event.entry).act }
+        ensures accepted { (cfg : Cfg) (w : definition.World) → FitsWorld cfg self.old w →
+            OnOk result (refusal_of (happens cfg w (event_of event.entry)) ≡ None) }
+        ensures refused { (cfg : Cfg) (w : definition.World) → FitsWorld cfg self.old w →
+            IfErr result (IsRefusal cfg w (event_of event.entry)) }
+        ensures stays { (cfg : Cfg) (w : definition.World) → FitsWorld cfg self.old w →
+            OnErr result (FitsWorld cfg self.new w) }
         ensures memory { IsErrOf result WorldError.NoMemory → TakesMemory (event_of event.entry).act }
     {
-        empty(told);
-        empty(&mut self.frames);
-        act_at_end(
-            &mut self.dte,
-            &mut self.dce,
-            &mut self.line,
-            told,
-            &mut self.frames,
-            event,
-        )
+        act_at_end(&mut self.dte, &mut self.dce, &mut self.line, out, event)
     }
 
     // The event happens, and what it tells comes behind what is in the list.
     pub(crate) fn tell(&mut self, event: Event, told: &mut Vec<Entered>) -> Result<(), WorldError>
-        ensures step { (cfg : Cfg) (w : definition.World) (before : List AtEnd) → Tells cfg (telling self.old told.old.items) w before →
-            OnOk result (Tells cfg (telling self.new told.new.items) (after w (happens cfg w (event_of event.entry))) before) }
-        ensures accepted { (cfg : Cfg) (w : definition.World) → FitsWorld cfg self.old w → OnOk result (refusal_of (happens cfg w (event_of event.entry)) ≡ None) }
-        ensures refused { (cfg : Cfg) (w : definition.World) → FitsWorld cfg self.old w → IfErr result (IsRefusal cfg w (event_of event.entry)) }
-        ensures stays { (cfg : Cfg) (w : definition.World) (before : List AtEnd) → Tells cfg (telling self.old told.old.items) w before →
+        ensures step { (cfg : Cfg) (w : definition.World) (before : List AtEnd) →
+            Tells cfg (telling self.old told.old.items) w before →
+            OnOk result (Tells cfg (telling self.new told.new.items) (after w (happens cfg w
+            (event_of event.entry))) before) }
+        ensures accepted { (cfg : Cfg) (w : definition.World) → FitsWorld cfg self.old w →
+            OnOk result (refusal_of (happens cfg w (event_of event.entry)) ≡ None) }
+        ensures refused { (cfg : Cfg) (w : definition.World) → FitsWorld cfg self.old w →
+            IfErr result (IsRefusal cfg w (event_of event.entry)) }
+        ensures stays { (cfg : Cfg) (w : definition.World) (before : List AtEnd) →
+            Tells cfg (telling self.old told.old.items) w before →
             OnErr result (Tells cfg (telling self.new told.new.items) w before) }
     {
         make_room_to_enter(told, event)?;
-        let mut entries = Vec::new(self.alloc);
-        self.happen(event, &mut entries)?;
-        enter(event.at(), &mut entries, told);
+        let mut out = Step::new(self.alloc);
+        self.happen(event, &mut out)?;
+        enter(event.at(), &mut out.entries, told);
         Ok(())
     }
 
-    /// Other bits come in the place of those between the flags of the frame at this place, counted from 0, at the front (profile). It is the event
-    /// `Damage` by the octets of the first content, of 4 to 4,103 octets, that is found between these flags, or by no octets where none is found,
-    /// and tells nothing.
+    /// Other bits come in the place of those between the flags of the frame at this place, counted from 0, at the
+    /// front (profile). It is the event `Damage` by the octets of the first content, of 4 to 4,103 octets, that is
+    /// found between these flags, or by no octets where none is found, and tells nothing.
     ///
     /// Refused with 51 where the line has no frame at that place, then with 52 where the bits aren't harmless, and else accepted; 70 where memory is refused
     /// for a frame that is there. Then the world is as before.
@@ -249,12 +256,17 @@ impl World {
         place: usize,
         bits: &Bits,
     ) -> Result<(), WorldError>
-        ensures step { (cfg : Cfg) (w : definition.World) → FitsWorld cfg self.old w → OnOk result (FitsWorld cfg self.new (after w (happens cfg w (bit_damage direction place bits.now)))) }
-        ensures accepted { (cfg : Cfg) (w : definition.World) → FitsWorld cfg self.old w → OnOk result (refusal_of (happens cfg w (bit_damage direction place bits.now)) ≡ None) }
+        ensures step { (cfg : Cfg) (w : definition.World) → FitsWorld cfg self.old w →
+            OnOk result (FitsWorld cfg self.new (after w (happens cfg w (bit_damage direction place bits.now)))) }
+        ensures accepted { (cfg : Cfg) (w : definition.World) → FitsWorld cfg self.old w →
+            OnOk result (refusal_of (happens cfg w (bit_damage direction place bits.now)) ≡ None) }
         ensures harmless { OnOk result (IsHarmless bits.now) }
-        ensures refused { (cfg : Cfg) (w : definition.World) → FitsWorld cfg self.old w → IfErr result (RefusesBits (line_of self.old direction) place bits.now) }
-        ensures stays { (cfg : Cfg) (w : definition.World) → FitsWorld cfg self.old w → OnErr result (FitsWorld cfg self.new w) }
-        ensures claims { Claims self.old self.new (λ past. and_then past (bit_damage direction place bits.now) result) }
+        ensures refused { (cfg : Cfg) (w : definition.World) → FitsWorld cfg self.old w →
+            IfErr result (RefusesBits (line_of self.old direction) place bits.now) }
+        ensures stays { (cfg : Cfg) (w : definition.World) → FitsWorld cfg self.old w →
+            OnErr result (FitsWorld cfg self.new w) }
+        ensures claims { Claims self.old self.new (λ past. and_then past
+            (bit_damage direction place bits.now) result) }
     {
         two_stations_keep_order();
         stations_meet_in_sessions();
@@ -268,28 +280,30 @@ impl World {
         place: usize,
         bits: &Bits,
     ) -> Result<(), WorldError>
-        ensures step { (cfg : Cfg) (w : definition.World) → FitsWorld cfg self.old w → OnOk result (FitsWorld cfg self.new (after w (happens cfg w (bit_damage direction place bits.now)))) }
-        ensures accepted { (cfg : Cfg) (w : definition.World) → FitsWorld cfg self.old w → OnOk result (refusal_of (happens cfg w (bit_damage direction place bits.now)) ≡ None) }
+        ensures step { (cfg : Cfg) (w : definition.World) → FitsWorld cfg self.old w →
+            OnOk result (FitsWorld cfg self.new (after w (happens cfg w (bit_damage direction place bits.now)))) }
+        ensures accepted { (cfg : Cfg) (w : definition.World) → FitsWorld cfg self.old w →
+            OnOk result (refusal_of (happens cfg w (bit_damage direction place bits.now)) ≡ None) }
         ensures harmless { OnOk result (IsHarmless bits.now) }
-        ensures refused { (cfg : Cfg) (w : definition.World) → FitsWorld cfg self.old w → IfErr result (RefusesBits (line_of self.old direction) place bits.now) }
-        ensures stays { (cfg : Cfg) (w : definition.World) → FitsWorld cfg self.old w → OnErr result (FitsWorld cfg self.new w) }
+        ensures refused { (cfg : Cfg) (w : definition.World) → FitsWorld cfg self.old w →
+            IfErr result (RefusesBits (line_of self.old direction) place bits.now) }
+        ensures stays { (cfg : Cfg) (w : definition.World) → FitsWorld cfg self.old w →
+            OnErr result (FitsWorld cfg self.new w) }
     {
         if place >= self.on_line(direction) {
             return Err(WorldError::NoSuchFrame);
         }
         let octets = octets_of_damage(bits)?;
-        let mut told = Vec::new(self.alloc);
-        self.happen(
-            Event::Damage(direction, place, octets.as_slice()),
-            &mut told,
-        )
+        let mut out = Step::new(self.alloc);
+        self.happen(Event::Damage(direction, place, octets.as_slice()), &mut out)
     }
 
     /// Why a message of so many octets that an end sends on a channel would be refused now, if it would, so that one that is refused needn't be made. `None`
     /// says nothing.
     #[inline(always)]
     pub fn message_refusal(&self, at: Role, channel: u16, count: usize) -> Option<WorldError>
-        ensures { (cfg : Cfg) (w : definition.World) (q : Bool) (user : List ℕ) → length user ≡ count → FitsWorld cfg self.now w →
+        ensures { (cfg : Cfg) (w : definition.World) (q : Bool) (user : List ℕ) → length user ≡ count →
+            FitsWorld cfg self.now w →
             IfSome result (λ e. refusal_of (happens cfg w (record { at = at; act = Commands (Requests (Asks channel (Sends q user))) })) ≡ Some e) }
     {
         match self.station(at).message_refusal(channel, count) {
@@ -297,19 +311,6 @@ impl World {
                 error,
             ))),
             _ => None,
-        }
-    }
-
-    /// Takes the entries of a step of an end back, once they were read, and leaves their list empty: the memory of a message that was sent or delivered
-    /// serves a later one. The world is as before.
-    #[inline(always)]
-    pub fn give_back(&mut self, at: Role, told: &mut Vec<Entry>)
-        ensures fits { (cfg : Cfg) (w : definition.World) → FitsWorld cfg self.old w → FitsWorld cfg self.new w }
-        ensures empty { told.new.items ≡ [] }
-    {
-        match at {
-            Role::Dte => self.dte.give_back_entries(told),
-            Role::Dce => self.dce.give_back_entries(told),
         }
     }
 
@@ -336,25 +337,6 @@ impl World {
     {
         self.line.get(direction.end(), place)
     }
-}
-
-// A list that is empty isn't cleared.
-#[inline(always)]
-fn empty<T: Drop>(list: &mut Vec<T>)
-    ensures { list.new.items ≡ [] }
-{
-    if !list.is_empty() {
-        clear(list);
-    }
-}
-
-// Each caller leaves its lists empty, so that this is seldom.
-#[cold]
-#[inline(never)]
-fn clear<T: Drop>(list: &mut Vec<T>)
-    ensures { list.new.items ≡ [] }
-{
-    list.clear();
 }
 
 // A station whose link is down.

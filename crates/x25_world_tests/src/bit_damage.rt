@@ -5,7 +5,7 @@ use crate::play::USUAL;
 use std::alloc::Global;
 use std::process::Abort;
 use std::test::Fail;
-use x25_station::Entry;
+use x25_station::Step;
 use x25_world::Direction::ToDce;
 use x25_world::{Bits, Event, World};
 
@@ -55,16 +55,16 @@ fn plays_row(
 }
 
 // A delivery to the DCE tells nothing.
-fn tells_nothing(rt: &impl Abort, world: &mut World, told: &mut Vec<Entry>) {
-    assert_eq!(rt; step(world, Event::Deliver(ToDce), told), Ok(()));
-    assert_eq!(rt; told.len(), 0);
+fn tells_nothing(rt: &impl Abort, world: &mut World, out: &mut Step) {
+    assert_eq!(rt; step(world, Event::Deliver(ToDce), out), Ok(()));
+    assert_eq!(rt; out.entries.len(), 0);
 }
 
 fn plays(rt: &impl Abort, alloc: Global, world: &mut World) -> Result<(), Fail> {
     for row in &ROWS {
         plays_row(rt, alloc, world, row)?;
     }
-    tells_nothing(rt, world, &mut Vec::new(alloc));
+    tells_nothing(rt, world, &mut Step::new(alloc));
     Ok(())
 }
 

@@ -1,7 +1,7 @@
 //! The calls of a world without their claims: a body that makes one of the world's own carries all that it promises.
 
 use std::alloc::Global;
-use x25_station::{Cfg, Entry};
+use x25_station::{Cfg, Step};
 use x25_world::{Bits, Direction, Entered, Event, Role, World, WorldError};
 
 /// The number of a refusal, that of the station where it refuses.
@@ -40,14 +40,9 @@ pub fn message_refusal(world: &World, at: Role, channel: u16, count: usize) -> O
     world.message_refusal(at, channel, count)
 }
 
-/// The event happens, and its entries come into the list.
-pub fn step(world: &mut World, event: Event, told: &mut Vec<Entry>) -> Result<(), WorldError> {
-    world.step(event, told)
-}
-
-/// Entries of a step of an end that were read are given back.
-pub fn give_back(world: &mut World, at: Role, told: &mut Vec<Entry>) {
-    world.give_back(at, told);
+/// The event happens, and its entries come into the step.
+pub fn step(world: &mut World, event: Event, out: &mut Step) -> Result<(), WorldError> {
+    world.step(event, out)
 }
 
 pub fn damage_bits(

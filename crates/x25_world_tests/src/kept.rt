@@ -2,7 +2,7 @@
 
 use crate::calls::{heal, step};
 use std::alloc::Global;
-use x25_station::Entry;
+use x25_station::Step;
 use x25_world::{Entered, Event, World, WorldError};
 
 /// A world, and what it told.
@@ -10,7 +10,7 @@ use x25_world::{Entered, Event, World, WorldError};
 pub struct Kept {
     pub world: Box<World>,
     pub transcript: Vec<Entered>,
-    told: Vec<Entry>,
+    step: Step,
     healed: Vec<Entered>,
 }
 
@@ -20,16 +20,16 @@ impl Kept {
         Kept {
             world,
             transcript: Vec::new(alloc),
-            told: Vec::new(alloc),
+            step: Step::new(alloc),
             healed: Vec::new(alloc),
         }
     }
 
     /// The event happens. What it tells comes behind the transcript.
     pub fn apply(&mut self, event: Event) -> Result<(), WorldError> {
-        step(&mut self.world, event, &mut self.told)?;
+        step(&mut self.world, event, &mut self.step)?;
         let at = event.at();
-        for entry in self.told.drain(..) {
+        for entry in self.step.entries.drain(..) {
             if self.transcript.push(Entered { at, entry }).is_err() {
                 return Err(WorldError::NoMemory);
             }

@@ -1,11 +1,11 @@
 //! Events that are played at a world, and the text of its transcript.
 
-use crate::calls::{give_back, heal, message_refusal, number_of, on_line, step, timer_runs};
+use crate::calls::{heal, message_refusal, number_of, on_line, step, timer_runs};
 use std::alloc::Global;
 use std::process::Abort;
 use std::str;
 use std::test::Fail;
-use x25_station::{Cfg, Cmd, Entry};
+use x25_station::{Cfg, Cmd, Step};
 use x25_transcript::entry_line;
 use x25_world::{Direction, Entered, Event, Role, SABM_ARRIVES, UA_ARRIVES, World};
 
@@ -44,7 +44,7 @@ pub type Row = (&'static str, Cfg, &'static [Act], &'static str);
 #[derive(Drop)]
 pub struct Play {
     world: Box<World>,
-    told: Vec<Entry>,
+    step: Step,
     healed: Vec<Entered>,
     text: Vec<u8>,
     alloc: Global,
@@ -60,7 +60,7 @@ impl Play {
     pub fn begin(alloc: Global, world: Box<World>) -> Play {
         Play {
             world,
-            told: Vec::new(alloc),
+            step: Step::new(alloc),
             healed: Vec::new(alloc),
             text: Vec::new(alloc),
             alloc,
@@ -68,7 +68,7 @@ impl Play {
     }
 
     fn write(&mut self, at: Role) -> Result<(), Fail> {
-        for entry in self.told.iter() {
+        for entry in self.step.entries.iter() {
             let line = entry_line(self.alloc, at, entry)?;
             self.text.extend_from_slice(line.as_slice())?;
         }
@@ -90,9 +90,9 @@ impl Play {
         Ok(())
     }
 
-    // What it tells is in the list, and nothing where it is refused.
+    // What it tells is in the step, and nothing where it is refused.
     fn happen(&mut self, event: Event<'static>) -> Result<(), Fail> {
-        match step(&mut self.world, event, &mut self.told) {
+        match step(&mut self.world, event, &mut self.step) {
             Ok(()) => Ok(()),
             Err(error) => self.refuse(number_of(error)),
         }
@@ -100,9 +100,7 @@ impl Play {
 
     fn apply(&mut self, event: Event<'static>) -> Result<(), Fail> {
         self.happen(event)?;
-        self.write(event.at())?;
-        give_back(&mut self.world, event.at(), &mut self.told);
-        Ok(())
+        self.write(event.at())
     }
 
     // A message of which it is known before that it is refused isn't handed down.

@@ -5,7 +5,7 @@ use crate::play::USUAL;
 use std::alloc::Global;
 use std::process::Abort;
 use std::test::Fail;
-use x25_station::{Cfg, Cmd, Entry, StationError};
+use x25_station::{Cfg, Cmd, StationError, Step};
 use x25_world::Direction::{ToDce, ToDte};
 use x25_world::Event::{Command, Damage, Deliver, Lose, T1};
 use x25_world::Role::{Dce, Dte};
@@ -108,11 +108,11 @@ fn refusal(
     rt: &impl Abort,
     world: &mut World,
     events: &[Event<'static>],
-    told: &mut Vec<Entry>,
+    out: &mut Step,
 ) -> Option<(usize, u8)> {
     for (index, event) in events.iter().enumerate() {
-        if let Err(error) = step(world, *event, told) {
-            assert_eq!(rt; told.len(), 0, "{event:?}");
+        if let Err(error) = step(world, *event, out) {
+            assert_eq!(rt; out.entries.len(), 0, "{event:?}");
             return Some((index, number_of(error)));
         }
     }
@@ -120,15 +120,15 @@ fn refusal(
 }
 
 // Each list goes on where the one before stopped.
-fn stops(rt: &impl Abort, world: &mut World, told: &mut Vec<Entry>) {
+fn stops(rt: &impl Abort, world: &mut World, out: &mut Step) {
     for &(events, wanted) in &LISTS {
-        assert_eq!(rt; refusal(rt, world, events, told), wanted, "{events:?}");
+        assert_eq!(rt; refusal(rt, world, events, out), wanted, "{events:?}");
     }
 }
 
 #[test]
 fn events_are_refused(rt: HostRuntime) -> Result<(), Fail> {
     let mut world = establish(rt.alloc(), USUAL)?;
-    stops(&rt, &mut world, &mut Vec::new(rt.alloc()));
+    stops(&rt, &mut world, &mut Step::new(rt.alloc()));
     Ok(())
 }

@@ -6,7 +6,7 @@ use crate::play::{Act, ONE_TRY, Play, Row, USUAL};
 use std::alloc::Global;
 use std::process::Abort;
 use std::test::Fail;
-use x25_station::{Cfg, Cmd, Entry};
+use x25_station::{Cfg, Cmd, Step};
 use x25_world::Direction::{ToDce, ToDte};
 use x25_world::Event::{Command, Damage, Deliver, Lose, T1};
 use x25_world::Role::{Dce, Dte};
@@ -401,17 +401,17 @@ fn has(rt: &impl Abort, world: &World, direction: Direction, frames: Frames) {
     assert_eq!(rt; frame(world, direction, frames.len()), None);
 }
 
-fn puts(rt: &impl Abort, world: &mut World, told: &mut Vec<Entry>) {
+fn puts(rt: &impl Abort, world: &mut World, out: &mut Step) {
     for &(to_dce, to_dte, next) in &SET_UP {
         has(rt, world, ToDce, to_dce);
         has(rt, world, ToDte, to_dte);
-        assert_eq!(rt; step(world, Deliver(next), told), Ok(()));
+        assert_eq!(rt; step(world, Deliver(next), out), Ok(()));
     }
 }
 
 #[test]
 fn frames_of_set_up_are_on_the_line(rt: HostRuntime) -> Result<(), Fail> {
     let mut world = connecting(rt.alloc(), USUAL)?;
-    puts(&rt, &mut world, &mut Vec::new(rt.alloc()));
+    puts(&rt, &mut world, &mut Step::new(rt.alloc()));
     Ok(())
 }

@@ -30,7 +30,8 @@ pub record GoesBy (cfg : Cfg) (events : List Event) (w : World) (v : TellingWorl
   pub fits : Tells cfg v (run cfg events w) before
 
 -- memory was refused, and only the first of the events have happened
-pub record GoesPartly (cfg : Cfg) (events : List Event) (w : World) (v : TellingWorld) (before : List AtEnd) (error : WorldError) : Type 0 where
+pub record GoesPartly (cfg : Cfg) (events : List Event) (w : World) (v : TellingWorld) (before : List AtEnd)
+    (error : WorldError) : Type 0 where
   pub memory : error ≡ NoMemory
   pub done : List Event
   pub left : List Event
@@ -41,4 +42,5 @@ pub record GoesPartly (cfg : Cfg) (events : List Event) (w : World) (v : Telling
 abbrev pub HoldsHealed : (Cfg → World → World → Type 0) → {T : Type 0} → ShownWorld → ShownWorld → Result T WorldError → Type 0
 HoldsHealed Holds old new result =
     (cfg : Cfg) (from : World) (past : List Event) → IsBeginning cfg from → FitsRun cfg from old past
-    → (let w = run cfg past from in OnOk result (Leaves (λ (c : Cfg) (u : World). Holds c w u) cfg from new (past ++ healing cfg w)))
+    → (let w = run cfg past from in OnOk result (Leaves (λ (c : Cfg) (u : World). Holds c w u) cfg from new
+    (past ++ healing cfg w)))

@@ -1,5 +1,6 @@
 -- The worlds of the definition that a world of the code stands for.
-use Rattle.std.specs.Prelude.{◌≡◌, ℕ, List, [], ◌∷◌, ◌++◌, Option, Some, None, ◌⊎◌, Result, Ok, Err, OnOk, IfErr, OnErr}
+use Rattle.std.specs.Prelude.{◌≡◌, ℕ, List, [], ◌∷◌, ◌++◌, Option, Some, None, ◌⊎◌, Result, Ok, Err, OnOk, IfErr}
+use Rattle.std.specs.Prelude.{OnErr}
 use Rattle.x25_bits.specs.Role.{other}
 use Rattle.x25_bits.specs.declared.role.Role.{Role}
 use Rattle.x25_bits.specs.declared.role.Role.TheVariants.{Dte, Dce}
@@ -8,8 +9,10 @@ use Rattle.x25_station.specs.declared.error.StationError.{StationError}
 use Rattle.x25_station.specs.declared.station.Station.{Station}
 use Rattle.x25_station.specs.Config.{settings_from, config_refusal}
 use Rattle.x25_station.specs.code.FitsStation.{FitsStation}
-use Rattle.x25_world.specs.World.{AtEnd, World, Event, Act, Loses, WorldOutcome, Happened, Declined, happens, refusal_of, after, run, AreAccepted, established}
-use Rattle.x25_world.specs.laws.Claims.{AreInOctets, IsUpOnce, IsUpAtMostOnce, SetsUpOnce, IsBeginning, NoneConnects, IsLawful, IsNamed, ArrivesAll, HasNoProcedureError}
+use Rattle.x25_world.specs.World.{AtEnd, World, Event, Act, Loses, WorldOutcome, Happened, Declined, happens}
+use Rattle.x25_world.specs.World.{refusal_of, after, run, AreAccepted, established}
+use Rattle.x25_world.specs.laws.Claims.{AreInOctets, IsUpOnce, IsUpAtMostOnce, SetsUpOnce, IsBeginning, NoneConnects}
+use Rattle.x25_world.specs.laws.Claims.{IsLawful, IsNamed, ArrivesAll, HasNoProcedureError}
 use Rattle.x25_world.specs.laws.WindowGoes.{StaysInWindow}
 use Rattle.x25_world.specs.laws.SessionClaims.{SessionsKeepOrder}
 use Rattle.x25_world.specs.laws.SessionWindow.{SessionsStayInWindow}
@@ -41,8 +44,8 @@ most_told act = 3
 
 -- ---- a run
 
--- Events that are accepted, from a world, lead to one that it stands for. The settings are in their ranges, and what users hand
--- down is octets.
+-- Events that are accepted, from a world, lead to one that it stands for. The settings are in their ranges, and what
+-- users hand down is octets.
 pub record FitsRun (cfg : Cfg) (from : World) (v : ShownWorld) (events : List Event) : Type 0 where
   pub settings : config_refusal cfg ≡ None
   pub octets : AreInOctets events
@@ -55,13 +58,15 @@ and_then events e (Ok done) = events ++ e ∷ []
 and_then events e (Err error) = events
 
 -- These events lead here, and this holds of the world that they lead to.
-pub record Leaves (Holds : Cfg → World → Type 0) (cfg : Cfg) (from : World) (v : ShownWorld) (events : List Event) : Type 0 where
+pub record Leaves (Holds : Cfg → World → Type 0) (cfg : Cfg) (from : World) (v : ShownWorld) (events : List Event)
+    : Type 0 where
   pub fits : FitsRun cfg from v events
   pub holds : Holds cfg (run cfg events from)
 
 -- ---- what is claimed of a call, after each run that leads to the world before
 
--- It goes on so to the world that is left, and this holds of that: up to the moment at which an end goes up a second time.
+-- It goes on so to the world that is left, and this holds of that: up to the moment at which an end goes up a second
+-- time.
 abbrev pub HoldsAfter : (Cfg → World → Type 0) → ShownWorld → ShownWorld → (List Event → List Event) → Type 0
 HoldsAfter Holds old new more =
     (cfg : Cfg) (from : World) (past : List Event) → IsBeginning cfg from → FitsRun cfg from old past
@@ -88,13 +93,16 @@ GoesOnThroughout Holds old new more =
 -- where no `connect` was accepted in it, the link isn't set up anew
 abbrev pub UpOnceAfter : ShownWorld → ShownWorld → (List Event → List Event) → Type 0
 UpOnceAfter old new more =
-    (cfg : Cfg) (past : List Event) → FitsRun cfg (established cfg) old past → NoneConnects cfg (more past) (established cfg)
+    (cfg : Cfg) (past : List Event) → FitsRun cfg (established cfg) old past →
+    NoneConnects cfg (more past) (established cfg)
     → Leaves IsUpOnce cfg (established cfg) new (more past)
 
--- The world that is left is that of a run. Of each run up to the moment at which an end goes up a second time `lawful` to `quiet`
--- hold, `window` and `up_once` from a link just set up; of each run, also where the link is set up anew, `sessions` and `links`.
+-- The world that is left is that of a run. Of each run up to the moment at which an end goes up a second time
+-- `lawful` to `quiet` hold, `window` and `up_once` from a link just set up; of each run, also where the link is set
+-- up anew, `sessions` and `links`.
 pub record Claims (old new : ShownWorld) (more : List Event → List Event) : Type 0 where
-  pub run : (cfg : Cfg) (from : World) (past : List Event) → FitsRun cfg from old past → FitsRun cfg from new (more past)
+  pub run : (cfg : Cfg) (from : World) (past : List Event) → FitsRun cfg from old past →
+      FitsRun cfg from new (more past)
   pub lawful : HoldsAfter IsLawful old new more
   pub named : HoldsAfter IsNamed old new more
   pub arrives : HoldsAfter ArrivesAll old new more
@@ -129,12 +137,14 @@ pub record FitsSide (cfg : Cfg) (at : Role) (end : Station) (line : ShownLine) (
 
 -- the act happened, and told this
 abbrev pub HasHappened : Cfg → Role → Station → ShownLine → List AtEnd → World → WorldOutcome → Type 0
-HasHappened cfg at near line told w (Happened next) = FitsSide cfg at near line next × (next.transcript ≡ w.transcript ++ told)
+HasHappened cfg at near line told w (Happened next) =
+    FitsSide cfg at near line next × (next.transcript ≡ w.transcript ++ told)
 HasHappened cfg at near line told w (Declined e) = ⊥
 
--- an act of an end that is accepted has happened, and told this, and one that is refused is refused by its ground, or for want of
--- memory, and changes nothing
-pub record HasActed (cfg : Cfg) (at : Role) (near : Station) (line : ShownLine) (told : List AtEnd) (result : Result (Unit {0}) WorldError) (w : World)
+-- an act of an end that is accepted has happened, and told this, and one that is refused is refused by its ground, or
+-- for want of memory, and changes nothing
+pub record HasActed (cfg : Cfg) (at : Role) (near : Station) (line : ShownLine) (told : List AtEnd)
+    (result : Result (Unit {0}) WorldError) (w : World)
     (outcome : WorldOutcome) : Type 0 where
   pub happened : OnOk result (HasHappened cfg at near line told w outcome)
   pub refused : IfErr result (λ e. (refusal_of outcome ≡ Some e) ⊎ (e ≡ NoMemory))
@@ -143,7 +153,8 @@ pub record HasActed (cfg : Cfg) (at : Role) (near : Station) (line : ShownLine) 
 -- ---- both ends
 
 -- an event that is accepted has happened, and told this, and one that is refused changes nothing
-pub record HasActedAt (cfg : Cfg) (v : ShownWorld) (told : List AtEnd) (result : Result (Unit {0}) WorldError) (w : World) (e : Event) : Type 0 where
+pub record HasActedAt (cfg : Cfg) (v : ShownWorld) (told : List AtEnd) (result : Result (Unit {0}) WorldError)
+    (w : World) (e : Event) : Type 0 where
   pub happened : OnOk result (FitsWorld cfg v (after w (happens cfg w e)))
   pub tells : OnOk result ((after w (happens cfg w e)).transcript ≡ w.transcript ++ told)
   pub accepted : OnOk result (refusal_of (happens cfg w e) ≡ None)

@@ -21,4 +21,5 @@ with_line_to v Dte frames = record v { to_dte = frames }
 
 -- frames are put on the line by an end, in room that there is
 abbrev pub put_by : ShownLine → Role → List (List ℕ) → ShownLine
-put_by v from frames = let u = with_line_to v (other from) (line_to v (other from) ++ frames) in record u { room = v.room - length frames }
+put_by v from frames =
+    let u = with_line_to v (other from) (line_to v (other from) ++ frames) in record u { room = v.room - length frames }

@@ -8,8 +8,8 @@ returns-in-Ok-clause-acted c = λ cfg w side.
     let shared = rw (sym c.make_room.ensures.line) at (shared_of cfg c.args.at _ c.args.line.now w c.make_room.new.line.room side) in
     let called = c.in-Ok.ensures.does in
     record {
-      happened = rw c.put.ensures
-          (has_happened cfg c.args.at c.connect_into.new.self _ w _ (record { frames = c.connect_into.new.frames; entries = c.connect_into.new.entries }) shared
+      happened = rw c.put.ensures.line
+          (has_happened cfg c.args.at c.connect.new.self _ w _ c.connect.new.out shared
           (called.state _ _ fits) (called.frames _ _ fits) (called.entries _ _ fits) (called.refused _ _ fits));
       refused = tt;
       stays = tt;

@@ -10,9 +10,9 @@ returns-in-Ok-clause-acted c = λ cfg w side.
     let called = c.in-Ok.ensures.does in
     let front : Some c.in-Some.octets.now ≡ slice_get w.back 0 = c.in-Some.ensures ∙ ap (λ l. slice_get l 0) shared.back in
     record {
-      happened = rw (c.put.ensures, c.remove-octets.ensures)
-          (has_arrived cfg c.args.at c.receive_into.new.self c.give_back.new.near c.make_room.new.line w w.back c.in-Some.octets.now
-          (record { frames = c.receive_into.new.frames; entries = c.receive_into.new.entries }) c.give_back.ensures shared front
+      happened = rw (c.put.ensures.line, c.remove-octets.ensures)
+          (has_arrived cfg c.args.at c.receive.new.self c.give_back.new.near c.make_room.new.line w w.back c.in-Some.octets.now
+          c.receive.new.out c.give_back.ensures shared front
           (called.state _ _ fits) (called.frames _ _ fits) (called.entries _ _ fits));
       refused = tt;
       stays = tt;

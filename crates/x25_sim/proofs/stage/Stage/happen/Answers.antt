@@ -1,7 +1,8 @@
+use Rattle.std.proofs.Common.{sym, subst}
 use Rattle.std.proofs.lemmas.Result.{MatchResult-weaker}
 use Rattle.x25_world.specs.World.{event_of, happens, after}
+use Rattle.x25_world.specs.code.FitsWorld.{FitsWorld}
 use Rattle.x25_sim.specs.Stage.{event_turn}
-use Rattle.x25_io.proofs.ToldLemmas.{with_ok}
 use Rattle.x25_sim.proofs.StandLemmas.{stands_moved, begins_moved}
 use Rattle.x25_sim.proofs.stage.Stage.happen.Goals as goal
 
@@ -13,11 +14,11 @@ returns-in-Ok-clause-turns g c = λ cfg tap old w told refused h.
     let entries = c.in-Ok.ensures.told cfg w h.fits in
     let put = c.in-Ok.ensures.put cfg w h.fits in
     let accepted = c.in-Ok.ensures.accepted cfg w h.fits in
-    MatchResult-weaker c.end_step.result
-    (with_ok c.end_step.result _ _ _ (c.end_step.ensures.tells old told w (after w o) (rw c.at-at.ensures entries) (rw (c.sent-before.ensures, c.at-at.ensures) put) h.tells)
-    (c.end_step.ensures.world cfg (after w o) fits))
-    (λ _ told_all. stands_moved cfg tap old _ _ c.args.self.now c.end_step.new.self w o told refused h accepted told_all.1 c.end_step.ensures.tap c.end_step.ensures.is_refused told_all.0)
-    (λ _ begins. begins_moved cfg tap old _ _ c.args.self.now c.end_step.new.self w o told refused h accepted begins)
+    let stands = subst (λ v. FitsWorld cfg v (after w o)) (sym c.tell_step.ensures.world) fits in
+    MatchResult-weaker c.tell_step.result
+    (c.tell_step.ensures.tells old told w (after w o) (rw c.at-at.ensures entries) (rw (c.sent-before.ensures, c.at-at.ensures) put) h.tells)
+    (λ _ told_all. stands_moved cfg tap old _ _ c.args.self.now c.tell_step.new.self w o told refused h accepted stands c.tell_step.ensures.tap c.tell_step.ensures.is_refused told_all)
+    (λ _ begins. begins_moved cfg tap old _ _ c.args.self.now c.tell_step.new.self w o told refused h accepted begins)
 
 pub returns-in-Err-clause-turns : goal.returns-in-Err-clause-turns
 unfolding event_turn
