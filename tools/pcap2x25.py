@@ -59,6 +59,12 @@ class Connection:
         self.is_made_up = is_made_up
         self.sent = {direction: 0 for direction in OTHER}
 
+    def __eq__(self, other):
+        return self.number == other.number
+
+    def __hash__(self):
+        return self.number
+
     def row(self):
         """The line of a list of connections."""
         return f"{self.number}\t{self.name}\t> {self.sent['>']}\t< {self.sent['<']}"

@@ -38,6 +38,7 @@ import decoding
 import pcap2x25
 import x25lines
 import x25names
+from ahead import ahead
 from messages import I_FRAME, Messages, octets_of
 from x25lines import BadInput
 
@@ -87,16 +88,22 @@ class Reader:
             yield block
 
     def _captured(self, file):
+        for found in ahead(self._found(file)):
+            if isinstance(found, int):
+                self.status = max(self.status, found)
+                continue
+            texts = self._decoder.texts([line for _, _, line in found], [connection for connection, _, _ in found])
+            yield [(x25lines.seconds(time), connection, text) for (connection, time, _), text in zip(found, texts)]
+
+    def _found(self, file):
+        """Yields connection, time and line of the frames of a capture, in blocks, and at the end the status."""
         converter = pcap2x25.Converter(self._options)
         wanted = self._options.connection
         for found in converter.blocks(captures.blocks(file)):
-            if wanted is not None:
-                found = [it for it in found if it[0].number == wanted]
-            texts = self._decoder.texts([line for _, _, line in found], [connection for connection, _, _ in found])
-            yield [(x25lines.seconds(time), connection, text) for (connection, time, _), text in zip(found, texts)]
+            yield [it for it in found if wanted in (None, it[0].number)]
         if 0 < len(converter.connections()) < (wanted or 1):
             raise BadInput(f"there are {len(converter.connections())} connections, and no number {wanted}")
-        self.status = max(self.status, converter.tell())
+        yield converter.tell()
 
     def _lines(self, file):
         trace = pcap2x25.Connection(1, None, False)

@@ -5,7 +5,6 @@ TCP's segments are put in order here. What the capture lacks is told by `Xot.not
 
 import ipaddress
 import struct
-from typing import NamedTuple
 
 XOT_PORT = 1998
 
@@ -22,43 +21,27 @@ MOST_SEGMENTS, MOST_STREAMS = 256, 4096
 SEQUENCES = 1 << 32
 
 
-class Payload(NamedTuple):
-    """What a packet of IP carries: the protocol, the two addresses, its octets, and its length, of which some octets may not be captured."""
-
-    protocol: int
-    source: bytes
-    target: bytes
-    octets: bytes
-    length: int
-
-
-class Segment(NamedTuple):
-    """A segment of TCP: its ends (address and port), where its octets stand in the stream, its flags, its octets."""
-
-    source: tuple
-    target: tuple
-    sequence: int
-    flags: int
-    octets: bytes
-
-
 # For each link type that holds IP and no addresses of a local network, the octets of its header.
 IP_AT = {NULL: 4, LOOP: 4, **dict.fromkeys((RAW_IP, OLD_RAW_IP, OTHER_RAW_IP, IPV4, IPV6), 0)}
 
 
+_IPV4, _TCP = struct.Struct(">BxHxxHxB2x4s4s"), struct.Struct(">HHI4xBB")
+
+
 def _of_ipv4(octets):
-    """The payload of a packet of IPv4, or None where it is none, or a fragment."""
+    """What a packet of IPv4 carries: protocol, source, target, octets, and their length, of which some may not be captured; None where it is
+    none, or a fragment."""
     if len(octets) < 20:
         return None
-    header, total = 4 * (octets[0] & 0xF), int.from_bytes(octets[2:4], "big")
-    fragment = int.from_bytes(octets[6:8], "big") & 0x3FFF
-    if header < 20 or total < header or fragment:
+    first, total, fragment, protocol, source, target = _IPV4.unpack_from(octets)
+    header = 4 * (first & 0xF)
+    if header < 20 or total < header or fragment & 0x3FFF:
         return None
-    return Payload(octets[9], octets[12:16], octets[16:20], octets[header:total], total - header)
+    return protocol, source, target, octets[header:total], total - header
 
 
 def _of_ipv6(octets):
-    """The payload of a packet of IPv6 behind its extension headers, or None where it is none."""
+    """The same of a packet of IPv6, behind its extension headers."""
     if len(octets) < 40:
         return None
     protocol, length = octets[6], int.from_bytes(octets[4:6], "big")
@@ -68,22 +51,25 @@ def _of_ipv6(octets):
             break
         protocol, header = payload[0], 8 * (payload[1] + 1)
         payload, length = payload[header:], length - header
-    return Payload(protocol, source, target, payload, length)
+    return protocol, source, target, payload, length
+
+
+_READERS = {4: _of_ipv4, 6: _of_ipv6}
 
 
 def segment(octets):
-    """The segment of TCP in a packet of IP, or None where it holds none; and how many of its octets weren't captured."""
-    read = {4: _of_ipv4, 6: _of_ipv6}.get(octets[0] >> 4 if octets else None)
+    """The segment of TCP in a packet of IP: its ends (address and port), where its octets stand in the stream, its flags, its octets, and how
+    many of these weren't captured; None where it holds none."""
+    read = _READERS.get(octets[0] >> 4 if octets else None)
     payload = read(octets) if read else None
-    if payload is None or payload.protocol != TCP or len(payload.octets) < 20:
-        return None, 0
-    tcp = payload.octets
-    source_port, target_port, sequence = struct.unpack_from(">HHI", tcp)
-    header = 4 * (tcp[12] >> 4)
-    if not 20 <= header <= payload.length:
-        return None, 0
-    ends = (payload.source, source_port), (payload.target, target_port)
-    return Segment(*ends, sequence, tcp[13], tcp[header:]), payload.length - max(len(tcp), header)
+    if payload is None or payload[0] != TCP or len(payload[3]) < 20:
+        return None
+    _, source, target, tcp, length = payload
+    source_port, target_port, sequence, words, flags = _TCP.unpack_from(tcp)
+    header = 4 * (words >> 4)
+    if not 20 <= header <= length:
+        return None
+    return (source, source_port), (target, target_port), sequence, flags, tcp[header:], length - max(len(tcp), header)
 
 
 class Stream:
@@ -104,20 +90,24 @@ class Stream:
         self._held = b""
         self._is_lost = False
 
-    def take(self, segment):
-        """Takes a segment; answers the X.25 packets that are whole now."""
+    def take(self, sequence, flags, octets):
+        """Takes the octets of a segment, which stand there in the stream; answers the X.25 packets that are whole now."""
         packets = []
-        if segment.flags & SYN and segment.sequence != self._start:
-            packets += self.end()
-            self._begin(segment.sequence)
-        if segment.octets:
-            start = segment.sequence + bool(segment.flags & SYN)
+        if flags & SYN:
+            if sequence != self._start:
+                packets += self.end()
+                self._begin(sequence)
+            sequence = (sequence + 1) % SEQUENCES
+        if octets:
             if self._next is None:
-                self._next = start % SEQUENCES
-            self._ahead.setdefault(start % SEQUENCES, segment.octets)
-            self._in_order()
-            if len(self._ahead) > MOST_SEGMENTS:
-                self._pass_gap()
+                self._next = sequence
+            if self._next == sequence and not self._ahead:
+                self._hold(octets)
+            else:
+                self._ahead.setdefault(sequence, octets)
+                self._in_order()
+                if len(self._ahead) > MOST_SEGMENTS:
+                    self._pass_gap()
         return packets + self._packets()
 
     def end(self):
@@ -146,11 +136,12 @@ class Stream:
         """Moves each segment that has become the next one, or overlaps it, to what is held."""
         while ready := [it for it in self._ahead if self._distance(it) <= 0]:
             for sequence in ready:
-                octets = self._ahead.pop(sequence)
-                fresh = octets[-self._distance(sequence) :] if self._distance(sequence) else octets
-                if len(octets) > -self._distance(sequence):
-                    self._held += fresh
-                    self._next = (self._next + len(fresh)) % SEQUENCES
+                self._hold(self._ahead.pop(sequence)[-self._distance(sequence) :])
+
+    def _hold(self, octets):
+        """Takes the octets that are wanted next."""
+        self._held += octets
+        self._next = (self._next + len(octets)) % SEQUENCES
 
     def _pass_gap(self):
         """Goes on at the nearest segment; what was held ends within a packet, and so is dropped."""
@@ -202,21 +193,22 @@ class Xot:
 
     def take(self, octets):
         """Takes a packet of IP; answers of each X.25 packet that is whole now the connection's name, whether the DTE sent it, and the packet."""
-        found, missing = segment(octets)
+        found = segment(octets)
         if found is None:
             self._passed["packet of IP without a whole segment of TCP"] += 1
             return []
-        ports = found.source[1], found.target[1]
+        source, target, sequence, flags, octets, missing = found
+        ports = source[1], target[1]
         if self._port not in ports:
-            self._passed[f"segment of TCP like XOT, to or from port {min(ports)} (--port)" if is_like_xot(found.octets) else f"segment of TCP of other ports than {self._port}"] += 1
+            self._passed[f"segment of TCP like XOT, to or from port {min(ports)} (--port)" if is_like_xot(octets) else f"segment of TCP of other ports than {self._port}"] += 1
             return []
         if missing > 0:
             self._notes["segment that was captured in part"] += 1
-        ends = found.source, found.target
+        ends = source, target
         stream = self._streams.get(ends)
         if stream is None:
             stream = self._streams[ends] = Stream(ends, self._port, self._notes)
-        packets = [(stream.name, stream.is_of_dte, packet) for packet in stream.take(found)]
+        packets = [(stream.name, stream.is_of_dte, packet) for packet in stream.take(sequence, flags, octets)]
         return packets if len(self._streams) <= MOST_STREAMS else packets + self._close(next(iter(self._streams)))
 
     def end(self):

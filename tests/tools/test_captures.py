@@ -367,6 +367,42 @@ class Pipes(ToolCase):
         self.assertEqual(live.end(), (0, b"", b""))
 
 
+class Dribble(io.BytesIO):
+    """A file of which so many octets come at once."""
+
+    def __init__(self, octets, count):
+        super().__init__(octets)
+        self._count = count
+
+    def read1(self, _):
+        return super().read1(self._count)
+
+
+class Pieces(unittest.TestCase):
+    """However a file comes, it holds the same; and what is there is passed on before more is read."""
+
+    def test_captures(self):
+        frames = [(at, 0, b"\x01" + SABM) for at in range(5)]
+        for whole in (samples.pcap(frames), samples.section() + samples.interface(207) + b"".join(samples.packet(octets, at) for at, _, octets in frames)):
+            for count in (1, 2, 3, 7, 64):
+                blocks = list(captures.blocks(Dribble(whole, count)))
+                self.assertEqual([(it.number, it.octets) for block in blocks for it in block], [(at + 1, b"\x01" + SABM) for at in range(5)])
+                self.assertEqual(len(blocks), -(-len(whole) // count))
+                self.assertLessEqual(max(map(len, blocks)), 1 + count // 19)
+
+    def test_lines(self):
+        whole = b"> 013febdf\n\n< 01738357\nno line feed"
+        for count in (1, 2, 5, 1000):
+            self.assertEqual(list(x25lines.lines_of(Dribble(whole, count))), list(enumerate(whole.split(b"\n"), 1)))
+
+    def test_a_line_that_is_too_long_is_told_behind_those_before_it(self):
+        read = []
+        with self.assertRaisesRegex(x25lines.BadInput, "line 2 is longer than 131,264"):
+            for number, _ in x25lines.lines_of(io.BytesIO(b"> 013febdf\n" + b"0" * 200_000)):
+                read.append(number)
+        self.assertEqual(read, [1])
+
+
 class Hostile(ToolCase):
     """Files that are cut off, damaged, or no captures at all end with a message; none ends with a traceback."""
 

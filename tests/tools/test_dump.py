@@ -165,6 +165,16 @@ class Dump(ToolCase):
         self.assertIn("Hello, X.25", self.dump(support.run("x25pcap.py", given=trace).stdout, "--messages", "--x25", support.PROGRAM))
 
     @support.needs_program
+    def test_a_long_trace_is_answered_in_blocks(self):
+        """More than the pipes hold, of short frames whose answers are longer, and of the longest."""
+        trace = b"> 013febdf\n< 01738357\n> 0\n" * 30_000 + (b"> " + b"00" * 4103 + b"\n") * 100
+        text = self.dump(trace, "--x25", support.PROGRAM, status=1).replace("? 60 no such line", "? 60")
+        done = subprocess.run([support.PROGRAM, "decode"], input=trace, capture_output=True, timeout=60)
+        self.assertEqual(text, done.stdout.decode())
+        judged = self.dump(trace[:60_000], "--judge", "--x25", support.PROGRAM, status=1).replace("? 60 no such line", "? 60")
+        self.assertEqual(judged, subprocess.run([support.PROGRAM, "judge"], input=trace[:60_000], capture_output=True, timeout=60).stdout.decode())
+
+    @support.needs_program
     def test_messages_of_a_run_with_losses_have_those_that_its_users_were_told(self):
         """Of random runs each message that a user was told is shown, once and in its order; of those shown some may be lost by a reset."""
         count = 0
