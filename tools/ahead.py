@@ -3,6 +3,8 @@
 import os
 import pickle
 
+from x25lines import BadInput
+
 
 class End(Exception):
     """Stands behind the last thing that was made."""
@@ -23,12 +25,19 @@ def ahead(things):
     os.close(writer)
     try:
         with os.fdopen(reader, "rb") as given:
-            while not isinstance(thing := pickle.load(given), End):
+            while not isinstance(thing := _taken(given), End):
                 if isinstance(thing, Exception):
                     raise thing
                 yield thing
     finally:
         os.waitpid(child, 0)
+
+
+def _taken(given):
+    try:
+        return pickle.load(given)
+    except EOFError as error:
+        raise BadInput("the process that reads the capture was stopped") from error
 
 
 def _give(things, out):

@@ -20,8 +20,7 @@ aren't shown, their packets are.
   --channel   shows the packets of a channel alone; 0 is that of RESTART. With --stats it counts them
 
 The program is the one that --x25 or the variable X25 names, or `x25` of the PATH, or else the one that was built or
-installed with this script. Colours
-are for a terminal alone, and not where the variable NO_COLOR is set.
+installed with this script. Colours are for a terminal alone, and not where the variable NO_COLOR is set.
 
 Exit status: 0; 1 where a line was none, a rule was broken, nothing was found in a capture, or something was left out; 2 for bad
 words or bad input, behind what stands before it.

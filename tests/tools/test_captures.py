@@ -3,6 +3,7 @@
 import gzip
 import io
 import os
+import signal
 import types
 import unittest
 
@@ -10,6 +11,7 @@ import samples
 import support
 from support import ToolCase
 
+import ahead
 import captures
 import pcap2x25
 import x25lines
@@ -401,6 +403,30 @@ class Pieces(unittest.TestCase):
             for number, _ in x25lines.lines_of(io.BytesIO(b"> 013febdf\n" + b"0" * 200_000)):
                 read.append(number)
         self.assertEqual(read, [1])
+
+
+class Ahead(unittest.TestCase):
+    """What a process of its own makes."""
+
+    def test_what_is_made_and_what_is_raised_behind_it(self):
+        def made():
+            yield from ([1, "a"], [2])
+            raise x25lines.BadInput("it breaks off")
+
+        taken = []
+        with self.assertRaisesRegex(x25lines.BadInput, "it breaks off"):
+            for thing in ahead.ahead(made()):
+                taken.append(thing)
+        self.assertEqual(taken, [[1, "a"], [2]])
+        self.assertEqual(list(ahead.ahead(iter([]))), [])
+
+    def test_it_is_stopped(self):
+        def made():
+            yield 1
+            os.kill(os.getpid(), signal.SIGKILL)
+
+        with self.assertRaisesRegex(x25lines.BadInput, "was stopped"):
+            list(ahead.ahead(made()))
 
 
 class Hostile(ToolCase):

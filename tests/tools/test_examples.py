@@ -32,7 +32,7 @@ def frames_of(script):
     run = simruns.run(support.PROGRAM, io.BytesIO(text), [])
     damage = re.findall(rb"^damage . 0 (\w+)$", text, re.MULTILINE)
     frames, faults = [], []
-    for place, (_, line) in enumerate(run.lines):
+    for place, line in enumerate(run.lines):
         if line[:1] not in b"<>":
             faults += re.findall(FAULT, line.decode())
         elif place in run.fates:

@@ -81,6 +81,13 @@ class Installed(ToolCase):
         if shutil.which("man"):
             self.assertIn("X.25 in a page".upper(), self.run_there(f"man -P cat {self.there}/share/man/man1/x25dump.1").upper())
 
+    def test_the_commit_of_a_program_that_was_built_here(self):
+        self.file("x25", support.read(support.PROGRAM))
+        os.chmod(f"{self.folder}/x25", 0o755)
+        self.file("commit", b"0123abcd\n")
+        make("install", *self.words[:2], f"PROGRAM={self.folder}/x25")
+        self.assertEqual(support.read(f"{self.documents}/COMMIT"), b"0123abcd\n")
+
     def test_uninstall_leaves_nothing(self):
         self.assertEqual(make("uninstall", *self.words).returncode, 0)
         left = [name for _, _, names in os.walk(self.folder) for name in names]

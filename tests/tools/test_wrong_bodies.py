@@ -15,7 +15,7 @@ if [ "$1 $2" = "all check" ]; then
     exit
 fi
 for edit in crates/$2/must-fail/*.edit; do
-    echo "must-fail $2/$(basename $edit): $(cat $edit)"
+    echo "rt: must-fail $2/$(basename $edit): $(cat $edit)"
     echo "$2/$(basename $edit)" >> "$(dirname "$0")/tried"
 done
 """
