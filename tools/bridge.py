@@ -49,7 +49,6 @@ bad words, or anything else that stops the bridge, which standard error names; 1
 
 import argparse
 import contextlib
-import os
 import re
 import select
 import signal
