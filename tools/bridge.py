@@ -27,7 +27,7 @@ behind it until a notice comes that begins so. Notices are the entries of the tr
 for one that is none; and lines that begin with `#`, the bridge's own words: why that was, and what becomes of the line. They go to
 standard output or to --notices. With --stdio commands have to come by --commands, and notices go to standard error. A command that is
 refused because too much waits (10 and 31) is asked again behind the next frame, and those behind it wait; so do all while the line isn't
-there. `connect` behind `disconnect` begins a new station, once DISC is acknowledged.
+there. `connect` behind `disconnect` begins a new station, once DISC is answered or T1 has passed.
 
 T1 fires --t1 seconds after it began anew, where nothing that came is unread; let it be longer than the way to the other end and
 back. Where nothing came for --t3 seconds, the other end is asked whether it is there: by an RR of a circuit that is open, which it has to
@@ -49,7 +49,6 @@ bad words, or anything else that stops the bridge, which standard error names; 1
 
 import argparse
 import contextlib
-import os
 import re
 import select
 import signal
@@ -80,7 +79,7 @@ QUIET_T1S = 5
 MOST_CHANNELS = 16
 OTHER = {">": "<", "<": ">"}
 LONG_ACCEPT = b"\x0f\0\0"
-CALL = 0x0B
+CALL, UA, DM = 0x0B, 0x63, 0x0F
 # A call, and an acceptance, with the two packet sizes that they may say.
 SIZED = re.compile(r"(?:call \S+ \S+ \S+|accept (?P<channel>\d+))(?: (?P<called>\d{1,3}) (?P<calling>\d{1,3}) \d+ \d+)?")
 READY = re.compile(r"\w+ (?:not)?ready (\d+)")
@@ -100,6 +99,11 @@ def called_channel(octets):
     """The channel of a CALL in a frame, or None where it brings none."""
     is_call = len(octets) >= 7 and not octets[1] & 1 and octets[4] == CALL and x25lines.is_sealed(octets)
     return (octets[2] & 15) << 8 | octets[3] if is_call else None
+
+
+def is_answer(octets):
+    """Whether a frame is UA or DM, the answers to DISC."""
+    return x25lines.is_sealed(octets) and octets[1] & 0xEF in (UA, DM)
 
 
 class Signals:
@@ -172,8 +176,8 @@ class Bridge:
         self._deadline, self._is_idle, self._is_up = None, False, False
         self._is_full, self._held, self._unknown = False, set(), set()
         self._last_frame = self._last_came = time.monotonic()
-        # Whether the link was ended here, and until when an answer to a DISC may come that was sent again.
-        self._is_dead, self._settles = False, 0
+        # Whether the link was ended here, and until when an answer to that, or to what T1 sent again, may come.
+        self._is_dead, self._answers = False, [0, 0]
         self._leaves = None
         self.status, self.counts = 0, Counter()
 
@@ -206,9 +210,11 @@ class Bridge:
         wire = self._wire
         if not wire.has_begun:
             self._last_frame = time.monotonic()
+        # A `wait` whose notice has come is done with first: then more commands may be read.
+        patience = self._patience()
         readers = [*self._signals.readers(), *wire.readers(), *self._user.readers()]
         writers = [*wire.writers(), *(outlet.number for outlet in self._outlets if outlet)]
-        came, room, _ = select.select(readers, writers, [], self._patience())
+        came, room, _ = select.select(readers, writers, [], patience)
         return {*came, *room}
 
     def _patience(self):
@@ -218,8 +224,8 @@ class Bridge:
         now = time.monotonic()
         own = [self._leaves] if self._leaves is not None else [self._deadline, self._probing()]
         times = [at for at in (self._wire.due, *own) if at is not None]
-        if self._is_dead and now < self._settles:
-            times.append(self._settles)
+        if self._is_settling():
+            times.append(max(self._answers))
         if self._is_at_rest():
             times.append(self._last_frame + self._quiet)
         return max(0, min(times) - now) if times else None
@@ -242,8 +248,8 @@ class Bridge:
         return None if waits or not self._wire.is_there or self._wire.waits > MOST_UNSENT else self._user.command()
 
     def _is_settling(self):
-        """Whether an answer to DISC may still come: a new station would take it for one to its SABM."""
-        return self._is_dead and (self._deadline is not None or time.monotonic() < self._settles)
+        """Whether an answer may still come though the link was ended: a new station would take it for one to its SABM."""
+        return self._is_dead and time.monotonic() < max(self._answers)
 
     def _is_at_rest(self):
         """Whether nothing is left to do here, if nothing comes any more."""
@@ -253,7 +259,7 @@ class Bridge:
     def _has_ended(self):
         now = time.monotonic()
         if self._leaves is not None:
-            return now >= self._leaves or (self._deadline is None and not self._wire.waits and not self._user.notices)
+            return now >= self._leaves or not (self._is_settling() or self._wire.waits or self._user.notices)
         return self._is_at_rest() and now >= self._last_frame + self._quiet
 
     def _is_cut_off(self):
@@ -264,7 +270,7 @@ class Bridge:
         return False
 
     def _leave(self):
-        """Ends the link, and the bridge once that is acknowledged, or T1 later."""
+        """Ends the link, and the bridge once that is answered, or T1 later."""
         self._leaves = time.monotonic() + self._options.t1
         self.status = 128 + self._signals.number
         if self._is_up or self._deadline is not None:
@@ -285,6 +291,8 @@ class Bridge:
             self._user.note(f"the station takes no frame of {len(octets):,} octets: it is lost")
         self._heed(answer)
         self._look_for_channel(octets)
+        if is_answer(octets):
+            self._answers[0] = 0
 
     def _look_for_channel(self, octets):
         """Tells of a call on a channel that the station doesn't have, once for each: nothing answers it."""
@@ -298,7 +306,7 @@ class Bridge:
         """T1 runs out. Where the link goes down by it, no frame comes, so what waited for one is asked again."""
         self._deadline = None
         self._is_full = False
-        self._settles = time.monotonic() + self._options.t1
+        self._answers[1] = time.monotonic() + self._options.t1
         self.counts["fired"] += 1
         answer = self._station.ask(f"t1 {self._end}")
         self._heed(answer)
@@ -382,7 +390,8 @@ class Bridge:
             event, channel = self._channels.heed(notice)
             if event in ("linkup", "linkdown"):
                 self._is_up = event == "linkup"
-            self._is_dead = self._is_dead or event == "disconnect"
+            if event == "disconnect":
+                self._is_dead, self._answers[0] = True, time.monotonic() + self._options.t1
             self._user.tell(notice)
             if event == "message" and self._user.notices.is_slow():
                 slow.add(channel)

@@ -354,16 +354,16 @@ class Joined(ToolCase):
     def test_signals_end_the_link(self):
         for number, status in ((signal.SIGTERM, 143), (signal.SIGINT, 130)):
             with self.subTest(number):
-                self.begin(f". off busy\n= {UA}\ndte linkup\n. off idle\n= dte disconnect\ndte linkdown local\n{DISC}\n. start busy\n= {UA}\n. off busy\n", "--t1", "60", "--stay")
+                self.begin(f". off busy\n= {UA}\ndte linkup\n. off idle\n= dte disconnect\ndte disconnect\ndte linkdown local\n{DISC}\n. off busy\n= {UA}\n. off busy\n", "--t1", "60", "--stay")
                 self.sends(UA)
                 self.asked(1)
                 self.child.send_signal(number)
                 self.assertEqual(self.gets(), DISC)
                 self.sends(UA)
-                self.assertEqual(self.end(), (status, ["dte linkup", "dte linkdown local"], ""))
+                self.assertEqual(self.end(), (status, ["dte linkup", "dte disconnect", "dte linkdown local"], ""))
 
     def test_a_signal_waits_no_longer_than_t1(self):
-        self.begin(f". off busy\n= {UA}\ndte linkup\n. off idle\n= dte disconnect\n{DISC}\n. start busy\n", "--t1", "0.5", "--stay")
+        self.begin(f". off busy\n= {UA}\ndte linkup\n. off idle\n= dte disconnect\ndte disconnect\n{DISC}\n. off busy\n", "--t1", "0.5", "--stay")
         self.sends(UA)
         self.asked(1)
         self.child.terminate()
@@ -371,7 +371,7 @@ class Joined(ToolCase):
         self.assertEqual(self.end()[0], 143)
 
     def test_a_second_signal_ends_it_at_once(self):
-        self.begin(f". off busy\n= {UA}\ndte linkup\n. off idle\n= dte disconnect\n{DISC}\n. start busy\n", "--t1", "60", "--stay")
+        self.begin(f". off busy\n= {UA}\ndte linkup\n. off idle\n= dte disconnect\ndte disconnect\n{DISC}\n. off busy\n", "--t1", "60", "--stay")
         self.sends(UA)
         self.asked(1)
         self.child.terminate()
@@ -380,25 +380,22 @@ class Joined(ToolCase):
         self.assertEqual(self.end()[0], -signal.SIGTERM)
 
     def test_connect_behind_disconnect_begins_a_new_station(self):
-        """.. once DISC is acknowledged; and where it was sent again, once an answer to that can't come any more."""
-        dead = f"= {UA}\n. off busy\n= dte connect\n! 13\n. off busy\n"
-        for words, again in (["--t1", "60"], ""), (["--t1", "1"], f"= t1 dte\n{DISC}\n. start busy\n"):
-            with self.subTest(words):
-                self.begin(f". off busy\n= dte disconnect\ndte disconnect\n{DISC}\n. start busy\n{again}{dead}", *words, user=b"dte disconnect\ndte connect\n")
+        """.. once DISC is answered, or T1 has passed, as an answer that comes later would be taken for one to SABM."""
+        for answer in (UA, "< 010f68ee", None):
+            with self.subTest(answer):
+                dead = "dte connect\n! 13\n. off busy\n"
+                answers = f". off busy\n= dte disconnect\ndte disconnect\n{DISC}\n. off busy\n" + (f"= {answer}\n. off busy\n= " if answer else "= ") + dead
+                self.begin(answers, "--t1", "60" if answer else "1", user=b"dte disconnect\ndte connect\n")
                 self.assertEqual(self.gets(), DISC)
-                if again:
-                    self.assertEqual(self.gets(), DISC)
-                time.sleep(0.3)
-                self.assertEqual([event for _, event in self.asked()], ["dte disconnect", "t1 dte"][: 1 + bool(again)])
-                self.sends(UA)
-                begin = time.monotonic()
+                time.sleep(0.5)
+                self.assertEqual([event for _, event in self.asked()], ["dte disconnect"])
+                if answer:
+                    self.sends(answer)
                 # The new station reads the same answers, and is asked for something else than the first of them.
                 status, notices, said = self.end()
                 self.assertEqual((status, notices[:2]), (1, ["dte disconnect", "? 60"]))
                 self.assertIn("asked 'dte connect' for 'dte disconnect'", said)
                 self.assertEqual([event for _, event in self.asked()], ["dte connect"])
-                if again:
-                    self.assertGreater(time.monotonic() - begin, 0.5)
 
     def test_a_call_on_a_channel_that_there_is_not(self):
         for channel, words in ((5, "--channels 5 would have it"), (300, "a station has at most 16")):

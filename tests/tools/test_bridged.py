@@ -189,7 +189,7 @@ class Two(ToolCase):
 
     def test_a_bridge_is_killed(self):
         """.. at each stage: while it listens or calls, while the link is set up, with a call, with messages under way; another one goes on."""
-        dte, dce, words = self.joined()
+        dte, dce, words = self.joined("--t3", "1")
         for stage in range(4):
             with self.subTest(stage):
                 if stage == 1:
@@ -242,18 +242,18 @@ class Two(ToolCase):
         self.finish(dte, dce)
 
     def test_readers_that_stall(self):
-        """Neither user reads while 3,000 messages of a kilobyte are sent each way: nothing is lost, and the link stands."""
-        sent = {end: [f"{end}{number:04d}".encode().hex() * 140 for number in range(3000)] for end in ("dte", "dce")}
+        """Neither user reads while 2,000 messages of a kilobyte are sent each way: nothing is lost, and the link stands."""
+        sent = {end: [f"{end}{number:04d}".encode().hex() * 140 for number in range(2000)] for end in ("dte", "dce")}
         for end, opening in (("dte", OPENING), ("dce", ANSWER)):
             self.file(end, (opening + "".join(f"{end} send 1 0 {octets}\n" for octets in sent[end])).encode())
         dce, line = self.listening("--t1", "1", "--stay", "--commands", os.path.join(self.folder, "dce"))
         dte = self.begin("dte", *line, "--t1", "1", "--stay", "--commands", os.path.join(self.folder, "dte"))
-        time.sleep(5)
+        time.sleep(3)
         told = {"dte": [], "dce": []}
 
         def take(child, notices):
             came = 0
-            while came < 3000 and (line := child.stdout.readline()):
+            while came < 2000 and (line := child.stdout.readline()):
                 notices.append(line.rstrip("\n"))
                 came += " message " in line
 
@@ -271,8 +271,8 @@ class Two(ToolCase):
     def test_a_trace_with_losses_is_whole(self):
         """Of two bridges one loses frames: what its trace has breaks no rule."""
         trace = os.path.join(self.folder, "trace")
-        sends = "".join(f"{{0}} send 1 0 {message('dte', number)}\n" for number in range(300))
-        same = ["--t1", "0.5", "--quiet", "8", "--n2", "200"]
+        sends = "".join(f"{{0}} send 1 0 {message('dte', number)}\n" for number in range(100))
+        same = ["--t1", "0.3", "--quiet", "5", "--n2", "200"]
         dce, line = self.listening(*same)
         dte = self.begin("dte", *line, *same, "--lose", "0.1", "--damage", "0.05", "--trace", trace)
         self.play(dte, dce, OPENING + sends.format("dte"), ANSWER + sends.format("dce"))

@@ -69,6 +69,22 @@ class Checked(unittest.TestCase):
         self.assert_wrong("came for 00000006", 7)
 
 
+class Judged(ToolCase):
+    """Which end broke a rule before what nobody asked for: by the judge's answer, written by hand."""
+
+    def test_the_rule_on_its_channel(self):
+        it = soak.Round.__new__(soak.Round)
+        it.channels, it.lose, it.stats, it.counts, it._ways, it._guest = 4, 0, "", soak.Counter(), soak.Ways(), "the kernel"
+        it.unasked = [(1100.0, "dce fault ch=2 diag=27"), (1100.0, "dce fault ch=3 diag=27"), (1100.0, "dce linkdown frmr-sent"), (1200.0, "dce fault ch=2 diag=27")]
+        it.judged = lambda: [(1095.0, "2", "dte: one"), (1096.0, "4", "dte: other")]
+        lines, is_right = it.row(None)
+        self.assertRegex(lines[1], "fault ch=2 .*by judge dte: one$")
+        self.assertRegex(lines[2], "fault ch=3 .*no rule is broken there before it$")
+        self.assertRegex(lines[3], "linkdown .*by judge dte: other$")
+        self.assertRegex(lines[4], "fault ch=2 .*no rule is broken there before it$")
+        self.assertTrue(is_right)
+
+
 class Halves(unittest.TestCase):
     """What Linux makes of a message in two over a reset, and what it doesn't explain."""
 
