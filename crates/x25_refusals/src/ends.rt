@@ -53,6 +53,7 @@ impl Outcome {
 #[derive(Clone, Copy, Debug, PartialEq, Eq)]
 pub(crate) enum Holds {
     Packets {
+        acknowledged: u8,
         is_up: bool,
         waiting: usize,
         spare: usize,
@@ -67,7 +68,6 @@ pub(crate) struct Answers {
     pub is_idle: bool,
     pub awaits_ua: bool,
     pub timer_runs: bool,
-    pub acknowledged: u8,
     pub holds: Holds,
 }
 
@@ -77,7 +77,6 @@ pub(crate) fn answers_of(station: &Station) -> Answers {
         is_idle: station.idle(),
         awaits_ua: station.awaits_ua(),
         timer_runs: station.timer_runs(),
-        acknowledged: station.acknowledged().get(),
         holds: Holds::Stretch(station.stretch(1)),
     }
 }

@@ -234,8 +234,8 @@ impl End {
             is_idle: self.link.idle(),
             awaits_ua: self.link.awaits_ua(),
             timer_runs: self.link.timer_runs(),
-            acknowledged: self.link.acknowledged().get(),
             holds: Holds::Packets {
+                acknowledged: self.link.acknowledged().get(),
                 is_up: self.link.is_up(),
                 waiting: self.link.waiting(),
                 spare: self.link.spare(),

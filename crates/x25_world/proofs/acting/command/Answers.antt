@@ -6,7 +6,7 @@ pub returns-in-Ok-clause-acted : goal.returns-in-Ok-clause-acted
 returns-in-Ok-clause-acted c = λ cfg w side.
     let fits = side.near in
     let shared = rw (sym c.make_room.ensures.line) at (shared_of cfg c.args.at _ c.args.line.now w c.make_room.new.line.room side) in
-    let called = c.in-Ok.ensures in
+    let called = c.in-Ok.ensures.does in
     record {
       happened = rw c.put.ensures.line
           (has_happened cfg c.args.at c.command.new.self _ w _ c.command.new.out shared
@@ -18,7 +18,7 @@ returns-in-Ok-clause-acted c = λ cfg w side.
 pub returns-in-Err-clause-acted : goal.returns-in-Err-clause-acted
 returns-in-Err-clause-acted c = λ cfg w side.
     let fits = side.near in
-    let called = c.in-Err.ensures in
+    let called = c.in-Err.ensures.does in
     record {
       happened = tt;
       refused = rw c.of_station.ensures (is_refusal cfg c.args.at w _ c.in-Err.error (called.refused _ _ fits));

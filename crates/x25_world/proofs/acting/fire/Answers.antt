@@ -14,7 +14,7 @@ returns-in-Ok-clause-acted c = λ cfg w side.
     let fires = lets_fire (settings_from c.args.at cfg) w (sym (c.awaits_frames.ensures cfg w side) ∙ c.if-awaits_frames.false) in
     let fits = side.near in
     let shared = rw (sym c.make_room.ensures.line) at (shared_of cfg c.args.at _ c.args.line.now w c.make_room.new.line.room side) in
-    let called = c.in-Ok.ensures in
+    let called = c.in-Ok.ensures.does in
     record {
       happened = rw (fires, c.put.ensures.line)
           (has_happened cfg c.args.at c.t1.new.self _ w _ c.t1.new.out shared
@@ -27,7 +27,7 @@ pub returns-in-Err-clause-acted : goal.returns-in-Err-clause-acted
 returns-in-Err-clause-acted c = λ cfg w side.
     let fires = lets_fire (settings_from c.args.at cfg) w (sym (c.awaits_frames.ensures cfg w side) ∙ c.if-awaits_frames.false) in
     let fits = side.near in
-    let called = c.in-Err.ensures in
+    let called = c.in-Err.ensures.does in
     record {
       happened = tt;
       refused = rw (fires, c.of_station.ensures) (is_refusal cfg c.args.at w _ c.in-Err.error (called.refused _ _ fits));
