@@ -22,7 +22,7 @@ returns-clause-text g c =
     let made = c.new-finder.ensures in
     c.take_text.ensures.text c.args.from written
     (λ input. reads_start c.args.from written c.new-finder.result input (ap (λ l. l.from) made.lines ∙ c.in_ok-lines.ensures.from)
-    (subst (λ d. Fits d []) (sym made.deframer) c.in_ok-deframer.ensures.fits) (ap (λ l. l.output) made.lines ∙ c.in_ok-lines.ensures.empty))
+    (subst (λ d. Fits d []) (sym made.deframer) c.in_ok-deframer.ensures) (ap (λ l. l.output) made.lines ∙ c.in_ok-lines.ensures.empty))
 
 pub returns-clause-status : goal.returns-clause-status
 returns-clause-status g c =
@@ -30,7 +30,7 @@ returns-clause-status g c =
     let made = c.new-finder.ensures in
     c.take_text.ensures.status c.args.from written
     (λ input. reads_start c.args.from written c.new-finder.result input (ap (λ l. l.from) made.lines ∙ c.in_ok-lines.ensures.from)
-    (subst (λ d. Fits d []) (sym made.deframer) c.in_ok-deframer.ensures.fits) (ap (λ l. l.output) made.lines ∙ c.in_ok-lines.ensures.empty))
+    (subst (λ d. Fits d []) (sym made.deframer) c.in_ok-deframer.ensures) (ap (λ l. l.output) made.lines ∙ c.in_ok-lines.ensures.empty))
 
 pub returns-clause-fault : goal.returns-clause-fault
 returns-clause-fault g c =
@@ -38,7 +38,7 @@ returns-clause-fault g c =
     let made = c.new-finder.ensures in
     c.take_text.ensures.fault c.args.from written
     (λ input. reads_start c.args.from written c.new-finder.result input (ap (λ l. l.from) made.lines ∙ c.in_ok-lines.ensures.from)
-    (subst (λ d. Fits d []) (sym made.deframer) c.in_ok-deframer.ensures.fits) (ap (λ l. l.output) made.lines ∙ c.in_ok-lines.ensures.empty))
+    (subst (λ d. Fits d []) (sym made.deframer) c.in_ok-deframer.ensures) (ap (λ l. l.output) made.lines ∙ c.in_ok-lines.ensures.empty))
 
 pub returns-clause-ended : goal.returns-clause-ended
 returns-clause-ended g c =
@@ -46,4 +46,4 @@ returns-clause-ended g c =
     let made = c.new-finder.ensures in
     c.take_text.ensures.ended c.args.from written
     (λ input. reads_start c.args.from written c.new-finder.result input (ap (λ l. l.from) made.lines ∙ c.in_ok-lines.ensures.from)
-    (subst (λ d. Fits d []) (sym made.deframer) c.in_ok-deframer.ensures.fits) (ap (λ l. l.output) made.lines ∙ c.in_ok-lines.ensures.empty))
+    (subst (λ d. Fits d []) (sym made.deframer) c.in_ok-deframer.ensures) (ap (λ l. l.output) made.lines ∙ c.in_ok-lines.ensures.empty))
