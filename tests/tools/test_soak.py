@@ -138,8 +138,8 @@ class Make(ToolCase):
         for folder in ("crates", "build"):
             os.mkdir(os.path.join(self.folder, folder))
         self.file("build/x25", b"")
-        environment = {**os.environ, "PATH": "/usr/bin:/bin"}
-        done = subprocess.run(["make", "-n", "interop"], cwd=self.folder, env=environment, capture_output=True, text=True, timeout=60)
+        environment = {**os.environ, "MAKEFLAGS": "", "PATH": "/usr/bin:/bin"}
+        done = subprocess.run(["make", "-n", "--no-print-directory", "interop"], cwd=self.folder, env=environment, capture_output=True, text=True, timeout=60)
         self.assertEqual((done.returncode, done.stdout), (0, "interop/build.sh build/interop\npython3 interop/play.py build/interop\n"), done.stderr)
 
 
