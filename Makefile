@@ -28,12 +28,12 @@ help:
 look: kit
 	@.ci/look
 
-build/x25: crates.txt $(shell find crates -path '*/out' -prune -o -type f -print) | kit
+build/x25: crates.txt $(shell find crates -path '*/out' -prune -o -type f ! -name '*.md' -print) | kit
 	.ci/prove x25 x25_world
 	@git describe --always --dirty --abbrev=8 --exclude '*' > build/commit 2> /dev/null || rm -f build/commit
 
 # The player of scripts whose calls are refused memory.
-build/x25_refusals: crates.txt $(shell find crates -path '*/out' -prune -o -type f -print) | kit
+build/x25_refusals: crates.txt $(shell find crates -path '*/out' -prune -o -type f ! -name '*.md' -print) | kit
 	.ci/prove x25_refusals x25_world
 
 demo: build/x25

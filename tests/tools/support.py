@@ -6,6 +6,7 @@ import subprocess
 import sys
 import tempfile
 import unittest
+from glob import glob
 
 TESTS = os.path.dirname(os.path.dirname(os.path.abspath(__file__)))
 ROOT = os.path.dirname(TESTS)
@@ -71,6 +72,12 @@ def read(*path):
     """The octets of a file of the repository."""
     with open(os.path.join(ROOT, *path), "rb") as file:
         return file.read()
+
+
+def claims():
+    """The text of docs/PROOFS.md and of the claims of each crate."""
+    files = [os.path.join(ROOT, "docs", "PROOFS.md"), *sorted(glob(os.path.join(ROOT, "crates", "*", "CLAIMS.md")))]
+    return "\n".join(read(file).decode() for file in files)
 
 
 def names_of_edit(file):

@@ -77,9 +77,9 @@ class Documents(unittest.TestCase):
             self.assertTrue(examples(document), document)
 
     def test_what_excludes_a_bug_is_proved(self):
-        """Each function and clause that the manual names as excluding a bug stands in the document of the proofs, or is a wrong body."""
+        """Each function and clause that the manual names as excluding a bug stands among the claims, or is a wrong body."""
         section = support.read("docs/MANUAL.md").decode().split("### Excluded by what is proved")[1].split("###")[0]
-        proofs = set(re.findall(r"\w+", " ".join(re.findall("`([^`]*)`", support.read("docs/PROOFS.md").decode()))))
+        proofs = set(re.findall(r"\w+", " ".join(re.findall("`([^`]*)`", support.claims()))))
         edits = [name for _, _, names in os.walk(os.path.join(support.ROOT, "crates")) for name in names if name.endswith(".edit")]
         wrong_bodies = {name for edit in edits for name in support.names_of_edit(edit)}
         for row in section.splitlines()[4:]:
