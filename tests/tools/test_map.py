@@ -1,4 +1,4 @@
-"""The map of docs/ARCHITECTURE.md, by which a newcomer finds a rule's code, definition, proof and wrong bodies, and docs/WALK.md.
+"""docs/MAP.md, by which a newcomer finds a rule's code, definition, proof and wrong bodies, docs/ARCHITECTURE.md and docs/WALK.md.
 
 The map names nothing that isn't there, and leaves out no source, no definition and no file of proofs that stands by itself. A definition
 that stands right in `specs/` bears the name of the source whose rule it says. Each hop of a walk is a function of the file that it names.
@@ -13,21 +13,27 @@ from glob import glob
 import support
 
 CRATES = os.path.join(support.ROOT, "crates")
-HEAD = "| Rule | Code | Definition | Proof | Wrong bodies |"
-WRONG_BODIES = 4
+LABELS = ("code", "definition", "proof", "wrong bodies")
+WRONG_BODIES = LABELS.index("wrong bodies") + 1
 FOLDERS_OF_PROOFS = ("rows", "sessions", "sessions/acts", "sessions/claims")
 FOLDERS_OF_SPECS = {"laws", "rows", "code"}
 
 
 def rows():
-    """The rows of the map, each a list of five cells."""
-    text = support.read(os.path.join(support.ROOT, "docs", "ARCHITECTURE.md")).decode()
-    table = text[text.index(HEAD):].split("\n\n")[0].splitlines()[2:]
-    return [[cell.strip() for cell in row.strip("|").split(" | ")] for row in table]
+    """The rows of the map, each a rule, what stands behind each label, and the heading above, which is a crate."""
+    text = re.sub(r"\n +(?=[^ -])", " ", support.read(os.path.join(support.ROOT, "docs", "MAP.md")).decode())
+    for section in text.split("\n## ")[1:]:
+        heading, _, items = section.partition("\n\n")
+        for item in re.split(r"^- ", items, flags=re.MULTILINE)[1:]:
+            rule, *lines = item.rstrip("\n").split("\n  - ")
+            told = dict(line.split(": ", 1) for line in lines)
+            unknown = set(told) - set(LABELS)
+            assert not unknown and re.fullmatch(r"\*\*[^*]+\*\*", rule), f"{rule}: {unknown}"
+            yield [rule, *(told.get(label, "") for label in LABELS), heading]
 
 
 def crates_of(row):
-    """The crates that a row names."""
+    """The crates that a row names, or its heading."""
     named = re.findall(r"\bx25(?:_(?!tests\b)[a-z]+)*\b", " ".join(row))
     return [crate for crate in sorted(set(named)) if os.path.isdir(os.path.join(CRATES, crate))]
 
@@ -93,26 +99,45 @@ class Crates(unittest.TestCase):
 
 
 class Map(unittest.TestCase):
-    def test_each_row_is_whole(self):
+    def test_each_row_stands_under_its_crate(self):
+        headings = [row[-1].strip("`") for row in rows()]
+        listed = list(dict.fromkeys(headings))
+        self.assertEqual(listed, [crate for crate in crates_and_what_they_use() if crate in listed])
+        self.assertEqual(headings, sorted(headings, key=listed.index))
         for row in rows():
             with self.subTest(row[0]):
-                self.assertEqual(len(row), 5)
-                self.assertTrue(crates_of(row))
+                self.assertTrue(row[1] or row[2])
 
     def test_each_name_is_there(self):
         for row in rows():
-            for place, cell in enumerate(row[1:], 1):
+            for place, cell in enumerate(row[1:-1], 1):
                 for word in names(cell):
                     with self.subTest(f"{row[0]}: {word}"):
                         self.assertTrue([file for crate in crates_of(row) for file in stands_for(crate, place, word)])
 
     def test_each_file_stands_in_a_row(self):
-        told = {file for row in rows() for place, cell in enumerate(row[1:], 1) for word in re.findall(r"`([^`]+)`", cell)
+        told = {file for row in rows() for place, cell in enumerate(row[1:-1], 1) for word in re.findall(r"`([^`]+)`", cell)
                 for crate in crates_of(row) for file in stands_for(crate, place, word)}
         for crate in sorted(os.listdir(CRATES)):
             if not crate.endswith("_tests"):
                 with self.subTest(crate):
                     self.assertEqual(sorted(os.path.relpath(file, CRATES) for file in files(crate) - told), [])
+
+
+class Lemmas(unittest.TestCase):
+    """A crate is for those above it by its contracts: none cites lemmas of a lower crate, but for those that docs/ARCHITECTURE.md names."""
+
+    def test_none_of_a_lower_crate_is_cited(self):
+        text = support.read(os.path.join(support.ROOT, "docs", "ARCHITECTURE.md")).decode()
+        item = re.search(r"^- \*\*A crate is for those above.*?\n(?=- )", text, re.MULTILINE | re.DOTALL)[0]
+        cited = set()
+        for folder, ending in (("src", "rt"), ("specs", "antt"), ("proofs", "antt")):
+            for path in glob(os.path.join(CRATES, "*", folder, "**", f"*.{ending}"), recursive=True):
+                crate = os.path.relpath(path, CRATES).split(os.sep)[0]
+                found = re.findall(r"\bRattle\.(x25\w*)\.proofs\.(\w+)", support.read(path).decode())
+                cited |= {(low, lemmas) for low, lemmas in found if low != crate}
+        self.assertEqual({lemmas for _, lemmas in cited}, {name for name in re.findall(r"`([A-Z]\w+)`", item)})
+        self.assertEqual({low for low, _ in cited} - set(re.findall(r"`(x25\w*)`", item)), set())
 
 
 class Stems(unittest.TestCase):
