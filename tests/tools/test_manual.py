@@ -1,4 +1,7 @@
-"""Runs the examples of the documents: indented lines that begin with `$`, with what they have to write below them."""
+"""Runs the examples of the documents: indented lines that begin with `$`, with what they have to write below them.
+
+A command goes on behind a line that ends with a bar or a backslash.
+"""
 
 import os
 import re
@@ -10,7 +13,7 @@ import support
 from support import ToolCase
 
 DOCUMENTS = ["README.md", "docs/MANUAL.md"]
-EXAMPLE = re.compile(r"^    \$ (.*)\n((?:    (?!\$ ).*\n)*)", re.MULTILINE)
+EXAMPLE = re.compile(r"^    \$ ((?:.*[|\\]\n    )*.*)\n((?:    (?!\$ ).*\n)*)", re.MULTILINE)
 
 
 def examples(document):
@@ -77,17 +80,18 @@ class Documents(unittest.TestCase):
             self.assertTrue(examples(document), document)
 
     def test_what_excludes_a_bug_is_proved(self):
-        """Each function and clause that the manual names as excluding a bug stands among the claims, or is a wrong body."""
-        section = support.read("docs/MANUAL.md").decode().split("### Excluded by what is proved")[1].split("###")[0]
-        proofs = set(re.findall(r"\w+", " ".join(re.findall("`([^`]*)`", support.claims()))))
+        """Each function and clause that docs/BUGS.md names as excluding a bug stands among the claims, or is a wrong body."""
+        section = re.sub(r"\n +(?=[^ -])", " ", support.read("docs/BUGS.md").decode().split("## Excluded by what is proved")[1].split("\n## ")[0])
+        claimed = set(re.findall(r"\w+", " ".join(re.findall("`([^`]*)`", support.claims()))))
         edits = [name for _, _, names in os.walk(os.path.join(support.ROOT, "crates")) for name in names if name.endswith(".edit")]
         wrong_bodies = {name for edit in edits for name in support.names_of_edit(edit)}
-        for row in section.splitlines()[4:]:
-            reason = row.split(" | ")[2] if row.count(" | ") == 2 else ""
-            with self.subTest(row):
-                self.assertTrue(re.findall("`([^`]*)`", reason) or not row)
+        reasons = re.findall(r"^  - (.*)$", section, re.MULTILINE)
+        self.assertEqual(len(reasons), len(re.findall(r"^- ", section, re.MULTILINE)))
+        for reason in reasons:
+            with self.subTest(reason):
                 names = {name for code in re.findall("`([^`]*)`", reason) for name in re.findall(r"\w+", code)}
-                self.assertEqual(names - proofs - wrong_bodies, set())
+                self.assertTrue(names)
+                self.assertEqual(names - claimed - wrong_bodies, set())
 
     def test_each_script_stands_in_the_manual(self):
         manual = support.read("docs/MANUAL.md").decode()

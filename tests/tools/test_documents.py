@@ -1,0 +1,206 @@
+"""The documents: how wide and how long they are, that what they name is there, and that the claims of a crate are carried by what they name.
+
+A name is a word of code in the text, between backticks, that has a line below or two humps, or is a path. Of a claim each word of code counts.
+"""
+
+import fnmatch
+import os
+import re
+import unittest
+from collections import defaultdict
+from glob import glob
+
+import support
+
+WIDTH = 100
+# Those that are wider yet.
+WIDER = ("docs/FORMATS.md", "docs/INTEROP.md", "docs/MANUAL.md", "docs/PEER.md", "docs/PERFORMANCE.md", "docs/WALK.md", "interop/README.md")
+LENGTHS = {"README.md": 100, "docs/ARCHITECTURE.md": 120, "docs/PROOFS.md": 170, "docs/DECISIONS.md": 240, "CONTRIBUTING.md": 130}
+CRATES = os.path.join(support.ROOT, "crates")
+# What is named and stands elsewhere: what commands leave behind, the sources of Linux, what whoever races decoders has.
+ELSEWHERE = ("build/*", "out/*", "/*", "../x25_*", "net/*", "yardstick/", "AnswersOffered.antt")
+# What a name may be part of: FILE.FUNCTION.what.edit, crates/NAME/CLAIMS.md, NAME_tests.
+HOLDERS = re.compile(r"NAME|CRATE|FILE|FUNCTION|\bwhat\b")
+ENDINGS = ("rt", "antt", "md", "py", "sh", "c", "h", "txt", "svg", "edit", "script", "trace", "gz", "bash")
+OF_TESTS = ("x25_embed", "x25_refusals", "x25_failing_devices")
+
+
+def text_of(*path):
+    return support.read(*path).decode()
+
+
+def documents():
+    """The paths of all documents, from the root on."""
+    patterns = ("*.md", "docs/*.md", "crates/*/CLAIMS.md", "interop/*.md", "examples/*/*.md")
+    return sorted(os.path.relpath(path, support.ROOT) for pattern in patterns for path in glob(os.path.join(support.ROOT, pattern)))
+
+
+def files():
+    """The paths of all files of the repository but for what was built, from the root on."""
+    for folder, folders, names in os.walk(support.ROOT):
+        at = os.path.relpath(folder, support.ROOT)
+        folders[:] = [name for name in folders if name not in (".git", "out", "__pycache__") and not (at == "." and name == "build")]
+        yield from (os.path.normpath(os.path.join(at, name)) for name in names)
+
+
+def code_of(text):
+    """The words of code of a text between backticks, without its examples."""
+    text = re.sub(r"^```.*?^```$", "", text, flags=re.MULTILINE | re.DOTALL)
+    return [re.sub(r"\s+", " ", code) for code in re.findall(r"`([^`]+)`", re.sub(r"^    [^\s-].*$", "", text, flags=re.MULTILINE))]
+
+
+def is_path(code):
+    return re.fullmatch(r"[\w./*-]+", code) and ("/" in code or "." in code and code.rpartition(".")[2] in ENDINGS)
+
+
+class Form(unittest.TestCase):
+    def test_no_line_is_wider(self):
+        for document in set(documents()).difference(WIDER):
+            wide = [str(number) for number, line in enumerate(text_of(document).splitlines(), 1) if len(line) > WIDTH]
+            with self.subTest(document):
+                self.assertEqual(" ".join(wide), "")
+
+    def test_those_that_are_read_whole_are_short(self):
+        for document, most in LENGTHS.items():
+            with self.subTest(document):
+                self.assertLessEqual(text_of(document).count("\n"), most)
+
+    def test_each_link_leads_to_a_file(self):
+        for document in documents():
+            for link in re.findall(r"\]\(([^)#:]+)\)", text_of(document)):
+                with self.subTest(f"{document}: {link}"):
+                    self.assertTrue(os.path.exists(os.path.join(support.ROOT, os.path.dirname(document), link)))
+
+
+class Names(unittest.TestCase):
+    def setUp(self):
+        self.files = list(files())
+        sources = [path for path in self.files if path.rpartition(".")[2] in ("rt", "antt", "py", "c", "txt", "bash") or path == "Makefile"]
+        self.words = {word for path in sources for word in re.findall(r"\w+", text_of(path))}
+        self.words |= {os.path.splitext(os.path.basename(path))[0] for path in self.files}
+        self.words |= {name for path in self.files if path.endswith(".edit") for name in support.names_of_edit(path)}
+
+    def test_each_path_is_there(self):
+        """.. at the root, or within a folder; of a source its crate may be told without `src`."""
+        folders = {path[: at.end()] for path in self.files for at in re.finditer("/", path)}
+        paths = {f"/{path}" for path in folders.union(self.files)} | {f"/{path}".replace("/src/", "/", 1) for path in self.files}
+        ends = {path[at.start() :] for path in paths for at in re.finditer("/(?=.)", path)}
+        for document in documents():
+            for code in filter(is_path, code_of(text_of(document))):
+                patterns = [f"/{HOLDERS.sub('*', code)}", f"/{HOLDERS.sub('*', code)}/"]
+                if not any(fnmatch.fnmatch(code, other) for other in ELSEWHERE):
+                    with self.subTest(f"{document}: {code}"):
+                        self.assertTrue(any(pattern in ends or "*" in pattern and fnmatch.filter(ends, pattern) for pattern in patterns))
+
+    def test_each_name_is_there(self):
+        for document in documents():
+            for code in code_of(text_of(document)):
+                if not is_path(code):
+                    for word in re.findall(r"\w+(?!\w*\*)", HOLDERS.sub("x25_bits", code)):
+                        if "_" in word.strip("_") or re.search(r"[a-z][A-Z]", word):
+                            with self.subTest(f"{document}: {code}"):
+                                self.assertIn(word, self.words)
+
+    def test_each_target_of_make_is_there(self):
+        makefile = text_of("Makefile")
+        for document in documents():
+            for target in re.findall(r"(?:`|^    )make ([\w-]+)", text_of(document), re.MULTILINE):
+                with self.subTest(f"{document}: {target}"):
+                    self.assertRegex(makefile, rf"(?m)^{target}:")
+
+
+def claims_of(crate):
+    """What carries the claims of a crate: the lines below each claim."""
+    text = re.sub(r"\n +(?=[^ -])", " ", text_of("crates", crate, "CLAIMS.md"))
+    return re.findall(r"^  - (.*)$", text, re.MULTILINE)
+
+
+class Claims(unittest.TestCase):
+    """Each name below a claim is one of its crate or of one that it stands on; each clause is one of the function before it."""
+
+    @classmethod
+    def setUpClass(cls):
+        lines = [line.partition(":") for line in text_of("crates.txt").splitlines() if line.strip() and not line.startswith("#")]
+        cls.below = {name.split()[0]: low.split() for name, _, low in lines if not name.endswith("_tests") and name not in OF_TESTS}
+        cls.words, cls.contracts, cls.definitions = defaultdict(set), defaultdict(set), defaultdict(set)
+        for crate in cls.below:
+            for folder, ending in (("src", "rt"), ("specs", "antt"), ("proofs", "antt")):
+                for path in glob(os.path.join(CRATES, crate, folder, "**", f"*.{ending}"), recursive=True):
+                    text = text_of(path)
+                    cls.words[crate] |= {*re.findall(r"\w+", text), os.path.splitext(os.path.basename(path))[0]}
+                    if folder == "src":
+                        cls.add_contracts(crate, text)
+                    elif folder == "specs":
+                        cls.add_definitions(text)
+
+    @classmethod
+    def add_contracts(cls, crate, text):
+        """Adds the words of the contract of each function, of each trait and of the functions of each type."""
+        for found in re.finditer(r"\bfn (\w+)", text):
+            contract = re.split(r"\n\s*\{|;\n|\{\}| \{\n", text[found.start() :], maxsplit=1)[0]
+            cls.contracts[crate, found[1]] |= set(re.findall(r"\w+", contract))
+        for found in re.finditer(r"^(?:pub )?(?:trait (\w+)|impl\b.*?(\w+)(?:<[^{}]*>)? \{).*?^\}", text, re.MULTILINE | re.DOTALL):
+            cls.contracts[crate, found[1] or found[2]] |= set(re.findall(r"\w+", found[0]))
+
+    @classmethod
+    def add_definitions(cls, text):
+        """Adds the words of each definition, of a record its fields among them."""
+        for part in re.split(r"\n(?=(?:pub |abbrev |record |data |use |--))", text):
+            if found := re.match(r"(?:pub )?(?:abbrev|record|data)(?: pub)? (\w+)", part):
+                cls.definitions[found[1]] |= set(re.findall(r"\w+", part))
+
+    def clauses(self, crate, name):
+        """The names that may be a clause of a function, or a field of a record that its clauses name."""
+        found, new = set(), {name}
+        for low in (crate, *self.below[crate]):
+            new |= self.contracts.get((low, name), set())
+        for _ in range(5):
+            found |= new
+            new = {word for other in new for word in self.definitions.get(other, ()) if other[:1].isupper()} - found
+        return found
+
+    def test_each_crate_has_some(self):
+        proofs = text_of("docs", "PROOFS.md")
+        for crate in self.below:
+            with self.subTest(crate):
+                self.assertIn(f"](../crates/{crate}/CLAIMS.md)", proofs)
+                self.assertTrue(claims_of(crate))
+
+    def test_each_name_is_of_its_crate(self):
+        for crate, below in self.below.items():
+            known = self.words[crate].union(self.below, *(self.words[low] for low in below))
+            for line in claims_of(crate):
+                with self.subTest(f"{crate}: {line}"):
+                    self.assertEqual({word for code in re.findall("`([^`]+)`", line) for word in re.findall(r"[A-Za-z]\w*", code)} - known, set())
+
+    def test_each_clause_is_of_its_function(self):
+        count = 0
+        for crate in self.below:
+            for line in claims_of(crate):
+                for heads, tail in re.findall(r"((?:`[\w:]+`(?:, | and )?)+): ((?:`\w+`(?:, and |, of it |, | and |))+)", line):
+                    known = set().union(*(self.clauses(crate, head.split("::")[-1]) for head in re.findall("`([^`]+)`", heads)))
+                    with self.subTest(f"{crate}: {heads}: {tail}"):
+                        self.assertEqual(set(re.findall(r"`(\w+)`", tail)) - known, set())
+                        count += 1
+        self.assertGreater(count, 200)
+
+    def test_each_law_is_claimed(self):
+        """A law is a public function that takes nothing and answers nothing, by a contract."""
+        for crate in self.below:
+            laws = {law for path in glob(os.path.join(CRATES, crate, "src", "*.rt")) for law in re.findall(r"^pub fn (\w+)\(\)\n    ensures", text_of(path), re.MULTILINE)}
+            claimed = set(re.findall(r"\w+", " ".join(code_of(text_of("crates", crate, "CLAIMS.md")))))
+            with self.subTest(crate):
+                self.assertEqual(laws - claimed, set())
+
+
+class Theorem(unittest.TestCase):
+    def test_it_is_shown_as_it_stands(self):
+        """docs/PROOFS.md shows two definitions of the claims, but for where their lines end."""
+        claims = " ".join(text_of("crates", "x25_world", "specs", "laws", "Claims.antt").split())
+        shown = re.search(r"^```\n(.*?)^```$", text_of("docs", "PROOFS.md"), re.MULTILINE | re.DOTALL)[1]
+        for definition in (part for part in shown.split("\n\n") if ":" in part):
+            self.assertIn(" ".join(definition.split()), claims)
+
+
+if __name__ == "__main__":
+    unittest.main()
