@@ -74,7 +74,7 @@ REFUSALS = {
     50: "nothing is on the line",
     51: "no frame at that place",
     52: "the damage can't be seen: the octets pass the frame check sequence",
-    54: "timer T1 of an end that waits for the answer to its SABM, while that SABM or a UA to it is on the line",
+    54: "timer T1, while the SABM of the end or a UA to it is on the line",
     60: "no such line",
     70: "no memory",
 }

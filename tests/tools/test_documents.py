@@ -109,6 +109,33 @@ class Names(unittest.TestCase):
                     self.assertRegex(makefile, rf"(?m)^{target}:")
 
 
+class Commands(unittest.TestCase):
+    """Commands, in examples and in the text, have words that are there."""
+
+    def setUp(self):
+        self.commands = {document: re.findall(r"^    .*$", text_of(document), re.MULTILINE) + code_of(text_of(document)) for document in documents()}
+
+    def check(self, pattern, known):
+        for document, commands in self.commands.items():
+            for command in commands:
+                for word in re.findall(pattern, command):
+                    with self.subTest(f"{document}: {command}"):
+                        self.assertIn(word, known)
+
+    def test_each_task_of_the_program_is_there(self):
+        tasks = re.findall(r'\bCommand::new\(alloc, "(\w+)"', text_of("crates", "x25_settings", "src", "parser.rt"))
+        self.assertGreater(len(tasks), 5)
+        self.check(r"(?<![\w/.-])x25 ([a-z]+)\b", {*tasks, "help"})
+
+    def test_each_option_is_there(self):
+        sources = [path for path in files() if path.endswith(".py") or path.startswith(".ci/") or os.path.basename(path) == "parser.rt"]
+        known = {option for path in sources for option in re.findall(r"--([a-z][\w-]+)|\.long\(\"([\w-]+)\"\)", text_of(path)) for option in option}
+        self.check(r"(?<![\w-])--([a-z][\w-]+)", known | {"version", "help", "test", "only", "start", "generated", "no-install-recommends"})
+
+    def test_each_script_is_there(self):
+        self.check(r"(?<![\w/.])((?:tools|tests|bench|interop)/[\w/]+\.(?:py|sh)|\.ci/\w+)", set(files()))
+
+
 def claims_of(crate):
     """What carries the claims of a crate: the lines below each claim."""
     text = re.sub(r"\n +(?=[^ -])", " ", text_of("crates", crate, "CLAIMS.md"))
