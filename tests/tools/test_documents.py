@@ -149,7 +149,7 @@ class Claims(unittest.TestCase):
     def setUpClass(cls):
         lines = [line.partition(":") for line in text_of("crates.txt").splitlines() if line.strip() and not line.startswith("#")]
         cls.below = {name.split()[0]: low.split() for name, _, low in lines if not name.endswith("_tests") and name not in OF_TESTS}
-        cls.words, cls.contracts, cls.definitions = defaultdict(set), defaultdict(set), defaultdict(set)
+        cls.words, cls.contracts, cls.fields, cls.definitions = defaultdict(set), defaultdict(str), defaultdict(set), defaultdict(set)
         for crate in cls.below:
             for folder, ending in (("src", "rt"), ("specs", "antt"), ("proofs", "antt")):
                 for path in glob(os.path.join(CRATES, crate, folder, "**", f"*.{ending}"), recursive=True):
@@ -162,29 +162,30 @@ class Claims(unittest.TestCase):
 
     @classmethod
     def add_contracts(cls, crate, text):
-        """Adds the words of the contract of each function, of each trait and of the functions of each type."""
+        """Adds the contract of each function, of each trait and of the functions of each type."""
         for found in re.finditer(r"\bfn (\w+)", text):
-            contract = re.split(r"\n\s*\{|;\n|\{\}| \{\n", text[found.start() :], maxsplit=1)[0]
-            cls.contracts[crate, found[1]] |= set(re.findall(r"\w+", contract))
+            cls.contracts[crate, found[1]] += re.split(r"\n\s*\{|;\n|\{\}| \{\n", text[found.start() :], maxsplit=1)[0]
         for found in re.finditer(r"^(?:pub )?(?:trait (\w+)|impl\b.*?(\w+)(?:<[^{}]*>)? \{).*?^\}", text, re.MULTILINE | re.DOTALL):
-            cls.contracts[crate, found[1] or found[2]] |= set(re.findall(r"\w+", found[0]))
+            cls.contracts[crate, found[1] or found[2]] += found[0]
 
     @classmethod
     def add_definitions(cls, text):
-        """Adds the words of each definition, of a record its fields among them."""
+        """Adds each definition: the fields of a record, and the words of all."""
         for part in re.split(r"\n(?=(?:pub |abbrev |record |data |use |--))", text):
             if found := re.match(r"(?:pub )?(?:abbrev|record|data)(?: pub)? (\w+)", part):
-                cls.definitions[found[1]] |= set(re.findall(r"\w+", part))
+                cls.fields[found[1]] |= set(re.findall(r"^ +(?:pub )?(\w+) :", part, re.MULTILINE))
+                cls.definitions[found[1]] |= set(re.findall(r"\b[A-Z]\w+", part))
 
     def clauses(self, crate, name):
-        """The names that may be a clause of a function, or a field of a record that its clauses name."""
-        found, new = set(), {name}
-        for low in (crate, *self.below[crate]):
-            new |= self.contracts.get((low, name), set())
+        """The clauses of a function, and the fields of the records that they lead to."""
+        contract = "".join(self.contracts[low, name] for low in (crate, *self.below[crate]))
+        found = {clause for clauses in re.findall(r"\b(?:ensures|requires)\*? (\w+)|\bghost (\w+)|\bfn (\w+)", contract) for clause in clauses}
+        seen, new = set(), {name, *re.findall(r"\b[A-Z]\w+", contract)}
         for _ in range(5):
-            found |= new
-            new = {word for other in new for word in self.definitions.get(other, ()) if other[:1].isupper()} - found
-        return found
+            seen |= new
+            found = found.union(*(self.fields.get(word, ()) for word in new))
+            new = {word for other in new for word in self.definitions.get(other, ())} - seen
+        return found | seen
 
     def test_each_crate_has_some(self):
         proofs = text_of("docs", "PROOFS.md")
