@@ -18,7 +18,7 @@ WIDER = ("docs/FORMATS.md", "docs/INTEROP.md", "docs/MANUAL.md", "docs/PEER.md",
 LENGTHS = {"README.md": 100, "docs/ARCHITECTURE.md": 120, "docs/PROOFS.md": 170, "docs/DECISIONS.md": 240, "CONTRIBUTING.md": 130}
 CRATES = os.path.join(support.ROOT, "crates")
 # What is named and stands elsewhere: what commands leave behind, the sources of Linux, what whoever races decoders has.
-ELSEWHERE = ("build/*", "out/*", "/*", "../x25_*", "net/*", "yardstick/", "AnswersOffered.antt")
+ELSEWHERE = ("build/*", "out/*", "/*", "../x25_*", "net/*", "AnswersOffered.antt")
 # What a name may be part of: FILE.FUNCTION.what.edit, crates/NAME/CLAIMS.md, NAME_tests.
 HOLDERS = re.compile(r"NAME|CRATE|FILE|FUNCTION|\bwhat\b")
 ENDINGS = ("rt", "antt", "md", "py", "sh", "c", "h", "txt", "svg", "edit", "script", "trace", "gz", "bash")
