@@ -39,7 +39,7 @@ class Examples(ToolCase):
             for command, output in examples(document):
                 with self.subTest(document=document, command=command):
                     done = subprocess.run(["bash", "-c", command], cwd=self.folder, env=self.environment, capture_output=True, text=True, timeout=60)
-                    self.assertEqual(done.stdout, output, done.stderr)
+                    self.assertEqual((done.stdout, done.stderr), (output, ""))
         self.assertEqual(sorted(os.listdir(self.folder)), ["build", "examples", "tools"])
 
     def test_the_program_in_python(self):
