@@ -193,6 +193,7 @@ class Claims(unittest.TestCase):
             with self.subTest(crate):
                 self.assertIn(f"](../crates/{crate}/CLAIMS.md)", proofs)
                 self.assertTrue(claims_of(crate))
+                self.assertEqual([line for line in claims_of(crate) if "`" not in line], [])
 
     def test_each_name_is_of_its_crate(self):
         for crate, below in self.below.items():
