@@ -65,6 +65,11 @@ class Form(unittest.TestCase):
             with self.subTest(document):
                 self.assertLessEqual(text_of(document).count("\n"), most)
 
+    def test_a_decision_has_five_lines(self):
+        decisions = re.findall(r"^\d+\. .*\n(?: .*\n)*", text_of("docs/DECISIONS.md"), re.MULTILINE)
+        self.assertEqual([int(decision.partition(".")[0]) for decision in decisions], [*range(1, len(decisions) + 1)])
+        self.assertEqual([decision for decision in decisions if decision.count("\n") > 5], [])
+
     def test_each_link_leads_to_a_file(self):
         for document in documents():
             for link in re.findall(r"\]\(([^)#:]+)\)", text_of(document)):
