@@ -21,12 +21,12 @@ def remarks(mark, output):
 
 
 class Cases(unittest.TestCase):
-    """The golden cases of `judge`, and the tables of docs/FORMATS.md."""
+    """The golden cases of `judge`, and the lists of docs/FORMATS.md, first of rules and then of notes."""
 
     def setUp(self):
         section = support.read("docs", "FORMATS.md").decode().split("## What `judge` writes")[1].split("\n## ")[0]
-        tables = [re.findall(r"^\| `([^`]+)` \|", table, re.MULTILINE) for table in section.split("| Text | ")[1:]]
-        self.rules, self.notes = ([re.sub(r" \d+$", "", text) for text in table] for table in tables)
+        told = [re.findall(r"^[-|] `([^`]+)`", part, re.MULTILINE) for part in re.findall(r"(?:^[-|] `.*\n(?:  .*\n)*)+", section, re.MULTILINE)]
+        self.rules, self.notes = ([re.sub(r" \d+$", "", text) for text in texts] for texts in told)
         self.cases = {name: golden.Case(name) for name in golden.names() if name.startswith("judge_")}
 
     def test_each_rule_has_one_that_breaks_it_alone(self):
@@ -37,7 +37,7 @@ class Cases(unittest.TestCase):
         for name, case in self.cases.items():
             self.assertEqual(case.status, 1 if broken[name] or b"\n? 60\n" in b"\n" + case.output else 0, name)
 
-    def test_the_tables_are_those_of_the_program(self):
+    def test_the_lists_are_those_of_the_program(self):
         sources = ("x25_judge/src/rule_text.rt", "x25_packet_judge/src/packet_rule_text.rt", "x25_judge/src/note.rt")
         said = {text.strip() for source in sources for text in re.findall(r'b"([^"]+)"', support.read("crates", source).decode())}
         self.assertEqual(said, {*self.rules, *self.notes})
