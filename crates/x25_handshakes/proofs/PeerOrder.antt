@@ -51,14 +51,14 @@ module _ {S T P : Type 0} (l : Level S T P) (R : S → T → Type 0) (says : (x 
   }
   in_epochs x L K y (inr (inl ahead)) = record {
     same = λ e. not_next x.epoch y.epoch e ahead.epochs;
-    near_ahead = λ e. ext_says x.side (before l.mark (past l.mark L)) [] (Live l.fresh_there) ahead.inner;
+    near_ahead = λ e. (ext_says x.side (before l.mark (past l.mark L)) [] (Live l.fresh_there) ahead.inner, ahead.waits);
     peer_ahead = λ e. not_both x.epoch y.epoch ahead.epochs e;
     apart = inr (inl ahead.epochs);
   }
   in_epochs x L K y (inr (inr later)) = record {
     same = λ e. not_next y.epoch x.epoch (sym e) later.epochs;
     near_ahead = λ e. not_both x.epoch y.epoch e later.epochs;
-    peer_ahead = λ e. ext_says (Live l.fresh) [] (before l.mark (past l.mark K)) y.side later.inner;
+    peer_ahead = λ e. (ext_says (Live l.fresh) [] (before l.mark (past l.mark K)) y.side later.inner, later.waits);
     apart = inr (inr later.epochs);
   }
 

@@ -32,17 +32,17 @@ pub fn drained_ends_know()
     x25_circuit::values_are_agreed();
 }
 
-/// A packet layer, by the definition of the laws above, and any peer that keeps the rules of `PeerLayer` and those below
-/// it (docs/PEER.md), in either role, over lines that keep order, from the link's set-up on, as long as it is up. What
-/// the user calls and what the peer does is any list: restarts, calls, clears, resets, data, interrupts. ITU-T X.25
-/// (10/96), sections 3.3 and 4.
+/// A packet layer, by the definition of the laws above, and any peer that keeps the rules of `PeerLayer` and those
+/// below it (docs/PEER.md), in either role, over lines that keep order, from the link's set-up on, as long as it is
+/// up. What the user calls and what the peer does is any list: restarts, calls, clears, resets, data, interrupts.
+/// ITU-T X.25 (10/96), sections 3.3 and 4.
 ///
-/// What comes to the layer is no error of procedure. The counts of restarts of the two ends differ by one at most, and
-/// so do, while these agree, those of the clears of a channel, and within a call those of its resets. While all agree,
-/// also where an end or both have left that stretch, the messages that the layer handed up in it are a beginning of those
-/// that the peer's data packets carry, and those that the peer took are a beginning of those that the layer was handed
-/// down, each all of them where all is acknowledged and nothing waits; and so of interrupts, and of calls. An end that
-/// is ahead has taken nothing yet.
+/// What comes to the layer is no error of procedure. The counts of restarts of the two ends differ by one at most,
+/// and so do, while these agree, those of the clears of a channel, and within a call those of its resets. While all
+/// agree, also where an end or both have left that stretch, the messages that the layer handed up in it are a
+/// beginning of those that the peer's data packets carry, and those that the peer took are a beginning of those that
+/// the layer was handed down, each all of them where all is acknowledged and nothing waits; and so of interrupts, and
+/// of calls. An end that is ahead has taken nothing yet, and the other takes nothing more.
 pub fn any_peer_keeps_layers()
     ensures quiet { WithAnyPeerLayer LayerFindsNoError }
     ensures order { WithAnyPeerLayer KeepsLayers }

@@ -1,9 +1,9 @@
 -- What holds of our own end and any peer: of a circuit in p4, and of a whole packet layer.
-use Rattle.std.specs.Prelude.{◌≡◌, ◌⊎◌, ℕ, suc, ◌≤◌, [], length, false, None}
+use Rattle.std.specs.Prelude.{◌≡◌, ◌⊎◌, ℕ, suc, ◌≤◌, [], length, true, false, None}
 use Rattle.x25_bits.specs.declared.role.Role.{Role}
 use Rattle.x25_circuit.specs.Message.{carried}
 use Rattle.x25_circuit.specs.Params.{Terms}
-use Rattle.x25_handshakes.specs.laws.Handshake.{At, state_of}
+use Rattle.x25_handshakes.specs.laws.Handshake.{At, has_left, state_of}
 use Rattle.x25_handshakes.specs.laws.Stretch.{Stretch, fresh}
 use Rattle.x25_handshakes.specs.laws.Transfer.{fresh_transfer}
 use Rattle.x25_handshakes.specs.laws.Calls.{Phase, Talking, Connection, fresh_call}
@@ -17,11 +17,12 @@ use Rattle.x25_handshakes.specs.laws.PeerJoined.{Joined, IsReached}
 use Rattle.x25_handshakes.specs.laws.PeerLayers.{JoinedLayers, IsReached as LayersAreReached}
 
 -- Two ends of a handshake, of which R is said in one epoch, also where an end or both have left it. Their counts differ
--- by one at most, and an end that is ahead stands as if the other were in the new epoch too and had done nothing there.
-pub record InEpochs {S T : Type 0} (R : S → T → Type 0) (fresh : S) (fresh_there : T) (x : At S) (y : At T) : Type 0 where
+-- by one at most. An end that is ahead stands as if the other were in the new epoch too and had done nothing there, and
+-- the other has left its epoch, so that it takes nothing more in it.
+pub record InEpochs {S T : Type 0} (R : S → T → Type 0) (fresh : S) (there : T) (x : At S) (y : At T) : Type 0 where
   pub same : x.epoch ≡ y.epoch → R (state_of x.side) (state_of y.side)
-  pub near_ahead : x.epoch ≡ suc y.epoch → R (state_of x.side) fresh_there
-  pub peer_ahead : y.epoch ≡ suc x.epoch → R fresh (state_of y.side)
+  pub near_ahead : x.epoch ≡ suc y.epoch → R (state_of x.side) there × (has_left y.side ≡ true)
+  pub peer_ahead : y.epoch ≡ suc x.epoch → R fresh (state_of y.side) × (has_left x.side ≡ true)
   pub apart : (x.epoch ≡ y.epoch) ⊎ (x.epoch ≡ suc y.epoch) ⊎ (y.epoch ≡ suc x.epoch)
 
 -- Of one stretch: the messages that our circuit handed up are a beginning of those that the peer's data packets carry
