@@ -5,7 +5,7 @@ ghost use Rattle.x25_handshakes.specs.laws.Arrivals.{AllArrives};
 ghost use Rattle.x25_handshakes.specs.laws.Drained.{AllIsKnown};
 ghost use Rattle.x25_handshakes.specs.laws.PeerClaims.{WithAnyPeer, FindsNoError, KeepsStretches};
 ghost use Rattle.x25_handshakes.specs.laws.PeerClaims.{WithAnyPeerLayer, LayerFindsNoError, KeepsLayers};
-ghost use Rattle.x25_handshakes.specs.rows.PeerRows.{LatePeerMoves};
+ghost use Rattle.x25_handshakes.specs.rows.PeerRows.{LatePeerMoves, PeerLayerMoves};
 
 /// Two packet layers over lines that keep order, each end out at any moment, and any calls of their users, with the
 /// packet sizes and windows that each call proposes and its acceptance answers (ITU-T X.25 (10/96), section 6.12): no
@@ -58,8 +58,12 @@ pub fn any_peer_keeps_stretches()
     ensures order { WithAnyPeer KeepsStretches }
 {}
 
-/// A worked row: a peer takes a data packet and says nothing, sends one of its own that acknowledges none, which is
-/// handed up, and acknowledges later.
-pub fn late_peer_moves()
-    ensures { LatePeerMoves }
-{}
+/// Worked rows. A peer takes a data packet and says nothing, sends one of its own that acknowledges none, which is
+/// handed up, and acknowledges later. A peer confirms our RESTART and calls, our user accepts, and its message is handed
+/// up.
+pub fn peers_move()
+    ensures late { LatePeerMoves }
+    ensures layer { PeerLayerMoves }
+{
+    x25_circuit::values_are_agreed();
+}

@@ -7,6 +7,5 @@
 mod law;
 
 pub use law::{
-    any_peer_keeps_layers, any_peer_keeps_stretches, drained_ends_know, keeps_order,
-    late_peer_moves,
+    any_peer_keeps_layers, any_peer_keeps_stretches, drained_ends_know, keeps_order, peers_move,
 };
