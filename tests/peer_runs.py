@@ -120,9 +120,10 @@ class Call:
 class Station:
     """The program, asked a line at a time, and its user, who accepts the call."""
 
+    WORDS = ["station", "dte", "--n2", "255"]
+
     def __init__(self, program, way):
-        words = [program, "station", "dte", "--n2", "255"]
-        self.run = subprocess.Popen(words, stdin=subprocess.PIPE, stdout=subprocess.PIPE, text=True)
+        self.run = subprocess.Popen([program, *self.WORDS], stdin=subprocess.PIPE, stdout=subprocess.PIPE, text=True)
         self.way = way
         self.sent, self.messages, self.asked = [], [], []
         self.open = False
@@ -143,10 +144,15 @@ class Station:
                 self.way.append(bytes.fromhex(words[1]))
             elif line[0] == "!":
                 refused = True
-            elif words[1] == "incoming":
-                self.asked.append("dte accept 1")
-            elif words[1] == "message":
-                self.messages.append(bytes.fromhex(words[-1].removeprefix("data=")))
+            else:
+                self.tells(words)
+
+    def tells(self, words):
+        """An entry of the transcript."""
+        if words[1] == "incoming":
+            self.asked.append("dte accept 1")
+        elif words[1] == "message":
+            self.messages.append(bytes.fromhex(words[-1].removeprefix("data=")))
 
     def ask(self, line):
         self.run.stdin.write(line + "\n")
@@ -166,12 +172,14 @@ class Station:
 
 
 class Run:
-    def __init__(self, program, seed, peer):
+    """A run with this packet layer of the peer and this user of the station."""
+
+    def __init__(self, program, seed, peer=Peer, layer=Call, station=Station):
         self.dice = dice = random.Random(seed)
         self.out, self.back = [], []
         self.peer = peer(dice)
-        self.call = Call(self.peer)
-        self.station = Station(program, self.out)
+        self.call = layer(self.peer)
+        self.station = station(program, self.out)
         self.loss, self.deaf, self.late, self.again, self.talk, self.noise, self.fires = (
             dice.choice(chances) for chances in ((0, 0.05, 0.2), (0, 0.1, 0.4), (0, 0.5, 0.9), (0, 0.1, 0.4), (0, 0.1, 0.4), (0, 0.1), (0.01, 0.05))
         )
@@ -224,6 +232,12 @@ class Run:
         begins(self.station.messages, self.call.messages, "messages of the peer")
         begins(self.call.taken, self.station.sent, "messages of the station")
 
+    def answered(self):
+        """The front frame comes to the peer, and is answered."""
+        octets = self.comes(plain=True)
+        polls = octets[0] == RESPONSE and octets[1] & 3 != 3 and octets[1] & 0x10
+        self.back.append(self.peer.frame(RR, False, bool(polls), False))
+
     def settle(self):
         """The line is good and the peer plain: what comes is answered, and what isn't acknowledged goes again."""
         for _ in range(40):
@@ -231,9 +245,7 @@ class Run:
                 while self.back:
                     self.delivered(plain=True)
                 while self.out:
-                    octets = self.comes(plain=True)
-                    polls = octets[0] == RESPONSE and octets[1] & 3 != 3 and octets[1] & 0x10
-                    self.back.append(self.peer.frame(RR, False, bool(polls), False))
+                    self.answered()
                 for number in range(self.peer.sent, min(self.peer.acked + 7, len(self.peer.given))):
                     self.back.append(self.peer.item(number))
                 self.holds()
@@ -258,7 +270,11 @@ class Run:
 
 def play(program, seed, peer=Peer):
     """Answers why the run of this seed fails, or None."""
-    run = Run(program, seed, peer)
+    return outcome(Run(program, seed, peer))
+
+
+def outcome(run):
+    """Plays a run; answers why it fails, or None."""
     try:
         run.play()
     except Failed as failed:
@@ -269,8 +285,8 @@ def play(program, seed, peer=Peer):
     return None
 
 
-def main():
-    parser = argparse.ArgumentParser(description=__doc__.splitlines()[0])
+def main(play, held, about):
+    parser = argparse.ArgumentParser(description=about.splitlines()[0])
     parser.add_argument("--program", default=find_program())
     parser.add_argument("--from", dest="first", type=int, default=1, metavar="SEED")
     parser.add_argument("runs", nargs="?", type=int, default=10000, metavar="RUNS")
@@ -282,9 +298,9 @@ def main():
         if why:
             print(f"seed {seed}: {why}")
             return 1
-    print(f"{words.runs} runs: order was kept, no FRMR was sent, and everything arrived")
+    print(f"{words.runs} runs: {held}")
     return 0
 
 
 if __name__ == "__main__":
-    sys.exit(main())
+    sys.exit(main(play, "order was kept, no FRMR was sent, and everything arrived", __doc__))

@@ -7,6 +7,7 @@ use Rattle.x25_handshakes.specs.laws.Handshake.{At}
 use Rattle.x25_handshakes.specs.laws.Stretch.{Packet, Call, Accept, Stretch}
 use Rattle.x25_handshakes.specs.laws.Transfer.{TransferStep, fresh_transfer}
 use Rattle.x25_handshakes.specs.laws.Calls.{Phase, Unused, Waiting, Offered, Crossed, Talking, Connection, CallStep}
+use Rattle.x25_handshakes.specs.laws.PeerCalls.{Stage, Free, Calling, Called, Collided, InData}
 use Rattle.x25_handshakes.proofs.TermsLemmas.{IsSound}
 use Rattle.x25_handshakes.proofs.TransferRelation.{TransfersRelated}
 
@@ -75,21 +76,39 @@ abbrev pub CallAccepted : List CallRequest → Params → Terms → Terms → (L
 CallAccepted m mine t b R [] = ⊥
 CallAccepted m mine t b R (p ∷ u) = call_or_accept_at m mine t b p (Accepted mine t b R u) (R u)
 
--- the phases in which the two ends may stand, with what is made and indicated at each; u is on the way to the DCE, v to the DTE
+-- where the call of our own end stands
+abbrev pub stage_of : Phase → Stage (At Stretch)
+stage_of Unused = Free
+stage_of (Waiting mine) = Calling mine
+stage_of (Offered theirs) = Called theirs
+stage_of (Crossed mine) = Collided mine
+stage_of (Talking t b at) = InData t b at
+
+-- what is kept of a DTE and a DCE in p4, with the terms of what each sends, and of what it takes; the first line is on the way to the DCE
+abbrev pub TalksOf : Type 0 → Type 0 → Type 1
+TalksOf A B = Terms → Terms → A → List Packet → List Packet → Terms → Terms → B → Type 0
+
+-- The stages in which the DTE and the DCE may stand, with what is made and indicated at each; u is on the way to the DCE, v to the DTE. Each may be an end of any kind: R is what is
+-- kept of them in p4, and what an end is as p4 begins is a at the DTE and b at the DCE.
+abbrev pub JointOf : {A B : Type 0} → TalksOf A B → A → B → Stage A → Stage B
+    → List CallRequest → List CallRequest → List CallRequest → List CallRequest → List Packet → List Packet → Type 0
+JointOf R a b Free Free ma ia mb ib u v = Nil u × Nil v × (ma ≡ []) × (ia ≡ []) × (mb ≡ []) × (ib ≡ [])
+JointOf R a b Free (Calling q) ma ia mb ib u v = Nil u × OneCall mb v × (ma ≡ []) × (ia ≡ []) × (ib ≡ []) × Proposes mb q
+JointOf R a b (Calling p) Free ma ia mb ib u v = OneCall ma u × Nil v × (ia ≡ []) × (mb ≡ []) × (ib ≡ []) × Proposes ma p
+JointOf R a b (Calling p) (Calling q) ma ia mb ib u v = OneCall ma u × OneCall mb v × (ia ≡ []) × (ib ≡ []) × Proposes ma p
+JointOf R a b (Calling p) (Called q) ma ia mb ib u v = Nil u × MaybeCall mb v × (ia ≡ []) × (ib ≡ ma) × IsProposal p q
+JointOf R a b (Collided p) (Calling q) ma ia mb ib u v = OneCall ma u × Nil v × (ia ≡ []) × (ib ≡ []) × Proposes ma p
+JointOf R a b (Collided p) (Called q) ma ia mb ib u v = Nil u × Nil v × (ia ≡ []) × (ib ≡ ma) × IsProposal p q
+JointOf R a b (Calling p) (InData t k y) ma ia mb ib u v = Nil u × CallAccepted mb p t k (λ w. R k t a [] w t k y) v × (ia ≡ []) × (ib ≡ ma)
+JointOf R a b (Collided p) (InData t k y) ma ia mb ib u v = Nil u × Accepted p t k (λ w. R k t a [] w t k y) v × (ia ≡ []) × (ib ≡ ma)
+JointOf R a b (Called p) (Calling q) ma ia mb ib u v = Nil u × Nil v × (ia ≡ mb) × (ib ≡ []) × IsProposal q p
+JointOf R a b (InData t k x) (Calling q) ma ia mb ib u v = Accepted q t k (λ w. R t k x w [] k t b) u × Nil v × (ia ≡ mb) × (ib ≡ [])
+JointOf R a b (InData t k x) (InData t₂ k₂ y) ma ia mb ib u v = R t k x u v t₂ k₂ y × (((ia ≡ []) × (ib ≡ ma)) ⊎ ((ia ≡ mb) × (ib ≡ [])))
+JointOf R a b stage other ma ia mb ib u v = ⊥
+
+-- both ends are our own
 abbrev pub Joint : Phase → Phase → List CallRequest → List CallRequest → List CallRequest → List CallRequest → List Packet → List Packet → Type 0
-Joint Unused Unused ma ia mb ib u v = Nil u × Nil v × (ma ≡ []) × (ia ≡ []) × (mb ≡ []) × (ib ≡ [])
-Joint Unused (Waiting q) ma ia mb ib u v = Nil u × OneCall mb v × (ma ≡ []) × (ia ≡ []) × (ib ≡ []) × Proposes mb q
-Joint (Waiting p) Unused ma ia mb ib u v = OneCall ma u × Nil v × (ia ≡ []) × (mb ≡ []) × (ib ≡ []) × Proposes ma p
-Joint (Waiting p) (Waiting q) ma ia mb ib u v = OneCall ma u × OneCall mb v × (ia ≡ []) × (ib ≡ []) × Proposes ma p
-Joint (Waiting p) (Offered q) ma ia mb ib u v = Nil u × MaybeCall mb v × (ia ≡ []) × (ib ≡ ma) × IsProposal p q
-Joint (Crossed p) (Waiting q) ma ia mb ib u v = OneCall ma u × Nil v × (ia ≡ []) × (ib ≡ []) × Proposes ma p
-Joint (Crossed p) (Offered q) ma ia mb ib u v = Nil u × Nil v × (ia ≡ []) × (ib ≡ ma) × IsProposal p q
-Joint (Waiting p) (Talking t b y) ma ia mb ib u v = Nil u × CallAccepted mb p t b (λ w. TalksRelated b t fresh_transfer [] w t b y) v × (ia ≡ []) × (ib ≡ ma)
-Joint (Crossed p) (Talking t b y) ma ia mb ib u v = Nil u × Accepted p t b (λ w. TalksRelated b t fresh_transfer [] w t b y) v × (ia ≡ []) × (ib ≡ ma)
-Joint (Offered p) (Waiting q) ma ia mb ib u v = Nil u × Nil v × (ia ≡ mb) × (ib ≡ []) × IsProposal q p
-Joint (Talking t b x) (Waiting q) ma ia mb ib u v = Accepted q t b (λ w. TalksRelated t b x w [] b t fresh_transfer) u × Nil v × (ia ≡ mb) × (ib ≡ [])
-Joint (Talking t b x) (Talking t₂ b₂ y) ma ia mb ib u v = TalksRelated t b x u v t₂ b₂ y × (((ia ≡ []) × (ib ≡ ma)) ⊎ ((ia ≡ mb) × (ib ≡ [])))
-Joint other another ma ia mb ib u v = ⊥
+Joint a b ma ia mb ib u v = JointOf TalksRelated fresh_transfer fresh_transfer (stage_of a) (stage_of b) ma ia mb ib u v
 
 pub record ConnectionsRelated (a : Connection) (u v : List Packet) (b : Connection) : Type 0 where
   pub joint : Joint a.phase b.phase a.made a.indicated b.made b.indicated u v

@@ -17,7 +17,8 @@ use Rattle.x25_handshakes.proofs.TermsLemmas.{Laws}
 use Rattle.x25_handshakes.proofs.HandshakeRelation.{AllInner}
 use Rattle.x25_handshakes.proofs.HandshakeLemmas.{request_live, confirm_never, leave, inner_act, inner_take, drops, marker_left, hand_flip, both_fresh, inner_live, live_front, hand_map, request_gone}
 use Rattle.x25_handshakes.proofs.CallsRelation.{GoodDte, GoodDce, IsCalled}
-use Rattle.x25_handshakes.proofs.ChannelRelation.{clear_mark, other_role, Seen, connection_level, ChannelRelated, GoodChannel}
+use Rattle.x25_handshakes.specs.laws.PeerLayers.{other_role}
+use Rattle.x25_handshakes.proofs.ChannelRelation.{clear_mark, Seen, connection_level, ChannelRelated, GoodChannel}
 use Rattle.x25_handshakes.proofs.CallLemmas.{GoodDte-takes, GoodDce-takes, GoodDte-acts, GoodDce-acts, ConnectionsRelated-fresh, free_a, free_b}
 
 abbrev Quiet : List Packet → Type 0
@@ -154,7 +155,7 @@ Seen-flip Dce x u v y h = h
 
 pub ChannelRelated-flip : (r : Role) (x : At Connection) (L K : List Packet) (y : At Connection) → ChannelRelated r x L K y → ChannelRelated (other_role r) y K L x
 ChannelRelated-flip r x L K y h = record {
-  hand = hand_flip (record { mark = clear_mark; fresh = fresh_call; gone = IsCalled; related = λ x u v y. Seen (other_role r) y v u x }) x.epoch y.epoch x.side y.side L K
+  hand = hand_flip (record { mark = clear_mark; fresh = fresh_call; fresh_there = fresh_call; gone = IsCalled; gone_there = IsCalled; related = λ x u v y. Seen (other_role r) y v u x }) x.epoch y.epoch x.side y.side L K
       (hand_map (connection_level r) (λ x u v y. Seen (other_role r) y v u x) (λ x u v y k. Seen-flip r x u v y k) x.epoch y.epoch x.side y.side L K h.hand);
 }
 

@@ -14,17 +14,13 @@ clear_mark Clear = Request
 clear_mark ClearConf = Confirm
 clear_mark other = Inner
 
-abbrev pub other_role : Role → Role
-other_role Dte = Dce
-other_role Dce = Dte
-
 -- the relation of the calls, seen from the end of this role
 abbrev pub Seen : Role → Connection → List Packet → List Packet → Connection → Type 0
 Seen Dte x u v y = ConnectionsRelated x u v y
 Seen Dce x u v y = ConnectionsRelated y v u x
 
-abbrev pub connection_level : Role → Level Connection Packet
-connection_level r = record { mark = clear_mark; fresh = fresh_call; gone = IsCalled; related = Seen r }
+abbrev pub connection_level : Role → Level Connection Connection Packet
+connection_level r = record { mark = clear_mark; fresh = fresh_call; fresh_there = fresh_call; gone = IsCalled; gone_there = IsCalled; related = Seen r }
 
 pub record ChannelRelated (r : Role) (x : At Connection) (L K : List Packet) (y : At Connection) : Type 0 where
   pub hand : Handshake (connection_level r) x.epoch y.epoch x.side y.side L K

@@ -31,13 +31,13 @@ use Rattle.x25_handshakes.proofs.ClaimLemmas.{BothTalk}
 use Rattle.x25_handshakes.proofs.ArrivalLemmas.{Opened, opened, name_opened}
 
 -- a live end of a handshake with nothing on the way: the other is live too, in the same epoch
-record AtRest {S P : Type 0} (l : Level S P) (ex ey : ℕ) (x : S) (y : Side S) : Type 0 where
+record AtRest {S T P : Type 0} (l : Level S T P) (ex ey : ℕ) (x : S) (y : Side T) : Type 0 where
   epochs : ex ≡ ey
-  state : S
+  state : T
   side : y ≡ Live state
   related : l.related x [] [] state
 
-at_rest : {S P : Type 0} (l : Level S P) (ex ey : ℕ) (x : S) (y : Side S) → Handshake l ex ey (Live x) y [] [] → AtRest l ex ey x y
+at_rest : {S T P : Type 0} (l : Level S T P) (ex ey : ℕ) (x : S) (y : Side T) → Handshake l ex ey (Live x) y [] [] → AtRest l ex ey x y
 at_rest l ex ey x (Live z) (inl same) = record { epochs = same.epochs; state = z; side = refl; related = same.inner }
 at_rest l ex ey x (Left z) (inl same) = absurd (true≢false same.back)
 at_rest l ex ey x y (inr (inl ahead)) = absurd ahead.there

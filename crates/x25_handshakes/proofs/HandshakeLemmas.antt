@@ -1,5 +1,5 @@
 -- Each event of a handshake keeps its relation.
-use Rattle.std.proofs.Common.{◌≡◌, inl, inr, ℕ, suc, List, [], ◌∷◌, ◌++◌, Bool, true, false, refl, sym, ap, subst}
+use Rattle.std.proofs.Common.{◌≡◌, inl, inr, ℕ, suc, List, [], ◌∷◌, ◌++◌, Bool, true, false, refl, sym, ap, subst, ◌∙◌}
 use Rattle.std.proofs.lemmas.Bool.{true≢false}
 use Rattle.x25_handshakes.specs.laws.Handshake.{Mark, Inner, Request, Confirm, Side, Live, Left, has_left, state_of}
 use Rattle.x25_handshakes.proofs.HandshakeRelation.{kept_before, before, kept_past, past, ends_at, Ends, behind_at, Behind, Extended, Level, Handshake, AllInner}
@@ -35,9 +35,9 @@ before_leave {P} mark q is [] ends = subst (λ (m : Mark). kept_before {P = P} m
 before_leave mark q is (p ∷ L) ends = before_step (mark p) p L (Ends mark false L) (before mark (L ++ q ∷ [])) (before mark L) ends (λ e. before_leave mark q is L e)
 
 -- an end stops: its state is kept, and what is on the way to it
-stops : {S P : Type 0} (gone : S → Type 0) (R : S → List P → List P → S → Type 0) (x : S) (u v : List P) (y : Side S) → gone x → Extended gone R (Live x) u v y → Extended gone R (Left x) u v y
-stops gone R x u v (Live y) is r = (v, is, r)
-stops gone R x u v (Left y) is r = tt
+stops : {S T P : Type 0} (gone : S → Type 0) (gone_there : T → Type 0) (R : S → List P → List P → T → Type 0) (x : S) (u v : List P) (y : Side T) → gone x → Extended gone gone_there R (Live x) u v y → Extended gone gone_there R (Left x) u v y
+stops gone gone_there R x u v (Live y) is r = (v, is, r)
+stops gone gone_there R x u v (Left y) is r = (r.0, v, r.2)
 
 -- a confirmation at the back of such a line: a marker with nothing behind it
 behind_step : {P : Type 0} (m : Mark) (rest : List P) (a here later : Type 0) → ends_at m false rest a → (a → later) → behind_at m here later
@@ -66,22 +66,22 @@ request_front : {P : Type 0} (mark : P → Mark) (p : P) (K : List P) (left : Bo
 request_front mark p K left is ends = subst (λ (m : Mark). ends_at m left K (Ends mark left K)) is ends
 
 -- A live end takes a request, and confirms it.
-pub request_live : {S P : Type 0} (l : Level S P) (empty : l.related l.fresh [] [] l.fresh) (c p : P) → l.mark c ≡ Confirm → l.mark p ≡ Request →
-    (ex ey : ℕ) (x : S) (y : Side S) (L K : List P) → Handshake l ex ey (Live x) y L (p ∷ K) → Handshake l (suc ex) ey (Live l.fresh) y (L ++ c ∷ []) K
+pub request_live : {S T P : Type 0} (l : Level S T P) (empty : l.related l.fresh [] [] l.fresh_there) (c p : P) → l.mark c ≡ Confirm → l.mark p ≡ Request →
+    (ex ey : ℕ) (x : S) (y : Side T) (L K : List P) → Handshake l ex ey (Live x) y L (p ∷ K) → Handshake l (suc ex) ey (Live l.fresh) y (L ++ c ∷ []) K
 request_live l empty c p is_c is_p ex ey x y L K (inl same) =
     inr (inl (record {
       epochs = ap suc same.epochs;
       waits = (request_front l.mark p K (has_left y) is_p same.back).0;
       back = (request_front l.mark p K (has_left y) is_p same.back).1;
       there = behind_confirm l.mark c is_c L same.there;
-      inner = subst (λ (u : List _). l.related l.fresh (before l.mark u) [] l.fresh) (sym (past_confirm l.mark c is_c L same.there)) empty;
+      inner = subst (λ (u : List _). l.related l.fresh (before l.mark u) [] l.fresh_there) (sym (past_confirm l.mark c is_c L same.there)) empty;
     }))
 request_live l empty c p is_c is_p ex ey x y L K (inr (inl ahead)) = absurd (cons≢nil p K ahead.back)
 request_live l empty c p is_c is_p ex ey x y L K (inr (inr later)) = absurd (true≢false (sym later.waits))
 
 -- A live end never takes a confirmation.
-pub confirm_never : {S P : Type 0} (l : Level S P) (p : P) → l.mark p ≡ Confirm →
-    (ex ey : ℕ) (x : S) (y : Side S) (L K : List P) → Handshake l ex ey (Live x) y L (p ∷ K) → ⊥
+pub confirm_never : {S T P : Type 0} (l : Level S T P) (p : P) → l.mark p ≡ Confirm →
+    (ex ey : ℕ) (x : S) (y : Side T) (L K : List P) → Handshake l ex ey (Live x) y L (p ∷ K) → ⊥
 confirm_never l p is ex ey x y L K (inl same) = subst (λ (m : Mark). ends_at m (has_left y) K (Ends l.mark (has_left y) K)) is same.back
 confirm_never l p is ex ey x y L K (inr (inl ahead)) = cons≢nil p K ahead.back
 confirm_never l p is ex ey x y L K (inr (inr later)) = true≢false (sym later.waits)
@@ -134,26 +134,26 @@ past_inner {P} mark (p ∷ L) o all b = past_map (λ l. before mark l) (λ l. be
     (λ e. before_inner mark L o all e) (λ e. past_inner mark L o all e)
 
 -- what R keeps with both ends there is kept for the end that is there
-pub ext_act : {S P : Type 0} (gone : S → Type 0) (R : S → List P → List P → S → Type 0) (x x₂ : S) (o u v : List P) (y : Side S) →
-    ((w : List P) (z : S) → R x w v z → R x₂ (w ++ o) v z) → Extended gone R (Live x) u v y → Extended gone R (Live x₂) (u ++ o) v y
-ext_act gone R x x₂ o u v (Live y) kept r = kept u y r
-ext_act gone R x x₂ o u v (Left z) kept r = (r.0 ++ o, r.1, kept r.0 z r.2)
+pub ext_act : {S T P : Type 0} (gone : S → Type 0) (gone_there : T → Type 0) (R : S → List P → List P → T → Type 0) (x x₂ : S) (o u v : List P) (y : Side T) →
+    ((w : List P) (z : T) → R x w v z → R x₂ (w ++ o) v z) → Extended gone gone_there R (Live x) u v y → Extended gone gone_there R (Live x₂) (u ++ o) v y
+ext_act gone gone_there R x x₂ o u v (Live y) kept r = kept u y r
+ext_act gone gone_there R x x₂ o u v (Left z) kept r = (r.0 ++ o, r.1, kept r.0 z r.2)
 
-pub ext_take : {S P : Type 0} (gone : S → Type 0) (R : S → List P → List P → S → Type 0) (x x₂ : S) (p : P) (o u v : List P) (y : Side S) →
-    ((w : List P) (z : S) → R x w (p ∷ v) z → R x₂ (w ++ o) v z) → Extended gone R (Live x) u (p ∷ v) y → Extended gone R (Live x₂) (u ++ o) v y
-ext_take gone R x x₂ p o u v (Live y) kept r = kept u y r
-ext_take gone R x x₂ p o u v (Left z) kept r = (r.0 ++ o, r.1, kept r.0 z r.2)
+pub ext_take : {S T P : Type 0} (gone : S → Type 0) (gone_there : T → Type 0) (R : S → List P → List P → T → Type 0) (x x₂ : S) (p : P) (o u v : List P) (y : Side T) →
+    ((w : List P) (z : T) → R x w (p ∷ v) z → R x₂ (w ++ o) v z) → Extended gone gone_there R (Live x) u (p ∷ v) y → Extended gone gone_there R (Live x₂) (u ++ o) v y
+ext_take gone gone_there R x x₂ p o u v (Live y) kept r = kept u y r
+ext_take gone gone_there R x x₂ p o u v (Left z) kept r = (r.0 ++ o, r.1, kept r.0 z r.2)
 
 -- An end leaves: its request goes to the back.
-pub leave : {S P : Type 0} (l : Level S P) (q : P) → l.mark q ≡ Request →
-    (ex ey : ℕ) (x : S) (y : Side S) (L K : List P) → l.gone x → Handshake l ex ey (Live x) y L K → Handshake l ex ey (Left x) y (L ++ q ∷ []) K
+pub leave : {S T P : Type 0} (l : Level S T P) (q : P) → l.mark q ≡ Request →
+    (ex ey : ℕ) (x : S) (y : Side T) (L K : List P) → l.gone x → Handshake l ex ey (Live x) y L K → Handshake l ex ey (Left x) y (L ++ q ∷ []) K
 leave l q is ex ey x y L K gone (inl same) =
     inl (record {
       epochs = same.epochs;
       there = ends_leave l.mark q is L same.there;
       back = same.back;
-      inner = subst (λ (u : List _). Extended l.gone l.related (Left x) u (before l.mark K) y) (sym (before_leave l.mark q is L same.there))
-          (stops l.gone l.related x (before l.mark L) (before l.mark K) y gone same.inner);
+      inner = subst (λ (u : List _). Extended l.gone l.gone_there l.related (Left x) u (before l.mark K) y) (sym (before_leave l.mark q is L same.there))
+          (stops l.gone l.gone_there l.related x (before l.mark L) (before l.mark K) y gone same.inner);
     })
 leave l q is ex ey x y L K gone (inr (inl ahead)) =
     inr (inl (record {
@@ -161,22 +161,22 @@ leave l q is ex ey x y L K gone (inr (inl ahead)) =
       waits = ahead.waits;
       back = ahead.back;
       there = behind_leave l.mark q is L ahead.there;
-      inner = subst (λ (u : List _). Extended l.gone l.related (Left x) u [] (Live l.fresh)) (sym (past_leave l.mark q is L ahead.there))
-          (stops l.gone l.related x (before l.mark (past l.mark L)) [] (Live l.fresh) gone ahead.inner);
+      inner = subst (λ (u : List _). Extended l.gone l.gone_there l.related (Left x) u [] (Live l.fresh_there)) (sym (past_leave l.mark q is L ahead.there))
+          (stops l.gone l.gone_there l.related x (before l.mark (past l.mark L)) [] (Live l.fresh_there) gone ahead.inner);
     }))
 leave l q is ex ey x y L K gone (inr (inr later)) = absurd (true≢false (sym later.waits))
 
 -- A live end acts, in its epoch.
-pub inner_act : {S P : Type 0} (l : Level S P) (o : List P) → AllInner l.mark o →
-    (ex ey : ℕ) (x x₂ : S) (y : Side S) (L K : List P) → ((w v : List P) (z : S) → l.related x w v z → l.related x₂ (w ++ o) v z) →
+pub inner_act : {S T P : Type 0} (l : Level S T P) (o : List P) → AllInner l.mark o →
+    (ex ey : ℕ) (x x₂ : S) (y : Side T) (L K : List P) → ((w v : List P) (z : T) → l.related x w v z → l.related x₂ (w ++ o) v z) →
     Handshake l ex ey (Live x) y L K → Handshake l ex ey (Live x₂) y (L ++ o) K
 inner_act l o all ex ey x x₂ y L K kept (inl same) =
     inl (record {
       epochs = same.epochs;
       there = ends_inner l.mark L o all same.there;
       back = same.back;
-      inner = subst (λ (u : List _). Extended l.gone l.related (Live x₂) u (before l.mark K) y) (sym (before_inner l.mark L o all same.there))
-          (ext_act l.gone l.related x x₂ o (before l.mark L) (before l.mark K) y (λ w z r. kept w (before l.mark K) z r) same.inner);
+      inner = subst (λ (u : List _). Extended l.gone l.gone_there l.related (Live x₂) u (before l.mark K) y) (sym (before_inner l.mark L o all same.there))
+          (ext_act l.gone l.gone_there l.related x x₂ o (before l.mark L) (before l.mark K) y (λ w z r. kept w (before l.mark K) z r) same.inner);
     })
 inner_act l o all ex ey x x₂ y L K kept (inr (inl ahead)) =
     inr (inl (record {
@@ -184,45 +184,103 @@ inner_act l o all ex ey x x₂ y L K kept (inr (inl ahead)) =
       waits = ahead.waits;
       back = ahead.back;
       there = behind_inner l.mark L o all ahead.there;
-      inner = subst (λ (u : List _). l.related x₂ u [] l.fresh) (sym (past_inner l.mark L o all ahead.there)) (kept (before l.mark (past l.mark L)) [] l.fresh ahead.inner);
+      inner = subst (λ (u : List _). l.related x₂ u [] l.fresh_there) (sym (past_inner l.mark L o all ahead.there)) (kept (before l.mark (past l.mark L)) [] l.fresh_there ahead.inner);
     }))
 inner_act l o all ex ey x x₂ y L K kept (inr (inr later)) = absurd (true≢false (sym later.waits))
 
 inner_front : {P : Type 0} (mark : P → Mark) (p : P) (K : List P) (left : Bool) → mark p ≡ Inner → Ends mark left (p ∷ K) → Ends mark left K
 inner_front mark p K left is ends = subst (λ (m : Mark). ends_at m left K (Ends mark left K)) is ends
 
+-- behind inner packets
+skipped_ends : {P : Type 0} (mark : P → Mark) (j : List P) (p : P) (K : List P) (left : Bool) → AllInner mark j → mark p ≡ Request → Ends mark left (j ++ p ∷ K) → (left ≡ true) × (K ≡ [])
+skipped_ends mark [] p K left all is ends = request_front mark p K left is ends
+skipped_ends mark (q ∷ j) p K left all is ends = skipped_ends mark j p K left all.1 is (inner_front mark q (j ++ p ∷ K) left all.0 ends)
+
+some≢nil : {P : Type 0} (j : List P) (p : P) (K : List P) → j ++ p ∷ K ≡ [] → ⊥
+some≢nil [] p K e = cons≢nil p K e
+some≢nil (q ∷ j) p K e = cons≢nil q (j ++ p ∷ K) e
+
+-- A live end takes a request before what stands in front of it, which it drops, and confirms it.
+pub request_skips : {S T P : Type 0} (l : Level S T P) (empty : l.related l.fresh [] [] l.fresh_there) (c p : P) (j : List P) → AllInner l.mark j → l.mark c ≡ Confirm → l.mark p ≡ Request →
+    (ex ey : ℕ) (x : S) (y : Side T) (L K : List P) → Handshake l ex ey (Live x) y L (j ++ p ∷ K) → Handshake l (suc ex) ey (Live l.fresh) y (L ++ c ∷ []) K
+request_skips l empty c p j all is_c is_p ex ey x y L K (inl same) =
+    inr (inl (record {
+      epochs = ap suc same.epochs;
+      waits = (skipped_ends l.mark j p K (has_left y) all is_p same.back).0;
+      back = (skipped_ends l.mark j p K (has_left y) all is_p same.back).1;
+      there = behind_confirm l.mark c is_c L same.there;
+      inner = subst (λ (u : List _). l.related l.fresh (before l.mark u) [] l.fresh_there) (sym (past_confirm l.mark c is_c L same.there)) empty;
+    }))
+request_skips l empty c p j all is_c is_p ex ey x y L K (inr (inl ahead)) = absurd (some≢nil j p K ahead.back)
+request_skips l empty c p j all is_c is_p ex ey x y L K (inr (inr later)) = absurd (true≢false (sym later.waits))
+
 pub before_front : {P : Type 0} (mark : P → Mark) (p : P) (K : List P) → mark p ≡ Inner → before mark (p ∷ K) ≡ p ∷ before mark K
 before_front {P} mark p K is = ap (λ m. kept_before {P = P} m p (before mark K)) is
 
 -- A live end takes a packet of its epoch.
-pub inner_take : {S P : Type 0} (l : Level S P) (p : P) (o : List P) → l.mark p ≡ Inner → AllInner l.mark o →
-    (ex ey : ℕ) (x x₂ : S) (y : Side S) (L K : List P) → ((w v : List P) (z : S) → l.related x w (p ∷ v) z → l.related x₂ (w ++ o) v z) →
+pub inner_take : {S T P : Type 0} (l : Level S T P) (p : P) (o : List P) → l.mark p ≡ Inner → AllInner l.mark o →
+    (ex ey : ℕ) (x x₂ : S) (y : Side T) (L K : List P) → ((w v : List P) (z : T) → l.related x w (p ∷ v) z → l.related x₂ (w ++ o) v z) →
     Handshake l ex ey (Live x) y L (p ∷ K) → Handshake l ex ey (Live x₂) y (L ++ o) K
 inner_take l p o is all ex ey x x₂ y L K kept (inl same) =
     inl (record {
       epochs = same.epochs;
       there = ends_inner l.mark L o all same.there;
       back = inner_front l.mark p K (has_left y) is same.back;
-      inner = subst (λ (u : List _). Extended l.gone l.related (Live x₂) u (before l.mark K) y) (sym (before_inner l.mark L o all same.there))
-          (ext_take l.gone l.related x x₂ p o (before l.mark L) (before l.mark K) y (λ w z r. kept w (before l.mark K) z r)
-          (subst (λ (v : List _). Extended l.gone l.related (Live x) (before l.mark L) v y) (before_front l.mark p K is) same.inner));
+      inner = subst (λ (u : List _). Extended l.gone l.gone_there l.related (Live x₂) u (before l.mark K) y) (sym (before_inner l.mark L o all same.there))
+          (ext_take l.gone l.gone_there l.related x x₂ p o (before l.mark L) (before l.mark K) y (λ w z r. kept w (before l.mark K) z r)
+          (subst (λ (v : List _). Extended l.gone l.gone_there l.related (Live x) (before l.mark L) v y) (before_front l.mark p K is) same.inner));
     })
 inner_take l p o is all ex ey x x₂ y L K kept (inr (inl ahead)) = absurd (cons≢nil p K ahead.back)
 inner_take l p o is all ex ey x x₂ y L K kept (inr (inr later)) = absurd (true≢false (sym later.waits))
 
-forget_back : {S P : Type 0} (gone : S → Type 0) (R : S → List P → List P → S → Type 0) (x : S) (u v v₂ : List P) (y : Side S) → Extended gone R (Left x) u v y → Extended gone R (Left x) u v₂ y
-forget_back gone R x u v v₂ (Live y) r = r
-forget_back gone R x u v v₂ (Left y) r = tt
+-- a line with inner packets in front
+inner_more : {P : Type 0} (mark : P → Mark) (j K : List P) (left : Bool) → AllInner mark j → Ends mark left K → Ends mark left (j ++ K)
+inner_more mark [] K left all ends = ends
+inner_more mark (q ∷ j) K left all ends = subst (λ (m : Mark). ends_at m left (j ++ K) (Ends mark left (j ++ K))) (sym all.0) (inner_more mark j K left all.1 ends)
+
+inner_fronts : {P : Type 0} (mark : P → Mark) (j K : List P) (left : Bool) → AllInner mark j → Ends mark left (j ++ K) → Ends mark left K
+inner_fronts mark [] K left all ends = ends
+inner_fronts mark (q ∷ j) K left all ends = inner_fronts mark j K left all.1 (inner_front mark q (j ++ K) left all.0 ends)
+
+before_fronts : {P : Type 0} (mark : P → Mark) (j K : List P) → AllInner mark j → before mark (j ++ K) ≡ j ++ before mark K
+before_fronts mark [] K all = refl
+before_fronts mark (q ∷ j) K all = before_front mark q (j ++ K) all.0 ∙ ap (λ l. q ∷ l) (before_fronts mark j K all.1)
+
+ext_step : {S T P : Type 0} (gone : S → Type 0) (gone_there : T → Type 0) (R : S → List P → List P → T → Type 0) (x x₂ : S) (o u v v₂ : List P) (y : Side T) →
+    ((w : List P) (z : T) → R x w v z → R x₂ (w ++ o) v₂ z) → Extended gone gone_there R (Live x) u v y → Extended gone gone_there R (Live x₂) (u ++ o) v₂ y
+ext_step gone gone_there R x x₂ o u v v₂ (Live y) kept r = kept u y r
+ext_step gone gone_there R x x₂ o u v v₂ (Left z) kept r = (r.0 ++ o, r.1, kept r.0 z r.2)
+
+-- A live end takes a packet of its epoch before the inner packets in front of it.
+pub inner_take_behind : {S T P : Type 0} (l : Level S T P) (j : List P) (p : P) (o : List P) → AllInner l.mark j → l.mark p ≡ Inner → AllInner l.mark o →
+    (ex ey : ℕ) (x x₂ : S) (y : Side T) (L K : List P) → ((w v : List P) (z : T) → l.related x w (j ++ p ∷ v) z → l.related x₂ (w ++ o) (j ++ v) z) →
+    Handshake l ex ey (Live x) y L (j ++ p ∷ K) → Handshake l ex ey (Live x₂) y (L ++ o) (j ++ K)
+inner_take_behind l j p o front is all ex ey x x₂ y L K kept (inl same) =
+    inl (record {
+      epochs = same.epochs;
+      there = ends_inner l.mark L o all same.there;
+      back = inner_more l.mark j K (has_left y) front (inner_front l.mark p K (has_left y) is (inner_fronts l.mark j (p ∷ K) (has_left y) front same.back));
+      inner = subst (λ (u : List _). Extended l.gone l.gone_there l.related (Live x₂) u (before l.mark (j ++ K)) y) (sym (before_inner l.mark L o all same.there))
+          (subst (λ (v : List _). Extended l.gone l.gone_there l.related (Live x₂) (before l.mark L ++ o) v y) (sym (before_fronts l.mark j K front))
+          (ext_step l.gone l.gone_there l.related x x₂ o (before l.mark L) (j ++ p ∷ before l.mark K) (j ++ before l.mark K) y (λ w z r. kept w (before l.mark K) z r)
+          (subst (λ (v : List _). Extended l.gone l.gone_there l.related (Live x) (before l.mark L) v y) (before_fronts l.mark j (p ∷ K) front ∙ ap (λ v. j ++ v) (before_front l.mark p K is)) same.inner)));
+    })
+inner_take_behind l j p o front is all ex ey x x₂ y L K kept (inr (inl ahead)) = absurd (some≢nil j p K ahead.back)
+inner_take_behind l j p o front is all ex ey x x₂ y L K kept (inr (inr later)) = absurd (true≢false (sym later.waits))
+
+forget_back : {S T P : Type 0} (gone : S → Type 0) (gone_there : T → Type 0) (R : S → List P → List P → T → Type 0) (x : S) (u v v₂ : List P) (y : Side T) → Extended gone gone_there R (Left x) u v y → Extended gone gone_there R (Left x) u v₂ y
+forget_back gone gone_there R x u v v₂ (Live y) r = r
+forget_back gone gone_there R x u v v₂ (Left y) r = r
 
 -- An end that has left drops what is no marker.
-pub drops : {S P : Type 0} (l : Level S P) (p : P) → l.mark p ≡ Inner →
-    (ex ey : ℕ) (x : S) (y : Side S) (L K : List P) → Handshake l ex ey (Left x) y L (p ∷ K) → Handshake l ex ey (Left x) y L K
+pub drops : {S T P : Type 0} (l : Level S T P) (p : P) → l.mark p ≡ Inner →
+    (ex ey : ℕ) (x : S) (y : Side T) (L K : List P) → Handshake l ex ey (Left x) y L (p ∷ K) → Handshake l ex ey (Left x) y L K
 drops l p is ex ey x y L K (inl same) =
     inl (record {
       epochs = same.epochs;
       there = same.there;
       back = inner_front l.mark p K (has_left y) is same.back;
-      inner = forget_back l.gone l.related x (before l.mark L) (before l.mark (p ∷ K)) (before l.mark K) y same.inner;
+      inner = forget_back l.gone l.gone_there l.related x (before l.mark L) (before l.mark (p ∷ K)) (before l.mark K) y same.inner;
     })
 drops l p is ex ey x y L K (inr (inl ahead)) = absurd (cons≢nil p K ahead.back)
 drops l p is ex ey x y L K (inr (inr later)) =
@@ -231,7 +289,7 @@ drops l p is ex ey x y L K (inr (inr later)) =
       waits = later.waits;
       there = later.there;
       back = subst (λ (m : Mark). behind_at m (Ends l.mark (has_left y) K) (Behind l.mark (has_left y) K)) is later.back;
-      inner = subst (λ (m : Mark). Extended l.gone l.related (Live l.fresh) [] (before l.mark (kept_past m K (past l.mark K))) y) is later.inner;
+      inner = subst (λ (m : Mark). Extended l.gone l.gone_there l.related (Live l.fresh) [] (before l.mark (kept_past m K (past l.mark K))) y) is later.inner;
     }))
 
 -- the line of an end that has left ends in its request
@@ -270,15 +328,15 @@ marker_past Request rest later never = refl
 marker_past Confirm rest later never = refl
 
 -- An end that has left takes a request or a confirmation: it is in its next epoch, and sends nothing.
-pub marker_left : {S P : Type 0} (l : Level S P) (empty : l.related l.fresh [] [] l.fresh) (p : P) → (l.mark p ≡ Inner → ⊥) →
-    (ex ey : ℕ) (x : S) (y : Side S) (L K : List P) → Handshake l ex ey (Left x) y L (p ∷ K) → Handshake l (suc ex) ey (Live l.fresh) y L K
+pub marker_left : {S T P : Type 0} (l : Level S T P) (empty : l.related l.fresh [] [] l.fresh_there) (p : P) → (l.mark p ≡ Inner → ⊥) →
+    (ex ey : ℕ) (x : S) (y : Side T) (L K : List P) → Handshake l ex ey (Left x) y L (p ∷ K) → Handshake l (suc ex) ey (Live l.fresh) y L K
 marker_left l empty p never ex ey x y L K (inl same) =
     inr (inl (record {
       epochs = ap suc same.epochs;
       waits = (marker_same (l.mark p) K (has_left y) (Ends l.mark (has_left y) K) never same.back).0;
       back = (marker_same (l.mark p) K (has_left y) (Ends l.mark (has_left y) K) never same.back).1;
       there = ends_behind l.mark L same.there;
-      inner = subst (λ (u : List _). l.related l.fresh (before l.mark u) [] l.fresh) (sym (ends_past l.mark L same.there)) empty;
+      inner = subst (λ (u : List _). l.related l.fresh (before l.mark u) [] l.fresh_there) (sym (ends_past l.mark L same.there)) empty;
     }))
 marker_left l empty p never ex ey x y L K (inr (inl ahead)) = absurd (cons≢nil p K ahead.back)
 marker_left l empty p never ex ey x y L K (inr (inr later)) =
@@ -286,46 +344,47 @@ marker_left l empty p never ex ey x y L K (inr (inr later)) =
       epochs = sym later.epochs;
       there = subst (λ (u : List _). Ends l.mark false u) (sym later.there) refl;
       back = marker_behind (l.mark p) (Ends l.mark (has_left y) K) (Behind l.mark (has_left y) K) never later.back;
-      inner = subst (λ (u : List _). Extended l.gone l.related (Live l.fresh) (before l.mark u) (before l.mark K) y) (sym later.there)
-          (subst (λ (u : List _). Extended l.gone l.related (Live l.fresh) [] (before l.mark u) y) (marker_past (l.mark p) K (past l.mark K) never) later.inner);
+      inner = subst (λ (u : List _). Extended l.gone l.gone_there l.related (Live l.fresh) (before l.mark u) (before l.mark K) y) (sym later.there)
+          (subst (λ (u : List _). Extended l.gone l.gone_there l.related (Live l.fresh) [] (before l.mark u) y) (marker_past (l.mark p) K (past l.mark K) never) later.inner);
     })
 
 -- The relation seen from the other end.
-abbrev pub flip : {S P : Type 0} → Level S P → Level S P
-flip l = record { mark = l.mark; fresh = l.fresh; gone = l.gone; related = λ x u v y. l.related y v u x }
+abbrev pub flip : {S T P : Type 0} → Level S T P → Level T S P
+flip l = record { mark = l.mark; fresh = l.fresh_there; fresh_there = l.fresh; gone = l.gone_there; gone_there = l.gone; related = λ x u v y. l.related y v u x }
 
-ext_flip : {S P : Type 0} (l : Level S P) (x : Side S) (u v : List P) (y : Side S) → Extended l.gone l.related x u v y → Extended l.gone (λ a b c d. l.related d c b a) y v u x
+ext_flip : {S T P : Type 0} (l : Level S T P) (x : Side S) (u v : List P) (y : Side T) → Extended l.gone l.gone_there l.related x u v y → Extended l.gone_there l.gone (λ a b c d. l.related d c b a) y v u x
 ext_flip l (Live x) u v (Live y) r = r
 ext_flip l (Left x) u v (Live y) r = r
 ext_flip l (Live x) u v (Left y) r = r
-ext_flip l (Left x) u v (Left y) r = tt
+ext_flip l (Left x) u v (Left y) r = (r.1, r.0, r.2)
 
-pub hand_flip : {S P : Type 0} (l : Level S P) (ex ey : ℕ) (x y : Side S) (L K : List P) → Handshake l ex ey x y L K → Handshake (flip l) ey ex y x K L
+pub hand_flip : {S T P : Type 0} (l : Level S T P) (ex ey : ℕ) (x : Side S) (y : Side T) (L K : List P) → Handshake l ex ey x y L K → Handshake (flip l) ey ex y x K L
 hand_flip l ex ey x y L K (inl same) =
     inl (record { epochs = sym same.epochs; there = same.back; back = same.there; inner = ext_flip l x (before l.mark L) (before l.mark K) y same.inner })
 hand_flip l ex ey x y L K (inr (inl ahead)) =
-    inr (inr (record { epochs = ahead.epochs; waits = ahead.waits; there = ahead.back; back = ahead.there; inner = ext_flip l x (before l.mark (past l.mark L)) [] (Live l.fresh) ahead.inner }))
+    inr (inr (record { epochs = ahead.epochs; waits = ahead.waits; there = ahead.back; back = ahead.there; inner = ext_flip l x (before l.mark (past l.mark L)) [] (Live l.fresh_there) ahead.inner }))
 hand_flip l ex ey x y L K (inr (inr later)) =
     inr (inl (record { epochs = later.epochs; waits = later.waits; there = later.back; back = later.there; inner = ext_flip l (Live l.fresh) [] (before l.mark (past l.mark K)) y later.inner }))
 
-pub both_fresh : {S P : Type 0} (l : Level S P) → l.related l.fresh [] [] l.fresh → (e : ℕ) → Handshake l e e (Live l.fresh) (Live l.fresh) [] []
+pub both_fresh : {S T P : Type 0} (l : Level S T P) → l.related l.fresh [] [] l.fresh_there → (e : ℕ) → Handshake l e e (Live l.fresh) (Live l.fresh_there) [] []
 both_fresh l empty e = inl (record { epochs = refl; there = refl; back = refl; inner = empty })
 
 -- two ends that both begin with their requests on the way (the start of a link)
-pub both_requests : {S P : Type 0} (l : Level S P) (q : P) → l.mark q ≡ Request → (e : ℕ) → Handshake l e e (Left l.fresh) (Left l.fresh) (q ∷ []) (q ∷ [])
-both_requests l q is e = inl (record { epochs = refl; there = ends_leave l.mark q is [] refl; back = ends_leave l.mark q is [] refl; inner = tt })
+pub both_requests : {S T P : Type 0} (l : Level S T P) → l.related l.fresh [] [] l.fresh_there → (q : P) → l.mark q ≡ Request → (e : ℕ)
+    → Handshake l e e (Left l.fresh) (Left l.fresh_there) (q ∷ []) (q ∷ [])
+both_requests l empty q is e = inl (record { epochs = refl; there = ends_leave l.mark q is [] refl; back = ends_leave l.mark q is [] refl; inner = ([], [], empty) })
 
 -- A live end stands in the inner relation, with some lines and some end (for what follows from it alone, as 'no error').
-pub inner_live : {S P : Type 0} (l : Level S P) (ex ey : ℕ) (x : S) (y : Side S) (L K : List P) → Handshake l ex ey (Live x) y L K
-    → (w : List P) × (v : List P) × (z : S) × l.related x w v z
+pub inner_live : {S T P : Type 0} (l : Level S T P) (ex ey : ℕ) (x : S) (y : Side T) (L K : List P) → Handshake l ex ey (Live x) y L K
+    → (w : List P) × (v : List P) × (z : T) × l.related x w v z
 inner_live l ex ey x (Live z) L K (inl same) = (before l.mark L, before l.mark K, z, same.inner)
 inner_live l ex ey x (Left z) L K (inl same) = (same.inner.0, before l.mark K, z, same.inner.2)
-inner_live l ex ey x y L K (inr (inl ahead)) = (before l.mark (past l.mark L), [], l.fresh, ahead.inner)
+inner_live l ex ey x y L K (inr (inl ahead)) = (before l.mark (past l.mark L), [], l.fresh_there, ahead.inner)
 inner_live l ex ey x y L K (inr (inr later)) = absurd (true≢false (sym later.waits))
 
 -- .. with the inner packet at the front
-pub live_front : {S P : Type 0} (l : Level S P) (p : P) → l.mark p ≡ Inner → (ex ey : ℕ) (x : S) (y : Side S) (L K : List P) → Handshake l ex ey (Live x) y L (p ∷ K)
-    → (w : List P) × (v : List P) × (z : S) × l.related x w (p ∷ v) z
+pub live_front : {S T P : Type 0} (l : Level S T P) (p : P) → l.mark p ≡ Inner → (ex ey : ℕ) (x : S) (y : Side T) (L K : List P) → Handshake l ex ey (Live x) y L (p ∷ K)
+    → (w : List P) × (v : List P) × (z : T) × l.related x w (p ∷ v) z
 live_front {P = P} l p is ex ey x (Live z) L K (inl same) =
     (before l.mark L, before l.mark K, z, subst (λ (v : List P). l.related x (before l.mark L) v z) (before_front l.mark p K is) same.inner)
 live_front {P = P} l p is ex ey x (Left z) L K (inl same) =
@@ -334,25 +393,26 @@ live_front l p is ex ey x y L K (inr (inl ahead)) = absurd (cons≢nil p K ahead
 live_front l p is ex ey x y L K (inr (inr later)) = absurd (true≢false (sym later.waits))
 
 -- The relation of the ends may be put by one that follows from it.
-ext_map : {S P : Type 0} (gone : S → Type 0) (R Q : S → List P → List P → S → Type 0) → ((x : S) (u v : List P) (y : S) → R x u v y → Q x u v y)
-    → (x : Side S) (u v : List P) (y : Side S) → Extended gone R x u v y → Extended gone Q x u v y
-ext_map gone R Q f (Live x) u v (Live y) r = f x u v y r
-ext_map gone R Q f (Left x) u v (Live y) r = (r.0, r.1, f x u r.0 y r.2)
-ext_map gone R Q f (Live x) u v (Left y) r = (r.0, r.1, f x r.0 v y r.2)
-ext_map gone R Q f (Left x) u v (Left y) r = tt
+ext_map : {S T P : Type 0} (gone : S → Type 0) (gone_there : T → Type 0) (R Q : S → List P → List P → T → Type 0) → ((x : S) (u v : List P) (y : T) → R x u v y → Q x u v y)
+    → (x : Side S) (u v : List P) (y : Side T) → Extended gone gone_there R x u v y → Extended gone gone_there Q x u v y
+ext_map gone gone_there R Q f (Live x) u v (Live y) r = f x u v y r
+ext_map gone gone_there R Q f (Left x) u v (Live y) r = (r.0, r.1, f x u r.0 y r.2)
+ext_map gone gone_there R Q f (Live x) u v (Left y) r = (r.0, r.1, f x r.0 v y r.2)
+ext_map gone gone_there R Q f (Left x) u v (Left y) r = (r.0, r.1, f x r.0 r.1 y r.2)
 
-pub hand_map : {S P : Type 0} (l : Level S P) (Q : S → List P → List P → S → Type 0) → ((x : S) (u v : List P) (y : S) → l.related x u v y → Q x u v y)
-    → (ex ey : ℕ) (x y : Side S) (L K : List P) → Handshake l ex ey x y L K → Handshake (record { mark = l.mark; fresh = l.fresh; gone = l.gone; related = Q }) ex ey x y L K
+pub hand_map : {S T P : Type 0} (l : Level S T P) (Q : S → List P → List P → T → Type 0) → ((x : S) (u v : List P) (y : T) → l.related x u v y → Q x u v y)
+    → (ex ey : ℕ) (x : Side S) (y : Side T) (L K : List P) → Handshake l ex ey x y L K
+    → Handshake (record { mark = l.mark; fresh = l.fresh; fresh_there = l.fresh_there; gone = l.gone; gone_there = l.gone_there; related = Q }) ex ey x y L K
 hand_map l Q f ex ey x y L K (inl same) =
-    inl (record { epochs = same.epochs; there = same.there; back = same.back; inner = ext_map l.gone l.related Q f x (before l.mark L) (before l.mark K) y same.inner })
+    inl (record { epochs = same.epochs; there = same.there; back = same.back; inner = ext_map l.gone l.gone_there l.related Q f x (before l.mark L) (before l.mark K) y same.inner })
 hand_map l Q f ex ey x y L K (inr (inl ahead)) =
-    inr (inl (record { epochs = ahead.epochs; waits = ahead.waits; back = ahead.back; there = ahead.there; inner = ext_map l.gone l.related Q f x (before l.mark (past l.mark L)) [] (Live l.fresh) ahead.inner }))
+    inr (inl (record { epochs = ahead.epochs; waits = ahead.waits; back = ahead.back; there = ahead.there; inner = ext_map l.gone l.gone_there l.related Q f x (before l.mark (past l.mark L)) [] (Live l.fresh_there) ahead.inner }))
 hand_map l Q f ex ey x y L K (inr (inr later)) =
-    inr (inr (record { epochs = later.epochs; waits = later.waits; there = later.there; back = later.back; inner = ext_map l.gone l.related Q f (Live l.fresh) [] (before l.mark (past l.mark K)) y later.inner }))
+    inr (inr (record { epochs = later.epochs; waits = later.waits; there = later.there; back = later.back; inner = ext_map l.gone l.gone_there l.related Q f (Live l.fresh) [] (before l.mark (past l.mark K)) y later.inner }))
 
 -- A request reaches a live end only from an end that has left a state from which one leaves, with nothing before it.
-pub request_gone : {S P : Type 0} (l : Level S P) (p : P) → l.mark p ≡ Request → (ex ey : ℕ) (x : S) (y : Side S) (L K : List P) → Handshake l ex ey (Live x) y L (p ∷ K)
-    → (w : List P) × (z : S) × l.gone z × l.related x w [] z
+pub request_gone : {S T P : Type 0} (l : Level S T P) (p : P) → l.mark p ≡ Request → (ex ey : ℕ) (x : S) (y : Side T) (L K : List P) → Handshake l ex ey (Live x) y L (p ∷ K)
+    → (w : List P) × (z : T) × l.gone_there z × l.related x w [] z
 request_gone l p is ex ey x (Live z) L K (inl same) = absurd (true≢false (sym (request_front l.mark p K false is same.back).0))
 request_gone {P = P} l p is ex ey x (Left z) L K (inl same) =
     (same.inner.0, z, same.inner.1, subst (λ (v : List P). l.related x same.inner.0 v z) (ap (λ m. kept_before {P = P} m p (before l.mark K)) is) same.inner.2)
@@ -360,7 +420,7 @@ request_gone l p is ex ey x y L K (inr (inl ahead)) = absurd (cons≢nil p K ahe
 request_gone l p is ex ey x y L K (inr (inr later)) = absurd (true≢false (sym later.waits))
 
 -- A live end takes an inner packet only in the epoch of the other end, from the state in which that is or which it left.
-pub meets : {S P : Type 0} (l : Level S P) (p : P) → l.mark p ≡ Inner → (ex ey : ℕ) (x : S) (y : Side S) (L K : List P) → Handshake l ex ey (Live x) y L (p ∷ K)
+pub meets : {S T P : Type 0} (l : Level S T P) (p : P) → l.mark p ≡ Inner → (ex ey : ℕ) (x : S) (y : Side T) (L K : List P) → Handshake l ex ey (Live x) y L (p ∷ K)
     → (ex ≡ ey) × (w : List P) × (v : List P) × l.related x w (p ∷ v) (state_of y)
 meets {P = P} l p is ex ey x (Live z) L K (inl same) =
     (same.epochs, before l.mark L, before l.mark K, subst (λ (v : List P). l.related x (before l.mark L) v z) (before_front l.mark p K is) same.inner)
@@ -370,7 +430,7 @@ meets l p is ex ey x y L K (inr (inl ahead)) = absurd (cons≢nil p K ahead.back
 meets l p is ex ey x y L K (inr (inr later)) = absurd (true≢false (sym later.waits))
 
 -- Two live ends of one epoch stand in the inner relation.
-pub both_live : {S P : Type 0} (l : Level S P) (e : ℕ) (x y : S) (L K : List P) → Handshake l e e (Live x) (Live y) L K → l.related x (before l.mark L) (before l.mark K) y
+pub both_live : {S T P : Type 0} (l : Level S T P) (e : ℕ) (x : S) (y : T) (L K : List P) → Handshake l e e (Live x) (Live y) L K → l.related x (before l.mark L) (before l.mark K) y
 both_live l e x y L K (inl same) = same.inner
 both_live l e x y L K (inr (inl ahead)) = absurd (true≢false (sym ahead.waits))
 both_live l e x y L K (inr (inr later)) = absurd (true≢false (sym later.waits))

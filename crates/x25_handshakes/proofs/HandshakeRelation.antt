@@ -1,4 +1,5 @@
--- What a handshake keeps of two ends and the two lines between them, over any relation of the states within an epoch.
+-- What a handshake keeps of two ends and the two lines between them, over any relation of the states within an epoch. The two ends may be of two
+-- kinds: ours, and any peer.
 use Rattle.std.proofs.Common.{◌≡◌, ◌⊎◌, ℕ, suc, List, [], ◌∷◌, Bool, true, false}
 use Rattle.x25_handshakes.specs.laws.Handshake.{Mark, Inner, Request, Confirm, Side, Live, Left, has_left}
 
@@ -43,42 +44,44 @@ Behind mark left [] = ⊥
 Behind mark left (p ∷ ps) = behind_at (mark p) (Ends mark left ps) (Behind mark left ps)
 
 -- an end that has left is one that has stopped
-abbrev pub Extended : {S P : Type 0} → (S → Type 0) → (S → List P → List P → S → Type 0) → Side S → List P → List P → Side S → Type 0
-Extended {S} {P} gone R (Live x) u v (Live y) = R x u v y
-Extended {S} {P} gone R (Left x) u v (Live y) = (w : List P) × gone x × R x u w y
-Extended {S} {P} gone R (Live x) u v (Left y) = (w : List P) × gone y × R x w v y
-Extended {S} {P} gone R (Left x) u v (Left y) = Unit {0}
+abbrev pub Extended : {S T P : Type 0} → (S → Type 0) → (T → Type 0) → (S → List P → List P → T → Type 0) → Side S → List P → List P → Side T → Type 0
+Extended {S} {T} {P} gone gone_there R (Live x) u v (Live y) = R x u v y
+Extended {S} {T} {P} gone gone_there R (Left x) u v (Live y) = (w : List P) × gone x × R x u w y
+Extended {S} {T} {P} gone gone_there R (Live x) u v (Left y) = (w : List P) × gone_there y × R x w v y
+Extended {S} {T} {P} gone gone_there R (Left x) u v (Left y) = (w : List P) × (z : List P) × R x w z y
 
-pub record Level (S P : Type 0) : Type 1 where
+pub record Level (S T P : Type 0) : Type 1 where
   pub mark : P → Mark
   pub fresh : S
+  pub fresh_there : T
   pub gone : S → Type 0
-  pub related : S → List P → List P → S → Type 0
+  pub gone_there : T → Type 0
+  pub related : S → List P → List P → T → Type 0
 
 -- both in one epoch
-pub record Same {S P : Type 0} (l : Level S P) (ex ey : ℕ) (x y : Side S) (L K : List P) : Type 0 where
+pub record Same {S T P : Type 0} (l : Level S T P) (ex ey : ℕ) (x : Side S) (y : Side T) (L K : List P) : Type 0 where
   pub epochs : ex ≡ ey
   pub there : Ends l.mark (has_left x) L
   pub back : Ends l.mark (has_left y) K
-  pub inner : Extended l.gone l.related x (before l.mark L) (before l.mark K) y
+  pub inner : Extended l.gone l.gone_there l.related x (before l.mark L) (before l.mark K) y
 
 -- the first is one epoch ahead
-pub record Ahead {S P : Type 0} (l : Level S P) (ex ey : ℕ) (x y : Side S) (L K : List P) : Type 0 where
+pub record Ahead {S T P : Type 0} (l : Level S T P) (ex ey : ℕ) (x : Side S) (y : Side T) (L K : List P) : Type 0 where
   pub epochs : ex ≡ suc ey
   pub waits : has_left y ≡ true
   pub back : K ≡ []
   pub there : Behind l.mark (has_left x) L
-  pub inner : Extended l.gone l.related x (before l.mark (past l.mark L)) [] (Live l.fresh)
+  pub inner : Extended l.gone l.gone_there l.related x (before l.mark (past l.mark L)) [] (Live l.fresh_there)
 
 -- the second is one epoch ahead
-pub record Later {S P : Type 0} (l : Level S P) (ex ey : ℕ) (x y : Side S) (L K : List P) : Type 0 where
+pub record Later {S T P : Type 0} (l : Level S T P) (ex ey : ℕ) (x : Side S) (y : Side T) (L K : List P) : Type 0 where
   pub epochs : ey ≡ suc ex
   pub waits : has_left x ≡ true
   pub there : L ≡ []
   pub back : Behind l.mark (has_left y) K
-  pub inner : Extended l.gone l.related (Live l.fresh) [] (before l.mark (past l.mark K)) y
+  pub inner : Extended l.gone l.gone_there l.related (Live l.fresh) [] (before l.mark (past l.mark K)) y
 
-abbrev pub Handshake : {S P : Type 0} → Level S P → ℕ → ℕ → Side S → Side S → List P → List P → Type 0
+abbrev pub Handshake : {S T P : Type 0} → Level S T P → ℕ → ℕ → Side S → Side T → List P → List P → Type 0
 Handshake l ex ey x y L K = Same l ex ey x y L K ⊎ Ahead l ex ey x y L K ⊎ Later l ex ey x y L K
 
 -- no packet of these is a marker

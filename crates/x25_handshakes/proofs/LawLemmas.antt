@@ -7,7 +7,7 @@ use Rattle.x25_handshakes.specs.laws.Calls.{call_takes}
 use Rattle.x25_handshakes.specs.laws.Layers.{LayerPacket, On, Channels, ready, Move, Acts, Takes, LinkDown, Event, pair_moves, layer_acts, layer_takes, layer_side_takes}
 use Rattle.x25_handshakes.specs.laws.Names.{Name}
 use Rattle.x25_handshakes.specs.laws.Histories.{Lists, Kind, name_at, held_at, channel_view, written, IsLawful, Histories, turned_histories, histories_moves, histories_happens, histories_run, histories_start, AreInOrder}
-use Rattle.x25_handshakes.proofs.ChannelRelation.{other_role}
+use Rattle.x25_handshakes.specs.laws.PeerLayers.{other_role}
 use Rattle.x25_handshakes.proofs.TermsLemmas.{Laws}
 use Rattle.x25_handshakes.proofs.LayersRelation.{EndsRelated}
 use Rattle.x25_handshakes.proofs.LayerLemmas.{Stands, Stands-moves, Stands-turned, Stands-start}

@@ -11,11 +11,12 @@ use Rattle.x25_handshakes.specs.laws.Layers.{LayerPacket, On, Restart, RestartCo
 use Rattle.x25_handshakes.proofs.TermsLemmas.{Laws}
 use Rattle.x25_handshakes.proofs.HandshakeRelation.{AllInner}
 use Rattle.x25_handshakes.proofs.HandshakeLemmas.{request_live, confirm_never, ext_act, ext_take, leave, inner_act, inner_take, drops, marker_left, hand_flip, both_requests, inner_live, live_front, hand_map}
-use Rattle.x25_handshakes.proofs.ChannelRelation.{other_role, ChannelRelated, GoodChannel}
+use Rattle.x25_handshakes.specs.laws.PeerLayers.{other_role}
+use Rattle.x25_handshakes.proofs.ChannelRelation.{ChannelRelated, GoodChannel}
 use Rattle.x25_handshakes.proofs.LayersRelation.{kept_on, on, ChannelsRelated, restart_mark, channels_level, LayersRelated, GoodLayer, EndsRelated}
 use Rattle.x25_handshakes.proofs.ChannelLemmas.{ChannelRelated-flip, ChannelRelated-fresh, GoodChannel-takes, GoodChannel-acts}
 
-on-append : (h : ℕ) (L o : List LayerPacket) → on h (L ++ o) ≡ on h L ++ on h o
+pub on-append : (h : ℕ) (L o : List LayerPacket) → on h (L ++ o) ≡ on h L ++ on h o
 on-append h [] o = refl
 on-append h (On k p ∷ L) o = kept (h == k) p (on h (L ++ o)) (on h L) (on h o) (on-append h L o)
   where
@@ -33,29 +34,34 @@ on-other : (k h : ℕ) (o : List Packet) → (k == h) ≡ false → on k (addres
 on-other k h [] not = refl
 on-other k h (p ∷ o) not = rw not (on-other k h o not)
 
-inner_addressed : (h : ℕ) (o : List Packet) → AllInner restart_mark (addressed h o)
+pub inner_addressed : (h : ℕ) (o : List Packet) → AllInner restart_mark (addressed h o)
 inner_addressed h [] = tt
 inner_addressed h (p ∷ o) = (refl, inner_addressed h o)
 
 -- a step on channel h leaves the others as they are
+pub put_kept : {X Y : Type 0} (R : X → List Packet → List Packet → Y → Type 0) (x : ℕ → X) (x₂ : X) (o : List Packet) (L K M : List LayerPacket) (y : ℕ → Y) (h : ℕ)
+    → ((k : ℕ) → R (x k) (on k L) (on k M) (y k)) → ((k : ℕ) → (k == h) ≡ false → on k M ≡ on k K) → R x₂ (on h L ++ o) (on h K) (y h)
+    → (k : ℕ) → R (if k == h then x₂ else x k) (on k (L ++ addressed h o)) (on k K) (y k)
+put_kept {X} R x x₂ o L K M y h each others here k = at (k == h) refl
+  where
+    at : (c : Bool) → (k == h) ≡ c → R (if k == h then x₂ else x k) (on k (L ++ addressed h o)) (on k K) (y k)
+    at true is =
+        subst (λ (j : ℕ). R (if j == h then x₂ else x j) (on j (L ++ addressed h o)) (on j K) (y j)) (sym (eqb-true k h is))
+        (subst (λ (a : Bool). R (if a then x₂ else x h) (on h (L ++ addressed h o)) (on h K) (y h)) (sym (eq-eqb h h refl))
+        (subst (λ (l : List Packet). R x₂ l (on h K) (y h)) (sym (on-append h L (addressed h o) ∙ ap (λ l. on h L ++ l) (on-same h o))) here))
+    at false is =
+        subst (λ (a : Bool). R (if a then x₂ else x k) (on k (L ++ addressed h o)) (on k K) (y k)) (sym is)
+        (subst (λ (l : List Packet). R (x k) l (on k K) (y k)) (sym (on-append k L (addressed h o) ∙ ap (λ l. on k L ++ l) (on-other k h o is) ∙ append-nil (on k L)))
+        (subst (λ (l : List Packet). R (x k) (on k L) l (y k)) (others k is) (each k)))
+
 ChannelsRelated-put : (r : Role) (x : Channels) (L K M : List LayerPacket) (y : Channels) (h : ℕ) (s : ChannelStep) → ChannelsRelated r x L M y → ((k : ℕ) → (k == h) ≡ false → on k M ≡ on k K)
     → ChannelRelated r s.next (on h L ++ s.out) (on h K) (y h) → ChannelsRelated r (put x h s.next) (L ++ addressed h s.out) K y
-ChannelsRelated-put r x L K M y h s all others here = record { each = λ k. at k (k == h) refl }
-  where
-    at : (k : ℕ) (c : Bool) → (k == h) ≡ c → ChannelRelated r (put x h s.next k) (on k (L ++ addressed h s.out)) (on k K) (y k)
-    at k true is =
-        subst (λ (j : ℕ). ChannelRelated r (put x h s.next j) (on j (L ++ addressed h s.out)) (on j K) (y j)) (sym (eqb-true k h is))
-        (subst (λ (a : Bool). ChannelRelated r (if a then s.next else x h) (on h (L ++ addressed h s.out)) (on h K) (y h)) (sym (eq-eqb h h refl))
-        (subst (λ (l : List Packet). ChannelRelated r s.next l (on h K) (y h)) (sym (on-append h L (addressed h s.out) ∙ ap (λ l. on h L ++ l) (on-same h s.out))) here))
-    at k false is =
-        subst (λ (a : Bool). ChannelRelated r (if a then s.next else x k) (on k (L ++ addressed h s.out)) (on k K) (y k)) (sym is)
-        (subst (λ (l : List Packet). ChannelRelated r (x k) l (on k K) (y k)) (sym (on-append k L (addressed h s.out) ∙ ap (λ l. on k L ++ l) (on-other k h s.out is) ∙ append-nil (on k L)))
-        (subst (λ (l : List Packet). ChannelRelated r (x k) (on k L) l (y k)) (others k is) (all.each k)))
+ChannelsRelated-put r x L K M y h s all others here = record { each = put_kept (ChannelRelated r) x s.next s.out L K M y h all.each others here }
 
 pub on-front : (h : ℕ) (p : Packet) (K : List LayerPacket) → on h (On h p ∷ K) ≡ p ∷ on h K
 on-front h p K = rw (eq-eqb h h refl) refl
 
-on-past : (k h : ℕ) (p : Packet) (K : List LayerPacket) → (k == h) ≡ false → on k (On h p ∷ K) ≡ on k K
+pub on-past : (k h : ℕ) (p : Packet) (K : List LayerPacket) → (k == h) ≡ false → on k (On h p ∷ K) ≡ on k K
 on-past k h p K not = rw not refl
 
 record GoodChannels (r : Role) (x : Channels) (h : ℕ) (s : ChannelStep) (L K : List LayerPacket) (y : Channels) : Type 0 where
@@ -80,7 +86,7 @@ ChannelsRelated-fresh r = record { each = λ h. ChannelRelated-fresh r }
 
 LayersRelated-flip : (r : Role) (x : At Channels) (L K : List LayerPacket) (y : At Channels) → LayersRelated r x L K y → LayersRelated (other_role r) y K L x
 LayersRelated-flip r x L K y h = record {
-  hand = hand_flip (record { mark = restart_mark; fresh = all_fresh; gone = λ x. Unit {0}; related = λ x u v y. ChannelsRelated (other_role r) y v u x }) x.epoch y.epoch x.side y.side L K
+  hand = hand_flip (record { mark = restart_mark; fresh = all_fresh; fresh_there = all_fresh; gone = λ x. Unit {0}; gone_there = λ x. Unit {0}; related = λ x u v y. ChannelsRelated (other_role r) y v u x }) x.epoch y.epoch x.side y.side L K
       (hand_map (channels_level r) (λ x u v y. ChannelsRelated (other_role r) y v u x) (λ x u v y k. record { each = λ h. ChannelRelated-flip r (x h) (on h u) (on h v) (y h) (k.each h) }) x.epoch y.epoch x.side y.side L K h.hand);
 }
 
@@ -146,13 +152,13 @@ EndsRelated-some r x L K (Left z) h = (h.0, z, h.2)
 
 EndsRelated-stops : (r : Role) (x : At Channels) (L K : List LayerPacket) (y : Side (At Channels)) → EndsRelated r (Live x) L K y → EndsRelated r (Left x) L K y
 EndsRelated-stops r x L K (Live z) h = (K, tt, h)
-EndsRelated-stops r x L K (Left z) h = tt
+EndsRelated-stops r x L K (Left z) h = (h.0, K, h.2)
 
 EndsRelated-flip : (r : Role) (x : Side (At Channels)) (L K : List LayerPacket) (y : Side (At Channels)) → EndsRelated r x L K y → EndsRelated (other_role r) y K L x
 EndsRelated-flip r (Live x) L K (Live y) h = LayersRelated-flip r x L K y h
 EndsRelated-flip r (Left x) L K (Live y) h = (h.0, h.1, LayersRelated-flip r x L h.0 y h.2)
 EndsRelated-flip r (Live x) L K (Left y) h = (h.0, h.1, LayersRelated-flip r x h.0 K y h.2)
-EndsRelated-flip r (Left x) L K (Left y) h = tt
+EndsRelated-flip r (Left x) L K (Left y) h = (h.1, h.0, LayersRelated-flip r x h.0 h.1 y h.2)
 
 pub Stands-turned : (r : Role) (w : Pair) → Stands r w → Stands (other_role r) (turned w)
 Stands-turned r w h = record { quiet = h.quiet; top = EndsRelated-flip r w.near w.out w.back w.far h.top }
@@ -164,14 +170,14 @@ Stands-moves laws r (Live x) out back far error (Acts a) h =
     let some = EndsRelated-some r x out back far h.top in
     record {
       quiet = ap (λ e. first_error e (layer_acts x a).error) h.quiet ∙ (GoodLayer-acts laws r x some.0 back some.1 a some.2).quiet;
-      top = ext_act (λ z. Unit {0}) (LayersRelated r) x (layer_acts x a).next (layer_acts x a).out out back far (λ w z k. (GoodLayer-acts laws r x w back z a k).kept) h.top;
+      top = ext_act (λ z. Unit {0}) (λ z. Unit {0}) (LayersRelated r) x (layer_acts x a).next (layer_acts x a).out out back far (λ w z k. (GoodLayer-acts laws r x w back z a k).kept) h.top;
     }
 Stands-moves laws r (Live x) out [] far error Takes h = h
 Stands-moves laws r (Live x) out (p ∷ K) far error Takes h =
     let some = EndsRelated-some r x out (p ∷ K) far h.top in
     record {
       quiet = ap (λ e. first_error e (layer_takes r x p).error) h.quiet ∙ (GoodLayer-takes r x some.0 p K some.1 some.2).quiet;
-      top = ext_take (λ z. Unit {0}) (LayersRelated r) x (layer_takes r x p).next p (layer_takes r x p).out out K far (λ w z k. (GoodLayer-takes r x w p K z k).kept) h.top;
+      top = ext_take (λ z. Unit {0}) (λ z. Unit {0}) (LayersRelated r) x (layer_takes r x p).next p (layer_takes r x p).out out K far (λ w z k. (GoodLayer-takes r x w p K z k).kept) h.top;
     }
 Stands-moves laws r (Live x) out back far error LinkDown h = record { quiet = h.quiet; top = EndsRelated-stops r x out back far h.top }
 Stands-moves laws r (Left x) out back far error what h = h
@@ -190,4 +196,4 @@ Stands-run laws (e ∷ events) w h =
     (Stands-moves laws Dce w.far w.back w.out w.near w.error e.what (Stands-turned Dte w h))))
 
 pub Stands-start : Stands Dte pair_start
-Stands-start = record { quiet = refl; top = record { hand = both_requests (channels_level Dte) Restart refl 0 } }
+Stands-start = record { quiet = refl; top = record { hand = both_requests (channels_level Dte) (ChannelsRelated-fresh Dte) Restart refl 0 } }

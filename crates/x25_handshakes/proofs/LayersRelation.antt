@@ -26,8 +26,8 @@ restart_mark (On h p) = Inner
 restart_mark Restart = Request
 restart_mark RestartConf = Confirm
 
-abbrev pub channels_level : Role → Level Channels LayerPacket
-channels_level r = record { mark = restart_mark; fresh = all_fresh; gone = λ x. Unit {0}; related = ChannelsRelated r }
+abbrev pub channels_level : Role → Level Channels Channels LayerPacket
+channels_level r = record { mark = restart_mark; fresh = all_fresh; fresh_there = all_fresh; gone = λ x. Unit {0}; gone_there = λ x. Unit {0}; related = ChannelsRelated r }
 
 pub record LayersRelated (r : Role) (x : At Channels) (L K : List LayerPacket) (y : At Channels) : Type 0 where
   pub hand : Handshake (channels_level r) x.epoch y.epoch x.side y.side L K
@@ -38,4 +38,4 @@ pub record GoodLayer (r : Role) (s : LayerStep) (L K : List LayerPacket) (y : At
 
 -- what is kept of the two ends
 abbrev pub EndsRelated : Role → Side (At Channels) → List LayerPacket → List LayerPacket → Side (At Channels) → Type 0
-EndsRelated r x L K y = Extended (λ (z : At Channels). Unit {0}) (LayersRelated r) x L K y
+EndsRelated r x L K y = Extended (λ (z : At Channels). Unit {0}) (λ (z : At Channels). Unit {0}) (LayersRelated r) x L K y

@@ -12,6 +12,7 @@ pub mod PartLemmas
 pub mod ToldLemmas
 pub mod StretchLemmas
 pub mod TransferLemmas
+pub mod OwnCallLemmas
 pub mod CallLemmas
 pub mod ChannelLemmas
 pub mod LayerLemmas
@@ -25,3 +26,16 @@ pub mod LawLemmas
 pub mod ArrivalLemmas
 pub mod DrainedLemmas
 mod CallRun
+pub mod PeerRelation
+pub mod PeerActs
+pub mod PeerDeeds
+pub mod PeerTransferActs
+pub mod PeerTransferDeeds
+pub mod PeerCallsRelation
+pub mod PeerCallLemmas
+pub mod PeerChannelLemmas
+pub mod PeerOrder
+pub mod PeerRuns
+pub mod PeerLayerLemmas
+pub mod PeerLayerRuns
+pub mod PeerRowLemmas

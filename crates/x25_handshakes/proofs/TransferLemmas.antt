@@ -12,7 +12,7 @@ use Rattle.x25_handshakes.proofs.StretchRelation.{InFlowControl, AllInFlowContro
 use Rattle.x25_handshakes.proofs.TransferRelation.{reset_mark, stretch_level, InTransfer, AllInTransfer, TransfersRelated, GoodTransfer}
 use Rattle.x25_handshakes.proofs.StretchLemmas.{StretchesRelated-flip, StretchesRelated-fresh, GoodStretch-acts, GoodStretch-takes}
 
-inner_mark : (p : Packet) → InFlowControl p → reset_mark p ≡ Inner
+pub inner_mark : (p : Packet) → InFlowControl p → reset_mark p ≡ Inner
 inner_mark (Data s r p) is = refl
 inner_mark (Rr r) is = refl
 inner_mark (Rnr r) is = refl
@@ -25,7 +25,7 @@ inner_mark (Accept field) is = absurd is
 inner_mark Clear is = absurd is
 inner_mark ClearConf is = absurd is
 
-in_transfer : (p : Packet) → InFlowControl p → InTransfer p
+pub in_transfer : (p : Packet) → InFlowControl p → InTransfer p
 in_transfer (Data s r p) is = tt
 in_transfer (Rr r) is = tt
 in_transfer (Rnr r) is = tt
@@ -38,25 +38,25 @@ in_transfer (Accept field) is = absurd is
 in_transfer Clear is = absurd is
 in_transfer ClearConf is = absurd is
 
-AllInFlowControl-back : (u o : List Packet) → AllInFlowControl (u ++ o) → AllInFlowControl o
+pub AllInFlowControl-back : (u o : List Packet) → AllInFlowControl (u ++ o) → AllInFlowControl o
 AllInFlowControl-back [] o h = h
 AllInFlowControl-back (p ∷ u) o h = AllInFlowControl-back u o h.1
 
-AllInner-open : (o : List Packet) → AllInFlowControl o → AllInner reset_mark o
+pub AllInner-open : (o : List Packet) → AllInFlowControl o → AllInner reset_mark o
 AllInner-open [] h = tt
 AllInner-open (p ∷ o) h = (inner_mark p h.0, AllInner-open o h.1)
 
-AllInTransfer-open : (o : List Packet) → AllInFlowControl o → AllInTransfer o
+pub AllInTransfer-open : (o : List Packet) → AllInFlowControl o → AllInTransfer o
 AllInTransfer-open [] h = tt
 AllInTransfer-open (p ∷ o) h = (in_transfer p h.0, AllInTransfer-open o h.1)
 
-AllInTransfer-append : (u o : List Packet) → AllInTransfer u → AllInTransfer o → AllInTransfer (u ++ o)
+pub AllInTransfer-append : (u o : List Packet) → AllInTransfer u → AllInTransfer o → AllInTransfer (u ++ o)
 AllInTransfer-append [] o h g = g
 AllInTransfer-append (p ∷ u) o h g = (h.0, AllInTransfer-append u o h.1 g)
 
 pub TransfersRelated-flip : (t b : Terms) (x : At Stretch) (L K : List Packet) (y : At Stretch) → TransfersRelated t b x L K y → TransfersRelated b t y K L x
 TransfersRelated-flip t b x L K y h = record {
-  hand = hand_flip (record { mark = reset_mark; fresh = fresh; gone = λ x. Unit {0}; related = λ x u v y. StretchesRelated b t y v u x }) x.epoch y.epoch x.side y.side L K
+  hand = hand_flip (record { mark = reset_mark; fresh = fresh; fresh_there = fresh; gone = λ x. Unit {0}; gone_there = λ x. Unit {0}; related = λ x u v y. StretchesRelated b t y v u x }) x.epoch y.epoch x.side y.side L K
       (hand_map (stretch_level t b) (λ x u v y. StretchesRelated b t y v u x) (λ x u v y r. StretchesRelated-flip t b x u v y r) x.epoch y.epoch x.side y.side L K h.hand);
   there = h.back;
   back = h.there;

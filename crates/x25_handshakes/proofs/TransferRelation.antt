@@ -12,8 +12,8 @@ reset_mark Reset = Request
 reset_mark ResetConf = Confirm
 reset_mark other = Inner
 
-abbrev pub stretch_level : Terms → Terms → Level Stretch Packet
-stretch_level t b = record { mark = reset_mark; fresh = fresh; gone = λ x. Unit {0}; related = StretchesRelated t b }
+abbrev pub stretch_level : Terms → Terms → Level Stretch Stretch Packet
+stretch_level t b = record { mark = reset_mark; fresh = fresh; fresh_there = fresh; gone = λ x. Unit {0}; gone_there = λ x. Unit {0}; related = StretchesRelated t b }
 
 -- what kinds pass in p4, also in what will be dropped
 abbrev pub InTransfer : Packet → Type 0

@@ -7,5 +7,13 @@ pub mod Handshake
 pub mod Histories
 pub mod Layers
 pub mod Names
+pub mod PeerCalls
+pub mod PeerChannel
+pub mod PeerClaims
+pub mod PeerJoined
+pub mod PeerLayer
+pub mod PeerLayers
+pub mod PeerStretch
+pub mod PeerTransfer
 pub mod Stretch
 pub mod Transfer

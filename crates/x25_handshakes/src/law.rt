@@ -3,6 +3,9 @@ ghost use Rattle.x25_handshakes.specs.laws.Layers.{Event, pair_run, pair_start};
 ghost use Rattle.x25_handshakes.specs.laws.Histories.{messages, interrupts, calls, AreInOrder};
 ghost use Rattle.x25_handshakes.specs.laws.Arrivals.{AllArrives};
 ghost use Rattle.x25_handshakes.specs.laws.Drained.{AllIsKnown};
+ghost use Rattle.x25_handshakes.specs.laws.PeerClaims.{WithAnyPeer, FindsNoError, KeepsStretches};
+ghost use Rattle.x25_handshakes.specs.laws.PeerClaims.{WithAnyPeerLayer, LayerFindsNoError, KeepsLayers};
+ghost use Rattle.x25_handshakes.specs.rows.PeerRows.{LatePeerMoves, PeerLayerMoves};
 
 /// Two packet layers over lines that keep order, each end out at any moment, and any calls of their users, with the
 /// packet sizes and windows that each call proposes and its acceptance answers (ITU-T X.25 (10/96), section 6.12): no
@@ -25,6 +28,42 @@ pub fn keeps_order()
 /// or that user isn't ready.
 pub fn drained_ends_know()
     ensures known { AllIsKnown }
+{
+    x25_circuit::values_are_agreed();
+}
+
+/// A packet layer, by the definition of the laws above, and any peer that keeps the rules of `PeerLayer` and those
+/// below it (docs/PEER.md), in either role, over lines that keep order, from the link's set-up on, as long as it is
+/// up. What the user calls and what the peer does is any list: restarts, calls, clears, resets, data, interrupts.
+/// ITU-T X.25 (10/96), sections 3.3 and 4.
+///
+/// What comes to the layer is no error of procedure. The counts of restarts of the two ends differ by one at most,
+/// and so do, while these agree, those of the clears of a channel, and within a call those of its resets. While all
+/// agree, also where an end or both have left that stretch, the messages that the layer handed up in it are a
+/// beginning of those that the peer's data packets carry, and those that the peer took are a beginning of those that
+/// the layer was handed down, each all of them where all is acknowledged and nothing waits; and so of interrupts, and
+/// of calls. An end that is ahead has taken nothing yet, and the other takes nothing more.
+pub fn any_peer_keeps_layers()
+    ensures quiet { WithAnyPeerLayer LayerFindsNoError }
+    ensures order { WithAnyPeerLayer KeepsLayers }
+{
+    x25_circuit::values_are_agreed();
+}
+
+/// The same of a circuit in p4 alone: data, flow control, interrupts, and RESET of either end at any moment, where the
+/// peer may also take a RESET before what stands in front of it, which it drops. ITU-T X.25 (10/96), sections 4.3 and
+/// 4.4.
+pub fn any_peer_keeps_stretches()
+    ensures quiet { WithAnyPeer FindsNoError }
+    ensures order { WithAnyPeer KeepsStretches }
+{}
+
+/// Worked rows. A peer takes a data packet and says nothing, sends one of its own that acknowledges none, which is
+/// handed up, and acknowledges later. A peer confirms our RESTART and calls, our user accepts, and its message is handed
+/// up.
+pub fn peers_move()
+    ensures late { LatePeerMoves }
+    ensures layer { PeerLayerMoves }
 {
     x25_circuit::values_are_agreed();
 }

@@ -1,9 +1,11 @@
 //! Two packet layers as handshakes within handshakes: what holds of both ends in each epoch of restart, clear and
-//! reset.
+//! reset, and the same of one packet layer and any peer.
 //!
-//! It runs nothing: its public function states, as its contract, what the theorem of the packet layer stands on.
+//! It runs nothing: its public functions state, as their contracts, what the theorem of the packet layer stands on.
 #![tactic(auto)]
 
 mod law;
 
-pub use law::{drained_ends_know, keeps_order};
+pub use law::{
+    any_peer_keeps_layers, any_peer_keeps_stretches, drained_ends_know, keeps_order, peers_move,
+};

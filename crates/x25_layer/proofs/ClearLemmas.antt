@@ -9,12 +9,13 @@ use Rattle.x25_handshakes.specs.laws.Stretch.{Stretch, Clear}
 use Rattle.x25_handshakes.specs.laws.Calls.{Phase, Unused, Waiting, Offered, Crossed, Talking, Connection}
 use Rattle.x25_handshakes.specs.laws.Channel.{in_p1, channel_takes, channel_side_takes}
 use Rattle.x25_handshakes.specs.laws.Layers.{LayerPacket, On, Channels, LayerStep, Pair, Takes, pair_moves, pair_run, pair_start, layer_takes, layer_side_takes}
+use Rattle.x25_layer.specs.laws.Bare.{bare_layer, bare_layers}
 use Rattle.x25_layer.specs.laws.TwoLayers.{End, TwoLayers, turned, run, start}
 use Rattle.x25_layer.specs.laws.Law.{Always}
 use Rattle.x25_layer.specs.laws.NameLaw.{IsNoClearInP1, FrontIsNoClearInP1, NoClearComesInP1}
 use Rattle.x25_layer.proofs.Sees.{Agreed, state_in_transfer, state_in, state_at, view}
 use Rattle.x25_layer.proofs.ViewLemmas.{some_none}
-use Rattle.x25_layer.proofs.LayerSees.{bare_layer, bare_layers, SeesLayer, ShowsAt}
+use Rattle.x25_layer.proofs.LayerSees.{SeesLayer, ShowsAt}
 use Rattle.x25_layer.proofs.LayerLemmas.{true≢false}
 use Rattle.x25_layer.proofs.TwoLayerLemmas.{Sees, second, sees_turned}
 use Rattle.x25_layer.proofs.RunLemmas.{Premises, run_more, in_run}

@@ -79,7 +79,7 @@ all_wait : (c : LayerSettings) (own : List OwnMove) (e : End) → WaitsAlone c e
 all_wait c [] e h = h
 all_wait c (what ∷ own) e h = all_wait c own (own_moves c e what) (waits_in c e h what e.is_out refl)
 
-restart_is_quiet : (role : Role) (channels : ℕ) → AreQuiet channels (restart (restart_cause role) 0 ∷ [])
+pub restart_is_quiet : (role : Role) (channels : ℕ) → AreQuiet channels (restart (restart_cause role) 0 ∷ [])
 restart_is_quiet Dte channels = ((inl refl, λ no_channel. absurd no_channel), tt)
 restart_is_quiet Dce channels = ((inr refl, λ no_channel. absurd no_channel), tt)
 

@@ -51,7 +51,7 @@ by_name : {M : Type 0} (b : Bool) (log s held : Lists M) → (b ≡ true → joi
 by_name true log s held f = f refl
 by_name false log s held f = joined_none log
 
-same_name-is : (m n : Name) → same_name m n ≡ true → m ≡ n
+pub same_name-is : (m n : Name) → same_name m n ≡ true → m ≡ n
 same_name-is m n h =
     let a = both_are (m.restarts == n.restarts) (both (m.clears == n.clears) (m.resets == n.resets)) h in
     let b = both_are (m.clears == n.clears) (m.resets == n.resets) a.1 in

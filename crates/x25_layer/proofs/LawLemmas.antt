@@ -4,10 +4,10 @@ use Rattle.x25_handshakes.specs.laws.Handshake.{state_of}
 use Rattle.x25_handshakes.specs.laws.Layers.{Pair, pair_run, pair_start}
 use Rattle.x25_handshakes.specs.laws.Names.{Name}
 use Rattle.x25_handshakes.specs.laws.Histories.{Lists, Kind, messages, interrupts, calls, name_at, held_at, IsPrefix, IsLawful, channel_view, Histories, histories_run, histories_start}
+use Rattle.x25_layer.specs.laws.Bare.{bare_layers}
 use Rattle.x25_layer.specs.laws.Transcript.{Handed, under, calls_in, messages_in, interrupts_in}
 use Rattle.x25_layer.specs.laws.TwoLayers.{TwoLayers, run, start}
 use Rattle.x25_layer.specs.laws.Law.{Always, IsQuietWorld, IsLawfulWorld, ArrivesAll, KeepsOrder}
-use Rattle.x25_layer.proofs.LayerSees.{bare_layers}
 use Rattle.x25_layer.proofs.RunLemmas.{Premises, histories_pair, AreHistories, InRun, in_run}
 use Rattle.x25_layer.proofs.ArrivalLemmas.{none_in_flight, AtPresent, has_all}
 

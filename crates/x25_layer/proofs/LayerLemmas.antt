@@ -19,13 +19,16 @@ use Rattle.x25_handshakes.specs.laws.Names.{both, same_name}
 use Rattle.x25_layer.specs.Layer.{LayerSettings, Layer, LayerAnswer, is_channel, put_at, packet_on, notices_on, is_ready, answers_on, drops, answers_ready, answers_restarting, answers_in, layer_answers}
 use Rattle.x25_layer.specs.Layer as flat
 use Rattle.x25_layer.specs.Calls.{LayerRequest, Asks, Dials, Restarts, PullsAll, LayerOutcome, Accepted, Declined, first_of, lowest_free, highest_free, free_channel, puts_at_once, where_room, if_at_once, outcome_on, dialled, outcome_ready, outcome_in, layer_outcome, LayerPulled, layer_pulled}
+use Rattle.x25_handshakes.specs.laws.PeerLayers.{found, layer_found}
+use Rattle.x25_layer.specs.laws.PeerJoined.{IsConfigured}
+use Rattle.x25_layer.specs.laws.Bare.{bare, bare_layer, bare_layers}
 use Rattle.x25_layer.specs.laws.Quiet.{IsQuiet, IsQuietAt, AreQuiet, AreNoFaults}
 use Rattle.x25_layer.specs.laws.Transcript.{Handed, nothing_handed, added, told_by_all, asked_by, Entry, Asked, name_of}
 use Rattle.x25_layer.specs.laws.TwoLayers.{shown, entries_asked, entry_of_request, entry_of_dial, entries_told}
-use Rattle.x25_layer.proofs.Sees.{unagreed, view, Shows, ParamsLaws, bare, bare_if, IsQuietIf, TellNoFault, Follows, Does, Heeds, act_of, pull_act, Notes, NotesOutcome}
+use Rattle.x25_layer.proofs.Sees.{unagreed, view, Shows, ParamsLaws, bare_if, IsQuietIf, TellNoFault, Follows, Does, Heeds, act_of, pull_act, Notes, NotesOutcome}
 use Rattle.x25_layer.proofs.ViewLemmas.{some_none, follows, heeds, pulls_as}
 use Rattle.x25_layer.proofs.NoteLemmas.{still, notes_taken, notes_asked, notes_pulled}
-use Rattle.x25_layer.proofs.LayerSees.{bare_layer, bare_layers, ShowsAt, SeesLayer, StepOf, FollowsLayer, DoesLayer, dial_act, layer_act, DoesItself, HeedsLayer}
+use Rattle.x25_layer.proofs.LayerSees.{ShowsAt, SeesLayer, StepOf, FollowsLayer, DoesLayer, dial_act, layer_act, DoesItself, HeedsLayer}
 use Rattle.x25_layer.proofs.StepLemmas.{quiet_step, restart_step, step_on, under_one, told_under}
 
 pub true≢false : true ≡ false → ⊥
@@ -89,22 +92,22 @@ if_channel : (channels : ℕ) (b : Bool) (u v : LayerAnswer) (z : At Channels) (
 if_channel channels true u v z s is g = g
 if_channel channels false u v z s is g = absurd (true≢false (sym is))
 
-on_its_channel : ParamsLaws → (c : LayerSettings) (e : ℕ) (f : ℕ → Circuit) (x : Channels) (p : PlainPacket) (has : HasChannel p) → ((k : ℕ) → Shows (f k) (x k)) → IsQuietAt c.channels p
-    → (channel_takes c.circuit.role (x (channel_of p)) (bare p)).error ≡ None
+on_its_channel : ParamsLaws → (c : LayerSettings) (e : ℕ) (f : ℕ → Circuit) (x : Channels) (p : PlainPacket) (has : HasChannel p) → ((k : ℕ) → Shows (f k) (x k)) → IsConfigured c.channels p
+    → found (bare p) (channel_takes c.circuit.role (x (channel_of p)) (bare p)).error ≡ None
     → FollowsLayer c.channels (if is_channel c.channels (channel_of p) then answers_on e f (channel_of p) (answers c.circuit (f (channel_of p)) p) else drops false e f) (ready e x)
     (on_channel e x (channel_of p) (channel_takes c.circuit.role (x (channel_of p)) (bare p)))
 on_its_channel laws c e f x p has each ok q =
     let h : ℕ = channel_of p in
     let s : ChannelStep = channel_takes c.circuit.role (x h) (bare p) in
-    if_channel c.channels (is_channel c.channels h) (answers_on e f h (answers c.circuit (f h) p)) (drops false e f) (ready e x) (on_channel e x h s) (ok.1 has)
-    (answers_follow c.channels e f x h (answers c.circuit (f h) p) s (ok.1 has) each
+    if_channel c.channels (is_channel c.channels h) (answers_on e f h (answers c.circuit (f h) p)) (drops false e f) (ready e x) (on_channel e x h s) (ok has)
+    (answers_follow c.channels e f x h (answers c.circuit (f h) p) s (ok has) each
     (subst (λ (y : Circuit). Follows (answers c.circuit y p) s) (sym (each h).is) (follows laws c.circuit (each h).agreed (x h) p (each h).fits has q))
     (subst (λ (y : Circuit). Notes (x h) s.next (told_by_all (answers c.circuit y p).notices)) (sym (each h).is) (notes_taken c.circuit (each h).agreed (x h) p (each h).fits has q)))
 
 abbrev Taken : LayerSettings → ℕ → Side Channels → PlainPacket → LayerStep
 Taken c e z p = layer_side_takes c.circuit.role e z (bare_layer p)
 
-row_ready : ParamsLaws → (c : LayerSettings) (e : ℕ) (f : ℕ → Circuit) (x : Channels) (p : PlainPacket) → ((k : ℕ) → Shows (f k) (x k)) → IsQuietAt c.channels p → (Taken c e (Live x) p).error ≡ None
+row_ready : ParamsLaws → (c : LayerSettings) (e : ℕ) (f : ℕ → Circuit) (x : Channels) (p : PlainPacket) → ((k : ℕ) → Shows (f k) (x k)) → IsConfigured c.channels p → layer_found (bare_layer p) (Taken c e (Live x) p).error ≡ None
     → FollowsLayer c.channels (answers_ready c e f p) (ready e x) (Taken c e (Live x) p)
 row_ready laws c e f x (restart cause diagnostic) each ok q =
     record { next = record { restarting = refl; restarts = refl; circuits = λ k. begun_shown }; owed = refl; quiet = ((tt, λ no. absurd no), tt); no_fault = (tt, tt); step = restart_step e (Live x) }
@@ -147,8 +150,8 @@ row_restarting c e f x (restart cause diagnostic) each = restarted c.channels e 
 row_restarting c e f x restart_conf each = restarted c.channels e (Left x) (flat.restart_done ∷ []) (tt, tt) refl
 row_restarting c e f x other each = dropped c.channels e f x each
 
-row_side : ParamsLaws → (c : LayerSettings) (b : Bool) (e g : ℕ) (f : ℕ → Circuit) (z : Side Channels) (p : PlainPacket) → b ≡ has_left z → e ≡ g → ((k : ℕ) → ShowsAt z k (f k)) → IsQuietAt c.channels p
-    → (Taken c g z p).error ≡ None → FollowsLayer c.channels (answers_in c b e f p) (record { epoch = g; side = z }) (Taken c g z p)
+row_side : ParamsLaws → (c : LayerSettings) (b : Bool) (e g : ℕ) (f : ℕ → Circuit) (z : Side Channels) (p : PlainPacket) → b ≡ has_left z → e ≡ g → ((k : ℕ) → ShowsAt z k (f k)) → IsConfigured c.channels p
+    → layer_found (bare_layer p) (Taken c g z p).error ≡ None → FollowsLayer c.channels (answers_in c b e f p) (record { epoch = g; side = z }) (Taken c g z p)
 row_side laws c false e g f (Live x) p is same each ok q =
     subst (λ (m : ℕ). FollowsLayer c.channels (answers_in c false m f p) (ready g x) (Taken c g (Live x) p)) (sym same) (row_ready laws c g f x p each ok q)
 row_side laws c true e g f (Left x) p is same each ok q =
@@ -157,8 +160,8 @@ row_side laws c true e g f (Live x) p is same each ok q = absurd (true≢false i
 row_side laws c false e g f (Left x) p is same each ok q = absurd (true≢false (sym is))
 
 -- A packet handed up.
-pub layer_follows : ParamsLaws → (c : LayerSettings) (l : Layer) (z : At Channels) (p : PlainPacket) → SeesLayer l z → IsQuietAt c.channels p
-    → (layer_takes c.circuit.role z (bare_layer p)).error ≡ None → FollowsLayer c.channels (layer_answers c l p) z (layer_takes c.circuit.role z (bare_layer p))
+pub layer_follows : ParamsLaws → (c : LayerSettings) (l : Layer) (z : At Channels) (p : PlainPacket) → SeesLayer l z → IsConfigured c.channels p
+    → layer_found (bare_layer p) (layer_takes c.circuit.role z (bare_layer p)).error ≡ None → FollowsLayer c.channels (layer_answers c l p) z (layer_takes c.circuit.role z (bare_layer p))
 layer_follows laws c l z p s ok q = row_side laws c l.restarting l.restarts z.epoch l.circuits z.side p s.restarting s.restarts s.circuits ok q
 
 -- ---- calls of the user

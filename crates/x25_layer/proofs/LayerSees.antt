@@ -1,29 +1,20 @@
 -- What a layer is of the nested handshakes, and what a step does to the names and lists of its channels.
-use Rattle.std.proofs.Common.{◌≡◌, ℕ, ◌<◌, List, [], ◌∷◌, Option, None, Some, if◌then◌else◌, option_to_list}
-use Rattle.x25_packet.specs.Packet.{PlainPacket, restart, restart_conf}
-use Rattle.x25_packet.specs.Spelling.{channel_of}
+use Rattle.std.proofs.Common.{◌≡◌, ℕ, ◌<◌, List, Option, None, Some, if◌then◌else◌, option_to_list}
+use Rattle.x25_packet.specs.Packet.{PlainPacket}
 use Rattle.x25_circuit.specs.declared.params.Params.{Params}
 use Rattle.x25_circuit.specs.Circuit.{Circuit, forgotten}
 use Rattle.x25_circuit.specs.Calling.{Calls}
 use Rattle.x25_handshakes.specs.laws.Handshake.{Side, Live, Left, has_left, At}
-use Rattle.x25_handshakes.specs.laws.Layers.{LayerPacket, On, Restart, RestartConf, Channels, LayerStep, LayerAct, OnChannel, SendsRestart}
+use Rattle.x25_handshakes.specs.laws.Layers.{Channels, LayerStep, LayerAct, OnChannel, SendsRestart}
 use Rattle.x25_handshakes.specs.laws.Names.{Name, same_name}
 use Rattle.x25_handshakes.specs.laws.Histories.{circuit_at}
 use Rattle.x25_layer.specs.Layer.{LayerSettings, Layer, LayerAnswer}
 use Rattle.x25_layer.specs.Calls.{LayerRequest, Asks, Dials, Restarts, PullsAll, LayerOutcome, Accepted, Declined, free_channel}
+use Rattle.x25_layer.specs.laws.Bare.{bare_layers}
 use Rattle.x25_layer.specs.laws.Quiet.{AreQuiet, AreNoFaults}
 use Rattle.x25_layer.specs.laws.Transcript.{Handed, nothing_handed, Entry, under}
 use Rattle.x25_layer.specs.laws.TwoLayers.{entries_told, entries_asked}
-use Rattle.x25_layer.proofs.Sees.{unagreed, view, Shows, bare, held_of, resets_of, Notes, act_of}
-
-abbrev pub bare_layer : PlainPacket → LayerPacket
-bare_layer (restart cause diagnostic) = Restart
-bare_layer restart_conf = RestartConf
-bare_layer packet = On (channel_of packet) (bare packet)
-
-abbrev pub bare_layers : List PlainPacket → List LayerPacket
-bare_layers [] = []
-bare_layers (packet ∷ packets) = bare_layer packet ∷ bare_layers packets
+use Rattle.x25_layer.proofs.Sees.{unagreed, view, Shows, held_of, resets_of, Notes, act_of}
 
 -- of a channel in a layer that restarts nothing but its counts is kept
 abbrev pub ShowsAt : Side Channels → ℕ → Circuit → Type 0

@@ -8,6 +8,8 @@ pub mod LayerLemmas
 pub mod HistoryLemmas
 pub mod TwoLayerLemmas
 pub mod RunLemmas
+pub mod PeerOrder
+pub mod PeerRuns
 pub mod ArrivalLemmas
 pub mod LengthLemmas
 pub mod FitLemmas

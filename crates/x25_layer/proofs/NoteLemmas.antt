@@ -21,8 +21,10 @@ use Rattle.x25_handshakes.specs.laws.Transfer.{d1, lifted}
 use Rattle.x25_handshakes.specs.laws.Calls.{Phase, Unused, Waiting, Offered, Crossed, Talking, Connection, CallStep, in_transfer, call_crosses, calling_talk, called_talk}
 use Rattle.x25_handshakes.specs.laws.Calls as nested_calls
 use Rattle.x25_handshakes.specs.laws.Channel.{clr, lifted_call, channel_takes, channel_acts}
+use Rattle.x25_handshakes.specs.laws.PeerLayers.{found}
+use Rattle.x25_layer.specs.laws.Bare.{bare}
 use Rattle.x25_layer.specs.laws.Transcript.{Handed, nothing_handed, added, told_by_all, asked_by}
-use Rattle.x25_layer.proofs.Sees.{talk_of, Agreed, taken_on, AreAgreedIn, AreAgreed, view, bare, act_of, pull_act, held_stretch, held_of, resets_of, Notes, Adds, AfterReset, AfterClear, NotesOutcome}
+use Rattle.x25_layer.proofs.Sees.{talk_of, Agreed, taken_on, AreAgreedIn, AreAgreed, view, act_of, pull_act, held_stretch, held_of, resets_of, Notes, Adds, AfterReset, AfterClear, NotesOutcome}
 use Rattle.x25_layer.proofs.ParamsLemmas.{call_proposes}
 use Rattle.x25_layer.proofs.ViewLemmas.{some_none, channel_step, in_open, in_resetting, in_talk, in_call, on_terms}
 
@@ -82,7 +84,7 @@ confirmed_notes c g e m i s x false q = absurd (some_none 43 q)
 
 -- the claim of a row
 abbrev Row : Settings → Agreed → At Connection → PlainPacket → Type 0
-Row c g n p = HasChannel p → (channel_takes c.role n (bare p)).error ≡ None → Notes n (channel_takes c.role n (bare p)).next (told_by_all (answers c (view g n) p).notices)
+Row c g n p = HasChannel p → found (bare p) (channel_takes c.role n (bare p)).error ≡ None → Notes n (channel_takes c.role n (bare p)).next (told_by_all (answers c (view g n) p).notices)
 
 row_open : (c : Settings) (g : Agreed) (e : ℕ) (m i : List CallRequest) (s : ℕ) (x : Stretch) (p : PlainPacket) → Row c g (in_open g e m i s x) p
 row_open c g e m i s x (call h called calling fac user) has q = absurd (some_none 0 q)
@@ -114,7 +116,7 @@ row_resetting c g e m i s x other has q = still (in_resetting g e m i s x)
 row_free : (c : Settings) (g : Agreed) (e : ℕ) (m i : List CallRequest) (p : PlainPacket) → Row c g (in_call e m i Unused) p
 row_free c g e m i (call h called calling fac user) has q =
     Adds refl refl (handed_is m _ (none m) (i ++ request_in called calling fac user ∷ []) _ refl [] _ refl [] _ refl [] _ refl [] _ refl) (inr refl)
-row_free c g e m i (clear h cause n) has q = absurd (some_none 20 q)
+row_free c g e m i (clear h cause n) has q = AfterClear (omega arith) refl refl
 row_free c g e m i (restart cause n) has q = absurd has
 row_free c g e m i restart_conf has q = absurd has
 row_free c g e m i other has q = absurd (some_none 0 q)
@@ -182,7 +184,7 @@ row_side c g e (Live x) p fits = row_in_call c g e x.made x.indicated x.phase p 
 row_side c g e (Left x) p fits = row_clearing c g e x p
 
 -- A packet taken.
-pub notes_taken : (c : Settings) (g : Agreed) (n : At Connection) (p : PlainPacket) → AreAgreed g n.side → HasChannel p → (channel_takes c.role n (bare p)).error ≡ None
+pub notes_taken : (c : Settings) (g : Agreed) (n : At Connection) (p : PlainPacket) → AreAgreed g n.side → HasChannel p → found (bare p) (channel_takes c.role n (bare p)).error ≡ None
     → Notes n (channel_takes c.role n (bare p)).next (told_by_all (answers c (view g n) p).notices)
 notes_taken c g n p fits has q = row_side c g n.epoch n.side p fits has q
 

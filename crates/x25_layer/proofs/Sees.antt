@@ -1,24 +1,24 @@
 -- What a circuit of the table is of a channel of the nested handshakes: the lists that no row needs are forgotten, and of packet sizes
 -- and windows in force the terms of data packets alone are known there.
 use Rattle.std.proofs.Common.{◌≡◌, ◌⊎◌, ℕ, ◌<◌, List, [], ◌∷◌, Option, Some, None, Bool, true, false, if◌then◌else◌}
-use Rattle.x25_packet.specs.Packet.{PlainPacket, call, accept, clear, clear_conf, user_data, rr, rnr, interrupt, interrupt_conf, reset, reset_conf, restart, restart_conf}
+use Rattle.x25_packet.specs.Packet.{PlainPacket}
 use Rattle.x25_packet.specs.Spelling.{HasChannel}
 use Rattle.x25_circuit.specs.declared.state.State.{State}
 use Rattle.x25_circuit.specs.declared.state.State.TheVariants.{Free, Calling, Arriving, Collision, Open, Resetting, Clearing}
-use Rattle.x25_circuit.specs.Message.{piece_of}
 use Rattle.x25_circuit.specs.declared.params.Params.{Params}
 use Rattle.x25_circuit.specs.Params.{Terms, default_params, may_propose, called_terms, calling_terms}
 use Rattle.x25_circuit.specs.laws.ParamsLaws.{FieldIsSaid, FieldIsAllowed, SaidIsAllowed, AnswerIsAllowed}
 use Rattle.x25_circuit.specs.Circuit.{Talk, silent, Circuit}
 use Rattle.x25_circuit.specs.Notice.{CallRequest, PlainNotice}
-use Rattle.x25_circuit.specs.Hearing.{Answer, request_in}
+use Rattle.x25_circuit.specs.Hearing.{Answer}
 use Rattle.x25_circuit.specs.Calling.{Outcome, Done, Refused, Request, Calls, Accepts, Clears, Sends, Interrupts, Resets, SaysReady, SaysNotReady, request_of}
 use Rattle.x25_handshakes.specs.laws.Handshake.{Side, Live, Left, At, state_of}
-use Rattle.x25_handshakes.specs.laws.Stretch.{Packet, Data, Rr, Rnr, Int, IntConf, Reset, ResetConf, Call, Accept, Clear, ClearConf, Stretch, Send, Pull, Ready, NotReady, Interrupt}
+use Rattle.x25_handshakes.specs.laws.Stretch.{Packet, Stretch, Send, Pull, Ready, NotReady, Interrupt}
 use Rattle.x25_handshakes.specs.laws.Transfer.{Inside, SendsReset}
 use Rattle.x25_handshakes.specs.laws.Calls.{Phase, Unused, Waiting, Offered, Crossed, Talking, Connection, PlacesCall, AcceptsCall, Talks}
 use Rattle.x25_handshakes.specs.laws.Channel.{ChannelStep, ChannelAct, Within, SendsClear}
 use Rattle.x25_handshakes.specs.laws.Histories.{resets_in}
+use Rattle.x25_layer.specs.laws.Bare.{bare}
 use Rattle.x25_layer.specs.laws.Quiet.{IsQuiet, IsNoFault}
 use Rattle.x25_layer.specs.laws.Transcript.{Handed, nothing_handed, added}
 
@@ -111,22 +111,6 @@ pub record ParamsLaws : Type 0 where
   pub field : FieldIsAllowed
   pub allowed : SaidIsAllowed
   pub answered : AnswerIsAllowed
-
--- a packet of a channel without channel, cause and diagnostic, and of a CALL's facilities what they say (of a RESTART nothing is said)
-abbrev pub bare : PlainPacket → Packet
-bare (call channel called calling facilities user) = Call (request_in called calling facilities user)
-bare (accept channel facilities) = Accept facilities
-bare (clear channel cause diagnostic) = Clear
-bare (clear_conf channel) = ClearConf
-bare (user_data channel q m ps pr user) = Data ps pr (piece_of q m user)
-bare (rr channel pr) = Rr pr
-bare (rnr channel pr) = Rnr pr
-bare (interrupt channel user) = Int user
-bare (interrupt_conf channel) = IntConf
-bare (reset channel cause diagnostic) = Reset
-bare (reset_conf channel) = ResetConf
-bare (restart cause diagnostic) = ClearConf
-bare restart_conf = ClearConf
 
 abbrev pub bare_if : Option PlainPacket → List Packet
 bare_if None = []

@@ -3,18 +3,21 @@ use Rattle.std.proofs.Common.{◌≡◌, ◌⊎◌, inl, inr, ℕ, List, [], ◌
 use Rattle.x25_bits.specs.declared.role.Role.{Role}
 use Rattle.x25_packet.specs.Packet.{PlainPacket}
 use Rattle.x25_handshakes.specs.laws.Handshake.{Side, Live, Left, At, state_of}
-use Rattle.x25_handshakes.specs.laws.Layers.{LayerPacket, Channels, LayerStep, OnChannel, Pair, Acts, Takes, LinkDown, first_error, pair_moves, layer_acts, layer_takes}
+use Rattle.x25_handshakes.specs.laws.Layers.{LayerPacket, On, Restart, RestartConf, Channels, LayerStep, OnChannel, Pair, Acts, Takes, LinkDown, first_error, pair_moves, layer_acts, layer_takes}
 use Rattle.x25_handshakes.specs.laws.Layers as nested
 use Rattle.x25_handshakes.specs.laws.Histories.{circuit_at}
+use Rattle.x25_handshakes.specs.laws.Stretch.{Packet, Clear}
+use Rattle.x25_handshakes.specs.laws.PeerLayers.{found, layer_found}
 use Rattle.x25_layer.specs.Layer.{LayerSettings, Layer, LayerNotice, LayerAnswer, is_channel, layer_answers, rested}
 use Rattle.x25_layer.specs.Calls.{LayerRequest, PullsAll, LayerOutcome, Accepted, Declined, outcome_in, layer_outcome, LayerPulled, layer_pulled}
+use Rattle.x25_layer.specs.laws.Bare.{bare_layer, bare_layers}
 use Rattle.x25_layer.specs.laws.Quiet.{AreQuiet, AreNoFaults}
 use Rattle.x25_layer.specs.laws.Transcript.{Entry}
 use Rattle.x25_layer.specs.laws.TwoLayers.{End, TwoLayers, entries_asked, entries_told, Move, Requests, Pulls, HandsUp, GoesDown, puts, requested, pulled_in, answered, handed_up, moves_in, turned, settings_of}
 use Rattle.x25_layer.specs.laws.Law.{IsQuietEnd, KeepsOrder}
 use Rattle.x25_layer.proofs.Sees.{ParamsLaws, pull_act}
 use Rattle.x25_layer.proofs.NoteLemmas.{still, append_nil}
-use Rattle.x25_layer.proofs.LayerSees.{bare_layer, bare_layers, SeesLayer, StepOf, FollowsLayer, DoesLayer, layer_act, HeedsLayer}
+use Rattle.x25_layer.proofs.LayerSees.{SeesLayer, StepOf, FollowsLayer, DoesLayer, layer_act, HeedsLayer}
 use Rattle.x25_layer.proofs.StepLemmas.{quiet_step}
 use Rattle.x25_layer.proofs.LayerLemmas.{true≢false, layer_follows, layer_heeds, layer_pulls}
 
@@ -43,15 +46,15 @@ pub record Stepped (r : Role) (channels : ℕ) (w : TwoLayers) (j : Pair) (w₂ 
   pub far_entries : w₂.far.entries ≡ w.far.entries
   pub step : StepOf (state_of j.near) (state_of (pair_moves r j j.near move).near) entries
 
-bare_more : (L o : List PlainPacket) (u v : List LayerPacket) → bare_layers L ≡ u → bare_layers o ≡ v → bare_layers (L ++ o) ≡ u ++ v
+pub bare_more : (L o : List PlainPacket) (u v : List LayerPacket) → bare_layers L ≡ u → bare_layers o ≡ v → bare_layers (L ++ o) ≡ u ++ v
 bare_more [] o u v p q = q ∙ ap (λ l. l ++ v) p
 bare_more (x ∷ L) o u v p q = ap (λ l. bare_layer x ∷ l) (bare_more L o (bare_layers L) v refl q) ∙ ap (λ l. l ++ v) p
 
-quiet_more : (channels : ℕ) (L o : List PlainPacket) → AreQuiet channels L → AreQuiet channels o → AreQuiet channels (L ++ o)
+pub quiet_more : (channels : ℕ) (L o : List PlainPacket) → AreQuiet channels L → AreQuiet channels o → AreQuiet channels (L ++ o)
 quiet_more channels [] o p q = q
 quiet_more channels (x ∷ L) o p q = (p.0, quiet_more channels L o p.1 q)
 
-no_faults_more : (L o : List LayerNotice) → AreNoFaults L → AreNoFaults o → AreNoFaults (L ++ o)
+pub no_faults_more : (L o : List LayerNotice) → AreNoFaults L → AreNoFaults o → AreNoFaults (L ++ o)
 no_faults_more [] o p q = q
 no_faults_more (x ∷ L) o p q = (p.0, no_faults_more L o p.1 q)
 
@@ -120,7 +123,7 @@ written_anew w restarting gone given entries out = record {
 }
 
 -- That all be pulled changes nothing itself: the pulls are moves of their own.
-pulls_change_nothing : (c : LayerSettings) (full : Bool) (w : TwoLayers) → w.near.is_out ≡ false → requested c w PullsAll (layer_outcome c full w.near.layer PullsAll) ≡ w
+pub pulls_change_nothing : (c : LayerSettings) (full : Bool) (w : TwoLayers) → w.near.is_out ≡ false → requested c w PullsAll (layer_outcome c full w.near.layer PullsAll) ≡ w
 pulls_change_nothing c full w up = by w.near.layer.restarting refl
   where
     by : (b : Bool) → w.near.layer.restarting ≡ b → requested c w PullsAll (outcome_in c full b w.near.layer.restarts w.near.layer.circuits PullsAll) ≡ w
@@ -131,6 +134,19 @@ pulls_change_nothing c full w up = by w.near.layer.restarting refl
         ∙ ap (λ l. written_anew w w.near.layer.restarting w.near.is_out l (w.near.entries ++ []) (w.out ++ [])) (append_nil w.near.given)
         ∙ ap (λ l. written_anew w w.near.layer.restarting w.near.is_out w.near.given l (w.out ++ [])) (append_nil w.near.entries)
         ∙ ap (λ l. written_anew w w.near.layer.restarting w.near.is_out w.near.given w.near.entries l) (append_nil w.out)
+
+-- what is no error is none that is found
+found_none : (p : LayerPacket) (e : Option ℕ) → e ≡ None → layer_found p e ≡ None
+found_none p e none = ap (λ f. layer_found p f) none ∙ at p
+  where
+    on : (p : Packet) → found p None ≡ None
+    on Clear = refl
+    on other = refl
+
+    at : (p : LayerPacket) → layer_found p None ≡ None
+    at (On h p) = on p
+    at Restart = refl
+    at RestartConf = refl
 
 -- An event at the near end, with the settings of its role.
 pub world_moves : ParamsLaws → (r : Role) (long_data : Bool) (channels : ℕ) (w : TwoLayers) (near far : Side (At Channels)) (out back : List LayerPacket) (error : Option ℕ) (what : Move)
@@ -190,7 +206,7 @@ world_moves laws r long_data channels w (Live z) far out back error HandsUp sees
         let clean : s.error ≡ None =
         second error s.error (subst (λ (l : List LayerPacket). (pair_moves r (record { near = Live z; far = far; out = out; back = l; error = error }) (Live z) Takes).error ≡ None) (sym same) (quiet Takes)) in
         let ok = subst (λ (l : List PlainPacket). AreQuiet channels l) front sees.back_quiet in
-        let g : FollowsLayer channels (layer_answers c w.near.layer p) z s = layer_follows laws c w.near.layer z p sees.near.1 ok.0 clean in
+        let g : FollowsLayer channels (layer_answers c w.near.layer p) z s = layer_follows laws c w.near.layer z p sees.near.1 ok.0.1 (found_none (bare_layer p) s.error clean) in
         inr (subst (λ (l : List LayerPacket). Stepped r channels w (record { near = Live z; far = far; out = out; back = l; error = error }) (answered w p K (layer_answers c w.near.layer p))) same
         (record {
           move = Takes;

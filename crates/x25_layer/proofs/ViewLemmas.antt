@@ -22,7 +22,9 @@ use Rattle.x25_handshakes.specs.laws.Transfer.{d1, rst, lifted}
 use Rattle.x25_handshakes.specs.laws.Calls.{Phase, Unused, Waiting, Offered, Crossed, Talking, Connection, CallStep, in_transfer, call_crosses, calling_talk, called_talk}
 use Rattle.x25_handshakes.specs.laws.Calls as nested_calls
 use Rattle.x25_handshakes.specs.laws.Channel.{ChannelStep, live, clr, lifted_call, channel_takes, channel_acts}
-use Rattle.x25_layer.proofs.Sees.{talk_of, Agreed, sent_on, taken_on, AreAgreedIn, AreAgreed, view, ParamsLaws, bare, bare_if, IsQuietIf, TellNoFault, Follows, Does, Heeds, act_of, pull_act}
+use Rattle.x25_handshakes.specs.laws.PeerLayers.{found}
+use Rattle.x25_layer.specs.laws.Bare.{bare}
+use Rattle.x25_layer.proofs.Sees.{talk_of, Agreed, sent_on, taken_on, AreAgreedIn, AreAgreed, view, ParamsLaws, bare_if, IsQuietIf, TellNoFault, Follows, Does, Heeds, act_of, pull_act}
 use Rattle.x25_layer.proofs.ParamsLemmas.{no_field, call_proposes}
 
 pub some_none : (n : ℕ) → Some n ≡ None → ⊥
@@ -89,7 +91,7 @@ confirmed_row c g e m i s x false q = absurd (no_failure g e m i s x 43 q)
 
 -- the claim of a row
 abbrev Row : Settings → Agreed → At Connection → PlainPacket → Type 0
-Row c g n p = HasChannel p → (channel_takes c.role n (bare p)).error ≡ None → Follows (answers c (view g n) p) (channel_takes c.role n (bare p))
+Row c g n p = HasChannel p → found (bare p) (channel_takes c.role n (bare p)).error ≡ None → Follows (answers c (view g n) p) (channel_takes c.role n (bare p))
 
 row_open : (c : Settings) (g : Agreed) (e : ℕ) (m i : List CallRequest) (s : ℕ) (x : Stretch) (p : PlainPacket) → Row c g (in_open g e m i s x) p
 row_open c g e m i s x (call h called calling fac user) has q = absurd (some_none 0 q)
@@ -120,7 +122,7 @@ row_resetting c g e m i s x other has q = record { next = record { agreed = g; i
 row_free : ParamsLaws → (c : Settings) (g : Agreed) (e : ℕ) (m i : List CallRequest) (p : PlainPacket) → Row c g (in_call e m i Unused) p
 row_free laws c g e m i (call h called calling fac user) has q =
     record { next = record { agreed = g; is = refl; fits = laws.allowed default_params fac refl }; owed = refl; quiet = tt; no_fault = (tt, tt) }
-row_free laws c g e m i (clear h cause n) has q = absurd (some_none 20 q)
+row_free laws c g e m i (clear h cause n) has q = record { next = record { agreed = g; is = refl; fits = tt }; owed = refl; quiet = (tt, tt); no_fault = tt }
 row_free laws c g e m i (restart cause n) has q = absurd has
 row_free laws c g e m i restart_conf has q = absurd has
 row_free laws c g e m i other has q = absurd (some_none 0 q)
@@ -199,7 +201,7 @@ row_side laws c g e (Live x) p fits = row_in_call laws c g e x.made x.indicated 
 row_side laws c g e (Left x) p fits = row_clearing c g e x p
 
 -- A packet taken.
-pub follows : ParamsLaws → (c : Settings) (g : Agreed) (n : At Connection) (p : PlainPacket) → AreAgreed g n.side → HasChannel p → (channel_takes c.role n (bare p)).error ≡ None
+pub follows : ParamsLaws → (c : Settings) (g : Agreed) (n : At Connection) (p : PlainPacket) → AreAgreed g n.side → HasChannel p → found (bare p) (channel_takes c.role n (bare p)).error ≡ None
     → Follows (answers c (view g n) p) (channel_takes c.role n (bare p))
 follows laws c g n p fits has q = row_side laws c g n.epoch n.side p fits has q
 

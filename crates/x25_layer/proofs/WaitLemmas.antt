@@ -16,12 +16,13 @@ use Rattle.x25_handshakes.specs.laws.Arrivals.{open_in, open_phase, open_call, o
 use Rattle.x25_handshakes.specs.laws.Drained.{is_up, pulled_at, IsOpenThere, AllIsKnown}
 use Rattle.x25_layer.specs.Layer.{LayerSettings, Layer, is_channel}
 use Rattle.x25_layer.specs.Calls.{layer_pulled}
+use Rattle.x25_layer.specs.laws.Bare.{bare_layers}
 use Rattle.x25_layer.specs.laws.Transcript.{name_of}
 use Rattle.x25_layer.specs.laws.TwoLayers.{End, TwoLayers, settings_of, run, start}
 use Rattle.x25_layer.specs.laws.Law.{Always, HasAllOf, IsIdleTo}
 use Rattle.x25_layer.specs.laws.WaitLaw.{ClosedKeepNone, NoneOpenInRestart, IsOpenAtBoth, WaitsForUser, NotOpen, Arrived, NotReady, WaitForUsersAlone}
 use Rattle.x25_layer.proofs.Sees.{Agreed, view}
-use Rattle.x25_layer.proofs.LayerSees.{bare_layers, ShowsAt}
+use Rattle.x25_layer.proofs.LayerSees.{ShowsAt}
 use Rattle.x25_layer.proofs.LayerLemmas.{layer_pulls}
 use Rattle.x25_layer.proofs.StepLemmas.{name_eq}
 use Rattle.x25_layer.proofs.TwoLayerLemmas.{SeesEnd}

@@ -5,6 +5,9 @@ pub mod NameLaw
 pub mod ApartLaw
 pub mod WaitLaw
 pub mod Apart
+pub mod Bare
+pub mod PeerJoined
+pub mod PeerClaims
 pub mod Quiet
 pub mod Transcript
 pub mod TwoLayers

@@ -4,6 +4,7 @@ ghost use Rattle.x25_layer.specs.laws.NameLaw.{NamesAreCounted, NoClearComesInP1
 ghost use Rattle.x25_layer.specs.laws.Apart.{AlwaysApart};
 ghost use Rattle.x25_layer.specs.laws.ApartLaw.{IsOverLinks, RestartsFirst, BeginsAlone, OwnMovesDecide, StaysDown, EventsRunOn};
 ghost use Rattle.x25_layer.specs.laws.RoundLaw.{CallsRun, HearsRun, RoundsSettle, ComesUpAlone};
+ghost use Rattle.x25_layer.specs.laws.PeerClaims.{WithAnyPeer, FindsNoError, IsAllInOrder};
 ghost use Rattle.x25_layer.specs.laws.WaitLaw.{RoundsLeaveNone, StillPullsNone, ClosedKeepNone, NoneOpenInRestart, WaitForUsersAlone};
 
 /// Two layers over links that keep order, whatever their users ask and whenever a link goes down: after every event,
@@ -69,6 +70,23 @@ pub fn calls_are_runs()
     ensures settle { RoundsSettle }
     ensures up { ComesUpAlone }
 {}
+
+/// One layer over a link that keeps order, by the definition that `Layer` meets call by call, and any peer that keeps
+/// the rules of docs/PEER.md, in either role, from the link's set-up on, as long as it is up. After all that happens:
+///
+/// - the layer sent the peer no error of procedure, and reported none to its user;
+/// - on each channel, where both ends count the restarts, clears and resets alike, what was reported under the name of
+///   that stretch is a beginning of what the peer's packets carry in it, and what the peer took in it is a beginning of
+///   what the user handed down, of messages and of interrupts; and of calls where they count restarts and clears alike;
+/// - all of the messages, where all is acknowledged to the peer, and where the circuit is open, nothing waits in it,
+///   and all that it sent is acknowledged.
+pub fn any_peer_keeps_transcripts()
+    ensures quiet { WithAnyPeer FindsNoError }
+    ensures order { WithAnyPeer IsAllInOrder }
+{
+    x25_circuit::values_are_agreed();
+    x25_handshakes::any_peer_keeps_layers();
+}
 
 /// What a pull leaves. Behind the rounds, where fewer than 8 packets wait in the link, no channel has a packet that may be sent; and none
 /// has one where a pull of all leaves the layer as it was. A circuit that isn't open keeps no message, whatever happened, and none is open while a

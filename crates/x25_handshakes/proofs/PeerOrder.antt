@@ -1,0 +1,187 @@
+-- What is kept of our end and a peer says that all is in order.
+use Rattle.std.proofs.Common.{◌≡◌, inl, inr, ℕ, suc, ◌+◌, ◌≤◌, List, [], ◌∷◌, ◌++◌, length, Bool, false, refl, sym, ap, subst, ◌∙◌, arith, append_assoc, length-append}
+use Rattle.std.proofs.lemmas.List.{append-nil}
+use Rattle.x25_bits.specs.declared.role.Role.{Role}
+use Rattle.x25_bits.specs.declared.role.Role.TheVariants.{Dte, Dce}
+use Rattle.x25_circuit.specs.Message.{no_part, joining, carried, carried_from}
+use Rattle.x25_circuit.specs.Params.{Terms}
+use Rattle.x25_circuit.specs.Notice.{CallRequest}
+use Rattle.x25_handshakes.specs.laws.Handshake.{Side, Live, Left, At, state_of}
+use Rattle.x25_handshakes.specs.laws.Stretch.{Packet, Stretch}
+use Rattle.x25_handshakes.specs.laws.Transfer.{fresh_transfer}
+use Rattle.x25_handshakes.specs.laws.Calls.{Phase, Unused, Waiting, Offered, Crossed, Talking, Connection}
+use Rattle.x25_handshakes.specs.laws.Histories.{IsPrefix}
+use Rattle.x25_handshakes.specs.laws.PeerStretch.{PeerStretch}
+use Rattle.x25_handshakes.specs.laws.PeerTransfer.{fresh_peer_transfer}
+use Rattle.x25_handshakes.specs.laws.PeerCalls.{Stage, Free, Calling, Called, Collided, InData, PeerCall}
+use Rattle.x25_handshakes.specs.laws.PeerClaims.{InEpochs, AreInOrder, StretchesAreInOrder, transfer_of, peer_transfer_of, CallIsInOrder, ChannelIsInOrder}
+use Rattle.x25_handshakes.proofs.StretchRelation.{pieces, ints, confs, one_if}
+use Rattle.x25_handshakes.proofs.TextLemmas.{carried-append}
+use Rattle.x25_handshakes.proofs.LineLemmas.{heard_least}
+use Rattle.x25_handshakes.proofs.HandshakeRelation.{before, past, Extended, Level, Handshake}
+use Rattle.x25_handshakes.proofs.HandshakeLemmas.{both_fresh}
+use Rattle.x25_handshakes.proofs.CallsRelation.{stage_of, JointOf}
+use Rattle.x25_handshakes.proofs.OwnCallLemmas.{Accepted-some, CallAccepted-some}
+use Rattle.x25_handshakes.proofs.PeerRelation.{Kept, Kept-start}
+use Rattle.x25_handshakes.proofs.PeerTransferActs.{peer_level}
+use Rattle.x25_handshakes.proofs.PeerCallsRelation.{PeerTalks, TalksPeer, PeerSeen}
+use Rattle.x25_handshakes.proofs.PeerChannelLemmas.{peer_call_level, PeerChannelRelated}
+
+-- ---- a handshake
+
+not_next : {A : Type 0} (a b : ℕ) → a ≡ b → a ≡ suc b → A
+not_next a b e f = absurd (omega arith)
+
+not_both : {A : Type 0} (a b : ℕ) → a ≡ suc b → b ≡ suc a → A
+not_both a b e f = absurd (omega arith)
+
+module _ {S T P : Type 0} (l : Level S T P) (R : S → T → Type 0) (says : (x : S) (u v : List P) (y : T) → l.related x u v y → R x y) where
+  ext_says : (x : Side S) (u v : List P) (y : Side T) → Extended l.gone l.gone_there l.related x u v y → R (state_of x) (state_of y)
+  ext_says (Live x) u v (Live y) r = says x u v y r
+  ext_says (Left x) u v (Live y) r = says x u r.0 y r.2
+  ext_says (Live x) u v (Left y) r = says x r.0 v y r.2
+  ext_says (Left x) u v (Left y) r = says x r.0 r.1 y r.2
+
+  pub in_epochs : (x : At S) (L K : List P) (y : At T) → Handshake l x.epoch y.epoch x.side y.side L K → InEpochs R l.fresh l.fresh_there x y
+  in_epochs x L K y (inl same) = record {
+    same = λ e. ext_says x.side (before l.mark L) (before l.mark K) y.side same.inner;
+    near_ahead = λ e. not_next x.epoch y.epoch same.epochs e;
+    peer_ahead = λ e. not_next y.epoch x.epoch (sym same.epochs) e;
+    apart = inl same.epochs;
+  }
+  in_epochs x L K y (inr (inl ahead)) = record {
+    same = λ e. not_next x.epoch y.epoch e ahead.epochs;
+    near_ahead = λ e. (ext_says x.side (before l.mark (past l.mark L)) [] (Live l.fresh_there) ahead.inner, ahead.waits);
+    peer_ahead = λ e. not_both x.epoch y.epoch ahead.epochs e;
+    apart = inr (inl ahead.epochs);
+  }
+  in_epochs x L K y (inr (inr later)) = record {
+    same = λ e. not_next y.epoch x.epoch (sym e) later.epochs;
+    near_ahead = λ e. not_both x.epoch y.epoch e later.epochs;
+    peer_ahead = λ e. (ext_says (Live l.fresh) [] (before l.mark (past l.mark K)) y.side later.inner, later.waits);
+    apart = inr (inr later.epochs);
+  }
+
+-- ---- stretches
+
+-- as many were taken as were sent, so all
+none_left : {M : Type 0} (ys : List M) → length ys ≡ 0 → ys ≡ []
+none_left [] e = refl
+none_left (y ∷ ys) e = absurd (omega (arith, e))
+
+all_taken : {M : Type 0} (sent taken rest : List M) → sent ≡ taken ++ rest → length sent ≤ length taken → sent ≡ taken
+all_taken sent taken rest flow le =
+    let n : length sent ≡ length taken + length rest = ap length flow ∙ length-append taken rest in
+    flow ∙ ap (λ l. taken ++ l) (none_left rest (omega (arith, n, le))) ∙ append-nil taken
+
+in_order : (t : Terms) (size : ℕ) (x : Stretch) (u v : List Packet) (y : PeerStretch) → Kept t size x u v y → AreInOrder x y
+in_order t size x u v y h =
+    let there = h.there in
+    let back = h.back in
+    let down : x.down ≡ carried y.taken ++ carried_from (joining no_part y.taken) (pieces u ++ x.rest) =
+    there.text.messages ∙ ap (λ l. carried (l ++ x.rest)) there.flow.flow ∙ ap carried (append_assoc y.taken (pieces u) x.rest) ∙ carried-append no_part y.taken (pieces u ++ x.rest)
+    in
+    let sent : carried y.sent ≡ carried x.taken ++ carried_from (joining no_part x.taken) (pieces v) = ap carried back.flow.flow ∙ carried-append no_part x.taken (pieces v) in
+    record {
+      up = (carried_from (joining no_part x.taken) (pieces v), ap (λ l. l ++ carried_from (joining no_part x.taken) (pieces v)) back.up ∙ sym sent);
+      there = (carried_from (joining no_part y.taken) (pieces u ++ x.rest), sym down);
+      all = λ e. (
+          let acks = back.acks.acks in
+          back.up ∙ ap carried (sym (all_taken y.sent x.taken (pieces v) back.flow.flow (omega (arith, e, acks, heard_least y.acked u)))));
+      all_there = λ none e. (
+          let acks = there.acks.acks in
+          let late = there.late in
+          sym (there.text.messages ∙ ap (λ l. carried (x.sent ++ l)) none ∙ ap carried (append-nil x.sent)
+          ∙ ap carried (all_taken x.sent y.taken (pieces u) there.flow.flow (omega (arith, e, acks, late, heard_least x.acked v)))));
+      int_up = (ints v, sym back.ints.flow);
+      int_there = (ints u, sym there.ints.flow);
+      int_all = λ none. (
+          let count : one_if false ≡ length (ints v) + confs u = subst (λ (o : Bool). one_if o ≡ length (ints v) + confs u) none back.ints.count in
+          sym (back.ints.flow ∙ ap (λ l. x.int_up ++ l) (none_left (ints v) (omega (arith, count))) ∙ append-nil x.int_up));
+      int_all_there = λ none. (
+          let count : one_if false ≡ (length (ints u) + confs v) + y.owed = subst (λ (o : Bool). one_if o ≡ (length (ints u) + confs v) + y.owed) none there.ints.count in
+          sym (there.ints.flow ∙ ap (λ l. y.int_up ++ l) (none_left (ints u) (omega (arith, count))) ∙ append-nil y.int_up));
+    }
+
+pub stretches_order : (t : Terms) (size : ℕ) (x : At Stretch) (L K : List Packet) (y : At PeerStretch) → Handshake (peer_level t size) x.epoch y.epoch x.side y.side L K → StretchesAreInOrder x y
+stretches_order t size x L K y h = in_epochs (peer_level t size) AreInOrder (in_order t size) x L K y h
+
+-- before p4: any terms do
+fresh_order : StretchesAreInOrder fresh_transfer fresh_peer_transfer
+fresh_order = stretches_order (record { window = 0; size = 0 }) 0 fresh_transfer [] [] fresh_peer_transfer (both_fresh (peer_level (record { window = 0; size = 0 }) 0) (Kept-start (record { window = 0; size = 0 }) 0) 0)
+
+talks_order : (t b : Terms) (x : At Stretch) (u v : List Packet) (t₂ b₂ : Terms) (y : At PeerStretch) → PeerTalks t b x u v t₂ b₂ y → StretchesAreInOrder x y
+talks_order t b x u v t₂ b₂ y h = stretches_order t b.size x u v y h.related.hand
+
+-- ---- calls
+
+none_begins : {M : Type 0} (xs ys : List M) → xs ≡ [] → IsPrefix xs ys
+none_begins xs ys e = (ys, ap (λ l. l ++ ys) e)
+
+all_begins : {M : Type 0} (xs ys : List M) → xs ≡ ys → IsPrefix xs ys
+all_begins xs ys e = ([], append-nil xs ∙ e)
+
+-- our end is the DTE, with the calls ma and ia; and the DCE, with mb and ib
+
+dte_order : (a : Phase) (b : Stage (At PeerStretch)) (ma ia mb ib : List CallRequest) (u v : List Packet) → JointOf PeerTalks fresh_transfer fresh_peer_transfer (stage_of a) b ma ia mb ib u v
+    → IsPrefix ia mb × IsPrefix ib ma × StretchesAreInOrder (transfer_of a) (peer_transfer_of b)
+dte_order Unused Free ma ia mb ib u v h = (none_begins ia mb h.3, none_begins ib ma h.5, fresh_order)
+dte_order Unused (Calling q) ma ia mb ib u v h = (none_begins ia mb h.3, none_begins ib ma h.4, fresh_order)
+dte_order Unused other ma ia mb ib u v h = absurd h
+dte_order (Waiting p) Free ma ia mb ib u v h = (none_begins ia mb h.2, none_begins ib ma h.4, fresh_order)
+dte_order (Waiting p) (Calling q) ma ia mb ib u v h = (none_begins ia mb h.2, none_begins ib ma h.3, fresh_order)
+dte_order (Waiting p) (Called q) ma ia mb ib u v h = (none_begins ia mb h.2, all_begins ib ma h.3, fresh_order)
+dte_order (Waiting p) (Collided q) ma ia mb ib u v h = absurd h
+dte_order (Waiting p) (InData t k y) ma ia mb ib u v h =
+    let some = CallAccepted-some p t k (λ w. PeerTalks k t fresh_transfer [] w t k y) mb v h.1 in
+    (none_begins ia mb h.2, all_begins ib ma h.3, talks_order k t fresh_transfer [] some.0 t k y some.1)
+dte_order (Crossed p) Free ma ia mb ib u v h = absurd h
+dte_order (Crossed p) (Calling q) ma ia mb ib u v h = (none_begins ia mb h.2, none_begins ib ma h.3, fresh_order)
+dte_order (Crossed p) (Called q) ma ia mb ib u v h = (none_begins ia mb h.2, all_begins ib ma h.3, fresh_order)
+dte_order (Crossed p) (Collided q) ma ia mb ib u v h = absurd h
+dte_order (Crossed p) (InData t k y) ma ia mb ib u v h =
+    let some = Accepted-some p t k (λ w. PeerTalks k t fresh_transfer [] w t k y) v h.1 in
+    (none_begins ia mb h.2, all_begins ib ma h.3, talks_order k t fresh_transfer [] some.0 t k y some.1)
+dte_order (Offered p) (Calling q) ma ia mb ib u v h = (all_begins ia mb h.2, none_begins ib ma h.3, fresh_order)
+dte_order (Offered p) other ma ia mb ib u v h = absurd h
+dte_order (Talking t k x) (Calling q) ma ia mb ib u v h =
+    let some = Accepted-some q t k (λ w. PeerTalks t k x w [] k t fresh_peer_transfer) u h.0 in
+    (all_begins ia mb h.2, none_begins ib ma h.3, talks_order t k x some.0 [] k t fresh_peer_transfer some.1)
+dte_order (Talking t k x) (InData t₂ k₂ y) ma ia mb ib u v (talk, inl e) = (none_begins ia mb e.0, all_begins ib ma e.1, talks_order t k x u v t₂ k₂ y talk)
+dte_order (Talking t k x) (InData t₂ k₂ y) ma ia mb ib u v (talk, inr e) = (all_begins ia mb e.0, none_begins ib ma e.1, talks_order t k x u v t₂ k₂ y talk)
+dte_order (Talking t k x) other ma ia mb ib u v h = absurd h
+
+dce_order : (a : Stage (At PeerStretch)) (b : Phase) (ma ia mb ib : List CallRequest) (u v : List Packet) → JointOf TalksPeer fresh_peer_transfer fresh_transfer a (stage_of b) ma ia mb ib u v
+    → IsPrefix ib ma × IsPrefix ia mb × StretchesAreInOrder (transfer_of b) (peer_transfer_of a)
+dce_order Free Unused ma ia mb ib u v h = (none_begins ib ma h.5, none_begins ia mb h.3, fresh_order)
+dce_order Free (Waiting q) ma ia mb ib u v h = (none_begins ib ma h.4, none_begins ia mb h.3, fresh_order)
+dce_order Free other ma ia mb ib u v h = absurd h
+dce_order (Calling p) Unused ma ia mb ib u v h = (none_begins ib ma h.4, none_begins ia mb h.2, fresh_order)
+dce_order (Calling p) (Waiting q) ma ia mb ib u v h = (none_begins ib ma h.3, none_begins ia mb h.2, fresh_order)
+dce_order (Calling p) (Offered q) ma ia mb ib u v h = (all_begins ib ma h.3, none_begins ia mb h.2, fresh_order)
+dce_order (Calling p) (Crossed q) ma ia mb ib u v h = absurd h
+dce_order (Calling p) (Talking t k x) ma ia mb ib u v h =
+    let some = CallAccepted-some p t k (λ w. TalksPeer k t fresh_peer_transfer [] w t k x) mb v h.1 in
+    (all_begins ib ma h.3, none_begins ia mb h.2, talks_order t k x some.0 [] k t fresh_peer_transfer some.1)
+dce_order (Collided p) Unused ma ia mb ib u v h = absurd h
+dce_order (Collided p) (Waiting q) ma ia mb ib u v h = (none_begins ib ma h.3, none_begins ia mb h.2, fresh_order)
+dce_order (Collided p) (Offered q) ma ia mb ib u v h = (all_begins ib ma h.3, none_begins ia mb h.2, fresh_order)
+dce_order (Collided p) (Crossed q) ma ia mb ib u v h = absurd h
+dce_order (Collided p) (Talking t k x) ma ia mb ib u v h =
+    let some = Accepted-some p t k (λ w. TalksPeer k t fresh_peer_transfer [] w t k x) v h.1 in
+    (all_begins ib ma h.3, none_begins ia mb h.2, talks_order t k x some.0 [] k t fresh_peer_transfer some.1)
+dce_order (Called p) (Waiting q) ma ia mb ib u v h = (none_begins ib ma h.3, all_begins ia mb h.2, fresh_order)
+dce_order (Called p) other ma ia mb ib u v h = absurd h
+dce_order (InData t k y) (Waiting q) ma ia mb ib u v h =
+    let some = Accepted-some q t k (λ w. TalksPeer t k y w [] k t fresh_transfer) u h.0 in
+    (none_begins ib ma h.3, all_begins ia mb h.2, talks_order k t fresh_transfer [] some.0 t k y some.1)
+dce_order (InData t k y) (Talking t₂ k₂ x) ma ia mb ib u v (talk, inl e) = (all_begins ib ma e.1, none_begins ia mb e.0, talks_order t₂ k₂ x v u t k y talk)
+dce_order (InData t k y) (Talking t₂ k₂ x) ma ia mb ib u v (talk, inr e) = (none_begins ib ma e.1, all_begins ia mb e.0, talks_order t₂ k₂ x v u t k y talk)
+dce_order (InData t k y) other ma ia mb ib u v h = absurd h
+
+call_order : (r : Role) (x : Connection) (u v : List Packet) (y : PeerCall) → PeerSeen r x u v y → CallIsInOrder x y
+call_order Dte x u v y h = let o = dte_order x.phase y.stage x.made x.indicated y.made y.indicated u v h in record { up = o.0; there = o.1; stretches = o.2 }
+call_order Dce x u v y h = let o = dce_order y.stage x.phase y.made y.indicated x.made x.indicated v u h in record { up = o.0; there = o.1; stretches = o.2 }
+
+pub channel_order : (r : Role) (x : At Connection) (L K : List Packet) (y : At PeerCall) → PeerChannelRelated r x L K y → ChannelIsInOrder x y
+channel_order r x L K y h = in_epochs (peer_call_level r) CallIsInOrder (call_order r) x L K y h.hand

@@ -1,0 +1,5 @@
+use Rattle.x25_handshakes.proofs.PeerRuns.{keeps_stretches, finds_no_error}
+use Rattle.x25_handshakes.proofs.law.any_peer_keeps_stretches.Goals as goal
+
+pub returns : goal.returns
+returns c = record { quiet = finds_no_error; order = keeps_stretches }

@@ -1,0 +1,91 @@
+-- A packet layer of ours and any peer, over lines that keep order, from the link's set-up on, as long as it is up.
+use Rattle.std.specs.Prelude.{◌≡◌, ℕ, List, [], ◌∷◌, ◌++◌, Option, None, false, ◌==◌}
+use Rattle.x25_handshakes.specs.laws.Handshake.{Live, At}
+use Rattle.x25_bits.specs.declared.role.Role.{Role}
+use Rattle.x25_bits.specs.declared.role.Role.TheVariants.{Dte, Dce}
+use Rattle.x25_handshakes.specs.laws.Stretch.{Packet, Clear}
+use Rattle.x25_handshakes.specs.laws.Layers.{LayerPacket, On, Restart, Channels, all_fresh, LayerStep}
+use Rattle.x25_handshakes.specs.laws.Layers.{restarting, layer_takes, LayerAct, layer_acts, first_error}
+use Rattle.x25_handshakes.specs.laws.PeerLayer.{PeerChannels, peer_fresh, peer_ready, LayerDeed, MayDoLayer, does_layer}
+use Rattle.x25_handshakes.specs.laws.PeerLayer.{layer_packet_of, PeerLayerStep, layer_taking, ready_taking}
+
+abbrev pub other_role : Role → Role
+other_role Dte = Dce
+other_role Dce = Dte
+
+-- The error of procedure that a circuit finds as it takes this packet. A CLEAR is none: in p1 it is confirmed too, and
+-- the mark that a circuit makes of it says that another circuit of ours never sends it there.
+abbrev pub found : Packet → Option ℕ → Option ℕ
+found Clear e = None
+found p e = e
+
+abbrev pub layer_found : LayerPacket → Option ℕ → Option ℕ
+layer_found (On h p) e = found p e
+layer_found p e = e
+
+-- Our layer, the peer, the packets on the way from our layer and to it, front first, and the number of the first error
+-- of procedure that our layer found, if there was one.
+pub record JoinedLayers : Type 0 where
+  pub near : At Channels
+  pub peer : At PeerChannels
+  pub out : List LayerPacket
+  pub back : List LayerPacket
+  pub error : Option ℕ
+
+-- the link was just set up, and our layer has sent RESTART (profile); the peer need not
+abbrev pub start : JoinedLayers
+start = record {
+  near = restarting 0 all_fresh;
+  peer = peer_ready 0 peer_fresh;
+  out = Restart ∷ [];
+  back = [];
+  error = None;
+}
+
+abbrev pub near_stepped : JoinedLayers → List LayerPacket → LayerStep → Option ℕ → JoinedLayers
+near_stepped w back s e = record {
+  near = s.next;
+  peer = w.peer;
+  out = w.out ++ s.out;
+  back = back;
+  error = first_error w.error e;
+}
+
+abbrev pub peer_stepped : JoinedLayers → List LayerPacket → PeerLayerStep → JoinedLayers
+peer_stepped w out s = record w { peer = s.next; out = out; back = w.back ++ s.out }
+
+-- no RESTART, no confirmation of one, and no packet of this channel
+abbrev pub IsElsewhere : ℕ → LayerPacket → Type 0
+IsElsewhere h (On k p) = (h == k) ≡ false
+IsElsewhere h other = ⊥
+
+abbrev pub AreElsewhere : ℕ → List LayerPacket → Type 0
+AreElsewhere h [] = Unit {0}
+AreElsewhere h (p ∷ ps) = IsElsewhere h p × AreElsewhere h ps
+
+-- What may happen next, where our layer has this role.
+pub data Happens (r : Role) (w : JoinedLayers) : JoinedLayers → Type 0 where
+  -- our layer acts by its definition: a call of the user, or a pull
+  Acts : (act : LayerAct)
+      → Happens r w (near_stepped w w.back (layer_acts w.near act) (layer_acts w.near act).error)
+  -- it takes the packet in front
+  Takes : (p : LayerPacket) (rest : List LayerPacket) → w.back ≡ p ∷ rest
+      → Happens r w (near_stepped w rest (layer_takes r w.near p) (layer_found p (layer_takes r w.near p).error))
+  -- the peer sends a packet
+  Does : (deed : LayerDeed) → MayDoLayer w.peer.side deed
+      → Happens r w (record w {
+        peer = does_layer w.peer.epoch w.peer.side deed;
+        back = w.back ++ layer_packet_of w.peer.side deed ∷ [];
+      })
+  -- it takes the packet in front
+  Hears : (p : LayerPacket) (rest : List LayerPacket) → w.out ≡ p ∷ rest
+      → Happens r w (peer_stepped w rest (layer_taking (other_role r) w.peer.epoch w.peer.side p))
+  -- it takes the first packet of a channel before those of other channels that stand in front of it
+  HearsChannel : (y : PeerChannels) (h : ℕ) (passed : List LayerPacket) (p : Packet) (rest : List LayerPacket)
+      → w.peer.side ≡ Live y → AreElsewhere h passed → w.out ≡ passed ++ On h p ∷ rest
+      → Happens r w (peer_stepped w (passed ++ rest) (ready_taking (other_role r) w.peer.epoch y (On h p)))
+
+-- what is reached, event by event
+pub data IsReached (r : Role) : JoinedLayers → Type 0 where
+  at_start : IsReached r start
+  goes_on : (w v : JoinedLayers) → IsReached r w → Happens r w v → IsReached r v

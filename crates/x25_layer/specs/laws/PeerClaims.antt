@@ -1,0 +1,69 @@
+-- What holds of a layer and any peer, after all that happens.
+use Rattle.std.specs.Prelude.{◌≡◌, ℕ, List, [], length, Bool, true}
+use Rattle.x25_bits.specs.declared.role.Role.{Role}
+use Rattle.x25_circuit.specs.Circuit.{Circuit, is_open}
+use Rattle.x25_circuit.specs.Message.{carried}
+use Rattle.x25_handshakes.specs.laws.Handshake.{At, state_of}
+use Rattle.x25_handshakes.specs.laws.Names.{Name}
+use Rattle.x25_handshakes.specs.laws.Histories.{IsPrefix}
+use Rattle.x25_handshakes.specs.laws.PeerStretch.{PeerStretch}
+use Rattle.x25_handshakes.specs.laws.PeerCalls.{PeerCall}
+use Rattle.x25_handshakes.specs.laws.PeerLayer.{PeerChannels}
+use Rattle.x25_handshakes.specs.laws.PeerClaims.{peer_transfer_of}
+use Rattle.x25_layer.specs.laws.Transcript.{Entry, under, calls_in, messages_in, interrupts_in, name_of}
+use Rattle.x25_layer.specs.laws.Law.{IsQuietEnd}
+use Rattle.x25_layer.specs.laws.PeerJoined.{Joined, IsReached}
+
+abbrev pub WithAnyPeer : (ℕ → Joined → Type 0) → Type 0
+WithAnyPeer Holds =
+    (r : Role) (long_data : Bool) (channels : ℕ) (w : Joined) → IsReached r long_data channels w → Holds channels w
+
+-- a peer's call on a channel, its stretch, and the name of that by its own counts
+abbrev pub peer_call : At PeerChannels → ℕ → PeerCall
+peer_call y k = state_of (state_of y.side k).side
+
+abbrev pub peer_stretch : At PeerChannels → ℕ → PeerStretch
+peer_stretch y k = state_of (peer_transfer_of (peer_call y k).stage).side
+
+abbrev pub peer_name : At PeerChannels → ℕ → Name
+peer_name y k = record {
+  restarts = y.epoch;
+  clears = (state_of y.side k).epoch;
+  resets = (peer_transfer_of (peer_call y k).stage).epoch;
+}
+
+-- calls stand before the first reset
+abbrev pub of_call : Name → Name
+of_call m = record m { resets = 0 }
+
+-- Under this name of a channel, of which c is our circuit: what our layer's user was told is a beginning of what the
+-- peer's packets carry, and what the peer took is a beginning of what that user handed down. It is all of them where
+-- all is acknowledged to the peer (`all`), and where our circuit is open and all of its packets went and are
+-- acknowledged (`all_there`).
+pub record StretchIsInOrder (k : ℕ) (m : Name) (entries : List Entry) (c : Circuit) (y : PeerStretch) : Type 0 where
+  pub up : IsPrefix (messages_in (under k m entries)).up (carried y.sent)
+  pub there : IsPrefix (carried y.taken) (messages_in (under k m entries)).down
+  pub all : y.acked ≡ length y.sent → (messages_in (under k m entries)).up ≡ carried y.sent
+  pub all_there : is_open c ≡ true → c.talk.rest ≡ [] → c.talk.acked ≡ length c.talk.sent
+      → carried y.taken ≡ (messages_in (under k m entries)).down
+  pub int_up : IsPrefix (interrupts_in (under k m entries)).up y.int_down
+  pub int_there : IsPrefix y.int_up (interrupts_in (under k m entries)).down
+
+pub record CallIsInOrder (k : ℕ) (m : Name) (entries : List Entry) (y : PeerCall) : Type 0 where
+  pub up : IsPrefix (calls_in (under k (of_call m) entries)).up y.made
+  pub there : IsPrefix y.indicated (calls_in (under k (of_call m) entries)).down
+
+-- Where both ends count alike: of a call where that is so of restarts and clears, and of a stretch where it is so of
+-- resets too.
+pub record IsInOrder (k : ℕ) (w : Joined) : Type 0 where
+  pub calls : of_call (name_of w.near.layer k) ≡ of_call (peer_name w.peer k)
+      → CallIsInOrder k (name_of w.near.layer k) w.near.entries (peer_call w.peer k)
+  pub stretch : name_of w.near.layer k ≡ peer_name w.peer k
+      → StretchIsInOrder k (name_of w.near.layer k) w.near.entries (w.near.layer.circuits k) (peer_stretch w.peer k)
+
+abbrev pub IsAllInOrder : ℕ → Joined → Type 0
+IsAllInOrder channels w = (k : ℕ) → IsInOrder k w
+
+-- our layer neither sends the peer an error of procedure nor tells its user of one
+abbrev pub FindsNoError : ℕ → Joined → Type 0
+FindsNoError channels w = IsQuietEnd channels w.near

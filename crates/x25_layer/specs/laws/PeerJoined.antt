@@ -1,0 +1,86 @@
+-- A layer over a link that keeps order, and any peer that keeps the rules of `PeerLayer` and those below it
+-- (docs/PEER.md), from the link's set-up on, as long as it is up.
+use Rattle.std.specs.Prelude.{◌≡◌, ℕ, List, [], ◌∷◌, ◌++◌, Bool, true}
+use Rattle.x25_bits.specs.declared.role.Role.{Role}
+use Rattle.x25_packet.specs.Packet.{PlainPacket}
+use Rattle.x25_packet.specs.Spelling.{channel_of, HasChannel}
+use Rattle.x25_handshakes.specs.laws.Handshake.{Live, At}
+use Rattle.x25_handshakes.specs.laws.Layers.{On}
+use Rattle.x25_handshakes.specs.laws.PeerLayer.{PeerChannels, peer_fresh, peer_ready, LayerDeed, MayDoLayer, does_layer}
+use Rattle.x25_handshakes.specs.laws.PeerLayer.{layer_packet_of, PeerLayerStep, layer_taking, ready_taking}
+use Rattle.x25_handshakes.specs.laws.PeerLayers.{other_role, AreElsewhere}
+use Rattle.x25_layer.specs.Layer.{is_channel, goes_up}
+use Rattle.x25_layer.specs.laws.Bare.{bare, bare_layer, bare_layers}
+use Rattle.x25_layer.specs.laws.TwoLayers.{End, TwoLayers, Move, GoesDown, moves, started}
+use Rattle.x25_layer.specs.laws.TwoLayers.{settings_of}
+
+-- The end of our layer, the peer, and the packets in flight from our layer and to it.
+pub record Joined : Type 0 where
+  pub near : End
+  pub peer : At PeerChannels
+  pub out : List PlainPacket
+  pub back : List PlainPacket
+
+-- the link has come up, and our layer has sent its RESTART
+abbrev pub start : Role → Bool → ℕ → Joined
+start r long_data channels =
+    let near = started (goes_up (settings_of r long_data channels)) in
+    record { near = near; peer = peer_ready 0 peer_fresh; out = near.given; back = [] }
+
+-- our layer's end, as two layers have it: a move of the near end changes nothing of the far one
+abbrev pub our_end : Joined → TwoLayers
+our_end w = record { near = w.near; far = w.near; out = w.out; back = w.back }
+
+abbrev pub with_peer : At PeerChannels → TwoLayers → Joined
+with_peer y v = record { near = v.near; peer = y; out = v.out; back = v.back }
+
+-- a packet is of a channel that our layer has, or of none
+abbrev pub IsConfigured : ℕ → PlainPacket → Type 0
+IsConfigured channels p = HasChannel p → is_channel channels (channel_of p) ≡ true
+
+abbrev pub AreConfigured : ℕ → List PlainPacket → Type 0
+AreConfigured channels [] = Unit {0}
+AreConfigured channels (p ∷ ps) = IsConfigured channels p × AreConfigured channels ps
+
+-- the peer goes on to this, with these packets, as its step has it
+pub record Answers (channels : ℕ) (packets : List PlainPacket) (s : PeerLayerStep) : Type 0 where
+  pub are : bare_layers packets ≡ s.out
+  pub configured : AreConfigured channels packets
+
+abbrev pub peer_stepped : Joined → List PlainPacket → List PlainPacket → PeerLayerStep → Joined
+peer_stepped w out packets s = record w { peer = s.next; out = out; back = w.back ++ packets }
+
+abbrev pub StaysUp : Move → Type 0
+StaysUp GoesDown = ⊥
+StaysUp other = Unit {0}
+
+-- What may happen next. Causes, diagnostics, addresses and user data of what the peer sends are free.
+pub data Happens (r : Role) (long_data : Bool) (channels : ℕ) (w : Joined) : Joined → Type 0 where
+  -- our layer acts, by the definition that it meets call by call: a call of the user, a pull, a packet handed up
+  Ours : (move : Move) → StaysUp move
+      → Happens r long_data channels w (with_peer w.peer (moves (settings_of r long_data channels) (our_end w) move))
+  -- the peer sends a packet
+  Does : (deed : LayerDeed) (p : PlainPacket) → MayDoLayer w.peer.side deed
+      → bare_layer p ≡ layer_packet_of w.peer.side deed → IsConfigured channels p
+      → Happens r long_data channels w (record w {
+        peer = does_layer w.peer.epoch w.peer.side deed;
+        back = w.back ++ p ∷ [];
+      })
+  -- it takes the packet in front
+  Hears : (p : PlainPacket) (rest packets : List PlainPacket) → w.out ≡ p ∷ rest
+      → Answers channels packets (layer_taking (other_role r) w.peer.epoch w.peer.side (bare_layer p))
+      → Happens r long_data channels w
+      (peer_stepped w rest packets (layer_taking (other_role r) w.peer.epoch w.peer.side (bare_layer p)))
+  -- it takes the first packet of a channel before those of other channels that stand in front of it
+  HearsChannel : (y : PeerChannels) (passed : List PlainPacket) (p : PlainPacket) (rest packets : List PlainPacket)
+      → w.peer.side ≡ Live y → HasChannel p → AreElsewhere (channel_of p) (bare_layers passed)
+      → w.out ≡ passed ++ p ∷ rest
+      → Answers channels packets (ready_taking (other_role r) w.peer.epoch y (On (channel_of p) (bare p)))
+      → Happens r long_data channels w (peer_stepped w (passed ++ rest) packets
+      (ready_taking (other_role r) w.peer.epoch y (On (channel_of p) (bare p))))
+
+-- what is reached, event by event
+pub data IsReached (r : Role) (long_data : Bool) (channels : ℕ) : Joined → Type 0 where
+  at_start : IsReached r long_data channels (start r long_data channels)
+  goes_on : (w v : Joined) → IsReached r long_data channels w → Happens r long_data channels w v
+      → IsReached r long_data channels v
