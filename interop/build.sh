@@ -29,7 +29,7 @@ if [ ! -e version ] || [ "$(cat version)" != "$version" ]; then
     make -s -C "$headers" M="$dir/build/x25" modules
     make -s -C "$headers" M="$dir/build/lapbether" KBUILD_EXTRA_SYMBOLS="$dir/build/x25/Module.symvers" modules
     kernel=image/lib/modules/$version/kernel
-    cp $kernel/drivers/net/ethernet/intel/e1000/e1000.ko $kernel/net/lapb/lapb.ko build/x25/x25.ko build/lapbether/lapbether.ko modules/
+    cp $kernel/drivers/net/ethernet/intel/e1000/e1000.ko $kernel/drivers/net/tun.ko $kernel/net/lapb/lapb.ko build/x25/x25.ko build/lapbether/lapbether.ko modules/
     strip -g modules/*.ko
     cp "image/boot/vmlinuz-$version" vmlinuz
     rm -rf image source build linux-image-*.deb
@@ -39,7 +39,7 @@ fi
 # The guest's files. Modules are loaded in this order.
 rm -rf root
 mkdir -p root/m
-for it in e1000 lapb x25 lapbether; do
+for it in e1000 tun lapb x25 lapbether; do
     cp "modules/$it.ko" root/m/
     echo "/m/$it.ko" >>root/modules
 done

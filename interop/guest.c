@@ -3,6 +3,7 @@
  *
  *   link                      takes eth0 and lapb0 up, and makes a route to lapb0 for all addresses: "linked"
  *   down                      takes lapb0 down: "down"
+ *   tun                       the same with x25tun, a device of tun, whose packets go to and come from Ethernet as lapbether's frames do: "linked"
  *   facilities IN OUT WIN WOUT  the packet sizes (log 2) and windows of the sockets that follow; 0 0 0 0 sets none: "set"
  *   echo 0|1                  whether circuits that are opened from now on send back what they take: "set"
  *   qbit 0|1                  whether their messages begin with an octet that is the Q bit: "set"
@@ -16,11 +17,16 @@
  * Of what comes: "message SLOT len=N", "interrupt SLOT OCTET", "closed SLOT ..". What fails: "@ ..".
  */
 #define _GNU_SOURCE
+#include <arpa/inet.h>
 #include <errno.h>
 #include <fcntl.h>
+#include <linux/if_ether.h>
+#include <linux/if_packet.h>
+#include <linux/if_tun.h>
 #include <linux/sockios.h>
 #include <linux/x25.h>
 #include <net/if.h>
+#include <net/if_arp.h>
 #include <poll.h>
 #include <pthread.h>
 #include <stdio.h>
@@ -37,6 +43,10 @@
 
 #define MOST_CIRCUITS 256
 #define MOST_OCTETS 200000
+#define MOST_FRAME 1514
+/* What stands before a frame in Ethernet as lapbether has it, and before one of a tun device. */
+#define HEADER 16
+#define FRONT sizeof(struct tun_pi)
 
 static pthread_mutex_t console = PTHREAD_MUTEX_INITIALIZER;
 #define say(...) do { \
@@ -79,13 +89,62 @@ static void set_up(const char *name, int is_up) {
     close(fd);
 }
 
-static void make_route(void) {
+static void make_route(const char *name) {
     struct x25_route_struct route;
     int fd = x25_socket();
     memset(&route, 0, sizeof route);
-    strcpy(route.device, "lapb0");
+    strcpy(route.device, name);
     if (ioctl(fd, SIOCADDRT, &route)) failed("route");
     close(fd);
+}
+
+static int tun, ether;
+
+/* What the kernel sends by its device: an octet that says what it is, then a packet. */
+static void *from_tun(void *unused) {
+    unsigned char octets[MOST_FRAME] = {255, 255, 255, 255, 255, 255, 2, 0, 0, 0, 0, 1, 0x60, 0}, front[HEADER];
+    memcpy(front, octets, HEADER);
+    for (;;) {
+        ssize_t count = read(tun, octets + HEADER - FRONT, MOST_FRAME - HEADER + FRONT) - FRONT;
+        if (count < 1) continue;
+        memcpy(octets, front, HEADER);
+        octets[HEADER - 2] = count & 255;
+        octets[HEADER - 1] = count >> 8;
+        if (send(ether, octets, HEADER + count, 0) < 0) failed("eth0");
+    }
+    return unused;
+}
+
+static void *to_tun(void *unused) {
+    unsigned char octets[MOST_FRAME];
+    for (;;) {
+        ssize_t count = recv(ether, octets, sizeof octets, 0);
+        size_t length = octets[HEADER - 2] | octets[HEADER - 1] << 8;
+        struct tun_pi front = {0, htons(ETH_P_X25)};
+        if (count < HEADER || length > (size_t)count - HEADER || (octets[6] == 2 && octets[11] == 1)) continue;
+        memcpy(octets + HEADER - FRONT, &front, FRONT);
+        if (write(tun, octets + HEADER - FRONT, FRONT + length) < 0) failed("x25tun");
+    }
+    return unused;
+}
+
+static void set_up_tun(void) {
+    struct ifreq request;
+    struct sockaddr_ll place = {.sll_family = AF_PACKET, .sll_protocol = htons(0x6000)};
+    pthread_t thread;
+    memset(&request, 0, sizeof request);
+    strcpy(request.ifr_name, "x25tun");
+    request.ifr_flags = IFF_TUN;
+    tun = open("/dev/net/tun", O_RDWR);
+    if (tun < 0 || ioctl(tun, TUNSETIFF, &request) || ioctl(tun, TUNSETLINK, ARPHRD_X25)) failed("tun");
+    set_up("x25tun", 1);
+    set_up("eth0", 1);
+    ether = socket(AF_PACKET, SOCK_RAW, htons(0x6000));
+    place.sll_ifindex = if_nametoindex("eth0");
+    if (ether < 0 || bind(ether, (void *)&place, sizeof place)) failed("eth0");
+    pthread_create(&thread, 0, from_tun, 0);
+    pthread_create(&thread, 0, to_tun, 0);
+    make_route("x25tun");
 }
 
 /* What each socket has before it listens or calls. */
@@ -223,7 +282,8 @@ static void send_interrupt(int slot, int octet) {
 
 /* A line of the console, cut into words; those that are missing are empty. */
 static void obey(char **word) {
-    if (!strcmp(word[0], "link")) { set_up("eth0", 1); usleep(200000); set_up("lapb0", 1); usleep(100000); make_route(); say("linked"); }
+    if (!strcmp(word[0], "link")) { set_up("eth0", 1); usleep(200000); set_up("lapb0", 1); usleep(100000); make_route("lapb0"); say("linked"); }
+    else if (!strcmp(word[0], "tun")) { set_up_tun(); say("linked"); }
     else if (!strcmp(word[0], "down")) { set_up("lapb0", 0); say("down"); }
     else if (!strcmp(word[0], "facilities")) { for (int i = 0; i < 4; i++) sizes[i] = atoi(word[i + 1]); say("set"); }
     else if (!strcmp(word[0], "echo")) { is_echo = atoi(word[1]); say("set"); }

@@ -92,5 +92,5 @@ class Missing(Exception):
 def boot(folder, local, remote):
     """The command that boots the guest of the folder that build.sh made; its network is the port `local` of this host, and sends to `remote`."""
     command = ["qemu-system-x86_64", "-M", "q35", "-accel", "tcg", "-m", "256", "-nographic", "-no-reboot"]
-    command += ["-kernel", f"{folder}/vmlinuz", "-initrd", f"{folder}/initrd.gz", "-append", "console=ttyS0 quiet loglevel=1 panic=-1"]
+    command += ["-kernel", f"{folder}/vmlinuz", "-initrd", f"{folder}/initrd.gz", "-append", "console=ttyS0 quiet loglevel=1 panic=-1 no_timer_check"]
     return command + ["-netdev", NETWORK.format(local, remote), "-device", "e1000,netdev=n0", "-serial", "mon:stdio"]

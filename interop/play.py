@@ -4,8 +4,9 @@
     play.py FOLDER [--x25 PROGRAM] [--lose P ..] [--only WORD] [--show]
 
 FOLDER is the one that build.sh made. The guest is the DTE, the station the DCE, joined by tools/bridge.py over datagrams with frames
-of Ethernet. Each row is played once for each probability that a frame is lost, each way; its cells are the seconds that it took. What is played is
-told on standard error. Exit status: 0, or 1 where a row failed.
+of Ethernet. Each row is played once for each probability that a frame is lost, each way, and once over XOT, for which the guest has a
+device of tun and this host gateway.py; its cells are the seconds that it took. What is played is told on standard error. Exit status: 0,
+or 1 where a row failed.
 """
 
 import argparse
@@ -14,10 +15,13 @@ import re
 import sys
 import time
 
+from gateway import Gateway
 from kernel import Missing, Talker, boot
 
 ROOT = os.path.dirname(os.path.dirname(os.path.abspath(__file__)))
 PORTS = 5610, 5611
+# Where the gateway and the bridge wait for connections of XOT; the column of it.
+XOT_PORTS, XOT = (5612, 5613), "XOT"
 # The kernel's T1 is of 5 seconds, and nothing changes that.
 T1 = 1.5
 SIZES = (1, 2, 100, 127, 128, 129, 255, 256, 257, 1000, 5000, 10_000)
@@ -37,10 +41,14 @@ class Joined:
 
     def __init__(self, guest, options, lose):
         self.guest, self._options, self.lose = guest, options, lose
-        self.patience = 900 if lose else 120
+        self.patience = 900 if lose not in (0, XOT) else 120
         self.trace = os.path.join(options.folder, f"trace-{lose}")
-        words = ["dce", "--udp", f"{PORTS[1]}:{PORTS[0]}", "--t1", str(T1), "--n2", "60", "--channels", str(CHANNELS), "--short-accept"]
-        words += ["--lose", str(lose), "--seed", str(options.seed), "--trace", self.trace, "--stats", "--stay", "--x25", options.x25]
+        words = ["dce", "--t1", str(T1), "--n2", "60", "--channels", str(CHANNELS), "--trace", self.trace, "--stats", "--stay", "--x25", options.x25]
+        if lose == XOT:
+            words += ["--xot", f"127.0.0.1:{XOT_PORTS[0]}", "--xot-listen", str(XOT_PORTS[1])]
+            self.gateway = Gateway(PORTS[1], PORTS[0], *XOT_PORTS)
+        else:
+            words += ["--udp", f"{PORTS[1]}:{PORTS[0]}", "--short-accept", "--lose", str(lose), "--seed", str(options.seed)]
         self.ours = Talker("station", [sys.executable, "-u", os.path.join(ROOT, "tools", "bridge.py"), *words], options.show)
 
     def ask(self, command, answer):
@@ -74,6 +82,11 @@ class Joined:
 def set_up(it):
     """link set-up and restart"""
     since = it.ours.mark()
+    if it.lose == XOT:
+        it.order("tun", "linked")
+        it.gateway.begin()
+        it.ours.hear(0, "dce restarted", it.patience)
+        return
     it.order("link", "linked")
     if not any(line.startswith("dce linkup") for line in it.ours.said[since:]):
         it.ours.tell("dce connect")
@@ -222,9 +235,9 @@ def again(it):
     clear(it, channel, slot)
 
 
-ROWS = (set_up, called, negotiated, calls, messages, at_once, q_bit, interrupts, resets, again)
-# Played where no frame is lost alone.
-LAST_ROWS = (too_long,)
+ROWS = (set_up, called, negotiated, calls, messages, at_once, q_bit, interrupts, resets)
+# Played where there is a link that may end, and where no frame of it is lost alone.
+LINK_ROWS, LAST_ROWS = (again,), (too_long,)
 
 
 def played(row, it):
@@ -272,16 +285,24 @@ def prepare(guest):
 def play(it, options):
     """Plays all rows with one probability; answers their cells, by the rows' names."""
     cells = {}
-    for row in ROWS + (LAST_ROWS if not it.lose else ()):
+    for row in ROWS + (LINK_ROWS if it.lose != XOT else ()) + (LAST_ROWS if not it.lose else ()):
         if row is set_up or not options.only or options.only in row.__name__:
             passed, cells[row.__doc__] = played(row, it)
-            print(f"{it.lose:.0%}: {row.__doc__}: {cells[row.__doc__]}", file=sys.stderr, flush=True)
+            print(f"{column(it.lose)}: {row.__doc__}: {cells[row.__doc__]}", file=sys.stderr, flush=True)
             if row is set_up and not passed:
                 break
+    if it.lose == XOT:
+        it.ours.stop()
+        return cells
     it.guest.tell("down")
     time.sleep(2)
     it.ours.stop()
     return {**cells, **dict(zip(COUNTED, counted(it)))}
+
+
+def column(lose):
+    """The name of a column."""
+    return XOT if lose == XOT else f"{100 * lose:.0f}"
 
 
 def run(options):
@@ -289,14 +310,14 @@ def run(options):
     guest = Talker("kernel", boot(options.folder, *PORTS), options.show)
     try:
         prepare(guest)
-        columns = [play(Joined(guest, options, lose), options) for lose in options.lose]
+        columns = [play(Joined(guest, options, lose), options) for lose in [*options.lose, XOT]]
         guest.tell("quit")
         guest.end(20)
     finally:
         guest.end(0)
-    print("| Row | " + " | ".join(f"{100 * lose:.0f}" for lose in options.lose) + " |")
+    print("| Row | " + " | ".join(map(column, [*options.lose, XOT])) + " |")
     print("|---" * (1 + len(columns)) + "|")
-    for name in [row.__doc__ for row in ROWS + LAST_ROWS] + list(COUNTED):
+    for name in [row.__doc__ for row in ROWS + LINK_ROWS + LAST_ROWS] + list(COUNTED):
         print(f"| {name} | " + " | ".join(cells.get(name, "not played") for cells in columns) + " |")
     return not any("FAILED" in cell for cells in columns for cell in cells.values())
 
@@ -305,7 +326,7 @@ def main():
     parser = argparse.ArgumentParser(description=__doc__, formatter_class=argparse.RawDescriptionHelpFormatter)
     parser.add_argument("folder")
     parser.add_argument("--x25", default=os.path.join(ROOT, "build", "x25"), metavar="PROGRAM", help="the program (build/x25)")
-    parser.add_argument("--lose", type=float, nargs="+", default=[0, 0.05, 0.2], metavar="P", help="probabilities (0 0.05 0.2)")
+    parser.add_argument("--lose", type=float, nargs="*", default=[0, 0.05, 0.2], metavar="P", help="probabilities (0 0.05 0.2)")
     parser.add_argument("--seed", type=int, default=1, metavar="N", help="what the losses come from (1)")
     parser.add_argument("--only", metavar="WORD", help="the rows whose functions' names have this word")
     parser.add_argument("--show", action="store_true", help="show all that both ends say")

@@ -337,11 +337,33 @@ class Joined(ToolCase):
         """How much memory the bridge has, in kilobytes."""
         return int(re.search(r"VmRSS:\s*(\d+)", support.read(f"/proc/{self.child.pid}/status").decode())[1])
 
+    def test_a_client_that_does_not_read(self):
+        """Commands wait while a megabyte and what the system holds stands unsent; they go on once it is read."""
+        count = 1500
+        frame = sealed(bytes(4000)).hex()
+        answer = f"= dte send 1 0 41\n> {frame}\n. off busy\n"
+        self.begin(". off busy\n" + count * answer, "--stay", user=count * b"dte send 1 0 41\n")
+        waiting = 0
+        while waiting != len(self.asked(1)):
+            waiting = len(self.asked())
+            time.sleep(0.3)
+        self.assertLess(waiting, count)
+        self.assertLess(self.memory(), 60_000)
+        for _ in range(count):
+            self.assertEqual(self.gets(), f"> {frame}")
+        self.assertEqual(len(self.asked(count)), count)
+        self.child.terminate()
+        self.assertEqual(self.end()[0], 143)
+
     def test_two_bridges_on_one_port(self):
         self.begin(". off idle\n", "--stay")
-        host, number = self.place
-        done = support.run("bridge.py", "dce", "--listen", f"{host}:{number}", "--x25", self.program)
-        self.assert_refused(done, f"{host}:{number}: Address already in use")
+        place = "{}:{}".format(*self.place)
+        with socket.socket(socket.AF_INET, socket.SOCK_DGRAM) as taken:
+            taken.bind(("127.0.0.1", 0))
+            port = taken.getsockname()[1]
+            for words, named in ((["--listen", place], place), (["--xot-listen", place], place), (["--udp", f"{port}:1"], f"127.0.0.1:{port}")):
+                done = support.run("bridge.py", "dce", *words, "--x25", self.program)
+                self.assert_refused(done, f"{named}: Address already in use")
         self.child.terminate()
         self.end()
 

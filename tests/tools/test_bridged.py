@@ -46,6 +46,11 @@ class Two(ToolCase):
     def begin(self, end, *words, prefix=()):
         command = [*prefix, sys.executable, os.path.join(support.TOOLS, "bridge.py"), end, "--x25", support.PROGRAM, *words]
         child = subprocess.Popen(command, stdin=subprocess.PIPE, stdout=subprocess.PIPE, stderr=subprocess.PIPE, text=True)
+        # Whoever waits in vain for a notice comes to the end of them.
+        timer = threading.Timer(SECONDS, child.kill)
+        timer.daemon = True
+        timer.start()
+        self.addCleanup(timer.cancel)
         self.addCleanup(child.kill)
         return child
 
@@ -210,6 +215,31 @@ class Two(ToolCase):
         self.hears(dte, "dte linkdown")
         self.open_call(dte, again)
         self.finish(dte, again)
+
+    def test_the_bridge_that_listens_is_killed(self):
+        """.. with a call, without a link, with a link alone, with messages under way: the other one meets the next."""
+        dte, dce, words = self.joined("--t3", "1")
+        port = words[words.index("--connect") + 1]
+        for stage in range(4):
+            with self.subTest(stage):
+                if stage == 2:
+                    self.asks(dte, "dte connect", "wait dte restarted")
+                    self.hears(dte, "dte restarted")
+                elif stage == 3:
+                    self.open_call(dte, dce)
+                    self.asks(dce, *[f"dce send 1 0 {message('dce', number)}" for number in range(200)])
+                    self.hears(dte, "dte message")
+                self.finish(dce)
+                dce = self.begin("dce", "--listen", port, "--stay", "--t1", "0.3", "--n2", "5")
+                dce.stderr.readline()
+                self.hears(dte, "# the connection has ended")
+                if stage == 2:
+                    # Without a circuit nothing asks whether the other end is there; a call does.
+                    self.asks(dte, CALL)
+                if stage != 1:
+                    self.hears(dte, "dte linkdown")
+        self.open_call(dte, dce)
+        self.finish(dte, dce)
 
     def test_a_station_is_killed(self):
         dte, dce, _ = self.joined()

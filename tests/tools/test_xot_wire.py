@@ -1,5 +1,6 @@
 """Tests of XOT in bridge.py: what a wire makes of packets without the program, and circuits of bridges with it."""
 
+import contextlib
 import os
 import re
 import shutil
@@ -158,6 +159,24 @@ class Circuits(ToolCase):
         line.sendall(samples.xot(b"\x10\0\xfb\0\0"))
         self.hears(child, "# the connection of channel 1 has ended: it brought 1000fb0000, which isn't of one circuit")
         self.hears(child, "dce cleared ch=1 cause=9 diag=0")
+
+    def test_a_thousand_connections(self):
+        """.. that bring no CALL, and ten million octets of something else; then a call comes, and a signal ends all."""
+        child, port = self.listening()
+        for _ in range(1000):
+            self.client(port).close()
+        line = self.client(port)
+        with contextlib.suppress(ConnectionResetError, BrokenPipeError):
+            line.sendall(b"a" * 10_000_000)
+        line = self.client(port)
+        line.sendall(samples.xot(CALL))
+        self.hears(child, "dce incoming ch=1")
+        self.asks(child, "dce accept 1")
+        self.assertEqual(self.takes(line), ACCEPT)
+        self.assertLess(int(re.search(r"VmRSS:\s*(\d+)", support.read(f"/proc/{child.pid}/status").decode())[1]), 40_000)
+        child.terminate()
+        self.assertEqual((self.takes(line), child.wait(SECONDS)), (b"", 143))
+        self.assertEqual(child.stdout.read().splitlines()[-1], "dce linkdown local")
 
     def test_one_who_is_called(self):
         with socket.create_server(("127.0.0.1", 0)) as server:
