@@ -8,7 +8,6 @@ use Rattle.x25_packet.specs.Reading.{channel_in, packet_of}
 use Rattle.x25_packet.specs.Spelling.{longest_user}
 use Rattle.x25_packet.specs.declared.error.PacketError.{PacketError}
 use Rattle.x25_packet_judge.specs.Layer as layer
-use Rattle.x25_packet_judge.specs.PacketRule.{first}
 use Rattle.x25_packet_judge.specs.Packets.{sends}
 use Rattle.x25_packet_judge.specs.Pair.{is_known, noted, unknown}
 use Rattle.x25_packet_judge.specs.Port.{all_alike, blank, fresh}
@@ -88,11 +87,12 @@ abbrev pub put_by : Role → ℕ → Pair → Option PacketRule → Book → See
 put_by from channel p rule b = if is_known p || is_some rule then told (puts from channel p b) rule else blind from channel p b
 
 abbrev pub took : Role → Layers → ℕ → Pair → Book → Seen
-took from t channel p b = put_by from channel p (first t.rule p.rule) (keeps from t b)
+took from t channel p b = put_by from channel p p.rule (keeps from t b)
 
 unfoldable pub takes_on : Role → Layers → ℕ → PlainPacket → Book → Seen
 takes_on from t channel packet b =
-    if not (layer.are_sure t) then blind from channel (pair_of from (layer.are_level t) channel b) (keeps from t b)
+    if is_some t.rule then told (keeps from t b) t.rule
+    else if not (layer.are_sure t) then blind from channel (pair_of from (layer.are_level t) channel b) (keeps from t b)
     else took from t channel (sends packet (pair_of from (layer.are_level t) channel b)) b
 
 -- where no restart and confirmation went before, nothing is known of the end's channels
@@ -106,11 +106,24 @@ runs from channel packet b =
 unfoldable pub restarts : Role → Layers → Book → Seen
 restarts from t b = told (keeps from t (fills from fresh b)) t.rule
 
+-- all channels of both ends do
+abbrev pub refinds : Role → Layers → Book → Seen
+refinds from t b = quiet (keeps from (layer.refinds t) (fills_both fresh b))
+
+-- .. behind a fault of restarts
+abbrev pub confirms_lost : Role → Layers → Book → Seen
+confirms_lost from t b = if layer.is_sure_answer t then refinds from t b else quiet (keeps from (layer.confirms_lost t) b)
+
+-- .. and else, of a RESTART that was seen
+abbrev pub answers : Role → Layers → Book → Seen
+answers from t b = if layer.are_counted t then restarts from (layer.answers_restart t) b else refinds from t b
+
 -- A confirmation of none that was seen, or again of one that was sent again: of the channels of its sender nothing is known, and of the other
 -- end's what was followed.
 unfoldable pub confirms : Role → Layers → Book → Seen
 confirms from t b =
-    if layer.is_answer t then restarts from (layer.answers_restart t) b
+    if layer.are_lost t then confirms_lost from t b
+    else if layer.is_answer t then answers from t b
     else if layer.is_second_answer t then quiet (keeps from (layer.confirms_again t) (fills from blank b))
     else if layer.are_sure t then told (keeps from (layer.confirms_unseen t) (fills from blank b)) (layer.confirms_unseen t).rule
     else told (keeps from (layer.confirms_unseen t) (fills_both blank b)) (layer.confirms_unseen t).rule

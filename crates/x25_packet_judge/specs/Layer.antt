@@ -42,6 +42,8 @@ unknown asked = record {
   again = 0;
   is_sure = true;
   is_counted = false;
+  is_lost = false;
+  is_stray = false;
 }
 
 abbrev pub unseen : Layer
@@ -60,6 +62,8 @@ begun asked = record {
   again = 0;
   is_sure = true;
   is_counted = true;
+  is_lost = false;
+  is_stray = false;
 }
 
 -- packets are followed from an N(R) of the other end on: it has taken none from there on
@@ -75,6 +79,8 @@ found_at number l = record {
   again = 0;
   is_sure = true;
   is_counted = false;
+  is_lost = false;
+  is_stray = false;
 }
 
 -- not all packets were seen
@@ -131,7 +137,26 @@ abbrev pub confirmed_again : Layer → Layer
 confirmed_again l = record l { again = l.again - 1 }
 
 abbrev pub found : Restart → Layer → Layer
-found restart l = record l { restart = restart; owed = 0; is_sure = true; is_counted = true }
+found restart l = record l { restart = restart; owed = 0; is_sure = true; is_counted = true; is_lost = false; is_stray = false }
+
+-- Behind a fault nothing is known, but how many RESTARTs of the other end it may still confirm, and whether an answer to its own may be on its
+-- way, which the other end has sent where `is_answered`.
+abbrev pub given_up : Bool → Layer → Layer
+given_up is_answered l = record l {
+  restart = Ready;
+  owed = min (l.owed + l.again) 255;
+  again = 0;
+  is_sure = false;
+  is_counted = false;
+  is_lost = true;
+  is_stray = is_asking l.restart && is_answered;
+}
+
+abbrev pub owing_less : Layer → Layer
+owing_less l = record l { owed = l.owed - 1 }
+
+abbrev pub strayed : Layer → Layer
+strayed l = record l { is_stray = true }
 
 -- ---- both ends
 
@@ -240,6 +265,16 @@ goes_to restart t = with_own (with_restart restart t.own) t
 abbrev pub marks : Restart → Layers → Layers
 marks restart t = with_own (restarted restart t.own) (with_other (owing (t.own.owed == 0) t.other) t)
 
+abbrev pub are_lost : Layers → Bool
+are_lost t = t.own.is_lost || t.other.is_lost
+
+abbrev pub give_up : Layers → Layers
+give_up t = with_other (given_up (t.own.owed == 0) t.other) (with_own (given_up (t.other.owed == 0) t.own) t)
+
+-- of one that answers none
+abbrev pub strays : Layers → Layers
+strays t = with_other (strayed t.other) t
+
 abbrev pub asks_again : Layers → Layers
 asks_again t = with_other (asked_again t.other) t
 
@@ -250,7 +285,8 @@ is_awaiting t = is_asking t.own.restart && (are_counted t && nat_lt 0 t.other.ow
 -- said of channels until it is confirmed.
 abbrev pub restarts : Layers → Layers
 restarts t =
-    if not (are_counted t) then goes_to Asking (are_unsure (asks_again t))
+    if are_lost t then goes_to Asking (with_other (owing true t.other) t)
+    else if not (are_counted t) then goes_to Asking (are_unsure (asks_again t))
     else if is_awaiting t then asks_again t
     else marks Asking t
 
@@ -265,13 +301,24 @@ is_answer t = if are_counted t then nat_lt 0 t.own.owed else is_asking t.other.r
 abbrev pub is_second_answer : Layers → Bool
 is_second_answer t = are_counted t && nat_lt 0 t.own.again
 
--- .. and behind packets that were missed makes both ends known
+-- Behind packets that were missed, or a fault, a confirmation makes both ends known.
+abbrev pub refinds : Layers → Layers
+refinds t = with_other (found Asking t.other) (with_own (found Ready t.own) t)
+
 abbrev pub answers_restart : Layers → Layers
-answers_restart t = if are_counted t then marks Ready t else with_other (found Asking t.other) (with_own (found Ready t.own) t)
+answers_restart t = marks Ready t
 
 -- Else it answers a RESTART that wasn't seen, or none.
 abbrev pub confirms_unseen : Layers → Layers
-confirms_unseen t = if are_counted t then opens (tells RestartUnasked t) else opens t
+confirms_unseen t = if are_counted t then strays (give_up (tells RestartUnasked t)) else opens t
+
+-- Behind a fault it does where the RESTART that was sent last is the only one that may be confirmed, and no other answer to it may be on its
+-- way.
+abbrev pub is_sure_answer : Layers → Bool
+is_sure_answer t = (is_asking t.other.restart && t.own.owed == 1) && (t.other.owed == 0 && not t.other.is_stray)
+
+abbrev pub confirms_lost : Layers → Layers
+confirms_lost t = goes_to Ready (with_other (strayed (with_restart Ready t.other)) (with_own (owing_less t.own) t))
 
 abbrev pub confirms_again : Layers → Layers
 confirms_again t = opens (with_own (confirmed_again t.own) t)
@@ -284,7 +331,7 @@ is_begun Ready = false
 -- A packet of a channel. Where no restart went before, or its confirmation didn't, nothing is said of restarts.
 abbrev pub runs : Layers → Layers
 runs t =
-    if is_awaiting t then are_uncounted (goes_to Ready (tells RestartAwaited t))
+    if is_awaiting t then give_up (tells RestartAwaited t)
     else if is_begun t.own.restart then are_uncounted (goes_to Ready t)
     else goes_to Ready t
 

@@ -10,3 +10,4 @@ pub mod Talking
 pub mod Packets
 pub mod Layer
 pub mod Book
+pub mod code

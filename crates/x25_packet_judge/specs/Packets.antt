@@ -1,7 +1,7 @@
 -- Both ends of a logical channel, and any packet of it. ITU-T X.25 (10/96), sections 4.1, 4.3 and 4.4.
 use Rattle.std.specs.Prelude.{Bool, true, false, not, ◌&&◌, length, if◌then◌else◌}
 use Rattle.x25_packet.specs.Packet.{PlainPacket, call, accept, clear, clear_conf, user_data, rr, rnr, interrupt, interrupt_conf, reset, reset_conf, restart, restart_conf}
-use Rattle.x25_packet_judge.specs.Pair.{with_own, breaks, is_known, clears, confirms_clear, starts, starts_early, is_awaiting, settles, finds, finds_call, clears_unknown, calls_unknown, calls, accepts, may_talk}
+use Rattle.x25_packet_judge.specs.Pair.{with_own, breaks, is_known, clears, confirms_clear, starts, starts_early, is_awaiting, settles, finds, finds_call, hastens, clears_unknown, calls_unknown, calls, accepts, may_talk}
 use Rattle.x25_packet_judge.specs.Port as port
 use Rattle.x25_packet_judge.specs.Talking.{resets, confirms_reset, goes_on, hears, sends_data, interrupts, confirms_interrupt}
 use Rattle.x25_packet_judge.specs.Terms.{said, usual}
@@ -44,11 +44,11 @@ is_clearing packet = false
 unfoldable pub sends_unknown : PlainPacket → Pair → Pair
 sends_unknown (clear channel cause diagnostic) t = clears_unknown t
 sends_unknown (clear_conf channel) t = finds t
-sends_unknown (call channel called calling facilities user) t = calls_unknown (said facilities usual) t
+sends_unknown (call channel called calling facilities user) t = calls_unknown (said facilities usual) (hastens t)
 sends_unknown (accept channel facilities) t = finds_call facilities t
 sends_unknown (restart cause diagnostic) t = t
 sends_unknown restart_conf t = t
-sends_unknown packet t = settles t
+sends_unknown packet t = settles (hastens t)
 
 -- The first end sends a packet of the channel. One that goes before the confirmation of a CLEAR leaves open where the channel stands.
 unfoldable pub sends : PlainPacket → Pair → Pair

@@ -1,6 +1,6 @@
 -- Both ends of a logical channel: setting up and clearing, and the rules on them. ITU-T X.25 (10/96), section 4.1; what is
 -- said behind a fault is profile.
-use Rattle.std.specs.Prelude.{ℕ, ◌==◌, nat_lt, Bool, true, false, not, ◌&&◌, if◌then◌else◌, List, Option, Some}
+use Rattle.std.specs.Prelude.{ℕ, ◌==◌, nat_lt, Bool, true, false, not, ◌&&◌, ◌||◌, if◌then◌else◌, List, Option, Some}
 use Rattle.x25_bits.specs.declared.role.Role.{Role}
 use Rattle.x25_bits.specs.declared.role.Role.TheVariants.{Dte, Dce}
 use Rattle.x25_packet_judge.specs.PacketRule.{first}
@@ -32,12 +32,15 @@ tells rule t = record t { rule = first t.rule rule }
 abbrev pub unknown : Pair → Pair
 unknown t = with_other (port.unknown t.other) (with_own (port.unknown t.own) t)
 
+-- .. behind a fault, which leaves open where the ends stand
+abbrev pub doubts : Pair → Pair
+doubts t = with_other (port.doubtful (t.own.owed == 0) t.other) (with_own (port.doubtful (t.other.owed == 0) t.own) t)
+
 abbrev pub noted : Pair → Pair
 noted t = with_other (port.noted t.other) (with_own (port.noted t.own) t)
 
--- a rule is broken that leaves open where the call stands
 abbrev pub breaks : PacketRule → Pair → Pair
-breaks rule t = unknown (tells (Some rule) t)
+breaks rule t = doubts (tells (Some rule) t)
 
 abbrev pub is_known : Pair → Bool
 is_known t = t.own.is_known && t.other.is_known
@@ -66,12 +69,12 @@ marks is_clearing t = keeps_former (is_clearing && is_together t) t.own.talk
 abbrev pub is_awaiting : Pair → Bool
 is_awaiting t = t.own.is_clearing && nat_lt 0 t.other.owed
 
--- One that is repeated while it waits leaves open what its confirmations answer.
-abbrev pub clears : Pair → Pair
-clears t = if is_awaiting t then unknown t else marks true t
+-- A confirmation of none may be taken for the answer to a CLEAR that the other end sends later.
+abbrev pub strays : Bool → Pair → Pair
+strays is_stray t = with_other (port.strayed is_stray t.other) t
 
 abbrev pub confirms_clear : Pair → Pair
-confirms_clear t = if nat_lt 0 t.own.owed then marks false t else tells (Some ClearUnasked) t
+confirms_clear t = if nat_lt 0 t.own.owed then marks false t else strays true (breaks ClearUnasked t)
 
 abbrev pub starts : Pair → Pair
 starts t = with_own (port.clearing false t.own) t
@@ -82,8 +85,24 @@ starts_early t = breaks ClearAwaited t
 
 -- ---- where nothing is known
 
+-- what the other end may take
+abbrev pub reaching : Port → Pair → Pair
+reaching other t = if t.reaches then with_other other t else t
+
+-- `owed` is the most CLEARs of the other end that an end may still confirm. A CLEAR that may be the answer to one waits for none.
 abbrev pub clears_unknown : Pair → Pair
-clears_unknown t = with_own (port.clears_unknown t.own) t
+clears_unknown t = reaching (port.clearing false (port.owing_clear true t.other)) (with_own (port.clears_unknown (t.own.owed == 0) t.own) t)
+
+-- One that is repeated while it waits leaves open what its confirmations answer.
+abbrev pub clears : Pair → Pair
+clears t = if is_awaiting t then clears_unknown (unknown t) else marks true t
+
+abbrev pub is_doubtful : Pair → Bool
+is_doubtful t = t.own.is_doubtful || t.other.is_doubtful
+
+-- what an end sends behind its CLEAR or CALL, before the other end sent anything that may answer it
+abbrev pub hastens : Pair → Pair
+hastens t = if t.own.is_clearing || port.is_calling t.own.call then with_own (port.doubted t.own) t else t
 
 abbrev pub calls_unknown : Terms → Pair → Pair
 calls_unknown terms t = with_own (port.calls_unknown terms t.own) t
@@ -91,16 +110,26 @@ calls_unknown terms t = with_own (port.calls_unknown terms t.own) t
 abbrev pub settles : Pair → Pair
 settles t = with_own (port.settled t.own) t
 
--- CLEAR CONFIRMATION behind a CLEAR makes the channel known
+-- The CLEAR that was sent last is the only one that may be confirmed, and no other answer to it may be on its way.
+abbrev pub is_sure_answer : Pair → Bool
+is_sure_answer t = (t.other.is_clearing && t.own.owed == 1) && (t.other.owed == 0 && not t.other.is_stray)
+
+abbrev pub confirms_unknown : Pair → Pair
+confirms_unknown t = reaching (port.strayed (is_doubtful t) (port.clearing false t.other)) (with_own (port.owing_less (port.settled t.own)) t)
+
+-- its confirmation makes the channel known
 abbrev pub finds : Pair → Pair
-finds t = if t.other.is_clearing then with_other (port.found t.other) (with_own port.fresh t) else settles t
+finds t = if is_sure_answer t then with_other (port.found t.other) (with_own port.fresh t) else confirms_unknown t
 
 abbrev pub is_up : Terms → Pair → Pair
 is_up terms t = with_other (port.set_up Answered false terms port.fresh) (with_own (port.set_up Open true terms port.fresh) t)
 
--- .. and so does CALL ACCEPTED behind a CALL, where not both ends called
+-- .. and so does CALL ACCEPTED behind a CALL, where not both ends called, and no fault left open which CALL it is
+abbrev pub may_find_call : Pair → Bool
+may_find_call t = port.is_calling t.other.call && (not (port.is_calling t.own.call) && not (is_doubtful t))
+
 abbrev pub finds_call : List ℕ → Pair → Pair
-finds_call field t = if port.is_calling t.other.call && not (port.is_calling t.own.call) then is_up (said field t.other.terms) t else settles t
+finds_call field t = if may_find_call t then is_up (said field t.other.terms) t else settles t
 
 -- ---- setting up (sections 4.1.2 to 4.1.6)
 

@@ -1,5 +1,5 @@
 -- One end of a logical channel, as what it sent shows it. ITU-T X.25 (10/96), sections 4.1, 4.3 and 4.4; what is kept is profile.
-use Rattle.std.specs.Prelude.{ℕ, ◌+◌, ◌-◌, Bool, true, false, if◌then◌else◌, min, List, replicate}
+use Rattle.std.specs.Prelude.{ℕ, ◌+◌, ◌-◌, Bool, true, false, ◌&&◌, ◌||◌, if◌then◌else◌, min, List, replicate}
 use Rattle.x25_packet_judge.specs.Flow as flow
 use Rattle.x25_packet_judge.specs.Message.{octets_of}
 use Rattle.x25_packet_judge.specs.Terms.{usual}
@@ -61,6 +61,8 @@ no_former = record { is_known = false; flow = flow.fresh; is_interrupting = fals
 abbrev pub idle : Bool → Bool → ℕ → Port
 idle is_known is_clearing owed = record {
   is_known = is_known;
+  is_doubtful = false;
+  is_stray = false;
   is_noted = false;
   is_clearing = is_clearing;
   owed = owed;
@@ -88,9 +90,26 @@ noted p = record p { is_noted = true }
 abbrev pub unknown : Port → Port
 unknown p = record p { is_known = false; is_clearing = false; call = Idle }
 
+-- .. behind a fault, by whether the other end has answered its CLEAR: then that answer may still be on its way
+abbrev pub doubtful : Bool → Port → Port
+doubtful is_answered p = record p {
+  is_known = false;
+  is_doubtful = true;
+  is_stray = p.is_stray || (p.is_clearing && is_answered);
+  is_clearing = false;
+  call = Idle;
+}
+
+abbrev pub doubted : Port → Port
+doubted p = record p { is_doubtful = true }
+
+-- a CLEAR CONFIRMATION that none of its CLEARs waits for may be on its way
+abbrev pub strayed : Bool → Port → Port
+strayed is_stray p = record p { is_stray = p.is_stray || is_stray }
+
 -- CLEAR and CALL, where nothing is known
-abbrev pub clears_unknown : Port → Port
-clears_unknown p = idle p.is_known true 0
+abbrev pub clears_unknown : Bool → Port → Port
+clears_unknown is_clearing p = record p { is_clearing = is_clearing; call = Idle }
 
 abbrev pub calls_unknown : Terms → Port → Port
 calls_unknown terms p = record p { is_clearing = false; call = Calling; terms = terms }
@@ -112,6 +131,10 @@ found p = idle true p.is_clearing 0
 
 abbrev pub owing_clear : Bool → Port → Port
 owing_clear is_more p = record p { owed = more is_more p.owed }
+
+-- it has confirmed one more, where nothing is known
+abbrev pub owing_less : Port → Port
+owing_less p = record p { owed = p.owed - 1 }
 
 abbrev pub clearing : Bool → Port → Port
 clearing is_clearing p = record p { is_clearing = is_clearing }

@@ -3,7 +3,7 @@
 use Rattle.std.specs.Prelude.{ℕ, ◌==◌, nat_lt, Bool, true, false, ◌&&◌, if◌then◌else◌, Some}
 use Rattle.x25_packet_judge.specs.Flow.{heard, sent}
 use Rattle.x25_packet_judge.specs.Message.{after, broken}
-use Rattle.x25_packet_judge.specs.Pair.{with_own, with_other, tells, unknown, is_matched, is_together, keeps_former}
+use Rattle.x25_packet_judge.specs.Pair.{with_own, with_other, tells, breaks, unknown, is_matched, is_together, keeps_former}
 use Rattle.x25_packet_judge.specs.Port as port
 use Rattle.x25_packet_judge.specs.declared.flow.FlowTold.{FlowTold}
 use Rattle.x25_packet_judge.specs.declared.packet_rule.PacketRule.TheVariants.{ResetAwaited, ResetUnasked, InterruptAgain, InterruptUnasked}
@@ -28,7 +28,7 @@ abbrev pub resets : Pair → Pair
 resets t = if t.own.talk.is_resetting && nat_lt 0 t.other.talk.owed then unknown t else marks_reset true t
 
 abbrev pub confirms_reset : Pair → Pair
-confirms_reset t = if nat_lt 0 t.own.talk.owed then marks_reset false t else tells (Some ResetUnasked) t
+confirms_reset t = if nat_lt 0 t.own.talk.owed then marks_reset false t else breaks ResetUnasked t
 
 -- nothing else is sent until RESET is confirmed
 abbrev pub goes_on : Pair → Pair
@@ -70,11 +70,11 @@ sends_data m q ps pr size t = carries m q size (numbers ps (hears pr (goes_on t)
 
 abbrev pub interrupts : Pair → Pair
 interrupts t = if t.own.talk.is_interrupting
-    then tells (Some InterruptAgain) (with_own_talk (port.interrupting true t.own.talk) t)
+    then breaks InterruptAgain t
     else with_own_talk (port.interrupting true t.own.talk) t
 
 abbrev pub confirms_interrupt : Pair → Pair
 confirms_interrupt t =
-    if is_together t then (if t.other.talk.is_interrupting then with_other_talk (port.interrupting false t.other.talk) t else tells (Some InterruptUnasked) t)
-    else if t.other.former.is_known then (if t.other.former.is_interrupting then with_other (port.confirmed_former t.other) t else tells (Some InterruptUnasked) t)
+    if is_together t then (if t.other.talk.is_interrupting then with_other_talk (port.interrupting false t.other.talk) t else breaks InterruptUnasked t)
+    else if t.other.former.is_known then (if t.other.former.is_interrupting then with_other (port.confirmed_former t.other) t else breaks InterruptUnasked t)
     else t

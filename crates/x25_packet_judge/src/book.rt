@@ -5,7 +5,7 @@ ghost use Rattle.x25_packet.specs.Packet.{plain};
 ghost use Rattle.x25_packet_judge.specs.Book as definition;
 
 use crate::layer::{Layer, Layers};
-use crate::packet_rule::{PacketRule, first};
+use crate::packet_rule::PacketRule;
 use crate::pair::Pair;
 use crate::port::Port;
 use crate::ports::Ports;
@@ -189,11 +189,14 @@ impl Book {
         ensures rule { result.rule ≡ (definition.takes_on from layers channel (plain packet.now) self.old).rule }
         ensures unjudged { result.unjudged ≡ (definition.takes_on from layers channel (plain packet.now) self.old).unjudged }
     {
-        let pair = self.pair(from, layers.are_level(), channel);
         self.keep(from, layers);
+        if layers.rule.is_some() {
+            return told(layers.rule);
+        }
+        let pair = self.pair(from, layers.are_level(), channel);
         if layers.are_sure() {
             let next = pair.sends(packet);
-            self.put_by(from, channel, next, first(layers.rule, next.rule))
+            self.put_by(from, channel, next, next.rule)
         } else {
             self.blind(from, channel, pair)
         }
@@ -227,6 +230,39 @@ impl Book {
         told(layers.rule)
     }
 
+    /// A confirmation that makes both ends known.
+    fn refinds(&mut self, from: Role, layers: Layers)
+        ensures { self.new ≡ (definition.refinds from layers self.old).book }
+    {
+        self.fill_both(Port::fresh());
+        self.keep(from, layers.refinds());
+    }
+
+    /// .. behind a fault of restarts.
+    fn confirms_lost(&mut self, from: Role, layers: Layers)
+        ensures { self.new ≡ (definition.confirms_lost from layers self.old).book }
+    {
+        if layers.is_sure_answer() {
+            self.refinds(from, layers);
+        } else {
+            self.keep(from, layers.confirms_lost());
+        }
+    }
+
+    /// .. and else, of a RESTART that was seen.
+    fn answers(&mut self, from: Role, layers: Layers) -> Verdict
+        ensures book { self.new ≡ (definition.answers from layers self.old).book }
+        ensures rule { result.rule ≡ (definition.answers from layers self.old).rule }
+        ensures unjudged { result.unjudged ≡ (definition.answers from layers self.old).unjudged }
+    {
+        if layers.are_counted() {
+            self.restarts(from, layers.answers_restart())
+        } else {
+            self.refinds(from, layers);
+            told(None)
+        }
+    }
+
     /// A confirmation of a RESTART.
     #[tactic(auto, unfolding(crate::specs::Book::confirms))]
     fn confirms(&mut self, from: Role, layers: Layers) -> Verdict
@@ -234,8 +270,12 @@ impl Book {
         ensures rule { result.rule ≡ (definition.confirms from layers self.old).rule }
         ensures unjudged { result.unjudged ≡ (definition.confirms from layers self.old).unjudged }
     {
+        if layers.are_lost() {
+            self.confirms_lost(from, layers);
+            return told(None);
+        }
         if layers.is_answer() {
-            return self.restarts(from, layers.answers_restart());
+            return self.answers(from, layers);
         }
         if layers.is_second_answer() {
             self.fill(from, Port::blank());

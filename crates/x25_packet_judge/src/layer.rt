@@ -34,7 +34,7 @@ pub(crate) struct Layer {
     /// How many SABMs and DISCs of the other end may still be answered.
     pub(crate) asked: u8,
     pub(crate) restart: Restart,
-    /// How many RESTARTs and confirmations the other end has sent more than this one.
+    /// How many RESTARTs and confirmations the other end has sent more than this one; behind a fault, how many RESTARTs it may still confirm.
     pub(crate) owed: u8,
     /// How many RESTARTs of the other end were sent again while they waited, and may be confirmed once more.
     pub(crate) again: u8,
@@ -42,6 +42,10 @@ pub(crate) struct Layer {
     pub(crate) is_sure: bool,
     /// Whether anything may be said of its restarts.
     pub(crate) is_counted: bool,
+    /// A fault left open where it is with restarts.
+    pub(crate) is_lost: bool,
+    /// .. and a confirmation that none of its RESTARTs waits for may be on its way to it.
+    pub(crate) is_stray: bool,
 }
 
 /// The end that sends and the other end, and the rule that a packet breaks.
@@ -68,6 +72,8 @@ impl Layer {
             again: 0,
             is_sure: true,
             is_counted: false,
+            is_lost: false,
+            is_stray: false,
         }
     }
 
@@ -93,6 +99,8 @@ impl Layer {
             again: 0,
             is_sure: true,
             is_counted: true,
+            is_lost: false,
+            is_stray: false,
         }
     }
 
@@ -111,6 +119,8 @@ impl Layer {
             again: 0,
             is_sure: true,
             is_counted: false,
+            is_lost: false,
+            is_stray: false,
         }
     }
 
@@ -299,6 +309,42 @@ impl Layer {
             owed: 0,
             is_sure: true,
             is_counted: true,
+            is_lost: false,
+            is_stray: false,
+            ..self
+        }
+    }
+
+    /// A fault left open where it is; the other end has answered its RESTART where `is_answered`.
+    fn given_up(self, is_answered: bool) -> Layer
+        ensures { result ≡ definition.given_up is_answered self }
+    {
+        Layer {
+            restart: Restart::Ready,
+            owed: self.owed.saturating_add(self.again),
+            again: 0,
+            is_sure: false,
+            is_counted: false,
+            is_lost: true,
+            is_stray: self.is_asking() && is_answered,
+            ..self
+        }
+    }
+
+    fn owing_less(self) -> Layer
+        ensures { result ≡ definition.owing_less self }
+    {
+        Layer {
+            owed: self.owed.saturating_sub(1),
+            ..self
+        }
+    }
+
+    fn strayed(self) -> Layer
+        ensures { result ≡ definition.strayed self }
+    {
+        Layer {
+            is_stray: true,
             ..self
         }
     }
@@ -482,7 +528,7 @@ impl Layers {
         self.own.is_sure && self.other.is_sure
     }
 
-    fn are_counted(self) -> bool
+    pub(crate) fn are_counted(self) -> bool
         ensures { result ≡ definition.are_counted self }
     {
         self.own.is_counted && self.other.is_counted
@@ -523,6 +569,26 @@ impl Layers {
             .with_own(self.own.restarted(restart))
     }
 
+    pub(crate) fn are_lost(self) -> bool
+        ensures { result ≡ definition.are_lost self }
+    {
+        self.own.is_lost || self.other.is_lost
+    }
+
+    fn give_up(self) -> Layers
+        ensures { result ≡ definition.give_up self }
+    {
+        self.with_own(self.own.given_up(self.other.owed == 0))
+            .with_other(self.other.given_up(self.own.owed == 0))
+    }
+
+    /// A confirmation may be on its way to the other end that none of its RESTARTs waits for.
+    fn strays(self) -> Layers
+        ensures { result ≡ definition.strays self }
+    {
+        self.with_other(self.other.strayed())
+    }
+
     fn asks_again(self) -> Layers
         ensures { result ≡ definition.asks_again self }
     {
@@ -539,7 +605,10 @@ impl Layers {
     pub(crate) fn restarts(self) -> Layers
         ensures { result ≡ definition.restarts self }
     {
-        if !self.are_counted() {
+        if self.are_lost() {
+            self.with_other(self.other.owing(true))
+                .goes_to(Restart::Asking)
+        } else if !self.are_counted() {
             self.asks_again().unsure().goes_to(Restart::Asking)
         } else if self.is_awaiting() {
             self.asks_again()
@@ -573,16 +642,36 @@ impl Layers {
         self.are_counted() && 0 < self.own.again
     }
 
-    /// .. and behind packets that were missed makes both ends known.
     pub(crate) fn answers_restart(self) -> Layers
         ensures { result ≡ definition.answers_restart self }
     {
-        if self.are_counted() {
-            self.marks(Restart::Ready)
-        } else {
-            self.with_own(self.own.found(Restart::Ready))
-                .with_other(self.other.found(Restart::Asking))
-        }
+        self.marks(Restart::Ready)
+    }
+
+    /// Behind packets that were missed, or a fault, a confirmation makes both ends known.
+    pub(crate) fn refinds(self) -> Layers
+        ensures { result ≡ definition.refinds self }
+    {
+        self.with_own(self.own.found(Restart::Ready))
+            .with_other(self.other.found(Restart::Asking))
+    }
+
+    /// Whether behind a fault a confirmation answers the RESTART that was sent last, and nothing else can be the answer to it.
+    pub(crate) fn is_sure_answer(self) -> bool
+        ensures { result ≡ definition.is_sure_answer self }
+    {
+        (self.other.is_asking() && self.own.owed == 1)
+            && (self.other.owed == 0 && !self.other.is_stray)
+    }
+
+    /// .. and else leaves open where they are.
+    pub(crate) fn confirms_lost(self) -> Layers
+        ensures { result ≡ definition.confirms_lost self }
+    {
+        let other = self.other.with_restart(Restart::Ready).strayed();
+        self.with_own(self.own.owing_less())
+            .with_other(other)
+            .goes_to(Restart::Ready)
     }
 
     /// Else it answers a RESTART that wasn't seen, or none.
@@ -590,7 +679,7 @@ impl Layers {
         ensures { result ≡ definition.confirms_unseen self }
     {
         if self.are_counted() {
-            self.tells(PacketRule::RestartUnasked).opens()
+            self.tells(PacketRule::RestartUnasked).give_up().strays()
         } else {
             self.opens()
         }
@@ -621,9 +710,7 @@ impl Layers {
         ensures { result ≡ definition.runs self }
     {
         if self.is_awaiting() {
-            self.tells(PacketRule::RestartAwaited)
-                .goes_to(Restart::Ready)
-                .uncounted()
+            self.tells(PacketRule::RestartAwaited).give_up()
         } else if self.is_begun() {
             self.goes_to(Restart::Ready).uncounted()
         } else {

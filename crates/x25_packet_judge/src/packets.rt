@@ -86,7 +86,9 @@ impl Pair {
         match packet {
             Packet::Clear { .. } => self.clears_unknown(),
             Packet::ClearConf { .. } => self.finds(),
-            Packet::Call { facilities, .. } => self.calls_unknown(Terms::usual().said(facilities)),
+            Packet::Call { facilities, .. } => self
+                .hastens()
+                .calls_unknown(Terms::usual().said(facilities)),
             Packet::Accept { facilities, .. } => self.finds_call(facilities),
             Packet::Restart { .. } | Packet::RestartConf => self,
             Packet::Data { .. }
@@ -95,7 +97,7 @@ impl Pair {
             | Packet::Interrupt { .. }
             | Packet::InterruptConf { .. }
             | Packet::Reset { .. }
-            | Packet::ResetConf { .. } => self.settles(),
+            | Packet::ResetConf { .. } => self.hastens().settles(),
         }
     }
 

@@ -55,6 +55,14 @@ impl Pair {
             .with_other(self.other.unknown())
     }
 
+    /// .. behind a fault.
+    fn doubts(self) -> Pair
+        ensures { result ≡ definition.doubts self }
+    {
+        self.with_own(self.own.doubtful(self.other.owed == 0))
+            .with_other(self.other.doubtful(self.own.owed == 0))
+    }
+
     /// It was noted that nothing may be said of the channel.
     pub(crate) fn noted(self) -> Pair
         ensures { result ≡ definition.noted self }
@@ -67,7 +75,7 @@ impl Pair {
     pub(crate) fn breaks(self, rule: PacketRule) -> Pair
         ensures { result ≡ definition.breaks rule self }
     {
-        self.tells(Some(rule)).unknown()
+        self.tells(Some(rule)).doubts()
     }
 
     pub(crate) fn is_known(self) -> bool
@@ -122,10 +130,17 @@ impl Pair {
         ensures { result ≡ definition.clears self }
     {
         if self.is_awaiting() {
-            self.unknown()
+            self.unknown().clears_unknown()
         } else {
             self.marks(true)
         }
+    }
+
+    /// A confirmation may be on its way to the other end that none of its CLEARs waits for.
+    fn strays(self, is_stray: bool) -> Pair
+        ensures { result ≡ definition.strays is_stray self }
+    {
+        self.with_other(self.other.strayed(is_stray))
     }
 
     pub(crate) fn confirms_clear(self) -> Pair
@@ -134,7 +149,7 @@ impl Pair {
         if 0 < self.own.owed {
             self.marks(false)
         } else {
-            self.tells(Some(PacketRule::ClearUnasked))
+            self.breaks(PacketRule::ClearUnasked).strays(true)
         }
     }
 
@@ -153,10 +168,40 @@ impl Pair {
 
     // ---- where nothing is known
 
+    /// What the other end may take.
+    fn reaching(self, other: Port) -> Pair
+        ensures { result ≡ definition.reaching other self }
+    {
+        if self.reaches {
+            self.with_other(other)
+        } else {
+            self
+        }
+    }
+
     pub(crate) fn clears_unknown(self) -> Pair
         ensures { result ≡ definition.clears_unknown self }
     {
-        self.with_own(self.own.clears_unknown())
+        let is_waiting = self.own.owed == 0;
+        self.with_own(self.own.clears_unknown(is_waiting))
+            .reaching(self.other.owing(true).clearing(false))
+    }
+
+    fn is_doubtful(self) -> bool
+        ensures { result ≡ definition.is_doubtful self }
+    {
+        self.own.is_doubtful || self.other.is_doubtful
+    }
+
+    /// A packet behind a CLEAR or CALL of the end that nothing may have answered leaves open where the channel stands.
+    pub(crate) fn hastens(self) -> Pair
+        ensures { result ≡ definition.hastens self }
+    {
+        if self.own.is_clearing || self.own.is_calling() {
+            self.with_own(self.own.doubted())
+        } else {
+            self
+        }
     }
 
     pub(crate) fn calls_unknown(self, terms: Terms) -> Pair
@@ -171,14 +216,30 @@ impl Pair {
         self.with_own(self.own.settled())
     }
 
+    /// Whether a confirmation answers the CLEAR that was sent last, and nothing else can be the answer to it.
+    fn is_sure_answer(self) -> bool
+        ensures { result ≡ definition.is_sure_answer self }
+    {
+        (self.other.is_clearing && self.own.owed == 1)
+            && (self.other.owed == 0 && !self.other.is_stray)
+    }
+
+    fn confirms_unknown(self) -> Pair
+        ensures { result ≡ definition.confirms_unknown self }
+    {
+        let other = self.other.clearing(false).strayed(self.is_doubtful());
+        self.with_own(self.own.settled().owing_less())
+            .reaching(other)
+    }
+
     /// A confirmation of a CLEAR makes the channel known.
     pub(crate) fn finds(self) -> Pair
         ensures { result ≡ definition.finds self }
     {
-        if self.other.is_clearing {
+        if self.is_sure_answer() {
             self.with_own(Port::fresh()).with_other(self.other.found())
         } else {
-            self.settles()
+            self.confirms_unknown()
         }
     }
 
@@ -189,11 +250,18 @@ impl Pair {
             .with_other(Port::fresh().set_up(Call::Answered, false, terms))
     }
 
+    /// Whether an acceptance answers the CALL that was sent last.
+    fn may_find_call(self) -> bool
+        ensures { result ≡ definition.may_find_call self }
+    {
+        self.other.is_calling() && (!self.own.is_calling() && !self.is_doubtful())
+    }
+
     /// An acceptance of a CALL makes the channel known, where not both ends called.
     pub(crate) fn finds_call(self, field: &[u8]) -> Pair
         ensures { result ≡ definition.finds_call field.now self }
     {
-        if self.other.is_calling() && !self.own.is_calling() {
+        if self.may_find_call() {
             self.is_up(self.other.terms.said(field))
         } else {
             self.settles()

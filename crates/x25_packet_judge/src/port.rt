@@ -48,11 +48,16 @@ pub(crate) struct Former {
 pub(crate) struct Port {
     /// Whether anything may be said of it.
     pub(crate) is_known: bool,
+    /// A fault left open where it stands, since it was known last.
+    pub(crate) is_doubtful: bool,
+    /// A CLEAR CONFIRMATION that none of its CLEARs waits for may be on its way to it.
+    pub(crate) is_stray: bool,
     /// It was noted that nothing may.
     pub(crate) is_noted: bool,
     /// CLEAR was sent, and nothing behind it yet.
     pub(crate) is_clearing: bool,
-    /// How many CLEARs and confirmations the other end has sent more than this one.
+    /// How many CLEARs and confirmations the other end has sent more than this one; where nothing is known, how many CLEARs it may still
+    /// confirm.
     pub(crate) owed: u8,
     pub(crate) call: Call,
     /// What is proposed.
@@ -164,6 +169,8 @@ impl Port {
     {
         Port {
             is_known,
+            is_doubtful: false,
+            is_stray: false,
             is_noted: false,
             is_clearing,
             owed,
@@ -219,11 +226,45 @@ impl Port {
         }
     }
 
-    /// CLEAR, where nothing is known.
-    pub(crate) fn clears_unknown(self) -> Port
-        ensures { result ≡ definition.clears_unknown self }
+    /// .. behind a fault; the other end has answered its CLEAR where `is_answered`.
+    pub(crate) fn doubtful(self, is_answered: bool) -> Port
+        ensures { result ≡ definition.doubtful is_answered self }
     {
-        Port::idle(self.is_known, true, 0)
+        Port {
+            is_doubtful: true,
+            is_stray: self.is_stray || (self.is_clearing && is_answered),
+            ..self.unknown()
+        }
+    }
+
+    pub(crate) fn doubted(self) -> Port
+        ensures { result ≡ definition.doubted self }
+    {
+        Port {
+            is_doubtful: true,
+            ..self
+        }
+    }
+
+    /// A CLEAR CONFIRMATION may be on its way that none of its CLEARs waits for.
+    pub(crate) fn strayed(self, is_stray: bool) -> Port
+        ensures { result ≡ definition.strayed is_stray self }
+    {
+        Port {
+            is_stray: self.is_stray || is_stray,
+            ..self
+        }
+    }
+
+    /// CLEAR, where nothing is known.
+    pub(crate) fn clears_unknown(self, is_clearing: bool) -> Port
+        ensures { result ≡ definition.clears_unknown is_clearing self }
+    {
+        Port {
+            is_clearing,
+            call: Call::Idle,
+            ..self
+        }
     }
 
     /// CALL, where nothing is known.
@@ -268,6 +309,16 @@ impl Port {
             } else {
                 self.owed
             },
+            ..self
+        }
+    }
+
+    /// It has confirmed one more, where nothing is known.
+    pub(crate) fn owing_less(self) -> Port
+        ensures { result ≡ definition.owing_less self }
+    {
+        Port {
+            owed: self.owed.saturating_sub(1),
             ..self
         }
     }

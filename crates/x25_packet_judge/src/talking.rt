@@ -52,7 +52,7 @@ impl Pair {
         if 0 < self.own.talk.owed {
             self.marks_reset(false)
         } else {
-            self.tells(Some(PacketRule::ResetUnasked))
+            self.breaks(PacketRule::ResetUnasked)
         }
     }
 
@@ -129,18 +129,17 @@ impl Pair {
     pub(crate) fn interrupts(self) -> Pair
         ensures { result ≡ definition.interrupts self }
     {
-        let next = self.with_own_talk(self.own.talk.interrupting(true));
         if self.own.talk.is_interrupting {
-            next.tells(Some(PacketRule::InterruptAgain))
+            self.breaks(PacketRule::InterruptAgain)
         } else {
-            next
+            self.with_own_talk(self.own.talk.interrupting(true))
         }
     }
 
     pub(crate) fn confirms_interrupt(self) -> Pair
         ensures { result ≡ definition.confirms_interrupt self }
     {
-        let unasked = self.tells(Some(PacketRule::InterruptUnasked));
+        let unasked = self.breaks(PacketRule::InterruptUnasked);
         if self.is_together() {
             if self.other.talk.is_interrupting {
                 self.with_other_talk(self.other.talk.interrupting(false))
