@@ -85,7 +85,7 @@ fn half(octets: &[u8], place: usize) -> u8
 
 impl<'a> Digits<'a> {
     /// The digits in `count` half octets, from the half octet `start` on.
-    pub(crate) fn in_halves(octets: &'a [u8], start: usize, count: usize) -> Digits<'a>
+    pub fn in_halves(octets: &'a [u8], start: usize, count: usize) -> Digits<'a>
         requires short { count ≤ 15 }
         requires near { start ≤ 15 }
         requires there { start + count ≤ 2 * length octets.now }

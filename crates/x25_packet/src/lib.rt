@@ -4,7 +4,7 @@
 #![tactic(auto)]
 
 mod call;
-mod codes;
+pub mod codes;
 mod digits;
 mod error;
 mod facilities;
@@ -13,7 +13,7 @@ mod packet;
 mod reading;
 mod spelling;
 
-pub use digits::Digits;
+pub use digits::{Digits, hold_digits};
 pub use error::PacketError;
 pub use facilities::{Directions, Facilities};
 pub use law::reading_is_the_grammar;

@@ -1,5 +1,5 @@
 use std::test::Fail;
-use x25_packet::{Digits, Directions, Facilities, PacketError};
+use x25_packet::{Digits, Directions, Facilities, PacketError, hold_digits};
 
 /// A text, and how many digits it is, where it is an address.
 static TEXTS: [(&str, Option<usize>); 5] = [
@@ -33,6 +33,27 @@ fn digits_one_by_one(rt: HostRuntime) -> Result<(), Fail> {
         assert_eq!(rt; digits.get(place) as usize, 4 + place);
     }
     Ok(())
+}
+
+/// Digits, the octets that they are packed in, and whether they are packed right.
+static PACKED: [(usize, [u8; 2], bool); 4] = [
+    (3, [0x12, 0x30], true),
+    (4, [0x12, 0x30], true),
+    (3, [0x12, 0x31], false),
+    (4, [0x12, 0x3A], false),
+];
+
+#[test]
+fn digits_in_half_octets(rt: HostRuntime) {
+    for (count, octets, wanted) in PACKED {
+        let found = hold_digits(count, &octets);
+        assert_eq!(rt; found, wanted, "{octets:?}");
+        if found {
+            let digits = Digits::in_halves(&octets, 1, count - 1);
+            assert_eq!(rt; digits.len(), count - 1);
+            assert_eq!(rt; digits.get(1), 3);
+        }
+    }
 }
 
 /// Sizes of 128 and 256 octets, and windows of 2 and 3 packets.

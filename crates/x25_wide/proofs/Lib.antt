@@ -1,0 +1,3 @@
+pub mod FacilityLemmas
+pub mod FoundLaws
+pub mod AgainLaws

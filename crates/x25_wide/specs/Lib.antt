@@ -1,0 +1,4 @@
+pub mod Facilities
+pub mod Block
+pub mod Packet
+pub mod Reading

@@ -1,0 +1,107 @@
+-- The octets that spell a packet. ITU-T X.25 (10/96), section 5.
+use Rattle.std.specs.Prelude.{ℕ, ◌+◌, ◌*◌, ◌/◌, ◌%◌, ◌<◌, ◌≤◌, ◌≡◌, ◌⊎◌, ◌==◌, ◌||◌, ◌&&◌, not, Bool, true, List, [], ◌∷◌, length}
+use Rattle.std.specs.Prelude.{Option, Some, None}
+use Rattle.x25_bits.specs.Bits.{bit}
+use Rattle.x25_wide.specs.Block.{PlainFields, block_octets, optional_octets, IsBlock, MayBeBlock}
+use Rattle.x25_wide.specs.Facilities.{asks_fast_select}
+use Rattle.x25_wide.specs.Packet.{PlainKind, PlainWide, call, accept, clear, extended_clear, clear_conf, user_data, rr, rnr}
+use Rattle.x25_wide.specs.Packet.{rej, interrupt, interrupt_conf, reset, reset_conf, restart, restart_conf, diagnostic}
+use Rattle.x25_wide.specs.Packet.{registration, registration_conf}
+
+-- Table 5-2: the packet type identifier, which is the third octet. Bit 1 is 0 for DATA alone.
+abbrev pub type_of : PlainKind → ℕ
+type_of (call block) = 11
+type_of (accept block) = 15
+type_of (clear cause reason) = 19
+type_of (extended_clear cause reason block) = 19
+type_of (clear_conf block) = 23
+type_of (user_data m ps pr user) = 2 * ps + 16 * bit m + 32 * pr
+type_of (rr pr) = 1 + 32 * pr
+type_of (rnr pr) = 5 + 32 * pr
+type_of (rej pr) = 9 + 32 * pr
+type_of (interrupt user) = 35
+type_of interrupt_conf = 39
+type_of (reset cause reason) = 27
+type_of reset_conf = 31
+type_of (restart cause reason) = 251
+type_of restart_conf = 255
+type_of (diagnostic number explanation) = 241
+type_of (registration octets) = 243
+type_of (registration_conf octets) = 247
+
+-- a cause, and the diagnostic that may follow it: sections 5.2.3, 5.4.3 and 5.5.1
+abbrev pub reason_octets : ℕ → Option ℕ → List ℕ
+reason_octets cause None = cause ∷ []
+reason_octets cause (Some reason) = cause ∷ reason ∷ []
+
+-- What follows the third octet. CLEAR and its confirmation have a basic format, and an extended one with a block.
+abbrev pub body_of : PlainKind → List ℕ
+body_of (call block) = block_octets block
+body_of (accept block) = optional_octets block
+body_of (clear cause reason) = reason_octets cause reason
+body_of (extended_clear cause reason block) = cause ∷ reason ∷ block_octets block
+body_of (clear_conf block) = optional_octets block
+body_of (user_data m ps pr user) = user
+body_of (interrupt user) = user
+body_of (reset cause reason) = reason_octets cause reason
+body_of (restart cause reason) = reason_octets cause reason
+body_of (diagnostic number explanation) = number ∷ explanation
+body_of (registration octets) = octets
+body_of (registration_conf octets) = octets
+body_of _ = []
+
+-- The first octet: the general format identifier (section 5.1.1) and the channel's group. Bits 5 and 6 are 01 for
+-- sequence numbers modulo 8, bit 7 is D, bit 8 is Q.
+abbrev pub first_of : PlainWide → ℕ
+first_of w = 128 * bit w.q + 64 * bit w.d + 16 + w.channel / 256
+
+abbrev pub spelling_of : PlainWide → List ℕ
+spelling_of w = first_of w ∷ w.channel % 256 ∷ type_of w.kind ∷ body_of w.kind
+
+-- ---- which values are packets
+
+-- Q is of DATA, whose type is even, D of DATA, of CALL and of ACCEPT: section 5.1.1
+abbrev pub may_have : Bool → Bool → ℕ → Bool
+may_have q d kind = (not q || kind % 2 == 0) && (not d || kind % 2 == 0 || kind == 11 || kind == 15)
+
+-- RESTART, DIAGNOSTIC and REGISTRATION are of channel 0, all others of a logical channel: section 5.1.2
+abbrev pub HasPlace : ℕ → PlainKind → Type 0
+HasPlace channel (restart cause reason) = channel ≡ 0
+HasPlace channel restart_conf = channel ≡ 0
+HasPlace channel (diagnostic number explanation) = channel ≡ 0
+HasPlace channel (registration octets) = channel ≡ 0
+HasPlace channel (registration_conf octets) = channel ≡ 0
+HasPlace channel _ = 1 ≤ channel
+
+-- the user data of a CALL is no longer than this, or fast select is asked for
+abbrev pub IsShort : ℕ → Option PlainFields → Type 0
+IsShort most None = Unit {0}
+IsShort most (Some f) = (length f.user ≤ most) ⊎ (asks_fast_select f.facilities ≡ true)
+
+-- User data is at most 128 octets with fast select (section 6.16): called in ACCEPT, clear user data in CLEAR. Without
+-- it a CALL has at most `most`, which is 16 in the standard.
+abbrev pub IsKind : ℕ → PlainKind → Type 0
+IsKind most (call block) = IsBlock 128 block × IsShort most block.fields
+IsKind most (accept block) = MayBeBlock 128 block
+IsKind most (extended_clear cause reason block) = IsBlock 128 block
+IsKind most (clear_conf block) = MayBeBlock 0 block
+IsKind most (user_data m ps pr user) = (ps < 8) × (pr < 8) × (length user ≤ 4096)
+IsKind most (rr pr) = pr < 8
+IsKind most (rnr pr) = pr < 8
+IsKind most (rej pr) = pr < 8
+IsKind most (interrupt user) = (1 ≤ length user) × (length user ≤ 32)
+IsKind most (diagnostic number explanation) = length explanation ≤ 3
+IsKind most (registration octets) = length octets ≤ 4096
+IsKind most (registration_conf octets) = length octets ≤ 4096
+IsKind most _ = Unit {0}
+
+pub record IsPacket (most : ℕ) (w : PlainWide) : Type 0 where
+  pub channel : w.channel ≤ 4095
+  pub place : HasPlace w.channel w.kind
+  pub marks : may_have w.q w.d (type_of w.kind) ≡ true
+  pub kind : IsKind most w.kind
+
+-- the octets spell the packet
+pub record Spells (most : ℕ) (w : PlainWide) (octets : List ℕ) : Type 0 where
+  pub packet : IsPacket most w
+  pub spelling : octets ≡ spelling_of w

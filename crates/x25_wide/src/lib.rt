@@ -1,0 +1,16 @@
+//! Packets of X.25, modulo 8, as a peer may send them: more forms of a packet than this project writes.
+//!
+//! `x25_packet` reads the one form of each packet that a station sends. This crate reads what ITU-T X.25 (10/96),
+//! section 5, lets any equipment send: facilities of all classes, the D bit, causes alone, basic and extended formats.
+#![tactic(auto)]
+
+mod block;
+mod facilities;
+mod packet;
+mod reading;
+
+pub use block::{Block, Fields};
+pub use facilities::{Own, are_facilities, own_facilities};
+pub use packet::{Kind, WidePacket};
+pub use reading::{FAST_SELECT_OCTETS, decode};
+pub use x25_packet::{PacketError, Seq};
