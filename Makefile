@@ -1,6 +1,8 @@
 # Command            Takes            Needs               Does
 # make look          2 minutes        rt                  builds the program unproved and has it decode a trace of examples/
 # make x25           20 to 30 minutes rt                  proves the program, and leaves it at build/x25
+# make lib           30 minutes       rt, cc              proves the library for C, and leaves libx25.a, libx25.so and x25.pc in build/
+# make check-c       a minute         build/libx25.a, cc  runs tests/c over it, under ASan, UBSan and valgrind where these are
 # make demo          a second         build/x25           decodes the traces of examples/ and runs its scripts
 # make test          an hour          rt, cc              the gate: every proof from nothing, the must-fail edits, all tests
 # make golden        a second         build/x25           runs the stored cases of tests/golden
@@ -9,7 +11,7 @@
 # make refused       30 minutes       rt, cc, build/x25   refuses each allocation of stored cases and of scripts in turn
 # make wrong-bodies  a minute an edit rt                  tries wrong bodies that the gate leaves out; CRATE="NAME .." of these crates
 # make interop       20 minutes       build/x25, a guest  plays a station against Linux's X.25; interop/README.md says more
-# make install       a second         build/x25           installs the program, the scripts, the manual page and the documents below PREFIX
+# make install       a second         build/x25           installs the program, the scripts, the manual page, the documents and what make lib left
 # make uninstall     a second                             removes what that installed
 # make dist          a second         git                 leaves the sources of HEAD at build/x25-VERSION.tar.gz
 # make clean         a second                             removes what the others made here
@@ -18,7 +20,7 @@
 # The times are those of four processors with nothing beside. rt, the command of the Rattle kit, wants up to 4 GB of memory for each
 # processor; cc is a C compiler. All need Python 3.9 or later. What needs build/x25 has it proved first, where it isn't there.
 
-.PHONY: help look x25 demo test golden judge-runs check-tools refused wrong-bodies interop install uninstall dist clean kit
+.PHONY: help look x25 lib check-c demo test golden judge-runs check-tools refused wrong-bodies interop install uninstall dist clean kit
 
 x25: build/x25
 
@@ -35,6 +37,29 @@ build/x25: crates.txt $(shell find crates -path '*/out' -prune -o -type f ! -nam
 # The player of scripts whose calls are refused memory.
 build/x25_refusals: crates.txt $(shell find crates -path '*/out' -prune -o -type f ! -name '*.md' -print) | kit
 	.ci/prove x25_refusals x25_world
+
+# The archive of the crate, and that of what it takes memory by.
+build/libx25_c.a: crates.txt $(shell find crates -path '*/out' -prune -o -type f -print) | kit
+	.ci/prove x25_c x25_station
+
+build/libx25.a: build/libx25_c.a
+	rm -rf build/objects
+	mkdir -p build/objects
+	cd build/objects && ar x ../libx25_c.a && ar x "$$(dirname "$$(rt doc)")/c/liblibc_c.a"
+	rm -f $@
+	ar rcs $@ build/objects/*.o
+	rm -r build/objects
+
+build/libx25.so: build/libx25.a share/x25.map
+	$(CC) -shared -o $@.$(VERSION) -Wl,-soname,libx25.so.$(VERSION),--version-script=share/x25.map -Wl,--whole-archive build/libx25.a -Wl,--no-whole-archive
+	ln -sf libx25.so.$(VERSION) $@
+
+lib: build/libx25.a build/libx25.so
+	cp include/x25.h build
+	sed '$(SET_PC)' share/x25.pc.in > build/x25.pc
+
+check-c: $(if $(wildcard build/libx25.a),,build/libx25.a)
+	python3 tests/check_c.py
 
 demo: build/x25
 	@for trace in examples/*.trace; do \
@@ -76,6 +101,9 @@ PROGRAM = build/x25
 VERSION := $(shell sed -n 's/.*\.version("\(.*\)").*/\1/p' crates/x25_settings/src/parser.rt)
 INSTALLED = $(DESTDIR)$(PREFIX)
 DOCUMENTS = $(INSTALLED)/share/doc/x25
+# Where the library for C is installed from, if it is there.
+LIBRARY = build
+SET_PC = s|@PREFIX@|$(PREFIX)|; s|@VERSION@|$(VERSION)|
 # The scripts by their names in bin, of which each is a link to its script in lib/x25.
 SCRIPTS = x25dump:x25dump pcap2x25:pcap2x25 x25pcap:x25pcap x25bridge:bridge x25chart:chart
 
@@ -96,11 +124,20 @@ install:
 	install -m 644 README.md CHANGELOG.md docs/*.md docs/*.svg $(DOCUMENTS)
 	install -m 644 $(wildcard examples/*.*) $(DOCUMENTS)/examples
 	install -m 644 examples/embed/* $(DOCUMENTS)/examples/embed
+	if [ -e $(LIBRARY)/libx25.so ]; then \
+	    install -d $(INSTALLED)/include $(INSTALLED)/lib/pkgconfig && \
+	    install -m 644 include/x25.h $(INSTALLED)/include && \
+	    install -m 644 $(LIBRARY)/libx25.a $(INSTALLED)/lib && \
+	    install -m 755 $(LIBRARY)/libx25.so.$(VERSION) $(INSTALLED)/lib && \
+	    ln -sf libx25.so.$(VERSION) $(INSTALLED)/lib/libx25.so && \
+	    sed '$(SET_PC)' share/x25.pc.in > $(INSTALLED)/lib/pkgconfig/x25.pc || exit $$?; \
+	fi
 	if [ -e $(dir $(PROGRAM))commit ]; then install -m 644 $(dir $(PROGRAM))commit $(DOCUMENTS)/COMMIT; fi
 
 uninstall:
 	for pair in x25:x25 $(SCRIPTS); do rm -f $(INSTALLED)/bin/$${pair%:*} $(INSTALLED)/share/man/man1/$${pair%:*}.1; done
 	rm -f $(INSTALLED)/share/bash-completion/completions/x25
+	rm -f $(INSTALLED)/include/x25.h $(INSTALLED)/lib/libx25.* $(INSTALLED)/lib/pkgconfig/x25.pc
 	rm -rf $(INSTALLED)/lib/x25 $(DOCUMENTS)
 
 dist:

@@ -25,3 +25,10 @@ def find_player():
     """Answers the path of the player of scripts `x25_refusals` that was built last, or None; the variable X25_REFUSALS, if set, names the
     one to take."""
     return last_built("X25_REFUSALS", PLACES_OF_THE_PLAYER)
+
+
+def find_library(ending):
+    """Answers the path of the library for C that ends so, `a` or `so`, in the folder where `make lib` leaves it or that the variable
+    X25_LIBRARY names, or None."""
+    path = os.path.join(os.path.abspath(os.environ.get("X25_LIBRARY", os.path.join(ROOT, "build"))), f"libx25.{ending}")
+    return path if os.path.isfile(path) else None

@@ -8,8 +8,15 @@ import support
 from support import ToolCase
 
 # Proves the crates of the rows in order, but for one with a file `false`, and those that come behind it; and builds a program of each. It
-# refuses a copy with wrong bodies, or with what was built before.
+# refuses a copy with wrong bodies, or with what was built before. Of a static library it builds the archive by `rt lib`.
 RT = b"""#!/bin/sh
+if [ "$1" = lib ]; then
+    crate=$(basename "$PWD")
+    [ -e wrong ] && { echo "an open goal of $crate"; exit 1; }
+    mkdir out
+    echo "$(ls ..)" > out/lib$crate.a
+    exit 0
+fi
 [ "$1" = ci ] && [ -e HANDLES ] || exit 2
 for crate in $(sed "s/:.*//" crates.txt); do
     [ -e crates/$crate/must-fail ] || [ -e crates/$crate/out ] && exit 2
@@ -24,7 +31,7 @@ done
 echo "5 passed, 0 failed"
 """
 
-CRATES = {"low": "", "kept": "low", "right": "low", "high": "kept right low", "apart": "", "program": "high low"}
+CRATES = {"low": "", "kept": "low", "right": "low", "high": "kept right low", "apart": "", "program": "high low", "archive staticlib": "right"}
 
 
 class Prove(ToolCase):
@@ -32,7 +39,7 @@ class Prove(ToolCase):
         """The status, the crates that are said to be proved, and what is said of an error, in a repository of CRATES."""
         rows = "".join(f"{crate}: {low} thiserror\n" for crate, low in CRATES.items())
         self.file("crates.txt", f"# lowest first\n{rows}".encode())
-        for crate in CRATES:
+        for crate in (row.split()[0] for row in CRATES):
             os.makedirs(f"{self.folder}/crates/{crate}/must-fail")
             os.makedirs(f"{self.folder}/crates/{crate}/out")
             if crate in broken:
@@ -61,6 +68,20 @@ class Prove(ToolCase):
 
     def test_nothing_is_below(self):
         self.assertEqual(self.proves("apart"), (0, ["apart"], ""))
+
+    def test_a_static_library_is_built_behind_the_others(self):
+        status, proved, said = self.proves("archive")
+        self.assertEqual((status, proved), (0, ["low", "right", "archive"]))
+        self.assertRegex(said, r"^the libraries below are proved again: ")
+        self.assertEqual(os.listdir(f"{self.folder}/build"), ["libarchive.a"])
+        with open(f"{self.folder}/build/libarchive.a") as file:
+            self.assertEqual(file.read().split(), ["archive", "low", "right"])
+
+    def test_a_static_library_is_not_proved(self):
+        status, proved, said = self.proves("archive", broken=["archive"])
+        self.assertEqual((status, proved), (1, ["low", "right"]))
+        self.assertIn("an open goal of archive\n", said)
+        self.assertFalse(os.path.exists(f"{self.folder}/build"))
 
     def test_one_is_not_proved(self):
         status, proved, said = self.proves("program", broken=["right"])

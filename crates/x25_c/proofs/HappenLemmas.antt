@@ -1,0 +1,96 @@
+-- An event of a station that is held, and a pull behind it.
+use Rattle.std.proofs.Common.{◌≡◌, ◌∙◌, Bool, ◌++◌, map, ap, sym, refl, inr}
+use Rattle.std.specs.Prelude.{Result, Ok, Err, false}
+use Rattle.std.proofs.lemmas.List.{map-append}
+use Rattle.x25_frame.specs.Spelling.{spelling_of}
+use Rattle.x25_station.specs.declared.error.StationError.{StationError}
+use Rattle.x25_station.specs.declared.error.StationError.TheVariants as error
+use Rattle.x25_station.specs.Config.{Settings}
+use Rattle.x25_station.specs.Station.{Station}
+use Rattle.x25_station.specs.Step.{Outcome, Did, Refused}
+use Rattle.x25_station.specs.Timer.{standing}
+use Rattle.x25_station.specs.code.Clock as clock
+use Rattle.x25_station.specs.code.FitsStation.{FitsStation, Does, IsEmpty, Leaves, Sends, Enters, Refuses}
+use Rattle.x25_station.specs.code.PlainEntry.{plain_entry}
+use Rattle.x25_station.specs.laws.TimerLaw.{Event, outcome, is_firing}
+use Rattle.x25_c.specs.declared.held.Held.{Held}
+use Rattle.x25_c.specs.Happening.{and_rest, rest_of, timer_of_rest}
+use Rattle.x25_c.specs.code.Happens.{Happens, IsTimer, PullsBehind}
+
+abbrev accepted : Result Unit StationError
+accepted = Ok tt
+
+-- from a station that is held an event led to the second, and a pull to the third
+module _ (old mid new : Held) (event : Event) (pulls : PullsBehind mid new) (c : Settings) where
+  left : (o : Outcome) → Leaves c mid.station accepted o → Leaves c new.station accepted (and_rest new.waits c o)
+  left (Did step) fits = pulls.state c step.near fits
+  left (Refused e) none = tt
+
+  sent : (o : Outcome) → Leaves c mid.station accepted o → Sends c mid.step accepted o → Sends c new.step accepted (and_rest new.waits c o)
+  sent (Did step) fits same =
+      let rest = rest_of new.waits c step.near in
+      pulls.frames c step.near fits ∙ ap (λ frames. frames ++ map (spelling_of c.role) rest.out) same ∙ sym (map-append (spelling_of c.role) step.out rest.out)
+  sent (Refused e) none same = tt
+
+  entered : (o : Outcome) → Enters mid.step accepted o → Enters new.step accepted (and_rest new.waits c o)
+  entered (Did step) same = ap (λ entries. map plain_entry entries.items) pulls.entries ∙ same
+  entered (Refused e) same = tt
+
+  timed : (s : Station) (o : Outcome) → Leaves c mid.station accepted o → Refuses accepted o → clock.IsTimer s (is_firing event) mid.step.timer accepted o
+      → IsTimer new.waits c s event new.step.timer accepted o
+  timed s (Did step) fits refused same = pulls.timer c step.near fits ∙ ap (λ first. timer_of_rest new.waits c first step.near) same
+  timed s (Refused e) fits refused same = absurd refused
+
+pub is_both : (old mid new : Held) (event : Event) → mid.end ≡ old.end → Does old.station mid.station mid.step accepted (λ c s. outcome c s event)
+    → clock.TellsTimer old.station mid.step.timer accepted (is_firing event) (λ c s. outcome c s event) → PullsBehind mid new → Happens old new accepted event
+is_both old mid new event end does timer pulls = record {
+  end = pulls.end ∙ end;
+  state = λ c s fits. left old mid new event pulls c (outcome c s event) (does.state c s fits);
+  frames = λ c s fits. sent old mid new event pulls c (outcome c s event) (does.state c s fits) (does.frames c s fits);
+  entries = λ c s fits. entered old mid new event pulls c (outcome c s event) (does.entries c s fits);
+  timer = λ c s fits. timed old mid new event pulls c s (outcome c s event) (does.state c s fits) (does.refused c s fits) (timer c s fits);
+  refused = does.refused;
+  stays = λ c s fits. tt;
+  empty = tt;
+  rests = tt;
+}
+
+-- ---- an event that was refused
+
+module _ (old new : Held) (e : StationError) (waits : Bool) (c : Settings) where
+  abbrev refusal : Result Unit StationError
+  refusal = Err e
+
+  none_left : (o : Outcome) → Leaves c new.station refusal (and_rest waits c o)
+  none_left (Did step) = tt
+  none_left (Refused e') = tt
+
+  none_sent : (o : Outcome) → Sends c new.step refusal (and_rest waits c o)
+  none_sent (Did step) = tt
+  none_sent (Refused e') = tt
+
+  none_entered : (o : Outcome) → Enters new.step refusal (and_rest waits c o)
+  none_entered (Did step) = tt
+  none_entered (Refused e') = tt
+
+-- the station is as before, and its step is empty
+pub is_refused : (old new : Held) (e : StationError) (event : Event) → new.end ≡ old.end → new.waits ≡ false
+    → ((c : Settings) (s : Station) → FitsStation c old.station s → Refuses {T = Unit} (Err e) (outcome c s event))
+    → ((c : Settings) (s : Station) → FitsStation c old.station s → FitsStation c new.station s)
+    → IsEmpty new.step → ((c : Settings) (s : Station) → FitsStation c old.station s → new.step.timer ≡ standing s) → Happens old new (Err e) event
+is_refused old new e event end waits refused stays empty timer = record {
+  end = end;
+  state = λ c s fits. none_left old new e new.waits c (outcome c s event);
+  frames = λ c s fits. none_sent old new e new.waits c (outcome c s event);
+  entries = λ c s fits. none_entered old new e new.waits c (outcome c s event);
+  timer = timer;
+  refused = refused;
+  stays = stays;
+  empty = empty;
+  rests = waits;
+}
+
+-- want of memory is in place of each refusal
+pub no_memory : (o : Outcome) → Refuses {T = Unit} (Err error.NoMemory) o
+no_memory (Did step) = refl
+no_memory (Refused e) = inr refl

@@ -1,0 +1,2 @@
+pub mod BoxLemmas
+pub mod HappenLemmas

@@ -1,0 +1,57 @@
+-- What a call leaves in the place where C holds a station, and the number that it answers (profile).
+use Rattle.std.specs.Prelude.{◌≡◌, ℕ, Option, Some, None, IsSomeAnd, Result, Ok, Err}
+use Rattle.x25_console.specs.Commands.{command_asked}
+use Rattle.x25_script.specs.ScriptLine.{PlainCommand}
+use Rattle.x25_station.specs.declared.error.StationError.{StationError}
+use Rattle.x25_station.specs.declared.config.Cfg.{Cfg}
+use Rattle.x25_station.specs.declared.timer.Timer.{Timer}
+use Rattle.x25_station.specs.declared.timer.Timer.TheVariants.{Off, Begins, GoesOn}
+use Rattle.x25_station.specs.Error.{number_of}
+use Rattle.x25_station.specs.laws.TimerLaw.{Event, Asks}
+use Rattle.x25_c.specs.declared.held.Held.{Held}
+use Rattle.x25_c.specs.Making.{role_of, making_refusal}
+use Rattle.x25_c.specs.code.Happens.{Happens, IsNew}
+
+-- the number of a result: 0, or that of its error
+abbrev pub number_in : Result Unit StationError → ℕ
+number_in (Ok u) = 0
+number_in (Err e) = number_of e
+
+-- the number of what becomes of T1
+abbrev pub number_of_timer : Timer → ℕ
+number_of_timer Off = 0
+number_of_timer Begins = 1
+number_of_timer GoesOn = 2
+
+-- a call of a station that is held does what the definition says of it, and answers the number of how it ended
+abbrev pub AnswersOne : Held → Held → ℕ → Event → Type 0
+AnswersOne old new number event = (r : Result Unit StationError) × (number ≡ number_in r) × Happens old new r event
+
+-- .. and where none is held it answers 16
+abbrev pub Answers : Option Held → Option Held → ℕ → Event → Type 0
+Answers None None number event = number ≡ 16
+Answers None (Some new) number event = ⊥
+Answers (Some old) None number event = ⊥
+Answers (Some old) (Some new) number event = AnswersOne old new number event
+
+-- so does a command that is spelled; where none is, 60 is the answer, and the station is as before
+abbrev pub CommandsOne : Held → Held → ℕ → Option PlainCommand → Type 0
+CommandsOne old new number None = (number ≡ 60) × (new ≡ old)
+CommandsOne old new number (Some asked) = AnswersOne old new number (Asks (command_asked asked))
+
+abbrev pub Commands : Option Held → Option Held → ℕ → Option PlainCommand → Type 0
+Commands None None number asked = number ≡ 16
+Commands None (Some new) number asked = ⊥
+Commands (Some old) None number asked = ⊥
+Commands (Some old) (Some new) number asked = CommandsOne old new number asked
+
+abbrev pub RefusesNumber : ℕ → Option StationError → Type 0
+RefusesNumber number None = number ≡ 70
+RefusesNumber number (Some e) = number ≡ number_of e
+
+-- A station is made where none was held, or the number says why not: 17 where one was held, else that of a bad setting,
+-- and else 70 alone.
+abbrev pub Makes : Option Held → Option Held → ℕ → ℕ → Cfg → Type 0
+Makes (Some old) new number end cfg = (number ≡ 17) × (new ≡ Some old)
+Makes None None number end cfg = RefusesNumber number (making_refusal end cfg)
+Makes None (Some new) number end cfg = (number ≡ 0) × IsSomeAnd (role_of end) (λ role. IsNew role cfg new)

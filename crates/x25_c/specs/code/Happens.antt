@@ -1,0 +1,75 @@
+-- What the calls of a station that is held do, and what it then holds.
+use Rattle.std.specs.Prelude.{◌≡◌, Bool, false, ◌++◌, map, Option, Some, None, Result, Ok, Err, OnErr}
+use Rattle.x25_bits.specs.declared.role.Role.{Role}
+use Rattle.x25_console.specs.Commands.{command_asked}
+use Rattle.x25_frame.specs.Spelling.{spelling_of}
+use Rattle.x25_script.specs.ScriptLine.{PlainCommand}
+use Rattle.x25_station.specs.declared.config.Cfg.{Cfg}
+use Rattle.x25_station.specs.declared.error.StationError.{StationError}
+use Rattle.x25_station.specs.declared.timer.Timer.{Timer}
+use Rattle.x25_station.specs.declared.timer.Timer.TheVariants.{Off}
+use Rattle.x25_station.specs.Command.{command_of}
+use Rattle.x25_station.specs.Config.{Settings, settings_from}
+use Rattle.x25_station.specs.Station.{Station, new_station}
+use Rattle.x25_station.specs.Step.{Outcome}
+use Rattle.x25_station.specs.Timer.{standing}
+use Rattle.x25_station.specs.code.FitsStation.{FitsStation, IsEmpty, Leaves, Sends, Enters, Refuses}
+use Rattle.x25_station.specs.laws.TimerLaw.{Event, Comes, Asks, Fires, outcome}
+use Rattle.x25_c.specs.declared.happening.Happening as code
+use Rattle.x25_c.specs.declared.happening.Happening.TheVariants as variant
+use Rattle.x25_c.specs.declared.held.Held.{Held}
+use Rattle.x25_c.specs.Happening.{rest_of, happens, timer_of_rest, timer_at_both}
+
+abbrev pub event_of : code.Happening → Event
+event_of (variant.Comes octets) = Comes octets.now
+event_of (variant.Asks command) = Asks (command_of command)
+event_of variant.Fires = Fires
+
+-- at an accepted event T1 becomes what the definition says, and at a refused one it is as it was
+abbrev pub IsTimer : Bool → Settings → Station → Event → Timer → Result Unit StationError → Outcome → Type 0
+IsTimer waits c s event timer (Ok u) o = timer ≡ timer_at_both waits c s event o
+IsTimer waits c s event timer (Err e) o = timer ≡ standing s
+
+-- The station does what the definition says of the event and of a pull behind it, and what it answers is kept. Where it
+-- is refused the station is as before, and nothing is answered.
+pub record Happens (old new : Held) (result : Result Unit StationError) (event : Event) : Type 0 where
+  pub end : new.end ≡ old.end
+  pub state : (c : Settings) (s : Station) → FitsStation c old.station s →
+      Leaves c new.station result (happens new.waits c event s)
+  pub frames : (c : Settings) (s : Station) → FitsStation c old.station s →
+      Sends c new.step result (happens new.waits c event s)
+  pub entries : (c : Settings) (s : Station) → FitsStation c old.station s →
+      Enters new.step result (happens new.waits c event s)
+  pub timer : (c : Settings) (s : Station) → FitsStation c old.station s →
+      IsTimer new.waits c s event new.step.timer result (outcome c s event)
+  pub refused : (c : Settings) (s : Station) → FitsStation c old.station s → Refuses result (outcome c s event)
+  pub stays : (c : Settings) (s : Station) → FitsStation c old.station s → OnErr result (FitsStation c new.station s)
+  pub empty : OnErr result (IsEmpty new.step)
+  pub rests : OnErr result (new.waits ≡ false)
+
+-- a pull behind a step that is held: its frames come behind those of the step
+pub record PullsBehind (old new : Held) : Type 0 where
+  pub end : new.end ≡ old.end
+  pub state : (c : Settings) (s : Station) → FitsStation c old.station s →
+      FitsStation c new.station (rest_of new.waits c s).near
+  pub frames : (c : Settings) (s : Station) → FitsStation c old.station s →
+      map (λ frame. frame.items) new.step.frames.items
+      ≡ map (λ frame. frame.items) old.step.frames.items ++ map (spelling_of c.role) (rest_of new.waits c s).out
+  pub entries : new.step.entries ≡ old.step.entries
+  pub timer : (c : Settings) (s : Station) → FitsStation c old.station s →
+      new.step.timer ≡ timer_of_rest new.waits c old.step.timer s
+
+-- a text is answered where it spells a command
+abbrev pub GivesAnswer : Held → Held → Option (Result Unit StationError) → Option PlainCommand → Type 0
+GivesAnswer old new None None = new ≡ old
+GivesAnswer old new None (Some asked) = ⊥
+GivesAnswer old new (Some r) None = ⊥
+GivesAnswer old new (Some r) (Some asked) = Happens old new r (Asks (command_asked asked))
+
+-- a station as it is made: at this end, with these settings, and nothing was answered
+pub record IsNew (at : Role) (cfg : Cfg) (h : Held) : Type 0 where
+  pub end : h.end ≡ at
+  pub fits : FitsStation (settings_from at cfg) h.station new_station
+  pub empty : IsEmpty h.step
+  pub timer : h.step.timer ≡ Off
+  pub waits : h.waits ≡ false

@@ -1,0 +1,120 @@
+//! A station, and what it last answered.
+ghost use Rattle.std.specs.Prelude.{◌≡◌, OnOk};
+ghost use Rattle.x25_bits.specs.declared.role.Role.{Role};
+ghost use Rattle.x25_console.specs.Commands.{command_asked};
+ghost use Rattle.x25_script.specs.Reading.{command_in};
+ghost use Rattle.x25_script.specs.ScriptLine.{plain_command};
+ghost use Rattle.x25_station.specs.declared.config.Cfg.{Cfg};
+ghost use Rattle.x25_station.specs.Config.{settings_from};
+ghost use Rattle.x25_station.specs.Station.{new_station};
+ghost use Rattle.x25_station.specs.laws.TimerLaw.{Asks, Event};
+ghost use Rattle.x25_station.specs.code.FitsStation.{FitsStation};
+ghost use Rattle.x25_c.specs.Held.{frames_of, in_place, lines_of};
+ghost use Rattle.x25_c.specs.code.Happens.{GivesAnswer, Happens, IsNew, PullsBehind, event_of};
+
+use crate::happening::{Happening, happen};
+use std::alloc::{AllocError, Global};
+use x25_console::{read_user, station_command};
+use x25_script::{Command, read_command};
+use x25_station::{Role, Station, StationError, Step};
+use x25_text::Text;
+use x25_transcript::push_entry;
+
+/// A station, which end it is, what it answered to its last call, nothing where that was refused, and whether memory was
+/// refused for the pull behind that.
+#[derive(Drop)]
+pub struct Held {
+    pub end: Role,
+    pub station: Station,
+    pub step: Step,
+    pub waits: bool,
+    pub(crate) line: Text,
+}
+
+impl Held {
+    pub(crate) fn new(alloc: Global, end: Role, station: Station, line: Text) -> Held
+        ensures { (cfg : Cfg) → FitsStation (settings_from end cfg) station new_station →
+            IsNew end cfg result }
+    {
+        Held {
+            end,
+            station,
+            step: Step::new(alloc),
+            waits: false,
+            line,
+        }
+    }
+
+    // Pulls what waits, behind an event.
+    fn pull(&mut self)
+        ensures { PullsBehind self.old self.new }
+    {
+        self.waits = self.station.pull(&mut self.step).is_err();
+    }
+
+    /// Lets something happen to the station, and pulls behind it.
+    pub(crate) fn happen(&mut self, event: Happening<'_>) -> Result<(), StationError>
+        ensures { Happens self.old self.new result (event_of event.entry) }
+    {
+        self.waits = false;
+        match happen(&mut self.station, event, &mut self.step) {
+            Ok(()) => {
+                self.pull();
+                Ok(())
+            }
+            Err(error) => Err(error),
+        }
+    }
+
+    // Refuses for want of memory.
+    fn refuse(&mut self) -> Result<(), StationError>
+        ensures { (event : Event) → Happens self.old self.new result event }
+    {
+        self.station.reuse(&mut self.step);
+        self.waits = false;
+        Err(StationError::NoMemory)
+    }
+
+    // Does a command.
+    fn ask(&mut self, alloc: Global, command: Command) -> Result<(), StationError>
+        ensures { Happens self.old self.new result (Asks (command_asked (plain_command command.entry))) }
+    {
+        let mut user = Vec::new(alloc);
+        let Ok(count) = read_user(&command, &mut user) else {
+            return self.refuse();
+        };
+        self.happen(Happening::Asks(station_command(&command, &user[..count])))
+    }
+
+    /// Does the command that a text spells, where it spells one.
+    pub(crate) fn command(&mut self, alloc: Global, text: &[u8]) -> Option<Result<(), StationError>>
+        ensures { GivesAnswer self.old self.new result (command_in text.now) }
+    {
+        let command = read_command(text)?;
+        Some(self.ask(alloc, command))
+    }
+
+    pub(crate) fn frame(&self, i: usize) -> &[u8]
+        ensures { result.now ≡ in_place (frames_of self.now) i }
+    {
+        match self.step.frames.get(i) {
+            Some(frame) => frame.as_slice(),
+            None => &[],
+        }
+    }
+
+    /// Writes the line of entry `i` into the line; nothing where there is none. Err: no memory.
+    pub(crate) fn write(&mut self, i: usize) -> Result<(), AllocError>
+        ensures line { OnOk result (self.new.line ≡ in_place (lines_of self.old) i) }
+        ensures station { self.new.station ≡ self.old.station }
+        ensures step { self.new.step ≡ self.old.step }
+        ensures end { self.new.end ≡ self.old.end }
+        ensures waits { self.new.waits ≡ self.old.waits }
+    {
+        self.line.clear();
+        match self.step.entries.get(i) {
+            Some(entry) => push_entry(self.end, entry, &mut self.line),
+            None => Ok(()),
+        }
+    }
+}

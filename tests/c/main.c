@@ -1,0 +1,122 @@
+/* Plays what crates/x25_embed plays, and prints the same: a link is set up, the frame of a call is lost and comes again as
+   timer T1 fires, and each end sends a message. Calls that are refused are tried before. */
+#include "two.h"
+
+static void take(end_t *end)
+{
+    take_frames(end);
+    for (size_t i = 0; i < x25_entries(&end->station); i++) {
+        size_t count = 0;
+        expect("entry", x25_entry(&end->station, i, (uint8_t *)end->told + end->length, TEXT - end->length, &count), 0);
+        end->length += count;
+    }
+    if (x25_waits(&end->station))
+        fail("memory was refused", 0);
+}
+
+static void ask(end_t *end, const char *text)
+{
+    expect(text, x25_command(&end->station, (const uint8_t *)text, strlen(text)), 0);
+    take(end);
+}
+
+static void send_message(end_t *end, const char *text)
+{
+    expect("send", x25_send(&end->station, 1, false, (const uint8_t *)text, strlen(text)), 0);
+    take(end);
+}
+
+static bool deliver(end_t *from, end_t *to)
+{
+    size_t count;
+    uint8_t *octets = next_frame(from, &count);
+    if (octets == NULL)
+        return false;
+    expect("receive", x25_receive(&to->station, octets, count), 0);
+    take(to);
+    return true;
+}
+
+static void deliver_all(void)
+{
+    bool is_sent, is_answered;
+    do {
+        is_sent = deliver(&dte, &dce);
+        is_answered = deliver(&dce, &dte);
+    } while (is_sent || is_answered);
+}
+
+static void try_refusals(void)
+{
+    x25_station *station = &dte.station;
+    uint8_t room[4] = {1, 2, 3, 4};
+    size_t count = 7;
+    expect("t1 of none", x25_t1(station), X25_NO_STATION);
+    expect("connect of none", x25_connect(station), X25_NO_STATION);
+    expect("receive of none", x25_receive(station, room, 4), X25_NO_STATION);
+    expect("send of none", x25_send(station, 1, false, room, 4), X25_NO_STATION);
+    expect("command of none", x25_command(station, (const uint8_t *)"connect", 7), X25_NO_STATION);
+    expect("entry of none", x25_entry(station, 0, room, 4, &count), X25_NO_STATION);
+    expect("entry of none, its length", (uint32_t)count, 7);
+    expect("frame of none", (uint32_t)x25_frame(station, 0, room, 4), 0);
+    expect("frames of none", (uint32_t)x25_frames(station), 0);
+    expect("entries of none", (uint32_t)x25_entries(station), 0);
+    expect("timer of none", x25_timer(station), X25_TIMER_OFF);
+    expect("none is idle", x25_idle(station), false);
+    expect("none waits", x25_waits(station), false);
+    expect("a bad end", x25_new(station, 2, 7, 10, 1, false), X25_BAD_SETTING);
+    expect("a bad window", x25_new(station, X25_DTE, 8, 10, 1, false), X25_BAD_SETTING);
+    expect("no channel", x25_new(station, X25_DTE, 7, 10, 0, false), X25_BAD_SETTING);
+    expect("new", x25_new(station, X25_DTE, 7, 10, 1, false), 0);
+    expect("new again", x25_new(station, X25_DTE, 7, 10, 1, false), X25_IN_USE);
+    expect("sing", x25_command(station, (const uint8_t *)"sing 1", 6), X25_NO_COMMAND);
+    expect("a call while the link is down", x25_command(station, (const uint8_t *)"call 123 4567 41", 16), X25_LINK_NOT_UP);
+    expect("T1 that doesn't run", x25_t1(station), X25_TIMER_NOT_RUNNING);
+    expect("a new station is idle", x25_idle(station), false);
+}
+
+/* Copies the one frame of a SABM into too little room, and into enough. */
+static void try_rooms(void)
+{
+    uint8_t room[8] = {9, 9, 9, 9, 9, 9, 9, 9};
+    expect("frames", (uint32_t)x25_frames(&dte.station), 1);
+    expect("a frame into little room", (uint32_t)x25_frame(&dte.station, 0, room, 3), 4);
+    expect("what is there then", room[0], 9);
+    expect("a frame", (uint32_t)x25_frame(&dte.station, 0, room, 8), 4);
+    expect("its address and control", (uint32_t)(room[0] << 8 | room[1]), 0x013f);
+    expect("what is behind it", room[4], 9);
+    expect("a frame that isn't there", (uint32_t)x25_frame(&dte.station, 1, room, 8), 0);
+}
+
+int main(void)
+{
+    try_refusals();
+    expect("new", x25_new(&dce.station, X25_DCE, 7, 10, 1, false), 0);
+    expect("connect", x25_connect(&dte.station), 0);
+    try_rooms();
+    take(&dte);
+    deliver_all();
+    ask(&dte, "call 123 4567 41");
+    dte.first++;
+    if (!dte.has_deadline)
+        fail("T1 has no deadline", 0);
+    expect("t1", x25_t1(&dte.station), 0);
+    take(&dte);
+    deliver_all();
+    ask(&dce, "accept 1");
+    deliver_all();
+    send_message(&dte, "hello");
+    send_message(&dce, "hello yourself");
+    deliver_all();
+    expect("idle", x25_idle(&dte.station) && x25_idle(&dce.station), true);
+    expect("deadlines", dte.has_deadline || dce.has_deadline, false);
+    ask(&dte, "disconnect");
+    deliver_all();
+    x25_free(&dte.station);
+    x25_free(&dce.station);
+    x25_free(&dce.station);
+    expect("held", dte.station.is_open || dce.station.is_open, false);
+    fwrite(dte.told, 1, dte.length, stdout);
+    fwrite(dce.told, 1, dce.length, stdout);
+    return 0;
+}

@@ -1,0 +1,125 @@
+/* Plays a call between two stations with each allocation refused in turn, and makes each call again that answers
+   X25_NO_MEMORY: the transcripts have to be the same each time. Link it with -Wl,--wrap=malloc,--wrap=realloc. */
+#include "two.h"
+
+static long asked, refused_at, met;
+
+void *__real_malloc(size_t count);
+void *__real_realloc(void *old, size_t count);
+
+void *__wrap_malloc(size_t count)
+{
+    return ++asked == refused_at ? NULL : __real_malloc(count);
+}
+
+void *__wrap_realloc(void *old, size_t count)
+{
+    return ++asked == refused_at ? NULL : __real_realloc(old, count);
+}
+
+/* The call, made again where memory was refused. */
+#define AGAIN(call) (number = (call), number == X25_NO_MEMORY ? (met++, (call)) : number)
+
+static void take(end_t *end)
+{
+    uint32_t number;
+    take_frames(end);
+    for (size_t i = 0; i < x25_entries(&end->station); i++) {
+        size_t count = 0;
+        uint8_t *room = (uint8_t *)end->told + end->length;
+        expect("entry", AGAIN(x25_entry(&end->station, i, room, TEXT - end->length, &count)), 0);
+        end->length += count;
+    }
+    if (x25_waits(&end->station)) {
+        met++;
+        number = x25_command(&end->station, (const uint8_t *)"pull", 4);
+        if (number != 0 && number != X25_LINK_NOT_UP && number != X25_RESTARTING)
+            fail("pull", number);
+        take_frames(end);
+    }
+}
+
+static void ask(end_t *end, const char *text)
+{
+    uint32_t number;
+    expect(text, AGAIN(x25_command(&end->station, (const uint8_t *)text, strlen(text))), 0);
+    take(end);
+}
+
+static bool deliver(end_t *from, end_t *to)
+{
+    uint32_t number;
+    size_t count;
+    uint8_t *octets = next_frame(from, &count);
+    if (octets == NULL)
+        return false;
+    expect("receive", AGAIN(x25_receive(&to->station, octets, count)), 0);
+    take(to);
+    return true;
+}
+
+static void deliver_all(void)
+{
+    bool is_sent, is_answered;
+    do {
+        is_sent = deliver(&dte, &dce);
+        is_answered = deliver(&dce, &dte);
+    } while (is_sent || is_answered);
+}
+
+static void play(void)
+{
+    static uint8_t message[3000];
+    uint32_t number;
+    asked = 0;
+    dte.first = dte.next = dce.first = dce.next = dte.length = dce.length = 0;
+    for (size_t i = 0; i < sizeof message; i++)
+        message[i] = (uint8_t)i;
+    expect("new", AGAIN(x25_new(&dte.station, X25_DTE, 7, 10, 1, true)), 0);
+    expect("new", AGAIN(x25_new(&dce.station, X25_DCE, 7, 10, 1, true)), 0);
+    expect("connect", AGAIN(x25_connect(&dte.station)), 0);
+    take(&dte);
+    deliver_all();
+    ask(&dte, "call 123 4567 41");
+    dte.first++;
+    expect("t1", AGAIN(x25_t1(&dte.station)), 0);
+    take(&dte);
+    deliver_all();
+    ask(&dce, "accept 1");
+    deliver_all();
+    expect("send", AGAIN(x25_send(&dte.station, 1, true, message, sizeof message)), 0);
+    take(&dte);
+    ask(&dce, "send 1 0 68656c6c6f20796f757273656c66");
+    ask(&dce, "int 1 2a");
+    deliver_all();
+    expect("idle", x25_idle(&dte.station) && x25_idle(&dce.station), true);
+    ask(&dte, "reset 1");
+    deliver_all();
+    ask(&dte, "clear 1");
+    deliver_all();
+    ask(&dte, "disconnect");
+    deliver_all();
+    x25_free(&dte.station);
+    x25_free(&dce.station);
+}
+
+int main(void)
+{
+    static char first[2][TEXT];
+    size_t lengths[2];
+    play();
+    lengths[0] = dte.length;
+    lengths[1] = dce.length;
+    memcpy(first[0], dte.told, dte.length);
+    memcpy(first[1], dce.told, dce.length);
+    for (refused_at = 1;; refused_at++) {
+        play();
+        if (dte.length != lengths[0] || memcmp(dte.told, first[0], dte.length) || dce.length != lengths[1]
+            || memcmp(dce.told, first[1], dce.length))
+            fail("another transcript", (uint32_t)refused_at);
+        if (asked < refused_at)
+            break;
+    }
+    printf("%ld allocations refused in turn, %ld calls made again\n", refused_at - 1, met);
+    return 0;
+}

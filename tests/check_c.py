@@ -1,0 +1,103 @@
+#!/usr/bin/env python3
+"""Compiles the programs of tests/c over libx25.a, and runs them.
+
+    check_c.py [--library FOLDER] [--calls N]
+
+`main` has to print what `crates/x25_embed` does; `refused` refuses each allocation of a call in turn, and makes the calls again;
+`random` hands two stations what comes, N calls, 200,000 where N isn't given. Each is compiled as C11 with all warnings, and run as
+it is, under the address and the undefined-behaviour sanitizer where the compiler has these, and under valgrind where that is there.
+The header has to be one of C++ too, where there is a compiler of it.
+
+It needs a C compiler, `cc`, and what `make lib` leaves. Exit status: 0 all is so, 1 something isn't, 2 there is no library or no
+compiler.
+"""
+
+import argparse
+import os
+import shutil
+import subprocess
+import sys
+import tempfile
+
+from program import ROOT, find_library
+
+INCLUDE = os.path.join(ROOT, "include")
+SOURCES = os.path.join(ROOT, "tests", "c")
+STRICT = ["-std=c11", "-Wall", "-Wextra", "-Werror", "-O1", "-g"]
+SANITIZERS = ["-fsanitize=address,undefined", "-fno-sanitize-recover=all"]
+VALGRIND = ["valgrind", "-q", "--error-exitcode=9", "--leak-check=full", "--show-leak-kinds=all"]
+# How many times fewer random calls are made under valgrind.
+SLOWNESS = 50
+CALLS = 200_000
+
+
+def compiled(name, library, folder, *flags):
+    """The path of a program of tests/c, compiled over the library in a folder."""
+    path = os.path.join(folder, name)
+    wrapped = ["-Wl,--wrap=malloc,--wrap=realloc"] if name == "refused" else []
+    source = os.path.join(SOURCES, f"{name}.c")
+    subprocess.run(["cc", *STRICT, *flags, f"-I{INCLUDE}", source, library, *wrapped, "-o", path], check=True)
+    return path
+
+
+def has_sanitizers(folder):
+    """Whether a program can be compiled with the sanitizers, and runs."""
+    source, path = os.path.join(folder, "empty.c"), os.path.join(folder, "empty")
+    with open(source, "w") as file:
+        file.write("int main(void) { return 0; }\n")
+    done = subprocess.run(["cc", *SANITIZERS, source, "-o", path], capture_output=True)
+    return done.returncode == 0 and subprocess.run([path], capture_output=True).returncode == 0
+
+
+def ways(folder):
+    """The ways in which the programs are run here: a name, flags of the compiler, and what stands before the program."""
+    found = [("as it is", [], [])]
+    if has_sanitizers(folder):
+        found.append(("under the sanitizers", SANITIZERS, []))
+    if shutil.which("valgrind"):
+        found.append(("under valgrind", [], VALGRIND))
+    return found
+
+
+def runs_of(calls):
+    """The runs: a name of a program, its words, and what it has to print, or None for anything."""
+    with open(os.path.join(ROOT, "crates", "x25_embed", "stdout")) as file:
+        told = file.read()
+    return [("main", [], told), ("refused", [], None), *(("random", [str(seed), str(calls // 4)], None) for seed in range(1, 5))]
+
+
+def run(library, calls=CALLS):
+    """Compiles and runs all, and says what each printed; answers how many runs went wrong."""
+    wrong = 0
+    with tempfile.TemporaryDirectory() as folder:
+        for way, flags, before in ways(folder):
+            programs = {name: compiled(name, library, folder, *flags) for name in ("main", "refused", "random")}
+            for name, words, wanted in runs_of(calls // SLOWNESS if before else calls):
+                done = subprocess.run([*before, programs[name], *words], capture_output=True, text=True)
+                good = done.returncode == 0 and not done.stderr and wanted in (None, done.stdout)
+                wrong += not good
+                said = "as crates/x25_embed" if wanted == done.stdout else done.stdout.strip()
+                print(f"{name} {way}: {said}" if good else f"{name} {way} WENT WRONG: {done.returncode}\n{done.stdout}{done.stderr}")
+        if shutil.which("c++"):
+            done = subprocess.run(["c++", "-Wall", "-Werror", "-fsyntax-only", "-x", "c++", os.path.join(INCLUDE, "x25.h")], capture_output=True, text=True)
+            wrong += done.returncode != 0
+            print(f"the header as C++: {done.stderr or 'good'}")
+    return wrong
+
+
+def main():
+    parser = argparse.ArgumentParser(description=__doc__, formatter_class=argparse.RawDescriptionHelpFormatter)
+    parser.add_argument("--library", metavar="FOLDER")
+    parser.add_argument("--calls", type=int, default=CALLS, metavar="N")
+    words = parser.parse_args()
+    if words.library:
+        os.environ["X25_LIBRARY"] = words.library
+    library = find_library("a")
+    if not library or not shutil.which("cc"):
+        print("There is no C compiler cc." if library else "There is no libx25.a: make lib leaves it.", file=sys.stderr)
+        return 2
+    return 1 if run(library, words.calls) else 0
+
+
+if __name__ == "__main__":
+    sys.exit(main())

@@ -1,0 +1,87 @@
+"""Tests of the library for C: its header beside the functions that the crate exports, and the programs of tests/c over it."""
+
+import contextlib
+import io
+import re
+import shutil
+import unittest
+
+import support
+import check_c
+from program import find_library
+
+LIBRARY = find_library("a")
+NUMBERS = {"u8": "uint8_t", "u16": "uint16_t", "u32": "uint32_t", "usize": "size_t", "bool": "bool"}
+EXPORT = re.compile(r'pub extern "C" fn (\w+)\(([^)]*)\)(?: -> (\w+))?')
+PROTOTYPE = re.compile(r"^(?:void|bool|\w+_t) x25_\w+\([^)]*\);", re.MULTILINE)
+
+
+def parameter(text):
+    """A parameter of an export as C has it; None for the allocator, which takes no octets."""
+    name, _, kind = text.partition(": ")
+    if kind == "Global":
+        return None
+    if kind == "&mut Slot":
+        return "x25_station *station"
+    if kind == "&[u8]":
+        return f"const uint8_t *{name}, size_t count"
+    if kind == "&mut [u8]":
+        return f"uint8_t *{name}, size_t size"
+    if kind.startswith("&mut "):
+        return f"{NUMBERS[kind[5:]]} *{name}"
+    return f"{NUMBERS[kind]} {name}"
+
+
+def exported():
+    """The functions that the crate exports, in order, as C declares them."""
+    found = []
+    for name, parameters, result in EXPORT.findall(support.read("crates/x25_c/src/lib.rt").decode()):
+        texts = [parameter(" ".join(text.split())) for text in parameters.split(",") if text.strip()]
+        found.append(f"{NUMBERS.get(result, 'void')} {name}({', '.join(text for text in texts if text)});")
+    return found
+
+
+def numbers_of(text):
+    """The numbers of an enumeration of the header, by their names."""
+    return {name: int(number) for name, number in re.findall(r"^    X25_(\w+) = (\d+)", text, re.MULTILINE)}
+
+
+class Header(unittest.TestCase):
+    HEADER = support.read("include/x25.h").decode()
+
+    def test_it_declares_what_the_crate_exports_in_its_order(self):
+        found = [" ".join(text.split()) for text in PROTOTYPE.findall(self.HEADER)]
+        self.assertEqual(found, exported())
+        self.assertIn("uint32_t x25_new(x25_station *station, uint8_t end, uint8_t k, uint8_t n2, uint8_t channels, bool long_data);", found)
+
+    def test_what_c_holds_is_a_pointer_and_a_flag(self):
+        handle, slot = (support.read(f"crates/x25_c/src/{name}.rt").decode() for name in ("handle", "slot"))
+        self.assertRegex(handle, r"pub struct Handle \{\n    at: \*mut u8,\n    alloc: Global,\n    pub ghost held:")
+        self.assertRegex(slot, r"pub struct Slot \{\n    pub\(crate\) handle: Handle,\n    pub\(crate\) is_open: bool,\n    pub\(crate\) ghost")
+        self.assertIn("typedef struct {\n    void *at;\n    bool is_open;\n} x25_station;", self.HEADER)
+
+    def test_its_numbers_are_those_of_the_formats(self):
+        formats = support.read("docs/FORMATS.md").decode()
+        table = formats[formats.index("| 9 | the link isn't up |") :]
+        known = {int(number) for row in re.findall(r"^\| ([\d, ]+) \|", table, re.MULTILINE) for number in row.split(", ")}
+        numbers = {name: number for name, number in numbers_of(self.HEADER).items() if number > 2}
+        self.assertLessEqual(set(numbers.values()), known | {60})
+        source = support.read("crates/x25_c/src/lib.rt").decode()
+        for name, number in re.findall(r"^const (\w+): u32 = (\d+);", source, re.MULTILINE):
+            self.assertEqual(numbers[name], int(number))
+
+
+@unittest.skipUnless(shutil.which("cc"), "there is no C compiler")
+@unittest.skipUnless(LIBRARY, "the library for C isn't built")
+class Programs(unittest.TestCase):
+    def test_the_programs_over_the_library(self):
+        said = io.StringIO()
+        with contextlib.redirect_stdout(said):
+            wrong = check_c.run(LIBRARY, 40_000)
+        self.assertEqual(wrong, 0, said.getvalue())
+        self.assertIn("main as it is: as crates/x25_embed\n", said.getvalue())
+        self.assertRegex(said.getvalue(), r"refused as it is: \d{3,} allocations refused in turn, \d{3,} calls made again\n")
+
+
+if __name__ == "__main__":
+    unittest.main()
