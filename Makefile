@@ -39,7 +39,7 @@ build/x25_refusals: crates.txt $(shell find crates -path '*/out' -prune -o -type
 	.ci/prove x25_refusals x25_world
 
 # The archive of the crate, and that of what it takes memory by.
-build/libx25_c.a: crates.txt $(shell find crates -path '*/out' -prune -o -type f -print) | kit
+build/libx25_c.a: crates.txt $(shell find crates -path '*/out' -prune -o -type f ! -name '*.md' -print) | kit
 	.ci/prove x25_c x25_station
 
 build/libx25.a: build/libx25_c.a
