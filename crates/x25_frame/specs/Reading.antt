@@ -1,5 +1,5 @@
 -- What octets read as: the frame that they spell, or else their first error.
-use Rattle.std.specs.Prelude.{ℕ, ◌+◌, ◌*◌, ◌/◌, ◌%◌, ◌==◌, nat_lt, nat_le, Bool, true, false, not, ◌&&◌, List, [], ◌∷◌, length, slice_index, if◌then◌else◌, Result, Ok, Err, ◌≡◌}
+use Rattle.std.specs.Prelude.{ℕ, ◌+◌, ◌*◌, ◌/◌, ◌%◌, ◌==◌, nat_lt, nat_le, Bool, true, false, not, List, [], ◌∷◌, length, slice_index, if◌then◌else◌, Result, Ok, Err, ◌≡◌}
 use Rattle.x25_bits.specs.FrameCheck.Sealed.{is_sealed}
 use Rattle.x25_bits.specs.declared.role.Role.{Role}
 use Rattle.x25_frame.specs.declared.error.FrameError.{FrameError}
@@ -47,14 +47,6 @@ addressed_frame from n1 octets =
     if address == address_of from true then kind_of n1 true control (information_in octets)
     else if address == address_of from false then kind_of n1 false control (information_in octets)
     else Err BadAddress
-
--- octets are four or more, with their frame check sequence behind the others
-abbrev pub is_intact : List ℕ → Bool
-is_intact octets = not (nat_lt (length octets) 4) && is_sealed octets
-
--- the error of others
-abbrev pub damage : List ℕ → FrameError
-damage octets = if nat_lt (length octets) 4 then Short else BadFcs
 
 unfoldable pub frame_of : Role → ℕ → List ℕ → Result PlainFrame FrameError
 frame_of from n1 octets =

@@ -15,6 +15,6 @@ pub use address::command_address;
 pub use error::FrameError;
 pub use frame::{Frame, N1};
 pub use law::{reading_is_the_grammar, reads_what_is_spelled};
-pub use reading::{decode, decode_checked, is_intact};
+pub use reading::decode;
 pub use spelling::encode;
 pub use x25_bits::{NoMemory, Role, Seq};

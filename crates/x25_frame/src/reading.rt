@@ -3,7 +3,7 @@ ghost use Rattle.std.specs.Prelude.{IfOk, IfErr, IsOkAnd, ◌≡◌, ◌+◌, �
 ghost use Rattle.x25_frame.specs.Frame.{PlainFrame, plain};
 ghost use Rattle.x25_frame.specs.Spelling.{Spells};
 ghost use Rattle.x25_frame.specs.Error.{IsFirstError};
-ghost use Rattle.x25_frame.specs.Reading.{Gives, bare, damage, is_intact, frame_of, kind_of, unnumbered, addressed_frame};
+ghost use Rattle.x25_frame.specs.Reading.{Gives, bare, frame_of, kind_of, unnumbered, addressed_frame};
 
 use crate::address::address;
 use crate::codes::{DISC, DM, FRMR, REJ, RNR, RR, SABM, UA};
@@ -95,61 +95,6 @@ fn read_addressed<'a>(from: Role, n1: usize, octets: &'a [u8]) -> Result<Frame<'
     }
 }
 
-// .. of any length.
-#[inline(never)]
-#[tactic(auto, unfolding(crate::specs::Reading::frame_of))]
-fn decode_any<'a>(from: Role, n1: usize, octets: &'a [u8]) -> Result<Frame<'a>, FrameError>
-    ensures exact { Gives result (frame_of from n1 octets.now) }
-    ensures found { IfOk result (λ v. Spells from n1 (plain v) octets.now) }
-    ensures only { (v : PlainFrame) → Spells from n1 v octets.now → IsOkAnd result (λ w. plain w ≡ v) }
-    ensures error { IfErr result (λ e. IsFirstError from n1 octets.now e) }
-{
-    if octets.len() < 4 {
-        return Err(FrameError::Short);
-    }
-    if !check(octets) {
-        return Err(FrameError::BadFcs);
-    }
-    read_addressed(from, n1, octets)
-}
-
-/// Whether these are four octets or more, of which the last two are the frame check sequence of the others. Octets that aren't spell no frame.
-#[inline(always)]
-pub fn is_intact(octets: &[u8]) -> bool
-    ensures { result ≡ is_intact octets.now }
-{
-    octets.len() >= 4 && check(octets)
-}
-
-// The error of octets that aren't intact.
-#[cold]
-#[inline(never)]
-fn damage(octets: &[u8]) -> FrameError
-    ensures { result ≡ damage octets.now }
-{
-    if octets.len() < 4 {
-        return FrameError::Short;
-    }
-    FrameError::BadFcs
-}
-
-/// The frame that the octets spell, as `decode` reads it, where it is known whether they are intact: their frame check sequence isn't looked at.
-#[inline(always)]
-pub fn decode_checked<'a>(
-    from: Role,
-    n1: usize,
-    octets: &'a [u8],
-    intact: bool,
-) -> Result<Frame<'a>, FrameError>
-    requires { intact ≡ is_intact octets.now }
-    ensures { Gives result (frame_of from n1 octets.now) }
-{
-    if !intact {
-        return Err(damage(octets));
-    }
-    read_addressed(from, n1, octets)
-}
-
 /// The frame that the octets spell, sent by `from`: address, control, information and frame check sequence.
 ///
 /// `n1` is the most octets of information that an I frame may have. An octet list spells at most one frame, and the
@@ -164,12 +109,11 @@ pub fn decode<'a>(from: Role, n1: usize, octets: &'a [u8]) -> Result<Frame<'a>, 
     ensures only { (v : PlainFrame) → Spells from n1 v octets.now → IsOkAnd result (λ w. plain w ≡ v) }
     ensures error { IfErr result (λ e. IsFirstError from n1 octets.now e) }
 {
-    if octets.len() != 4 {
-        return decode_any(from, n1, octets);
+    if octets.len() < 4 {
+        return Err(FrameError::Short);
     }
-    // A frame without information: all that is asked of it stands in the caller's place.
-    if check(octets) {
-        return read_addressed(from, n1, octets);
+    if !check(octets) {
+        return Err(FrameError::BadFcs);
     }
-    Err(FrameError::BadFcs)
+    read_addressed(from, n1, octets)
 }

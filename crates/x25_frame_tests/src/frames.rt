@@ -1,6 +1,6 @@
 use std::test::Fail;
 use x25_frame::Role::{Dce, Dte};
-use x25_frame::{Frame, Role, Seq, command_address, decode, decode_checked, encode, is_intact};
+use x25_frame::{Frame, Role, Seq, command_address, decode, encode};
 
 /// Which frame a row has: a constant can hold no sequence number but 0.
 #[derive(Clone, Copy)]
@@ -67,8 +67,6 @@ fn octets_and_frames(rt: HostRuntime) -> Result<(), Fail> {
     for (from, octets, kind) in ROWS {
         let frame = decode(from, 4099, octets)?;
         assert_eq!(rt; frame, frame_of(kind), "{octets:?}");
-        let same = decode_checked(from, 4099, octets, is_intact(octets))?;
-        assert_eq!(rt; same, frame, "{octets:?}");
         let mut spelled = Vec::new(rt.alloc());
         encode(from, &frame, &mut spelled)?;
         assert_eq!(rt; spelled.as_slice(), octets);

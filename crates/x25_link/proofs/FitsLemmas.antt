@@ -229,3 +229,11 @@ recovery_fits c v s b fits = record {
 pub room_kept : (b : Bool) (k long left before after : ℕ) → k ≤ long + before → after ≡ (if b then before + 1 else before) → long ≡ (if b then left + 1 else left) → k ≤ left + after
 room_kept true k long left before after room place used = omega (arith, room, place, used)
 room_kept false k long left before after room place used = omega (arith, room, place, used)
+
+-- where it goes only while fewer than k stand before that place, no more than k have used theirs
+pub used_few : (b : Bool) (most k long left before after : ℕ) → most ≤ long + before → most ≤ long + k → (b ≡ true → before < k)
+    → after ≡ (if b then before + 1 else before) → long ≡ (if b then left + 1 else left) → (most ≤ left + after) × (most ≤ left + k)
+used_few true most k long left before after low high inside place used =
+    let room = inside refl in
+    (omega (arith, low, place, used), omega (arith, low, room, used))
+used_few false most k long left before after low high inside place used = (omega (arith, low, place, used), omega (arith, high, used))

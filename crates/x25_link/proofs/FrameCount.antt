@@ -1,7 +1,5 @@
 -- How many frames a step sends: one for what it hears, seven by the sending rule, and the RR that ends an RNR.
 use Rattle.std.proofs.Common.{◌≡◌, ℕ, zero, suc, ◌+◌, ◌≤◌, List, [], ◌∷◌, ◌++◌, length, map, Bool, true, false, not, if◌then◌else◌, nat_lt, Result, Ok, Err, refl, ap, arith, length-append, subst, sym}
-use Rattle.std.proofs.Math.Logic.{∥∥₁_elim}
-use Rattle.std.proofs.Props.{props}
 use Rattle.std.proofs.lemmas.List.{length-map}
 use Rattle.x25_frame.specs.Frame.{PlainFrame, info, rr, rnr, rej, sabm, disc, ua, dm, frmr}
 use Rattle.x25_frame.specs.Reading.{frame_of}
@@ -9,16 +7,15 @@ use Rattle.x25_frame.specs.declared.error.FrameError.{FrameError}
 use Rattle.x25_frame.specs.declared.error.FrameError.TheVariants.{Short, BadFcs, BadAddress, Undefined, NoInfoAllowed, TooLong}
 use Rattle.x25_link.specs.declared.phase.Phase.{Phase}
 use Rattle.x25_link.specs.declared.phase.Phase.TheVariants.{Down, Waiting, Up, Closed}
-use Rattle.x25_link.specs.declared.phase.Reason.TheVariants.{Retries}
+use Rattle.x25_link.specs.declared.phase.Reason.TheVariants.{Retries, Counts}
 use Rattle.x25_frame.specs.Spelling.{spelling_of}
 use Rattle.x25_link.specs.Station.{Settings, LinkStation, Side, with_near, is_busy, wanted, next_frame, sends, ready, send_next, may_send, pumped, owes_ready, ended}
 use Rattle.x25_link.specs.Hearing.{Step, quiet, leaves, other, is_valid, acknowledged, is_taken, takes, answers, passes_over, hears_info, peer_is, goes_back, polls, numbered, rejects, reject_of, row_of_frame, row_of}
-use Rattle.x25_link.specs.Link.{alone, hears, when_down, when_waiting, take_step, asks_again, fires, timer_step}
-use Rattle.x25_link.specs.code.FitsLink.{ShownLink, FitsLink, IsMeant}
+use Rattle.x25_link.specs.Link.{alone, hears, when_down, when_waiting, asks_again, fires, timer_step, connects, connect_step, disconnects, disconnect_step, abandon_step}
+use Rattle.x25_link.specs.code.Fits.{Made}
 use Rattle.x25_link.specs.code.Bounds.{TakeSendsFew, PutSendsOne}
 use Rattle.x25_link.proofs.OutgoingLemmas.{sent_length}
-use Rattle.x25_link.proofs.EndLemmas.{with_packet, put_once, ended_stays}
-use Rattle.x25_link.proofs.LinkLemmas.{fires_settled, fires_calm}
+use Rattle.x25_link.proofs.EndLemmas.{with_packet, put_once}
 
 -- ---- one frame at most
 
@@ -151,20 +148,31 @@ take_sends_few c octets s =
     let step = hears c octets (frame_of (other c.role) c.longest octets) s.phase (alone s) in
     omega (arith, ended_count c.window step.side, hears_few c octets (frame_of (other c.role) c.longest octets) s.phase s)
 
--- .. of a link that stands for some state
-pub made_at_most : (n : ℕ) (v : ShownLink) (made : List (List ℕ)) (step : Settings → LinkStation → Step) → IsMeant v
-    → ((c : Settings) (s : LinkStation) → FitsLink c v s → made ≡ map (spelling_of c.role) (step c s).side.out) → ((c : Settings) (s : LinkStation) → length (step c s).side.out ≤ n) → length made ≤ n
-made_at_most n v made step meant out most = ∥∥₁_elim meant (hlevel props) (λ w.
-    let all = ap length (out w.0 w.1 w.2) in
-    let few = most w.0 w.1 in
-    let same = length-map (step w.0 w.1).side.out (spelling_of w.0.role) in
-    omega (arith, all, few, same))
+-- so many frames stand behind those that were made before
+pub made_nine : (c : Settings) (before made : List (List ℕ)) (frames : List PlainFrame) → Made c before made frames → length frames ≤ 9
+    → length made ≤ length before + 9
+made_nine c before made frames is few =
+    let all = ap length is in
+    let parts = length-append before (map (spelling_of c.role) frames) in
+    let same = length-map frames (spelling_of c.role) in
+    omega (arith, all, parts, same, few)
 
-pub made_few : (v : ShownLink) (octets : List ℕ) (made : List (List ℕ)) → IsMeant v
-    → ((c : Settings) (s : LinkStation) → FitsLink c v s → made ≡ map (spelling_of c.role) (take_step c octets s).side.out) → length made ≤ 9
-made_few v octets made meant out = made_at_most 9 v made (λ c s. take_step c octets s) meant out (λ c s. take_sends_few c octets s)
+-- ---- the calls of the user
 
--- ---- timer T1: one, and the end of the step sends none
+-- at most one frame, and those of the end of the step
+closed_few : (k : ℕ) (t : Side) → Few t → length (ended k t).out ≤ 9
+closed_few k t few = omega (arith, ended_count k t, few)
+
+pub connect_sends_few : (c : Settings) (s : LinkStation) → length (connect_step c s).side.out ≤ 9
+connect_sends_few c s = let step : Step = connects (alone s) in closed_few c.window step.side (first (sabm true) [] refl)
+
+pub disconnect_sends_few : (c : Settings) (s : LinkStation) → length (disconnect_step c s).side.out ≤ 9
+disconnect_sends_few c s = let step : Step = disconnects (alone s) in closed_few c.window step.side (first (disc true) [] refl)
+
+pub abandon_sends_few : (c : Settings) (s : LinkStation) → length (abandon_step c s).side.out ≤ 9
+abandon_sends_few c s = let step : Step = leaves Counts (alone s) in closed_few c.window step.side (nothing step.side refl)
+
+-- ---- timer T1
 
 asks_few : (p : Phase) (t : Side) → t.out ≡ [] → Few (asks_again p t)
 asks_few Down t none = first (sabm true) t.out none
@@ -177,18 +185,8 @@ fires_few c s =
     few_step (nat_lt s.tries c.retries) (quiet (asks_again s.phase (with_near (alone s) (record s { tries = s.tries + 1 })))) (leaves Retries (alone s))
     (asks_few s.phase (with_near (alone s) (record s { tries = s.tries + 1 })) refl) (nothing (alone s) refl)
 
-pub timer_sends_one : (c : Settings) (s : LinkStation) → length (timer_step c s).side.out ≤ 1
-timer_sends_one c s =
-    let step : Step = fires c (alone s) in
-    subst (λ (w : Side). length w.out ≤ 1) (sym (ended_stays c.window step.side (fires_settled c (alone s)) (fires_calm c (alone s)))) (fires_few c s)
-
-pub made_behind : {X : Type 0} (before after : List X) (octets_of : X → List ℕ) (made : List (List ℕ)) → map octets_of after ≡ map octets_of before ++ made → length after ≡ length before + length made
-made_behind before after octets_of made is =
-    let all = ap (λ (xs : List (List ℕ)). length xs) is in
-    let parts = length-append (map octets_of before) made in
-    let old = length-map before octets_of in
-    let new = length-map after octets_of in
-    omega (arith, all, parts, old, new)
+pub timer_sends_few : (c : Settings) (s : LinkStation) → length (timer_step c s).side.out ≤ 9
+timer_sends_few c s = let step : Step = fires c (alone s) in closed_few c.window step.side (fires_few c s)
 
 pub put_sends_one : PutSendsOne
 put_sends_one c v s packet fits =

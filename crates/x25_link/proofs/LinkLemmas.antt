@@ -1,18 +1,35 @@
 -- A link between its calls.
-use Rattle.std.proofs.Common.{length, arith, ◌≤◌, ◌≡◌, ℕ, ◌+◌, List, map, Bool, true, false, refl, sym, ap, ◌∙◌, subst}
+use Rattle.std.proofs.Common.{length, max, append-nil, arith, ◌≤◌, ◌≡◌, ℕ, ◌+◌, List, Bool, true, false, refl, sym, ap, ◌∙◌, subst}
 use Rattle.std.proofs.lemmas.Bool.{and_left, and_right}
 use Rattle.std.proofs.lemmas.List.{length-drop}
 use Rattle.std.specs.Prelude.{nat_lt}
-use Rattle.x25_frame.specs.Spelling.{spelling_of}
 use Rattle.x25_link.specs.declared.phase.Phase.{Phase}
 use Rattle.x25_link.specs.declared.phase.Phase.TheVariants.{Down, Waiting, Up, Closed}
-use Rattle.x25_link.specs.Station.{Settings, Side, is_up, is_busy, with_near, ready, may_send, owes_ready, ended}
-use Rattle.x25_link.specs.Link.{asks_again, fires}
-use Rattle.x25_link.specs.code.Fits.{FitsStation}
+use Rattle.x25_link.specs.Station.{Settings, LinkStation, Side, is_up, is_busy, with_near, ready, may_send, owes_ready, ended}
+use Rattle.x25_link.specs.Link.{alone, asks_again, fires}
+use Rattle.x25_link.specs.code.Fits.{FitsStation, FitsSide, Made}
 use Rattle.x25_link.proofs.OutgoingLemmas.{sent_length}
 use Rattle.x25_link.specs.code.Bounds.{FewWait, FewStand, WindowIsSmall}
 use Rattle.x25_link.specs.code.FitsLink.{ShownLink, FitsLink}
 use Rattle.x25_link.proofs.EndLemmas.{ready_sends, ended_stays}
+
+-- ---- a call begins: its frames go behind those that were made
+
+pub begins : (c : Settings) (old inside : ShownLink) (made : List (List ℕ)) (s : LinkStation) → inside ≡ old → FitsLink c old s
+    → made ≡ inside.outbox.made → FitsSide c inside.station old.outbox.made made (alone s)
+begins c old inside made s same fits is = record {
+  near = (subst (λ (v : ShownLink). FitsLink c v s) (sym same) fits).near;
+  out = is ∙ ap (λ (v : ShownLink). v.outbox.made) same ∙ sym (append-nil _);
+}
+
+-- ---- memory: the list of frames
+
+-- it has places for what is kept, for what is set aside, and for so many I frames and two others
+pub few_places : (old inside : ShownLink) (grown places long : ℕ) → inside ≡ old
+    → grown ≤ max inside.outbox.places (length inside.outbox.made + (max inside.outbox.long long + max inside.outbox.short 2))
+    → places ≡ grown → long ≤ inside.outbox.long + 7 → places ≤ max old.outbox.places (length old.outbox.made + (old.outbox.long + 7 + max old.outbox.short 2))
+few_places old inside grown places long same few is low = subst (λ (v : ShownLink). places ≤ max v.outbox.places (length v.outbox.made + (v.outbox.long + 7 + max v.outbox.short 2))) same
+    (omega (arith, few, is, low))
 
 -- ---- a step after which nothing may be sent
 
@@ -20,9 +37,10 @@ pub closed_state : (c : Settings) (v : ShownLink) (u : Side) → FitsStation c v
 closed_state c v u near settled calm =
     subst (λ (w : Side). FitsLink c v w.near) (sym (ended_stays c.window u settled calm)) (record { near = near; settled = settled; calm = calm })
 
-pub closed_out : (c : Settings) (frames : List (List ℕ)) (u : Side) → may_send c.window u.near ≡ false → owes_ready u.near ≡ false → frames ≡ map (spelling_of c.role) u.out
-    → frames ≡ map (spelling_of c.role) (ended c.window u).out
-closed_out c frames u settled calm out = subst (λ (w : Side). frames ≡ map (spelling_of c.role) w.out) (sym (ended_stays c.window u settled calm)) out
+pub closed_out : (c : Settings) (before made : List (List ℕ)) (u : Side) → may_send c.window u.near ≡ false → owes_ready u.near ≡ false
+    → Made c before made u.out → Made c before made (ended c.window u).out
+closed_out c before made u settled calm out =
+    subst (λ (w : Side). Made c before made w.out) (sym (ended_stays c.window u settled calm)) out
 
 -- ---- timer T1
 

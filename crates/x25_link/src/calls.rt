@@ -1,7 +1,7 @@
 //! What a station does at the calls of its user and of its timer.
 ghost use Rattle.std.specs.Prelude.{◌≡◌, ℕ, ◌+◌, ◌<◌, ◌≤◌, List, length, false, true};
-ghost use Rattle.x25_link.specs.Station.{Settings, LinkStation as StationState, Side, may_send, owes_ready, ended};
-ghost use Rattle.x25_link.specs.code.Fits.{FitsStation, FitsSide, FitsHeard};
+ghost use Rattle.x25_link.specs.Station.{Settings, LinkStation as StationState, Side, may_send, owes_ready};
+ghost use Rattle.x25_link.specs.code.Fits.{FitsStation, FitsSide, Leads, Hears};
 ghost use Rattle.x25_link.specs.Hearing.{quiet};
 ghost use Rattle.x25_link.specs.Link.{alone, puts, connects, disconnects, fires, timer_runs, is_idle, asks_again, closed_by};
 
@@ -23,6 +23,7 @@ impl LinkStation {
         ensures queue { length self.new.outgoing.queue ≤ length self.old.outgoing.queue + 1 }
         ensures long { out.new.long + 1 ≡ out.old.long }
         ensures short { out.new.short ≡ out.old.short }
+        ensures places { out.new.places ≡ out.old.places }
     {
         if !self.phase.is_up() || self.recovery || self.peer_busy {
             self.outgoing.add(packet);
@@ -38,7 +39,9 @@ impl LinkStation {
     /// Begins to set the link up.
     pub fn connect(&mut self, out: &mut Outbox)
         requires { 0 < out.old.short }
-        ensures { (c : Settings) (before : List (List ℕ)) (t : Side) → FitsSide c self.old before out.old.made t → FitsSide c self.new before out.new.made (connects t).side }
+        ensures step { (c : Settings) (before : List (List ℕ)) (t : Side) → FitsSide c self.old before out.old.made t → FitsSide c self.new before out.new.made (connects t).side }
+        ensures long { out.new.long ≡ out.old.long }
+        ensures places { out.new.places ≡ out.old.places }
     {
         self.phase = Phase::Waiting;
         self.tries = 0;
@@ -48,7 +51,9 @@ impl LinkStation {
     /// Disconnects, for good.
     pub fn disconnect<'a>(&mut self, out: &mut Outbox) -> Heard<'a>
         requires { 0 < out.old.short }
-        ensures { (c : Settings) (before : List (List ℕ)) (t : Side) → FitsSide c self.old before out.old.made t → FitsHeard c self.new before out.new.made result (disconnects t) }
+        ensures step { Hears self.old self.new out.old out.new result (λ c t. disconnects t) }
+        ensures long { out.new.long ≡ out.old.long }
+        ensures places { out.new.places ≡ out.old.places }
     {
         let down = if self.phase.is_up() {
             Some(Reason::Local)
@@ -74,7 +79,9 @@ impl LinkStation {
     /// A firing of timer T1, where it runs.
     pub fn fire<'a>(&mut self, out: &mut Outbox) -> Heard<'a>
         requires { 0 < out.old.short }
-        ensures { (c : Settings) (before : List (List ℕ)) (t : Side) → FitsSide c self.old before out.old.made t → FitsHeard c self.new before out.new.made result (fires c t) }
+        ensures step { Hears self.old self.new out.old out.new result (λ c t. fires c t) }
+        ensures long { out.new.long ≡ out.old.long }
+        ensures places { out.new.places ≡ out.old.places }
     {
         if self.tries >= self.parameters.n2 {
             return self.leave(Reason::Retries);
@@ -87,7 +94,9 @@ impl LinkStation {
     // SABM again while UA is awaited, and a poll in Up.
     fn ask_again(&mut self, out: &mut Outbox)
         requires { 0 < out.old.short }
-        ensures { (c : Settings) (before : List (List ℕ)) (t : Side) → FitsSide c self.old before out.old.made t → FitsSide c self.new before out.new.made (asks_again t.near.phase t) }
+        ensures step { Leads self.old self.new out.old out.new (λ c t. asks_again t.near.phase t) }
+        ensures long { out.new.long ≡ out.old.long }
+        ensures places { out.new.places ≡ out.old.places }
     {
         match self.phase {
             Phase::Up => {

@@ -1,10 +1,9 @@
 //! FRMR: how a station rejects a frame. ITU-T X.25 (10/96), sections 2.3.4.9 and 2.4.7.3.
-ghost use Rattle.std.specs.Prelude.{◌≡◌, ℕ, ◌+◌, ◌*◌, ◌/◌, ◌%◌, ◌<◌, ◌≤◌, ◌==◌, List, length, slice_index, true, if◌then◌else◌};
+ghost use Rattle.std.specs.Prelude.{◌≡◌, ◌+◌, ◌*◌, ◌/◌, ◌%◌, ◌<◌, ◌≤◌, ◌==◌, length, slice_index, if◌then◌else◌};
 ghost use Rattle.x25_frame.specs.Frame.{plain};
 ghost use Rattle.x25_frame.specs.Spelling.{information_of};
-ghost use Rattle.x25_link.specs.Station.{Settings, LinkStation as StationState, Side};
-ghost use Rattle.x25_link.specs.code.OutgoingHeld.{window_of};
-ghost use Rattle.x25_link.specs.code.Fits.{FitsStation, FitsSide, FitsHeard};
+ghost use Rattle.x25_link.specs.Station.{Settings, LinkStation as StationState};
+ghost use Rattle.x25_link.specs.code.Fits.{FitsStation, Hears, SendsShort};
 ghost use Rattle.x25_link.specs.Hearing.{rejects, reject_of};
 
 use crate::heard::Heard;
@@ -40,10 +39,8 @@ impl LinkStation {
     /// Sends FRMR for these octets, with the third octet of its information, and leaves Up.
     pub fn reject<'a>(&mut self, octets: &[u8], why: u8, out: &mut Outbox) -> Heard<'a>
         requires { 0 < out.old.short }
-        ensures step { (c : Settings) (before : List (List ℕ)) (t : Side) → FitsSide c self.old before out.old.made t → FitsHeard c self.new before out.new.made result (rejects c octets.now why t) }
-        ensures window { window_of self.new.outgoing ≡ window_of self.old.outgoing }
-        ensures long { out.new.long ≡ out.old.long }
-        ensures short { out.old.short ≤ out.new.short + 1 }
+        ensures step { Hears self.old self.new out.old out.new result (λ c t. rejects c octets.now why t) }
+        ensures sent { SendsShort self.old self.new out.old out.new }
     {
         let frame = self.rejection(octets, why);
         self.send(&frame, out);

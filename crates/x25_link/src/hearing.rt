@@ -1,11 +1,11 @@
 //! What a station does with the octets that it takes, phase by phase.
-ghost use Rattle.std.specs.Prelude.{◌≡◌, ℕ, ◌+◌, ◌<◌, ◌≤◌, List, ◌&&◌, Ok, Err, true, false};
+ghost use Rattle.std.specs.Prelude.{◌≡◌, ℕ, ◌+◌, ◌<◌, ◌≤◌, List, Ok, Err, true, false};
 ghost use Rattle.x25_frame.specs.Frame.{plain};
-ghost use Rattle.x25_frame.specs.Reading.{frame_of, is_intact};
+ghost use Rattle.x25_frame.specs.Reading.{frame_of};
 ghost use Rattle.x25_frame.specs.Spelling.{is_command};
-ghost use Rattle.x25_link.specs.Station.{Settings, LinkStation as StationState, Side, is_up, may_send, owes_ready};
-ghost use Rattle.x25_link.specs.code.OutgoingHeld.{window_of, before_in};
-ghost use Rattle.x25_link.specs.code.Fits.{FitsStation, FitsSide, FitsHeard};
+ghost use Rattle.x25_link.specs.Station.{Settings, LinkStation as StationState, is_up, may_send, owes_ready};
+ghost use Rattle.x25_link.specs.code.OutgoingHeld.{window_of};
+ghost use Rattle.x25_link.specs.code.Fits.{FitsStation, FitsSide, FitsHeard, Leads, Hears, SendsShort, SendsInfo};
 ghost use Rattle.x25_link.specs.Hearing.{numbered, hears_info, polls, peer_is, goes_back, quiet, row_of_frame, row_of, other};
 ghost use Rattle.x25_link.specs.Link.{declines, when_down, when_waiting, hears, alone, take_step};
 
@@ -15,7 +15,7 @@ use crate::outbox::Outbox;
 use crate::phase::{Phase, Reason};
 use crate::station::LinkStation;
 use x25_bits::Seq;
-use x25_frame::{Frame, FrameError, decode_checked};
+use x25_frame::{Frame, FrameError, decode};
 
 impl LinkStation {
     // ---- Up
@@ -32,10 +32,9 @@ impl LinkStation {
     ) -> Heard<'a>
         requires room { window_of self.old.outgoing ≤ out.old.long }
         requires short { 0 < out.old.short }
-        ensures step { (c : Settings) (before : List (List ℕ)) (t : Side) → FitsSide c self.old before out.old.made t →
-            FitsHeard c self.new before out.new.made result (numbered c octets.now nr.number (hears_info c.window ns.number p info.now) t) }
-        ensures room { window_of self.new.outgoing ≤ out.new.long + before_in self.new.outgoing }
-        ensures short { out.old.short ≤ out.new.short + 1 }
+        ensures step { Hears self.old self.new out.old out.new result
+            (λ c t. numbered c octets.now nr.number (hears_info c.window ns.number p info.now) t) }
+        ensures sent { SendsInfo self.old self.new out.old out.new }
     {
         if !self.acknowledge(nr) {
             return self.reject(octets, INVALID_NR, out);
@@ -58,11 +57,9 @@ impl LinkStation {
         out: &mut Outbox,
     ) -> Heard<'a>
         requires { 0 < out.old.short }
-        ensures step { (c : Settings) (before : List (List ℕ)) (t : Side) → FitsSide c self.old before out.old.made t →
-            FitsHeard c self.new before out.new.made result (numbered c octets.now nr.number (λ u. quiet (polls command pf (peer_is busy u))) t) }
-        ensures window { window_of self.new.outgoing ≡ window_of self.old.outgoing }
-        ensures long { out.new.long ≡ out.old.long }
-        ensures short { out.old.short ≤ out.new.short + 1 }
+        ensures step { Hears self.old self.new out.old out.new result
+            (λ c t. numbered c octets.now nr.number (λ u. quiet (polls command pf (peer_is busy u))) t) }
+        ensures sent { SendsShort self.old self.new out.old out.new }
     {
         if !self.acknowledge(nr) {
             return self.reject(octets, INVALID_NR, out);
@@ -82,11 +79,9 @@ impl LinkStation {
         out: &mut Outbox,
     ) -> Heard<'a>
         requires { 0 < out.old.short }
-        ensures step { (c : Settings) (before : List (List ℕ)) (t : Side) → FitsSide c self.old before out.old.made t →
-            FitsHeard c self.new before out.new.made result (numbered c octets.now nr.number (λ u. quiet (polls command pf (goes_back (peer_is false u)))) t) }
-        ensures window { window_of self.new.outgoing ≡ window_of self.old.outgoing }
-        ensures long { out.new.long ≡ out.old.long }
-        ensures short { out.old.short ≤ out.new.short + 1 }
+        ensures step { Hears self.old self.new out.old out.new result
+            (λ c t. numbered c octets.now nr.number (λ u. quiet (polls command pf (goes_back (peer_is false u)))) t) }
+        ensures sent { SendsShort self.old self.new out.old out.new }
     {
         if !self.acknowledge(nr) {
             return self.reject(octets, INVALID_NR, out);
@@ -101,10 +96,9 @@ impl LinkStation {
     fn hear_frame<'a>(&mut self, octets: &[u8], frame: Frame<'a>, out: &mut Outbox) -> Heard<'a>
         requires room { window_of self.old.outgoing ≤ out.old.long }
         requires short { 0 < out.old.short }
-        ensures step { (c : Settings) (before : List (List ℕ)) (t : Side) → FitsSide c self.old before out.old.made t →
-            FitsHeard c self.new before out.new.made result (row_of_frame c octets.now (plain frame.entry) t) }
-        ensures room { window_of self.new.outgoing ≤ out.new.long + before_in self.new.outgoing }
-        ensures short { out.old.short ≤ out.new.short + 1 }
+        ensures step { Hears self.old self.new out.old out.new result
+            (λ c t. row_of_frame c octets.now (plain frame.entry) t) }
+        ensures sent { SendsInfo self.old self.new out.old out.new }
     {
         match frame {
             Frame::I { ns, nr, p, info } => self.hear_i(octets, ns, nr, p, info, out),
@@ -129,11 +123,8 @@ impl LinkStation {
     // Octets that spell no frame, in Up.
     fn hear_error<'a>(&mut self, octets: &[u8], error: FrameError, out: &mut Outbox) -> Heard<'a>
         requires { 0 < out.old.short }
-        ensures step { (c : Settings) (before : List (List ℕ)) (t : Side) → FitsSide c self.old before out.old.made t →
-            FitsHeard c self.new before out.new.made result (row_of c octets.now (Err error) t) }
-        ensures window { window_of self.new.outgoing ≡ window_of self.old.outgoing }
-        ensures long { out.new.long ≡ out.old.long }
-        ensures short { out.old.short ≤ out.new.short + 1 }
+        ensures step { Hears self.old self.new out.old out.new result (λ c t. row_of c octets.now (Err error) t) }
+        ensures sent { SendsShort self.old self.new out.old out.new }
     {
         match error {
             FrameError::Undefined { .. } => self.reject(octets, UNDEFINED_CONTROL, out),
@@ -145,16 +136,14 @@ impl LinkStation {
 
     // Octets, in Up.
     #[inline(always)]
-    fn hear_up<'a>(&mut self, octets: &'a [u8], intact: bool, out: &mut Outbox) -> Heard<'a>
-        requires intact { intact ≡ is_intact octets.now }
+    fn hear_up<'a>(&mut self, octets: &'a [u8], out: &mut Outbox) -> Heard<'a>
         requires room { window_of self.old.outgoing ≤ out.old.long }
         requires short { 0 < out.old.short }
-        ensures step { (c : Settings) (before : List (List ℕ)) (t : Side) → FitsSide c self.old before out.old.made t →
-            FitsHeard c self.new before out.new.made result (row_of c octets.now (frame_of (other c.role) c.longest octets.now) t) }
-        ensures room { window_of self.new.outgoing ≤ out.new.long + before_in self.new.outgoing }
-        ensures short { out.old.short ≤ out.new.short + 1 }
+        ensures step { Hears self.old self.new out.old out.new result
+            (λ c t. row_of c octets.now (frame_of (other c.role) c.longest octets.now) t) }
+        ensures sent { SendsInfo self.old self.new out.old out.new }
     {
-        match decode_checked(self.role.other(), self.parameters.n1, octets, intact) {
+        match decode(self.role.other(), self.parameters.n1, octets) {
             Ok(frame) => self.hear_frame(octets, frame, out),
             Err(error) => self.hear_error(octets, error, out),
         }
@@ -165,10 +154,10 @@ impl LinkStation {
     // A command with P=1 is answered by DM.
     fn decline(&self, frame: &Frame, out: &mut Outbox)
         requires { 0 < out.old.short }
-        ensures step { (c : Settings) (before : List (List ℕ)) (t : Side) → FitsSide c self.now before out.old.made t →
-            FitsSide c self.now before out.new.made (declines (plain frame.now) t) }
+        ensures step { Leads self.now self.now out.old out.new (λ c t. declines (plain frame.now) t) }
         ensures long { out.new.long ≡ out.old.long }
         ensures short { out.old.short ≤ out.new.short + 1 }
+        ensures places { out.new.places ≡ out.old.places }
     {
         if frame.is_poll() {
             self.send(&Frame::Dm { f: true }, out);
@@ -179,11 +168,8 @@ impl LinkStation {
     #[cold]
     fn hear_down<'a>(&mut self, frame: &Frame, out: &mut Outbox) -> Heard<'a>
         requires { 0 < out.old.short }
-        ensures step { (c : Settings) (before : List (List ℕ)) (t : Side) → FitsSide c self.old before out.old.made t →
-            FitsHeard c self.new before out.new.made result (when_down (plain frame.now) t) }
-        ensures window { window_of self.new.outgoing ≡ window_of self.old.outgoing }
-        ensures long { out.new.long ≡ out.old.long }
-        ensures short { out.old.short ≤ out.new.short + 1 }
+        ensures step { Hears self.old self.new out.old out.new result (λ c t. when_down (plain frame.now) t) }
+        ensures sent { SendsShort self.old self.new out.old out.new }
     {
         match frame {
             Frame::Sabm { p } => {
@@ -206,11 +192,8 @@ impl LinkStation {
     #[cold]
     fn hear_waiting<'a>(&mut self, frame: &Frame, out: &mut Outbox) -> Heard<'a>
         requires { 0 < out.old.short }
-        ensures step { (c : Settings) (before : List (List ℕ)) (t : Side) → FitsSide c self.old before out.old.made t →
-            FitsHeard c self.new before out.new.made result (when_waiting (plain frame.now) t) }
-        ensures window { window_of self.new.outgoing ≡ window_of self.old.outgoing }
-        ensures long { out.new.long ≡ out.old.long }
-        ensures short { out.old.short ≤ out.new.short + 1 }
+        ensures step { Hears self.old self.new out.old out.new result (λ c t. when_waiting (plain frame.now) t) }
+        ensures sent { SendsShort self.old self.new out.old out.new }
     {
         match frame {
             Frame::Ua { f: true } => {
@@ -232,17 +215,14 @@ impl LinkStation {
     // Octets, in a phase other than Up.
     #[cold]
     #[inline(never)]
-    fn hear_apart<'a>(&mut self, octets: &[u8], intact: bool, out: &mut Outbox) -> Heard<'a>
-        requires intact { intact ≡ is_intact octets.now }
+    fn hear_apart<'a>(&mut self, octets: &[u8], out: &mut Outbox) -> Heard<'a>
         requires apart { is_up self.old.phase ≡ false }
         requires short { 0 < out.old.short }
-        ensures step { (c : Settings) (before : List (List ℕ)) (t : Side) → FitsSide c self.old before out.old.made t →
-            FitsHeard c self.new before out.new.made result (hears c octets.now (frame_of (other c.role) c.longest octets.now) t.near.phase t) }
-        ensures window { window_of self.new.outgoing ≡ window_of self.old.outgoing }
-        ensures long { out.new.long ≡ out.old.long }
-        ensures short { out.old.short ≤ out.new.short + 1 }
+        ensures step { Hears self.old self.new out.old out.new result
+            (λ c t. hears c octets.now (frame_of (other c.role) c.longest octets.now) t.near.phase t) }
+        ensures sent { SendsShort self.old self.new out.old out.new }
     {
-        let read = decode_checked(self.role.other(), self.parameters.n1, octets, intact);
+        let read = decode(self.role.other(), self.parameters.n1, octets);
         let Ok(frame) = read else {
             return Heard::quiet();
         };
@@ -261,32 +241,31 @@ impl LinkStation {
 
     // What the octets bring, before the sending rule.
     #[inline(always)]
-    fn hear_octets<'a>(&mut self, octets: &'a [u8], intact: bool, out: &mut Outbox) -> Heard<'a>
-        requires intact { intact ≡ is_intact octets.now }
+    fn hear_octets<'a>(&mut self, octets: &'a [u8], out: &mut Outbox) -> Heard<'a>
         requires room { window_of self.old.outgoing ≤ out.old.long }
         requires short { 0 < out.old.short }
-        ensures step { (c : Settings) (before : List (List ℕ)) (t : Side) → FitsSide c self.old before out.old.made t →
-            FitsHeard c self.new before out.new.made result (hears c octets.now (frame_of (other c.role) c.longest octets.now) t.near.phase t) }
-        ensures room { window_of self.new.outgoing ≤ out.new.long + before_in self.new.outgoing }
-        ensures short { out.old.short ≤ out.new.short + 1 }
+        ensures step { Hears self.old self.new out.old out.new result
+            (λ c t. hears c octets.now (frame_of (other c.role) c.longest octets.now) t.near.phase t) }
+        ensures sent { SendsInfo self.old self.new out.old out.new }
     {
         if self.phase.is_up() {
-            return self.hear_up(octets, intact, out);
+            return self.hear_up(octets, out);
         }
-        self.hear_apart(octets, intact, out)
+        self.hear_apart(octets, out)
     }
 
-    /// Takes octets, of which it is known whether they are intact, and sends what they ask for.
-    pub fn hear<'a>(&mut self, octets: &'a [u8], intact: bool, out: &mut Outbox) -> Heard<'a>
-        requires intact { intact ≡ is_intact octets.now }
+    /// Takes octets, and sends what they ask for.
+    pub fn hear<'a>(&mut self, octets: &'a [u8], out: &mut Outbox) -> Heard<'a>
         requires long { window_of self.old.outgoing ≤ out.old.long }
         requires short { 2 ≤ out.old.short }
         ensures step { (c : Settings) (before : List (List ℕ)) (s : StationState) → FitsSide c self.old before out.old.made (alone s) →
             FitsHeard c self.new before out.new.made result (take_step c octets.now s) }
         ensures settled { (c : Settings) (s : StationState) → FitsStation c self.old s → may_send c.window (take_step c octets.now s).side.near ≡ false }
         ensures calm { (c : Settings) (s : StationState) → FitsStation c self.old s → owes_ready (take_step c octets.now s).side.near ≡ false }
+        ensures left { out.old.long ≤ out.new.long + window_of self.old.outgoing }
+        ensures places { out.new.places ≡ out.old.places }
     {
-        let heard = self.hear_octets(octets, intact, out);
+        let heard = self.hear_octets(octets, out);
         self.end(out);
         heard
     }

@@ -16,7 +16,6 @@ mod outgoing;
 mod phase;
 mod plain_link;
 mod station;
-mod step;
 mod waiting_packets;
 
 pub use error::LinkError;
@@ -29,6 +28,5 @@ pub use link::Link;
 pub use ordered_link::OrderedLink;
 pub use phase::{Notes, Phase, Reason};
 pub use plain_link::PlainLink;
-pub use step::Step;
 pub use x25_bits::Role;
 pub use x25_frame::N1;

@@ -1,8 +1,8 @@
 //! What a station that is Up does with frames that carry an N(R).
-ghost use Rattle.std.specs.Prelude.{◌≡◌, ℕ, ◌+◌, ◌<◌, ◌≤◌, List, length, true, false, option_copied};
+ghost use Rattle.std.specs.Prelude.{◌≡◌, ℕ, ◌+◌, ◌<◌, ◌≤◌, List, true, false, option_copied};
 ghost use Rattle.x25_link.specs.Station.{Settings, LinkStation as StationState, Side};
-ghost use Rattle.x25_link.specs.code.OutgoingHeld.{window_of, before_in};
-ghost use Rattle.x25_link.specs.code.Fits.{FitsStation, FitsSide};
+ghost use Rattle.x25_link.specs.code.OutgoingHeld.{window_of};
+ghost use Rattle.x25_link.specs.code.Fits.{FitsStation, FitsSide, Leads, SendsShort, SendsInfo};
 ghost use Rattle.x25_link.specs.Hearing.{is_valid, acknowledged, is_taken, takes, answers, passes_over, hears_info, polls};
 
 use crate::outbox::Outbox;
@@ -43,8 +43,7 @@ impl LinkStation {
             FitsSide c self.new before out.new.made (hears_info c.window ns.number p info.now t).side }
         ensures packet { (c : Settings) (before : List (List ℕ)) (t : Side) → FitsSide c self.old before out.old.made t →
             option_copied result ≡ (hears_info c.window ns.number p info.now t).packet }
-        ensures room { window_of self.new.outgoing ≤ out.new.long + before_in self.new.outgoing }
-        ensures short { out.old.short ≤ out.new.short + 1 }
+        ensures sent { SendsInfo self.old self.new out.old out.new }
     {
         if self.takes(ns) {
             self.answer(p, out);
@@ -76,9 +75,8 @@ impl LinkStation {
     fn answer(&mut self, p: bool, out: &mut Outbox)
         requires room { window_of self.old.outgoing ≤ out.old.long }
         requires short { 0 < out.old.short }
-        ensures step { (c : Settings) (before : List (List ℕ)) (t : Side) → FitsSide c self.old before out.old.made t → FitsSide c self.new before out.new.made (answers c.window p t) }
-        ensures room { window_of self.new.outgoing ≤ out.new.long + before_in self.new.outgoing }
-        ensures short { out.old.short ≤ out.new.short + 1 }
+        ensures step { Leads self.old self.new out.old out.new (λ c t. answers c.window p t) }
+        ensures sent { SendsInfo self.old self.new out.old out.new }
     {
         if p {
             self.ready(false, true, out);
@@ -92,10 +90,11 @@ impl LinkStation {
     // Passes over an I frame that isn't taken.
     fn pass_over(&mut self, p: bool, out: &mut Outbox)
         requires { 0 < out.old.short }
-        ensures step { (c : Settings) (before : List (List ℕ)) (t : Side) → FitsSide c self.old before out.old.made t → FitsSide c self.new before out.new.made (passes_over p t) }
+        ensures step { Leads self.old self.new out.old out.new (λ c t. passes_over p t) }
         ensures outgoing { self.new.outgoing ≡ self.old.outgoing }
         ensures long { out.new.long ≡ out.old.long }
         ensures short { out.old.short ≤ out.new.short + 1 }
+        ensures places { out.new.places ≡ out.old.places }
     {
         if self.is_busy() {
             self.ready(false, p, out);
@@ -118,10 +117,8 @@ impl LinkStation {
     /// Answers a command with P=1. A response with F=1 ends recovery.
     pub fn poll(&mut self, command: bool, pf: bool, out: &mut Outbox)
         requires { 0 < out.old.short }
-        ensures step { (c : Settings) (before : List (List ℕ)) (t : Side) → FitsSide c self.old before out.old.made t → FitsSide c self.new before out.new.made (polls command pf t) }
-        ensures window { window_of self.new.outgoing ≡ window_of self.old.outgoing }
-        ensures long { out.new.long ≡ out.old.long }
-        ensures short { out.old.short ≤ out.new.short + 1 }
+        ensures step { Leads self.old self.new out.old out.new (λ c t. polls command pf t) }
+        ensures sent { SendsShort self.old self.new out.old out.new }
     {
         match (command, pf) {
             (true, true) => self.ready(false, true, out),

@@ -1,10 +1,8 @@
-ghost use Rattle.std.specs.Prelude.{◌≡◌, ℕ, ◌+◌, ◌-◌, ◌<◌, ◌≤◌, ◌⊎◌, List, [], ◌∷◌, ◌++◌, length, map, max, vec_len, vec_capacity, true, false, OnOk, OnErr};
+ghost use Rattle.std.specs.Prelude.{◌≡◌, ℕ, ◌+◌, ◌-◌, ◌<◌, ◌≤◌, ◌⊎◌, List, [], ◌∷◌, ◌++◌, length, map, max, min, vec_len, vec_capacity, true, false, OnOk, OnErr};
 ghost use Rattle.x25_frame.specs.Frame.{plain, info};
 ghost use Rattle.x25_frame.specs.Spelling.{spelling_of, information_of};
 ghost use Rattle.x25_link.specs.code.Outbox.{ShownOutbox};
 
-use crate::heard::Heard;
-use crate::step::Step;
 use std::alloc::{AllocError, Global};
 use std::marker::Model;
 use std::mem;
@@ -17,14 +15,12 @@ const LONGEST_FRAME: usize = 4103;
 /// The most octets of a frame that carries no packet: those of FRMR.
 const SHORT_FRAME: usize = 7;
 
-/// The most buffers for I frames that stay where no memory is promised: for so many packets a packet layer sets memory aside.
-const MOST_LONG: usize = 16;
+/// The most buffers for I frames that stay where no memory is promised. A packet layer sets memory aside for 16 packets, and beside
+/// it a call takes that of 7 I frames.
+const MOST_LONG: usize = 32;
 
 /// The most buffers for other frames that stay where no memory is promised: so many one call sends.
 const MOST_SHORT: usize = 2;
-
-/// The most places of a list of frames that is given back and stays.
-const MOST_PLACES: usize = 64;
 
 /// The octets of a frame beside its information: address, control and frame check sequence.
 const FRAME_OVERHEAD: usize = 4;
@@ -38,7 +34,6 @@ pub struct Outbox {
     made: Vec<Vec<u8>>,
     long: Blanks<LONGEST_FRAME, MOST_LONG>,
     short: Blanks<SHORT_FRAME, MOST_SHORT>,
-    alloc: Global,
 }
 
 impl Model for Outbox {
@@ -47,7 +42,7 @@ impl Model for Outbox {
 
     ghost Value = { ShownOutbox };
 
-    ghost view = { λ o. record { made = map (λ v. v.items) o.made.items; long = o.long; short = o.short } };
+    ghost view = { λ o. record { made = map (λ v. v.items) o.made.items; places = vec_capacity o.made; long = o.long; short = o.short } };
 
     ghost invariant = { λ o. vec_len o.made + (o.long + o.short) ≤ vec_capacity o.made };
 }
@@ -55,13 +50,12 @@ impl Model for Outbox {
 impl Outbox {
     /// No frame is made, and no memory set aside.
     pub fn new(alloc: Global) -> Outbox
-        ensures { result ≡ record { made = []; long = 0; short = 0 } }
+        ensures { result ≡ record { made = []; places = 0; long = 0; short = 0 } }
     {
         Outbox {
             made: Vec::new(alloc),
             long: Blanks::new(alloc),
             short: Blanks::new(alloc),
-            alloc,
         }
     }
 
@@ -75,14 +69,14 @@ impl Outbox {
     /// How many buffers of the longest frame are kept.
     pub fn blanks(&self) -> usize
         ensures least { self.now.long ≤ result }
-        ensures most { result ≤ max self.now.long 16 }
+        ensures most { result ≤ max self.now.long 32 }
     {
         self.long.kept()
     }
 
     /// How many buffers are kept that were given back, each of at most 4,103 octets.
     pub fn returned(&self) -> usize
-        ensures { result ≤ 16 }
+        ensures { result ≤ 32 }
     {
         self.long.returned()
     }
@@ -92,6 +86,8 @@ impl Outbox {
     #[inline(always)]
     pub fn reserve(&mut self, long: usize, short: usize) -> Result<(), AllocError>
         ensures made { self.new.made ≡ self.old.made }
+        ensures places { self.new.places ≤ max self.old.places
+            (length self.old.made + (max self.old.long long + max self.old.short short)) }
         ensures long { OnOk result (self.new.long ≡ max self.old.long long) }
         ensures short { OnOk result (self.new.short ≡ max self.old.short short) }
         ensures missing { OnErr result ((self.old.long < long) ⊎ (self.old.short < short)) }
@@ -107,6 +103,7 @@ impl Outbox {
     #[inline(always)]
     fn promises(&mut self, long: usize, short: usize) -> bool
         ensures made { self.new.made ≡ self.old.made }
+        ensures places { self.new.places ≡ self.old.places }
         ensures long { result ≡ true → self.new.long ≡ max self.old.long long }
         ensures short { result ≡ true → self.new.short ≡ max self.old.short short }
         ensures same { result ≡ false → self.new ≡ self.old }
@@ -130,25 +127,30 @@ impl Outbox {
         true
     }
 
-    // .. where it may be that less is set aside.
+    // Sets as much aside, where more may have to be made for that.
     #[cold]
     #[inline(never)]
     fn reserve_more(&mut self, long: usize, short: usize) -> Result<(), AllocError>
         ensures made { self.new.made ≡ self.old.made }
+        ensures places { self.new.places ≤ max self.old.places
+            (length self.old.made + (max self.old.long long + max self.old.short short)) }
         ensures long { OnOk result (self.new.long ≡ max self.old.long long) }
         ensures short { OnOk result (self.new.short ≡ max self.old.short short) }
         ensures missing { OnErr result ((self.old.long < long) ⊎ (self.old.short < short)) }
         ensures err { OnErr result (self.new ≡ self.old) }
     {
-        let before = self.short.promised();
-        let long_count = self.long.promised().max(long);
-        let Some(count) = long_count.checked_add(before.max(short)) else {
+        let (long_before, short_before) = (self.long.promised(), self.short.promised());
+        let Some(count) = long_before.max(long).checked_add(short_before.max(short)) else {
             return Err(AllocError);
         };
-        self.made.reserve(count)?;
         self.short.reserve(short)?;
         if self.long.reserve(long).is_err() {
-            self.short.limit(before);
+            self.short.limit(short_before);
+            return Err(AllocError);
+        }
+        if self.made.reserve_exact(count).is_err() {
+            self.long.limit(long_before);
+            self.short.limit(short_before);
             return Err(AllocError);
         }
         Ok(())
@@ -189,54 +191,23 @@ impl Outbox {
         self.long.limit(self.long.promised().saturating_sub(1));
     }
 
-    /// What a call answers: the frames that were made, and what it heard.
+    /// Takes the promise of memory back beyond that for so many I frames.
     #[inline(always)]
-    pub fn answered<'a>(&mut self, heard: Heard<'a>) -> Step<'a>
-        ensures frames { map (λ v. v.items) result.frames.items ≡ self.old.made }
-        ensures packet { result.packet ≡ heard.entry.packet }
-        ensures notes { result.notes ≡ heard.entry.notes }
-        ensures empty { self.new ≡ record { made = []; long = 0; short = 0 } }
+    pub fn limit(&mut self, long: usize)
+        ensures { self.new ≡ record self.old { long = min self.old.long long } }
     {
-        Step {
-            frames: self.drain(),
-            packet: heard.packet,
-            notes: heard.notes,
-        }
+        self.long.limit(long);
     }
 
-    /// Hands out the frames that were made. No memory is promised for further ones.
-    #[inline(always)]
-    pub fn drain(&mut self) -> Vec<Vec<u8>>
-        ensures made { map (λ v. v.items) result.items ≡ self.old.made }
-        ensures empty { self.new ≡ record { made = []; long = 0; short = 0 } }
-    {
-        self.promise_none();
-        if self.made.is_empty() {
-            return Vec::new(self.alloc);
-        }
-        mem::replace(&mut self.made, Vec::new(self.alloc))
-    }
-
-    // Memory that was set aside is no longer promised.
-    #[inline(always)]
-    fn promise_none(&mut self)
-        ensures { self.new ≡ record self.old { long = 0; short = 0 } }
+    /// Exchanges the frames that were made with those of a list. No memory is promised for further ones.
+    pub fn swap(&mut self, frames: &mut Vec<Vec<u8>>)
+        ensures frames { map (λ v. v.items) frames.new.items ≡ self.old.made }
+        ensures places { vec_capacity frames.new ≡ self.old.places }
+        ensures made { self.new ≡ record { made = map (λ v. v.items) frames.old.items; places = vec_capacity frames.old; long = 0; short = 0 } }
     {
         self.long.limit(0);
         self.short.limit(0);
-    }
-
-    /// Puts the frames that were made behind others, in memory that was set aside, and keeps its own list. No memory is promised for
-    /// further ones.
-    #[inline(always)]
-    pub fn drain_into(&mut self, frames: &mut Vec<Vec<u8>>)
-        requires room { vec_len frames.old + length self.old.made ≤ vec_capacity frames.old }
-        ensures made { map (λ v. v.items) frames.new.items ≡ map (λ v. v.items) frames.old.items ++ self.old.made }
-        ensures capacity { vec_capacity frames.old ≤ vec_capacity frames.new }
-        ensures empty { self.new ≡ record { made = []; long = 0; short = 0 } }
-    {
-        self.promise_none();
-        append(frames, &mut self.made);
+        mem::swap(&mut self.made, frames);
     }
 
     /// Takes memory of a frame back, for a later one.
@@ -245,41 +216,6 @@ impl Outbox {
         ensures { self.new ≡ self.old }
     {
         self.long.give_back(octets);
-    }
-
-    /// Takes an empty list back, for the frames of a later call, where it has more room than the one that is kept. The other is
-    /// answered.
-    pub fn swap_list(&mut self, list: Vec<Vec<u8>>) -> Vec<Vec<u8>>
-        requires { list.items ≡ [] }
-        ensures same { self.new ≡ self.old }
-        ensures empty { result.items ≡ [] }
-    {
-        let is_kept = self.made.is_empty()
-            && self.made.capacity() < list.capacity()
-            && list.capacity() <= MOST_PLACES;
-        if !is_kept {
-            return list;
-        }
-        mem::replace(&mut self.made, list)
-    }
-}
-
-// Puts frames behind others, in memory that was set aside, and leaves their list empty.
-#[inline(always)]
-fn append(frames: &mut Vec<Vec<u8>>, more: &mut Vec<Vec<u8>>)
-    requires { vec_len frames.old + vec_len more.old ≤ vec_capacity frames.old }
-    ensures items { frames.new.items ≡ frames.old.items ++ more.old.items }
-    ensures capacity { vec_capacity frames.old ≤ vec_capacity frames.new }
-    ensures empty { more.new.items ≡ [] }
-{
-    if more.len() == 1 {
-        if let Some(frame) = more.pop() {
-            frames.push_reserved(frame);
-        }
-        return;
-    }
-    if !more.is_empty() {
-        frames.append(more).unwrap();
     }
 }
 

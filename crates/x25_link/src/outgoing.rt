@@ -173,6 +173,7 @@ impl Outgoing {
         ensures queue { length self.new.queue ≤ length self.old.queue + 1 }
         ensures long { out.old.long ≡ (if result then out.new.long + 1 else out.new.long) }
         ensures short { out.new.short ≡ out.old.short }
+        ensures places { out.new.places ≡ out.old.places }
     {
         if self.sender.is_full() {
             self.queue.push(packet);
@@ -193,8 +194,10 @@ impl Outgoing {
         ensures queue { length self.new.queue ≤ length self.old.queue }
         ensures window { window_of self.new ≡ window_of self.old }
         ensures before { before_in self.new ≡ (if result then before_in self.old + 1 else before_in self.old) }
+        ensures inside { result ≡ true → before_in self.old < window_of self.old }
         ensures long { out.old.long ≡ (if result then out.new.long + 1 else out.new.long) }
         ensures short { out.new.short ≡ out.old.short }
+        ensures places { out.new.places ≡ out.old.places }
     {
         let is_closed = self.sender.is_full();
         if send_again(&mut self.sender, from, nr, out) {
@@ -221,8 +224,10 @@ fn send_again(sender: &mut Sender<Octets>, from: Role, nr: Seq, out: &mut Outbox
         out.new.made ≡ (if result then out.old.made ++ spelling_of from (info (w.place % 8) nr.number false (slice_index_or w.given w.place [])) ∷ [] else out.old.made) }
     ensures held { sender.new ≡ (if result then record sender.old { before = sender.old.before + 1 } else sender.old) }
     ensures last { result ≡ false → sender.old.before ≡ length sender.old.items }
+    ensures inside { result ≡ true → sender.old.before < length sender.old.items }
     ensures long { out.old.long ≡ (if result then out.new.long + 1 else out.new.long) }
     ensures short { out.new.short ≡ out.old.short }
+    ensures places { out.new.places ≡ out.old.places }
 {
     let Some((ns, packet)) = sender.next() else {
         return false;
@@ -242,6 +247,7 @@ fn send_new(sender: &mut Sender<Octets>, packet: Octets, from: Role, nr: Seq, ou
     ensures held { sender.new ≡ with_item sender.old packet }
     ensures long { out.old.long ≡ out.new.long + 1 }
     ensures short { out.new.short ≡ out.old.short }
+    ensures places { out.new.places ≡ out.old.places }
 {
     out.send_packet(from, sender.top(), nr, packet.as_slice());
     sender.offer(packet).unwrap();

@@ -1,4 +1,4 @@
-ghost use Rattle.std.specs.Prelude.{◌≡◌, ℕ, ◌+◌, ◌<◌, ◌≤◌, ◌&&◌, not, nat_lt, List, length, if◌then◌else◌};
+ghost use Rattle.std.specs.Prelude.{◌≡◌, ℕ, ◌+◌, ◌<◌, ◌≤◌, ◌&&◌, true, List, length, if◌then◌else◌};
 ghost use Rattle.x25_frame.specs.Frame.{plain};
 ghost use Rattle.x25_frame.specs.Spelling.{information_of};
 ghost use Rattle.x25_link.specs.Hearing.{leaves};
@@ -44,7 +44,7 @@ pub struct LinkStation {
 
 impl LinkStation {
     ghost use Rattle.x25_link.specs.code.OutgoingHeld.{window_of, before_in};
-    ghost use Rattle.x25_link.specs.code.Fits.{FitsStation, FitsSide, FitsHeard};
+    ghost use Rattle.x25_link.specs.code.Fits.{FitsStation, FitsSide, FitsHeard, Leads, Turns};
 
     /// Whether the station is busy, and takes no I frame.
     pub fn is_busy(&self) -> bool
@@ -59,9 +59,10 @@ impl LinkStation {
     fn send_here(&self, frame: &Frame, out: &mut Outbox)
         requires ready { 0 < out.old.short }
         requires short { length (information_of (plain frame.now)) ≤ 3 }
-        ensures step { (c : Settings) (before : List (List ℕ)) (t : Side) → FitsSide c self.now before out.old.made t → FitsSide c self.now before out.new.made (sends (plain frame.now) t) }
+        ensures step { Leads self.now self.now out.old out.new (λ c t. sends (plain frame.now) t) }
         ensures short { out.old.short ≡ out.new.short + 1 }
         ensures long { out.new.long ≡ out.old.long }
+        ensures places { out.new.places ≡ out.old.places }
     {
         out.send_short(self.role, frame);
     }
@@ -71,9 +72,10 @@ impl LinkStation {
     pub fn send(&self, frame: &Frame, out: &mut Outbox)
         requires ready { 0 < out.old.short }
         requires short { length (information_of (plain frame.now)) ≤ 3 }
-        ensures step { (c : Settings) (before : List (List ℕ)) (t : Side) → FitsSide c self.now before out.old.made t → FitsSide c self.now before out.new.made (sends (plain frame.now) t) }
+        ensures step { Leads self.now self.now out.old out.new (λ c t. sends (plain frame.now) t) }
         ensures short { out.old.short ≡ out.new.short + 1 }
         ensures long { out.new.long ≡ out.old.long }
+        ensures places { out.new.places ≡ out.old.places }
     {
         self.send_here(frame, out);
     }
@@ -82,10 +84,11 @@ impl LinkStation {
     #[inline(always)]
     pub fn ready(&mut self, command: bool, pf: bool, out: &mut Outbox)
         requires { 0 < out.old.short }
-        ensures step { (c : Settings) (before : List (List ℕ)) (t : Side) → FitsSide c self.old before out.old.made t → FitsSide c self.new before out.new.made (ready command pf t) }
+        ensures step { Leads self.old self.new out.old out.new (λ c t. ready command pf t) }
         ensures outgoing { self.new.outgoing ≡ self.old.outgoing }
         ensures short { out.old.short ≡ out.new.short + 1 }
         ensures long { out.new.long ≡ out.old.long }
+        ensures places { out.new.places ≡ out.old.places }
     {
         let nr = self.receiver.wanted();
         if self.is_busy() {
@@ -102,7 +105,10 @@ impl LinkStation {
     pub fn end(&mut self, out: &mut Outbox)
         requires long { window_of self.old.outgoing ≤ out.old.long + before_in self.old.outgoing }
         requires short { 0 < out.old.short }
-        ensures { (c : Settings) (before : List (List ℕ)) (t : Side) → FitsSide c self.old before out.old.made t → FitsSide c self.new before out.new.made (ended c.window t) }
+        ensures step { Leads self.old self.new out.old out.new (λ c t. ended c.window t) }
+        ensures left { (most : ℕ) → most ≤ out.old.long + before_in self.old.outgoing → most ≤ out.old.long + window_of self.old.outgoing →
+            most ≤ out.new.long + window_of self.old.outgoing }
+        ensures places { out.new.places ≡ out.old.places }
     {
         self.pump(out);
         self.finish(out);
@@ -111,19 +117,25 @@ impl LinkStation {
     // The sending rule, for the frames of a window: where it sends no first one, it sends none.
     fn pump(&mut self, out: &mut Outbox)
         requires long { window_of self.old.outgoing ≤ out.old.long + before_in self.old.outgoing }
-        ensures step { (c : Settings) (before : List (List ℕ)) (t : Side) → FitsSide c self.old before out.old.made t → FitsSide c self.new before out.new.made (pumped 7 c.window t) }
+        ensures step { Leads self.old self.new out.old out.new (λ c t. pumped 7 c.window t) }
         ensures short { out.new.short ≡ out.old.short }
+        ensures left { (most : ℕ) → most ≤ out.old.long + before_in self.old.outgoing → most ≤ out.old.long + window_of self.old.outgoing →
+            most ≤ out.new.long + window_of self.old.outgoing }
+        ensures places { out.new.places ≡ out.old.places }
     {
         if self.pump_once(out) {
             self.pump_on(out);
         }
     }
 
-    // .. and for those behind the first one.
+    // The sending rule, for the frames behind the first one of a window.
     fn pump_on(&mut self, out: &mut Outbox)
         requires long { window_of self.old.outgoing ≤ out.old.long + before_in self.old.outgoing }
-        ensures step { (c : Settings) (before : List (List ℕ)) (t : Side) → FitsSide c self.old before out.old.made t → FitsSide c self.new before out.new.made (pumped 6 c.window t) }
+        ensures step { Leads self.old self.new out.old out.new (λ c t. pumped 6 c.window t) }
         ensures short { out.new.short ≡ out.old.short }
+        ensures left { (most : ℕ) → most ≤ out.old.long + before_in self.old.outgoing → most ≤ out.old.long + window_of self.old.outgoing →
+            most ≤ out.new.long + window_of self.old.outgoing }
+        ensures places { out.new.places ≡ out.old.places }
     {
         for _frame in 0..FRAMES - 1 {
             if !self.pump_once(out) {
@@ -137,14 +149,16 @@ impl LinkStation {
     pub fn pump_once(&mut self, out: &mut Outbox) -> bool
         requires { before_in self.old.outgoing < window_of self.old.outgoing → 0 < out.old.long }
         ensures sent { (c : Settings) (s : StationState) → FitsStation c self.old s → result ≡ may_send c.window s }
-        ensures step { (c : Settings) (before : List (List ℕ)) (t : Side) → FitsSide c self.old before out.old.made t → FitsSide c self.new before out.new.made (pumped_once c.window t) }
+        ensures step { Leads self.old self.new out.old out.new (λ c t. pumped_once c.window t) }
         ensures long { out.old.long ≤ out.new.long + 1 }
         ensures kept { self.new ≡ record self.old { outgoing = self.new.outgoing } }
         ensures queue { length self.new.outgoing.queue ≤ length self.old.outgoing.queue }
         ensures window { window_of self.new.outgoing ≡ window_of self.old.outgoing }
         ensures before { before_in self.new.outgoing ≡ (if result then before_in self.old.outgoing + 1 else before_in self.old.outgoing) }
         ensures used { out.old.long ≡ (if result then out.new.long + 1 else out.new.long) }
+        ensures inside { result ≡ true → before_in self.old.outgoing < window_of self.old.outgoing }
         ensures short { out.new.short ≡ out.old.short }
+        ensures places { out.new.places ≡ out.old.places }
     {
         if !self.phase.is_up() || self.recovery || self.peer_busy {
             return false;
@@ -156,7 +170,10 @@ impl LinkStation {
     // RR, where RNR was the last and the station is no longer busy.
     fn finish(&mut self, out: &mut Outbox)
         requires { 0 < out.old.short }
-        ensures { (c : Settings) (before : List (List ℕ)) (t : Side) → FitsSide c self.old before out.old.made t → FitsSide c self.new before out.new.made (finished t) }
+        ensures step { Leads self.old self.new out.old out.new (λ c t. finished t) }
+        ensures long { out.new.long ≡ out.old.long }
+        ensures outgoing { self.new.outgoing ≡ self.old.outgoing }
+        ensures places { out.new.places ≡ out.old.places }
     {
         if self.phase.is_up() && self.said_busy && !self.is_busy() {
             self.ready(false, false, out);
@@ -166,7 +183,7 @@ impl LinkStation {
     /// Drops all packets, and sets all variables but `tries` to 0.
     #[cold]
     pub fn clear(&mut self, phase: Phase)
-        ensures step { (c : Settings) (before made : List (List ℕ)) (t : Side) → FitsSide c self.old before made t → FitsSide c self.new before made (with_near t (with_nothing phase t.near.tries)) }
+        ensures step { Turns self.old self.new (λ c t. with_near t (with_nothing phase t.near.tries)) }
         ensures window { window_of self.new.outgoing ≡ window_of self.old.outgoing }
     {
         self.phase = phase;
@@ -180,7 +197,7 @@ impl LinkStation {
 
     /// The link is set up: all variables are 0.
     pub fn set_up(&mut self)
-        ensures step { (c : Settings) (before made : List (List ℕ)) (t : Side) → FitsSide c self.old before made t → FitsSide c self.new before made (with_near t fresh) }
+        ensures step { Turns self.old self.new (λ c t. with_near t fresh) }
         ensures window { window_of self.new.outgoing ≡ window_of self.old.outgoing }
     {
         self.clear(Phase::Up);

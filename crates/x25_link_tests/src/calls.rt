@@ -2,7 +2,7 @@
 
 use std::alloc::Global;
 use x25_bits::Role;
-use x25_link::{Link, LinkError, PlainLink, Step};
+use x25_link::{Heard, Link, LinkError, OrderedLink, PlainLink};
 
 // A link in a place of its own: a body that holds the box lets go of it by one call, and not of each part of the link.
 fn boxed(alloc: Global, link: Link) -> Result<Box<Link>, LinkError> {
@@ -36,19 +36,62 @@ pub fn plain_link(alloc: Global) -> Result<Box<PlainLink>, LinkError> {
     }
 }
 
-pub fn connect(link: &mut Link) -> Result<Step<'static>, LinkError> {
-    link.connect()
+/// What a call of a link brought, and the frames to send.
+#[derive(Drop)]
+pub struct Step<'a> {
+    pub frames: Vec<Vec<u8>>,
+    pub heard: Heard<'a>,
 }
 
-pub fn disconnect(link: &mut Link) -> Result<Step<'static>, LinkError> {
-    link.disconnect()
+/// The frames to send.
+pub fn sent(link: &mut Link, alloc: Global) -> Vec<Vec<u8>> {
+    let mut frames = Vec::new(alloc);
+    link.swap_frames(&mut frames);
+    frames
+}
+
+// What was heard, and the frames behind it.
+fn behind<'a>(link: &mut Link, alloc: Global, heard: Heard<'a>) -> Step<'a> {
+    let frames = sent(link, alloc);
+    Step { frames, heard }
+}
+
+pub fn connect(link: &mut Link, alloc: Global) -> Result<Step<'static>, LinkError> {
+    let heard = link.connect()?;
+    Ok(behind(link, alloc, heard))
+}
+
+pub fn disconnect(link: &mut Link, alloc: Global) -> Result<Step<'static>, LinkError> {
+    let heard = link.disconnect()?;
+    Ok(behind(link, alloc, heard))
+}
+
+/// Leaves Up, where the link is up.
+pub fn abandon(link: &mut Link, alloc: Global) -> Result<Step<'static>, LinkError> {
+    if !link.is_up() {
+        return Err(LinkError::NotUp);
+    }
+    let heard = link.abandon();
+    Ok(behind(link, alloc, heard))
 }
 
 /// Timer T1 fires.
-pub fn fire(link: &mut Link) -> Result<Step<'static>, LinkError> {
-    link.t1()
+pub fn fire(link: &mut Link, alloc: Global) -> Result<Step<'static>, LinkError> {
+    let heard = link.t1()?;
+    Ok(behind(link, alloc, heard))
 }
 
-pub fn take<'a>(link: &mut Link, octets: &'a [u8]) -> Result<Step<'a>, LinkError> {
-    link.take(octets)
+pub fn take<'a>(link: &mut Link, alloc: Global, octets: &'a [u8]) -> Result<Step<'a>, LinkError> {
+    let heard = link.take(octets)?;
+    Ok(behind(link, alloc, heard))
+}
+
+/// Hands a packet of this octet down, as a packet layer does.
+pub fn put(link: &mut Link, alloc: Global, octet: u8) -> Result<(), LinkError> {
+    let packet = vec![in alloc; octet]?;
+    if packet.len() > link.limit() {
+        return Err(LinkError::BadConfig);
+    }
+    link.room(1)?;
+    link.put(packet)
 }

@@ -17,8 +17,8 @@ fn gives(alloc: Global, link: &mut Link, count: usize) -> Result<(), Fail> {
 }
 
 // The frames that set the link up.
-fn set_up(link: &mut Link) -> Result<Vec<Vec<u8>>, LinkError> {
-    Ok(connect(link)?.frames)
+fn set_up(link: &mut Link, alloc: Global) -> Result<Vec<Vec<u8>>, LinkError> {
+    Ok(connect(link, alloc)?.frames)
 }
 
 // The first frame is SABM. Answers for how many octets it has memory.
@@ -36,10 +36,12 @@ fn has(rt: &impl Abort, link: &Link, count: usize) {
 fn sends_in_forty(rt: &impl Abort, alloc: Global, link: &mut Link) -> Result<(), Fail> {
     gives(alloc, link, 40)?;
     has(rt, link, 1);
-    let frames = set_up(link)?;
+    let mut frames = set_up(link, alloc)?;
     has(rt, link, 0);
     assert_eq!(rt; memory_of_sabm(rt, frames.as_slice())?, 40);
-    link.give_back_list(frames);
+    for frame in frames.drain(..) {
+        link.give_back(frame);
+    }
     has(rt, link, 1);
     Ok(())
 }
@@ -52,7 +54,7 @@ fn a_frame_is_sent_in_memory_that_was_given_back(rt: HostRuntime) -> Result<(), 
 
 fn lets_go_of_three(rt: &impl Abort, alloc: Global, link: &mut Link) -> Result<(), Fail> {
     gives(alloc, link, 3)?;
-    let frames = set_up(link)?;
+    let frames = set_up(link, alloc)?;
     has(rt, link, 0);
     memory_of_sabm(rt, frames.as_slice())?;
     Ok(())

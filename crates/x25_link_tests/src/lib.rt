@@ -10,8 +10,6 @@ mod errors;
 #[cfg(test)]
 mod given_back;
 #[cfg(test)]
-mod into_a_list;
-#[cfg(test)]
 mod pair;
 #[cfg(test)]
 mod phases;
@@ -19,6 +17,8 @@ mod phases;
 mod plain;
 #[cfg(test)]
 mod station;
+#[cfg(test)]
+mod swapped;
 #[cfg(test)]
 mod texts;
 #[cfg(test)]

@@ -1,12 +1,12 @@
 //! A station, what happens at it, and the line to it.
 
-use crate::calls::{connect, disconnect, fire, link, take};
+use crate::calls::{Step, abandon, connect, disconnect, fire, link, put, sent, take};
 use crate::texts::{frame_text, hex_text, step_text};
 use std::alloc::Global;
 use std::test::Fail;
 use x25_bits::{Role, Seq};
 use x25_frame::{Frame, encode};
-use x25_link::{Link, LinkError, OrderedLink, Step};
+use x25_link::{Heard, Link, LinkError, Notes, OrderedLink};
 
 /// What happens at a station.
 #[derive(Clone, Copy)]
@@ -73,44 +73,34 @@ pub fn other(role: Role) -> Role {
     }
 }
 
-fn put(link: &mut Link, alloc: Global, octet: u8) -> Result<Step<'static>, LinkError> {
-    let packet = vec![in alloc; octet]?;
-    if packet.len() > link.limit() {
-        return Err(LinkError::BadConfig);
-    }
-    link.put_packet(packet)
+/// Hands a packet down, and takes its frames.
+fn put_and_sent(link: &mut Link, alloc: Global, octet: u8) -> Result<Step<'static>, LinkError> {
+    put(link, alloc, octet)?;
+    let frames = sent(link, alloc);
+    let notes = Notes {
+        down: None,
+        up: false,
+    };
+    Ok(Step {
+        frames,
+        heard: Heard {
+            packet: None,
+            notes,
+        },
+    })
 }
 
-/// Hands a packet down by the trait's calls, and takes its frames.
-fn put_and_sent(link: &mut Link, alloc: Global, octet: u8) -> Result<Vec<Vec<u8>>, LinkError> {
-    let packet = vec![in alloc; octet]?;
-    if packet.len() > link.limit() {
-        return Err(LinkError::BadConfig);
-    }
-    link.room(1)?;
-    link.put(packet)?;
-    Ok(link.sent())
-}
-
+/// Octets arrive, and a packet is handed down before the frames are taken.
 fn take_and_put<'a>(
     link: &mut Link,
     alloc: Global,
     octets: &'a [u8],
     octet: u8,
 ) -> Result<Step<'a>, LinkError> {
-    let mut step = take(link, octets)?;
-    for octets in put_and_sent(link, alloc, octet)? {
-        step.frames.push(octets)?;
-    }
-    Ok(step)
-}
-
-fn abandon(link: &mut Link) -> Result<Step<'static>, LinkError> {
-    if link.is_up() {
-        Ok(link.abandon())
-    } else {
-        Err(LinkError::NotUp)
-    }
+    let heard = link.take(octets)?;
+    put(link, alloc, octet)?;
+    let frames = sent(link, alloc);
+    Ok(Step { frames, heard })
 }
 
 /// What a call of the link of that role answered.
@@ -145,13 +135,13 @@ impl End {
     pub fn happens(&mut self, alloc: Global, event: Event) -> Result<Shown, Fail> {
         let link = &mut self.link;
         match event {
-            Connect => shown(alloc, self.role, connect(link)),
-            Disconnect => shown(alloc, self.role, disconnect(link)),
-            Abandon => shown(alloc, self.role, abandon(link)),
-            T1 => shown(alloc, self.role, fire(link)),
-            Put(octet) => shown(alloc, self.role, put(link, alloc, octet)),
+            Connect => shown(alloc, self.role, connect(link, alloc)),
+            Disconnect => shown(alloc, self.role, disconnect(link, alloc)),
+            Abandon => shown(alloc, self.role, abandon(link, alloc)),
+            T1 => shown(alloc, self.role, fire(link, alloc)),
+            Put(octet) => shown(alloc, self.role, put_and_sent(link, alloc, octet)),
             PutMany(count) => self.put_many(alloc, count),
-            Take(octets) => shown(alloc, self.role, take(link, octets)),
+            Take(octets) => shown(alloc, self.role, take(link, alloc, octets)),
             HearSabm(p) => self.hear(alloc, &Frame::Sabm { p }),
             HearDisc(p) => self.hear(alloc, &Frame::Disc { p }),
             HearRej(nr, f) => self.hear(
@@ -184,16 +174,20 @@ impl End {
 
     fn put_many(&mut self, alloc: Global, count: u16) -> Result<Shown, Fail> {
         for _ in 1..count {
-            put(&mut self.link, alloc, 0)?;
+            put_and_sent(&mut self.link, alloc, 0)?;
         }
-        let (text, _lost) = shown(alloc, self.role, put(&mut self.link, alloc, 0))?;
+        let (text, _lost) = shown(alloc, self.role, put_and_sent(&mut self.link, alloc, 0))?;
         silent(alloc, text)
     }
 
     fn hear(&mut self, alloc: Global, frame: &Frame) -> Result<Shown, Fail> {
         let mut octets = Vec::new(alloc);
         encode(other(self.role), frame, &mut octets)?;
-        shown(alloc, self.role, take(&mut self.link, octets.as_slice()))
+        shown(
+            alloc,
+            self.role,
+            take(&mut self.link, alloc, octets.as_slice()),
+        )
     }
 
     fn hear_long(&mut self, alloc: Global, length: usize) -> Result<Shown, Fail> {
@@ -224,7 +218,11 @@ impl End {
 
     fn deliver(&mut self, alloc: Global) -> Result<Shown, Fail> {
         let octets = self.arriving()?;
-        shown(alloc, self.role, take(&mut self.link, octets.as_slice()))
+        shown(
+            alloc,
+            self.role,
+            take(&mut self.link, alloc, octets.as_slice()),
+        )
     }
 
     fn reply(&mut self, alloc: Global, octet: u8) -> Result<Shown, Fail> {

@@ -1,10 +1,11 @@
 //! What a link answers, as text.
 
+use crate::calls::Step;
 use std::alloc::{AllocError, Global};
 use std::test::Fail;
 use x25_bits::{Role, Seq};
 use x25_frame::{Frame, decode};
-use x25_link::{Reason, Step};
+use x25_link::Reason;
 
 /// A supervisory frame as text.
 fn supervisory(
@@ -76,14 +77,14 @@ fn reason_text(reason: Reason) -> &'static str {
 /// What a step answers, as text: the packet handed up, the notes, the frames.
 pub fn step_text(alloc: Global, from: Role, step: &Step) -> Result<String, Fail> {
     let mut text = String::new(alloc);
-    if let Some(packet) = step.packet {
+    if let Some(packet) = step.heard.packet {
         append(&mut text, "packet ")?;
         text.push_str(hex_text(alloc, packet)?.as_str())?;
     }
-    if let Some(reason) = step.notes.down {
+    if let Some(reason) = step.heard.notes.down {
         append(&mut text, reason_text(reason))?;
     }
-    if step.notes.up {
+    if step.heard.notes.up {
         append(&mut text, "up")?;
     }
     for octets in &step.frames {

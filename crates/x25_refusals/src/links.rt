@@ -1,5 +1,5 @@
-//! Two links, and the lines between them. What a user sends is handed down as one packet by `put_packet`, and what interrupts by
-//! `room` and `put`, as the packet layer hands packets down.
+//! Two links, and the lines between them. What a user sends is handed down as one packet by `room` and `put`, as the packet layer
+//! hands packets down.
 ghost use Rattle.std.specs.Prelude.{◌≤◌, vec_len};
 ghost use Rattle.x25_link.specs.code.FitsLink.{limit_of};
 
@@ -10,7 +10,7 @@ use crate::lines::{Lines, end_name};
 use crate::stations::end_of;
 use crate::wire::Wire;
 use std::alloc::{AllocError, Global};
-use x25_link::{Link, LinkError, N1, OrderedLink, Reason, Step};
+use x25_link::{Heard, Link, LinkError, N1, OrderedLink, Reason};
 use x25_station::{Cfg, Cmd, Role};
 use x25_world::{Direction, Event};
 
@@ -20,6 +20,7 @@ struct End {
     alloc: Global,
     role: Role,
     link: Box<Link>,
+    out: Vec<Vec<u8>>,
     wire: Wire,
 }
 
@@ -36,19 +37,19 @@ fn made(alloc: Global, role: Role, cfg: Cfg) -> Result<Box<Link>, LinkError> {
     boxed(alloc, Link::new(alloc, role, cfg.k, N1, cfg.n2)?).ok_or(LinkError::NoMemory)
 }
 
-fn connect(link: &mut Link) -> Result<Step<'static>, LinkError> {
+fn connect(link: &mut Link) -> Result<Heard<'static>, LinkError> {
     link.connect()
 }
 
-fn disconnect(link: &mut Link) -> Result<Step<'static>, LinkError> {
+fn disconnect(link: &mut Link) -> Result<Heard<'static>, LinkError> {
     link.disconnect()
 }
 
-fn fire(link: &mut Link) -> Result<Step<'static>, LinkError> {
+fn fire(link: &mut Link) -> Result<Heard<'static>, LinkError> {
     link.t1()
 }
 
-fn take<'a>(link: &mut Link, octets: &'a [u8]) -> Result<Step<'a>, LinkError> {
+fn take<'a>(link: &mut Link, octets: &'a [u8]) -> Result<Heard<'a>, LinkError> {
     link.take(octets)
 }
 
@@ -77,42 +78,55 @@ fn reason_line(reason: Reason) -> &'static [u8] {
     }
 }
 
-/// Shows the packet that a step hands up, what it notes and the frames that it sends.
-fn shows(from: Role, step: &Step, shown: &mut Lines) -> Result<(), AllocError> {
-    if let Some(packet) = step.packet {
+/// Shows the packet that a call hands up, and what it notes.
+fn shows(from: Role, heard: &Heard, shown: &mut Lines) -> Result<(), AllocError> {
+    if let Some(packet) = heard.packet {
         shown.push(end_name(from))?;
         shown.push(b"packet ")?;
         shown.push(packet)?;
         shown.push(b"\n")?;
     }
-    if let Some(reason) = step.notes.down {
+    if let Some(reason) = heard.notes.down {
         shown.push(end_name(from))?;
         shown.push(reason_line(reason))?;
     }
-    if step.notes.up {
+    if heard.notes.up {
         shown.push(end_name(from))?;
         shown.push(b"up\n")?;
     }
-    shows_frames(from, step.frames.as_slice(), shown)
+    Ok(())
 }
 
-fn shows_frames(from: Role, frames: &[Vec<u8>], shown: &mut Lines) -> Result<(), AllocError> {
-    for frame in frames {
+/// Shows the frames that a link sends, and puts them on the line to the other end.
+fn sends(
+    from: Role,
+    link: &mut Link,
+    out: &mut Vec<Vec<u8>>,
+    to: &mut Wire,
+    shown: &mut Lines,
+) -> Result<(), AllocError> {
+    link.swap_frames(out);
+    for frame in out.as_slice() {
         shown.push_frame(from, frame.as_slice())?;
+    }
+    for frame in out.drain(..) {
+        to.put_one(frame)?;
     }
     Ok(())
 }
 
 fn answered(
     from: Role,
-    answer: Result<Step, LinkError>,
+    answer: Result<Heard, LinkError>,
+    link: &mut Link,
+    out: &mut Vec<Vec<u8>>,
     to: &mut Wire,
     shown: &mut Lines,
 ) -> Result<Outcome, Trouble> {
     match answer {
-        Ok(step) => {
-            shows(from, &step, shown)?;
-            to.put(step.frames)?;
+        Ok(heard) => {
+            shows(from, &heard, shown)?;
+            sends(from, link, out, to, shown)?;
             Ok(Outcome::Accepted)
         }
         Err(error) => Ok(Outcome::of_number(error.number())),
@@ -144,6 +158,7 @@ impl End {
                 alloc,
                 role,
                 link,
+                out: Vec::new(alloc),
                 wire,
             }),
             Err(_) => Err(Trouble::NoMemory),
@@ -160,26 +175,20 @@ impl End {
         if packet.len() > self.link.limit() {
             return Err(Trouble::NoSuchCall);
         }
-        answered(self.role, self.link.put_packet(packet), to, shown)
-    }
-
-    fn puts_as_a_layer(
-        &mut self,
-        octets: &[u8],
-        to: &mut Wire,
-        shown: &mut Lines,
-    ) -> Result<Outcome, Trouble> {
-        let packet = packet_of(self.alloc, octets)?;
-        if packet.len() > self.link.limit() {
-            return Err(Trouble::NoSuchCall);
-        }
         if let Err(error) = room_and_put(&mut self.link, packet) {
             return Ok(Outcome::of_number(error.number()));
         }
-        let frames = self.link.sent();
-        shows_frames(self.role, frames.as_slice(), shown)?;
-        to.put(frames)?;
+        sends(self.role, &mut self.link, &mut self.out, to, shown)?;
         Ok(Outcome::Accepted)
+    }
+
+    fn answered(
+        &mut self,
+        answer: Result<Heard<'static>, LinkError>,
+        to: &mut Wire,
+        shown: &mut Lines,
+    ) -> Result<Outcome, Trouble> {
+        answered(self.role, answer, &mut self.link, &mut self.out, to, shown)
     }
 
     fn asks(
@@ -189,16 +198,22 @@ impl End {
         shown: &mut Lines,
     ) -> Result<Outcome, Trouble> {
         match command {
-            Cmd::Connect => answered(self.role, connect(&mut self.link), to, shown),
-            Cmd::Disconnect => answered(self.role, disconnect(&mut self.link), to, shown),
+            Cmd::Connect => {
+                let answer = connect(&mut self.link);
+                self.answered(answer, to, shown)
+            }
+            Cmd::Disconnect => {
+                let answer = disconnect(&mut self.link);
+                self.answered(answer, to, shown)
+            }
             Cmd::Send { user, .. } => self.puts(user, to, shown),
-            Cmd::Interrupt { user, .. } => self.puts_as_a_layer(user, to, shown),
             _ => Err(Trouble::NoSuchCall),
         }
     }
 
     fn fires(&mut self, to: &mut Wire, shown: &mut Lines) -> Result<Outcome, Trouble> {
-        answered(self.role, fire(&mut self.link), to, shown)
+        let answer = fire(&mut self.link);
+        self.answered(answer, to, shown)
     }
 
     /// The front frame arrives. It leaves the line where it is accepted.
@@ -207,7 +222,7 @@ impl End {
             return Ok(Outcome::Refused(50));
         };
         let answer = take(&mut self.link, octets);
-        let outcome = answered(self.role, answer, to, shown)?;
+        let outcome = answered(self.role, answer, &mut self.link, &mut self.out, to, shown)?;
         if matches!(outcome, Outcome::Accepted) {
             self.wire.take_off(0);
         }

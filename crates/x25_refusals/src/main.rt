@@ -30,10 +30,9 @@ use std::process::ExitCode;
 use worlds::Worlds;
 
 /// The calls of a link.
-static CALLS_OF_LINKS: [(Kind, &str); 8] = [
+static CALLS_OF_LINKS: [(Kind, &str); 7] = [
     (Kind::New, "Link::new"),
-    (Kind::Send, "Link::put_packet"),
-    (Kind::Interrupt, "Link::room and put"),
+    (Kind::Send, "Link::room and put"),
     (Kind::Connect, "Link::connect"),
     (Kind::Disconnect, "Link::disconnect"),
     (Kind::Deliver, "Link::take"),

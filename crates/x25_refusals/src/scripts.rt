@@ -123,14 +123,6 @@ const INTERRUPTS: Act = Do(Command(
     },
 ));
 
-const DCE_INTERRUPTS: Act = Do(Command(
-    Dce,
-    Cmd::Interrupt {
-        channel: 1,
-        user: b"d",
-    },
-));
-
 const PULLS: Act = Do(Command(Dte, Cmd::Pull));
 
 const IS_READY: Act = Do(Command(Dte, Cmd::Ready { channel: 1 }));
@@ -354,7 +346,7 @@ pub(crate) static OF_LINKS: [Script; 4] = [
             COMES,
             COMES_BACK,
             Drain,
-            DCE_INTERRUPTS,
+            Send(Dce, b"d"),
             Drain,
         ],
     },

@@ -152,13 +152,13 @@ answered_by c s request = calls (view_of (link_settings c) s.link) (layer_settin
 pub layer_gives : {T : Type 0} (result : Result T LayerError) (c : Settings) (l : ShownLink) (y z : layer_code.Layer) (s : Station) (request : LayerRequest) → FitsParts c l y s → Layers l y z result request
     → LayerGives (layer_settings c) z result (answered_by c s request)
 layer_gives result c l y z s request fits clause =
-    subst (λ (view : LinkView). LayerGives (layer_settings c) z result (calls view (layer_settings c) s.layer request)) (same_view (link_settings c) s.link)
+    subst (λ (view : LinkView). LayerGives (layer_settings c) z result (calls view (layer_settings c) s.layer request)) (same_view (link_settings c) (alone s.link))
     (clause (layer_settings c) s.layer (kept_of (link_settings c) (alone s.link)) fits.layer (whole c l y s fits))
 
 pub link_gives : {T : Type 0} (result : Result T LayerError) (c : Settings) (l m : ShownLink) (y : layer_code.Layer) (s : Station) (request : LayerRequest) → FitsParts c l y s → Links l m y result request
     → LinkGives (FitsWhole m) after_put_to (kept_of (link_settings c) (alone s.link)) result (answered_by c s request)
 link_gives result c l m y s request fits clause =
-    subst (λ (view : LinkView). LinkGives (FitsWhole m) after_put_to (kept_of (link_settings c) (alone s.link)) result (calls view (layer_settings c) s.layer request)) (same_view (link_settings c) s.link)
+    subst (λ (view : LinkView). LinkGives (FitsWhole m) after_put_to (kept_of (link_settings c) (alone s.link)) result (calls view (layer_settings c) s.layer request)) (same_view (link_settings c) (alone s.link))
     (clause (layer_settings c) s.layer (kept_of (link_settings c) (alone s.link)) fits.layer (whole c l y s fits))
 
 -- what the layer says before it is asked
@@ -170,7 +170,7 @@ refuses_before (Some e) c l y s request fits clause =
     let lc : LayerSettings = layer_settings c in
     let entries : List StationEntry = entries_of_outcome lc s.layer request (layer_outcome lc (waiting_after (link_settings c) s.link [] == 256) s.layer request) in
     ap (λ (a : Answered). did c (alone s.link) entries a)
-    (subst (λ (view : LinkView). calls view lc s.layer request ≡ Refuses e) (same_view (link_settings c) s.link) (clause lc s.layer (kept_of (link_settings c) (alone s.link)) fits.layer (whole c l y s fits)))
+    (subst (λ (view : LinkView). calls view lc s.layer request ≡ Refuses e) (same_view (link_settings c) (alone s.link)) (clause lc s.layer (kept_of (link_settings c) (alone s.link)) fits.layer (whole c l y s fits)))
 
 pub record Answers (c : Settings) (n : ShownLink) (z : layer_code.Layer) (r : code_step.Step) (outcome : Outcome) : Type 0 where
   pub state : station.LeavesParts {T = Unit} c n z (Ok tt) outcome
@@ -200,14 +200,6 @@ refuses T U e found c l y z s request fits is layers =
     let lc : LayerSettings = layer_settings c in
     let entries : List StationEntry = entries_of_outcome lc s.layer request (layer_outcome lc (waiting_after (link_settings c) s.link [] == 256) s.layer request) in
     refused_did T U e found c s.link z entries (answered_by c s request) (calls_named (view_of (link_settings c) s.link) lc s.layer request) is (layer_gives x c l y z s request fits layers)
-
-pub refuses_exactly : (T U : Type 0) (e : LayerError) (found : StationError) (c : Settings) (l : ShownLink) (y z : layer_code.Layer) (s : Station) (request : LayerRequest) → FitsParts c l y s → found ≡ of_layer e
-    → (let x : Result T LayerError = Err e in Layers l y z x request) → (let x : Result U StationError = Err found in station.RefusesExactly x (requests c s request))
-refuses_exactly T U e found c l y z s request fits is layers =
-    let x : Result T LayerError = Err e in
-    let lc : LayerSettings = layer_settings c in
-    let entries : List StationEntry = entries_of_outcome lc s.layer request (layer_outcome lc (waiting_after (link_settings c) s.link [] == 256) s.layer request) in
-    refused_exactly_did T U e found c s.link z entries (answered_by c s request) (calls_named (view_of (link_settings c) s.link) lc s.layer request) is (layer_gives x c l y z s request fits layers)
 
 -- then the station is as before
 pub still_fits : (c : Settings) (l m : ShownLink) (y z : layer_code.Layer) (s : Station) → FitsParts c l y s → FitsLayer (layer_settings c) z s.layer → ((x : LinkState) → FitsWhole l x → FitsWhole m x) → FitsParts c m z s

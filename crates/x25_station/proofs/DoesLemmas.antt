@@ -100,7 +100,7 @@ reused old mid new out timer result said same d = record {
 -- what the layer put became eight frames at most
 puts_few : {T : Type 0} (u : T) (c : Settings) (s : LinkStation) (m : ShownLink) (a : Answered) → (link_settings c).window ≤ 7 → s.outgoing.acked ≤ s.outgoing.place
     → LinkGives (FitsWhole m) after_put_to (kept_of (link_settings c) (alone s)) (Ok u) a → length m.outbox.made ≤ 8
-puts_few u c s m (Went p) small low link = few_made c.role m.outbox.made (all_put (link_settings c) p.put (alone s)).out 8 (after_puts (link_settings c) m p.put (alone s) link).kept (few_put (link_settings c) p.put s small low)
+puts_few u c s m (Went p) small low link = few_made c.role m.outbox.made (all_put (link_settings c) p.put (alone s)).out 8 (after_puts (link_settings c) m p.put (alone s) link).kept (few_put (link_settings c) p.put (alone s) small low)
 puts_few u c s m (LayerRefuses e) small low link = absurd (ok_err u e link)
 
 pub made_few : {T : Type 0} (u : T) (l m : ShownLink) (y : layer_code.Layer) (request : LayerRequest) → AreMeant l y → Links l m y (Ok u) request → WindowIsSmall → FewStand → length m.outbox.made ≤ 8

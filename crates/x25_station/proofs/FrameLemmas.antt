@@ -2,13 +2,13 @@
 use Rattle.std.proofs.Common.{◌≡◌, ℕ, zero, suc, ◌+◌, ◌-◌, ◌<◌, ◌≤◌, List, [], ◌∷◌, ◌++◌, Bool, true, false, not, ◌&&◌, if◌then◌else◌, nat_lt, length, refl, ap, sym, ◌∙◌, arith}
 use Rattle.std.proofs.Math.Nat.{le_trans}
 use Rattle.std.proofs.lemmas.Bool.{and_parts, ltb-true}
-use Rattle.std.proofs.lemmas.List.{length-append, append_assoc, append-nil}
+use Rattle.std.proofs.lemmas.List.{length-append}
 use Rattle.x25_packet.specs.Packet.{PlainPacket}
 use Rattle.x25_packet.specs.Spelling as packet
 use Rattle.x25_frame.specs.Frame.{PlainFrame, rr, rnr}
 use Rattle.x25_link.specs.Outgoing.{is_open, added}
 use Rattle.x25_link.specs.Station.{Settings as LinkSettings, LinkStation, Side, is_up, is_busy, with_near, sends, wanted, ready, send_next, next_frame, may_send, pumped, owes_ready, finished, ended}
-use Rattle.x25_link.specs.Link.{alone, put_step}
+use Rattle.x25_link.specs.Link.{alone}
 use Rattle.x25_station.specs.Station.{put_on, all_put}
 
 -- the places left in the window, and one where RNR was said
@@ -86,19 +86,9 @@ all_lower : (c : LinkSettings) (packets : List PlainPacket) (t : Side) → count
 all_lower c [] t = omega arith
 all_lower c (p ∷ packets) t = le_trans (all_lower c packets (put_on c p t)) (put_lower c p t)
 
-pub few_put : (c : LinkSettings) (packets : List PlainPacket) (s : LinkStation) → c.window ≤ 7 → s.outgoing.acked ≤ s.outgoing.place → length (all_put c packets (alone s)).out ≤ 8
-few_put c packets s small low = let lower = all_lower c packets (alone s) in let one : said s.said_busy ≤ 1 = said_few s.said_busy in omega (arith, lower, small, low, one)
-
--- the end of a step sends eight at most
-pub ended_few : (k : ℕ) (t : Side) → k ≤ 7 → t.near.outgoing.acked ≤ t.near.outgoing.place → length (ended k t).out ≤ length t.out + 8
-ended_few k t small low = let lower = ended_lower k t in let one : said t.near.said_busy ≤ 1 = said_few t.near.said_busy in omega (arith, lower, small, low, one)
-
--- ---- the frames of the link's own step go before them
-
-pub out_behind : (c : LinkSettings) (packets : List PlainPacket) (t : Side) → (all_put c packets t).out ≡ t.out ++ (all_put c packets (alone t.near)).out
-out_behind c [] t = sym (append-nil t.out)
-out_behind c (p ∷ packets) t =
-    let u : Side = (put_step c (packet.spelling_of p) t.near).side in
-    out_behind c packets (put_on c p t)
-    ∙ append_assoc t.out u.out (all_put c packets (alone u.near)).out
-    ∙ ap (λ (frames : List PlainFrame). t.out ++ frames) (sym (out_behind c packets u))
+pub few_put : (c : LinkSettings) (packets : List PlainPacket) (t : Side) → c.window ≤ 7 → t.near.outgoing.acked ≤ t.near.outgoing.place
+    → length (all_put c packets t).out ≤ length t.out + 8
+few_put c packets t small low =
+    let lower = all_lower c packets t in
+    let one : said t.near.said_busy ≤ 1 = said_few t.near.said_busy in
+    omega (arith, lower, small, low, one)

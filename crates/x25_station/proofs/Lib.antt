@@ -24,7 +24,6 @@ pub mod ToldLemmas
 pub mod ResultLemmas
 pub mod OutcomeLemmas
 pub mod rows
-pub mod FewLemmas
 pub mod TimerLemmas
 pub mod DoesLemmas
 pub mod PullLemmas

@@ -5,6 +5,7 @@ use Rattle.std.proofs.lemmas.List.{map-append}
 use Rattle.x25_packet.specs.Packet.{PlainPacket}
 use Rattle.x25_packet.specs.Spelling as packet
 use Rattle.x25_frame.specs.Spelling.{spelling_of}
+use Rattle.x25_link.specs.Outgoing.{waits}
 use Rattle.x25_link.specs.Station.{Settings as LinkSettings, LinkStation, Side, is_up}
 use Rattle.x25_link.specs.Link.{alone, put_step}
 use Rattle.x25_link.specs.code.FitsLink.{up_at, waits_of, after_put_to}
@@ -22,11 +23,19 @@ put_by_put c (p ∷ packets) t =
     ∙ put_by_put c packets (put_on c p t)
 
 -- what the layer sees of the link
-abbrev pub seen_by : LinkSettings → LinkStation → LinkView
-seen_by c s = over.view_of up_at waits_of after_put_to (kept_of c (alone s))
+abbrev pub seen_by : LinkSettings → Side → LinkView
+seen_by c t = over.view_of up_at waits_of after_put_to (kept_of c t)
 
-pub same_view : (c : LinkSettings) (s : LinkStation) → seen_by c s ≡ view_of c s
-same_view c s = ap (λ (f : List PlainPacket → ℕ). record { is_up = is_up s.phase; waits = f }) (fun_ext (λ packets. ap waits_of (put_by_put c packets (alone s))))
+-- what is put depends on the link alone, and not on the frames that went before
+pub near_alone : (c : LinkSettings) (packets : List PlainPacket) (t u : Side) → t.near ≡ u.near → (all_put c packets t).near ≡ (all_put c packets u).near
+near_alone c [] t u same = same
+near_alone c (p ∷ packets) t u same =
+    near_alone c packets (put_on c p t) (put_on c p u) (ap (λ (s : LinkStation). (put_step c (packet.spelling_of p) s).side.near) same)
+
+pub same_view : (c : LinkSettings) (t : Side) → seen_by c t ≡ view_of c t.near
+same_view c t = ap (λ (f : List PlainPacket → ℕ). record { is_up = is_up t.near.phase; waits = f })
+    (fun_ext (λ packets. ap waits_of (put_by_put c packets t)
+    ∙ ap (λ (s : LinkStation). waits s.outgoing) (near_alone c packets t (alone t.near) refl)))
 
 -- what holds of an answer that isn't an error
 pub on_ok : {T E : Type 0} (r : Result T E) (u : T) (X : Type 0) → r ≡ Ok u → OnOk r X → X

@@ -6,13 +6,14 @@ use Rattle.x25_packet.specs.Spelling.{spelling_of}
 use Rattle.x25_link.specs.declared.error.LinkError.TheVariants as error
 use Rattle.x25_link.specs.Outgoing.{waits}
 use Rattle.x25_link.specs.Station.{Settings as LinkSettings, LinkStation, Side, is_up}
-use Rattle.x25_link.specs.Link.{alone, put_refusal, put_step}
+use Rattle.x25_link.specs.Link.{alone, put_refusal}
 use Rattle.x25_link.specs.laws.NoteLaw.{PutTells}
 use Rattle.x25_layer.specs.Layer.{LayerSettings}
 use Rattle.x25_layer.specs.Calls.{layer_pulled}
 use Rattle.x25_layer.specs.Rounds.{Putting, with_pulled, pull_one, round, rounds_of, rounds, backlog}
 use Rattle.x25_station.specs.Station.{put_on, all_put, view_of, waiting_after}
 use Rattle.x25_station.specs.laws.JoinLaw.{AreAccepted}
+use Rattle.x25_station.proofs.LinkLemmas.{near_alone}
 
 -- ---- put after put
 
@@ -23,11 +24,6 @@ all_append c (p ∷ a) b t = all_append c a b (put_on c p t)
 pub accepted_append : (c : LinkSettings) (a b : List PlainPacket) (t : Side) → AreAccepted c a t → AreAccepted c b (all_put c a t) → AreAccepted c (a ++ b) t
 accepted_append c [] b t first second = second
 accepted_append c (p ∷ a) b t first second = (first.0, accepted_append c a b (put_on c p t) first.1 second)
-
--- the link depends on the link alone, and not on the frames that went before
-pub near_alone : (c : LinkSettings) (packets : List PlainPacket) (t u : Side) → t.near ≡ u.near → (all_put c packets t).near ≡ (all_put c packets u).near
-near_alone c [] t u same = same
-near_alone c (p ∷ packets) t u same = near_alone c packets (put_on c p t) (put_on c p u) (ap (λ (s : LinkStation). (put_step c (spelling_of p) s).side.near) same)
 
 put_up : PutTells → (c : LinkSettings) (p : PlainPacket) (t : Side) → is_up t.near.phase ≡ true → is_up (put_on c p t).near.phase ≡ true
 put_up tells c p t up = (tells c (spelling_of p) t.near up).stays refl ∙ up

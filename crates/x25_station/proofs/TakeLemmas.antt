@@ -1,7 +1,7 @@
 -- What holds of a link that has taken octets: what it hands up is short, and where it came up or hands up it takes packets.
-use Rattle.std.proofs.Common.{◌≡◌, ℕ, ◌+◌, ◌<◌, ◌≤◌, min, List, ◌++◌, All, length, Option, Some, None, IfSome, map, Result, Ok, Err, Bool, true, false, if◌then◌else◌, refl, ap, sym, subst, ◌∙◌, arith}
+use Rattle.std.proofs.Common.{◌≡◌, ℕ, ◌+◌, ◌<◌, ◌≤◌, min, List, [], ◌++◌, All, length, Option, Some, None, IfSome, map, Result, Ok, Err, Bool, true, false, if◌then◌else◌, refl, ap, sym, subst, ◌∙◌, arith}
 use Rattle.std.proofs.lemmas.Option.{none-some, same_Some}
-use Rattle.std.proofs.Math.Logic.{∥∥₁_elim, ∥∥₁_map}
+use Rattle.std.proofs.Math.Logic.{∥∥₁_elim}
 use Rattle.std.proofs.Props.{props}
 use Rattle.std.proofs.lemmas.List.{length-append, length-map}
 use Rattle.x25_bits.specs.declared.role.Role.{Role}
@@ -19,7 +19,7 @@ use Rattle.x25_link.specs.Station.{Settings as LinkSettings, LinkStation, Side, 
 use Rattle.x25_link.specs.Hearing.{Step as LinkStep, quiet, other, is_valid, acknowledged, is_taken, takes, answers, passes_over, hears_info, peer_is, goes_back, polls, numbered, rejects, row_of_frame, row_of}
 use Rattle.x25_link.specs.Link.{alone, hears, take_step}
 use Rattle.x25_link.specs.laws.NoteLaw.{TakeTells, TakeHandsUp}
-use Rattle.x25_link.specs.code.FitsLink.{ShownLink, FitsLink, IsMeant, limit_of, up_of, waiting_of}
+use Rattle.x25_link.specs.code.FitsLink.{ShownLink, FitsLink, limit_of, up_of, waiting_of}
 use Rattle.x25_link.specs.laws.LinkLaws.{link_waits}
 use Rattle.x25_circuit.specs.code.FitsCircuit.{room_of}
 use Rattle.x25_layer.specs.declared.layer.Layer as layer_code
@@ -138,30 +138,24 @@ less_room n m y a b low same room = record {
   circuits = λ k v is. (let high : min m 4096 ≤ room_of v = room.circuits k v is in omega (arith, low, high));
 }
 
--- a link that stands for a state with some layer stands for one
-pub link_meant : (l : ShownLink) (y : layer_code.Layer) → AreMeant l y → IsMeant l
-link_meant l y h = ∥∥₁_map h (λ w. (link_settings w.0, w.1.link, w.2.link))
-
 pub few_made : (role : Role) (made : List (List ℕ)) (out : List PlainFrame) (n : ℕ) → made ≡ map (spelling_of role) out → length out ≤ n → length made ≤ n
 few_made role made out n same few =
     let b : length (map (spelling_of role) out) ≡ length out = length-map out (spelling_of role) in
     let e : length made ≡ length (map (spelling_of role) out) = ap (λ (xs : List (List ℕ)). length xs) same in
     omega (arith, b, e, few)
 
-pub count_behind : {X : Type 0} (before after : List X) (octets_of : X → List ℕ) (made : List (List ℕ)) → map octets_of after ≡ map octets_of before ++ made → length after ≡ length before + length made
-count_behind before after octets_of made is =
-    let all : length (map octets_of after) ≡ length (map octets_of before ++ made) = ap (λ (xs : List (List ℕ)). length xs) is in
-    let parts = length-append (map octets_of before) made in
-    let old = length-map before octets_of in
-    let new = length-map after octets_of in
-    omega (arith, all, parts, old, new)
+-- the frames that a call of the link made, once they were taken into a list that was empty
+pub own_frames : (role : Role) (before made frames : List (List ℕ)) (out : List PlainFrame) → before ≡ [] → made ≡ before ++ map (spelling_of role) out
+    → frames ≡ made → frames ≡ map (spelling_of role) out
+own_frames role before made frames out none is taken = taken ∙ is ∙ ap (λ (xs : List (List ℕ)). xs ++ map (spelling_of role) out) none
 
-pub few_frames : {X : Type 0} (role : Role) (frames : List X) (octets_of : X → List ℕ) (out : List PlainFrame) (n : ℕ) → map octets_of frames ≡ map (spelling_of role) out → length out ≤ n → length frames ≤ n
-few_frames role frames octets_of out n same few =
+pub own_few : {X : Type 0} (frames : List X) (octets_of : X → List ℕ) (before made : List (List ℕ)) → before ≡ []
+    → length made ≤ length before + 9 → map octets_of frames ≡ made → length frames ≤ 9
+own_few frames octets_of before made none few taken =
     let a : length (map octets_of frames) ≡ length frames = length-map frames octets_of in
-    let b : length (map (spelling_of role) out) ≡ length out = length-map out (spelling_of role) in
-    let e : length (map octets_of frames) ≡ length (map (spelling_of role) out) = ap (λ (xs : List (List ℕ)). length xs) same in
-    omega (arith, a, b, e, few)
+    let b : length (map octets_of frames) ≡ length made = ap (λ (xs : List (List ℕ)). length xs) taken in
+    let d : length before ≡ 0 = ap (λ (xs : List (List ℕ)). length xs) none in
+    omega (arith, a, b, d, few)
 
 pub if_some : {X : Type 0} (o : Option X) (P : X → Type 0) → ((x : X) → o ≡ Some x → P x) → IfSome o P
 if_some None P f = tt

@@ -1,12 +1,11 @@
 -- What the link's step and what the layer does behind it are together is what the definition says of octets that come.
 use Rattle.std.proofs.Common.{◌≡◌, ℕ, List, [], ◌++◌, map, Option, Bool, true, false, if◌then◌else◌, refl, ap, sym, subst, ◌∙◌}
-use Rattle.std.proofs.lemmas.List.{map-append}
 use Rattle.x25_frame.specs.Frame.{PlainFrame}
 use Rattle.x25_frame.specs.Spelling.{spelling_of}
 use Rattle.x25_link.specs.declared.phase.Notes.{Notes}
 use Rattle.x25_link.specs.Station.{LinkStation}
 use Rattle.x25_link.specs.Hearing.{Step as LinkStep}
-use Rattle.x25_link.specs.Link.{alone, take_step, abandon_step}
+use Rattle.x25_link.specs.Link.{take_step, abandon_step}
 use Rattle.x25_link.specs.code.FitsLink.{ShownLink, FitsLink, FitsWhole}
 use Rattle.x25_layer.specs.declared.layer.Layer as layer_code
 use Rattle.x25_layer.specs.code.FitsLayer.{FitsLayer}
@@ -18,8 +17,6 @@ use Rattle.x25_station.specs.Step.{Step, layer_at, entries_heard, follows, aband
 use Rattle.x25_station.specs.laws.KeepLaw.{IsKept}
 use Rattle.x25_station.specs.code.FitsParts.{FitsParts}
 use Rattle.x25_station.specs.Receiving.{kept_of}
-use Rattle.x25_station.proofs.PutLemmas.{near_alone}
-use Rattle.x25_station.proofs.FrameLemmas.{out_behind}
 use Rattle.x25_station.proofs.AskLemmas.{taken_link}
 use Rattle.x25_station.proofs.DownLemmas.{downs, follows_down}
 
@@ -37,17 +34,17 @@ gives_up c s octets full =
 -- ---- the step, by an answer of the link
 
 record IsBehind (c : Settings) (s : Station) (k : LinkStep) (o : Option (List ℕ)) (notes : Notes) (step : Step) : Type 0 where
-  link : (all_put (link_settings c) (put_behind c s k o notes).put (alone k.side.near)).near ≡ step.near.link
+  link : (all_put (link_settings c) (put_behind c s k o notes).put k.side).near ≡ step.near.link
   layer : (put_behind c s k o notes).layer ≡ step.near.layer
-  out : k.side.out ++ (all_put (link_settings c) (put_behind c s k o notes).put (alone k.side.near)).out ≡ step.out
+  out : (all_put (link_settings c) (put_behind c s k o notes).put k.side).out ≡ step.out
   entries : entries_noted notes ++ entries_heard (layer_settings c) s.layer o notes.down notes.up ≡ step.entries
 
 is_behind : (c : Settings) (s : Station) (k : LinkStep) (o : Option (List ℕ)) (notes : Notes) → o ≡ k.packet → notes ≡ k.notes → IsBehind c s k o notes (follows c s.layer k)
 is_behind c s k o notes packet noted =
     subst (λ (x : Option (List ℕ)). IsBehind c s k x notes (follows c s.layer k)) (sym packet) (subst (λ (n : Notes). IsBehind c s k k.packet n (follows c s.layer k)) (sym noted) (record {
-      link = near_alone (link_settings c) (put_behind c s k k.packet k.notes).put (alone k.side.near) k.side refl;
+      link = refl;
       layer = refl;
-      out = sym (out_behind (link_settings c) (put_behind c s k k.packet k.notes).put k.side);
+      out = refl;
       entries = refl;
     }))
 
@@ -59,7 +56,7 @@ took c s octets o notes on same =
 
 pub took_fits : (c : Settings) (s : Station) (octets : List ℕ) (o : Option (List ℕ)) (notes : Notes) (m n : ShownLink) (z : layer_code.Layer) → abandons c s ≡ false
     → (let k : LinkStep = take_step (link_settings c) octets s.link in (o ≡ k.packet) × (notes ≡ k.notes))
-    → (let k : LinkStep = take_step (link_settings c) octets s.link in FitsWhole m (kept_of (link_settings c) (all_put (link_settings c) (put_behind c s k o notes).put (alone k.side.near))))
+    → (let k : LinkStep = take_step (link_settings c) octets s.link in FitsWhole m (kept_of (link_settings c) (all_put (link_settings c) (put_behind c s k o notes).put k.side)))
     → (let k : LinkStep = take_step (link_settings c) octets s.link in FitsLayer (layer_settings c) z (put_behind c s k o notes).layer)
     → n.station ≡ m.station → n.outbox.made ≡ [] → IsKept (receives c s octets).near → FitsParts c n z (receives c s octets).near
 took_fits c s octets o notes m n z on same link layer station none kept =
@@ -71,19 +68,11 @@ took_fits c s octets o notes m n z on same link layer station none kept =
       sent = none;
     }
 
-pub took_sends : (c : Settings) (s : Station) (octets : List ℕ) (o : Option (List ℕ)) (notes : Notes) (own more : List (List ℕ)) → abandons c s ≡ false
+pub took_sends : (c : Settings) (s : Station) (octets : List ℕ) (o : Option (List ℕ)) (notes : Notes) (made : List (List ℕ)) → abandons c s ≡ false
     → (let k : LinkStep = take_step (link_settings c) octets s.link in (o ≡ k.packet) × (notes ≡ k.notes))
-    → (let k : LinkStep = take_step (link_settings c) octets s.link in own ≡ map (spelling_of c.role) k.side.out)
-    → (let k : LinkStep = take_step (link_settings c) octets s.link in more ≡ map (spelling_of c.role) (all_put (link_settings c) (put_behind c s k o notes).put (alone k.side.near)).out)
-    → own ++ more ≡ map (spelling_of c.role) (receives c s octets).out
-took_sends c s octets o notes own more on same first second =
-    let k : LinkStep = take_step (link_settings c) octets s.link in
-    let b = took c s octets o notes on same in
-    let behind : List PlainFrame = (all_put (link_settings c) (put_behind c s k o notes).put (alone k.side.near)).out in
-    ap (λ (x : List (List ℕ)). x ++ more) first
-    ∙ ap (λ (x : List (List ℕ)). map (spelling_of c.role) k.side.out ++ x) second
-    ∙ sym (map-append (spelling_of c.role) k.side.out behind)
-    ∙ ap (λ (x : List PlainFrame). map (spelling_of c.role) x) b.out
+    → (let k : LinkStep = take_step (link_settings c) octets s.link in made ≡ map (spelling_of c.role) (all_put (link_settings c) (put_behind c s k o notes).put k.side).out)
+    → made ≡ map (spelling_of c.role) (receives c s octets).out
+took_sends c s octets o notes made on same is = is ∙ ap (λ (x : List PlainFrame). map (spelling_of c.role) x) (took c s octets o notes on same).out
 
 pub took_enters : (c : Settings) (s : Station) (octets : List ℕ) (o : Option (List ℕ)) (notes : Notes) (entries : List StationEntry) → abandons c s ≡ false
     → (let k : LinkStep = take_step (link_settings c) octets s.link in (o ≡ k.packet) × (notes ≡ k.notes)) → entries ≡ entries_noted notes ++ entries_heard (layer_settings c) s.layer o notes.down notes.up

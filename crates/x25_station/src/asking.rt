@@ -255,7 +255,7 @@ impl Station {
         out.make_room()?;
         match self.layer.pull(&mut self.link) {
             Ok(()) => {
-                self.link.sent_into(&mut out.frames);
+                self.link.swap_frames(&mut out.frames);
                 Ok(())
             }
             Err(error) => Err(StationError::of_layer(error)),
@@ -304,7 +304,7 @@ impl Station {
         {
             Ok(channel) => {
                 enter(&self.layer, &mut out.entries, channel, Said::Asked(asked));
-                self.link.sent_into(&mut out.frames);
+                self.link.swap_frames(&mut out.frames);
                 Ok(())
             }
             Err(error) => Err(StationError::of_layer(error)),
@@ -378,7 +378,7 @@ impl Station {
             Ok(()) => {
                 let asked = as_shown(&self.layer, channel, asked);
                 enter(&self.layer, &mut out.entries, channel, Said::Asked(asked));
-                self.link.sent_into(&mut out.frames);
+                self.link.swap_frames(&mut out.frames);
                 Ok(())
             }
             Err(error) => Err(StationError::of_layer(error)),
@@ -396,7 +396,7 @@ impl Station {
         match self.layer.restart(&mut self.link) {
             Ok(()) => {
                 out.entries.push_reserved(Entry::RestartAsked);
-                self.link.sent_into(&mut out.frames);
+                self.link.swap_frames(&mut out.frames);
                 Ok(())
             }
             Err(error) => Err(StationError::of_layer(error)),

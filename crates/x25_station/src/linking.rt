@@ -16,9 +16,8 @@ use crate::error::StationError;
 use crate::law::steps_keep_bounds;
 use crate::station::Station;
 use crate::step::Step;
-use std::mem;
 use x25_layer::Layer;
-use x25_link::{Link, Reason, holds_few};
+use x25_link::Reason;
 
 impl Station {
     /// Begins to set the link up. No entry is made.
@@ -44,10 +43,9 @@ impl Station {
         ensures entries { out.new.entries ≡ out.old.entries }
     {
         steps_keep_bounds();
-        holds_few();
         match self.link.connect() {
-            Ok(step) => {
-                exchange(&mut self.link, &mut out.frames, step.frames);
+            Ok(_) => {
+                self.link.swap_frames(&mut out.frames);
                 Ok(())
             }
             Err(error) => Err(StationError::of_link(error)),
@@ -88,8 +86,9 @@ impl Station {
     {
         steps_keep_bounds();
         out.make_room()?;
-        match self.link.t1_into(&mut out.frames) {
+        match self.link.t1() {
             Ok(heard) => {
+                self.link.swap_frames(&mut out.frames);
                 note_down(&mut self.layer, heard.notes.down, &mut out.entries);
                 Ok(())
             }
@@ -103,15 +102,14 @@ impl Station {
         ensures { Does self.old self.new out.new result disconnects }
     {
         steps_keep_bounds();
-        holds_few();
         if out.entries.reserve(2).is_err() {
             return Err(StationError::NoMemory);
         }
         match self.link.disconnect() {
-            Ok(step) => {
+            Ok(heard) => {
                 out.entries.push_reserved(Entry::DisconnectAsked);
-                exchange(&mut self.link, &mut out.frames, step.frames);
-                note_down(&mut self.layer, step.notes.down, &mut out.entries);
+                self.link.swap_frames(&mut out.frames);
+                note_down(&mut self.layer, heard.notes.down, &mut out.entries);
                 Ok(())
             }
             Err(error) => Err(StationError::of_link(error)),
@@ -134,14 +132,4 @@ pub(crate) fn note_down(layer: &mut Layer, down: Option<Reason>, entries: &mut V
         layer.down();
         entries.push_reserved(Entry::LinkDown(reason));
     }
-}
-
-/// Frames that were made come into the list, whose memory serves later frames of the link.
-#[inline(always)]
-pub(crate) fn exchange(link: &mut Link, frames: &mut Vec<Vec<u8>>, made: Vec<Vec<u8>>)
-    ensures link { link.new ≡ link.old }
-    ensures frames { frames.new ≡ made }
-{
-    let used = mem::replace(frames, made);
-    link.give_back_list(used);
 }

@@ -10,9 +10,8 @@ ghost use Rattle.x25_station.specs.Timer.{timer_pulled};
 use crate::error::StationError;
 use crate::law::steps_keep_bounds;
 use crate::station::Station;
-use crate::step::{Step, make_room_for_frames};
+use crate::step::Step;
 use x25_layer::LayerError;
-use x25_link::holds_few;
 
 // Want of memory is an error, and any other refusal none.
 fn unless_refused(error: LayerError) -> Result<(), StationError>
@@ -54,22 +53,18 @@ impl Station {
         }
     }
 
-    // The frames of a pull come behind others.
+    // The frames of a pull come behind others, which the link has meanwhile.
     fn pull_frames(&mut self, frames: &mut Vec<Vec<u8>>) -> Result<(), StationError>
         ensures pulls { Pulls self.old self.new (map (λ f. f.items) frames.old.items)
             (map (λ f. f.items) frames.new.items) result }
         ensures refused { IfErr result (λ e. e ≡ StationError.NoMemory) }
     {
         steps_keep_bounds();
-        holds_few();
-        if make_room_for_frames(frames).is_err() {
-            return Err(StationError::NoMemory);
-        }
-        match self.layer.pull(&mut self.link) {
-            Ok(()) => {
-                self.link.sent_into(frames);
-                Ok(())
-            }
+        self.link.swap_frames(frames);
+        let answer = self.layer.pull(&mut self.link);
+        self.link.swap_frames(frames);
+        match answer {
+            Ok(()) => Ok(()),
             Err(error) => unless_refused(error),
         }
     }

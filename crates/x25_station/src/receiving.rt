@@ -1,7 +1,6 @@
 //! Octets that come: the step of the link, and what the packet layer does at it.
 ghost use Rattle.std.specs.Prelude.{◌≡◌, ℕ, ◌+◌, ◌-◌, ◌<◌, ◌≤◌, ◌++◌, List, length, max, map, true, false, None, option_copied, vec_len, vec_capacity, IfSome, IfErr, OnOk};
 ghost use Rattle.x25_link.specs.Station.{Side};
-ghost use Rattle.x25_link.specs.Link.{alone};
 ghost use Rattle.x25_link.specs.code.FitsLink.{FitsWhole, up_of};
 ghost use Rattle.x25_layer.specs.Layer.{Layer as LayerState};
 ghost use Rattle.x25_layer.specs.code.FitsLayer.{FitsLayer};
@@ -20,7 +19,7 @@ use crate::entering::{MOST_TEXTS, TextMemory, enter_message, enter_told};
 use crate::entry::Entry;
 use crate::error::StationError;
 use crate::law::steps_keep_bounds;
-use crate::linking::{exchange, note_down};
+use crate::linking::note_down;
 use crate::station::Station;
 use crate::step::Step;
 use x25_frame::reading_is_the_grammar as reads_frames;
@@ -38,10 +37,10 @@ fn come_up(layer: &mut Layer, link: &mut Link, entries: &mut Vec<Entry>)
     requires put { CanPut link.old }
     requires room { HasRoom 0 layer.old link.old.outbox.long }
     requires entries { vec_len entries.old < vec_capacity entries.old }
-    ensures layer { (c : Settings) (l : LayerState) (t : Side) → FitsLayer (layer_settings c) layer.old l → FitsWhole link.old (kept_of (link_settings c) (alone t.near)) →
+    ensures layer { (c : Settings) (l : LayerState) (t : Side) → FitsLayer (layer_settings c) layer.old l → FitsWhole link.old (kept_of (link_settings c) t) →
         FitsLayer (layer_settings c) layer.new (comes_up (view_of (link_settings c) t.near) (layer_settings c)).step.layer }
-    ensures link { (c : Settings) (l : LayerState) (t : Side) → FitsLayer (layer_settings c) layer.old l → FitsWhole link.old (kept_of (link_settings c) (alone t.near)) →
-        FitsWhole link.new (kept_of (link_settings c) (all_put (link_settings c) (comes_up (view_of (link_settings c) t.near) (layer_settings c)).step.put (alone t.near))) }
+    ensures link { (c : Settings) (l : LayerState) (t : Side) → FitsLayer (layer_settings c) layer.old l → FitsWhole link.old (kept_of (link_settings c) t) →
+        FitsWhole link.new (kept_of (link_settings c) (all_put (link_settings c) (comes_up (view_of (link_settings c) t.near) (layer_settings c)).step.put t)) }
     ensures entries { map plain_entry entries.new.items ≡ map plain_entry entries.old.items ++ entries_up true }
     ensures length { vec_len entries.new ≡ vec_len entries.old + 1 }
     ensures most_memory { layer.new.memory ≤ max layer.old.memory 16 }
@@ -66,11 +65,11 @@ fn hear_other(
     requires room { HasRoom (length packet.now - 3) layer.old link.old.outbox.long }
     requires texts { 3 ≤ texts.old }
     requires entries { vec_len entries.old + 2 ≤ vec_capacity entries.old }
-    ensures layer { (c : Settings) (l : LayerState) (t : Side) → FitsLayer (layer_settings c) layer.old l → FitsWhole link.old (kept_of (link_settings c) (alone t.near)) →
+    ensures layer { (c : Settings) (l : LayerState) (t : Side) → FitsLayer (layer_settings c) layer.old l → FitsWhole link.old (kept_of (link_settings c) t) →
         FitsLayer (layer_settings c) layer.new (hears (view_of (link_settings c) t.near) (layer_settings c) l packet.now).step.layer }
-    ensures link { (c : Settings) (l : LayerState) (t : Side) → FitsLayer (layer_settings c) layer.old l → FitsWhole link.old (kept_of (link_settings c) (alone t.near)) →
-        FitsWhole link.new (kept_of (link_settings c) (all_put (link_settings c) (hears (view_of (link_settings c) t.near) (layer_settings c) l packet.now).step.put (alone t.near))) }
-    ensures entries { (c : Settings) (l : LayerState) (t : Side) → FitsLayer (layer_settings c) layer.old l → FitsWhole link.old (kept_of (link_settings c) (alone t.near)) →
+    ensures link { (c : Settings) (l : LayerState) (t : Side) → FitsLayer (layer_settings c) layer.old l → FitsWhole link.old (kept_of (link_settings c) t) →
+        FitsWhole link.new (kept_of (link_settings c) (all_put (link_settings c) (hears (view_of (link_settings c) t.near) (layer_settings c) l packet.now).step.put t)) }
+    ensures entries { (c : Settings) (l : LayerState) (t : Side) → FitsLayer (layer_settings c) layer.old l → FitsWhole link.old (kept_of (link_settings c) t) →
         map plain_entry entries.new.items ≡ map plain_entry entries.old.items ++ entries_of_answer (layer_answer (layer_settings c) l packet.now) }
     ensures length { vec_len entries.new ≤ vec_len entries.old + 2 }
     ensures most_memory { layer.new.memory ≤ max layer.old.memory 16 }
@@ -95,11 +94,11 @@ fn hear(
     requires room { HasRoom (length packet.now - 3) layer.old link.old.outbox.long }
     requires texts { 3 ≤ texts.old }
     requires entries { vec_len entries.old + 2 ≤ vec_capacity entries.old }
-    ensures layer { (c : Settings) (l : LayerState) (t : Side) → FitsLayer (layer_settings c) layer.old l → FitsWhole link.old (kept_of (link_settings c) (alone t.near)) →
+    ensures layer { (c : Settings) (l : LayerState) (t : Side) → FitsLayer (layer_settings c) layer.old l → FitsWhole link.old (kept_of (link_settings c) t) →
         FitsLayer (layer_settings c) layer.new (hears (view_of (link_settings c) t.near) (layer_settings c) l packet.now).step.layer }
-    ensures link { (c : Settings) (l : LayerState) (t : Side) → FitsLayer (layer_settings c) layer.old l → FitsWhole link.old (kept_of (link_settings c) (alone t.near)) →
-        FitsWhole link.new (kept_of (link_settings c) (all_put (link_settings c) (hears (view_of (link_settings c) t.near) (layer_settings c) l packet.now).step.put (alone t.near))) }
-    ensures entries { (c : Settings) (l : LayerState) (t : Side) → FitsLayer (layer_settings c) layer.old l → FitsWhole link.old (kept_of (link_settings c) (alone t.near)) →
+    ensures link { (c : Settings) (l : LayerState) (t : Side) → FitsLayer (layer_settings c) layer.old l → FitsWhole link.old (kept_of (link_settings c) t) →
+        FitsWhole link.new (kept_of (link_settings c) (all_put (link_settings c) (hears (view_of (link_settings c) t.near) (layer_settings c) l packet.now).step.put t)) }
+    ensures entries { (c : Settings) (l : LayerState) (t : Side) → FitsLayer (layer_settings c) layer.old l → FitsWhole link.old (kept_of (link_settings c) t) →
         map plain_entry entries.new.items ≡ map plain_entry entries.old.items ++ entries_of_answer (layer_answer (layer_settings c) l packet.now) }
     ensures length { vec_len entries.new ≤ vec_len entries.old + 2 }
     ensures most_memory { layer.new.memory ≤ max layer.old.memory 16 }
@@ -129,11 +128,11 @@ fn follow(
     requires room { IfSome packet (λ p. HasRoom (length p.now - 3) layer.old link.old.outbox.long) }
     requires texts { 3 ≤ texts.old }
     requires entries { vec_len entries.old + 3 ≤ vec_capacity entries.old }
-    ensures layer { (c : Settings) (l : LayerState) (t : Side) → FitsLayer (layer_settings c) layer.old l → FitsWhole link.old (kept_of (link_settings c) (alone t.near)) →
+    ensures layer { (c : Settings) (l : LayerState) (t : Side) → FitsLayer (layer_settings c) layer.old l → FitsWhole link.old (kept_of (link_settings c) t) →
         FitsLayer (layer_settings c) layer.new (layer_at (view_of (link_settings c) t.near) (layer_settings c) l (option_copied packet.entry) notes.down notes.up).layer }
-    ensures link { (c : Settings) (l : LayerState) (t : Side) → FitsLayer (layer_settings c) layer.old l → FitsWhole link.old (kept_of (link_settings c) (alone t.near)) →
-        FitsWhole link.new (kept_of (link_settings c) (all_put (link_settings c) (layer_at (view_of (link_settings c) t.near) (layer_settings c) l (option_copied packet.entry) notes.down notes.up).put (alone t.near))) }
-    ensures entries { (c : Settings) (l : LayerState) (t : Side) → FitsLayer (layer_settings c) layer.old l → FitsWhole link.old (kept_of (link_settings c) (alone t.near)) →
+    ensures link { (c : Settings) (l : LayerState) (t : Side) → FitsLayer (layer_settings c) layer.old l → FitsWhole link.old (kept_of (link_settings c) t) →
+        FitsWhole link.new (kept_of (link_settings c) (all_put (link_settings c) (layer_at (view_of (link_settings c) t.near) (layer_settings c) l (option_copied packet.entry) notes.down notes.up).put t)) }
+    ensures entries { (c : Settings) (l : LayerState) (t : Side) → FitsLayer (layer_settings c) layer.old l → FitsWhole link.old (kept_of (link_settings c) t) →
         map plain_entry entries.new.items ≡ map plain_entry entries.old.items ++ (entries_noted notes ++ entries_heard (layer_settings c) l (option_copied packet.entry) notes.down notes.up) }
     ensures length { vec_len entries.new ≤ vec_len entries.old + 3 }
     ensures most_memory { layer.new.memory ≤ max layer.old.memory 16 }
@@ -208,13 +207,12 @@ impl Station {
         ensures refused { IfErr result (λ e. e ≡ StationError.NoMemory) }
     {
         steps_keep_bounds();
-        holds_few();
         if out.entries.reserve(1).is_err() {
             return Err(StationError::NoMemory);
         }
-        let step = self.link.abandon();
-        exchange(&mut self.link, &mut out.frames, step.frames);
-        note_down(&mut self.layer, step.notes.down, &mut out.entries);
+        let heard = self.link.abandon();
+        self.link.swap_frames(&mut out.frames);
+        note_down(&mut self.layer, heard.notes.down, &mut out.entries);
         Ok(())
     }
 
@@ -258,7 +256,7 @@ impl Station {
         holds_few();
         reads_frames();
         self.set_aside(octets.len().saturating_sub(HEADERS), out)?;
-        match self.link.take_into(octets, &mut out.frames) {
+        match self.link.take(octets) {
             Ok(heard) => {
                 follow(
                     &mut self.layer,
@@ -268,7 +266,7 @@ impl Station {
                     heard.packet,
                     &mut out.entries,
                 );
-                self.link.sent_into(&mut out.frames);
+                self.link.swap_frames(&mut out.frames);
                 Ok(())
             }
             Err(error) => Err(StationError::of_link(error)),

@@ -21,19 +21,6 @@ pub struct Step {
     pub timer: Timer,
 }
 
-/// Room for the frames of a call behind those that there are.
-#[inline(always)]
-pub(crate) fn make_room_for_frames(frames: &mut Vec<Vec<u8>>) -> Result<(), StationError>
-    ensures items { frames.new.items ≡ frames.old.items }
-    ensures room { OnOk result (vec_len frames.new + 17 ≤ vec_capacity frames.new) }
-    ensures refused { IfErr result (λ e. e ≡ StationError.NoMemory) }
-{
-    match frames.reserve(MOST_FRAMES) {
-        Ok(()) => Ok(()),
-        Err(_) => Err(StationError::NoMemory),
-    }
-}
-
 impl Step {
     /// A step for calls to answer into.
     pub fn new(alloc: Global) -> Step
@@ -47,7 +34,7 @@ impl Step {
         }
     }
 
-    /// Room for what a call answers.
+    /// Room for the entries of a call. The list of its frames comes from the link.
     #[inline(always)]
     pub(crate) fn make_room(&mut self) -> Result<(), StationError>
         requires { IsEmpty self.old }
@@ -55,9 +42,6 @@ impl Step {
         ensures places { OnOk result (HasPlaces self.new) }
         ensures refused { IfErr result (λ e. e ≡ StationError.NoMemory) }
     {
-        if self.frames.reserve(MOST_FRAMES).is_err() {
-            return Err(StationError::NoMemory);
-        }
         if self.entries.reserve(MOST_ENTRIES).is_err() {
             return Err(StationError::NoMemory);
         }

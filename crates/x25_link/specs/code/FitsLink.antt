@@ -1,19 +1,18 @@
 -- What contracts see of a link, and the states of the definition that it fits.
-use Rattle.std.specs.Prelude.{◌≡◌, ℕ, Bool, List, Option, Result, ◌++◌, length, map, false, option_copied, IfOk, OnOk, OnErr}
+use Rattle.std.specs.Prelude.{◌≡◌, ℕ, ◌+◌, ◌≤◌, max, Bool, List, Option, Result, ◌++◌, length, map, false, option_copied, IfOk, OnOk, OnErr}
 use Rattle.x25_frame.specs.Spelling.{spelling_of}
 use Rattle.x25_link.specs.declared.error.LinkError.{LinkError}
 use Rattle.x25_link.specs.declared.heard.Heard.{Heard}
 use Rattle.x25_link.specs.declared.station.LinkStation.{LinkStation as StationCode}
-use Rattle.x25_link.specs.declared.step.Step as code
 use Rattle.x25_link.specs.OrderedLink.{Lists}
 use Rattle.x25_link.specs.code.Outbox.{ShownOutbox}
 use Rattle.x25_link.specs.Outgoing.{waits}
 use Rattle.x25_link.specs.Station.{Settings, LinkStation, lists_of, is_up, may_send, owes_ready}
 use Rattle.x25_link.specs.Hearing.{Step}
 use Rattle.x25_link.specs.Link.{Refuses, put_step}
-use Rattle.x25_link.specs.code.Fits.{FitsStation}
+use Rattle.x25_link.specs.code.Fits.{FitsStation, Made}
 
--- the variables of the station, and the frames that `sent` will hand out, with the memory set aside for further ones
+-- the variables of the station, and the frames that `swap_frames` will hand out, with the memory set aside for further ones
 pub record ShownLink : Type 0 where
   pub station : StationCode
   pub outbox : ShownOutbox
@@ -34,37 +33,30 @@ pub record FitsLink (c : Settings) (v : ShownLink) (s : LinkStation) : Type 0 wh
   pub settled : may_send c.window s ≡ false
   pub calm : owes_ready s ≡ false
 
--- the answer of a call is that step's: the frames, as the octets that spell them, the packet and the notes
-pub record IsAnswer (c : Settings) (answer : code.Step) (step : Step) : Type 0 where
-  pub frames : map (λ frame. frame.items) answer.frames.items ≡ map (spelling_of c.role) step.side.out
-  pub packet : option_copied answer.packet ≡ step.packet
-  pub notes : answer.notes ≡ step.notes
+-- what is heard is that step's: the packet handed up, and what is noted
+pub record IsHeard (heard : Heard) (step : Step) : Type 0 where
+  pub packet : option_copied heard.packet ≡ step.packet
+  pub notes : heard.notes ≡ step.notes
 
--- A call is refused as the definition says, or does its step: of each state that the link stood for it leaves that step's, with that step's
--- answer. Where it is refused the link is as before. The frames that `sent` will hand out stay.
-pub record Does (old new : ShownLink) (result : Result code.Step LinkError) (refusal : LinkStation → Option LinkError) (step : Settings → LinkStation → Step) : Type 0 where
+-- A call is refused as the definition says, or does its step. Of each state that the link stood for it leaves that step's, and what is heard
+-- is that step's; its frames, nine at most, stand behind those that `swap_frames` will hand out. The memory that is set aside for calls of `put`
+-- stays, and the list of the frames has places for no more than it keeps, that memory and nine further frames, or as many as before. Where it is
+-- refused the link is as before.
+pub record Does (old new : ShownLink) (result : Result Heard LinkError) (refusal : LinkStation → Option LinkError)
+    (step : Settings → LinkStation → Step) : Type 0 where
   pub state : (c : Settings) (s : LinkStation) → FitsLink c old s → OnOk result (FitsLink c new (step c s).side.near)
-  pub answer : (c : Settings) (s : LinkStation) → FitsLink c old s → IfOk result (λ answer. IsAnswer c answer (step c s))
+  pub frames : (c : Settings) (s : LinkStation) → FitsLink c old s →
+      OnOk result (Made c old.outbox.made new.outbox.made (step c s).side.out)
+  pub heard : (c : Settings) (s : LinkStation) → FitsLink c old s → IfOk result (λ heard. IsHeard heard (step c s))
+  pub few : (c : Settings) (s : LinkStation) → FitsLink c old s → length new.outbox.made ≤ length old.outbox.made + 9
   pub refused : (c : Settings) (s : LinkStation) → FitsLink c old s → Refuses (refusal s) result
-  pub outbox : new.outbox ≡ old.outbox
-  pub err : OnErr result (new ≡ old)
-
--- the link stands for some state
-abbrev pub IsMeant : ShownLink → Type 0
-IsMeant v = ∥ ((c : Settings) × (s : LinkStation) × FitsLink c v s) ∥₁
-
--- .. where the call puts the frames behind others, and answers what was heard alone
-pub record DoesInto (old new : ShownLink) (before after : List (List ℕ)) (result : Result Heard LinkError) (step : Settings → LinkStation → Step) : Type 0 where
-  pub state : (c : Settings) (s : LinkStation) → FitsLink c old s → OnOk result (FitsLink c new (step c s).side.near)
-  pub frames : (c : Settings) (s : LinkStation) → FitsLink c old s → OnOk result (after ≡ before ++ map (spelling_of c.role) (step c s).side.out)
-  pub packet : (c : Settings) (s : LinkStation) → FitsLink c old s → IfOk result (λ heard. option_copied heard.packet ≡ (step c s).packet)
-  pub notes : (c : Settings) (s : LinkStation) → FitsLink c old s → IfOk result (λ heard. heard.notes ≡ (step c s).notes)
-  pub outbox : new.outbox ≡ old.outbox
+  pub promised : new.outbox.long ≡ old.outbox.long
+  pub places : new.outbox.places ≤ max old.outbox.places (length old.outbox.made + (old.outbox.long + 7 + max old.outbox.short 2))
   pub err : OnErr result (new ≡ old)
 
 -- ---- a link as one that keeps order
 
--- what it stands for: its settings, the station, and the frames that `sent` will hand out
+-- what it stands for: its settings, the station, and the frames that `swap_frames` will hand out
 pub record LinkState : Type 0 where
   pub settings : Settings
   pub station : LinkStation

@@ -52,9 +52,8 @@ pub record IsEmpty (out : code_step.Step) : Type 0 where
   pub frames : out.frames.items ≡ []
   pub entries : out.entries.items ≡ []
 
--- it has room for all that a call answers
+-- it has room for the entries of a call
 pub record HasPlaces (out : code_step.Step) : Type 0 where
-  pub frames : vec_len out.frames + 17 ≤ vec_capacity out.frames
   pub entries : vec_len out.entries + 3 ≤ vec_capacity out.entries
 
 -- A call does what the definition says of it: of each state that the station stood for it leaves that step's, and answers

@@ -1,6 +1,5 @@
 use Rattle.std.proofs.Common.{option_copied, ap, sym, subst, ◌∙◌}
 use Rattle.x25_link.specs.code.FitsLink.{FitsWhole}
-use Rattle.x25_link.specs.Link.{alone}
 use Rattle.x25_layer.specs.code.FitsLayer.{FitsLayer}
 use Rattle.x25_layer.specs.Rounds.{Putting}
 use Rattle.x25_station.specs.Config.{link_settings, layer_settings}
@@ -20,7 +19,7 @@ pub returns-then-notes-clause-link : goal.returns-then-notes-clause-link
 returns-then-notes-clause-link c = λ c' l t fits link.
     let lc = layer_settings c' in
     let lk = link_settings c' in
-    at_up (λ (s : Putting). FitsWhole c.come_up.new.link (kept_of lk (all_put lk s.put (alone t.near)))) (view_of lk t.near) lc l (option_copied c.args.packet) c.args.notes.down c.args.notes.up c.if-notes.true
+    at_up (λ (s : Putting). FitsWhole c.come_up.new.link (kept_of lk (all_put lk s.put t))) (view_of lk t.near) lc l (option_copied c.args.packet) c.args.notes.down c.args.notes.up c.if-notes.true
     (c.come_up.ensures.link c' (layer_down l c.args.notes.down) t (c.note_down.ensures.layer lc l fits) link)
 
 pub returns-then-is_some-clause-layer : goal.returns-then-is_some-clause-layer
@@ -39,7 +38,7 @@ pub returns-in-Some-clause-link : goal.returns-in-Some-clause-link
 returns-in-Some-clause-link c = λ c' l t fits link.
     let lc = layer_settings c' in
     let lk = link_settings c' in
-    at_heard (λ (s : Putting). FitsWhole c.hear.new.link (kept_of lk (all_put lk s.put (alone t.near)))) (view_of lk t.near) lc l (option_copied c.args.packet) c.in-Some.packet.now c.args.notes.down c.args.notes.up c.if-notes.false
+    at_heard (λ (s : Putting). FitsWhole c.hear.new.link (kept_of lk (all_put lk s.put t))) (view_of lk t.near) lc l (option_copied c.args.packet) c.in-Some.packet.now c.args.notes.down c.args.notes.up c.if-notes.false
     (sym c.is_some.ensures ∙ c.if-is_some.false) (ap option_copied c.in-Some.is) (c.hear.ensures.link c' l t (subst (λ y. FitsLayer lc y l) (sym (c.note_down.ensures.same (is_none _ (sym c.is_some.ensures ∙ c.if-is_some.false)))) fits) link)
 
 pub returns-in_default-clause-layer : goal.returns-in_default-clause-layer

@@ -2,7 +2,6 @@ use Rattle.std.proofs.Common.{◌++◌, map, ap, subst, ◌∙◌}
 use Rattle.x25_packet.specs.Reading.{packet_of}
 use Rattle.x25_packet.specs.Spelling.{longest_user}
 use Rattle.x25_link.specs.code.FitsLink.{FitsWhole}
-use Rattle.x25_link.specs.Link.{alone}
 use Rattle.x25_layer.specs.code.FitsLayer.{FitsLayer}
 use Rattle.x25_layer.specs.Rounds.{LinkView, begin, hears, answer_to}
 use Rattle.x25_station.specs.Entry.{station_told}
@@ -21,15 +20,15 @@ use Rattle.x25_station.proofs.receiving.hear.Goals as goal
 pub returns-in-Some-clause-layer : goal.returns-in-Some-clause-layer
 returns-in-Some-clause-layer c = λ c' l t fits link.
     let lc = layer_settings c' in
-    subst (λ (view : LinkView). FitsLayer lc c.transfer.new.self (hears view lc l c.args.packet.now).step.layer) (same_view (link_settings c') t.near)
-    (c.in-Some.ensures.layer lc l (kept_of (link_settings c') (alone t.near)) fits link)
+    subst (λ (view : LinkView). FitsLayer lc c.transfer.new.self (hears view lc l c.args.packet.now).step.layer) (same_view (link_settings c') t)
+    (c.in-Some.ensures.layer lc l (kept_of (link_settings c') t) fits link)
 
 pub returns-in-Some-clause-link : goal.returns-in-Some-clause-link
 returns-in-Some-clause-link c = λ c' l t fits link.
     let lc = layer_settings c' in
     let lk = link_settings c' in
-    subst (λ (view : LinkView). FitsWhole c.transfer.new.link (kept_of lk (all_put lk (hears view lc l c.args.packet.now).step.put (alone t.near)))) (same_view lk t.near)
-    (after_puts lk c.transfer.new.link (hears (seen_by lk t.near) lc l c.args.packet.now).step.put (alone t.near) (c.in-Some.ensures.link lc l (kept_of lk (alone t.near)) fits link))
+    subst (λ (view : LinkView). FitsWhole c.transfer.new.link (kept_of lk (all_put lk (hears view lc l c.args.packet.now).step.put t))) (same_view lk t)
+    (after_puts lk c.transfer.new.link (hears (seen_by lk t) lc l c.args.packet.now).step.put t (c.in-Some.ensures.link lc l (kept_of lk t) fits link))
 
 pub returns-in-Some-clause-entries : goal.returns-in-Some-clause-entries
 returns-in-Some-clause-entries c = λ c' l t fits link.

@@ -2,7 +2,6 @@ use Rattle.std.proofs.Common.{◌-◌, ◌<◌, ◌++◌, length, map, List, All
 use Rattle.std.proofs.lemmas.List.Elements.{All-from_get_or}
 use Rattle.x25_packet.specs.Reading.{packet_of}
 use Rattle.x25_link.specs.code.FitsLink.{FitsWhole}
-use Rattle.x25_link.specs.Link.{alone}
 use Rattle.x25_layer.specs.code.FitsLayer.{FitsLayer}
 use Rattle.x25_layer.specs.Layer.{LayerNotice}
 use Rattle.x25_layer.specs.Rounds.{LinkView, begin, hears, answer_to}
@@ -25,15 +24,15 @@ unwrap-told-requires c = c.packet.ensures.enough (length c.args.packet.now - 3) 
 pub returns-clause-layer : goal.returns-clause-layer
 returns-clause-layer c = λ c' l t fits link.
     let lc = layer_settings c' in
-    subst (λ (view : LinkView). FitsLayer lc c.packet.new.self (hears view lc l c.args.packet.now).step.layer) (same_view (link_settings c') t.near)
-    (on_ok c.packet.result c.unwrap-told.result _ c.unwrap-told.ensures (c.packet.ensures.layer lc l (kept_of (link_settings c') (alone t.near)) fits link))
+    subst (λ (view : LinkView). FitsLayer lc c.packet.new.self (hears view lc l c.args.packet.now).step.layer) (same_view (link_settings c') t)
+    (on_ok c.packet.result c.unwrap-told.result _ c.unwrap-told.ensures (c.packet.ensures.layer lc l (kept_of (link_settings c') t) fits link))
 
 pub returns-clause-link : goal.returns-clause-link
 returns-clause-link c = λ c' l t fits link.
     let lc = layer_settings c' in
     let lk = link_settings c' in
-    subst (λ (view : LinkView). FitsWhole c.packet.new.link (kept_of lk (all_put lk (hears view lc l c.args.packet.now).step.put (alone t.near)))) (same_view lk t.near)
-    (after_puts lk c.packet.new.link (hears (seen_by lk t.near) lc l c.args.packet.now).step.put (alone t.near) (on_ok c.packet.result c.unwrap-told.result _ c.unwrap-told.ensures (c.packet.ensures.link lc l (kept_of lk (alone t.near)) fits link)))
+    subst (λ (view : LinkView). FitsWhole c.packet.new.link (kept_of lk (all_put lk (hears view lc l c.args.packet.now).step.put t))) (same_view lk t)
+    (after_puts lk c.packet.new.link (hears (seen_by lk t) lc l c.args.packet.now).step.put t (on_ok c.packet.result c.unwrap-told.result _ c.unwrap-told.ensures (c.packet.ensures.link lc l (kept_of lk t) fits link)))
 
 pub returns-clause-entries : goal.returns-clause-entries
 returns-clause-entries c = λ c' l t fits link.

@@ -1,25 +1,31 @@
-use Rattle.std.proofs.Common.{rules, ap, [], sym, subst, refl, ◌∙◌}
+use Rattle.std.proofs.Common.{rules, arith, ap, refl}
 use Rattle.x25_link.specs.declared.phase.Reason.TheVariants.{Counts}
-use Rattle.std.specs.Prelude.{option_copied}
-use Rattle.x25_link.specs.code.FitsLink.{ShownLink, FitsLink}
 use Rattle.x25_link.specs.Hearing.{Step, leaves}
 use Rattle.x25_link.specs.Link.{alone}
-use Rattle.x25_link.proofs.LinkLemmas.{closed_state, closed_out}
+use Rattle.x25_link.proofs.FrameCount.{made_nine, abandon_sends_few}
+use Rattle.x25_link.proofs.LinkLemmas.{begins, closed_state, closed_out}
 use Rattle.x25_link.proofs.link.Link.abandon.Goals as goal
 
 pub returns : goal.returns
 returns c = record {
   state = λ d s fits.
-      let inside = subst (λ (v : ShownLink). FitsLink d v s) (sym c.self.view_is) fits in
-      let heard = c.leave-heard.ensures.step d [] _ (alone s) (record { near = inside.near; out = c.self.invariant.0 }) in
+      let heard = c.leave.ensures.step d _ _ (alone s) (begins d _ _ _ s c.self.view_is fits refl) in
       let step : Step = leaves Counts (alone s) in
       closed_state d _ step.side heard.side.near refl refl;
-  answer = λ d s fits.
-      let inside = subst (λ (v : ShownLink). FitsLink d v s) (sym c.self.view_is) fits in
-      let heard = c.leave-heard.ensures.step d [] _ (alone s) (record { near = inside.near; out = c.self.invariant.0 }) in
+  frames = λ d s fits.
+      let heard = c.leave.ensures.step d _ _ (alone s) (begins d _ _ _ s c.self.view_is fits refl) in
       let step : Step = leaves Counts (alone s) in
-      record { frames = closed_out d _ step.side refl refl (c.answered.ensures.frames ∙ heard.side.out); packet = ap option_copied c.answered.ensures.packet ∙ heard.packet; notes = c.answered.ensures.notes ∙ heard.notes };
+      closed_out d _ _ step.side refl refl heard.side.out;
+  heard = λ d s fits.
+      let heard = c.leave.ensures.step d _ _ (alone s) (begins d _ _ _ s c.self.view_is fits refl) in
+      let step : Step = leaves Counts (alone s) in
+      record { packet = heard.packet; notes = heard.notes };
+  few = λ d s fits.
+      let heard = c.leave.ensures.step d _ _ (alone s) (begins d _ _ _ s c.self.view_is fits refl) in
+      let step : Step = leaves Counts (alone s) in
+      made_nine d c.args.self.now.outbox.made c.self.inside.outbox.made _ (closed_out d _ _ step.side refl refl heard.side.out) (abandon_sends_few d s);
   refused = search rules;
-  outbox = search rules;
+  promised = search rules;
+  places = omega (arith, ap (λ v. v.outbox.places) c.self.view_is);
   err = search rules;
 }

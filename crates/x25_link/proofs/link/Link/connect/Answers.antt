@@ -1,24 +1,28 @@
-use Rattle.std.proofs.Common.{rules, ap, [], sym, subst, refl, ◌∙◌}
-use Rattle.std.specs.Prelude.{option_copied}
-use Rattle.x25_link.specs.code.FitsLink.{ShownLink, FitsLink}
+use Rattle.std.proofs.Common.{rules, arith, refl}
 use Rattle.x25_link.specs.Hearing.{Step}
 use Rattle.x25_link.specs.Link.{alone, connects}
-use Rattle.x25_link.proofs.LinkLemmas.{closed_state, closed_out}
+use Rattle.x25_link.proofs.FrameCount.{made_nine, connect_sends_few}
+use Rattle.x25_link.proofs.LinkLemmas.{begins, few_places, closed_state, closed_out}
 use Rattle.x25_link.proofs.link.Link.connect.Goals as goal
 
 pub returns : goal.returns
 returns c = record {
   state = λ d s fits.
-      let inside = subst (λ (v : ShownLink). FitsLink d v s) (sym c.self.view_is) fits in
-      let side = c.connect.ensures d [] (alone s) (record { near = inside.near; out = c.reserve.ensures.made ∙ c.self.invariant.0 }) in
+      let heard = c.connect.ensures.step d _ (alone s) (begins d _ _ _ s c.self.view_is fits c.reserve.ensures.made) in
       let step : Step = connects (alone s) in
-      closed_state d _ step.side side.near refl refl;
-  answer = λ d s fits.
-      let inside = subst (λ (v : ShownLink). FitsLink d v s) (sym c.self.view_is) fits in
-      let side = c.connect.ensures d [] (alone s) (record { near = inside.near; out = c.reserve.ensures.made ∙ c.self.invariant.0 }) in
+      closed_state d _ step.side heard.near refl refl;
+  frames = λ d s fits.
+      let heard = c.connect.ensures.step d _ (alone s) (begins d _ _ _ s c.self.view_is fits c.reserve.ensures.made) in
       let step : Step = connects (alone s) in
-      record { frames = closed_out d _ step.side refl refl (c.answered.ensures.frames ∙ side.out); packet = ap option_copied (c.answered.ensures.packet ∙ c.quiet.ensures.packet); notes = c.answered.ensures.notes ∙ c.quiet.ensures.notes };
+      closed_out d _ _ step.side refl refl heard.out;
+  heard = λ d s fits.
+      record { packet = rw c.quiet.ensures.packet refl; notes = c.quiet.ensures.notes };
+  few = λ d s fits.
+      let heard = c.connect.ensures.step d _ (alone s) (begins d _ _ _ s c.self.view_is fits c.reserve.ensures.made) in
+      let step : Step = connects (alone s) in
+      made_nine d c.args.self.now.outbox.made c.connect.new.out.made _ (closed_out d _ _ step.side refl refl heard.out) (connect_sends_few d s);
   refused = search rules;
-  outbox = search rules;
+  promised = search rules;
+  places = few_places _ _ _ _ 0 c.self.view_is c.reserve.ensures.places c.connect.ensures.places (omega arith);
   err = search rules;
 }

@@ -1,24 +1,30 @@
-use Rattle.std.proofs.Common.{rules, ap, [], sym, subst, refl, ◌∙◌}
-use Rattle.std.specs.Prelude.{option_copied}
-use Rattle.x25_link.specs.code.FitsLink.{ShownLink, FitsLink}
+use Rattle.std.proofs.Common.{rules, arith, refl}
 use Rattle.x25_link.specs.Hearing.{Step}
 use Rattle.x25_link.specs.Link.{alone, disconnects}
-use Rattle.x25_link.proofs.LinkLemmas.{closed_state, closed_out}
+use Rattle.x25_link.proofs.FrameCount.{made_nine, disconnect_sends_few}
+use Rattle.x25_link.proofs.LinkLemmas.{begins, few_places, closed_state, closed_out}
 use Rattle.x25_link.proofs.link.Link.disconnect.Goals as goal
 
 pub returns : goal.returns
 returns c = record {
   state = λ d s fits.
-      let inside = subst (λ (v : ShownLink). FitsLink d v s) (sym c.self.view_is) fits in
-      let heard = c.disconnect-heard.ensures d [] (alone s) (record { near = inside.near; out = c.reserve.ensures.made ∙ c.self.invariant.0 }) in
+      let heard = c.disconnect.ensures.step d _ (alone s) (begins d _ _ _ s c.self.view_is fits c.reserve.ensures.made) in
       let step : Step = disconnects (alone s) in
       closed_state d _ step.side heard.side.near refl refl;
-  answer = λ d s fits.
-      let inside = subst (λ (v : ShownLink). FitsLink d v s) (sym c.self.view_is) fits in
-      let heard = c.disconnect-heard.ensures d [] (alone s) (record { near = inside.near; out = c.reserve.ensures.made ∙ c.self.invariant.0 }) in
+  frames = λ d s fits.
+      let heard = c.disconnect.ensures.step d _ (alone s) (begins d _ _ _ s c.self.view_is fits c.reserve.ensures.made) in
       let step : Step = disconnects (alone s) in
-      record { frames = closed_out d _ step.side refl refl (c.answered.ensures.frames ∙ heard.side.out); packet = ap option_copied c.answered.ensures.packet ∙ heard.packet; notes = c.answered.ensures.notes ∙ heard.notes };
+      closed_out d _ _ step.side refl refl heard.side.out;
+  heard = λ d s fits.
+      let heard = c.disconnect.ensures.step d _ (alone s) (begins d _ _ _ s c.self.view_is fits c.reserve.ensures.made) in
+      let step : Step = disconnects (alone s) in
+      record { packet = heard.packet; notes = heard.notes };
+  few = λ d s fits.
+      let heard = c.disconnect.ensures.step d _ (alone s) (begins d _ _ _ s c.self.view_is fits c.reserve.ensures.made) in
+      let step : Step = disconnects (alone s) in
+      made_nine d c.args.self.now.outbox.made c.disconnect.new.out.made _ (closed_out d _ _ step.side refl refl heard.side.out) (disconnect_sends_few d s);
   refused = search rules;
-  outbox = search rules;
+  promised = search rules;
+  places = few_places _ _ _ _ 0 c.self.view_is c.reserve.ensures.places c.disconnect.ensures.places (omega arith);
   err = search rules;
 }

@@ -1,19 +1,26 @@
-use Rattle.std.proofs.Common.{rules, ap, [], sym, subst, ◌∙◌}
-use Rattle.std.specs.Prelude.{option_copied}
-use Rattle.x25_link.specs.code.FitsLink.{ShownLink, FitsLink}
+use Rattle.std.proofs.Common.{rules, arith, ap, ◌∙◌}
+use Rattle.x25_link.proofs.FrameCount.{made_nine, take_sends_few}
+use Rattle.x25_link.proofs.LinkLemmas.{begins, few_places}
 use Rattle.x25_link.proofs.link.Link.take.Goals as goal
 
 pub returns-clause-does : goal.returns-clause-does
 returns-clause-does c = record {
   state = λ d s fits.
-      let inside = subst (λ (v : ShownLink). FitsLink d v s) (sym c.self.view_is) fits in
-      let heard = c.hear-heard.ensures.step d [] s (record { near = inside.near; out = c.reserve.ensures.made ∙ c.self.invariant.0 }) in
-      record { near = heard.side.near; settled = c.hear-heard.ensures.settled d s inside.near; calm = c.hear-heard.ensures.calm d s inside.near };
-  answer = λ d s fits.
-      let inside = subst (λ (v : ShownLink). FitsLink d v s) (sym c.self.view_is) fits in
-      let heard = c.hear-heard.ensures.step d [] s (record { near = inside.near; out = c.reserve.ensures.made ∙ c.self.invariant.0 }) in
-      record { frames = c.answered.ensures.frames ∙ heard.side.out; packet = ap option_copied c.answered.ensures.packet ∙ heard.packet; notes = c.answered.ensures.notes ∙ heard.notes };
+      let start = begins d _ _ _ s c.self.view_is fits c.reserve.ensures.made in
+      let heard = c.hear-heard.ensures.step d _ s start in
+      record { near = heard.side.near; settled = c.hear-heard.ensures.settled d s start.near; calm = c.hear-heard.ensures.calm d s start.near };
+  frames = λ d s fits.
+      let heard = c.hear-heard.ensures.step d _ s (begins d _ _ _ s c.self.view_is fits c.reserve.ensures.made) in
+      ap (λ o. o.made) c.limit.ensures ∙ heard.side.out;
+  heard = λ d s fits.
+      let heard = c.hear-heard.ensures.step d _ s (begins d _ _ _ s c.self.view_is fits c.reserve.ensures.made) in
+      record { packet = heard.packet; notes = heard.notes };
+  few = λ d s fits.
+      let heard = c.hear-heard.ensures.step d _ s (begins d _ _ _ s c.self.view_is fits c.reserve.ensures.made) in
+      made_nine d c.args.self.now.outbox.made c.limit.new.self.made _ (ap (λ o. o.made) c.limit.ensures ∙ heard.side.out)
+      (take_sends_few d c.args.octets.now s);
   refused = search rules;
-  outbox = search rules;
+  promised = search rules;
+  places = few_places _ _ _ _ _ c.self.view_is c.reserve.ensures.places (ap (λ o. o.places) c.limit.ensures ∙ c.hear-heard.ensures.places) (omega (arith, c.in-Some.ensures, c.window-window.ensures.few, c.long-promised.ensures));
   err = search rules;
 }

@@ -5,8 +5,8 @@ use Rattle.x25_link.specs.Station.{is_up, with_near, with_nothing}
 use Rattle.x25_link.proofs.station.LinkStation.disconnect.Goals as goal
 use Rattle.x25_link.proofs.station.LinkStation.disconnect.Goals.{then-is_up, else-is_up}
 
-pub returns : goal.returns
-returns c = λ d before t fits.
+pub returns-clause-step : goal.returns-clause-step
+returns-clause-step c = λ d before t fits.
     let phase = ap is_up fits.near.phase in
     let down : c.if-is_up.down ≡ (if is_up t.near.phase then Some Local else None) = elim c.if-is_up.branch [
       | then-is_up w ↦ w.down-is ∙ rw (sym phase, sym w.if-is_up.ensures) refl

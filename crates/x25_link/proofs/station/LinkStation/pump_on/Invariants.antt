@@ -9,4 +9,9 @@ invariant-loop-frame l = record {
   step : (c : Settings) (before : List (List ℕ)) (t : Side) → FitsSide c l.initial.self before l.initial.out.made t → FitsSide c l.self before l.out.made (pumped l._frame c.window t);
   long : window_of l.self.outgoing ≤ l.out.long + before_in l.self.outgoing;
   short : l.out.short ≡ l.initial.out.short;
+  places : l.out.places ≡ l.initial.out.places;
+  window : window_of l.self.outgoing ≡ window_of l.initial.self.outgoing;
+  left : (most : ℕ) → most ≤ l.initial.out.long + before_in l.initial.self.outgoing
+      → most ≤ l.initial.out.long + window_of l.initial.self.outgoing
+      → (most ≤ l.out.long + before_in l.self.outgoing) × (most ≤ l.out.long + window_of l.initial.self.outgoing);
 }

@@ -10,28 +10,23 @@ use Rattle.x25_station.specs.Config.{layer_settings}
 use Rattle.x25_station.specs.Step.{requests}
 use Rattle.x25_station.proofs.OutcomeLemmas.{leaves_some, still_meant}
 use Rattle.x25_station.proofs.AskLemmas.{answers, still_fits}
-use Rattle.x25_station.proofs.DoesLemmas.{did_request, made_few, declines_request}
+use Rattle.x25_station.proofs.DoesLemmas.{did_request, declines_request}
 use Rattle.x25_station.proofs.EnteredLemmas.{dialled_enters}
 use Rattle.x25_station.proofs.station.Station.call.Goals as goal
-
-pub sent_into-requires : goal.sent_into-requires
-sent_into-requires c =
-    let few = made_few c.in-Ok.channel _ c.call_with.new.link _ (Dials c.args.called.now c.args.calling.now c.args.user.now c.args.params) c.args.self.now.meant c.in-Ok.ensures.does.link c.holds_few.ensures.window c.holds_few.ensures.stand in
-    grind (arith, few, c.in_ok-make_room.ensures.places.frames)
 
 pub invariant_of-self : goal.invariant_of-self
 invariant_of-self c = record {
   meant = still_meant _ _ _ _ c.args.self.now.meant (λ c' s fits.
       let request = Dials c.args.called.now c.args.calling.now c.args.user.now c.args.params in
-      let a = answers c.in-Ok.channel c' _ c.call_with.new.link c.sent_into.new.self _ c.call_with.new.self (record { frames = c.sent_into.new.frames; entries = c.enter.new.entries; timer = c.make_room.new.self.timer }) s request fits
-      c.in-Ok.ensures.does.layer c.in-Ok.ensures.does.link c.sent_into.ensures.station (ap (λ o. o.made) c.sent_into.ensures.outbox) (c.sent_into.ensures.frames ∙ ap (λ frames. map (λ frame. frame.items) frames ++ c.call_with.new.link.outbox.made) c.make_room.ensures.empty.frames)
+      let a = answers c.in-Ok.channel c' _ c.call_with.new.link c.swap_frames.new.self _ c.call_with.new.self (record { frames = c.swap_frames.new.frames; entries = c.enter.new.entries; timer = c.make_room.new.self.timer }) s request fits
+      c.in-Ok.ensures.does.layer c.in-Ok.ensures.does.link c.swap_frames.ensures.station (ap (λ o. o.made) c.swap_frames.ensures.outbox ∙ ap (map (λ frame. frame.items)) c.make_room.ensures.empty.frames) c.swap_frames.ensures.frames
       (c.steps_keep_bounds.ensures.command c' s (Requests request) fits.kept) in
       leaves_some c' _ _ (requests c' s request) a.state a.refused);
   aside =
       let before = c.args.self.now.aside in
       let packets = c.in-Ok.ensures.does.most_memory in
       let low = before.packets in
-      let spares : c.sent_into.new.self.outbox.long ≡ 0 = ap (λ o. o.long) c.sent_into.ensures.outbox in
+      let spares : c.swap_frames.new.self.outbox.long ≡ 0 = ap (λ o. o.long) c.swap_frames.ensures.outbox in
       record { packets = omega (arith, packets, low); spares = omega (arith, spares); texts = before.texts };
 }
 
@@ -51,8 +46,8 @@ invariant_of-self-in-Err-1 c = record {
 pub returns-in-Ok : goal.returns-in-Ok
 returns-in-Ok c =
     let request = Dials c.args.called.now c.args.calling.now c.args.user.now c.args.params in
-    let r : code_step.Step = record { frames = c.sent_into.new.frames; entries = c.enter.new.entries; timer = c.make_room.new.self.timer } in
-    did_request c.in-Ok.channel c.args.self.now _ c.call_with.new.link r request c.in-Ok.ensures.does.layer c.in-Ok.ensures.does.link c.sent_into.ensures.station (ap (λ o. o.made) c.sent_into.ensures.outbox) (c.sent_into.ensures.frames ∙ ap (λ frames. map (λ frame. frame.items) frames ++ c.call_with.new.link.outbox.made) c.make_room.ensures.empty.frames)
+    let r : code_step.Step = record { frames = c.swap_frames.new.frames; entries = c.enter.new.entries; timer = c.make_room.new.self.timer } in
+    did_request c.in-Ok.channel c.args.self.now _ c.call_with.new.link r request c.in-Ok.ensures.does.layer c.in-Ok.ensures.does.link c.swap_frames.ensures.station (ap (λ o. o.made) c.swap_frames.ensures.outbox ∙ ap (map (λ frame. frame.items)) c.make_room.ensures.empty.frames) c.swap_frames.ensures.frames
     c.steps_keep_bounds.ensures.command c.holds_few.ensures.window c.holds_few.ensures.stand
     (λ c' s fits.
     let h = c.in-Ok.channel in

@@ -8,28 +8,23 @@ use Rattle.x25_station.specs.Config.{layer_settings}
 use Rattle.x25_station.specs.Step.{requests}
 use Rattle.x25_station.proofs.OutcomeLemmas.{leaves_some, still_meant}
 use Rattle.x25_station.proofs.AskLemmas.{answers, still_fits}
-use Rattle.x25_station.proofs.DoesLemmas.{did_request, made_few, declines_request}
+use Rattle.x25_station.proofs.DoesLemmas.{did_request, declines_request}
 use Rattle.x25_station.proofs.EnteredLemmas.{restart_enters}
 use Rattle.x25_station.proofs.station.Station.restart.Goals as goal
-
-pub sent_into-requires : goal.sent_into-requires
-sent_into-requires c =
-    let few = made_few c.in-Ok.field-0 _ c.restart.new.link _ Restarts c.args.self.now.meant c.in-Ok.ensures.link c.holds_few.ensures.window c.holds_few.ensures.stand in
-    grind (arith, few, c.in_ok-make_room.ensures.places.frames)
 
 pub invariant_of-self : goal.invariant_of-self
 invariant_of-self c = record {
   meant = still_meant _ _ _ _ c.args.self.now.meant (λ c' s fits.
       let request = Restarts in
-      let a = answers c.in-Ok.field-0 c' _ c.restart.new.link c.sent_into.new.self _ c.restart.new.self (record { frames = c.sent_into.new.frames; entries = c.push_reserved.new.self; timer = c.make_room.new.self.timer }) s request fits
-      c.in-Ok.ensures.layer c.in-Ok.ensures.link c.sent_into.ensures.station (ap (λ o. o.made) c.sent_into.ensures.outbox) (c.sent_into.ensures.frames ∙ ap (λ frames. map (λ frame. frame.items) frames ++ c.restart.new.link.outbox.made) c.make_room.ensures.empty.frames)
+      let a = answers c.in-Ok.field-0 c' _ c.restart.new.link c.swap_frames.new.self _ c.restart.new.self (record { frames = c.swap_frames.new.frames; entries = c.push_reserved.new.self; timer = c.make_room.new.self.timer }) s request fits
+      c.in-Ok.ensures.layer c.in-Ok.ensures.link c.swap_frames.ensures.station (ap (λ o. o.made) c.swap_frames.ensures.outbox ∙ ap (map (λ frame. frame.items)) c.make_room.ensures.empty.frames) c.swap_frames.ensures.frames
       (c.steps_keep_bounds.ensures.command c' s (Requests request) fits.kept) in
       leaves_some c' _ _ (requests c' s request) a.state a.refused);
   aside =
       let before = c.args.self.now.aside in
       let packets = c.in-Ok.ensures.most_memory in
       let low = before.packets in
-      let spares : c.sent_into.new.self.outbox.long ≡ 0 = ap (λ o. o.long) c.sent_into.ensures.outbox in
+      let spares : c.swap_frames.new.self.outbox.long ≡ 0 = ap (λ o. o.long) c.swap_frames.ensures.outbox in
       record { packets = omega (arith, packets, low); spares = omega (arith, spares); texts = before.texts };
 }
 
@@ -49,8 +44,8 @@ invariant_of-self-in-Err-1 c = record {
 pub returns-in-Ok : goal.returns-in-Ok
 returns-in-Ok c =
     let request = Restarts in
-    let r : code_step.Step = record { frames = c.sent_into.new.frames; entries = c.push_reserved.new.self; timer = c.make_room.new.self.timer } in
-    did_request c.in-Ok.field-0 c.args.self.now _ c.restart.new.link r request c.in-Ok.ensures.layer c.in-Ok.ensures.link c.sent_into.ensures.station (ap (λ o. o.made) c.sent_into.ensures.outbox) (c.sent_into.ensures.frames ∙ ap (λ frames. map (λ frame. frame.items) frames ++ c.restart.new.link.outbox.made) c.make_room.ensures.empty.frames)
+    let r : code_step.Step = record { frames = c.swap_frames.new.frames; entries = c.push_reserved.new.self; timer = c.make_room.new.self.timer } in
+    did_request c.in-Ok.field-0 c.args.self.now _ c.restart.new.link r request c.in-Ok.ensures.layer c.in-Ok.ensures.link c.swap_frames.ensures.station (ap (λ o. o.made) c.swap_frames.ensures.outbox ∙ ap (map (λ frame. frame.items)) c.make_room.ensures.empty.frames) c.swap_frames.ensures.frames
     c.steps_keep_bounds.ensures.command c.holds_few.ensures.window c.holds_few.ensures.stand
     (λ c' s fits.
     restart_enters c' s r (ap (λ es. map plain_entry es) (c.push_reserved.ensures.items ∙ ap (λ es. es ++ RestartAsked ∷ []) c.make_room.ensures.empty.entries)))
