@@ -1,10 +1,13 @@
 """Capture files: the records of pcap and pcapng, read as they come, and pcapng written.
 
 The formats are those of the IETF drafts draft-ietf-opsawg-pcap and draft-ietf-opsawg-pcapng.
+
+A record is one captured packet, a tuple: its number from 1, the link type, its octets, whether they are a part of it alone, its time in
+nanoseconds, whether the host that captured sent it, how many of its octets are a frame check sequence, its flags. None is what the capture
+doesn't say.
 """
 
 import functools
-import itertools
 import math
 import struct
 from typing import NamedTuple, Optional
@@ -19,9 +22,9 @@ PCAP_MAGIC = {
     b"\x4d\x3c\xb2\xa1": ("<", 1),
 }
 SECTION, INTERFACE, OLD_PACKET, SIMPLE_PACKET, PACKET = 0x0A0D0D0A, 1, 2, 3, 6
-# What the blocks of packets begin with: the interface, but for a simple one; the time, but for that; how many octets were captured, but for
-# that; how many there were.
+# What the blocks of packets begin with: the interface, the time, how many octets were captured and how many there were; of a simple one, that alone.
 FIELDS = {PACKET: "IIIII", OLD_PACKET: "HxxIIII", SIMPLE_PACKET: "I"}
+LENGTHS = {kind: struct.calcsize("<" + form) for kind, form in FIELDS.items()}
 SECTION_TYPE = struct.pack("<I", SECTION)
 BYTE_ORDER = 0x1A2B3C4D
 BYTE_ORDERS = {struct.pack(order + "I", BYTE_ORDER): order for order in "<>"}
@@ -37,26 +40,6 @@ NO_CAPTURE = "neither a pcap nor a pcapng file"
 MOST_CAPTURED = 262_144
 # A block that holds no packet may be longer than one that does, but not without bound.
 MOST_BLOCK = 16_777_216
-
-
-class Record:
-    """One captured packet. Its time is in nanoseconds; None is what the capture doesn't say."""
-
-    __slots__ = ("number", "link_type", "octets", "length", "time", "is_outbound", "fcs_octets", "flags")
-
-    def __init__(self, number, link_type, octets, length, time=None, is_outbound=None, fcs_octets=None, flags=0):
-        self.number = number
-        self.link_type = link_type
-        self.octets = octets
-        self.length = length
-        self.time = time
-        self.is_outbound = is_outbound
-        self.fcs_octets = fcs_octets
-        self.flags = flags
-
-    def is_cut(self):
-        """True where the capture holds a part of the packet alone."""
-        return len(self.octets) < self.length
 
 
 class Interface(NamedTuple):
@@ -88,11 +71,6 @@ def blocks(file):
         raise BadInput(NO_CAPTURE)
     if rest:
         raise BadInput(f"the file ends within {reader.next()}")
-
-
-def records(file):
-    """Yields the records of a capture one by one."""
-    return itertools.chain.from_iterable(blocks(file))
 
 
 def _reader(magic):
@@ -133,7 +111,7 @@ class _Pcap:
                 break
             self._number += 1
             time = whole * NANOSECONDS + part * self._tick
-            records.append(Record(self._number, self._link_type, octets[at + 16 : end], length, time, None, self._fcs_octets))
+            records.append((self._number, self._link_type, octets[at + 16 : end], captured < length, time, None, self._fcs_octets, 0))
             at = end
         return at
 
@@ -180,7 +158,7 @@ class _Pcapng:
                 break
             if self._word(octets, end - 4)[0] != length:
                 raise BadInput(f"the two lengths of {self.next()} differ")
-            if kind in self._fields:
+            if kind in FIELDS:
                 self._number += 1
                 records.append(self._packet(kind, octets, at + 8, end - 4))
             elif kind == INTERFACE:
@@ -194,34 +172,35 @@ class _Pcapng:
             raise BadInput("a section header has no byte order")
         order = self._order = BYTE_ORDERS[magic]
         self._head, self._word = struct.Struct(order + "II").unpack_from, struct.Struct(order + "I").unpack_from
-        self._fields = {kind: struct.Struct(order + form) for kind, form in FIELDS.items()}
+        self._fields = {kind: struct.Struct(order + form).unpack_from for kind, form in FIELDS.items()}
         self._interfaces = []
 
     def _packet(self, kind, octets, start, end):
         """The record of a packet, whose block has its body there."""
-        fields = self._fields[kind]
-        if end - start < fields.size:
-            raise BadInput(f"record {self._number} is too short")
-        start += fields.size
+        number, fields, head = self._number, self._fields[kind], start
+        start += LENGTHS[kind]
+        if start > end:
+            raise BadInput(f"record {number} is too short")
         if kind == SIMPLE_PACKET:
-            # How many octets were captured isn't said.
-            length, = fields.unpack_from(octets, start - fields.size)
+            # How many octets were captured isn't said, nor when.
+            length, = fields(octets, head)
             index, captured = 0, min(length, end - start)
         else:
-            index, high, low, captured, length = fields.unpack_from(octets, start - fields.size)
-        if not 0 < captured <= MOST_CAPTURED or captured > end - start:
-            raise _wrong_length(captured, self._number)
+            index, high, low, captured, length = fields(octets, head)
+        if not 0 < captured <= MOST_CAPTURED or start + captured > end:
+            raise _wrong_length(captured, number)
         if index >= len(self._interfaces):
-            raise BadInput(f"record {self._number} names the interface {index}, which the file doesn't describe")
+            raise BadInput(f"record {number} names the interface {index}, which the file doesn't describe")
         link_type, tick, ticks, offset, fcs_octets = self._interfaces[index]
+        packet = octets[start : start + captured]
         if kind == SIMPLE_PACKET:
-            return Record(self._number, link_type, octets[start : start + captured], length, fcs_octets=fcs_octets)
+            return number, link_type, packet, captured < length, None, None, fcs_octets, 0
         flags = _flags(octets[start + (captured + 3 & ~3) : end], self._order)
         if flags is None:
-            raise BadInput(f"an option of record {self._number} has a wrong length")
+            raise BadInput(f"an option of record {number} has a wrong length")
         time = (high << 32 | low) * tick // ticks + offset
-        fcs_octets = flags >> 5 & 0xF or fcs_octets
-        return Record(self._number, link_type, octets[start : start + captured], length, time if time > 0 else 0, IS_OUTBOUND[flags & DIRECTION], fcs_octets, flags)
+        is_outbound, fcs_octets = IS_OUTBOUND[flags & DIRECTION], flags >> 5 & 0xF or fcs_octets
+        return number, link_type, packet, captured < length, time if time > 0 else 0, is_outbound, fcs_octets, flags
 
 
 def _interface(body, order):

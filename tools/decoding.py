@@ -40,7 +40,7 @@ def let_end(child):
 
 
 # SABM of the DTE, and the UA of the DCE.
-SET_UP = "> 013febdf", "< 01738357"
+SET_UP = "> 013febdf\n< 01738357\n"
 
 
 def _taken(line):
@@ -54,8 +54,8 @@ def answers(decoder, lines, connection=None):
     """What is answered to the frames of some lines: of each its time, in nanoseconds or None, and its text; None where a line has no frame in
     hexadecimal digits."""
     read = [x25lines.timed(line) for line in lines]
-    asked = [frame[1] for frame in read if frame]
-    texts = iter(decoder.texts(asked, [connection] * len(asked)))
+    asked = [f"{frame[1]}\n" for frame in read if frame]
+    texts = iter(decoder.texts("".join(asked), [connection] * len(asked)))
     return [frame and (frame[0], next(texts)) for frame in read]
 
 
@@ -76,14 +76,15 @@ class Decoder:
         if self._child is not None:
             let_end(self._child)
 
-    def texts(self, lines, connections=()):
-        """The answers to some lines of a trace, each with its direction, whatever the connections."""
-        if not lines:
+    def texts(self, asked, connections=()):
+        """The answers to the lines of a trace in a text, each with its direction, whatever the connections."""
+        if not asked:
             return []
         if self._child is None:
             self._child = self._begun()
-        *texts, rest = self._answers("".join([f"{line}\n" for line in lines]).encode(), len(lines)).decode("ascii", "replace").split("\n")
-        if rest or [text[:2] for text in texts] != [line[:2] for line in lines]:
+        count = asked.count("\n")
+        *texts, rest = self._answers(asked.encode(), count).decode("ascii", "replace").split("\n")
+        if rest or len(texts) != count or texts[0][:2] != asked[:2]:
             raise BadInput(f"{self._program} {self._task} didn't answer line by line")
         return texts
 
@@ -134,10 +135,10 @@ class Judge:
         for judge in self._judges.values():
             judge.__exit__()
 
-    def texts(self, lines, connections):
-        """The answers to some lines of a trace, each of a connection, and behind ` ! ` the end and the rule that it breaks, or behind ` ~ ` what is
-        noted."""
-        groups = {}
+    def texts(self, asked, connections):
+        """The answers to the lines of a trace in a text, each of a connection, and behind ` ! ` the end and the rule that it breaks, or behind ` ~ `
+        what is noted."""
+        lines, groups = asked.splitlines(), {}
         for place, connection in enumerate(connections):
             groups.setdefault(None if connection is None else (connection.number, connection.is_made_up), []).append(place)
         texts = [None] * len(lines)
@@ -151,7 +152,7 @@ class Judge:
         _, is_made_up = group or (None, False)
         if group not in self._judges:
             self._judges[group] = Decoder(self._program, self._words, "judge")
-            self._judges[group].texts(SET_UP if is_made_up else ())
+            self._judges[group].texts(SET_UP if is_made_up else "")
         if is_made_up:
-            return self._judges[group].texts([told for line in lines for told in (line, _taken(line))])[::2]
-        return self._judges[group].texts(lines)
+            return self._judges[group].texts("".join([f"{line}\n{_taken(line)}\n" for line in lines]))[::2]
+        return self._judges[group].texts("".join([f"{line}\n" for line in lines]))

@@ -8,6 +8,8 @@ from xml.sax.saxutils import escape
 
 # What may have become of a frame, beside being delivered as it was sent.
 LOST, DAMAGED, WAITING = "lost", "damaged", "on the line"
+# How the arrows of these are drawn as text.
+STROKES = {DAMAGED: "~", WAITING: "."}
 
 
 class Frame(NamedTuple):
@@ -65,15 +67,18 @@ class Text:
     def _arrow(self, frame):
         """An arrow with its text, `width` characters; that of a lost frame doesn't arrive."""
         is_lost = frame.fate == LOST
-        stroke = {DAMAGED: "~", WAITING: "."}.get(frame.fate, "-")
+        stroke = STROKES.get(frame.fate, "-")
         fate = f" {frame.fate} " if frame.fate else ""
-        tail, head = stroke * 2, ["X", fate] if is_lost else [fate, stroke, frame.direction]
-        room = self._width * (3 if is_lost else 4) // 4 - len(tail) - len("".join(head))
-        text = f" {elided(frame.text, room - 2)} "
-        parts = [tail, text, stroke * (room - len(text)), *head]
         if frame.direction == ">":
-            return "".join(parts).ljust(self._width)
-        return "".join(reversed(parts)).rjust(self._width)
+            head = f"X{fate}" if is_lost else f"{fate}{stroke}>"
+        else:
+            head = f"{fate}X" if is_lost else f"<{stroke}{fate}"
+        room = self._width * (3 if is_lost else 4) // 4 - 2 - len(head)
+        text = f" {elided(frame.text, room - 2)} "
+        line = stroke * (room - len(text))
+        if frame.direction == ">":
+            return f"{stroke}{stroke}{text}{line}{head}".ljust(self._width)
+        return f"{head}{line}{text}{stroke}{stroke}".rjust(self._width)
 
 
 class Svg:

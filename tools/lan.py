@@ -4,8 +4,6 @@ lapbether (Linux) sends a frame of LAPB, without its frame check sequence, behin
 by Ethernet type 6000 and to all stations. LLC (ISO 8802-2) carries the packets of ISO 8208 by the service access point 7e.
 """
 
-from typing import NamedTuple
-
 from x25lines import MOST_OCTETS
 
 ETHERNET, LINUX_COOKED, LINUX_COOKED_2 = 1, 113, 276
@@ -19,39 +17,25 @@ X25_ACCESS_POINT = 0x7E
 NUMBERS = 128
 
 
-class Carried(NamedTuple):
-    """The type of a captured frame, the address of its sender and of its receiver (empty where it isn't captured), its octets."""
-
-    kind: int
-    source: bytes
-    target: bytes
-    octets: bytes
-
-
 def _ethernet(octets):
-    header = 14
-    while len(octets) >= header + 4 and int.from_bytes(octets[header - 2 : header], "big") in VLAN_TAGS:
-        header += 4
-    kind, body = int.from_bytes(octets[header - 2 : header], "big"), octets[header:]
-    return Carried(COOKED_LLC, octets[6:12], octets[:6], body[:kind]) if kind <= MOST_LLC else Carried(kind, octets[6:12], octets[:6], body)
+    header, kind = 14, octets[12] << 8 | octets[13]
+    while kind in VLAN_TAGS and len(octets) >= header + 4:
+        header, kind = header + 4, octets[header + 2] << 8 | octets[header + 3]
+    body = octets[header:]
+    return (COOKED_LLC, octets[6:12], octets[:6], body[:kind]) if kind <= MOST_LLC else (kind, octets[6:12], octets[:6], body)
 
 
 def _cooked(octets):
-    return Carried(int.from_bytes(octets[14:16], "big"), octets[6:12], b"", octets[16:])
+    return int.from_bytes(octets[14:16], "big"), octets[6:12], b"", octets[16:]
 
 
 def _cooked_2(octets):
-    return Carried(int.from_bytes(octets[0:2], "big"), octets[12:18], b"", octets[20:])
+    return int.from_bytes(octets[0:2], "big"), octets[12:18], b"", octets[20:]
 
 
-# For each link type with a header of a local network, its octets and what reads it.
+# For each link type with a header of a local network, its octets, and what reads it: the type of what is carried, the address of its sender and of its
+# receiver (empty where it isn't captured), its octets.
 HEADERS = {ETHERNET: (14, _ethernet), LINUX_COOKED: (16, _cooked), LINUX_COOKED_2: (20, _cooked_2)}
-
-
-def carried(record):
-    """What a record of a local network carries, or None where it is shorter than its header."""
-    least, read = HEADERS[record.link_type]
-    return read(record.octets) if len(record.octets) >= least else None
 
 
 def address(octets):
@@ -84,25 +68,25 @@ class Lapbether:
         self._stations = []
         self._notes = notes
 
-    def take(self, it, is_cut):
+    def take(self, source, octets, is_cut):
         """Yields whether a frame is the DTE's, and its octets without the frame check sequence."""
-        length = int.from_bytes(it.octets[:2], "little")
-        frame = it.octets[2 : 2 + length]
-        if len(it.octets) < 2 or len(frame) < length:
+        length = int.from_bytes(octets[:2], "little")
+        frame = octets[2 : 2 + length]
+        if len(octets) < 2 or len(frame) < length:
             self._notes["frame that was captured in part" if is_cut else "frame of lapbether that is shorter than it says"] += 1
             return
-        if it.source not in self._stations:
-            self._stations.append(it.source)
+        if source not in self._stations:
+            self._stations.append(source)
         if self._known is None and (told := is_of_dte(frame)) is not None:
-            self._known = it.source, told
-        if it.source not in self._stations[:2]:
+            self._known = source, told
+        if source not in self._stations[:2]:
             self._notes["frame of a third station of lapbether"] += 1
         elif length + 2 > MOST_OCTETS:
             self._notes["frame that is longer than a line may be"] += 1
         elif self._known is None:
             self._notes["frame of lapbether before one that tells which end is the DTE (--dte says it)"] += 1
         else:
-            yield (it.source == self._known[0]) == self._known[1], frame
+            yield (source == self._known[0]) == self._known[1], frame
 
     def name(self):
         """The line, with its stations."""
@@ -118,25 +102,24 @@ class Llc:
         self._next = {}
         self._notes = notes
 
-    def take(self, it, is_cut):
+    def take(self, source, target, llc, is_cut):
         """Yields the connection's name, whether the DTE sent it, and the packet, of a frame of LLC that brings one."""
-        llc = it.octets
         if len(llc) < 3 or llc[0] != X25_ACCESS_POINT or llc[1] & 0xFE != X25_ACCESS_POINT:
             return
         # Cooked captures don't tell who receives: all of LLC is one connection there.
-        pair = frozenset((it.source, it.target) if it.target else (b"",))
-        said = self._dte if self._dte in pair or not it.target else None
-        dte = self._dtes.setdefault(pair, said or it.source)
+        pair = frozenset((source, target) if target else (b"",))
+        said = self._dte if self._dte in pair or not target else None
+        dte = self._dtes.setdefault(pair, said or source)
         if llc[2] & 3 == 3:
             self._begin(pair, llc[2])
             packet = llc[3:] if llc[2] & 0xEF == 0x03 else b""
         else:
-            packet = llc[4:] if not llc[2] & 1 and self._is_new(pair, it.source, llc[2] >> 1) else b""
+            packet = llc[4:] if not llc[2] & 1 and self._is_new(pair, source, llc[2] >> 1) else b""
         if packet and is_cut:
             self._notes["packet that was captured in part"] += 1
         elif packet:
             names = [address(dte), *(address(other) for other in pair - {dte} if other)]
-            yield "LLC " + " > ".join(names), it.source == dte, packet
+            yield "LLC " + " > ".join(names), source == dte, packet
 
     def _begin(self, pair, control):
         """Forgets the numbers of a connection that begins anew, by SABME."""

@@ -31,6 +31,7 @@ records before it are written.
 """
 
 import argparse
+import itertools
 import re
 import sys
 from collections import Counter
@@ -78,8 +79,12 @@ class Converter:
 
     def __init__(self, options):
         self._options = options
-        self._found, self._now = [], 0
-        self._frame_readers = {LAPB_WITH_DIRECTION: self._with_direction, SITA: self._sita}
+        self._found, self._number, self._now = ([], [], []), 0, 0
+        self._readers = {kind: self._lan for kind in lan.HEADERS}
+        self._readers |= {kind: self._ip for kind in xot.IP_AT}
+        self._readers |= {LAPB_WITH_DIRECTION: self._with_direction, SITA: self._sita}
+        if options.lapb is not None:
+            self._readers[options.lapb] = self._bare
         self._connections = {}
         self.notes, self.passed = Counter(), Counter()
         self._xot = xot.Xot(options.port, self.notes, self.passed)
@@ -91,27 +96,115 @@ class Converter:
         return list(self._connections.values())
 
     def blocks(self, blocks):
-        """Yields, for each block of records, connection, time and line of each frame. Bad input is told behind the frames before it."""
+        """Yields, for each block of records, the connections, the times and the lines of its frames; a record without a time stands at 0. Bad input
+        is told behind the frames before it."""
         for records in blocks:
-            self._found = []
+            self._found = [], [], []
             try:
-                for record in records:
-                    self._take(record)
+                for self._number, link_type, octets, is_cut, time, is_outbound, fcs_octets, flags in records:
+                    self._now = time or 0
+                    if self._now > x25lines.MOST_TIME:
+                        self.notes["time that no line can have: 0 stands for it"] += 1
+                        self._now = 0
+                    read = self._readers.get(link_type) or self._other
+                    read(link_type, octets, is_cut, is_outbound, fcs_octets == 2, flags)
             finally:
                 yield self._found
-        self._found = []
-        self._add_packets(self._xot.end())
+        self._found = [], [], []
+        self._add_streams(self._xot.end())
         yield self._found
 
+    def _other(self, link_type, *_):
+        """A record of another link type."""
+        self.notes[f"record of the link type {link_type}, of which nothing is read (--help lists those that are)"] += 1
+
+    def _ip(self, link_type, octets, *_):
+        """Packets of IP, with or without a header of their own: XOT."""
+        self._add_streams(self._xot.take(octets[xot.IP_AT[link_type] :]))
+
+    def _lan(self, link_type, octets, is_cut, *_):
+        """Ethernet and cooked captures: frames of lapbether, packets of LLC and of XOT."""
+        least, carried = lan.HEADERS[link_type]
+        if len(octets) < least:
+            self.passed["frame that is shorter than its header"] += 1
+            return
+        kind, source, target, octets = carried(octets)
+        if kind in (lan.TYPE_IPV4, lan.TYPE_IPV6):
+            self._add_streams(self._xot.take(octets))
+        elif kind == lan.LAPBETHER:
+            for is_of_dte, frame in self._lapbether.take(source, octets, is_cut):
+                self._add("lapbether", self._lapbether.name(), is_of_dte, frame + x25lines.fcs(frame))
+        elif kind == lan.COOKED_LLC and octets[:1] == bytes([lan.X25_ACCESS_POINT]):
+            for name, is_of_dte, packet in self._llc.take(source, target, octets, is_cut):
+                self._add_packet(name, is_of_dte, packet)
+        else:
+            self.passed["frame of LLC with another access point" if kind == lan.COOKED_LLC else f"frame of the type {kind:04x}"] += 1
+
+    def _with_direction(self, _, octets, is_cut, is_outbound, has_fcs, *__):
+        """LAPB_WITH_DIR: an octet that is 0 where the frame was received, then the frame."""
+        self._add_frame(octets[0] != 0, octets[1:], is_cut, has_fcs)
+
+    def _sita(self, _, octets, is_cut, is_sent, has_fcs, flags):
+        """SITA: five octets, the last of them the protocol, then the frame."""
+        if len(octets) < SITA_HEADER:
+            raise BadInput(f"record {self._number} is shorter than its header")
+        protocol = octets[4]
+        if is_sent is None:
+            is_sent = not octets[0] & SITA_RECEIVED
+        if protocol == SITA_LAPB:
+            self._add_frame(is_sent, octets[SITA_HEADER:], is_cut, has_fcs)
+        elif protocol == SITA_NO_PROTOCOL and flags & (captures.CRC_ERROR | captures.TOO_SHORT):
+            # What came with an error was captured as it stood on the line.
+            self._add_frame(is_sent, octets[SITA_HEADER:], is_cut, True)
+        else:
+            self.notes[f"SITA record of protocol {protocol}"] += 1
+
+    def _bare(self, _, octets, is_cut, is_sent, has_fcs, *__):
+        """A frame with no header of the capture's own before it."""
+        if is_sent is None:
+            if self._options.sent_by is None:
+                raise BadInput(f"record {self._number} has no direction: say whose frames these are with --from dte or --from dce")
+            is_sent = self._options.sent_by == "dte"
+        self._add_frame(is_sent, octets, is_cut, has_fcs)
+
+    def _add_frame(self, is_of_dte, octets, is_cut, has_fcs):
+        """Adds a frame of LAPB, with a frame check sequence where the capture lacks it."""
+        if not (has_fcs or self._options.fcs):
+            octets += x25lines.fcs(octets)
+        if is_cut:
+            self.notes["frame that was captured in part"] += 1
+        elif len(octets) > x25lines.MOST_OCTETS:
+            self.notes["frame that is longer than a line may be"] += 1
+        else:
+            self._add("LAPB", "LAPB", is_of_dte, octets)
+
+    def _add_streams(self, streams):
+        """Adds the packets that came by streams of XOT."""
+        for stream, packets in streams:
+            for packet in packets:
+                self._add_packet(stream.name, stream.is_of_dte, packet)
+
+    def _add_packet(self, name, is_of_dte, packet):
+        """Adds the packet of a connection without frames of LAPB."""
+        if len(packet) > x25lines.MOST_INFORMATION:
+            self.notes["packet that is longer than a frame may be"] += 1
+        else:
+            self._add(name, name, is_of_dte, packet, True)
+
     def _add(self, key, name, is_of_dte, octets, is_made_up=False):
-        """Adds a frame of the connection with a key, or a packet, for which a frame is made up."""
+        """Adds a frame of the connection with a key, or a packet, which is put into the next I frame of its direction."""
         direction = "<>"[is_of_dte != self._options.swap]
         connection = self._connections.get(key) or self._begun(key, name, is_made_up)
         if connection is not None:
-            connection.name = name
-            frame = self._framed(connection, direction, octets) if is_made_up else octets
-            connection.sent[direction] += 1
-            self._found.append((connection, self._now, f"{direction} {frame.hex()}"))
+            connection.name, sent = name, connection.sent
+            if is_made_up:
+                octets = bytes((ADDRESS[direction], (sent[OTHER[direction]] << 5 | sent[direction] << 1 & 0x0E) & 0xFF)) + octets
+                octets += x25lines.fcs(octets)
+            sent[direction] += 1
+            connections, times, lines = self._found
+            connections.append(connection)
+            times.append(self._now)
+            lines.append(f"{direction} {octets.hex()}\n")
 
     def _begun(self, key, name, is_made_up):
         """A new connection, or None where there are too many."""
@@ -120,94 +213,6 @@ class Converter:
             return None
         self._connections[key] = Connection(len(self._connections) + 1, name, is_made_up)
         return self._connections[key]
-
-    def _take(self, record):
-        """Takes a record; one without a time stands at 0."""
-        self._now = record.time or 0
-        if self._now > x25lines.MOST_TIME:
-            self.notes["time that no line can have: 0 stands for it"] += 1
-            self._now = 0
-        link_type = record.link_type
-        if link_type == self._options.lapb:
-            self._bare(record)
-        elif link_type in self._frame_readers:
-            self._frame_readers[link_type](record)
-        elif link_type in lan.HEADERS:
-            self._lan(record)
-        elif link_type in xot.IP_AT:
-            self._add_packets(self._xot.take(record.octets[xot.IP_AT[link_type] :]))
-        else:
-            self.notes[f"record of the link type {link_type}, of which nothing is read (--help lists those that are)"] += 1
-
-    def _lan(self, record):
-        """Ethernet and cooked captures: frames of lapbether, packets of LLC and of XOT."""
-        it = lan.carried(record)
-        if it is None:
-            self.passed["frame that is shorter than its header"] += 1
-        elif it.kind == lan.TYPE_IPV4 or it.kind == lan.TYPE_IPV6:
-            self._add_packets(self._xot.take(it.octets))
-        elif it.kind == lan.LAPBETHER:
-            for is_of_dte, frame in self._lapbether.take(it, record.is_cut()):
-                self._add("lapbether", self._lapbether.name(), is_of_dte, frame + x25lines.fcs(frame))
-        elif it.kind == lan.COOKED_LLC and it.octets[:1] == bytes([lan.X25_ACCESS_POINT]):
-            self._add_packets(self._llc.take(it, record.is_cut()))
-        else:
-            self.passed["frame of LLC with another access point" if it.kind == lan.COOKED_LLC else f"frame of the type {it.kind:04x}"] += 1
-
-    def _add_packets(self, packets):
-        """Adds the packets of connections without frames of LAPB."""
-        for name, is_of_dte, packet in packets:
-            if len(packet) > x25lines.MOST_INFORMATION:
-                self.notes["packet that is longer than a frame may be"] += 1
-            else:
-                self._add(name, name, is_of_dte, packet, is_made_up=True)
-
-    def _with_direction(self, record):
-        """LAPB_WITH_DIR: an octet that is 0 where the frame was received, then the frame."""
-        self._frame(record, record.octets[0] != 0, record.octets[1:])
-
-    def _sita(self, record):
-        """SITA: five octets, the last of them the protocol, then the frame."""
-        octets = record.octets
-        if len(octets) < SITA_HEADER:
-            raise BadInput(f"record {record.number} is shorter than its header")
-        protocol, is_sent = octets[4], record.is_outbound
-        if is_sent is None:
-            is_sent = not octets[0] & SITA_RECEIVED
-        if protocol == SITA_LAPB:
-            self._frame(record, is_sent, octets[SITA_HEADER:])
-        elif protocol == SITA_NO_PROTOCOL and record.flags & (captures.CRC_ERROR | captures.TOO_SHORT):
-            # What came with an error was captured as it stood on the line.
-            self._frame(record, is_sent, octets[SITA_HEADER:], has_fcs=True)
-        else:
-            self.notes[f"SITA record of protocol {protocol}"] += 1
-
-    def _bare(self, record):
-        """A frame with no header of the capture's own before it."""
-        is_sent = record.is_outbound
-        if is_sent is None:
-            if self._options.sent_by is None:
-                raise BadInput(f"record {record.number} has no direction: say whose frames these are with --from dte or --from dce")
-            is_sent = self._options.sent_by == "dte"
-        self._frame(record, is_sent, record.octets)
-
-    def _frame(self, record, is_sent, octets, has_fcs=False):
-        """A frame of LAPB, whose frame check sequence is added where the capture lacks it."""
-        if not (has_fcs or self._options.fcs or record.fcs_octets == 2):
-            octets += x25lines.fcs(octets)
-        if record.is_cut():
-            self.notes["frame that was captured in part"] += 1
-        elif len(octets) > x25lines.MOST_OCTETS:
-            self.notes["frame that is longer than a line may be"] += 1
-        else:
-            self._add("LAPB", "LAPB", is_sent, octets)
-
-    @staticmethod
-    def _framed(connection, direction, packet):
-        """Puts an X.25 packet into the next I frame of its direction."""
-        ns, nr = connection.sent[direction] % 8, connection.sent[OTHER[direction]] % 8
-        octets = bytes([ADDRESS[direction], nr << 5 | ns << 1]) + packet
-        return octets + x25lines.fcs(octets)
 
     def tell(self):
         """Says on standard error what was left out and why; answers the status."""
@@ -267,9 +272,11 @@ def write_list(converter, blocks):
 def write_lines(converter, blocks, options):
     """Writes the lines of a connection, those of each block at once."""
     wanted = options.connection or 1
-    for found in converter.blocks(blocks):
-        lines = [(time, line) for connection, time, line in found if connection.number == wanted]
-        sys.stdout.write("".join([f"{x25lines.seconds(time)}\t{line}\n" if options.time else f"{line}\n" for time, line in lines]))
+    for connections, times, lines in converter.blocks(blocks):
+        are_wanted = [connection.number == wanted for connection in connections]
+        if options.time:
+            lines = [f"{x25lines.seconds(time)}\t{line}" for time, line in zip(times, lines)]
+        sys.stdout.write("".join(itertools.compress(lines, are_wanted)))
     connections = len(converter.connections())
     if 0 < connections < wanted:
         raise BadInput(f"there are {connections} connections, and no number {wanted}")

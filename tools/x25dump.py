@@ -27,6 +27,7 @@ words or bad input, behind what stands before it.
 """
 
 import argparse
+import itertools
 import os
 import re
 import sys
@@ -50,6 +51,8 @@ RESTARTS = re.compile(r"\| RESTART|^(?:dte|dce) restart")
 A_ROW = 16
 # What stands before the end and the rule that it breaks, and before what is noted.
 RULE, NOTE = " ! ", " ~ "
+# Without any of these a text is shown as it is: of refusals, rules and notes, and of what x25names has words for, `diag=` and `why=`.
+SIGNS = ("!", "?", "~", "g=", "y=")
 # The kinds of frames and packets in the order of a statistic.
 FRAMES = ("I", "RR", "RNR", "REJ", "SABM", "DISC", "UA", "DM", "FRMR", "fault")
 
@@ -91,15 +94,19 @@ class Reader:
             if isinstance(found, int):
                 self.status = max(self.status, found)
                 continue
-            texts = self._decoder.texts([line for _, _, line in found], [connection for connection, _, _ in found])
-            yield [(x25lines.seconds(time), connection, text) for (connection, time, _), text in zip(found, texts)]
+            connections, times, asked = found
+            yield list(zip(map(x25lines.seconds, times), connections, self._decoder.texts(asked, connections)))
 
     def _found(self, file):
-        """Yields connection, time and line of the frames of a capture, in blocks, and at the end the status."""
+        """Yields the connections, the times and the text of the lines of the frames of a capture, in blocks, and at the end the status."""
         converter = pcap2x25.Converter(self._options)
         wanted = self._options.connection
         for found in converter.blocks(captures.blocks(file)):
-            yield [it for it in found if wanted in (None, it[0].number)]
+            if wanted is not None:
+                are_wanted = [connection.number == wanted for connection in found[0]]
+                found = (list(itertools.compress(column, are_wanted)) for column in found)
+            connections, times, lines = found
+            yield connections, times, "".join(lines)
         if 0 < len(converter.connections()) < (wanted or 1):
             raise BadInput(f"there are {len(converter.connections())} connections, and no number {wanted}")
         yield converter.tell()
@@ -128,23 +135,28 @@ class Lines:
 
     def take(self, block):
         """Answers the lines of the things of a block."""
-        lines = []
+        texts = "".join([text for _, _, text in block])
+        has_plain_texts = self._paint is unpainted and not any(sign in texts for sign in SIGNS)
+        lines, last, front = [], None, ""
         for time, connection, text in block:
-            if connection.number not in self._named:
-                self._named.add(connection.number)
-                if connection.name is not None:
-                    lines.append(self._paint(GREY, f"connection {connection.number}: {connection.name}"))
-            lines.append(lead(time, connection) + self._text(connection, text))
+            if connection is not last:
+                last, front = connection, f" #{connection.number} " if connection.number > 1 else " "
+                if connection.number not in self._named:
+                    self._named.add(connection.number)
+                    if connection.name is not None:
+                        lines.append(self._paint(GREY, f"connection {connection.number}: {connection.name}"))
+            if connection.is_made_up:
+                text = text[:2] + text.partition(" | ")[2]
+            shown = text if has_plain_texts else self._text(text)
+            lines.append(f"{time}{front}{shown}" if time else f"{front[1:]}{shown}")
         return lines
 
-    def _text(self, connection, text):
+    def _text(self, text):
         if text[0] in "!?":
             return self._paint(RED, f"{text} {x25names.refusal(text)}".rstrip())
         mark = RULE if RULE in text else NOTE if NOTE in text else None
         whole, _, remark = text.partition(mark) if mark else (text, "", "")
         said = x25names.words(whole)
-        if connection.is_made_up:
-            whole = whole[:2] + whole.partition(" | ")[2]
         shown = self._paint(colour_of(whole), whole)
         if said:
             shown += self._paint(GREY, f"  ({said})")
@@ -264,11 +276,19 @@ def _place(kind):
     return (0, FRAMES.index(kind), "") if kind in FRAMES else (1 if kind[0] == "|" else 2, 0, kind)
 
 
+def painted(colour, text):
+    """A text in a colour."""
+    return f"{colour}{text}{PLAIN}"
+
+
+def unpainted(_, text):
+    """A text as it is."""
+    return text
+
+
 def painter():
     """What puts a text into a colour: on a terminal alone."""
-    if sys.stdout.isatty() and not os.environ.get("NO_COLOR"):
-        return lambda colour, text: f"{colour}{text}{PLAIN}"
-    return lambda _, text: text
+    return painted if sys.stdout.isatty() and not os.environ.get("NO_COLOR") else unpainted
 
 
 def words():

@@ -72,7 +72,7 @@ def seconds(nanoseconds):
     """A time as a decimal number of seconds with nine places; None is written as nothing."""
     if nanoseconds is None:
         return ""
-    digits = f"{nanoseconds:010}"
+    digits = str(nanoseconds) if nanoseconds >= NANOSECONDS else f"{nanoseconds:010}"
     return f"{digits[:-9]}.{digits[-9:]}"
 
 

@@ -25,7 +25,7 @@ SEQUENCES = 1 << 32
 IP_AT = {NULL: 4, LOOP: 4, **dict.fromkeys((RAW_IP, OLD_RAW_IP, OTHER_RAW_IP, IPV4, IPV6), 0)}
 
 
-_IPV4, _TCP = struct.Struct(">BxHxxHxB2x4s4s"), struct.Struct(">HHI4xBB")
+_IPV4, _TCP, _HEADER = (struct.Struct(form).unpack_from for form in (">BxHxxHxB2x4s4s", ">HHI4xBB", ">HH"))
 
 
 def _of_ipv4(octets):
@@ -33,7 +33,7 @@ def _of_ipv4(octets):
     none, or a fragment."""
     if len(octets) < 20:
         return None
-    first, total, fragment, protocol, source, target = _IPV4.unpack_from(octets)
+    first, total, fragment, protocol, source, target = _IPV4(octets)
     header = 4 * (first & 0xF)
     if header < 20 or total < header or fragment & 0x3FFF:
         return None
@@ -58,18 +58,19 @@ _READERS = {4: _of_ipv4, 6: _of_ipv6}
 
 
 def segment(octets):
-    """The segment of TCP in a packet of IP: its ends (address and port), where its octets stand in the stream, its flags, its octets, and how
-    many of these weren't captured; None where it holds none."""
+    """The segment of TCP in a packet of IP: its ends (addresses and ports, source and target), where its octets stand in the stream, its flags,
+    its octets, and how many of these weren't captured; None where it holds none."""
     read = _READERS.get(octets[0] >> 4 if octets else None)
     payload = read(octets) if read else None
     if payload is None or payload[0] != TCP or len(payload[3]) < 20:
         return None
     _, source, target, tcp, length = payload
-    source_port, target_port, sequence, words, flags = _TCP.unpack_from(tcp)
-    header = 4 * (words >> 4)
+    source_port, target_port, sequence, words, flags = _TCP(tcp)
+    header = words >> 4 << 2
     if not 20 <= header <= length:
         return None
-    return (source, source_port), (target, target_port), sequence, flags, tcp[header:], length - max(len(tcp), header)
+    missing = length - len(tcp) if len(tcp) > header else length - header
+    return (source, target, source_port, target_port), sequence, flags, tcp[header:], missing
 
 
 class Stream:
@@ -80,8 +81,9 @@ class Stream:
     """
 
     def __init__(self, ends, port, notes):
-        self.is_of_dte = ends[1][1] == port
-        client, server = ends if self.is_of_dte else ends[::-1]
+        source, target = ends[::2], ends[1::2]
+        self.is_of_dte = target[1] == port
+        client, server = (source, target) if self.is_of_dte else (target, source)
         self.name = f"XOT {_end(client)} > {_end(server)}"
         self._notes = notes
         self._start = None
@@ -108,7 +110,8 @@ class Stream:
                 self._in_order()
                 if len(self._ahead) > MOST_SEGMENTS:
                     self._pass_gap()
-        return packets + self._packets()
+            packets += self._packets()
+        return packets
 
     def end(self):
         """Gives up what is missing; answers the packets behind it, and notes what was left within one."""
@@ -153,18 +156,18 @@ class Stream:
 
     def _packets(self):
         """Cuts the packets that are whole off what is held."""
-        packets, at = [], 0
-        while not self._is_lost and len(self._held) - at >= 4:
-            version, length = struct.unpack_from(">HH", self._held, at)
+        packets, held, at = [], self._held, 0
+        while not self._is_lost and len(held) - at >= 4:
+            version, length = _HEADER(held, at)
             if version != 0 or length == 0:
                 self._notes["connection that isn't XOT, or was read out of step"] += 1
                 self._is_lost = True
-            elif len(self._held) - at < 4 + length:
+            elif len(held) - at < 4 + length:
                 break
             else:
-                packets.append(self._held[at + 4 : at + 4 + length])
+                packets.append(held[at + 4 : at + 4 + length])
                 at += 4 + length
-        self._held = b"" if self._is_lost else self._held[at:]
+        self._held = b"" if self._is_lost else held[at:]
         return packets
 
 
@@ -192,29 +195,29 @@ class Xot:
         self._passed = passed
 
     def take(self, octets):
-        """Takes a packet of IP; answers of each X.25 packet that is whole now the connection's name, whether the DTE sent it, and the packet."""
+        """Takes a packet of IP; answers the streams that have whole X.25 packets now, each with these."""
         found = segment(octets)
         if found is None:
             self._passed["packet of IP without a whole segment of TCP"] += 1
             return []
-        source, target, sequence, flags, octets, missing = found
-        ports = source[1], target[1]
-        if self._port not in ports:
-            self._passed[f"segment of TCP like XOT, to or from port {min(ports)} (--port)" if is_like_xot(octets) else f"segment of TCP of other ports than {self._port}"] += 1
+        ends, sequence, flags, octets, missing = found
+        if self._port not in ends[2:]:
+            port = min(ends[2:])
+            self._passed[f"segment of TCP like XOT, to or from port {port} (--port)" if is_like_xot(octets) else f"segment of TCP of other ports than {self._port}"] += 1
             return []
         if missing > 0:
             self._notes["segment that was captured in part"] += 1
-        ends = source, target
-        stream = self._streams.get(ends)
+        stream, closed = self._streams.get(ends), []
         if stream is None:
             stream = self._streams[ends] = Stream(ends, self._port, self._notes)
-        packets = [(stream.name, stream.is_of_dte, packet) for packet in stream.take(sequence, flags, octets)]
-        return packets if len(self._streams) <= MOST_STREAMS else packets + self._close(next(iter(self._streams)))
+            if len(self._streams) > MOST_STREAMS:
+                closed = self._close(next(iter(self._streams)))
+        return [(stream, stream.take(sequence, flags, octets)), *closed]
 
     def end(self):
         """Ends all connections; answers what they still hold."""
-        return [packet for ends in list(self._streams) for packet in self._close(ends)]
+        return [closed for ends in list(self._streams) for closed in self._close(ends)]
 
     def _close(self, ends):
         stream = self._streams.pop(ends)
-        return [(stream.name, stream.is_of_dte, packet) for packet in stream.end()]
+        return [(stream, stream.end())]

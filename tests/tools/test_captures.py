@@ -31,9 +31,14 @@ def words(**given):
 def lines(capture, **given):
     """The lines that a capture becomes, as a text, and the notes on what was left out."""
     converter = pcap2x25.Converter(words(**given))
-    found = [it for block in converter.blocks(captures.blocks(io.BytesIO(capture))) for it in block]
-    text = "".join(line + "\n" for connection, _, line in found if connection.number == (given.get("connection") or 1))
+    found = [it for block in converter.blocks(captures.blocks(io.BytesIO(capture))) for it in zip(*block)]
+    text = "".join(line for connection, _, line in found if connection.number == (given.get("connection") or 1))
     return text, dict(converter.notes)
+
+
+def times(capture):
+    """The times of the records of a capture."""
+    return [time for block in captures.blocks(io.BytesIO(capture)) for _, _, _, _, time, *_ in block]
 
 
 class FrameCheckSequence(unittest.TestCase):
@@ -87,8 +92,7 @@ class Formats(unittest.TestCase):
                 file = samples.pcap([(5, 7, b"\x01" + SABM), (6, 0, b"\x00" + UA)], order=order, nano=nano)
                 with self.subTest(order=order, nano=nano):
                     self.assertEqual(lines(file), (SET_UP.decode(), {}))
-                    times = [record.time for record in captures.records(io.BytesIO(file))]
-                    self.assertEqual(times, [5 * 10**9 + 7 * (1 if nano else 1000), 6 * 10**9])
+                    self.assertEqual(times(file), [5 * 10**9 + 7 * (1 if nano else 1000), 6 * 10**9])
 
     def test_pcap_that_says_its_frames_have_their_check_sequence(self):
         file = samples.pcap([(0, 0, b"\x01" + bytes.fromhex("013febde"))], network_flags=0x1400_0000)
@@ -109,7 +113,7 @@ class Formats(unittest.TestCase):
     def test_clocks(self):
         for resolution, ticks, time in ((b"\x00", 3, 3 * 10**9), (b"\x06", 3, 3000), (b"\x09", 3, 3), (b"\x81", 3, 15 * 10**8)):
             file = samples.section() + samples.interface(207, samples.option(9, resolution)) + samples.packet(b"\x01" + SABM, ticks)
-            self.assertEqual([record.time for record in captures.records(io.BytesIO(file))], [time])
+            self.assertEqual(times(file), [time])
 
     def test_packets_without_direction_or_options(self):
         head = samples.section() + samples.interface(147)
@@ -388,7 +392,7 @@ class Pieces(unittest.TestCase):
         for whole in (samples.pcap(frames), samples.section() + samples.interface(207) + b"".join(samples.packet(octets, at) for at, _, octets in frames)):
             for count in (1, 2, 3, 7, 64):
                 blocks = list(captures.blocks(Dribble(whole, count)))
-                self.assertEqual([(it.number, it.octets) for block in blocks for it in block], [(at + 1, b"\x01" + SABM) for at in range(5)])
+                self.assertEqual([(number, octets) for block in blocks for number, _, octets, *_ in block], [(at + 1, b"\x01" + SABM) for at in range(5)])
                 self.assertEqual(len(blocks), -(-len(whole) // count))
                 self.assertLessEqual(max(map(len, blocks)), 1 + count // 19)
 
