@@ -1,7 +1,8 @@
 -- The number of each refusal of a link, and which of them `put` may answer (profile).
 use Rattle.std.specs.Prelude.{ℕ}
 use Rattle.x25_link.specs.declared.error.LinkError.{LinkError}
-use Rattle.x25_link.specs.declared.error.LinkError.TheVariants.{NotUp, QueueFull, NotRunning, AlreadyWaiting, Closed, BadConfig, AlreadyUp, NoMemory}
+use Rattle.x25_link.specs.declared.error.LinkError.TheVariants.{NotUp, QueueFull, NotRunning, AlreadyWaiting, Closed}
+use Rattle.x25_link.specs.declared.error.LinkError.TheVariants.{BadConfig, AlreadyUp, NoMemory}
 
 abbrev pub number_of : LinkError → ℕ
 number_of NotUp = 9

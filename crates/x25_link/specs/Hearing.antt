@@ -1,18 +1,21 @@
 -- What a station that is Up does with what it takes: the must-send table, row by row.
 -- ITU-T X.25 (10/96), sections 2.4.5 to 2.4.7.
-use Rattle.std.specs.Prelude.{ℕ, ◌+◌, ◌*◌, ◌/◌, ◌%◌, ◌==◌, nat_le, Bool, true, false, not, ◌&&◌, if◌then◌else◌, List, [], ◌∷◌, ◌++◌, slice_index, Option, Some, None, Result, Ok, Err}
+use Rattle.std.specs.Prelude.{ℕ, ◌+◌, ◌*◌, ◌/◌, ◌%◌, ◌==◌, nat_le, Bool, true, false, not, ◌&&◌, if◌then◌else◌, List}
+use Rattle.std.specs.Prelude.{[], ◌∷◌, ◌++◌, slice_index, Option, Some, None, Result, Ok, Err}
 pub use Rattle.x25_bits.specs.Role.{other}
 use Rattle.x25_frame.specs.Frame.{PlainFrame, info, rr, rnr, rej, sabm, disc, ua, dm, frmr}
 use Rattle.x25_frame.specs.Spelling.{address_of}
 use Rattle.x25_frame.specs.declared.error.FrameError.{FrameError}
-use Rattle.x25_frame.specs.declared.error.FrameError.TheVariants.{Short, BadFcs, BadAddress, Undefined, NoInfoAllowed, TooLong}
+use Rattle.x25_frame.specs.declared.error.FrameError.TheVariants.{Short, BadFcs, BadAddress, Undefined, NoInfoAllowed}
+use Rattle.x25_frame.specs.declared.error.FrameError.TheVariants.{TooLong}
 use Rattle.x25_window.specs.code.Modulo.{resolved}
 use Rattle.x25_link.specs.declared.phase.Phase.TheVariants.{Down}
 use Rattle.x25_link.specs.declared.phase.Reason.{Reason}
 use Rattle.x25_link.specs.declared.phase.Reason.TheVariants.{Disc, Dm, FrmrSent, FrmrGot, Reset}
 use Rattle.x25_link.specs.declared.phase.Notes.{Notes}
 use Rattle.x25_link.specs.Outgoing.{acknowledged_to, gone_back}
-use Rattle.x25_link.specs.Station.{Settings, LinkStation, Side, with_nothing, fresh, wanted, is_busy, with_near, sends, ready, may_send, send_next}
+use Rattle.x25_link.specs.Station.{Settings, LinkStation, Side, with_nothing, fresh, wanted, is_busy, with_near, sends}
+use Rattle.x25_link.specs.Station.{ready, may_send, send_next}
 
 -- the station after a step and the frames sent, the packet handed up, and what is noted
 pub record Step : Type 0 where
@@ -26,17 +29,22 @@ quiet t = record { side = t; packet = None; notes = record { down = None; up = f
 
 -- Up is left: the queue and what is unacknowledged are dropped (profile)
 abbrev pub leaves : Reason → Side → Step
-leaves reason t = record { side = with_near t (with_nothing Down t.near.tries); packet = None; notes = record { down = Some reason; up = false } }
+leaves reason t = record {
+  side = with_near t (with_nothing Down t.near.tries);
+  packet = None;
+  notes = record { down = Some reason; up = false };
+}
 
 -- ---- FRMR
 
--- Section 2.3.4.9: the rejected control; V(S), whether a response was rejected, and V(R); and the ground (1 is W, 2 X, 4 Y
--- and 8 Z). V(S) is the highest number sent plus one (profile). F answers the P of a command.
+-- Section 2.3.4.9: the rejected control; V(S), whether a response was rejected, and V(R); and the ground (1 is W, 2 X,
+-- 4 Y and 8 Z). V(S) is the highest number sent plus one (profile). F answers the P of a command.
 abbrev pub reject_of : Settings → List ℕ → ℕ → LinkStation → PlainFrame
 reject_of c octets why s =
     let control = slice_index octets 1 in
     let command = slice_index octets 0 == address_of (other c.role) true in
-    frmr (command && control / 16 % 2 == 1) (control ∷ (2 * (s.outgoing.sent % 8) + (if command then 0 else 16) + 32 * wanted s) ∷ why ∷ [])
+    frmr (command && control / 16 % 2 == 1)
+    (control ∷ (2 * (s.outgoing.sent % 8) + (if command then 0 else 16) + 32 * wanted s) ∷ why ∷ [])
 
 -- FRMR is sent, and Up is left (section 2.4.7.3)
 abbrev pub rejects : Settings → List ℕ → ℕ → Side → Step
@@ -53,7 +61,10 @@ abbrev pub acknowledged : ℕ → Side → Side
 acknowledged nr t =
     let s = t.near in
     let n = resolved s.outgoing.acked nr in
-    with_near t (record s { outgoing = acknowledged_to n s.outgoing; tries = if n == s.outgoing.acked then s.tries else 0 })
+    with_near t (record s {
+      outgoing = acknowledged_to n s.outgoing;
+      tries = if n == s.outgoing.acked then s.tries else 0;
+    })
 
 -- ---- I frames (sections 2.4.5.2 and 2.4.5.4)
 
@@ -84,7 +95,11 @@ passes_over p t =
 abbrev pub hears_info : ℕ → ℕ → Bool → List ℕ → Side → Step
 hears_info k ns p packet t =
     if is_taken ns t.near
-    then record { side = answers k p (takes packet t); packet = Some packet; notes = record { down = None; up = false } }
+    then record {
+      side = answers k p (takes packet t);
+      packet = Some packet;
+      notes = record { down = None; up = false };
+    }
     else quiet (passes_over p t)
 
 -- ---- RR, RNR and REJ (sections 2.4.5.5 to 2.4.5.9)
@@ -113,8 +128,13 @@ abbrev pub row_of_frame : Settings → List ℕ → PlainFrame → Side → Step
 row_of_frame c octets (info ns nr p packet) t = numbered c octets nr (hears_info c.window ns p packet) t
 row_of_frame c octets (rr command nr pf) t = numbered c octets nr (λ u. quiet (polls command pf (peer_is false u))) t
 row_of_frame c octets (rnr command nr pf) t = numbered c octets nr (λ u. quiet (polls command pf (peer_is true u))) t
-row_of_frame c octets (rej command nr pf) t = numbered c octets nr (λ u. quiet (polls command pf (goes_back (peer_is false u)))) t
-row_of_frame c octets (sabm p) t = record { side = with_near (sends (ua p) t) fresh; packet = None; notes = record { down = Some Reset; up = true } }
+row_of_frame c octets (rej command nr pf) t = numbered c octets nr
+    (λ u. quiet (polls command pf (goes_back (peer_is false u)))) t
+row_of_frame c octets (sabm p) t = record {
+  side = with_near (sends (ua p) t) fresh;
+  packet = None;
+  notes = record { down = Some Reset; up = true };
+}
 row_of_frame c octets (disc p) t = leaves Disc (sends (ua p) t)
 row_of_frame c octets (ua f) t = quiet t
 row_of_frame c octets (dm f) t = leaves Dm t

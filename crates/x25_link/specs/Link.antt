@@ -1,6 +1,7 @@
 -- Each call of a link: when it is refused, and what it does.
 -- ITU-T X.25 (10/96), section 2.4.4, and where it leaves a choice the profile.
-use Rattle.std.specs.Prelude.{◌≡◌, ℕ, ◌+◌, ◌==◌, nat_lt, nat_le, Bool, true, false, not, ◌&&◌, ◌||◌, if◌then◌else◌, List, [], Option, Some, None, Result, Ok, Err, IfErr}
+use Rattle.std.specs.Prelude.{◌≡◌, ℕ, ◌+◌, ◌==◌, nat_lt, nat_le, Bool, true, false, not, ◌&&◌, ◌||◌, if◌then◌else◌}
+use Rattle.std.specs.Prelude.{List, [], Option, Some, None, Result, Ok, Err, IfErr}
 use Rattle.x25_frame.specs.Frame.{PlainFrame, sabm, disc, ua, dm}
 use Rattle.x25_frame.specs.Spelling.{is_command, poll_or_final}
 use Rattle.x25_frame.specs.Reading.{frame_of}
@@ -11,7 +12,8 @@ use Rattle.x25_link.specs.declared.phase.Phase.{Phase}
 use Rattle.x25_link.specs.declared.phase.Phase.TheVariants.{Down, Waiting, Up, Closed}
 use Rattle.x25_link.specs.declared.phase.Reason.TheVariants.{Retries, Local, Counts}
 use Rattle.x25_link.specs.Outgoing.{waits, added}
-use Rattle.x25_link.specs.Station.{Settings, LinkStation, Side, with_nothing, fresh, is_up, with_near, sends, ready, ended}
+use Rattle.x25_link.specs.Station.{Settings, LinkStation, Side, with_nothing, fresh, is_up, with_near, sends, ready}
+use Rattle.x25_link.specs.Station.{ended}
 use Rattle.x25_link.specs.Hearing.{Step, quiet, leaves, other, row_of}
 
 -- the end of a step
@@ -63,7 +65,9 @@ hears c octets read Closed t = if_read (λ frame u. quiet (declines frame u)) re
 -- ---- new: k is 1 to 7, N1 1 to 4,099 octets, and N2 1 to 255
 
 abbrev pub config_refusal : ℕ → ℕ → ℕ → Option LinkError
-config_refusal k n1 n2 = if nat_le 1 k && (nat_le k 7 && (nat_le 1 n1 && (nat_le n1 4099 && nat_le 1 n2))) then None else Some error.BadConfig
+config_refusal k n1 n2 =
+    if nat_le 1 k && (nat_le k 7 && (nat_le 1 n1 && (nat_le n1 4099 && nat_le 1 n2))) then None
+    else Some error.BadConfig
 
 -- ---- take
 
@@ -132,7 +136,8 @@ asks_again phase t = sends (sabm true) t
 
 abbrev pub fires : Settings → Side → Step
 fires c t =
-    if nat_lt t.near.tries c.retries then quiet (asks_again t.near.phase (with_near t (record t.near { tries = t.near.tries + 1 })))
+    if nat_lt t.near.tries c.retries
+    then quiet (asks_again t.near.phase (with_near t (record t.near { tries = t.near.tries + 1 })))
     else leaves Retries t
 
 abbrev pub timer_step : Settings → LinkStation → Step

@@ -1,6 +1,7 @@
 -- The state of a LAPB station, on whole lists and unbounded numbers, and what sending changes.
 -- ITU-T X.25 (10/96), sections 2.3.2 and 2.4.
-use Rattle.std.specs.Prelude.{ℕ, zero, suc, ◌%◌, nat_lt, Bool, true, false, not, ◌&&◌, if◌then◌else◌, List, [], ◌∷◌, ◌++◌, length}
+use Rattle.std.specs.Prelude.{ℕ, zero, suc, ◌%◌, nat_lt, Bool, true, false, not, ◌&&◌, if◌then◌else◌, List, [], ◌∷◌}
+use Rattle.std.specs.Prelude.{◌++◌, length}
 use Rattle.x25_bits.specs.declared.role.Role.{Role}
 use Rattle.x25_frame.specs.Frame.{PlainFrame, info, rr, rnr}
 use Rattle.x25_link.specs.declared.phase.Phase.{Phase}
@@ -8,7 +9,8 @@ use Rattle.x25_link.specs.declared.phase.Phase.TheVariants.{Down, Waiting, Up, C
 use Rattle.x25_link.specs.OrderedLink.{Lists}
 use Rattle.x25_link.specs.Outgoing.{Outgoing, no_packet, waits, is_open, next_packet, moved_on}
 
--- which end it is, k (section 2.4.8.6), N1 in octets of information (section 2.4.8.5, own unit) and N2 (section 2.4.8.4)
+-- which end it is, k (section 2.4.8.6), N1 in octets of information (section 2.4.8.5, own unit) and N2 (section
+-- 2.4.8.4)
 pub record Settings : Type 0 where
   pub role : Role
   pub window : ℕ

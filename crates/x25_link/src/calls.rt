@@ -3,7 +3,8 @@ ghost use Rattle.std.specs.Prelude.{◌≡◌, ℕ, ◌+◌, ◌<◌, ◌≤◌,
 ghost use Rattle.x25_link.specs.Station.{Settings, LinkStation as StationState, Side, may_send, owes_ready};
 ghost use Rattle.x25_link.specs.code.Fits.{FitsStation, FitsSide, Leads, Hears};
 ghost use Rattle.x25_link.specs.Hearing.{quiet};
-ghost use Rattle.x25_link.specs.Link.{alone, puts, connects, disconnects, fires, timer_runs, is_idle, asks_again, closed_by};
+ghost use Rattle.x25_link.specs.Link.{alone, puts, connects, disconnects, fires, timer_runs, is_idle, asks_again};
+ghost use Rattle.x25_link.specs.Link.{closed_by};
 
 use crate::heard::Heard;
 use crate::octets::Octets;
@@ -17,7 +18,8 @@ impl LinkStation {
     pub fn give(&mut self, packet: Octets, out: &mut Outbox)
         requires free { length self.old.outgoing.queue < 256 }
         requires long { 0 < out.old.long }
-        ensures step { (c : Settings) (before : List (List ℕ)) (s : StationState) → FitsSide c self.old before out.old.made (alone s) → may_send c.window s ≡ false → owes_ready s ≡ false →
+        ensures step { (c : Settings) (before : List (List ℕ)) (s : StationState)
+            → FitsSide c self.old before out.old.made (alone s) → may_send c.window s ≡ false → owes_ready s ≡ false →
             FitsSide c self.new before out.new.made (closed_by c.window (puts packet (alone s))).side }
         ensures kept { self.new ≡ record self.old { outgoing = self.new.outgoing } }
         ensures queue { length self.new.outgoing.queue ≤ length self.old.outgoing.queue + 1 }
@@ -39,7 +41,8 @@ impl LinkStation {
     /// Begins to set the link up.
     pub fn connect(&mut self, out: &mut Outbox)
         requires { 0 < out.old.short }
-        ensures step { (c : Settings) (before : List (List ℕ)) (t : Side) → FitsSide c self.old before out.old.made t → FitsSide c self.new before out.new.made (connects t).side }
+        ensures step { (c : Settings) (before : List (List ℕ)) (t : Side) → FitsSide c self.old before out.old.made t
+            → FitsSide c self.new before out.new.made (connects t).side }
         ensures long { out.new.long ≡ out.old.long }
         ensures places { out.new.places ≡ out.old.places }
     {

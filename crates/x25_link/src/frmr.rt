@@ -49,7 +49,8 @@ impl LinkStation {
 
     // The FRMR for these octets.
     fn rejection<'a>(&self, octets: &[u8], why: u8) -> Frame<'a>
-        ensures frame { (c : Settings) (s : StationState) → FitsStation c self.now s → plain result ≡ reject_of c octets.now why s }
+        ensures frame { (c : Settings) (s : StationState) → FitsStation c self.now s
+            → plain result ≡ reject_of c octets.now why s }
         ensures short { length (information_of (plain result)) ≤ 3 }
     {
         let control = octet_at(octets, 1);

@@ -6,7 +6,8 @@ ghost use Rattle.x25_frame.specs.Spelling.{is_command};
 ghost use Rattle.x25_link.specs.Station.{Settings, LinkStation as StationState, is_up, may_send, owes_ready};
 ghost use Rattle.x25_link.specs.code.OutgoingHeld.{window_of};
 ghost use Rattle.x25_link.specs.code.Fits.{FitsStation, FitsSide, FitsHeard, Leads, Hears, SendsShort, SendsInfo};
-ghost use Rattle.x25_link.specs.Hearing.{numbered, hears_info, polls, peer_is, goes_back, quiet, row_of_frame, row_of, other};
+ghost use Rattle.x25_link.specs.Hearing.{numbered, hears_info, polls, peer_is, goes_back, quiet, row_of_frame, row_of};
+ghost use Rattle.x25_link.specs.Hearing.{other};
 ghost use Rattle.x25_link.specs.Link.{declines, when_down, when_waiting, hears, alone, take_step};
 
 use crate::frmr::{BAD_INFORMATION, INVALID_NR, LONG_INFORMATION, UNDEFINED_CONTROL};
@@ -258,10 +259,13 @@ impl LinkStation {
     pub fn hear<'a>(&mut self, octets: &'a [u8], out: &mut Outbox) -> Heard<'a>
         requires long { window_of self.old.outgoing ≤ out.old.long }
         requires short { 2 ≤ out.old.short }
-        ensures step { (c : Settings) (before : List (List ℕ)) (s : StationState) → FitsSide c self.old before out.old.made (alone s) →
+        ensures step { (c : Settings) (before : List (List ℕ)) (s : StationState)
+            → FitsSide c self.old before out.old.made (alone s) →
             FitsHeard c self.new before out.new.made result (take_step c octets.now s) }
-        ensures settled { (c : Settings) (s : StationState) → FitsStation c self.old s → may_send c.window (take_step c octets.now s).side.near ≡ false }
-        ensures calm { (c : Settings) (s : StationState) → FitsStation c self.old s → owes_ready (take_step c octets.now s).side.near ≡ false }
+        ensures settled { (c : Settings) (s : StationState) → FitsStation c self.old s
+            → may_send c.window (take_step c octets.now s).side.near ≡ false }
+        ensures calm { (c : Settings) (s : StationState) → FitsStation c self.old s
+            → owes_ready (take_step c octets.now s).side.near ≡ false }
         ensures left { out.old.long ≤ out.new.long + window_of self.old.outgoing }
         ensures places { out.new.places ≡ out.old.places }
     {

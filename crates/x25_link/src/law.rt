@@ -1,10 +1,14 @@
 ghost use Rattle.x25_link.specs.code.Bounds.{FewWait, FewStand, WindowIsSmall, TakeSendsFew, PutSendsOne};
-ghost use Rattle.x25_link.specs.laws.NoteLaw.{TakeTells, TakeContinues, TakeHandsUp, TimerTells, TimerContinues, PutTells, ConnectTells, DisconnectTells, AbandonTells};
-ghost use Rattle.x25_link.specs.laws.RestLaw.{TakeSaysAll, PutSaysAll, TimerSaysAll, ConnectSaysAll, DisconnectSaysAll, AbandonSaysAll, NoTimerIsIdle, AllHeardIsRest, RestIsAllHeard};
-ghost use Rattle.x25_link.specs.laws.AnswerLaw.{TimerAsks, PollIsAnswered, FinalEndsRecovery, ReadyIsHeard, RejGoesBack, WantedIsTaken, OtherIsPassedOver, OutDeclines, DmLeavesUp};
+ghost use Rattle.x25_link.specs.laws.NoteLaw.{TakeTells, TakeContinues, TakeHandsUp, TimerTells, TimerContinues};
+ghost use Rattle.x25_link.specs.laws.NoteLaw.{PutTells, ConnectTells, DisconnectTells, AbandonTells};
+ghost use Rattle.x25_link.specs.laws.RestLaw.{TakeSaysAll, PutSaysAll, TimerSaysAll, ConnectSaysAll, DisconnectSaysAll};
+ghost use Rattle.x25_link.specs.laws.RestLaw.{AbandonSaysAll, NoTimerIsIdle, AllHeardIsRest, RestIsAllHeard};
+ghost use Rattle.x25_link.specs.laws.AnswerLaw.{TimerAsks, PollIsAnswered, FinalEndsRecovery, ReadyIsHeard};
+ghost use Rattle.x25_link.specs.laws.AnswerLaw.{RejGoesBack, WantedIsTaken, OtherIsPassedOver, OutDeclines, DmLeavesUp};
 ghost use Rattle.x25_link.specs.laws.BusyLaw.{TakeSaysBusy, PutSaysBusy, TimerSaysBusy};
 ghost use Rattle.x25_link.specs.laws.SetUp.{TakeWaits, TakeSetsUp, ConnectWaits, TimerWaits, DisconnectWaits};
-ghost use Rattle.x25_link.specs.laws.WindowLaw.{TakeFollows, PutFollows, TimerFollows, DisconnectFollows, AbandonFollows, TakeStaysOut, DisconnectStaysOut};
+ghost use Rattle.x25_link.specs.laws.WindowLaw.{TakeFollows, PutFollows, TimerFollows, DisconnectFollows};
+ghost use Rattle.x25_link.specs.laws.WindowLaw.{AbandonFollows, TakeStaysOut, DisconnectStaysOut};
 
 /// Each step of a station that is Up hears, hands up and then sends as the window machine may, and Up is left exactly
 /// where there is a reason. A station that is out stays out, but for a SABM.
@@ -27,9 +31,9 @@ pub fn sets_up_by_rows()
     ensures disconnects { DisconnectWaits }
 {}
 
-/// What the notes of a step say of the station after it: after LinkUp it begins afresh, after LinkDown alone it isn't up
-/// and its lists are empty, and where nothing is noted it is up or not as before. A packet is handed up in Up alone, while
-/// at most 254 wait.
+/// What the notes of a step say of the station after it: after LinkUp it begins afresh, after LinkDown alone it isn't
+/// up and its lists are empty, and where nothing is noted it is up or not as before. A packet is handed up in Up alone,
+/// while at most 254 wait.
 pub fn notes_what_changes()
     ensures take { TakeTells }
     ensures take_continues { TakeContinues }
@@ -42,8 +46,8 @@ pub fn notes_what_changes()
     ensures abandon { AbandonTells }
 {}
 
-/// What a link holds at most: 256 packets that wait, and k, at most 7, that were sent and aren't acknowledged. Octets are
-/// answered by nine frames at most, and a packet that is handed down sends one at most.
+/// What a link holds at most: 256 packets that wait, and k, at most 7, that were sent and aren't acknowledged. Octets
+/// are answered by nine frames at most, and a packet that is handed down sends one at most.
 pub fn holds_few()
     ensures wait { FewWait }
     ensures stand { FewStand }
@@ -52,9 +56,9 @@ pub fn holds_few()
     ensures put { PutSendsOne }
 {}
 
-/// Each step leaves nothing that may be sent and no RR that is owed, where no more is acknowledged than V(S) and k is at most 7. So a
-/// station that is Up is idle where timer T1 doesn't run; and at rest, which is idle with T1 stopped, exactly where neither
-/// recovery nor a busy peer stands and all is acknowledged.
+/// Each step leaves nothing that may be sent and no RR that is owed, where no more is acknowledged than V(S) and k is
+/// at most 7. So a station that is Up is idle where timer T1 doesn't run; and at rest, which is idle with T1 stopped,
+/// exactly where neither recovery nor a busy peer stands and all is acknowledged.
 pub fn comes_to_rest()
     ensures take { TakeSaysAll }
     ensures put { PutSaysAll }
@@ -67,9 +71,9 @@ pub fn comes_to_rest()
     ensures only_then { RestIsAllHeard }
 {}
 
-/// What timer T1 asks, and how a station that is Up answers each frame with a valid N(R): a poll by F=1 and V(R) first, busy or not;
-/// F=1 by what isn't acknowledged, from the first on; the I frame that is wanted by at least one frame with the new V(R). A station
-/// that is out answers a poll by DM, and DM takes Up away.
+/// What timer T1 asks, and how a station that is Up answers each frame with a valid N(R): a poll by F=1 and V(R) first,
+/// busy or not; F=1 by what isn't acknowledged, from the first on; the I frame that is wanted by at least one frame
+/// with the new V(R). A station that is out answers a poll by DM, and DM takes Up away.
 pub fn asks_and_answers()
     ensures timer { TimerAsks }
     ensures poll { PollIsAnswered }
@@ -82,9 +86,10 @@ pub fn asks_and_answers()
     ensures dm { DmLeavesUp }
 {}
 
-/// What a station that is Up says of whether it is busy, at each step that leaves it Up. RNR was the last of the RRs and RNRs that it said
-/// exactly where it keeps so; an RR or REJ goes only where it isn't busy after the step; and no I frame goes where its peer is busy then.
-/// With `comes_to_rest`: where RNR was the last, the station is busy, so an RR goes in the step by which it no longer is.
+/// What a station that is Up says of whether it is busy, at each step that leaves it Up. RNR was the last of the RRs
+/// and RNRs that it said exactly where it keeps so; an RR or REJ goes only where it isn't busy after the step; and no I
+/// frame goes where its peer is busy then. With `comes_to_rest`: where RNR was the last, the station is busy, so an RR
+/// goes in the step by which it no longer is.
 pub fn tells_whether_busy()
     ensures take { TakeSaysBusy }
     ensures put { PutSaysBusy }

@@ -1,7 +1,11 @@
-ghost use Rattle.std.specs.Prelude.{◌≡◌, ℕ, ◌+◌, ◌-◌, ◌%◌, ◌<◌, ◌≤◌, ◌↔◌, ◌++◌, List, [], length, map, max, vec_len, vec_capacity, Bool, true, false, Some, None, Ok, IfOk, IfErr, OnOk, OnErr, IsOk, IsErrOf};
+ghost use Rattle.std.specs.Prelude.{◌≡◌, ℕ, ◌+◌, ◌-◌, ◌%◌, ◌<◌, ◌≤◌, ◌↔◌, ◌++◌, List, [], length, map, max, vec_len};
+ghost use Rattle.std.specs.Prelude.{vec_capacity, Bool, true, false, Some, None, Ok, IfOk, IfErr, OnOk, OnErr, IsOk};
+ghost use Rattle.std.specs.Prelude.{IsErrOf};
 ghost use Rattle.x25_frame.specs.Spelling.{spelling_of};
 ghost use Rattle.x25_link.specs.Station.{Settings, LinkStation as StationState, awaits_ua, with_nothing};
-ghost use Rattle.x25_link.specs.Link.{Refuses, config_refusal, take_step, put_refusal, put_step, connect_refusal, connect_step, disconnect_refusal, disconnect_step, timer_refusal, timer_runs, timer_step, abandon_step, is_idle};
+ghost use Rattle.x25_link.specs.Link.{Refuses, config_refusal, take_step, put_refusal, put_step, connect_refusal};
+ghost use Rattle.x25_link.specs.Link.{connect_step, disconnect_refusal, disconnect_step, timer_refusal, timer_runs};
+ghost use Rattle.x25_link.specs.Link.{timer_step, abandon_step, is_idle};
 ghost use Rattle.x25_link.specs.Error.{RefusesPut};
 ghost use Rattle.x25_link.specs.code.FitsLink.{FitsLink, Does, limit_of, up_of, waiting_of};
 ghost use Rattle.x25_link.specs.declared.phase.Phase.TheVariants.{Down};
@@ -50,7 +54,8 @@ impl Link {
     ///
     /// 14 where one is out of its range, then 70.
     pub fn new(alloc: Global, role: Role, k: u8, n1: usize, n2: u8) -> Result<Link, LinkError>
-        ensures state { IfOk result (λ l. FitsLink (record { role = role; window = k; longest = n1; retries = n2 }) l (with_nothing Down 0)) }
+        ensures state { IfOk result (λ l. FitsLink (record { role = role; window = k; longest = n1; retries = n2 }) l
+            (with_nothing Down 0)) }
         ensures none_kept { IfOk result (λ l. l.outbox ≡ record { made = []; places = 0; long = 0; short = 0 }) }
         ensures refused { Refuses (config_refusal k n1 n2) result }
     {
@@ -147,13 +152,18 @@ impl Link {
         self.station.leave(Reason::Counts)
     }
 
-    /// Exchanges the frames to send, in the order in which the calls made them, with those of a list, which stand before the frames
-    /// of later calls: so one who sent them empties the list first. It takes no memory, and none is set aside for further calls of
-    /// `put` after it.
+    /// Exchanges the frames to send, in the order in which the calls made them, with those of a list, which stand
+    /// before the frames of later calls: so one who sent them empties the list first. It takes no memory, and none is
+    /// set aside for further calls of `put` after it.
     pub fn swap_frames(&mut self, frames: &mut Vec<Vec<u8>>)
         ensures frames { map (λ f. f.items) frames.new.items ≡ self.old.outbox.made }
         ensures places { vec_capacity frames.new ≡ self.old.outbox.places }
-        ensures outbox { self.new.outbox ≡ record { made = map (λ f. f.items) frames.old.items; places = vec_capacity frames.old; long = 0; short = 0 } }
+        ensures outbox { self.new.outbox ≡ record {
+          made = map (λ f. f.items) frames.old.items;
+          places = vec_capacity frames.old;
+          long = 0;
+          short = 0;
+        } }
         ensures station { self.new.station ≡ self.old.station }
     {
         self.outbox.swap(frames);
@@ -187,8 +197,8 @@ impl Link {
         self.station.outgoing.first()
     }
 
-    /// How many buffers of the longest frame, of 4,103 octets each, are kept: 32 at most, or as many as memory is set aside for.
-    /// They are used where memory for a frame is refused.
+    /// How many buffers of the longest frame, of 4,103 octets each, are kept: 32 at most, or as many as memory is set
+    /// aside for. They are used where memory for a frame is refused.
     pub fn blanks(&self) -> usize
         ensures least { self.now.outbox.long ≤ result }
         ensures most { result ≤ max self.now.outbox.long 32 }
@@ -196,8 +206,8 @@ impl Link {
         self.outbox.blanks()
     }
 
-    /// How many buffers are kept that were given back, of at most 4,103 octets each: 32 at most. They are used for frames that are sent
-    /// later.
+    /// How many buffers are kept that were given back, of at most 4,103 octets each: 32 at most. They are used for
+    /// frames that are sent later.
     pub fn returned(&self) -> usize
         ensures { result ≤ 32 }
     {
@@ -218,9 +228,11 @@ impl Link {
     #[inline(always)]
     fn give(&mut self, packet: Vec<u8>) -> Result<(), LinkError>
         requires { vec_len packet ≤ limit_of self.old }
-        ensures state { (c : Settings) (s : StationState) → FitsLink c self.old s → OnOk result (FitsLink c self.new (put_step c packet.items s).side.near) }
+        ensures state { (c : Settings) (s : StationState) → FitsLink c self.old s
+            → OnOk result (FitsLink c self.new (put_step c packet.items s).side.near) }
         ensures made { (c : Settings) (s : StationState) → FitsLink c self.old s →
-            OnOk result (self.new.outbox.made ≡ self.old.outbox.made ++ map (spelling_of c.role) (put_step c packet.items s).side.out) }
+            OnOk result (self.new.outbox.made
+            ≡ self.old.outbox.made ++ map (spelling_of c.role) (put_step c packet.items s).side.out) }
         ensures spare { OnOk result (self.new.outbox.long ≡ self.old.outbox.long - 1) }
         ensures places { self.new.outbox.places ≤ max self.old.outbox.places
             (length self.old.outbox.made + (max self.old.outbox.long 1 + self.old.outbox.short)) }

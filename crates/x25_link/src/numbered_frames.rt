@@ -3,7 +3,8 @@ ghost use Rattle.std.specs.Prelude.{◌≡◌, ℕ, ◌+◌, ◌<◌, ◌≤◌,
 ghost use Rattle.x25_link.specs.Station.{Settings, LinkStation as StationState, Side};
 ghost use Rattle.x25_link.specs.code.OutgoingHeld.{window_of};
 ghost use Rattle.x25_link.specs.code.Fits.{FitsStation, FitsSide, Leads, SendsShort, SendsInfo};
-ghost use Rattle.x25_link.specs.Hearing.{is_valid, acknowledged, is_taken, takes, answers, passes_over, hears_info, polls};
+ghost use Rattle.x25_link.specs.Hearing.{is_valid, acknowledged, is_taken, takes, answers, passes_over, hears_info};
+ghost use Rattle.x25_link.specs.Hearing.{polls};
 
 use crate::outbox::Outbox;
 use crate::station::LinkStation;
@@ -15,7 +16,8 @@ impl LinkStation {
     #[inline(always)]
     pub fn acknowledge(&mut self, nr: Seq) -> bool
         ensures valid { (c : Settings) (s : StationState) → FitsStation c self.old s → result ≡ is_valid nr.number s }
-        ensures step { (c : Settings) (before made : List (List ℕ)) (t : Side) → FitsSide c self.old before made t → result ≡ true → FitsSide c self.new before made (acknowledged nr.number t) }
+        ensures step { (c : Settings) (before made : List (List ℕ)) (t : Side) → FitsSide c self.old before made t
+            → result ≡ true → FitsSide c self.new before made (acknowledged nr.number t) }
         ensures window { window_of self.new.outgoing ≡ window_of self.old.outgoing }
         ensures unchanged { result ≡ false → self.new ≡ self.old }
     {
@@ -41,7 +43,8 @@ impl LinkStation {
         requires short { 0 < out.old.short }
         ensures step { (c : Settings) (before : List (List ℕ)) (t : Side) → FitsSide c self.old before out.old.made t →
             FitsSide c self.new before out.new.made (hears_info c.window ns.number p info.now t).side }
-        ensures packet { (c : Settings) (before : List (List ℕ)) (t : Side) → FitsSide c self.old before out.old.made t →
+        ensures packet { (c : Settings) (before : List (List ℕ)) (t : Side)
+            → FitsSide c self.old before out.old.made t →
             option_copied result ≡ (hears_info c.window ns.number p info.now t).packet }
         ensures sent { SendsInfo self.old self.new out.old out.new }
     {
@@ -56,9 +59,11 @@ impl LinkStation {
     // Whether an I frame of this number is taken. The REJ condition ends with that.
     fn takes(&mut self, ns: Seq) -> bool
         ensures value { (c : Settings) (s : StationState) → FitsStation c self.old s → result ≡ is_taken ns.number s }
-        ensures taken { (c : Settings) (packet : List ℕ) (before made : List (List ℕ)) (t : Side) → FitsSide c self.old before made t → result ≡ true → FitsSide c self.new before made (takes packet t) }
+        ensures taken { (c : Settings) (packet : List ℕ) (before made : List (List ℕ)) (t : Side)
+            → FitsSide c self.old before made t → result ≡ true → FitsSide c self.new before made (takes packet t) }
         ensures outgoing { self.new.outgoing ≡ self.old.outgoing }
-        ensures passed { (c : Settings) (s : StationState) → FitsStation c self.old s → result ≡ false → FitsStation c self.new s }
+        ensures passed { (c : Settings) (s : StationState) → FitsStation c self.old s → result ≡ false
+            → FitsStation c self.new s }
     {
         let busy = self.is_busy();
         if busy {

@@ -1,4 +1,5 @@
-ghost use Rattle.std.specs.Prelude.{◌≡◌, ℕ, ◌+◌, ◌-◌, ◌<◌, ◌≤◌, ◌↔◌, List, [], length, max, vec_len, vec_capacity, Bool, true, false, IfErr, IfSome, OnOk, OnErr, IsOk, IsErrOf};
+ghost use Rattle.std.specs.Prelude.{◌≡◌, ℕ, ◌+◌, ◌-◌, ◌<◌, ◌≤◌, ◌↔◌, List, [], length, max, vec_len, vec_capacity};
+ghost use Rattle.std.specs.Prelude.{Bool, true, false, IfErr, IfSome, OnOk, OnErr, IsOk, IsErrOf};
 ghost use Rattle.x25_link.specs.Error.{RefusesPut};
 ghost use Rattle.x25_link.specs.OrderedLink.{Lists, handed_down};
 
@@ -6,7 +7,8 @@ use crate::error::LinkError;
 
 /// A link that hands packets up in the order in which they were handed down at the other end.
 ///
-/// It means three lists of packets: those handed down, the acknowledged ones, a beginning of these, and those handed up.
+/// It means three lists of packets: those handed down, the acknowledged ones, a beginning of these, and those handed
+/// up.
 pub trait OrderedLink {
     /// What a link stands for.
     ghost State: { Type 0 };
@@ -55,8 +57,8 @@ pub trait OrderedLink {
     fn spare(&self) -> usize
         ensures { result ≡ spares self.now };
 
-    /// Sets memory aside for at least so many calls of `put`, and for no more than these or those before. It changes nothing
-    /// else.
+    /// Sets memory aside for at least so many calls of `put`, and for no more than these or those before. It changes
+    /// nothing else.
     ///
     /// Refused with 70 alone, and only where memory is set aside for fewer.
     fn room(&mut self, count: usize) -> Result<(), LinkError>
@@ -71,7 +73,8 @@ pub trait OrderedLink {
         ensures missing { OnErr result (spares self.old < count) }
         ensures err { OnErr result (self.new ≡ self.old) };
 
-    /// Memory of a packet that is no longer kept, for one of so many octets, where there is some. The link is as before.
+    /// Memory of a packet that is no longer kept, for one of so many octets, where there is some. The link is as
+    /// before.
     fn spent_memory(&mut self, length: usize) -> Option<Vec<u8>>
         ensures same { self.new ≡ self.old }
         ensures empty { IfSome result (λ octets. octets.items ≡ []) }
@@ -79,8 +82,8 @@ pub trait OrderedLink {
 
     /// Hands a packet of at most `limit()` octets down.
     ///
-    /// Refused with 9 where the link isn't up, then with 10 where 256 packets wait, and else with 70 alone, and that only
-    /// where no memory is set aside. An accepted call uses the memory of one `put`, where some is set aside.
+    /// Refused with 9 where the link isn't up, then with 10 where 256 packets wait, and else with 70 alone, and that
+    /// only where no memory is set aside. An accepted call uses the memory of one `put`, where some is set aside.
     fn put(&mut self, packet: Vec<u8>) -> Result<(), LinkError>
         requires { vec_len packet ≤ longest self.old }
         ensures state { (x : State) → fits self.old x → OnOk result (fits self.new (after_put x packet.items)) }
@@ -114,5 +117,6 @@ pub trait OrderedLink {
     ghost few_wait: { (link : Self) (x : State) → fits link x → waits_in x ≤ 256 };
 
     /// Of the packets that don't wait at most 7 aren't acknowledged.
-    ghost few_unacknowledged: { (link : Self) (x : State) → fits link x → length (lists x).given ≤ (lists x).acked + waits_in x + 7 };
+    ghost few_unacknowledged: { (link : Self) (x : State) → fits link x
+        → length (lists x).given ≤ (lists x).acked + waits_in x + 7 };
 }

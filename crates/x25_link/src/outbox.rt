@@ -1,4 +1,5 @@
-ghost use Rattle.std.specs.Prelude.{◌≡◌, ℕ, ◌+◌, ◌-◌, ◌<◌, ◌≤◌, ◌⊎◌, List, [], ◌∷◌, ◌++◌, length, map, max, min, vec_len, vec_capacity, true, false, OnOk, OnErr};
+ghost use Rattle.std.specs.Prelude.{◌≡◌, ℕ, ◌+◌, ◌-◌, ◌<◌, ◌≤◌, ◌⊎◌, List, [], ◌∷◌, ◌++◌, length, map, max, min};
+ghost use Rattle.std.specs.Prelude.{vec_len, vec_capacity, true, false, OnOk, OnErr};
 ghost use Rattle.x25_frame.specs.Frame.{plain, info};
 ghost use Rattle.x25_frame.specs.Spelling.{spelling_of, information_of};
 ghost use Rattle.x25_link.specs.code.Outbox.{ShownOutbox};
@@ -15,8 +16,8 @@ const LONGEST_FRAME: usize = 4103;
 /// The most octets of a frame that carries no packet: those of FRMR.
 const SHORT_FRAME: usize = 7;
 
-/// The most buffers for I frames that stay where no memory is promised. A packet layer sets memory aside for 16 packets, and beside
-/// it a call takes that of 7 I frames.
+/// The most buffers for I frames that stay where no memory is promised. A packet layer sets memory aside for 16
+/// packets, and beside it a call takes that of 7 I frames.
 const MOST_LONG: usize = 32;
 
 /// The most buffers for other frames that stay where no memory is promised: so many one call sends.
@@ -27,8 +28,8 @@ const FRAME_OVERHEAD: usize = 4;
 
 /// Frames that were made, in order, and memory for further ones.
 ///
-/// Memory for I frames and for other frames is set aside apart. A frame that is handed out carries memory that was given back, or
-/// else memory of its own length, wherever that is to be had when it is made.
+/// Memory for I frames and for other frames is set aside apart. A frame that is handed out carries memory that was
+/// given back, or else memory of its own length, wherever that is to be had when it is made.
 #[derive(Drop)]
 pub struct Outbox {
     made: Vec<Vec<u8>>,
@@ -42,7 +43,12 @@ impl Model for Outbox {
 
     ghost Value = { ShownOutbox };
 
-    ghost view = { λ o. record { made = map (λ v. v.items) o.made.items; places = vec_capacity o.made; long = o.long; short = o.short } };
+    ghost view = { λ o. record {
+      made = map (λ v. v.items) o.made.items;
+      places = vec_capacity o.made;
+      long = o.long;
+      short = o.short;
+    } };
 
     ghost invariant = { λ o. vec_len o.made + (o.long + o.short) ≤ vec_capacity o.made };
 }
@@ -81,8 +87,8 @@ impl Outbox {
         self.long.returned()
     }
 
-    /// Sets memory aside for at least so many I frames and other frames. Err: no memory for more than was set aside; as much is set aside as
-    /// before.
+    /// Sets memory aside for at least so many I frames and other frames. Err: no memory for more than was set aside; as
+    /// much is set aside as before.
     #[inline(always)]
     pub fn reserve(&mut self, long: usize, short: usize) -> Result<(), AllocError>
         ensures made { self.new.made ≡ self.old.made }
@@ -160,7 +166,10 @@ impl Outbox {
     pub fn send_packet(&mut self, from: Role, ns: Seq, nr: Seq, packet: &[u8])
         requires ready { 0 < self.old.long }
         requires fits { length packet.now ≤ 4099 }
-        ensures { self.new ≡ record self.old { made = self.old.made ++ spelling_of from (info ns.number nr.number false packet.now) ∷ []; long = self.old.long - 1 } }
+        ensures { self.new ≡ record self.old {
+          made = self.old.made ++ spelling_of from (info ns.number nr.number false packet.now) ∷ [];
+          long = self.old.long - 1;
+        } }
     {
         let octets = self.long.take(packet.len() + FRAME_OVERHEAD);
         let frame = Frame::I {
@@ -177,7 +186,10 @@ impl Outbox {
     pub fn send_short(&mut self, from: Role, frame: &Frame)
         requires ready { 0 < self.old.short }
         requires fits { length (information_of (plain frame.now)) ≤ 3 }
-        ensures { self.new ≡ record self.old { made = self.old.made ++ spelling_of from (plain frame.now) ∷ []; short = self.old.short - 1 } }
+        ensures { self.new ≡ record self.old {
+          made = self.old.made ++ spelling_of from (plain frame.now) ∷ [];
+          short = self.old.short - 1;
+        } }
     {
         let octets = short_memory(&mut self.short, &mut self.long);
         self.made.push_reserved(spelled(from, frame, octets));
@@ -203,7 +215,12 @@ impl Outbox {
     pub fn swap(&mut self, frames: &mut Vec<Vec<u8>>)
         ensures frames { map (λ v. v.items) frames.new.items ≡ self.old.made }
         ensures places { vec_capacity frames.new ≡ self.old.places }
-        ensures made { self.new ≡ record { made = map (λ v. v.items) frames.old.items; places = vec_capacity frames.old; long = 0; short = 0 } }
+        ensures made { self.new ≡ record {
+          made = map (λ v. v.items) frames.old.items;
+          places = vec_capacity frames.old;
+          long = 0;
+          short = 0;
+        } }
     {
         self.long.limit(0);
         self.short.limit(0);

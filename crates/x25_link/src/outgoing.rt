@@ -1,10 +1,13 @@
-ghost use Rattle.std.specs.Prelude.{◌≡◌, ℕ, ◌+◌, ◌%◌, ◌<◌, ◌≤◌, ◌&&◌, nat_lt, max, List, [], ◌∷◌, ◌++◌, length, slice_get, slice_index_or, IfOk, IfErr, IfSome, OnOk, OnErr, MatchOption, vec_capacity, true, false, if◌then◌else◌};
+ghost use Rattle.std.specs.Prelude.{◌≡◌, ℕ, ◌+◌, ◌%◌, ◌<◌, ◌≤◌, ◌&&◌, nat_lt, max, List, [], ◌∷◌, ◌++◌, length};
+ghost use Rattle.std.specs.Prelude.{slice_get, slice_index_or, IfOk, IfErr, IfSome, OnOk, OnErr, MatchOption};
+ghost use Rattle.std.specs.Prelude.{vec_capacity, true, false, if◌then◌else◌};
 ghost use Rattle.x25_window.specs.code.Modulo.{resolved};
 ghost use Rattle.x25_window.specs.Sender.{Sending, acknowledged, moved_on, offered};
 ghost use Rattle.x25_window.specs.code.Held.{Fits, with_item};
 ghost use Rattle.x25_frame.specs.Frame.{info};
 ghost use Rattle.x25_frame.specs.Spelling.{spelling_of};
-ghost use Rattle.x25_link.specs.Outgoing.{Outgoing as OutgoingState, no_packet, added, acknowledged_to, gone_back, is_open, next_packet, waits};
+ghost use Rattle.x25_link.specs.Outgoing.{Outgoing as OutgoingState, no_packet, added, acknowledged_to, gone_back};
+ghost use Rattle.x25_link.specs.Outgoing.{is_open, next_packet, waits};
 ghost use Rattle.x25_link.specs.Outgoing.{moved_on as sent_on};
 
 use crate::error::LinkError;
@@ -19,8 +22,8 @@ use x25_window::{Sender, WindowError};
 /// The most buffers of packets that are kept: so many packets one call of a packet layer puts.
 const MOST_SPENT: usize = 16;
 
-/// The packets handed down that aren't acknowledged: those that were sent, and behind them those that wait. And the memory of some that
-/// were acknowledged, for later ones.
+/// The packets handed down that aren't acknowledged: those that were sent, and behind them those that wait. And the
+/// memory of some that were acknowledged, for later ones.
 #[derive(Drop)]
 pub struct Outgoing {
     pub sender: Sender<Octets>,
@@ -33,7 +36,8 @@ impl Outgoing {
 
     /// No packet, or `None` where the window k isn't 1 to 7. 70 alone.
     pub fn new(alloc: Global, window: u8) -> Result<Option<Outgoing>, LinkError>
-        ensures fits { IfOk result (λ made. MatchOption made (¬ ((1 ≤ window) × (window ≤ 7))) (λ b. FitsOutgoing window b no_packet)) }
+        ensures fits { IfOk result (λ made. MatchOption made
+            (¬ ((1 ≤ window) × (window ≤ 7))) (λ b. FitsOutgoing window b no_packet)) }
         ensures err { IfErr result (λ e. e ≡ LinkError.NoMemory) }
     {
         let Some(sender) = Sender::new(alloc, window)? else {
@@ -93,20 +97,25 @@ impl Outgoing {
         requires { length self.old.queue < 256 }
         ensures queue { length self.new.queue ≡ length self.old.queue + 1 }
         ensures sender { self.new.sender ≡ self.old.sender }
-        ensures state { (k : ℕ) (o : OutgoingState) → FitsOutgoing k self.old o → FitsOutgoing k self.new (added packet o) }
+        ensures state { (k : ℕ) (o : OutgoingState) → FitsOutgoing k self.old o
+            → FitsOutgoing k self.new (added packet o) }
     {
         self.queue.push(packet);
     }
 
-    /// Takes a received N(R), and says how many frames it acknowledges. 7 BadAck where it is none from the first frame that isn't
-    /// acknowledged to V(S) at its highest; nothing changes then.
+    /// Takes a received N(R), and says how many frames it acknowledges. 7 BadAck where it is none from the first frame
+    /// that isn't acknowledged to V(S) at its highest; nothing changes then.
     #[tactic(auto, using(crate::proofs::OutgoingLemmas::sent_length))]
     #[inline(always)]
     pub fn ack(&mut self, nr: Seq) -> Result<u8, WindowError>
-        ensures step { (k : ℕ) (o : OutgoingState) → FitsOutgoing k self.old o → IfOk result (λ count. FitsOutgoing k self.new (acknowledged_to (o.acked + count) o)) }
-        ensures number { (k : ℕ) (o : OutgoingState) → FitsOutgoing k self.old o → IfOk result (λ count. o.acked + count ≡ resolved o.acked nr.number) }
-        ensures within { (k : ℕ) (o : OutgoingState) → FitsOutgoing k self.old o → IfOk result (λ count. o.acked + count ≤ o.sent) }
-        ensures beyond { (k : ℕ) (o : OutgoingState) → FitsOutgoing k self.old o → OnErr result (o.sent < resolved o.acked nr.number) }
+        ensures step { (k : ℕ) (o : OutgoingState) → FitsOutgoing k self.old o
+            → IfOk result (λ count. FitsOutgoing k self.new (acknowledged_to (o.acked + count) o)) }
+        ensures number { (k : ℕ) (o : OutgoingState) → FitsOutgoing k self.old o
+            → IfOk result (λ count. o.acked + count ≡ resolved o.acked nr.number) }
+        ensures within { (k : ℕ) (o : OutgoingState) → FitsOutgoing k self.old o
+            → IfOk result (λ count. o.acked + count ≤ o.sent) }
+        ensures beyond { (k : ℕ) (o : OutgoingState) → FitsOutgoing k self.old o
+            → OnErr result (o.sent < resolved o.acked nr.number) }
         ensures window { window_of self.new ≡ window_of self.old }
         ensures err { OnErr result (self.new ≡ self.old) }
     {
@@ -122,7 +131,8 @@ impl Outgoing {
     #[inline(always)]
     fn release(&mut self, count: u8)
         requires { count ≤ length self.old.sender.items }
-        ensures sender { (w : Sending (List ℕ)) → Fits self.old.sender w → Fits self.new.sender (acknowledged w (w.acked + count)) }
+        ensures sender { (w : Sending (List ℕ)) → Fits self.old.sender w
+            → Fits self.new.sender (acknowledged w (w.acked + count)) }
         ensures queue { self.new.queue ≡ self.old.queue }
         ensures window { window_of self.new ≡ window_of self.old }
     {
@@ -132,8 +142,8 @@ impl Outgoing {
         }
     }
 
-    /// Memory of a packet that was acknowledged, for one of so many octets, where there is some. What is too small for them is let
-    /// go of.
+    /// Memory of a packet that was acknowledged, for one of so many octets, where there is some. What is too small for
+    /// them is let go of.
     pub fn spent_memory(&mut self, length: usize) -> Option<Vec<u8>>
         ensures same { self.new ≡ self.old }
         ensures empty { IfSome result (λ octets. octets.items ≡ []) }
@@ -144,7 +154,8 @@ impl Outgoing {
 
     /// Moves the place to send from back to the first frame that isn't acknowledged.
     pub fn go_back(&mut self)
-        ensures state { (k : ℕ) (o : OutgoingState) → FitsOutgoing k self.old o → FitsOutgoing k self.new (gone_back o) }
+        ensures state { (k : ℕ) (o : OutgoingState) → FitsOutgoing k self.old o
+            → FitsOutgoing k self.new (gone_back o) }
         ensures window { window_of self.new ≡ window_of self.old }
     {
         self.sender.again();
@@ -160,16 +171,21 @@ impl Outgoing {
         self.queue.clear();
     }
 
-    /// As `add` and then `send_next`, where before it nothing may be sent: so where the window is open no packet waits, and this one goes
-    /// at once. It says whether it did.
+    /// As `add` and then `send_next`, where before it nothing may be sent: so where the window is open no packet waits,
+    /// and this one goes at once. It says whether it did.
     #[inline(always)]
     pub fn send_at_once(&mut self, packet: Octets, from: Role, nr: Seq, out: &mut Outbox) -> bool
         requires few { length self.old.queue < 256 }
         requires long { 0 < out.old.long }
-        ensures sent { (k : ℕ) (o : OutgoingState) → FitsOutgoing k self.old o → is_open k o ≡ false → result ≡ is_open k (added packet o) }
-        ensures step { (k : ℕ) (o : OutgoingState) → FitsOutgoing k self.old o → is_open k o ≡ false → FitsOutgoing k self.new (if result then sent_on (added packet o) else added packet o) }
+        ensures sent { (k : ℕ) (o : OutgoingState) → FitsOutgoing k self.old o → is_open k o ≡ false
+            → result ≡ is_open k (added packet o) }
+        ensures step { (k : ℕ) (o : OutgoingState) → FitsOutgoing k self.old o → is_open k o ≡ false
+            → FitsOutgoing k self.new (if result then sent_on (added packet o) else added packet o) }
         ensures made { (k : ℕ) (o : OutgoingState) → FitsOutgoing k self.old o → is_open k o ≡ false →
-            out.new.made ≡ (if result then out.old.made ++ spelling_of from (info (o.place % 8) nr.number false (next_packet (added packet o))) ∷ [] else out.old.made) }
+            out.new.made ≡ (if result
+            then out.old.made
+            ++ spelling_of from (info (o.place % 8) nr.number false (next_packet (added packet o))) ∷ []
+            else out.old.made) }
         ensures queue { length self.new.queue ≤ length self.old.queue + 1 }
         ensures long { out.old.long ≡ (if result then out.new.long + 1 else out.new.long) }
         ensures short { out.new.short ≡ out.old.short }
@@ -188,9 +204,12 @@ impl Outgoing {
     pub fn send_next(&mut self, from: Role, nr: Seq, out: &mut Outbox) -> bool
         requires { before_in self.old < window_of self.old → 0 < out.old.long }
         ensures sent { (k : ℕ) (o : OutgoingState) → FitsOutgoing k self.old o → result ≡ is_open k o }
-        ensures step { (k : ℕ) (o : OutgoingState) → FitsOutgoing k self.old o → FitsOutgoing k self.new (if result then sent_on o else o) }
+        ensures step { (k : ℕ) (o : OutgoingState) → FitsOutgoing k self.old o
+            → FitsOutgoing k self.new (if result then sent_on o else o) }
         ensures made { (k : ℕ) (o : OutgoingState) → FitsOutgoing k self.old o →
-            out.new.made ≡ (if result then out.old.made ++ spelling_of from (info (o.place % 8) nr.number false (next_packet o)) ∷ [] else out.old.made) }
+            out.new.made ≡ (if result
+            then out.old.made ++ spelling_of from (info (o.place % 8) nr.number false (next_packet o)) ∷ []
+            else out.old.made) }
         ensures queue { length self.new.queue ≤ length self.old.queue }
         ensures window { window_of self.new ≡ window_of self.old }
         ensures before { before_in self.new ≡ (if result then before_in self.old + 1 else before_in self.old) }
@@ -221,7 +240,10 @@ fn send_again(sender: &mut Sender<Octets>, from: Role, nr: Seq, out: &mut Outbox
     ensures sent { (w : Sending (List ℕ)) → Fits sender.old w → result ≡ nat_lt w.place (length w.given) }
     ensures step { (w : Sending (List ℕ)) → Fits sender.old w → Fits sender.new (if result then moved_on w else w) }
     ensures made { (w : Sending (List ℕ)) → Fits sender.old w →
-        out.new.made ≡ (if result then out.old.made ++ spelling_of from (info (w.place % 8) nr.number false (slice_index_or w.given w.place [])) ∷ [] else out.old.made) }
+        out.new.made ≡ (if result
+        then out.old.made
+        ++ spelling_of from (info (w.place % 8) nr.number false (slice_index_or w.given w.place [])) ∷ []
+        else out.old.made) }
     ensures held { sender.new ≡ (if result then record sender.old { before = sender.old.before + 1 } else sender.old) }
     ensures last { result ≡ false → sender.old.before ≡ length sender.old.items }
     ensures inside { result ≡ true → sender.old.before < length sender.old.items }
@@ -241,7 +263,8 @@ fn send_again(sender: &mut Sender<Octets>, from: Role, nr: Seq, out: &mut Outbox
 fn send_new(sender: &mut Sender<Octets>, packet: Octets, from: Role, nr: Seq, out: &mut Outbox)
     requires ready { 0 < out.old.long }
     requires open { ¬ (length sender.old.items ≡ sender.old.window) }
-    ensures step { (w : Sending (List ℕ)) → Fits sender.old w → length w.given < w.acked + w.window → Fits sender.new (offered w packet) }
+    ensures step { (w : Sending (List ℕ)) → Fits sender.old w → length w.given < w.acked + w.window
+        → Fits sender.new (offered w packet) }
     ensures made { (w : Sending (List ℕ)) → Fits sender.old w →
         out.new.made ≡ out.old.made ++ spelling_of from (info (length w.given % 8) nr.number false packet) ∷ [] }
     ensures held { sender.new ≡ with_item sender.old packet }

@@ -1,4 +1,5 @@
-ghost use Rattle.std.specs.Prelude.{◌≡◌, ℕ, ◌+◌, ◌-◌, ◌<◌, ◌≤◌, List, [], ◌∷◌, ◌++◌, length, drop, true, IfOk, IfErr, OnOk, OnErr, OnSome, IfSome, MatchOption, slice_get};
+ghost use Rattle.std.specs.Prelude.{◌≡◌, ℕ, ◌+◌, ◌-◌, ◌<◌, ◌≤◌, List, [], ◌∷◌, ◌++◌, length, drop, true, IfOk, IfErr};
+ghost use Rattle.std.specs.Prelude.{OnOk, OnErr, OnSome, IfSome, MatchOption, slice_get};
 ghost use Rattle.x25_link.specs.OrderedLink.{Lists, no_packets, acked_more};
 ghost use Rattle.x25_link.specs.PlainLink.{ShownPlain, FitsPlain};
 
@@ -42,8 +43,10 @@ impl PlainLink {
     #[tactic(auto, using(crate::proofs::ListLemmas::drop_first))]
     pub fn out(&mut self) -> Option<Vec<u8>>
         ensures step { (x : Lists) → FitsPlain self.old x → OnSome result (FitsPlain self.new (acked_more x)) }
-        ensures front { (x : Lists) → FitsPlain self.old x → IfSome result (λ packet. slice_get x.given x.acked ≡ Some packet.items) }
-        ensures value { MatchOption result ((self.old.queue ≡ []) × (self.new ≡ self.old)) (λ packet. (self.old.queue ≡ packet.items ∷ self.new.queue) × (self.new.spare ≡ self.old.spare)) }
+        ensures front { (x : Lists) → FitsPlain self.old x
+            → IfSome result (λ packet. slice_get x.given x.acked ≡ Some packet.items) }
+        ensures value { MatchOption result ((self.old.queue ≡ []) × (self.new ≡ self.old))
+            (λ packet. (self.old.queue ≡ packet.items ∷ self.new.queue) × (self.new.spare ≡ self.old.spare)) }
     {
         let packet = self.queue.pop()?;
         Some(packet.into_vec())

@@ -2,7 +2,9 @@ ghost use Rattle.std.specs.Prelude.{◌≡◌, ℕ, ◌+◌, ◌<◌, ◌≤◌,
 ghost use Rattle.x25_frame.specs.Frame.{plain};
 ghost use Rattle.x25_frame.specs.Spelling.{information_of};
 ghost use Rattle.x25_link.specs.Hearing.{leaves};
-ghost use Rattle.x25_link.specs.Station.{Settings, LinkStation as StationState, Side, is_busy, sends, ready, with_nothing, with_near, fresh, may_send, pumped_once, pumped, finished, ended};
+ghost use Rattle.x25_link.specs.Station.{Settings, LinkStation as StationState, Side, is_busy, sends, ready};
+ghost use Rattle.x25_link.specs.Station.{with_nothing, with_near, fresh, may_send, pumped_once, pumped, finished};
+ghost use Rattle.x25_link.specs.Station.{ended};
 
 use crate::heard::Heard;
 use crate::outbox::Outbox;
@@ -106,7 +108,8 @@ impl LinkStation {
         requires long { window_of self.old.outgoing ≤ out.old.long + before_in self.old.outgoing }
         requires short { 0 < out.old.short }
         ensures step { Leads self.old self.new out.old out.new (λ c t. ended c.window t) }
-        ensures left { (most : ℕ) → most ≤ out.old.long + before_in self.old.outgoing → most ≤ out.old.long + window_of self.old.outgoing →
+        ensures left { (most : ℕ) → most ≤ out.old.long + before_in self.old.outgoing
+            → most ≤ out.old.long + window_of self.old.outgoing →
             most ≤ out.new.long + window_of self.old.outgoing }
         ensures places { out.new.places ≡ out.old.places }
     {
@@ -119,7 +122,8 @@ impl LinkStation {
         requires long { window_of self.old.outgoing ≤ out.old.long + before_in self.old.outgoing }
         ensures step { Leads self.old self.new out.old out.new (λ c t. pumped 7 c.window t) }
         ensures short { out.new.short ≡ out.old.short }
-        ensures left { (most : ℕ) → most ≤ out.old.long + before_in self.old.outgoing → most ≤ out.old.long + window_of self.old.outgoing →
+        ensures left { (most : ℕ) → most ≤ out.old.long + before_in self.old.outgoing
+            → most ≤ out.old.long + window_of self.old.outgoing →
             most ≤ out.new.long + window_of self.old.outgoing }
         ensures places { out.new.places ≡ out.old.places }
     {
@@ -133,7 +137,8 @@ impl LinkStation {
         requires long { window_of self.old.outgoing ≤ out.old.long + before_in self.old.outgoing }
         ensures step { Leads self.old self.new out.old out.new (λ c t. pumped 6 c.window t) }
         ensures short { out.new.short ≡ out.old.short }
-        ensures left { (most : ℕ) → most ≤ out.old.long + before_in self.old.outgoing → most ≤ out.old.long + window_of self.old.outgoing →
+        ensures left { (most : ℕ) → most ≤ out.old.long + before_in self.old.outgoing
+            → most ≤ out.old.long + window_of self.old.outgoing →
             most ≤ out.new.long + window_of self.old.outgoing }
         ensures places { out.new.places ≡ out.old.places }
     {
@@ -154,7 +159,8 @@ impl LinkStation {
         ensures kept { self.new ≡ record self.old { outgoing = self.new.outgoing } }
         ensures queue { length self.new.outgoing.queue ≤ length self.old.outgoing.queue }
         ensures window { window_of self.new.outgoing ≡ window_of self.old.outgoing }
-        ensures before { before_in self.new.outgoing ≡ (if result then before_in self.old.outgoing + 1 else before_in self.old.outgoing) }
+        ensures before { before_in self.new.outgoing
+            ≡ (if result then before_in self.old.outgoing + 1 else before_in self.old.outgoing) }
         ensures used { out.old.long ≡ (if result then out.new.long + 1 else out.new.long) }
         ensures inside { result ≡ true → before_in self.old.outgoing < window_of self.old.outgoing }
         ensures short { out.new.short ≡ out.old.short }
@@ -207,7 +213,8 @@ impl LinkStation {
     /// Leaves Up.
     #[cold]
     pub fn leave<'a>(&mut self, reason: Reason) -> Heard<'a>
-        ensures step { (c : Settings) (before made : List (List ℕ)) (t : Side) → FitsSide c self.old before made t → FitsHeard c self.new before made result (leaves reason t) }
+        ensures step { (c : Settings) (before made : List (List ℕ)) (t : Side) → FitsSide c self.old before made t
+            → FitsHeard c self.new before made result (leaves reason t) }
         ensures window { window_of self.new.outgoing ≡ window_of self.old.outgoing }
     {
         self.clear(Phase::Down);

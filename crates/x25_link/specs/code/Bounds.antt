@@ -24,4 +24,5 @@ TakeSendsFew = (c : Settings) (octets : List ℕ) (s : LinkStation) → length (
 
 -- a packet handed down sends one frame at most, since nothing that may be sent waits between calls
 abbrev pub PutSendsOne : Type 0
-PutSendsOne = (c : Settings) (v : ShownLink) (s : LinkStation) (packet : List ℕ) → FitsLink c v s → length (put_step c packet s).side.out ≤ 1
+PutSendsOne = (c : Settings) (v : ShownLink) (s : LinkStation) (packet : List ℕ) → FitsLink c v s
+    → length (put_step c packet s).side.out ≤ 1

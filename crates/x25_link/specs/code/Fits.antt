@@ -52,7 +52,8 @@ Hears v w had has heard f = (c : Settings) (before : List (List ℕ)) (t : Side)
 
 -- it leads to this side, and makes no frame
 abbrev pub Turns : StationCode → StationCode → (Settings → Side → Side) → Type 0
-Turns v w f = (c : Settings) (before made : List (List ℕ)) (t : Side) → FitsSide c v before made t → FitsSide c w before made (f c t)
+Turns v w f = (c : Settings) (before made : List (List ℕ)) (t : Side) → FitsSide c v before made t
+    → FitsSide c w before made (f c t)
 
 -- ---- the memory that it uses
 

@@ -1,5 +1,6 @@
 -- What contracts see of a link, and the states of the definition that it fits.
-use Rattle.std.specs.Prelude.{◌≡◌, ℕ, ◌+◌, ◌≤◌, max, Bool, List, Option, Result, ◌++◌, length, map, false, option_copied, IfOk, OnOk, OnErr}
+use Rattle.std.specs.Prelude.{◌≡◌, ℕ, ◌+◌, ◌≤◌, max, Bool, List, Option, Result, ◌++◌, length, map, false}
+use Rattle.std.specs.Prelude.{option_copied, IfOk, OnOk, OnErr}
 use Rattle.x25_frame.specs.Spelling.{spelling_of}
 use Rattle.x25_link.specs.declared.error.LinkError.{LinkError}
 use Rattle.x25_link.specs.declared.heard.Heard.{Heard}
@@ -12,7 +13,8 @@ use Rattle.x25_link.specs.Hearing.{Step}
 use Rattle.x25_link.specs.Link.{Refuses, put_step}
 use Rattle.x25_link.specs.code.Fits.{FitsStation, Made}
 
--- the variables of the station, and the frames that `swap_frames` will hand out, with the memory set aside for further ones
+-- the variables of the station, and the frames that `swap_frames` will hand out, with the memory set aside for further
+-- ones
 pub record ShownLink : Type 0 where
   pub station : StationCode
   pub outbox : ShownOutbox
@@ -38,10 +40,10 @@ pub record IsHeard (heard : Heard) (step : Step) : Type 0 where
   pub packet : option_copied heard.packet ≡ step.packet
   pub notes : heard.notes ≡ step.notes
 
--- A call is refused as the definition says, or does its step. Of each state that the link stood for it leaves that step's, and what is heard
--- is that step's; its frames, nine at most, stand behind those that `swap_frames` will hand out. The memory that is set aside for calls of `put`
--- stays, and the list of the frames has places for no more than it keeps, that memory and nine further frames, or as many as before. Where it is
--- refused the link is as before.
+-- A call is refused as the definition says, or does its step. Of each state that the link stood for it leaves that
+-- step's, and what is heard is that step's; its frames, nine at most, stand behind those that `swap_frames` will hand
+-- out. The memory that is set aside for calls of `put` stays, and the list of the frames has places for no more than it
+-- keeps, that memory and nine further frames, or as many as before. Where it is refused the link is as before.
 pub record Does (old new : ShownLink) (result : Result Heard LinkError) (refusal : LinkStation → Option LinkError)
     (step : Settings → LinkStation → Step) : Type 0 where
   pub state : (c : Settings) (s : LinkStation) → FitsLink c old s → OnOk result (FitsLink c new (step c s).side.near)
@@ -51,7 +53,8 @@ pub record Does (old new : ShownLink) (result : Result Heard LinkError) (refusal
   pub few : (c : Settings) (s : LinkStation) → FitsLink c old s → length new.outbox.made ≤ length old.outbox.made + 9
   pub refused : (c : Settings) (s : LinkStation) → FitsLink c old s → Refuses (refusal s) result
   pub promised : new.outbox.long ≡ old.outbox.long
-  pub places : new.outbox.places ≤ max old.outbox.places (length old.outbox.made + (old.outbox.long + 7 + max old.outbox.short 2))
+  pub places : new.outbox.places ≤ max old.outbox.places
+      (length old.outbox.made + (old.outbox.long + 7 + max old.outbox.short 2))
   pub err : OnErr result (new ≡ old)
 
 -- ---- a link as one that keeps order
@@ -79,4 +82,8 @@ up_at x = is_up x.station.phase
 abbrev pub after_put_to : LinkState → List ℕ → LinkState
 after_put_to x packet =
     let step = put_step x.settings packet x.station in
-    record { settings = x.settings; station = step.side.near; kept = x.kept ++ map (spelling_of x.settings.role) step.side.out }
+    record {
+      settings = x.settings;
+      station = step.side.near;
+      kept = x.kept ++ map (spelling_of x.settings.role) step.side.out;
+    }

@@ -1,7 +1,8 @@
--- What a station asks when timer T1 runs out, and how each numbered frame is answered: a poll by F=1 first, F=1 by what isn't
--- acknowledged from the first on, and the I frame that is wanted by a frame with the new N(R). ITU-T X.25 (10/96), sections 2.4.5
--- and 2.4.6.
-use Rattle.std.specs.Prelude.{◌≡◌, ℕ, ◌+◌, ◌-◌, ◌*◌, ◌%◌, ◌<◌, ◌≤◌, max, ◌==◌, Bool, true, false, not, if◌then◌else◌, List, [], ◌∷◌, ◌++◌, length, Some, None, Ok}
+-- What a station asks when timer T1 runs out, and how each numbered frame is answered: a poll by F=1 first, F=1 by what
+-- isn't acknowledged from the first on, and the I frame that is wanted by a frame with the new N(R). ITU-T X.25
+-- (10/96), sections 2.4.5 and 2.4.6.
+use Rattle.std.specs.Prelude.{◌≡◌, ℕ, ◌+◌, ◌-◌, ◌*◌, ◌%◌, ◌<◌, ◌≤◌, max, ◌==◌, Bool, true, false, not, if◌then◌else◌}
+use Rattle.std.specs.Prelude.{List, [], ◌∷◌, ◌++◌, length, Some, None, Ok}
 use Rattle.x25_frame.specs.Frame.{PlainFrame, info, rr, rnr, rej, dm}
 use Rattle.x25_frame.specs.Reading.{frame_of}
 use Rattle.x25_window.specs.code.Modulo.{resolved}
@@ -16,15 +17,16 @@ abbrev pub says : Bool → Bool → ℕ → Bool → PlainFrame
 says false command nr pf = rr command nr pf
 says true command nr pf = rnr command nr pf
 
--- what the sending rule sends: the I frames of the numbers from n up to m, with P=0, and RR responses with F=0, each with N(R) r
+-- what the sending rule sends: the I frames of the numbers from n up to m, with P=0, and RR responses with F=0, each
+-- with N(R) r
 abbrev pub AreNext : ℕ → ℕ → List PlainFrame → ℕ → Type 0
 AreNext r n [] m = n ≡ m
 AreNext r n (info ns nr p packet ∷ frames) m = (ns ≡ n % 8) × (nr ≡ r % 8) × (p ≡ false) × AreNext r (n + 1) frames m
 AreNext r n (rr command nr pf ∷ frames) m = (command ≡ false) × (nr ≡ r % 8) × (pf ≡ false) × AreNext r n frames m
 AreNext r n (frame ∷ frames) m = ⊥
 
--- What such frames weigh, an I frame 3 and any other 1, so that a packet that is still to be sent, at 4, outweighs its frame; and an RNR that is still to be
--- ended.
+-- What such frames weigh, an I frame 3 and any other 1, so that a packet that is still to be sent, at 4, outweighs its
+-- frame; and an RNR that is still to be ended.
 abbrev pub weight_of : List PlainFrame → ℕ
 weight_of [] = 0
 weight_of (info ns nr p packet ∷ frames) = 3 + weight_of frames
@@ -34,8 +36,9 @@ abbrev pub weight_if : Bool → ℕ
 weight_if true = 1
 weight_if false = 0
 
--- What a step makes of a station: `recovery`, `peer_busy` and the tries; the packets handed up; all below `acked` are acknowledged; `first`
--- is sent, by which RNR was said last or not (`said_busy`), and then the I frames from `place` on, none in recovery, and RR only to end an RNR.
+-- What a step makes of a station: `recovery`, `peer_busy` and the tries; the packets handed up; all below `acked` are
+-- acknowledged; `first` is sent, by which RNR was said last or not (`said_busy`), and then the I frames from `place`
+-- on, none in recovery, and RR only to end an RNR.
 pub record Outcome : Type 0 where
   pub recovery : Bool
   pub peer_busy : Bool
@@ -58,7 +61,8 @@ pub record Answers (s : LinkStation) (o : Outcome) (step : Step) : Type 0 where
   pub out : step.side.out ≡ o.first ++ next
   pub sends : AreNext (length o.taken) o.place next step.side.near.outgoing.place
   pub held : o.recovery ≡ true → step.side.near.outgoing.place ≡ o.place
-  pub light : weight_of next + 4 * (length s.outgoing.given - step.side.near.outgoing.place) + weight_if step.side.near.said_busy ≤ 4 * (length s.outgoing.given - o.place) + weight_if o.said_busy
+  pub light : weight_of next + 4 * (length s.outgoing.given - step.side.near.outgoing.place)
+      + weight_if step.side.near.said_busy ≤ 4 * (length s.outgoing.given - o.place) + weight_if o.said_busy
   pub quiet : step.notes ≡ record { down = None; up = false }
 
 -- ---- timer T1 (section 2.4.5.9)
@@ -97,25 +101,33 @@ goes_on_from nr s = record {
 
 -- octets that spell this frame, with a valid N(R), come while the station is Up
 abbrev pub Hears : ℕ → PlainFrame → (LinkStation → Step → Type 0) → Type 0
-Hears nr frame Then = (c : Settings) (octets : List ℕ) (s : LinkStation) → s.phase ≡ Up → frame_of (other c.role) c.longest octets ≡ Ok frame → is_valid nr s ≡ true → Then s (take_step c octets s)
+Hears nr frame Then = (c : Settings) (octets : List ℕ) (s : LinkStation) → s.phase ≡ Up
+    → frame_of (other c.role) c.longest octets ≡ Ok frame → is_valid nr s ≡ true → Then s (take_step c octets s)
 
 -- A poll: the first answer is RR or RNR with F=1 and V(R) (section 2.4.5.9).
 abbrev pub PollIsAnswered : Type 0
 PollIsAnswered = (busy : Bool) (nr : ℕ) → Hears nr (says busy true nr true)
-    (λ s step. Answers s (record (goes_on_from nr s) { peer_busy = busy; said_busy = is_busy s; first = says (is_busy s) false (wanted s) true ∷ [] }) step)
+    (λ s step. Answers s (record (goes_on_from nr s) {
+      peer_busy = busy;
+      said_busy = is_busy s;
+      first = says (is_busy s) false (wanted s) true ∷ [];
+    }) step)
 
 -- F=1 ends recovery, and what isn't acknowledged goes again, from the first on (section 2.4.5.9).
 abbrev pub FinalEndsRecovery : Type 0
 FinalEndsRecovery = (busy : Bool) (nr : ℕ) → Hears nr (says busy false nr true)
-    (λ s step. Answers s (record (goes_on_from nr s) { recovery = false; peer_busy = busy; tries = 0; place = heard nr s }) step)
+    (λ s step. Answers s
+    (record (goes_on_from nr s) { recovery = false; peer_busy = busy; tries = 0; place = heard nr s }) step)
 
 -- RR or RNR that neither asks nor answers tells the peer's condition (sections 2.4.5.5 and 2.4.5.7)
 abbrev pub ReadyIsHeard : Type 0
-ReadyIsHeard = (busy command : Bool) (nr : ℕ) → Hears nr (says busy command nr false) (λ s step. Answers s (record (goes_on_from nr s) { peer_busy = busy }) step)
+ReadyIsHeard = (busy command : Bool) (nr : ℕ)
+    → Hears nr (says busy command nr false) (λ s step. Answers s (record (goes_on_from nr s) { peer_busy = busy }) step)
 
 -- REJ: what isn't acknowledged goes again, from the first on (section 2.4.5.6)
 abbrev pub RejGoesBack : Type 0
-RejGoesBack = (command : Bool) (nr : ℕ) → Hears nr (rej command nr false) (λ s step. Answers s (record (goes_on_from nr s) { peer_busy = false; place = heard nr s }) step)
+RejGoesBack = (command : Bool) (nr : ℕ) → Hears nr (rej command nr false)
+    (λ s step. Answers s (record (goes_on_from nr s) { peer_busy = false; place = heard nr s }) step)
 
 -- ---- I frames
 
@@ -157,7 +169,8 @@ busy_after p s = if is_busy s then true else if not s.rejecting then s.said_busy
 
 abbrev pub OtherIsPassedOver : Type 0
 OtherIsPassedOver = (ns nr : ℕ) (p : Bool) (packet : List ℕ) → Hears nr (info ns nr p packet)
-    (λ s step. is_taken ns s ≡ false → Answers s (record (goes_on_from nr s) { said_busy = busy_after p s; first = passed_over p s }) step)
+    (λ s step. is_taken ns s ≡ false
+    → Answers s (record (goes_on_from nr s) { said_busy = busy_after p s; first = passed_over p s }) step)
 
 -- ---- stations that are out
 
@@ -176,12 +189,14 @@ pub record Declines (s : LinkStation) (step : Step) : Type 0 where
   pub quiet : step.notes ≡ record { down = None; up = false }
 
 abbrev pub OutDeclines : Type 0
-OutDeclines = (c : Settings) (octets : List ℕ) (s : LinkStation) → IsOut s.phase → (frame : PlainFrame) → frame_of (other c.role) c.longest octets ≡ Ok frame → asks frame ≡ true
+OutDeclines = (c : Settings) (octets : List ℕ) (s : LinkStation) → IsOut s.phase → (frame : PlainFrame)
+    → frame_of (other c.role) c.longest octets ≡ Ok frame → asks frame ≡ true
     → Declines s (take_step c octets s)
 
 -- DM takes Up away, and nothing is sent
 abbrev pub DmLeavesUp : Type 0
-DmLeavesUp = (c : Settings) (octets : List ℕ) (s : LinkStation) → s.phase ≡ Up → (f : Bool) → frame_of (other c.role) c.longest octets ≡ Ok (dm f)
+DmLeavesUp = (c : Settings) (octets : List ℕ) (s : LinkStation) → s.phase ≡ Up → (f : Bool)
+    → frame_of (other c.role) c.longest octets ≡ Ok (dm f)
     → (let step : Step = take_step c octets s in (step.side.near ≡ with_nothing Down s.tries) × (step.side.out ≡ []))
 
 -- the laws together

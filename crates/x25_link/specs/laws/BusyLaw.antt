@@ -1,5 +1,5 @@
--- What a station says of whether it is busy, and what it doesn't send to a peer that is. ITU-T X.25 (10/96), sections 2.4.5.5, 2.4.5.7
--- and 2.4.5.8.
+-- What a station says of whether it is busy, and what it doesn't send to a peer that is. ITU-T X.25 (10/96), sections
+-- 2.4.5.5, 2.4.5.7 and 2.4.5.8.
 use Rattle.std.specs.Prelude.{◌≡◌, Bool, true, false, List, [], ◌∷◌, ℕ}
 use Rattle.x25_frame.specs.Frame.{PlainFrame, info, rr, rnr, rej}
 use Rattle.x25_link.specs.Station.{Settings, LinkStation, is_up, is_busy}
@@ -33,16 +33,19 @@ pub record Says (before now busy peer_busy : Bool) (out : List PlainFrame) : Typ
   pub held : peer_busy ≡ true → NoInfo out
 
 abbrev pub SaysWhetherBusy : LinkStation → Step → Type 0
-SaysWhetherBusy s step = Says s.said_busy step.side.near.said_busy (is_busy step.side.near) step.side.near.peer_busy step.side.out
+SaysWhetherBusy s step =
+    Says s.said_busy step.side.near.said_busy (is_busy step.side.near) step.side.near.peer_busy step.side.out
 
 abbrev pub TakeSaysBusy : Type 0
-TakeSaysBusy = (c : Settings) (octets : List ℕ) (s : LinkStation) → is_up s.phase ≡ true → IsQuiet (take_step c octets s) → SaysWhetherBusy s (take_step c octets s)
+TakeSaysBusy = (c : Settings) (octets : List ℕ) (s : LinkStation) → is_up s.phase ≡ true
+    → IsQuiet (take_step c octets s) → SaysWhetherBusy s (take_step c octets s)
 
 abbrev pub PutSaysBusy : Type 0
 PutSaysBusy = (c : Settings) (packet : List ℕ) (s : LinkStation) → SaysWhetherBusy s (put_step c packet s)
 
 abbrev pub TimerSaysBusy : Type 0
-TimerSaysBusy = (c : Settings) (s : LinkStation) → is_up s.phase ≡ true → IsQuiet (timer_step c s) → SaysWhetherBusy s (timer_step c s)
+TimerSaysBusy = (c : Settings) (s : LinkStation) → is_up s.phase ≡ true → IsQuiet (timer_step c s)
+    → SaysWhetherBusy s (timer_step c s)
 
 -- the laws together
 pub record BusyLaws : Type 0 where

@@ -13,13 +13,15 @@ use Rattle.x25_link.specs.laws.SetUp.{reset_from}
 abbrev pub IsQuiet : Step → Type 0
 IsQuiet step = step.notes ≡ record { down = None; up = false }
 
--- LinkUp: the link begins afresh, and a link that was up went down before. LinkDown alone: it isn't up, and its lists are
--- empty. Nothing noted: it is up or not as before, and where it isn't, empty lists stay empty.
+-- LinkUp: the link begins afresh, and a link that was up went down before. LinkDown alone: it isn't up, and its lists
+-- are empty. Nothing noted: it is up or not as before, and where it isn't, empty lists stay empty.
 pub record Tells (s : LinkStation) (step : Step) : Type 0 where
   pub fresh_up : step.notes.up ≡ true → step.side.near ≡ fresh
   pub after_down : step.notes.up ≡ true → step.notes.down ≡ reset_from s.phase
-  pub left : (reason : Reason) → step.notes.down ≡ Some reason → step.notes.up ≡ false → is_up step.side.near.phase ≡ false
-  pub dropped : (reason : Reason) → step.notes.down ≡ Some reason → step.notes.up ≡ false → lists_of step.side.near ≡ no_packets
+  pub left : (reason : Reason) → step.notes.down ≡ Some reason → step.notes.up ≡ false
+      → is_up step.side.near.phase ≡ false
+  pub dropped : (reason : Reason) → step.notes.down ≡ Some reason → step.notes.up ≡ false
+      → lists_of step.side.near ≡ no_packets
   pub stays : IsQuiet step → is_up step.side.near.phase ≡ is_up s.phase
   pub empty : IsQuiet step → is_up s.phase ≡ false → lists_of s ≡ no_packets → lists_of step.side.near ≡ no_packets
 

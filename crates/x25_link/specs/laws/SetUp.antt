@@ -1,5 +1,6 @@
 -- What a station does in set-up: connect, SABM and UA, and what comes while UA is awaited (section 2.4.4.1).
-use Rattle.std.specs.Prelude.{◌≡◌, ℕ, suc, nat_lt, Bool, true, false, if◌then◌else◌, List, [], ◌∷◌, Option, Some, None, Result, Ok, Err}
+use Rattle.std.specs.Prelude.{◌≡◌, ℕ, suc, nat_lt, Bool, true, false, if◌then◌else◌, List, [], ◌∷◌, Option, Some, None}
+use Rattle.std.specs.Prelude.{Result, Ok, Err}
 use Rattle.x25_frame.specs.Frame.{PlainFrame, sabm, disc, ua, dm}
 use Rattle.x25_frame.specs.Reading.{frame_of}
 use Rattle.x25_frame.specs.declared.error.FrameError.{FrameError}
@@ -12,7 +13,8 @@ use Rattle.x25_link.specs.Hearing.{Step, other}
 use Rattle.x25_link.specs.Link.{take_step, timer_step, connect_step, disconnect_step}
 
 -- the station after a step, what was sent, and whether the link went down and up; nothing is handed up
-pub record Is (station : LinkStation) (frames : List PlainFrame) (ends : Option Reason) (begins : Bool) (step : Step) : Type 0 where
+pub record Is (station : LinkStation) (frames : List PlainFrame) (ends : Option Reason) (begins : Bool)
+    (step : Step) : Type 0 where
   pub near : step.side.near ≡ station
   pub out : step.side.out ≡ frames
   pub packet : step.packet ≡ None
@@ -38,7 +40,8 @@ waiting_up (Ok frame) = false
 waiting_up (Err e) = false
 
 abbrev pub TakeWaits : Type 0
-TakeWaits = (c : Settings) (octets : List ℕ) (s : LinkStation) → s.phase ≡ Waiting → (read : Result PlainFrame FrameError) → read ≡ frame_of (other c.role) c.longest octets →
+TakeWaits = (c : Settings) (octets : List ℕ) (s : LinkStation) → s.phase ≡ Waiting
+    → (read : Result PlainFrame FrameError) → read ≡ frame_of (other c.role) c.longest octets →
     Is (waiting_after read s) (waiting_sends read) None (waiting_up read) (take_step c octets s)
 
 -- ---- SABM in Down and in Up
@@ -55,21 +58,25 @@ reset_from Up = Some Reset
 reset_from phase = None
 
 abbrev pub TakeSetsUp : Type 0
-TakeSetsUp = (c : Settings) (octets : List ℕ) (s : LinkStation) → TakesPart s.phase → (p : Bool) → frame_of (other c.role) c.longest octets ≡ Ok (sabm p) →
+TakeSetsUp = (c : Settings) (octets : List ℕ) (s : LinkStation) → TakesPart s.phase → (p : Bool)
+    → frame_of (other c.role) c.longest octets ≡ Ok (sabm p) →
     Is fresh (ua p ∷ []) (reset_from s.phase) true (take_step c octets s)
 
 -- ---- connect, timer T1 and disconnect
 
 abbrev pub ConnectWaits : Type 0
-ConnectWaits = (c : Settings) (s : LinkStation) → s.phase ≡ Down → Is (record s { phase = Waiting; tries = 0 }) (sabm true ∷ []) None false (connect_step c s)
+ConnectWaits = (c : Settings) (s : LinkStation) → s.phase ≡ Down
+    → Is (record s { phase = Waiting; tries = 0 }) (sabm true ∷ []) None false (connect_step c s)
 
 abbrev pub TimerWaits : Type 0
 TimerWaits = (c : Settings) (s : LinkStation) → s.phase ≡ Waiting →
-    Is (if nat_lt s.tries c.retries then record s { tries = suc s.tries } else with_nothing Down s.tries) (if nat_lt s.tries c.retries then sabm true ∷ [] else [])
+    Is (if nat_lt s.tries c.retries then record s { tries = suc s.tries } else with_nothing Down s.tries)
+    (if nat_lt s.tries c.retries then sabm true ∷ [] else [])
     (if nat_lt s.tries c.retries then None else Some Retries) false (timer_step c s)
 
 abbrev pub DisconnectWaits : Type 0
-DisconnectWaits = (c : Settings) (s : LinkStation) → s.phase ≡ Waiting → Is (with_nothing Closed s.tries) (disc true ∷ []) None false (disconnect_step c s)
+DisconnectWaits = (c : Settings) (s : LinkStation) → s.phase ≡ Waiting
+    → Is (with_nothing Closed s.tries) (disc true ∷ []) None false (disconnect_step c s)
 
 -- the laws together
 pub record SetUpLaws : Type 0 where

@@ -1,10 +1,12 @@
 -- Each step of a station that is Up: what it hears and hands up, and after that what it sends; exactly when Up is left,
 -- and with which frames; and that a station that is out stays out.
-use Rattle.std.specs.Prelude.{◌≡◌, ℕ, ◌+◌, ◌%◌, ◌≤◌, nat_le, nat_lt, Bool, true, false, if◌then◌else◌, List, [], ◌∷◌, length, Option, Some, None, Result, Ok, Err}
+use Rattle.std.specs.Prelude.{◌≡◌, ℕ, ◌+◌, ◌%◌, ◌≤◌, nat_le, nat_lt, Bool, true, false, if◌then◌else◌, List, [], ◌∷◌}
+use Rattle.std.specs.Prelude.{length, Option, Some, None, Result, Ok, Err}
 use Rattle.x25_frame.specs.Frame.{PlainFrame, info, rr, rnr, rej, sabm, disc, ua, dm, frmr}
 use Rattle.x25_frame.specs.Reading.{frame_of}
 use Rattle.x25_frame.specs.declared.error.FrameError.{FrameError}
-use Rattle.x25_frame.specs.declared.error.FrameError.TheVariants.{Short, BadFcs, BadAddress, Undefined, NoInfoAllowed, TooLong}
+use Rattle.x25_frame.specs.declared.error.FrameError.TheVariants.{Short, BadFcs, BadAddress, Undefined, NoInfoAllowed}
+use Rattle.x25_frame.specs.declared.error.FrameError.TheVariants.{TooLong}
 use Rattle.x25_window.specs.code.Modulo.{resolved}
 use Rattle.x25_link.specs.declared.phase.Phase.{Phase}
 use Rattle.x25_link.specs.declared.phase.Phase.TheVariants.{Down, Waiting, Up, Closed}
@@ -150,14 +152,17 @@ Follows None k input s step = Stays k input s step
 Follows (Some reason) k input s step = Ends reason step
 
 abbrev pub TakeFollows : Type 0
-TakeFollows = (c : Settings) (octets : List ℕ) (s : LinkStation) → IsRunning c.window s → (read : Result PlainFrame FrameError) → read ≡ frame_of (other c.role) c.longest octets →
+TakeFollows = (c : Settings) (octets : List ℕ) (s : LinkStation) → IsRunning c.window s
+    → (read : Result PlainFrame FrameError) → read ≡ frame_of (other c.role) c.longest octets →
     Follows (ending_of read (window_of c.window s)) c.window (brought_by read) s (take_step c octets s)
 
 abbrev pub PutFollows : Type 0
-PutFollows = (c : Settings) (packet : List ℕ) (s : LinkStation) → IsRunning c.window s → Stays c.window (hands_down packet) s (put_step c packet s)
+PutFollows = (c : Settings) (packet : List ℕ) (s : LinkStation) → IsRunning c.window s
+    → Stays c.window (hands_down packet) s (put_step c packet s)
 
 abbrev pub TimerFollows : Type 0
-TimerFollows = (c : Settings) (s : LinkStation) → IsRunning c.window s → Follows (if nat_lt s.tries c.retries then None else Some Retries) c.window nothing s (timer_step c s)
+TimerFollows = (c : Settings) (s : LinkStation) → IsRunning c.window s
+    → Follows (if nat_lt s.tries c.retries then None else Some Retries) c.window nothing s (timer_step c s)
 
 abbrev pub DisconnectFollows : Type 0
 DisconnectFollows = (c : Settings) (s : LinkStation) → IsRunning c.window s → Ends Local (disconnect_step c s)
@@ -192,7 +197,8 @@ pub record StaysOut (step : Step) : Type 0 where
   pub quiet : step.notes ≡ record { down = None; up = false }
 
 abbrev pub TakeStaysOut : Type 0
-TakeStaysOut = (c : Settings) (octets : List ℕ) (s : LinkStation) → IsOut s.phase → sets_up (frame_of (other c.role) c.longest octets) ≡ false →
+TakeStaysOut = (c : Settings) (octets : List ℕ) (s : LinkStation) → IsOut s.phase
+    → sets_up (frame_of (other c.role) c.longest octets) ≡ false →
     StaysOut (take_step c octets s)
 
 -- DISC alone is sent

@@ -6,8 +6,10 @@ use crate::link::Link;
 use crate::ordered_link::OrderedLink;
 
 impl OrderedLink for Link {
-    ghost use Rattle.x25_link.specs.code.FitsLink.{LinkState, FitsWhole, lists_in, waits_of, up_at, after_put_to, limit_of, up_of, waiting_of};
-    ghost use Rattle.x25_link.specs.laws.LinkLaws.{put_adds, acked_low, link_waits, link_up, put_stays_up, link_few, link_close};
+    ghost use Rattle.x25_link.specs.code.FitsLink.{LinkState, FitsWhole, lists_in, waits_of, up_at, after_put_to};
+    ghost use Rattle.x25_link.specs.code.FitsLink.{limit_of, up_of, waiting_of};
+    ghost use Rattle.x25_link.specs.laws.LinkLaws.{put_adds, acked_low, link_waits, link_up, put_stays_up, link_few};
+    ghost use Rattle.x25_link.specs.laws.LinkLaws.{link_close};
 
     ghost State = { LinkState };
 
