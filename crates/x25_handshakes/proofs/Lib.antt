@@ -39,3 +39,6 @@ pub mod PeerRuns
 pub mod PeerLayerLemmas
 pub mod PeerLayerRuns
 pub mod PeerRowLemmas
+pub mod LayerPeers
+pub mod LayerPeerCalls
+pub mod LayerPeerRuns
