@@ -11,6 +11,7 @@ pub mod LineLemmas
 pub mod PartLemmas
 pub mod ToldLemmas
 pub mod StretchLemmas
+pub mod OwnTransferLemmas
 pub mod TransferLemmas
 pub mod OwnCallLemmas
 pub mod CallLemmas
