@@ -31,7 +31,7 @@ TalksRelated-fresh t b sound sound_back = record { there = refl; back = refl; so
 GoodTalk-takes : (t b : Terms) (x : At Stretch) (u : List Packet) (p : Packet) (v : List Packet) (t₂ b₂ : Terms) (y : At Stretch) → TalksRelated t b x u (p ∷ v) t₂ b₂ y
     → GoodTalk t b (transfer_takes b.size x p) u v t₂ b₂ y
 GoodTalk-takes t b x u p v t₂ b₂ y h =
-    let good : GoodTransfer t b (transfer_takes b.size x p) u v y = GoodTransfer-takes t b h.sound_back x u p v y h.related in
+    let good : GoodTransfer t b (transfer_takes b.size x p) u v y = GoodTransfer-takes t b h.sound h.sound_back x u p v y h.related in
     record { quiet = good.quiet; kept = record { there = h.there; back = h.back; sound = h.sound; sound_back = h.sound_back; related = good.kept } }
 
 GoodTalk-acts : (t b : Terms) (x : At Stretch) (u v : List Packet) (t₂ b₂ : Terms) (y : At Stretch) (act : TransferAct) → TalksRelated t b x u v t₂ b₂ y

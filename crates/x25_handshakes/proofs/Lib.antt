@@ -11,6 +11,7 @@ pub mod LineLemmas
 pub mod PartLemmas
 pub mod ToldLemmas
 pub mod StretchLemmas
+pub mod OwnTransferLemmas
 pub mod TransferLemmas
 pub mod OwnCallLemmas
 pub mod CallLemmas
@@ -39,3 +40,6 @@ pub mod PeerRuns
 pub mod PeerLayerLemmas
 pub mod PeerLayerRuns
 pub mod PeerRowLemmas
+pub mod LayerPeers
+pub mod LayerPeerCalls
+pub mod LayerPeerRuns

@@ -42,7 +42,7 @@ dte_talks : DteTalks PeerTalks fresh_peer_transfer
 dte_talks = record {
   fresh = PeerTalks-fresh;
   takes = λ t b x u p v t₂ b₂ y h.
-      (let good : GoodTransfer t b.size (transfer_takes b.size x p) u v y = GoodTransfer-takes t b.size x u p v y h.related in
+      (let good : GoodTransfer t b.size (transfer_takes b.size x p) u v y = GoodTransfer-takes t b.size h.sound.size x u p v y h.related in
       record { quiet = good.quiet; kept = PeerTalks-next t b x _ u _ _ _ t₂ b₂ y _ h good.kept });
   acts = λ t b x u v t₂ b₂ y act h.
       (let good : GoodTransfer t b.size (transfer_acts t x act) u v y = GoodTransfer-acts t b.size h.sound.size x u v y act h.related in
@@ -53,7 +53,7 @@ dce_talks : DceTalks TalksPeer fresh_peer_transfer
 dce_talks = record {
   fresh = λ t b sound sound_back. PeerTalks-fresh b t sound_back sound;
   takes = λ t b y u p v t₂ b₂ x h.
-      (let good : GoodTransfer t₂ b₂.size (transfer_takes b₂.size x p) v u y = GoodTransfer-takes t₂ b₂.size x v p u y h.related in
+      (let good : GoodTransfer t₂ b₂.size (transfer_takes b₂.size x p) v u y = GoodTransfer-takes t₂ b₂.size h.sound.size x v p u y h.related in
       record { quiet = good.quiet; kept = PeerTalks-next t₂ b₂ x _ v _ _ _ t b y _ h good.kept });
   acts = λ t b y u v t₂ b₂ x act h.
       (let good : GoodTransfer t₂ b₂.size (transfer_acts t₂ x act) v u y = GoodTransfer-acts t₂ b₂.size h.sound.size x v u y act h.related in

@@ -23,7 +23,7 @@ happens_holds : (t : Terms) (size : ℕ) → t.window ≤ 7 → 1 ≤ t.size →
 happens_holds t size small one w v (Acts act) h = stepped_holds t size w w.back (transfer_acts t w.near act) h.quiet (GoodTransfer-acts t size one w.near w.out w.back w.peer act h.kept)
 happens_holds t size small one w v (Takes packet rest is) h =
     stepped_holds t size w rest (transfer_takes size w.near packet) h.quiet
-    (GoodTransfer-takes t size w.near w.out packet rest w.peer (subst (λ (l : List Packet). KeptTransfer t size w.near w.out l w.peer) is h.kept))
+    (GoodTransfer-takes t size one w.near w.out packet rest w.peer (subst (λ (l : List Packet). KeptTransfer t size w.near w.out l w.peer) is h.kept))
 happens_holds t size small one w v (Does deed may) h = record { quiet = h.quiet; kept = done_kept t size small w.near w.out w.back w.peer.epoch w.peer.side deed may h.kept }
 happens_holds t size small one w v (Hears packet rest is) h =
     record { quiet = h.quiet; kept = takes_kept t size w.near packet rest w.back w.peer.epoch w.peer.side (subst (λ (l : List Packet). KeptTransfer t size w.near l w.back w.peer) is h.kept) }

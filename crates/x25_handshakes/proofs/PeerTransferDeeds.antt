@@ -13,7 +13,7 @@ use Rattle.x25_handshakes.proofs.HandshakeLemmas.{request_live, request_skips, c
 use Rattle.x25_handshakes.proofs.PeerRelation.{Kept, Kept-start}
 use Rattle.x25_handshakes.proofs.PeerDeeds.{does_kept, taking_kept}
 use Rattle.x25_handshakes.proofs.PeerTransferActs.{peer_level, KeptTransfer}
-use Rattle.x25_handshakes.proofs.TransferLemmas.{inner_mark, in_transfer, AllInTransfer-append}
+use Rattle.x25_handshakes.proofs.OwnTransferLemmas.{inner_mark, in_transfer, AllInTransfer-append}
 
 open_deed : (y : PeerStretch) (d : Deed) → InFlowControl (packet_of y d)
 open_deed y (Sends p n) = tt

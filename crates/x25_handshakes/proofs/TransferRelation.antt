@@ -12,8 +12,12 @@ reset_mark Reset = Request
 reset_mark ResetConf = Confirm
 reset_mark other = Inner
 
+-- our own circuit and the other end, of whatever kind: R is kept in a stretch, and y₀ is the other end as one begins
+abbrev pub own_level : {T : Type 0} → (Stretch → List Packet → List Packet → T → Type 0) → T → Level Stretch T Packet
+own_level R y₀ = record { mark = reset_mark; fresh = fresh; fresh_there = y₀; gone = λ x. Unit {0}; gone_there = λ y. Unit {0}; related = R }
+
 abbrev pub stretch_level : Terms → Terms → Level Stretch Stretch Packet
-stretch_level t b = record { mark = reset_mark; fresh = fresh; fresh_there = fresh; gone = λ x. Unit {0}; gone_there = λ x. Unit {0}; related = StretchesRelated t b }
+stretch_level t b = own_level (StretchesRelated t b) fresh
 
 -- what kinds pass in p4, also in what will be dropped
 abbrev pub InTransfer : Packet → Type 0
@@ -27,11 +31,18 @@ abbrev pub AllInTransfer : List Packet → Type 0
 AllInTransfer [] = Unit {0}
 AllInTransfer (p ∷ u) = InTransfer p × AllInTransfer u
 
-pub record TransfersRelated (t b : Terms) (x : At Stretch) (L K : List Packet) (y : At Stretch) : Type 0 where
-  pub hand : Handshake (stretch_level t b) x.epoch y.epoch x.side y.side L K
+pub record OwnTransfer {T : Type 0} (R : Stretch → List Packet → List Packet → T → Type 0) (y₀ : T) (x : At Stretch) (L K : List Packet) (y : At T) : Type 0 where
+  pub hand : Handshake (own_level R y₀) x.epoch y.epoch x.side y.side L K
   pub there : AllInTransfer L
   pub back : AllInTransfer K
 
-pub record GoodTransfer (t b : Terms) (s : TransferStep) (L K : List Packet) (y : At Stretch) : Type 0 where
+pub record GoodOwnTransfer {T : Type 0} (R : Stretch → List Packet → List Packet → T → Type 0) (y₀ : T) (s : TransferStep) (L K : List Packet) (y : At T) : Type 0 where
   pub quiet : s.error ≡ None
-  pub kept : TransfersRelated t b s.next (L ++ s.out) K y
+  pub kept : OwnTransfer R y₀ s.next (L ++ s.out) K y
+
+-- both are our own
+abbrev pub TransfersRelated : Terms → Terms → At Stretch → List Packet → List Packet → At Stretch → Type 0
+TransfersRelated t b x L K y = OwnTransfer (StretchesRelated t b) fresh x L K y
+
+abbrev pub GoodTransfer : Terms → Terms → TransferStep → List Packet → List Packet → At Stretch → Type 0
+GoodTransfer t b s L K y = GoodOwnTransfer (StretchesRelated t b) fresh s L K y

@@ -5,6 +5,7 @@ pub mod Channel
 pub mod Drained
 pub mod Handshake
 pub mod Histories
+pub mod LayerPeers
 pub mod Layers
 pub mod Names
 pub mod PeerCalls

@@ -3,6 +3,7 @@ ghost use Rattle.x25_handshakes.specs.laws.Layers.{Event, pair_run, pair_start};
 ghost use Rattle.x25_handshakes.specs.laws.Histories.{messages, interrupts, calls, AreInOrder};
 ghost use Rattle.x25_handshakes.specs.laws.Arrivals.{AllArrives};
 ghost use Rattle.x25_handshakes.specs.laws.Drained.{AllIsKnown};
+ghost use Rattle.x25_handshakes.specs.laws.LayerPeers.{LayersArePeers};
 ghost use Rattle.x25_handshakes.specs.laws.PeerClaims.{WithAnyPeer, FindsNoError, KeepsStretches};
 ghost use Rattle.x25_handshakes.specs.laws.PeerClaims.{WithAnyPeerLayer, LayerFindsNoError, KeepsLayers};
 ghost use Rattle.x25_handshakes.specs.rows.PeerRows.{LatePeerMoves, PeerLayerMoves};
@@ -46,6 +47,15 @@ pub fn drained_ends_know()
 pub fn any_peer_keeps_layers()
     ensures quiet { WithAnyPeerLayer LayerFindsNoError }
     ensures order { WithAnyPeerLayer KeepsLayers }
+{
+    x25_circuit::values_are_agreed();
+}
+
+/// Our own layer keeps the rules of a peer. Of two of our layers, as `keeps_order` has them, after each list of events
+/// and as long as both links are up, each is a peer of the other, which sent and took what that layer did, and
+/// acknowledges and confirms at once. So they keep order as a layer does with any peer.
+pub fn layers_are_peers()
+    ensures { LayersArePeers }
 {
     x25_circuit::values_are_agreed();
 }

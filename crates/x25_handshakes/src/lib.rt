@@ -7,5 +7,6 @@
 mod law;
 
 pub use law::{
-    any_peer_keeps_layers, any_peer_keeps_stretches, drained_ends_know, keeps_order, peers_move,
+    any_peer_keeps_layers, any_peer_keeps_stretches, drained_ends_know, keeps_order,
+    layers_are_peers, peers_move,
 };
