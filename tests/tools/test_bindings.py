@@ -1,0 +1,115 @@
+"""Tests of the library for C from other languages: Python's binding and Rust's, and the examples on a line."""
+
+import doctest
+import os
+import re
+import shutil
+import subprocess
+import sys
+import unittest
+
+import support
+from support import ToolCase
+from program import find_library
+from test_c import PROTOTYPE
+
+BINDING = os.path.join(support.ROOT, "bindings", "python")
+RUST = os.path.join(support.ROOT, "bindings", "rust")
+LIBRARY, ARCHIVE = find_library("so"), find_library("a")
+sys.path.append(BINDING)
+import x25  # noqa: E402
+
+needs_library = unittest.skipUnless(LIBRARY and ARCHIVE, "the library for C isn't built")
+
+
+def declared():
+    """The names of the functions that the header declares, in its order."""
+    return [re.search(r"x25_(\w+)", text)[1] for text in PROTOTYPE.findall(support.read("include/x25.h").decode())]
+
+
+class Declared(unittest.TestCase):
+    def test_each_binding_has_the_functions_of_the_header(self):
+        rust = support.read("bindings/rust/src/lib.rs").decode()
+        self.assertEqual(list(x25._FUNCTIONS), declared())
+        self.assertEqual(re.findall(r"^    fn x25_(\w+)\(slot: \*mut Slot", rust, re.MULTILINE), declared())
+
+    def test_the_reasons_are_those_of_the_formats(self):
+        formats = support.read("docs/FORMATS.md").decode()
+        for number, why in x25.REASONS.items():
+            if number not in (41, 42, 60):
+                self.assertIn(f"| {number} | {why}", formats)
+
+
+@needs_library
+class Python(unittest.TestCase):
+    def test_what_its_documentation_shows(self):
+        os.environ["X25_LIBRARY"] = os.path.dirname(LIBRARY)
+        self.assertEqual(doctest.testmod(x25, verbose=False).failed, 0)
+
+    def test_a_station_that_was_closed(self):
+        with x25.Station(x25.DCE, library=LIBRARY) as station:
+            self.assertEqual(station.timer, x25.Timer.OFF)
+        with self.assertRaisesRegex(x25.Refused, "16: no station is held"):
+            station.connect()
+        for settings in ({"k": 8}, {"k": 256}, {"channels": -1}, {"n2": 0}):
+            with self.assertRaisesRegex(x25.Refused, "14: "):
+                x25.Station(x25.DTE, library=LIBRARY, **settings)
+
+
+@needs_library
+@unittest.skipUnless(shutil.which("cargo"), "there is no cargo")
+class Rust(ToolCase):
+    def test_its_tests(self):
+        shutil.copytree(RUST, f"{self.folder}/rust", ignore=shutil.ignore_patterns("target"))
+        environment = {**os.environ, "X25_LIBRARY": os.path.dirname(ARCHIVE)}
+        done = subprocess.run(["cargo", "test", "--offline", "-q"], cwd=f"{self.folder}/rust", env=environment, capture_output=True, text=True)
+        self.assertEqual(done.returncode, 0, done.stdout + done.stderr)
+
+
+@needs_library
+@support.needs_station
+class Examples(ToolCase):
+    # Commands of the DTE, each with what has to be told before the next one.
+    TALK = [
+        ("connect", "dte restarted"),
+        ("call 123 4567 41", "dte connected ch=1"),
+        ("send 1 0 68656c6c6f", "dte message ch=1 at 1.0.0 q=0 data=6869"),
+        ("sing", "! 60"),
+    ]
+
+    def talk(self, *command, **environment):
+        """Plays a station on a line of TCP with a bridge at the other end, which answers a message; what each told."""
+        answers = b"wait dce incoming\ndce accept 1\nwait dce message\ndce send 1 0 6869\n"
+        commands = self.file("commands", answers)
+        bridge = [sys.executable, os.path.join(support.TOOLS, "bridge.py"), "dce", "--listen", "0", "--commands", commands, "--x25", support.PROGRAM]
+        with subprocess.Popen(bridge, stdout=subprocess.PIPE, stderr=subprocess.PIPE, text=True) as far:
+            port = far.stderr.readline().rpartition(":")[2].strip()
+            with subprocess.Popen(
+                [*command, "dte", "127.0.0.1", port], stdin=subprocess.PIPE, stdout=subprocess.PIPE, text=True, env={**os.environ, **environment}
+            ) as near:
+                told = []
+                for asked, awaited in self.TALK:
+                    near.stdin.write(f"{asked}\n")
+                    near.stdin.flush()
+                    while not told or not told[-1].startswith(awaited):
+                        told.append(near.stdout.readline())
+                        self.assertTrue(told[-1], f"{awaited} didn't come behind {told}")
+                near.stdin.close()
+                self.assertEqual(near.wait(30), 0)
+            self.assertIn("dce message ch=1 at 1.0.0 q=0 data=68656c6c6f\n", far.communicate(timeout=60)[0])
+
+    @unittest.skipUnless(shutil.which("cc"), "there is no C compiler")
+    def test_the_one_in_c(self):
+        path = f"{self.folder}/station"
+        source = os.path.join(support.ROOT, "examples", "c", "station.c")
+        words = ["-std=gnu11", "-Wall", "-Wextra", "-Werror", "-O1", f"-I{support.ROOT}/include", source, ARCHIVE, "-o", path]
+        subprocess.run(["cc", *words], check=True)
+        self.talk(path)
+
+    def test_the_one_in_python(self):
+        source = os.path.join(support.ROOT, "examples", "python", "station.py")
+        self.talk(sys.executable, source, X25_SO=LIBRARY, PYTHONPATH=BINDING)
+
+
+if __name__ == "__main__":
+    unittest.main()
