@@ -13,12 +13,14 @@ from support import ToolCase
 from program import find_library
 from test_c import PROTOTYPE
 
+import linked
+import piped
+import x25  # where linked finds it
+from x25lines import BadInput
+
 BINDING = os.path.join(support.ROOT, "bindings", "python")
 RUST = os.path.join(support.ROOT, "bindings", "rust")
 LIBRARY, ARCHIVE = find_library("so"), find_library("a")
-sys.path.append(BINDING)
-import x25  # noqa: E402
-
 needs_library = unittest.skipUnless(LIBRARY and ARCHIVE, "the library for C isn't built")
 
 
@@ -69,6 +71,7 @@ class Rust(ToolCase):
 @needs_library
 @support.needs_station
 class Examples(ToolCase):
+    SOURCE = os.path.join(support.ROOT, "examples", "python", "station.py")
     # Commands of the DTE, each with what has to be told before the next one.
     TALK = [
         ("connect", "dte restarted"),
@@ -77,11 +80,12 @@ class Examples(ToolCase):
         ("sing", "! 60"),
     ]
 
-    def talk(self, *command, **environment):
-        """Plays a station on a line of TCP with a bridge at the other end, which answers a message; what each told."""
+    def talk(self, *command, far=(), **environment):
+        """Plays a station on a line of TCP with a bridge at the other end, which answers a message."""
         answers = b"wait dce incoming\ndce accept 1\nwait dce message\ndce send 1 0 6869\n"
         commands = self.file("commands", answers)
-        bridge = [sys.executable, os.path.join(support.TOOLS, "bridge.py"), "dce", "--listen", "0", "--commands", commands, "--x25", support.PROGRAM]
+        station = far or ["--x25", support.PROGRAM]
+        bridge = [sys.executable, os.path.join(support.TOOLS, "bridge.py"), "dce", "--listen", "0", "--commands", commands, *station]
         with subprocess.Popen(bridge, stdout=subprocess.PIPE, stderr=subprocess.PIPE, text=True) as far:
             port = far.stderr.readline().rpartition(":")[2].strip()
             with subprocess.Popen(
@@ -107,8 +111,28 @@ class Examples(ToolCase):
         self.talk(path)
 
     def test_the_one_in_python(self):
-        source = os.path.join(support.ROOT, "examples", "python", "station.py")
-        self.talk(sys.executable, source, X25_SO=LIBRARY, PYTHONPATH=BINDING)
+        self.talk(sys.executable, self.SOURCE, X25_SO=LIBRARY, PYTHONPATH=BINDING)
+
+    def test_a_bridge_over_the_library(self):
+        self.talk(sys.executable, self.SOURCE, far=["--library", LIBRARY], X25_SO=LIBRARY, PYTHONPATH=BINDING)
+
+
+@needs_library
+@support.needs_station
+class Linked(unittest.TestCase):
+    def test_it_answers_as_the_one_behind_a_pipe(self):
+        words = ["--k", "3", "--channels", "2"]
+        events = ["dte connect", "< 01738357", "< 03001000fb0700c478", "dte call 123 4567 41", "dte sing", "dce connect", "t1 dce", "t1 dte"]
+        events += ["dte clear 3", "> 013febdf", "< 0321a415", "< 0000", "dte disconnect", "dte connect", "dte pull"]
+        with piped.Station(support.PROGRAM, "dte", words) as one, linked.Station(LIBRARY, "dte", k=3, channels=2) as other:
+            self.assertEqual(one.first, other.first)
+            for event in events:
+                with self.subTest(event):
+                    self.assertEqual(one.ask(event), other.ask(event))
+
+    def test_no_library(self):
+        with self.assertRaisesRegex(BadInput, "/nowhere"), linked.Station("/nowhere/libx25.so", "dte"):
+            pass
 
 
 if __name__ == "__main__":
