@@ -110,7 +110,8 @@ SCRIPTS = x25dump:x25dump pcap2x25:pcap2x25 x25pcap:x25pcap x25bridge:bridge x25
 # No dependency has the program proved: `sudo make install` is to install what is there.
 install:
 	@test -x $(PROGRAM) || { echo "There is no $(PROGRAM): make x25 leaves it there." >&2; exit 1; }
-	install -d $(INSTALLED)/bin $(INSTALLED)/lib/x25 $(INSTALLED)/share/man/man1 $(INSTALLED)/share/bash-completion/completions $(DOCUMENTS)/examples/embed
+	install -d $(INSTALLED)/bin $(INSTALLED)/lib/x25 $(INSTALLED)/share/man/man1 $(INSTALLED)/share/bash-completion/completions
+	install -d $(DOCUMENTS)/examples/embed $(DOCUMENTS)/examples/c $(DOCUMENTS)/examples/python
 	install -m 755 $(PROGRAM) $(INSTALLED)/bin/x25
 	install -m 644 $(filter-out tools/manpage.py,$(wildcard tools/*.py)) $(INSTALLED)/lib/x25
 	for pair in $(SCRIPTS); do \
@@ -123,13 +124,14 @@ install:
 	install -m 644 share/x25.bash $(INSTALLED)/share/bash-completion/completions/x25
 	install -m 644 README.md CHANGELOG.md docs/*.md docs/*.svg $(DOCUMENTS)
 	install -m 644 $(wildcard examples/*.*) $(DOCUMENTS)/examples
-	install -m 644 examples/embed/* $(DOCUMENTS)/examples/embed
+	for folder in embed c python; do install -m 644 examples/$$folder/*.* $(DOCUMENTS)/examples/$$folder || exit $$?; done
 	if [ -e $(LIBRARY)/libx25.so ]; then \
 	    install -d $(INSTALLED)/include $(INSTALLED)/lib/pkgconfig && \
 	    install -m 644 include/x25.h $(INSTALLED)/include && \
 	    install -m 644 $(LIBRARY)/libx25.a $(INSTALLED)/lib && \
 	    install -m 755 $(LIBRARY)/libx25.so.$(VERSION) $(INSTALLED)/lib && \
 	    ln -sf libx25.so.$(VERSION) $(INSTALLED)/lib/libx25.so && \
+	    install -m 644 bindings/python/x25.py $(INSTALLED)/lib/x25 && \
 	    sed '$(SET_PC)' share/x25.pc.in > $(INSTALLED)/lib/pkgconfig/x25.pc || exit $$?; \
 	fi
 	if [ -e $(dir $(PROGRAM))commit ]; then install -m 644 $(dir $(PROGRAM))commit $(DOCUMENTS)/COMMIT; fi

@@ -1,15 +1,16 @@
 #!/usr/bin/env python3
-"""The whole gate: `rt ci`, then the golden cases on the programs that it left, then the tests of the tools.
+"""The whole gate: `rt ci`, then the library for C, then the golden cases on the programs that it left, then the tests of the tools.
 
 The tests of the tools that need no program run before, too: they take seconds, and where one fails nothing else is begun. The
 line 'N passed, M failed' of `rt ci` is held back, and the last line is one such line that counts all three: proofs and must-fail
-edits, a golden case for each build of the program, a test of the tools. The line before it has the time that the whole run took, of the
+edits, the library for C, a golden case for each build of the program, a test of the tools. The line before it has the time that the whole run took, of the
 processors and on the clock. Exit status: 0 nothing failed, 1 something did.
 """
 
 import os
 import re
 import resource
+import shutil
 import subprocess
 import sys
 import time
@@ -27,7 +28,7 @@ PLAYER = "crates/x25_refusals/out/x25_refusals"
 def quick():
     """Runs the tests of the tools that need no program, before all else; answers whether they pass."""
     command = [sys.executable, os.path.join(ROOT, "tests", "check_tools.py")]
-    return subprocess.run(command, cwd=ROOT, env={**os.environ, "X25": "", "X25_REFUSALS": ""}).returncode == 0
+    return subprocess.run(command, cwd=ROOT, env={**os.environ, "X25": "", "X25_REFUSALS": "", "X25_LIBRARY": ""}).returncode == 0
 
 
 def proofs():
@@ -42,6 +43,20 @@ def proofs():
                 print(line, end="", flush=True)
     passed, failed = counts or (0, 1)
     return passed, max(failed, 1) if child.returncode else failed
+
+
+def library():
+    """Builds the library for C over what `rt ci` left, where there is a C compiler and rt takes that; answers how many archives were built
+    and how many not."""
+    if not shutil.which("cc"):
+        print("the library for C: left out, for there is no C compiler")
+        return 0, 0
+    status = subprocess.run([os.path.join(ROOT, ".ci", "prove"), "--built", "x25_c"], cwd=ROOT).returncode
+    if status == 3:
+        return 0, 0
+    if status == 0:
+        status = subprocess.run(["make", "-s", "build/libx25.so"], cwd=ROOT).returncode
+    return (1, 0) if status == 0 else (0, 1)
 
 
 def golden_cases():
@@ -76,7 +91,7 @@ def main():
     if not quick():
         print("0 passed, 1 failed")
         return 1
-    counts = [proofs(), golden_cases(), tools()]
+    counts = [proofs(), library(), golden_cases(), tools()]
     passed, failed = (sum(column) for column in zip(*counts))
     print(f"{processor_seconds() / 60:.0f} processor minutes, {(time.monotonic() - begun) / 60:.0f} on the clock")
     print(f"{passed} passed, {failed} failed")

@@ -20,7 +20,7 @@ The line is one of these:
                        X.25 over TCP (XOT, RFC 1613), port 1998: each circuit is a connection, which a call makes, or another makes,
                        to this host alone or to HOST:PORT; both may be given. There is no link on the line: the bridge plays one
 
-An address of IPv6 stands in brackets, [::1]:7000.
+An address of IPv6 stands in brackets, [::1]:7000. With --library the station is that of `libx25.so` at a path, in this process.
 
 Commands are lines of a script of this end (`dte call 123 4567 41`), of standard input or --commands, and `wait TEXT`, which holds those
 behind it until a notice comes that begins so. Notices are the entries of the transcript; `! N` for a command that is refused, and `? 60`
@@ -485,6 +485,16 @@ def station_words(options):
     return [word for pair in given for word in pair] + (["--long"] if options.long else [])
 
 
+def station_of(options):
+    """The station that the words ask for: the program's, or that of a library."""
+    if not options.library:
+        return piped.Station(options.x25, options.end, station_words(options))
+    import linked
+
+    given = {name: getattr(options, name) for name in ("k", "n2", "channels") if getattr(options, name) is not None}
+    return linked.Station(options.library, options.end, long_data=options.long, **given)
+
+
 def add_line_words(parser):
     """Adds the words that say what the line is."""
     parser.add_argument("--listen", type=host_and_port, metavar="PORT", help="lines of a trace over a connection that another makes")
@@ -508,6 +518,7 @@ def words():
     parser = argparse.ArgumentParser(description=__doc__, formatter_class=argparse.RawDescriptionHelpFormatter)
     add_station_words(parser)
     add_line_words(parser)
+    parser.add_argument("--library", metavar="PATH", help="a libx25.so, in place of the program")
     parser.add_argument("--t1", type=within(float, 0.001, 86_400), default=1, metavar="SECONDS", help="how long T1 is (1)")
     parser.add_argument("--t3", type=within(float, 0, 86_400), default=60, metavar="SECONDS", help="how long nothing comes before the other end is asked; 0 for never (60)")
     parser.add_argument("--quiet", type=within(float, 0, 86_400), metavar="SECONDS", help=f"how long nothing comes at the end ({QUIET_T1S} times T1)")
@@ -571,7 +582,7 @@ def main():
         signals = files.enter_context(Signals())
         user = user_of(options, files)
         trace = Outlet(files.enter_context(opened(options.trace, "wb"))) if options.trace else None
-        station = files.enter_context(piped.Station(options.x25, options.end, station_words(options)))
+        station = files.enter_context(station_of(options))
         wire = joined(options, user.note)
         files.callback(wire.close)
         bridge = Bridge(station, wire, user, options, trace, signals)

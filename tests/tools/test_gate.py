@@ -35,13 +35,25 @@ class Proofs(ToolCase):
         with mock.patch.object(gate, "ROOT", self.folder), contextlib.redirect_stdout(io.StringIO()):
             self.assertEqual(gate.golden_cases(), (0, 1))
 
+    def test_the_library_for_c(self):
+        os.mkdir(f"{self.folder}/.ci")
+        self.file("Makefile", b"build/libx25.so:\n\t@echo made; [ ! -e bad ]\n")
+        for status, counted in ((0, (1, 0)), (1, (0, 1)), (3, (0, 0))):
+            os.chmod(self.file(".ci/prove", b"#!/bin/sh\nexit %d\n" % status), 0o755)
+            with mock.patch.object(gate, "ROOT", self.folder), mock.patch.object(gate.shutil, "which", lambda name: name):
+                self.assertEqual(gate.library(), counted)
+        out = io.StringIO()
+        with mock.patch.object(gate.shutil, "which", lambda name: None), contextlib.redirect_stdout(out):
+            self.assertEqual(gate.library(), (0, 0))
+        self.assertIn("there is no C compiler", out.getvalue())
+
     def test_the_last_line_counts_all(self):
         out = io.StringIO()
-        with mock.patch.multiple(gate, quick=lambda: True, proofs=lambda: (20, 1), golden_cases=lambda: (5, 0), tools=lambda: (7, 2)):
+        with mock.patch.multiple(gate, quick=lambda: True, proofs=lambda: (20, 1), library=lambda: (1, 0), golden_cases=lambda: (5, 0), tools=lambda: (7, 2)):
             with contextlib.redirect_stdout(out):
                 self.assertEqual(gate.main(), 1)
         *before, last = out.getvalue().splitlines()
-        self.assertEqual(last, "32 passed, 3 failed")
+        self.assertEqual(last, "33 passed, 3 failed")
         self.assertRegex(before[-1], r"^\d+ processor minutes, 0 on the clock$")
 
     def test_processor_time_of_what_has_ended_is_counted(self):

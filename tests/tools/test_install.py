@@ -13,6 +13,7 @@ from support import ToolCase
 from test_manual import EXAMPLE
 
 import manpage
+from program import find_library
 
 PREFIX = "/usr/local"
 SCRIPTS = ("x25dump", "pcap2x25", "x25pcap", "x25bridge", "x25chart")
@@ -87,6 +88,18 @@ class Installed(ToolCase):
         self.file("commit", b"0123abcd\n")
         make("install", *self.words[:2], f"PROGRAM={self.folder}/x25")
         self.assertEqual(support.read(f"{self.documents}/COMMIT"), b"0123abcd\n")
+
+    @unittest.skipUnless(find_library("so") and shutil.which("cc"), "the library for C isn't built, or there is no C compiler")
+    def test_the_library_for_c(self):
+        self.assertEqual(make("install", *self.words, f"LIBRARY={os.path.dirname(find_library('so'))}").returncode, 0)
+        source, program = os.path.join(support.ROOT, "tests", "c", "main.c"), f"{self.folder}/main"
+        words = ["-I", f"{self.there}/include", source, "-L", f"{self.there}/lib", "-lx25", f"-Wl,-rpath,{self.there}/lib", "-o", program]
+        subprocess.run(["cc", *words], check=True)
+        told = subprocess.run([program], capture_output=True, timeout=60)
+        self.assertEqual((told.returncode, told.stdout), (0, support.read("crates/x25_embed/stdout")))
+        with open(f"{self.there}/lib/pkgconfig/x25.pc") as file:
+            self.assertIn(f"prefix={PREFIX}\n", file.read())
+        self.assertIn("libx25.so", os.readlink(f"{self.there}/lib/libx25.so"))
 
     def test_uninstall_leaves_nothing(self):
         self.assertEqual(make("uninstall", *self.words).returncode, 0)

@@ -72,7 +72,7 @@ class Prove(ToolCase):
     def test_a_static_library_is_built_behind_the_others(self):
         status, proved, said = self.proves("archive")
         self.assertEqual((status, proved), (0, ["low", "right", "archive"]))
-        self.assertRegex(said, r"^the libraries below are proved again: ")
+        self.assertRegex(said, r"^rt lib doesn't take what rt ci proved: ")
         self.assertEqual(os.listdir(f"{self.folder}/build"), ["libarchive.a"])
         with open(f"{self.folder}/build/libarchive.a") as file:
             self.assertEqual(file.read().split(), ["archive", "low", "right"])
@@ -82,6 +82,11 @@ class Prove(ToolCase):
         self.assertEqual((status, proved), (1, ["low", "right"]))
         self.assertIn("an open goal of archive\n", said)
         self.assertFalse(os.path.exists(f"{self.folder}/build"))
+
+    def test_one_that_is_built_already_wants_what_rt_lib_takes(self):
+        status, proved, said = self.proves("--built", "archive")
+        self.assertEqual((status, proved), (3, []))
+        self.assertIn("rt lib doesn't take what rt ci proved: ", said)
 
     def test_one_is_not_proved(self):
         status, proved, said = self.proves("program", broken=["right"])

@@ -1,0 +1,254 @@
+"""Stations of X.25 in Python, over the library for C, `libx25.so`.
+
+>>> dte, dce = Station(DTE), Station(DCE)
+>>> answer = dte.connect()
+>>> answer.frames[0].hex(), answer.entries[0].what, answer.timer
+('013febdf', 'connect', <Timer.BEGINS: 1>)
+>>> def talk(answer, near, far):  # a line that loses nothing, until nothing is on it
+...     while answer.frames:
+...         answer, near, far = far.receive_all(answer.frames), far, near
+>>> talk(answer, dte, dce)
+>>> talk(dte.command("call 123 4567 41"), dte, dce)
+>>> talk(dce.command("accept 1"), dce, dte)
+>>> talk(dte.send(1, b"hello"), dte, dce)
+>>> dte.is_idle, dte.timer
+(True, <Timer.OFF: 0>)
+>>> dce.receive(bytes(4)).entries  # octets that are no frame
+[]
+>>> dte.connect()
+Traceback (most recent call last):
+x25.Refused: 15: the link is up
+
+A station is in one call at a time, of whichever thread. It is let go of by `close`, at the end of a `with` block, or with its last name.
+"""
+
+from __future__ import annotations
+
+import ctypes
+import ctypes.util
+import enum
+import os
+from typing import Iterable, NamedTuple
+
+DTE, DCE = 0, 1
+
+
+class Timer(enum.IntEnum):
+    """What becomes of timer T1: a program drops its deadline, sets it anew, or leaves it as it is."""
+
+    OFF = 0
+    BEGINS = 1
+    GOES_ON = 2
+
+
+REASONS = {
+    9: "the link isn't up",
+    10: "256 packets wait",
+    11: "timer T1 isn't running",
+    12: "the link is being set up",
+    13: "the link was ended",
+    14: "a setting is out of its range",
+    15: "the link is up",
+    16: "no station is held",
+    17: "a station is held",
+    30: "not in this state of the channel",
+    31: "8 messages wait",
+    32: "a message of more than 65,535 octets",
+    33: "an interrupt isn't confirmed yet",
+    34: "a parameter is out of range",
+    40: "a restart is under way",
+    41: "no channel is free",
+    42: "no such channel",
+    60: "no command",
+    70: "no memory",
+}
+
+
+class Refused(Exception):
+    """A call was refused, and the station is as before; `number` says why."""
+
+    def __init__(self, number: int) -> None:
+        super().__init__(f"{number}: {REASONS.get(number, 'refused')}")
+        self.number = number
+
+
+class Entry(NamedTuple):
+    """An entry of the transcript, and the line that spells it: `docs/FORMATS.md` has the words.
+
+    >>> entry = read_entry("dte message ch=1 at 1.0.0 q=1 data=6869")
+    >>> entry.what, entry.channel, entry.stretch, entry.user, entry.values
+    ('message', 1, (1, 0, 0), b'hi', {'q': '1'})
+    >>> read_entry("dce linkdown disc").values
+    {'reason': 'disc'}
+    """
+
+    end: str
+    what: str
+    channel: int | None
+    stretch: tuple[int, ...] | None
+    user: bytes | None
+    values: dict[str, str]
+    line: str
+
+
+class Answer(NamedTuple):
+    """What a station answers to a call: frames to send, entries to report, and what becomes of timer T1."""
+
+    frames: list[bytes]
+    entries: list[Entry]
+    timer: Timer
+
+
+def read_entry(line: str) -> Entry:
+    """The entry that a line of the transcript spells."""
+    end, what, *words = line.split()
+    channel, stretch, user, values = None, None, None, {}
+    while words:
+        name, equals, value = words.pop(0).partition("=")
+        if name == "at":
+            stretch = tuple(int(count) for count in words.pop(0).split("."))
+        elif name == "ch":
+            channel = int(value)
+        elif name == "data":
+            user = b"" if value == "-" else bytes.fromhex(value)
+        elif equals:
+            values[name] = value
+        else:
+            values["reason"] = name
+    return Entry(end, what, channel, stretch, user, values, line.rstrip("\n"))
+
+
+class _Slot(ctypes.Structure):
+    _fields_ = [("at", ctypes.c_void_p), ("is_open", ctypes.c_bool)]
+
+
+# The functions of x25.h but for their first parameter, the station: parameters and result.
+_FUNCTIONS = {
+    "new": ([ctypes.c_uint8] * 4 + [ctypes.c_bool], ctypes.c_uint32),
+    "free": ([], None),
+    "connect": ([], ctypes.c_uint32),
+    "t1": ([], ctypes.c_uint32),
+    "receive": ([ctypes.c_char_p, ctypes.c_size_t], ctypes.c_uint32),
+    "send": ([ctypes.c_uint16, ctypes.c_bool, ctypes.c_char_p, ctypes.c_size_t], ctypes.c_uint32),
+    "command": ([ctypes.c_char_p, ctypes.c_size_t], ctypes.c_uint32),
+    "frames": ([], ctypes.c_size_t),
+    "frame": ([ctypes.c_size_t, ctypes.c_void_p, ctypes.c_size_t], ctypes.c_size_t),
+    "entries": ([], ctypes.c_size_t),
+    "entry": ([ctypes.c_size_t, ctypes.c_void_p, ctypes.c_size_t, ctypes.POINTER(ctypes.c_size_t)], ctypes.c_uint32),
+    "timer": ([], ctypes.c_uint32),
+    "waits": ([], ctypes.c_bool),
+    "idle": ([], ctypes.c_bool),
+}
+
+_loaded: dict[str, ctypes.CDLL] = {}
+
+
+def library_path() -> str:
+    """Where the library is: in the folder that the variable X25_LIBRARY names, where `make lib` leaves it, or installed."""
+    built = os.path.join(os.path.dirname(os.path.abspath(__file__)), "..", "..", "build")
+    path = os.path.join(os.environ.get("X25_LIBRARY", built), "libx25.so")
+    return path if os.path.exists(path) else ctypes.util.find_library("x25") or "libx25.so"
+
+
+def load(path: str | None = None) -> ctypes.CDLL:
+    """The library at a path, or where `library_path` says."""
+    path = path or library_path()
+    if path not in _loaded:
+        library = ctypes.CDLL(path)
+        for name, (parameters, result) in _FUNCTIONS.items():
+            function = getattr(library, f"x25_{name}")
+            function.argtypes, function.restype = [ctypes.POINTER(_Slot), *parameters], result
+        _loaded[path] = library
+    return _loaded[path]
+
+
+class Station:
+    """A station, DTE or DCE: window k, n2 tries of a command, 1 to 16 channels, and whether a call may have 128 octets of user data."""
+
+    def __init__(
+        self, end: int, k: int = 7, n2: int = 10, channels: int = 1, long_data: bool = False, library: str | None = None
+    ) -> None:
+        self._library, self._slot = load(library), _Slot()
+        self._room = ctypes.create_string_buffer(1 << 18)
+        for setting in (end, k, n2, channels):
+            if not 0 <= setting < 256:
+                raise Refused(14)
+        self._check(self._library.x25_new(self._slot, end, k, n2, channels, long_data))
+
+    def __enter__(self) -> Station:
+        return self
+
+    def __exit__(self, *_: object) -> None:
+        self.close()
+
+    def __del__(self) -> None:
+        if hasattr(self, "_slot"):
+            self.close()
+
+    def close(self) -> None:
+        """Lets the station go; each call is refused with 16 from then on."""
+        self._library.x25_free(self._slot)
+
+    def connect(self) -> Answer:
+        """Begins to set the link up."""
+        return self._answer(self._library.x25_connect(self._slot))
+
+    def t1(self) -> Answer:
+        """Timer T1 fired."""
+        return self._answer(self._library.x25_t1(self._slot))
+
+    def receive(self, octets: bytes) -> Answer:
+        """The octets of a frame came, frame check sequence included."""
+        return self._answer(self._library.x25_receive(self._slot, octets, len(octets)))
+
+    def receive_all(self, frames: Iterable[bytes]) -> Answer:
+        """Several frames came, one behind another; what is answered to all of them."""
+        answers = [self.receive(octets) for octets in frames]
+        sent = [octets for answer in answers for octets in answer.frames]
+        return Answer(sent, [entry for answer in answers for entry in answer.entries], self.timer)
+
+    def send(self, channel: int, user: bytes, q: bool = False) -> Answer:
+        """Sends a message on a channel."""
+        if not 0 <= channel < 65536:
+            raise Refused(42)
+        return self._answer(self._library.x25_send(self._slot, channel, q, user, len(user)))
+
+    def command(self, text: str) -> Answer:
+        """Does what a text asks, as a line of a script without the name of its end: `call 123 4567 41`, `accept 1`."""
+        octets = text.encode()
+        return self._answer(self._library.x25_command(self._slot, octets, len(octets)))
+
+    @property
+    def timer(self) -> Timer:
+        """What became of timer T1 at the last call."""
+        return Timer(self._library.x25_timer(self._slot))
+
+    @property
+    def waits(self) -> bool:
+        """Whether memory was refused for messages that wait, behind the last call."""
+        return self._library.x25_waits(self._slot)
+
+    @property
+    def is_idle(self) -> bool:
+        """Whether the link is up, and all that was asked was sent and acknowledged."""
+        return self._library.x25_idle(self._slot)
+
+    @staticmethod
+    def _check(number: int) -> None:
+        if number:
+            raise Refused(number)
+
+    def _answer(self, number: int) -> Answer:
+        self._check(number)
+        frames = [self._frame(i) for i in range(self._library.x25_frames(self._slot))]
+        entries = [self._entry(i) for i in range(self._library.x25_entries(self._slot))]
+        return Answer(frames, entries, self.timer)
+
+    def _frame(self, i: int) -> bytes:
+        count = self._library.x25_frame(self._slot, i, self._room, len(self._room))
+        return ctypes.string_at(self._room, count)
+
+    def _entry(self, i: int) -> Entry:
+        count = ctypes.c_size_t()
+        self._check(self._library.x25_entry(self._slot, i, self._room, len(self._room), count))
+        return read_entry(ctypes.string_at(self._room, count.value).decode())

@@ -1,0 +1,139 @@
+"""Tests of the library for C from other languages: Python's binding and Rust's, and the examples on a line."""
+
+import doctest
+import os
+import re
+import shutil
+import subprocess
+import sys
+import unittest
+
+import support
+from support import ToolCase
+from program import find_library
+from test_c import PROTOTYPE
+
+import linked
+import piped
+import x25  # where linked finds it
+from x25lines import BadInput
+
+BINDING = os.path.join(support.ROOT, "bindings", "python")
+RUST = os.path.join(support.ROOT, "bindings", "rust")
+LIBRARY, ARCHIVE = find_library("so"), find_library("a")
+needs_library = unittest.skipUnless(LIBRARY and ARCHIVE, "the library for C isn't built")
+
+
+def declared():
+    """The names of the functions that the header declares, in its order."""
+    return [re.search(r"x25_(\w+)", text)[1] for text in PROTOTYPE.findall(support.read("include/x25.h").decode())]
+
+
+class Declared(unittest.TestCase):
+    def test_each_binding_has_the_functions_of_the_header(self):
+        rust = support.read("bindings/rust/src/lib.rs").decode()
+        self.assertEqual(list(x25._FUNCTIONS), declared())
+        self.assertEqual(re.findall(r"^    fn x25_(\w+)\(slot: \*mut Slot", rust, re.MULTILINE), declared())
+
+    def test_the_reasons_are_those_of_the_formats(self):
+        formats = support.read("docs/FORMATS.md").decode()
+        for number, why in x25.REASONS.items():
+            if number not in (41, 42, 60):
+                self.assertIn(f"| {number} | {why}", formats)
+
+
+@needs_library
+class Python(unittest.TestCase):
+    def test_what_its_documentation_shows(self):
+        os.environ["X25_LIBRARY"] = os.path.dirname(LIBRARY)
+        self.assertEqual(doctest.testmod(x25, verbose=False).failed, 0)
+
+    def test_a_station_that_was_closed(self):
+        with x25.Station(x25.DCE, library=LIBRARY) as station:
+            self.assertEqual(station.timer, x25.Timer.OFF)
+        with self.assertRaisesRegex(x25.Refused, "16: no station is held"):
+            station.connect()
+        for settings in ({"k": 8}, {"k": 256}, {"channels": -1}, {"n2": 0}):
+            with self.assertRaisesRegex(x25.Refused, "14: "):
+                x25.Station(x25.DTE, library=LIBRARY, **settings)
+
+
+@needs_library
+@unittest.skipUnless(shutil.which("cargo"), "there is no cargo")
+class Rust(ToolCase):
+    def test_its_tests(self):
+        shutil.copytree(RUST, f"{self.folder}/rust", ignore=shutil.ignore_patterns("target"))
+        environment = {**os.environ, "X25_LIBRARY": os.path.dirname(ARCHIVE)}
+        done = subprocess.run(["cargo", "test", "--offline", "-q"], cwd=f"{self.folder}/rust", env=environment, capture_output=True, text=True)
+        self.assertEqual(done.returncode, 0, done.stdout + done.stderr)
+
+
+@needs_library
+@support.needs_station
+class Examples(ToolCase):
+    SOURCE = os.path.join(support.ROOT, "examples", "python", "station.py")
+    # Commands of the DTE, each with what has to be told before the next one.
+    TALK = [
+        ("connect", "dte restarted"),
+        ("call 123 4567 41", "dte connected ch=1"),
+        ("send 1 0 68656c6c6f", "dte message ch=1 at 1.0.0 q=0 data=6869"),
+        ("sing", "! 60"),
+    ]
+
+    def talk(self, *command, far=(), **environment):
+        """Plays a station on a line of TCP with a bridge at the other end, which answers a message."""
+        answers = b"wait dce incoming\ndce accept 1\nwait dce message\ndce send 1 0 6869\n"
+        commands = self.file("commands", answers)
+        station = far or ["--x25", support.PROGRAM]
+        bridge = [sys.executable, os.path.join(support.TOOLS, "bridge.py"), "dce", "--listen", "0", "--commands", commands, *station]
+        with subprocess.Popen(bridge, stdout=subprocess.PIPE, stderr=subprocess.PIPE, text=True) as far:
+            port = far.stderr.readline().rpartition(":")[2].strip()
+            with subprocess.Popen(
+                [*command, "dte", "127.0.0.1", port], stdin=subprocess.PIPE, stdout=subprocess.PIPE, text=True, env={**os.environ, **environment}
+            ) as near:
+                told = []
+                for asked, awaited in self.TALK:
+                    near.stdin.write(f"{asked}\n")
+                    near.stdin.flush()
+                    while not told or not told[-1].startswith(awaited):
+                        told.append(near.stdout.readline())
+                        self.assertTrue(told[-1], f"{awaited} didn't come behind {told}")
+                near.stdin.close()
+                self.assertEqual(near.wait(30), 0)
+            self.assertIn("dce message ch=1 at 1.0.0 q=0 data=68656c6c6f\n", far.communicate(timeout=60)[0])
+
+    @unittest.skipUnless(shutil.which("cc"), "there is no C compiler")
+    def test_the_one_in_c(self):
+        path = f"{self.folder}/station"
+        source = os.path.join(support.ROOT, "examples", "c", "station.c")
+        words = ["-std=gnu11", "-Wall", "-Wextra", "-Werror", "-O1", f"-I{support.ROOT}/include", source, ARCHIVE, "-o", path]
+        subprocess.run(["cc", *words], check=True)
+        self.talk(path)
+
+    def test_the_one_in_python(self):
+        self.talk(sys.executable, self.SOURCE, X25_SO=LIBRARY, PYTHONPATH=BINDING)
+
+    def test_a_bridge_over_the_library(self):
+        self.talk(sys.executable, self.SOURCE, far=["--library", LIBRARY], X25_SO=LIBRARY, PYTHONPATH=BINDING)
+
+
+@needs_library
+@support.needs_station
+class Linked(unittest.TestCase):
+    def test_it_answers_as_the_one_behind_a_pipe(self):
+        words = ["--k", "3", "--channels", "2"]
+        events = ["dte connect", "< 01738357", "< 03001000fb0700c478", "dte call 123 4567 41", "dte sing", "dce connect", "t1 dce", "t1 dte"]
+        events += ["dte clear 3", "> 013febdf", "< 0321a415", "< 0000", "dte disconnect", "dte connect", "dte pull"]
+        with piped.Station(support.PROGRAM, "dte", words) as one, linked.Station(LIBRARY, "dte", k=3, channels=2) as other:
+            self.assertEqual(one.first, other.first)
+            for event in events:
+                with self.subTest(event):
+                    self.assertEqual(one.ask(event), other.ask(event))
+
+    def test_no_library(self):
+        with self.assertRaisesRegex(BadInput, "/nowhere"), linked.Station("/nowhere/libx25.so", "dte"):
+            pass
+
+
+if __name__ == "__main__":
+    unittest.main()
