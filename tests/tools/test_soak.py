@@ -77,12 +77,25 @@ class Judged(ToolCase):
         it.channels, it.lose, it.stats, it.counts, it._ways, it._guest = 4, 0, "", soak.Counter(), soak.Ways(), "the kernel"
         it.unasked = [(1100.0, "dce fault ch=2 diag=27"), (1100.0, "dce fault ch=3 diag=27"), (1100.0, "dce linkdown frmr-sent"), (1200.0, "dce fault ch=2 diag=27")]
         it.judged = lambda: [(1095.0, "2", "dte: one"), (1096.0, "4", "dte: other")]
-        lines, is_right = it.row(None)
-        self.assertRegex(lines[1], "fault ch=2 .*by judge dte: one$")
-        self.assertRegex(lines[2], "fault ch=3 .*no rule is broken there before it$")
-        self.assertRegex(lines[3], "linkdown .*by judge dte: other$")
-        self.assertRegex(lines[4], "fault ch=2 .*no rule is broken there before it$")
+        row, lines, is_right = it.row(None)
+        self.assertRegex(lines[0], "fault ch=2 .*by judge dte: one$")
+        self.assertRegex(lines[1], "fault ch=3 .*no rule is broken there before it$")
+        self.assertRegex(lines[2], "linkdown .*by judge dte: other$")
+        self.assertRegex(lines[3], "fault ch=2 .*no rule is broken there before it$")
         self.assertTrue(is_right)
+        self.assertEqual(dict(zip(soak.COLUMNS, row))["unasked"], 4)
+        self.assertEqual((lines, is_right), it.row(None)[1:])
+        row, lines, is_right = it.row("Wrong: lost")
+        self.assertEqual((dict(zip(soak.COLUMNS, row))["wrong"], lines[0], is_right), (1, "  wrong: Wrong: lost", False))
+
+
+class Tables(unittest.TestCase):
+    def test_rows_of_a_kind_are_summed(self):
+        one = [4, 3, 1.04, 100, 2000, 30_000, 4, 5, 6, 7, 8, 90_000, 100, 19, 0, 0, 0, 0, 0]
+        other = [4, 3, 1.0, 1, 1, 1, 1, 1, 1, 1, 1, 1, 1, 20, 1, 1, 1, 1, 1]
+        third = [14, *one[1:]]
+        self.assertEqual(soak.shown(one), "| 4 | 3 | 1.0 | 100 | 2,000 | 30,000 | 4 | 5 | 6 | 7 | 8 | 90,000 | 100 | 19 MB | 0 | 0 | 0 | 0 | 0 |")
+        self.assertEqual(soak.summed([one, third, other]), [[4, 3, 2.04, 101, 2001, 30_001, 5, 6, 7, 8, 9, 90_001, 101, 20, 1, 1, 1, 1, 1], third])
 
 
 class Halves(unittest.TestCase):
@@ -149,8 +162,10 @@ class Run(ToolCase):
         command = [sys.executable, os.path.join(support.ROOT, "interop", "soak.py"), "--minutes", "0.1", "--round", "5", "--seed", "3"]
         done = subprocess.run([*command, "--x25", support.PROGRAM, "--traces", self.folder], capture_output=True, text=True, timeout=600)
         self.assertEqual((done.returncode, done.stderr), (0, ""), done.stdout)
-        head, _, *rows = done.stdout.splitlines()
+        rounds, sums = (table.splitlines() for table in done.stdout.split("\n\n"))
+        head, _, *rows = rounds
         self.assertGreaterEqual(len(rows), 1)
+        self.assertEqual((sums[:2], len(sums)), (rounds[:2], 2 + min(len(rows), 6)))
         for row in rows:
             cells = dict(zip(head.strip("| ").split(" | "), re.split(r" \| ", row.strip("| "))))
             self.assertGreater(int(cells["messages"].replace(",", "")), 50, row)
