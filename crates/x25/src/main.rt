@@ -5,8 +5,8 @@
 #![tactic(auto)]
 
 ghost use Rattle.clap.specs.Values.{kind_of};
-ghost use Rattle.std.specs.Prelude.{◌≡◌, ◌≤◌, ◌⊎◌, IfOk, OnErr, map};
-ghost use Rattle.x25.specs.Main.{IsShown};
+ghost use Rattle.std.specs.Prelude.{◌≡◌, ◌≤◌, ◌⊎◌, IfErr, IfOk, OnErr, map};
+ghost use Rattle.x25.specs.Main.{EndsWithout, IsToldOf};
 ghost use Rattle.x25.specs.Tasks.{Ends};
 ghost use Rattle.x25_settings.specs.Words.{AreInRange, Say};
 ghost use Rattle.x25_settings.specs.declared.words.Task.{Task as TaskValue};
@@ -64,9 +64,7 @@ fn run<E: Eprint + AllocGlobal, R: Source, W: Write>(
 /// Tells the parser's text, and answers the exit status: help and the version go to standard output with 0, and why other
 /// words aren't plain to standard error with 2. Profile.
 fn tell<E: Print + Eprint>(rt: &E, error: clap::Error) -> u8
-    ensures range { (result ≡ 0) ⊎ (result ≡ 2) ⊎ (result ≡ 3) }
-    ensures asked { IsShown (kind_of error) → (result ≡ 0) ⊎ (result ≡ 3) }
-    ensures usage { ¬ IsShown (kind_of error) → result ≡ 2 }
+    ensures { IsToldOf (kind_of error) result }
 {
     if error.use_stderr() {
         rt.eprint(&error).ok();
@@ -75,6 +73,27 @@ fn tell<E: Print + Eprint>(rt: &E, error: clap::Error) -> u8
     match rt.print(&error) {
         Ok(()) => 0,
         Err(failed) => conclude(rt, Err(Fault::Write), is_unread(&failed)),
+    }
+}
+
+/// Does what was asked for, or tells why nothing runs, and answers the exit status.
+fn carry_out<E: Print + Eprint + AllocGlobal, R: Source, W: Write>(
+    rt: &E,
+    asked: Result<Task, SettingsError>,
+    reader: &mut R,
+    writer: &mut Output<W>,
+) -> u8
+    requires { IfOk asked AreInRange }
+    ensures done { IfOk asked (λ task. Ends task result (R.remaining reader.old)
+        (W.contents writer.old.writer) (W.contents writer.new.writer)) }
+    ensures none { IfErr asked (λ error. EndsWithout error result) }
+    // Nothing is read then, and nothing but the parser's text is written.
+    ensures untouched { OnErr asked ((reader.new ≡ reader.old) × (writer.new ≡ writer.old)) }
+{
+    match asked {
+        Ok(task) => run(rt, task, reader, writer),
+        Err(SettingsError::NoMemory) => report(rt, Fault::NoMemory),
+        Err(SettingsError::Usage(error)) => tell(rt, error),
     }
 }
 
@@ -89,15 +108,12 @@ fn start<E: Print + Eprint + AllocGlobal, R: Source, W: Write, S: AsStr>(
     // Plain words have their task done.
     ensures plain { (task : TaskValue) → Say (map S.text words.now) task
         → Ends task result (R.remaining reader.old) (W.contents writer.old.writer) (W.contents writer.new.writer) }
-    // For others nothing is read, nothing but the parser's text is written, and no status is a task's 1.
+    // For others no status is a task's 1.
     ensures other { ((task : TaskValue) → ¬ Say (map S.text words.now) task) → (result ≡ 0) ⊎ (result ≡ 2) ⊎ (result ≡ 3) }
-    ensures untouched { ((task : TaskValue) → ¬ Say (map S.text words.now) task) → (reader.new ≡ reader.old) × (writer.new ≡ writer.old) }
+    ensures untouched { ((task : TaskValue) → ¬ Say (map S.text words.now) task)
+        → (reader.new ≡ reader.old) × (writer.new ≡ writer.old) }
 {
-    match settings(rt.alloc(), words) {
-        Ok(task) => run(rt, task, reader, writer),
-        Err(SettingsError::NoMemory) => report(rt, Fault::NoMemory),
-        Err(SettingsError::Usage(error)) => tell(rt, error),
-    }
+    carry_out(rt, settings(rt.alloc(), words), reader, writer)
 }
 
 /// Does what the words of the command line ask for, and answers the exit status.
