@@ -18,7 +18,7 @@ class Talker:
     def __init__(self, name, command, is_shown):
         self.name, self._is_shown = name, is_shown
         self._child = subprocess.Popen(command, stdin=subprocess.PIPE, stdout=subprocess.PIPE, stderr=subprocess.STDOUT, text=True, errors="replace", bufsize=1)
-        self.said, self._has_ended = [], False
+        self.said, self.has_ended = [], False
         self._changed = threading.Condition()
         self._thread = threading.Thread(target=self._listen, daemon=True)
         self._thread.start()
@@ -30,7 +30,7 @@ class Talker:
                 print(f"{time.monotonic():.2f} {self.name}: {line[:120]}", flush=True)
             self.take(line)
         with self._changed:
-            self._has_ended = True
+            self.has_ended = True
             self._changed.notify_all()
 
     def take(self, line):
@@ -41,8 +41,11 @@ class Talker:
 
     def tell(self, line):
         """Tells it a line."""
-        self._child.stdin.write(line + "\n")
-        self._child.stdin.flush()
+        try:
+            self._child.stdin.write(line + "\n")
+            self._child.stdin.flush()
+        except BrokenPipeError as error:
+            raise Missing(f"{self.name} has ended") from error
 
     def mark(self):
         """A place in what it says: `hear` looks behind it."""
@@ -57,7 +60,7 @@ class Talker:
                 if len(found) >= count:
                     return found
                 left = last - time.monotonic()
-                if left <= 0 or self._has_ended:
+                if left <= 0 or self.has_ended:
                     raise Missing(f"{self.name} didn't say `{beginning}`" + (f" {count} times" if count > 1 else "") + f"; it said {[line[:60] for line in self.said[since:][-6:]]}")
                 self._changed.wait(left)
 
@@ -83,6 +86,7 @@ class Talker:
             self._child.terminate()
             self._child.wait()
         self._thread.join()
+        self._child.stdout.close()
 
 
 class Missing(Exception):
