@@ -8,8 +8,8 @@ use Rattle.x25_bits.specs.Bits.{bit}
 use Rattle.x25_packet.specs.Digits.{hold_digits}
 use Rattle.x25_wide.specs.Block.{PlainFields, PlainBlock, count_of, fields_octets, block_octets, optional_octets, MayBeFields, IsBlock, MayBeBlock}
 use Rattle.x25_wide.specs.Facilities.{are_facilities, asks_fast_select}
-use Rattle.x25_wide.specs.Packet.{registration, registration_conf}
-use Rattle.x25_wide.specs.Packet.{PlainKind, PlainWide, accept, extended_clear, clear_conf, rr, rnr, rej, interrupt_conf, reset, reset_conf, restart, restart_conf}
+use Rattle.x25_wide.specs.Narrowing.{HasDigits}
+use Rattle.x25_wide.specs.Packet.{registration, registration_conf, PlainKind, PlainWide, call, accept, clear, extended_clear, clear_conf, user_data, rr, rnr, rej, interrupt, interrupt_conf, reset, reset_conf, restart, restart_conf, diagnostic}
 use Rattle.x25_wide.specs.Packet.Spelling.{type_of, body_of, reason_octets, HasPlace, IsShort, IsKind, Spells}
 use Rattle.x25_wide.specs.Reading.{mapped, fields_of, with_digits, block_of, optional_block, bare, is_short, called, reason_of, caused, clear_of, interrupt_of, data_of, diagnostic_of, registered, unchannelled, named, channelled, kind_of, has_format, with_head, wide_of}
 use Rattle.x25_wide.proofs.FacilityLemmas.{field_found}
@@ -324,3 +324,24 @@ found_spells most (first ∷ second ∷ kind ∷ body) w small e =
       };
       spelling = front _ _ _ _ (rw (q, d) (omega (arith, few, less, modulo))) (front _ _ _ _ (omega (arith, few, less)) (front _ _ _ _ (sym found.type_is) found.body_is));
     })
+
+-- the digits of a packet are digits
+pub has_digits : (most : ℕ) (k : PlainKind) → IsKind most k → HasDigits k
+has_digits most (call block) h = h.0.digits
+has_digits most (accept block) h = tt
+has_digits most (clear cause reason) h = tt
+has_digits most (extended_clear cause reason block) h = tt
+has_digits most (clear_conf block) h = tt
+has_digits most (user_data m ps pr user) h = tt
+has_digits most (rr pr) h = tt
+has_digits most (rnr pr) h = tt
+has_digits most (rej pr) h = tt
+has_digits most (interrupt user) h = tt
+has_digits most interrupt_conf h = tt
+has_digits most (reset cause reason) h = tt
+has_digits most reset_conf h = tt
+has_digits most (restart cause reason) h = tt
+has_digits most restart_conf h = tt
+has_digits most (diagnostic number explanation) h = tt
+has_digits most (registration octets) h = tt
+has_digits most (registration_conf octets) h = tt

@@ -1,3 +1,4 @@
 pub mod FacilityLemmas
 pub mod FoundLaws
 pub mod AgainLaws
+pub mod NarrowLaws

@@ -1,5 +1,6 @@
 -- Facilities of all classes. ITU-T X.25 (10/96), section 7.
-use Rattle.std.specs.Prelude.{ℕ, zero, suc, ◌+◌, ◌/◌, ◌≤◌, ◌≡◌, ◌==◌, ◌||◌, nat_le, nat_lt, Bool, true, false, List, [], ◌∷◌, ◌++◌}
+use Rattle.std.specs.Prelude.{ℕ, zero, suc, ◌+◌, ◌/◌, ◌≤◌, ◌≡◌, ◌==◌, ◌||◌, nat_le, nat_lt, Bool, true, false, List, []}
+use Rattle.std.specs.Prelude.{◌∷◌, ◌++◌}
 use Rattle.std.specs.Prelude.{length, slice_index, if◌then◌else◌, Some, None}
 use Rattle.x25_wide.specs.declared.facilities.Own.{Own}
 

@@ -2,3 +2,5 @@ pub mod Facilities
 pub mod Block
 pub mod Packet
 pub mod Reading
+pub mod Narrowing
+pub mod laws

@@ -8,7 +8,8 @@ use Rattle.x25_packet.specs.declared.error.PacketError.TheVariants.{BadDigit, Ba
 use Rattle.x25_packet.specs.Digits.{hold_digits}
 use Rattle.x25_wide.specs.Block.{PlainBlock, PlainFields, count_of}
 use Rattle.x25_wide.specs.Facilities.{are_facilities, asks_fast_select}
-use Rattle.x25_wide.specs.Packet.{PlainKind, PlainWide, call, accept, clear, extended_clear, clear_conf, user_data, rr, rnr}
+use Rattle.x25_wide.specs.Packet.{PlainKind, PlainWide, call, accept, clear, extended_clear, clear_conf, user_data, rr}
+use Rattle.x25_wide.specs.Packet.{rnr}
 use Rattle.x25_wide.specs.Packet.{rej, interrupt, interrupt_conf, reset, reset_conf, restart, restart_conf, diagnostic}
 use Rattle.x25_wide.specs.Packet.{registration, registration_conf}
 use Rattle.x25_wide.specs.Packet.Spelling.{may_have}

@@ -6,11 +6,15 @@
 
 mod block;
 mod facilities;
+mod law;
+mod narrowing;
 mod packet;
 mod reading;
 
 pub use block::{Block, Fields};
 pub use facilities::{Own, are_facilities, own_facilities};
+pub use law::reads_alike;
+pub use narrowing::{NarrowField, narrow};
 pub use packet::{Kind, WidePacket};
 pub use reading::{FAST_SELECT_OCTETS, decode};
 pub use x25_packet::{PacketError, Seq};

@@ -5,6 +5,7 @@ ghost use Rattle.x25_wide.specs.Reading.{Gives, bare, channelled, clear_of, data
 ghost use Rattle.x25_wide.specs.Reading.{interrupt_of, is_short, kind_of, named, reason_of, unchannelled, wide_of};
 ghost use Rattle.x25_wide.specs.Reading.{called, block_of, registered};
 ghost use Rattle.x25_wide.specs.Block.{plain_block, plain_fields};
+ghost use Rattle.x25_wide.specs.Narrowing.{HasDigits};
 ghost use Rattle.x25_wide.specs.Packet.Spelling.{Spells, may_have};
 
 use crate::block::{Fields, read_block, read_optional_block};
@@ -268,6 +269,8 @@ pub fn decode<'a>(most: usize, octets: &'a [u8]) -> Result<WidePacket<'a>, Packe
     ensures found { IfOk result (λ w. Spells most (plain w) octets.now) }
     // What is spelled so is read.
     ensures only { (v : PlainWide) → Spells most v octets.now → IsOkAnd result (λ w. plain w ≡ v) }
+    // So that `narrow` takes it.
+    ensures digits { IfOk result (λ w. HasDigits (plain_kind w.kind)) }
 {
     read(most, octets)
 }

@@ -4,4 +4,6 @@
 #[cfg(test)]
 mod facilities;
 #[cfg(test)]
+mod narrowing;
+#[cfg(test)]
 mod packets;

@@ -1,10 +1,12 @@
 -- The octets that spell a packet. ITU-T X.25 (10/96), section 5.
-use Rattle.std.specs.Prelude.{ℕ, ◌+◌, ◌*◌, ◌/◌, ◌%◌, ◌<◌, ◌≤◌, ◌≡◌, ◌⊎◌, ◌==◌, ◌||◌, ◌&&◌, not, Bool, true, List, [], ◌∷◌, length}
+use Rattle.std.specs.Prelude.{ℕ, ◌+◌, ◌*◌, ◌/◌, ◌%◌, ◌<◌, ◌≤◌, ◌≡◌, ◌⊎◌, ◌==◌, ◌||◌, ◌&&◌, not, Bool, true, List, []}
+use Rattle.std.specs.Prelude.{◌∷◌, length}
 use Rattle.std.specs.Prelude.{Option, Some, None}
 use Rattle.x25_bits.specs.Bits.{bit}
 use Rattle.x25_wide.specs.Block.{PlainFields, block_octets, optional_octets, IsBlock, MayBeBlock}
 use Rattle.x25_wide.specs.Facilities.{asks_fast_select}
-use Rattle.x25_wide.specs.Packet.{PlainKind, PlainWide, call, accept, clear, extended_clear, clear_conf, user_data, rr, rnr}
+use Rattle.x25_wide.specs.Packet.{PlainKind, PlainWide, call, accept, clear, extended_clear, clear_conf, user_data, rr}
+use Rattle.x25_wide.specs.Packet.{rnr}
 use Rattle.x25_wide.specs.Packet.{rej, interrupt, interrupt_conf, reset, reset_conf, restart, restart_conf, diagnostic}
 use Rattle.x25_wide.specs.Packet.{registration, registration_conf}
 

@@ -1,0 +1,93 @@
+-- What a station takes a packet for: one of those that it writes, or an error (profile).
+use Rattle.std.specs.Prelude.{ℕ, ◌/◌, ◌%◌, ◌&&◌, Bool, true, false, List, [], take, drop, if◌then◌else◌, Option, Some}
+use Rattle.std.specs.Prelude.{None, Result, Ok, Err}
+use Rattle.x25_packet.specs.Digits.{halves_at}
+use Rattle.x25_packet.specs.Facilities.{field_of, is_within}
+use Rattle.x25_packet.specs.Packet as written
+use Rattle.x25_packet.specs.declared.error.PacketError.{PacketError}
+use Rattle.x25_packet.specs.declared.error.PacketError.TheVariants.{BadParameter, Unidentified}
+use Rattle.x25_packet.specs.declared.facilities.Directions.{Directions}
+use Rattle.x25_wide.specs.Block.{AreDigits, PlainFields}
+use Rattle.x25_wide.specs.Facilities.{none_own, own_in}
+use Rattle.x25_wide.specs.Packet.{PlainKind, PlainWide, call, accept, clear, extended_clear, clear_conf, user_data, rr}
+use Rattle.x25_wide.specs.Packet.{rnr}
+use Rattle.x25_wide.specs.Packet.{rej, interrupt, interrupt_conf, reset, reset_conf, restart, restart_conf, diagnostic}
+use Rattle.x25_wide.specs.Packet.{registration, registration_conf}
+use Rattle.x25_wide.specs.declared.facilities.Own.{Own}
+
+abbrev pub are_within : ℕ → ℕ → Option Directions → Bool
+are_within least most None = true
+are_within least most (Some values) = is_within least most values.called && is_within least most values.calling
+
+-- Packet sizes and window sizes, in the order of the profile. Values out of their ranges are an error as there.
+abbrev pub field_said : Own → Result (List ℕ) PacketError
+field_said own = if are_within 4 12 own.packet_size && are_within 1 7 own.window_size
+    then Ok (field_of (record { packet_size = own.packet_size; window_size = own.window_size }))
+    else Err BadParameter
+
+-- the facilities before a marker that a station knows
+abbrev pub field_taken : Option PlainFields → Result (List ℕ) PacketError
+field_taken None = Ok []
+field_taken (Some f) = field_said (own_in none_own 0 f.facilities)
+
+abbrev pub user_taken : Option PlainFields → List ℕ
+user_taken None = []
+user_taken (Some f) = f.user
+
+-- the facility field of what a packet is taken for
+abbrev pub field_in : PlainKind → Result (List ℕ) PacketError
+field_in (call block) = field_taken block.fields
+field_in (accept (Some block)) = field_taken block.fields
+field_in _ = Ok []
+
+-- the digits of a CALL are digits
+abbrev pub HasDigits : PlainKind → Type 0
+HasDigits (call block) = AreDigits block
+HasDigits _ = Unit {0}
+
+-- the octets of both, of which these are there
+abbrev pub field_shown : List ℕ → Bool → Bool → List ℕ
+field_shown octets true true = octets
+field_shown octets true false = take 3 octets
+field_shown octets false true = drop 3 octets
+field_shown octets false false = []
+
+-- no diagnostic is taken for 0
+abbrev pub reason_taken : Option ℕ → ℕ
+reason_taken None = 0
+reason_taken (Some reason) = reason
+
+-- D is taken off, and so are the addresses and user data of an answer; what has no place in a station's table is
+-- unidentified, as it is there
+abbrev pub with_field : ℕ → Bool → PlainKind → List ℕ → Result written.PlainPacket PacketError
+with_field channel q (call block) field = Ok (written.call channel (halves_at block.digits 0 (block.lengths % 16))
+    (halves_at block.digits (block.lengths % 16) (block.lengths / 16)) field (user_taken block.fields))
+with_field channel q (accept block) field = Ok (written.accept channel field)
+with_field channel q (clear cause reason) field = Ok (written.clear channel cause (reason_taken reason))
+with_field channel q (extended_clear cause reason block) field = Ok (written.clear channel cause reason)
+with_field channel q (clear_conf block) field = Ok (written.clear_conf channel)
+with_field channel q (user_data m ps pr user) field = Ok (written.user_data channel q m ps pr user)
+with_field channel q (rr pr) field = Ok (written.rr channel pr)
+with_field channel q (rnr pr) field = Ok (written.rnr channel pr)
+with_field channel q (interrupt user) field = Ok (written.interrupt channel user)
+with_field channel q interrupt_conf field = Ok (written.interrupt_conf channel)
+with_field channel q (reset cause reason) field = Ok (written.reset channel cause (reason_taken reason))
+with_field channel q reset_conf field = Ok (written.reset_conf channel)
+with_field channel q (restart cause reason) field = Ok (written.restart cause (reason_taken reason))
+with_field channel q restart_conf field = Ok written.restart_conf
+with_field channel q (rej pr) field = Err Unidentified
+with_field channel q (diagnostic number explanation) field = Err Unidentified
+with_field channel q (registration octets) field = Err Unidentified
+with_field channel q (registration_conf octets) field = Err Unidentified
+
+abbrev pub narrowed : PlainWide → Result (List ℕ) PacketError → Result written.PlainPacket PacketError
+narrowed w (Ok field) = with_field w.channel w.q w.kind field
+narrowed w (Err e) = Err e
+
+abbrev pub narrow_of : PlainWide → Result written.PlainPacket PacketError
+narrow_of w = narrowed w (field_in w.kind)
+
+-- what octets are taken for
+abbrev pub taken_of : Result PlainWide PacketError → Result written.PlainPacket PacketError
+taken_of (Ok w) = narrow_of w
+taken_of (Err e) = Err e

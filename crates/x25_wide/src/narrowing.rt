@@ -1,0 +1,191 @@
+//! What a station takes a packet for: one of those that it writes itself.
+ghost use Rattle.std.specs.Prelude.{◌≡◌};
+ghost use Rattle.x25_packet.specs.Packet.{plain as plain_written};
+ghost use Rattle.x25_wide.specs.Block.{plain_fields};
+ghost use Rattle.x25_wide.specs.Narrowing.{HasDigits, are_within, field_in, field_said, field_taken, reason_taken};
+ghost use Rattle.x25_wide.specs.Narrowing.{user_taken, with_field};
+ghost use Rattle.x25_wide.specs.Packet.{plain_kind};
+ghost use Rattle.x25_wide.specs.Reading.{Gives};
+
+use crate::block::Fields;
+use crate::facilities::{Own, PACKET_SIZE, WINDOW_SIZE, own_facilities};
+use crate::packet::{Kind, WidePacket};
+use std::marker::Model;
+use x25_packet::{Directions, Packet, PacketError};
+
+/// The facility field of what a packet is taken for. Contracts see its octets.
+#[derive(Debug, Drop)]
+pub struct NarrowField {
+    /// The packet sizes, three octets, and the windows, three octets.
+    octets: [u8; 6],
+    has_sizes: bool,
+    has_windows: bool,
+}
+
+impl Model for NarrowField {
+    ghost use Rattle.std.specs.Prelude.{List, ℕ, ◌≡◌, length};
+    ghost use Rattle.x25_wide.specs.Narrowing.{field_shown};
+
+    ghost Value = { List ℕ };
+
+    ghost view = { λ f. field_shown f.octets f.has_sizes f.has_windows };
+
+    ghost invariant = { λ f. length f.octets ≡ 6 };
+}
+
+fn are_within(least: u8, most: u8, values: Option<Directions>) -> bool
+    ensures { result ≡ are_within least most values }
+{
+    match values {
+        None => true,
+        Some(values) => {
+            let called = least <= values.called && values.called <= most;
+            let calling = least <= values.calling && values.calling <= most;
+            called && calling
+        }
+    }
+}
+
+fn field_said(own: Own) -> Result<NarrowField, PacketError>
+    ensures { result ≡ field_said own }
+{
+    if !are_within(4, 12, own.packet_size) || !are_within(1, 7, own.window_size) {
+        return Err(PacketError::BadParameter);
+    }
+    let none = Directions {
+        called: 0,
+        calling: 0,
+    };
+    let sizes = own.packet_size.unwrap_or(none);
+    let windows = own.window_size.unwrap_or(none);
+    Ok(NarrowField {
+        octets: [
+            PACKET_SIZE,
+            sizes.called,
+            sizes.calling,
+            WINDOW_SIZE,
+            windows.called,
+            windows.calling,
+        ],
+        has_sizes: own.packet_size.is_some(),
+        has_windows: own.window_size.is_some(),
+    })
+}
+
+fn field_taken(fields: &Option<Fields>) -> Result<NarrowField, PacketError>
+    ensures { result ≡ field_taken (plain_fields fields.now) }
+{
+    match fields {
+        None => Ok(NarrowField {
+            octets: [0; 6],
+            has_sizes: false,
+            has_windows: false,
+        }),
+        Some(fields) => field_said(own_facilities(fields.facilities)),
+    }
+}
+
+impl NarrowField {
+    /// The facility field of what a packet is taken for: the facilities before a marker that a station knows.
+    ///
+    /// 26: a packet size or window size out of its range.
+    pub fn of(packet: &WidePacket) -> Result<NarrowField, PacketError>
+        ensures { result ≡ field_in (plain_kind packet.now.kind) }
+    {
+        match &packet.kind {
+            Kind::Call { block } => field_taken(&block.fields),
+            Kind::Accept { block: Some(block) } => field_taken(&block.fields),
+            _ => field_taken(&None),
+        }
+    }
+
+    /// The octets.
+    pub fn as_slice(&self) -> &[u8]
+        ensures { result.now ≡ self.now }
+    {
+        match (self.has_sizes, self.has_windows) {
+            (true, true) => &self.octets,
+            (true, false) => &self.octets[..3],
+            (false, true) => &self.octets[3..],
+            (false, false) => &[],
+        }
+    }
+}
+
+fn user_taken<'a>(fields: &Option<Fields<'a>>) -> &'a [u8]
+    ensures { result.now ≡ user_taken (plain_fields fields.now) }
+{
+    match fields {
+        None => &[],
+        Some(fields) => fields.user,
+    }
+}
+
+/// What a station takes the packet for, with the field that `NarrowField::of` has for it.
+///
+/// 22: REJ, DIAGNOSTIC and REGISTRATION, which a station doesn't know.
+pub fn narrow<'a>(
+    packet: &WidePacket<'a>,
+    field: &'a NarrowField,
+) -> Result<Packet<'a>, PacketError>
+    requires { HasDigits (plain_kind packet.now.kind) }
+    ensures { Gives plain_written result (with_field packet.now.channel packet.now.q
+        (plain_kind packet.now.kind) field.now) }
+{
+    let channel = packet.channel;
+    match &packet.kind {
+        Kind::Call { block } => Ok(Packet::Call {
+            channel,
+            called: block.called(),
+            calling: block.calling(),
+            facilities: field.as_slice(),
+            user: user_taken(&block.fields),
+        }),
+        Kind::Accept { .. } => Ok(Packet::Accept {
+            channel,
+            facilities: field.as_slice(),
+        }),
+        Kind::Clear { cause, diagnostic } => Ok(Packet::Clear {
+            channel,
+            cause: *cause,
+            diagnostic: diagnostic.unwrap_or(0),
+        }),
+        Kind::ExtendedClear {
+            cause,
+            diagnostic,
+            ..
+        } => Ok(Packet::Clear {
+            channel,
+            cause: *cause,
+            diagnostic: *diagnostic,
+        }),
+        Kind::ClearConf { .. } => Ok(Packet::ClearConf { channel }),
+        Kind::Data { m, ps, pr, user } => Ok(Packet::Data {
+            channel,
+            q: packet.q,
+            m: *m,
+            ps: *ps,
+            pr: *pr,
+            user,
+        }),
+        Kind::Rr { pr } => Ok(Packet::Rr { channel, pr: *pr }),
+        Kind::Rnr { pr } => Ok(Packet::Rnr { channel, pr: *pr }),
+        Kind::Interrupt { user } => Ok(Packet::Interrupt { channel, user }),
+        Kind::InterruptConf => Ok(Packet::InterruptConf { channel }),
+        Kind::Reset { cause, diagnostic } => Ok(Packet::Reset {
+            channel,
+            cause: *cause,
+            diagnostic: diagnostic.unwrap_or(0),
+        }),
+        Kind::ResetConf => Ok(Packet::ResetConf { channel }),
+        Kind::Restart { cause, diagnostic } => Ok(Packet::Restart {
+            cause: *cause,
+            diagnostic: diagnostic.unwrap_or(0),
+        }),
+        Kind::RestartConf => Ok(Packet::RestartConf),
+        Kind::Rej { .. }
+        | Kind::Diagnostic { .. }
+        | Kind::Registration { .. }
+        | Kind::RegistrationConf { .. } => Err(PacketError::Unidentified),
+    }
+}

@@ -1,0 +1,69 @@
+use std::test::Fail;
+use x25_packet::{Packet, PacketError};
+use x25_wide::{NarrowField, decode, narrow, reads_alike};
+
+/// What is taken of a packet: a cause, a diagnostic, and the facility field in hexadecimal.
+type Taken = (u8, u8, &'static str);
+
+/// Octets in hexadecimal, and what a station takes of them, or the number of the error that they are for it.
+static ROWS: [(&str, Result<Taken, u8>); 14] = [
+    ("10010b431234567000", Ok((0, 0, ""))),
+    ("50010b11120201014142", Ok((0, 0, ""))),
+    ("10010b111206430202420707", Ok((0, 0, "420707430202"))),
+    ("10010b1112084207070000420808", Ok((0, 0, "420707"))),
+    ("10010b1112", Ok((0, 0, ""))),
+    ("10010f0000", Ok((0, 0, ""))),
+    ("10010f11120343020241", Ok((0, 0, "430202"))),
+    ("10011305", Ok((5, 0, ""))),
+    ("10011305410000c0ffee", Ok((5, 65, ""))),
+    ("10011b05", Ok((5, 0, ""))),
+    ("1000fb0741", Ok((7, 65, ""))),
+    ("100149", Err(22)),
+    ("1000f121", Err(22)),
+    ("10010b111203420307", Err(26)),
+];
+
+fn told<'a>(packet: &Packet<'a>) -> (u8, u8, &'a [u8]) {
+    match packet {
+        Packet::Call { facilities, .. } | Packet::Accept { facilities, .. } => (0, 0, facilities),
+        Packet::Clear {
+            cause,
+            diagnostic,
+            ..
+        }
+        | Packet::Reset {
+            cause,
+            diagnostic,
+            ..
+        }
+        | Packet::Restart { cause, diagnostic } => (*cause, *diagnostic, &[]),
+        _ => (255, 255, &[]),
+    }
+}
+
+/// Whether a station takes this of octets.
+fn takes(octets: &[u8], cause: u8, diagnostic: u8, field: &[u8]) -> Result<bool, PacketError> {
+    let packet = decode(16, octets)?;
+    let own = NarrowField::of(&packet)?;
+    let taken = narrow(&packet, &own)?;
+    let (a, b, c) = told(&taken);
+    Ok(a == cause && b == diagnostic && c == field)
+}
+
+#[test]
+fn taken_for_packets(rt: HostRuntime) -> Result<(), Fail> {
+    for (text, wanted) in ROWS {
+        let octets = hex::decode(rt.alloc(), text)?;
+        let (cause, diagnostic, field) = wanted.unwrap_or((0, 0, ""));
+        let field = hex::decode(rt.alloc(), field)?;
+        let found = takes(octets.as_slice(), cause, diagnostic, field.as_slice());
+        let right = match (found, wanted) {
+            (Ok(same), Ok(_)) => same,
+            (Err(error), Err(number)) => error.number() == number,
+            _ => false,
+        };
+        assert!(rt; right, "{text}");
+    }
+    reads_alike();
+    Ok(())
+}
