@@ -55,7 +55,7 @@ script_status s script = sim_status (settings_in s) s.down s.tap script
 
 -- what is written for what is read
 abbrev pub task_text : Task → List ℕ → List ℕ
-task_text (Decode long) input = decode.output_of long input
+task_text (Decode long wide) input = decode.output_of (record { long = long; wide = wide }) input
 task_text Vectors input = verdicts
 task_text (Sim s) input = script_text s input
 task_text (Station p) input = lines_text p input
@@ -64,7 +64,7 @@ task_text (Deframe end) input = deframed (role_in end) input
 task_text Frame input = framed_octets input
 
 abbrev pub task_status : Task → List ℕ → ℕ
-task_status (Decode long) input = decode.status_of input
+task_status (Decode long wide) input = decode.status_of input
 task_status Vectors input = if are_right then 0 else 1
 task_status (Sim s) input = script_status s input
 task_status (Station p) input = lines_status p input
@@ -85,7 +85,8 @@ WritesEndedLines p old now rest input =
 -- At a failed read all is written but what the line that has begun and the rest give, of `deframe` all that was read gives, and of
 -- `frame` all but fewer than eight bits. `vectors` reads nothing.
 abbrev pub WritesEnded : Task → Option (List ℕ) → Option (List ℕ) → List ℕ → List ℕ → Type 0
-WritesEnded (Decode long) old now rest input = decoder.WritesEnded long old now rest (decode.output_of long input)
+WritesEnded (Decode long wide) old now rest input =
+    decoder.WritesEnded (record { long = long; wide = wide }) old now rest (decode.output_of (record { long = long; wide = wide }) input)
 WritesEnded Vectors old now rest input = ⊥
 WritesEnded (Sim s) old now rest input = WritesEndedScript s old now rest input
 WritesEnded (Station p) old now rest input = WritesEndedLines p old now rest input
@@ -109,7 +110,7 @@ WritesScriptSetUp Holds s script old now = s.down ≡ false → IsUpOnce (settin
 
 -- of a task that runs a script; of the others nothing is said
 abbrev pub OfScript : (Simulation → List ℕ → Option (List ℕ) → Option (List ℕ) → Type 0) → Task → List ℕ → Option (List ℕ) → Option (List ℕ) → Type 0
-OfScript Holds (Decode long) script old now = ⊤
+OfScript Holds (Decode long wide) script old now = ⊤
 OfScript Holds Vectors script old now = ⊤
 OfScript Holds (Sim s) script old now = Holds s script old now
 OfScript Holds (Station p) script old now = ⊤
@@ -119,7 +120,7 @@ OfScript Holds Frame script old now = ⊤
 
 -- a task that asks for memory before it reads and writes alone
 abbrev pub is_plain : Task → Bool
-is_plain (Decode long) = true
+is_plain (Decode long wide) = true
 is_plain Vectors = true
 is_plain (Sim s) = false
 is_plain (Station p) = false

@@ -11,7 +11,7 @@ ghost use Rattle.x25_world.specs.laws.SessionClaims.{SessionsKeepOrder};
 
 use std::alloc::Global;
 use x25_bit_line::{deframe, frame};
-use x25_decode::{decode_lines, vectors};
+use x25_decode::{Reading, decode_lines, vectors};
 use x25_io::{Fault, Sink, Source};
 use x25_judge::judge_lines;
 use x25_pipe::{Role, station};
@@ -172,7 +172,7 @@ pub(crate) fn perform<R: Source, W: Sink>(
     ensures unread { task ≡ Task.Vectors → reader.new ≡ reader.old }
 {
     match task {
-        Task::Decode { long } => decode_lines(alloc, long, reader, writer),
+        Task::Decode { long, wide } => decode_lines(alloc, Reading { long, wide }, reader, writer),
         Task::Sim(simulation) => simulate(alloc, simulation, reader, writer),
         Task::Station(place) => answer_lines(alloc, place, reader, writer),
         Task::Vectors => vectors(alloc, writer),

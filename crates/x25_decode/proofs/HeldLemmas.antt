@@ -1,4 +1,5 @@
 -- A line that is longer than any that is held is none of the grammar.
+use Rattle.x25_decode.specs.declared.answer.Reading.{Reading}
 use Rattle.std.proofs.Common.{◌≡◌, ◌<◌, ◌==◌, not, ℕ, Bool, true, false, List, [], ◌∷◌, ◌++◌, length, ap, refl, arith, nat_le, codes, if◌then◌else◌, Option, Some, None, option_map, option_and_then}
 use Rattle.std.specs.Prelude.{is_some}
 use Rattle.std.proofs.lemmas.Bool.Decides.{nat_tests}
@@ -24,6 +25,6 @@ pub long_refused : (line : List ℕ) → most_line < length line → is_refused 
 unfolding is_refused
 long_refused line big = ap (λ sent. not (is_some sent)) (long_sent line big)
 
-pub long_answer : (long_data : Bool) (line : List ℕ) → most_line < length line → answer_to long_data line ≡ codes "? 60\n"
+pub long_answer : (reading : Reading) (line : List ℕ) → most_line < length line → answer_to reading line ≡ codes "? 60\n"
 unfolding answer_to
-long_answer long_data line big = ap (λ sent. sent_text long_data sent ++ codes "\n") (long_sent line big)
+long_answer reading line big = ap (λ sent. sent_text reading sent ++ codes "\n") (long_sent line big)

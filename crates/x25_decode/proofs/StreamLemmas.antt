@@ -1,4 +1,5 @@
 -- A text, a piece at a time.
+use Rattle.x25_decode.specs.declared.answer.Reading.{Reading}
 use Rattle.std.proofs.Common.{◌≡◌, ◌∙◌, ◌||◌, ℕ, Bool, false, List, [], ◌∷◌, ◌++◌, Option, Some, None, ap, sym, refl, subst, append_assoc}
 use Rattle.std.specs.Prelude.{IfSome}
 use Rattle.std.specs.List.{flat_map, list_any}
@@ -15,24 +16,24 @@ use Rattle.x25_io.proofs.ToldLemmas.{none_told, prefix_more}
 use Rattle.x25_decode.specs.Decoding.{answer_to, is_refused, output_of, has_refused}
 use Rattle.x25_decode.specs.code.Stream.{Leads, WritesEnded}
 
-nil_output : (long_data : Bool) → output_of long_data [] ≡ []
+nil_output : (reading : Reading) → output_of reading [] ≡ []
 unfolding lines_of
-nil_output long_data = refl
+nil_output reading = refl
 
 nil_refuses : has_refused [] ≡ false
 unfolding lines_of
 nil_refuses = refl
 
 -- nothing was read or written
-pub nothing_written : (long_data : Bool) (o w : Option (List ℕ)) (K : List ℕ → Type 0)
-    → IfSome o (λ input. K input → AppendsPrefix w w (output_of long_data input))
-nothing_written long_data None w K = tt
-nothing_written long_data (Some input) w K = λ few. ([], output_of long_data input, refl, Appends-nil w)
+pub nothing_written : (reading : Reading) (o w : Option (List ℕ)) (K : List ℕ → Type 0)
+    → IfSome o (λ input. K input → AppendsPrefix w w (output_of reading input))
+nothing_written reading None w K = tt
+nothing_written reading (Some input) w K = λ few. ([], output_of reading input, refl, Appends-nil w)
 
 -- before anything is read
-pub start : (long_data : Bool) (old : Option (List ℕ)) (held : HeldLine) (text input : List ℕ) → HoldsLine [] held → text ≡ []
-    → Leads long_data old old held text false input (output_of long_data input) (has_refused input)
-start long_data old held text input empty none = record {
+pub start : (reading : Reading) (old : Option (List ℕ)) (held : HeldLine) (text input : List ℕ) → HoldsLine [] held → text ≡ []
+    → Leads reading old old held text false input (output_of reading input) (has_refused input)
+start reading old held text input empty none = record {
   begun = [];
   is_open = tt;
   holds = empty;
@@ -42,10 +43,10 @@ start long_data old held text input empty none = record {
   status = refl;
 }
 
-module _ (long_data : Bool) (old now next : Option (List ℕ)) (held : HeldLine) (text : List ℕ) (refused : Bool) (rest all : List ℕ) (any : Bool) where
+module _ (reading : Reading) (old now next : Option (List ℕ)) (held : HeldLine) (text : List ℕ) (refused : Bool) (rest all : List ℕ) (any : Bool) where
   -- what waited is written
-  abbrev pub written : (text2 : List ℕ) (h : Leads long_data old now held text refused rest all any) → Tells old next text2 h.told
-      → Leads long_data old next held text2 refused rest all any
+  abbrev pub written : (text2 : List ℕ) (h : Leads reading old now held text refused rest all any) → Tells old next text2 h.told
+      → Leads reading old next held text2 refused rest all any
   written text2 h tells = record {
     begun = h.begun;
     is_open = h.is_open;
@@ -56,57 +57,57 @@ module _ (long_data : Bool) (old now next : Option (List ℕ)) (held : HeldLine)
     status = h.status;
   }
 
-  pub part_written : (h : Leads long_data old now held text refused rest all any) → AppendsPrefix old next h.told → AppendsPrefix old next all
-  part_written h b = subst (AppendsPrefix old next) h.same (prefix_more old next h.told (output_of long_data (h.begun ++ rest)) b)
+  pub part_written : (h : Leads reading old now held text refused rest all any) → AppendsPrefix old next h.told → AppendsPrefix old next all
+  part_written h b = subst (AppendsPrefix old next) h.same (prefix_more old next h.told (output_of reading (h.begun ++ rest)) b)
 
   -- all is written but the answers to the line that has begun and to the rest
-  pub ended_written : (h : Leads long_data old now held text refused rest all any) → text ≡ [] → WritesEnded long_data old now rest all
+  pub ended_written : (h : Leads reading old now held text refused rest all any) → text ≡ [] → WritesEnded reading old now rest all
   ended_written h none = record {
     begun = h.begun;
     is_open = h.is_open;
     part = h.tells.written;
     appends = h.tells.appends;
-    same = ap (λ t. t ++ output_of long_data (h.begun ++ rest)) (sym (append-nil h.tells.written) ∙ ap (λ t. h.tells.written ++ t) (sym none) ∙ h.tells.same) ∙ h.same;
+    same = ap (λ t. t ++ output_of reading (h.begun ++ rest)) (sym (append-nil h.tells.written) ∙ ap (λ t. h.tells.written ++ t) (sym none) ∙ h.tells.same) ∙ h.same;
   }
 
   -- more of the line that has begun
-  pub held_more : (held2 : HeldLine) (part : List ℕ) → Leads long_data old now held text refused (part ++ rest) all any → IsOpen part
-      → ((begun : List ℕ) → HoldsLine begun held → HoldsLine (begun ++ part) held2) → Leads long_data old now held2 text refused rest all any
+  pub held_more : (held2 : HeldLine) (part : List ℕ) → Leads reading old now held text refused (part ++ rest) all any → IsOpen part
+      → ((begun : List ℕ) → HoldsLine begun held → HoldsLine (begun ++ part) held2) → Leads reading old now held2 text refused rest all any
   held_more held2 part h none holds = record {
     begun = h.begun ++ part;
     is_open = open-append h.begun part h.is_open none;
     holds = holds h.begun h.holds;
     told = h.told;
     tells = h.tells;
-    same = ap (λ t. h.told ++ output_of long_data t) (append_assoc h.begun part rest) ∙ h.same;
+    same = ap (λ t. h.told ++ output_of reading t) (append_assoc h.begun part rest) ∙ h.same;
     status = ap (λ t. refused || has_refused t) (append_assoc h.begun part rest) ∙ h.status;
   }
 
   -- the first line that is left is answered, and behind it none has begun
-  abbrev pub answered : (held2 : HeldLine) (text2 : List ℕ) (refused2 : Bool) (line left : List ℕ) (h : Leads long_data old now held text refused left all any)
-      → lines_of (h.begun ++ left) ≡ line ∷ lines_of rest → Tells old next text2 (h.told ++ answer_to long_data line) → refused2 ≡ (refused || is_refused line)
-      → HoldsLine [] held2 → Leads long_data old next held2 text2 refused2 rest all any
+  abbrev pub answered : (held2 : HeldLine) (text2 : List ℕ) (refused2 : Bool) (line left : List ℕ) (h : Leads reading old now held text refused left all any)
+      → lines_of (h.begun ++ left) ≡ line ∷ lines_of rest → Tells old next text2 (h.told ++ answer_to reading line) → refused2 ≡ (refused || is_refused line)
+      → HoldsLine [] held2 → Leads reading old next held2 text2 refused2 rest all any
   answered held2 text2 refused2 line left h lines tells refusal empty = record {
     begun = [];
     is_open = tt;
     holds = empty;
-    told = h.told ++ answer_to long_data line;
+    told = h.told ++ answer_to reading line;
     tells = tells;
-    same = append_assoc h.told (answer_to long_data line) (output_of long_data rest) ∙ ap (λ t. h.told ++ t) (sym (ap (flat_map (answer_to long_data)) lines)) ∙ h.same;
+    same = append_assoc h.told (answer_to reading line) (output_of reading rest) ∙ ap (λ t. h.told ++ t) (sym (ap (flat_map (answer_to reading)) lines)) ∙ h.same;
     status = ap (λ b. b || has_refused rest) refusal ∙ or_assoc refused (is_refused line) (has_refused rest)
         ∙ ap (λ b. refused || b) (sym (ap (list_any is_refused) lines)) ∙ h.status;
   }
 
   -- where none has begun, the first line is that of the text
-  pub first_line : (line : List ℕ) (h : Leads long_data old now held text refused (line ++ 10 ∷ rest) all any) → IsOpen line → h.begun ≡ []
+  pub first_line : (line : List ℕ) (h : Leads reading old now held text refused (line ++ 10 ∷ rest) all any) → IsOpen line → h.begun ≡ []
       → lines_of (h.begun ++ (line ++ 10 ∷ rest)) ≡ line ∷ lines_of rest
   first_line line h none empty = ap (λ b. lines_of (b ++ (line ++ 10 ∷ rest))) empty ∙ ends_line line rest none
 
 -- the end: no line has begun, and nothing waits
-pub ended : (long_data : Bool) (old now : Option (List ℕ)) (held : HeldLine) (text : List ℕ) (refused : Bool) (all : List ℕ) (any : Bool)
-    → (h : Leads long_data old now held text refused [] all any) → h.begun ≡ [] → text ≡ [] → Appends old now all × (refused ≡ any)
-ended long_data old now held text refused all any h empty none =
-    let whole : h.told ≡ all = sym (append-nil h.told) ∙ ap (λ t. h.told ++ t) (sym (nil_output long_data)) ∙ ap (λ b. h.told ++ output_of long_data (b ++ [])) (sym empty) ∙ h.same in
+pub ended : (reading : Reading) (old now : Option (List ℕ)) (held : HeldLine) (text : List ℕ) (refused : Bool) (all : List ℕ) (any : Bool)
+    → (h : Leads reading old now held text refused [] all any) → h.begun ≡ [] → text ≡ [] → Appends old now all × (refused ≡ any)
+ended reading old now held text refused all any h empty none =
+    let whole : h.told ≡ all = sym (append-nil h.told) ∙ ap (λ t. h.told ++ t) (sym (nil_output reading)) ∙ ap (λ b. h.told ++ output_of reading (b ++ [])) (sym empty) ∙ h.same in
     let told : h.tells.written ≡ h.told = sym (append-nil h.tells.written) ∙ ap (λ t. h.tells.written ++ t) (sym none) ∙ h.tells.same in (
       subst (Appends old now) (told ∙ whole) h.tells.appends,
       sym (or-false refused) ∙ ap (λ b. refused || b) (sym nil_refuses) ∙ ap (λ b. refused || has_refused (b ++ [])) (sym empty) ∙ h.status,

@@ -8,6 +8,8 @@ use Rattle.x25_bits.specs.declared.role.Role.TheVariants.{Dte, Dce}
 use Rattle.x25_frame.specs.Reading.{frame_of}
 use Rattle.x25_io.specs.Lines.{lines_of}
 use Rattle.x25_text.specs.FrameText.{reading_text}
+use Rattle.x25_text.specs.WideFrameText.{wide_reading_text}
+use Rattle.x25_decode.specs.declared.answer.Reading.{Reading}
 
 -- `>` marks what the DTE sent, `<` what the DCE sent
 abbrev pub sender_of : ℕ → Option Role
@@ -33,26 +35,31 @@ sent_in (mark ∷ space ∷ digits) = if space == 32
 abbrev pub n1 : ℕ
 n1 = 4099
 
--- by whether the user data of a CALL may be long
-abbrev pub sent_text : Bool → Option (Role × List ℕ) → List ℕ
-sent_text long_data None = codes "? 60"
-sent_text long_data (Some sent) = mark_of sent.0 ++ reading_text long_data (frame_of sent.0 n1 sent.1)
+-- what octets read as: packets in the form that a station writes alone, or in all their forms
+abbrev pub line_text : Reading → Role → List ℕ → List ℕ
+line_text reading from octets =
+    if reading.wide then wide_reading_text reading.long from octets (frame_of from n1 octets)
+    else reading_text reading.long (frame_of from n1 octets)
+
+abbrev pub sent_text : Reading → Option (Role × List ℕ) → List ℕ
+sent_text reading None = codes "? 60"
+sent_text reading (Some sent) = mark_of sent.0 ++ line_text reading sent.0 sent.1
 
 -- the line that answers a line
-unfoldable pub answer_to : Bool → List ℕ → List ℕ
-answer_to long_data line = sent_text long_data (sent_in line) ++ codes "\n"
+unfoldable pub answer_to : Reading → List ℕ → List ℕ
+answer_to reading line = sent_text reading (sent_in line) ++ codes "\n"
 
 -- the line is none of these
 unfoldable pub is_refused : List ℕ → Bool
 is_refused line = not (is_some (sent_in line))
 
 -- the text that answers the octets read
-abbrev pub output_of : Bool → List ℕ → List ℕ
-output_of long_data input = flat_map (answer_to long_data) (lines_of input)
+abbrev pub output_of : Reading → List ℕ → List ℕ
+output_of reading input = flat_map (answer_to reading) (lines_of input)
 
 abbrev pub has_refused : List ℕ → Bool
 has_refused input = list_any is_refused (lines_of input)
 
--- the status that `decode` ends with, whether user data may be long or not
+-- the status that `decode` ends with, however octets are read
 abbrev pub status_of : List ℕ → ℕ
 status_of input = if has_refused input then 1 else 0

@@ -5,6 +5,7 @@ use Rattle.std.specs.List.{flat_map, list_all}
 use Rattle.std.specs.Str.{bytes_eq}
 use Rattle.x25_bits.specs.FrameCheck.{fcs_of}
 use Rattle.x25_decode.specs.Decoding.{answer_to}
+use Rattle.x25_decode.specs.declared.answer.Reading.{Reading}
 use Rattle.x25_decode.specs.declared.test_vectors.Vector.{Vector}
 
 -- a line for `decode`, and the line that answers it
@@ -40,9 +41,13 @@ shown v = record { name = v.name.now; line = v.line.now; answer = v.answer.now }
 abbrev pub verdict : List ℕ → Bool → List ℕ
 verdict name is_right = name ++ (if is_right then codes " ok\n" else codes " bad\n")
 
+-- user data isn't long, and packets are read in the form that a station writes
+abbrev pub as_written : Reading
+as_written = record { long = false; wide = false }
+
 -- the line is answered by the answer
 abbrev pub is_right : Stored → Bool
-is_right v = bytes_eq (answer_to false v.line) v.answer
+is_right v = bytes_eq (answer_to as_written v.line) v.answer
 
 -- the check value of the FCS, 0x906E
 abbrev pub is_check_right : Bool

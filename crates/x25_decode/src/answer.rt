@@ -1,17 +1,28 @@
 //! What answers a line.
 ghost use Rattle.std.specs.Prelude.{◌≡◌, ◌+◌, ◌*◌, ◌≤◌, ◌++◌, Some, None, false, codes, length, take, IfSome, MatchOption};
 ghost use Rattle.x25_frame.specs.Reading.{frame_of};
-ghost use Rattle.x25_decode.specs.Decoding.{answer_to, is_refused, mark_of, n1, octets_in, sender_of, sent_in, sent_text};
+ghost use Rattle.x25_decode.specs.Decoding.{answer_to, is_refused, line_text, mark_of, n1, octets_in, sender_of, sent_in, sent_text};
 ghost use Rattle.x25_decode.specs.code.Front.{StandsInFront};
 ghost use Rattle.x25_text.specs.FrameText.{reading_text};
+ghost use Rattle.x25_text.specs.WideFrameText.{wide_reading_text};
 
-use x25_frame::{N1, Role, decode};
+use x25_frame::{FrameError, N1, Role, decode};
 use x25_text::{
-    MOST_OCTETS, MOST_TEXT, ROOM, Text, push_fault, push_frame, read_hexadecimal, read_line,
+    MOST_OCTETS, MOST_TEXT, ROOM, Text, push_fault, push_frame, push_other_frame, push_wide_frame,
+    read_hexadecimal, read_line,
 };
 
 /// The most characters of an answer, with its mark, a space and its line feed.
 pub const MOST_ANSWER: usize = MOST_TEXT + 3;
+
+/// How octets are read.
+#[derive(Clone, Copy, Debug, PartialEq, Eq)]
+pub struct Reading {
+    /// The user data of a CALL has at most 128 octets, in place of 16.
+    pub long: bool,
+    /// Packets are read in all the forms that a peer may send, and frames that LAPB modulo 8 lacks are named.
+    pub wide: bool,
+}
 
 fn sender(mark: u8) -> Option<Role>
     ensures { result ≡ sender_of mark }
@@ -72,41 +83,71 @@ pub fn read_sent(line: &[u8], octets: &mut [u8]) -> Option<(Role, usize)>
     }
 }
 
-/// Appends what the octets read as.
-fn push_reading(long_data: bool, from: Role, octets: &[u8], text: &mut Text)
+/// Appends what the octets read as, with packets in the form that a station writes.
+fn push_written(long: bool, from: Role, octets: &[u8], text: &mut Text)
     requires room { length text.old + MOST_TEXT ≤ ROOM }
-    ensures text { text.new ≡ text.old ++ reading_text long_data (frame_of from n1 octets.now) }
+    ensures text { text.new ≡ text.old ++ reading_text long (frame_of from n1 octets.now) }
     ensures size { length text.new ≤ length text.old + MOST_TEXT }
 {
     match decode(from, N1, octets) {
-        Ok(frame) => push_frame(long_data, &frame, text),
+        Ok(frame) => push_frame(long, &frame, text),
         Err(error) => push_fault(error, text),
     }
 }
 
+/// Appends what the octets read as, with packets in all their forms, and frames of other procedures by their names.
+#[inline(never)]
+fn push_any(long: bool, from: Role, octets: &[u8], text: &mut Text)
+    requires few { length octets.now ≤ MOST_OCTETS }
+    requires room { length text.old + MOST_TEXT ≤ ROOM }
+    ensures text { text.new ≡ text.old ++ wide_reading_text long from octets.now (frame_of from n1 octets.now) }
+    ensures size { length text.new ≤ length text.old + MOST_TEXT }
+{
+    match decode(from, N1, octets) {
+        Ok(frame) => push_wide_frame(long, &frame, text),
+        Err(FrameError::Undefined { control }) => push_other_frame(from, octets, control, text),
+        Err(error) => push_fault(error, text),
+    }
+}
+
+/// Appends what the octets read as.
+fn push_line(reading: Reading, from: Role, octets: &[u8], text: &mut Text)
+    requires few { length octets.now ≤ MOST_OCTETS }
+    requires room { length text.old + MOST_TEXT ≤ ROOM }
+    ensures text { text.new ≡ text.old ++ line_text reading from octets.now }
+    ensures size { length text.new ≤ length text.old + MOST_TEXT }
+{
+    if reading.wide {
+        push_any(reading.long, from, octets, text);
+    } else {
+        push_written(reading.long, from, octets, text);
+    }
+}
+
 /// Appends the line that answers octets which were sent.
-fn push_answer(long_data: bool, from: Role, octets: &[u8], text: &mut Text)
+fn push_answer(reading: Reading, from: Role, octets: &[u8], text: &mut Text)
+    requires few { length octets.now ≤ MOST_OCTETS }
     requires room { length text.old + MOST_ANSWER ≤ ROOM }
-    ensures { text.new ≡ text.old ++ (sent_text long_data (Some (from, octets.now)) ++ codes "\n") }
+    ensures { text.new ≡ text.old ++ (sent_text reading (Some (from, octets.now)) ++ codes "\n") }
 {
     text.push(mark(from));
-    push_reading(long_data, from, octets, text);
+    push_line(reading, from, octets, text);
     text.push(b"\n");
 }
 
 /// Appends the line that answers a line, and says whether that line was refused. `octets` is overwritten.
 ///
-/// With `long_data` the user data of a CALL has at most 128 octets, else at most 16.
+/// `reading` says how octets are read.
 #[tactic(auto, unfolding(crate::specs::Decoding::answer_to, crate::specs::Decoding::is_refused))]
-pub fn answer(long_data: bool, line: &[u8], octets: &mut [u8], text: &mut Text) -> bool
+pub fn answer(reading: Reading, line: &[u8], octets: &mut [u8], text: &mut Text) -> bool
     requires octets { length octets.old ≡ MOST_OCTETS }
     requires room { length text.old + MOST_ANSWER ≤ ROOM }
-    ensures text { text.new ≡ text.old ++ answer_to long_data line.now }
+    ensures text { text.new ≡ text.old ++ answer_to reading line.now }
     ensures refused { result ≡ is_refused line.now }
 {
     match read_sent(line, octets) {
         Some((from, count)) => {
-            push_answer(long_data, from, &octets[..count], text);
+            push_answer(reading, from, &octets[..count], text);
             false
         }
         None => {
@@ -139,10 +180,10 @@ fn read_front(left: &[u8], octets: &mut [u8]) -> Option<(Role, usize)>
 /// Appends the line that answers the line at the front of a text, where that can be read with no search for its end, and
 /// answers how many characters it has before its line feed. `octets` is overwritten.
 ///
-/// With `long_data` the user data of a CALL has at most 128 octets, else at most 16.
+/// `reading` says how octets are read.
 #[tactic(auto, unfolding(crate::specs::Decoding::answer_to, crate::specs::Decoding::is_refused))]
 pub fn answer_front(
-    long_data: bool,
+    reading: Reading,
     left: &[u8],
     octets: &mut [u8],
     text: &mut Text,
@@ -150,12 +191,12 @@ pub fn answer_front(
     requires octets { length octets.old ≡ MOST_OCTETS }
     requires room { length text.old + MOST_ANSWER ≤ ROOM }
     ensures line { IfSome result (λ count. StandsInFront count left.now) }
-    ensures text { MatchOption result (text.new ≡ text.old) (λ count. text.new ≡ text.old ++ answer_to long_data (take count left.now)) }
+    ensures text { MatchOption result (text.new ≡ text.old) (λ count. text.new ≡ text.old ++ answer_to reading (take count left.now)) }
     ensures taken { IfSome result (λ count. is_refused (take count left.now) ≡ false) }
 {
     match read_front(left, octets) {
         Some((from, count)) => {
-            push_answer(long_data, from, &octets[..count], text);
+            push_answer(reading, from, &octets[..count], text);
             Some(2 * count + 2)
         }
         None => None,

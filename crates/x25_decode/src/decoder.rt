@@ -1,7 +1,7 @@
 //! Lines answered as they come, with at most one line held.
 ghost use Rattle.x25_text.specs.declared.text.TheConstants.{ROOM};
 
-use crate::answer::{MOST_ANSWER, answer, answer_front};
+use crate::answer::{MOST_ANSWER, Reading, answer, answer_front};
 use std::alloc::{AllocError, Global};
 use x25_io::{Failed, Fault, HeldLine, Output, Sink, TextTaker, split_line};
 use x25_text::MOST_OCTETS;
@@ -15,7 +15,7 @@ pub struct Decoder {
     octets: [u8; MOST_OCTETS],
     output: Output,
     is_refused: bool,
-    long_data: bool,
+    reading: Reading,
 }
 
 impl Decoder {
@@ -29,9 +29,9 @@ impl Decoder {
 
     /// Nothing is held and nothing waits.
     ///
-    /// With `long_data` the user data of a CALL has at most 128 octets, else at most 16.
-    pub fn new(alloc: Global, long_data: bool) -> Result<Decoder, AllocError>
-        ensures { IfOk result (λ d. (old : Option (List ℕ)) (input : List ℕ) → DecodesOn long_data d old old input input) }
+    /// `reading` says how octets are read.
+    pub fn new(alloc: Global, reading: Reading) -> Result<Decoder, AllocError>
+        ensures { IfOk result (λ d. (old : Option (List ℕ)) (input : List ℕ) → DecodesOn reading d old old input input) }
     {
         let held = HeldLine::new(alloc)?;
         let output = Output::new(alloc)?;
@@ -40,21 +40,21 @@ impl Decoder {
             octets: [0; MOST_OCTETS],
             output,
             is_refused: false,
-            long_data,
+            reading,
         })
     }
 
     /// Answers the line that is held, and says whether it is refused.
     fn answer_held(&mut self) -> bool
         requires room { length self.old.output + MOST_ANSWER ≤ ROOM }
-        ensures text { (begun : List ℕ) → HoldsLine begun self.old.held → self.new.output ≡ self.old.output ++ answer_to self.old.long_data begun }
+        ensures text { (begun : List ℕ) → HoldsLine begun self.old.held → self.new.output ≡ self.old.output ++ answer_to self.old.reading begun }
         ensures refused { (begun : List ℕ) → HoldsLine begun self.old.held → result ≡ is_refused begun }
         ensures held { self.new.held ≡ self.old.held }
         ensures is_refused { self.new.is_refused ≡ self.old.is_refused }
-        ensures long_data { self.new.long_data ≡ self.old.long_data }
+        ensures reading { self.new.reading ≡ self.old.reading }
     {
         match self.held.line() {
-            Some(line) => answer(self.long_data, line, &mut self.octets, self.output.text()),
+            Some(line) => answer(self.reading, line, &mut self.octets, self.output.text()),
             None => {
                 self.output.text().push(b"? 60\n");
                 true
@@ -65,10 +65,10 @@ impl Decoder {
     /// The line that is held has ended.
     fn end_line(&mut self)
         requires room { length self.old.output + MOST_ANSWER ≤ ROOM }
-        ensures text { (begun : List ℕ) → HoldsLine begun self.old.held → self.new.output ≡ self.old.output ++ answer_to self.old.long_data begun }
+        ensures text { (begun : List ℕ) → HoldsLine begun self.old.held → self.new.output ≡ self.old.output ++ answer_to self.old.reading begun }
         ensures refused { (begun : List ℕ) → HoldsLine begun self.old.held → self.new.is_refused ≡ (self.old.is_refused || is_refused begun) }
         ensures cleared { HoldsLine [] self.new.held }
-        ensures long_data { self.new.long_data ≡ self.old.long_data }
+        ensures reading { self.new.reading ≡ self.old.reading }
     {
         let refused = self.answer_held();
         self.is_refused |= refused;
@@ -81,10 +81,10 @@ impl Decoder {
         requires room { length self.old.output + MOST_ANSWER ≤ ROOM }
         ensures leads { (old now : Option (List ℕ)) (rest all : List ℕ) (any : Bool) → LeadsFrom old now self.old (tail.now ++ 10 ∷ rest) all any
             → LeadsFrom old now self.new rest all any }
-        ensures long_data { self.new.long_data ≡ self.old.long_data }
+        ensures reading { self.new.reading ≡ self.old.reading }
     {
         if self.held.is_empty() {
-            let refused = answer(self.long_data, tail, &mut self.octets, self.output.text());
+            let refused = answer(self.reading, tail, &mut self.octets, self.output.text());
             self.is_refused |= refused;
             return;
         }
@@ -98,7 +98,7 @@ impl Decoder {
         ensures leads { (old now : Option (List ℕ)) (rest all : List ℕ) (any : Bool) → LeadsFrom old now self.old (left.now ++ rest) all any
             → MatchOption result (LeadsFrom old now self.new (left.now ++ rest) all any) (λ more. LeadsFrom old now self.new (more.now ++ rest) all any) }
         ensures line { MatchOption result (IsOpen left.now) (λ more. length more.now < length left.now) }
-        ensures long_data { self.new.long_data ≡ self.old.long_data }
+        ensures reading { self.new.reading ≡ self.old.reading }
     {
         let Some((tail, after)) = split_line(left) else {
             return None;
@@ -121,13 +121,13 @@ impl Decoder {
             (λ _. AppendsPrefix old (W.contents writer.new) all) }
         ensures line { IfOk result (λ after. MatchOption after (IsOpen left.now) (λ more. length more.now < length left.now)) }
         ensures marked { OnErr result (W.is_marked writer.new ≡ true) }
-        ensures long_data { self.new.long_data ≡ self.old.long_data }
+        ensures reading { self.new.reading ≡ self.old.reading }
     {
         self.output.make_room(MOST_ANSWER, writer)?;
         if !self.held.is_empty() {
             return Ok(self.take_found_line(left));
         }
-        match answer_front(self.long_data, left, &mut self.octets, self.output.text()) {
+        match answer_front(self.reading, left, &mut self.octets, self.output.text()) {
             Some(count) => Ok(Some(&left[count + 1..])),
             None => Ok(self.take_found_line(left)),
         }
@@ -146,7 +146,7 @@ impl Decoder {
             (λ _. AppendsPrefix old (W.contents writer.new) all) }
         ensures open { IfOk result (λ left. IsOpen left.now) }
         ensures marked { OnErr result (W.is_marked writer.new ≡ true) }
-        ensures long_data { self.new.long_data ≡ self.old.long_data }
+        ensures reading { self.new.reading ≡ self.old.reading }
     {
         let mut left = piece;
         while let Some(after) = self.take_line(left, writer)? {
@@ -174,12 +174,12 @@ impl Decoder {
 }
 
 impl TextTaker for Decoder {
-    ghost use Rattle.std.specs.Prelude.{Bool};
+    ghost use Rattle.x25_decode.specs.declared.answer.Reading.{Reading};
     ghost use Rattle.x25_decode.specs.Decoding.{output_of, status_of as status_of_input};
     ghost use Rattle.x25_decode.specs.code.Stream.{DecodesOn, WritesEnded};
 
-    // Whether user data may be long.
-    ghost Setting = { Bool };
+    // How octets are read.
+    ghost Setting = { Reading };
 
     ghost text_of = { output_of };
 
@@ -187,7 +187,7 @@ impl TextTaker for Decoder {
 
     ghost leads = { DecodesOn };
 
-    ghost ended = { λ long old now rest input. WritesEnded long old now rest (output_of long input) };
+    ghost ended = { λ reading old now rest input. WritesEnded reading old now rest (output_of reading input) };
 
     ghost waiting = { λ d. d.output };
 

@@ -9,7 +9,7 @@ mod decoding;
 mod law;
 mod test_vectors;
 
-pub use answer::{mark, read_sent};
+pub use answer::{Reading, mark, read_sent};
 pub use decoding::decode_lines;
 pub use law::long_lines_send_nothing;
 pub use test_vectors::{vectors, vectors_hold};

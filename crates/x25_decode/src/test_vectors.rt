@@ -5,11 +5,17 @@ ghost use Rattle.std.specs.List.{flat_map, list_all};
 ghost use Rattle.x25_decode.specs.TestVectors.{are_right, is_check_right, is_right, shown, verdict, verdict_of, verdicts};
 ghost use Rattle.x25_io.specs.code.Written.{AppendsPrefix};
 
-use crate::answer::answer;
+use crate::answer::{Reading, answer};
 use std::alloc::Global;
 use x25_bits::fcs;
 use x25_io::{Failed, Fault, Sink, write_all};
 use x25_text::{MOST_OCTETS, Text};
+
+/// How the lines of the vectors are read.
+const AS_WRITTEN: Reading = Reading {
+    long: false,
+    wide: false,
+};
 
 /// A line for `decode`, and the line that answers it.
 struct Vector {
@@ -125,7 +131,7 @@ fn holds(vector: &Vector, octets: &mut [u8], text: &mut Text) -> bool
     ensures { result ≡ is_right (shown vector.now) }
 {
     text.clear();
-    answer(false, vector.line.as_bytes(), octets, text);
+    answer(AS_WRITTEN, vector.line.as_bytes(), octets, text);
     text.as_slice() == vector.answer.as_bytes()
 }
 

@@ -1,5 +1,5 @@
 use std::test::Fail;
-use x25_decode::decode_lines;
+use x25_decode::{Reading, decode_lines};
 use x25_failing_devices::{FailingReader, FailingWriter};
 use x25_io::{Device, Fault};
 
@@ -19,12 +19,17 @@ fn wanted(has_failed: bool, fault: Fault) -> Result<u8, Fault> {
     if has_failed { Err(fault) } else { Ok(1) }
 }
 
+const AS_WRITTEN: Reading = Reading {
+    long: false,
+    wide: false,
+};
+
 #[test]
 fn tells_the_read_that_fails(rt: HostRuntime) -> Result<(), Fail> {
     for before in 0..READS + 3 {
         let mut reader = FailingReader::new(TRACE.as_bytes(), 7, before);
         let mut writer = Device::new(Vec::new(rt.alloc()));
-        let result = decode_lines(rt.alloc(), false, &mut reader, &mut writer);
+        let result = decode_lines(rt.alloc(), AS_WRITTEN, &mut reader, &mut writer);
         let written = writer.into_inner();
         assert_eq!(rt; result, wanted(before < READS, Fault::Read));
         assert!(rt; ANSWERS.as_bytes().starts_with(written.as_slice()));
@@ -38,7 +43,7 @@ fn tells_the_read_of_a_device_that_fails(rt: HostRuntime) -> Result<(), Fail> {
     for before in 0..READS + 3 {
         let mut reader = Device::new(FailingReader::new(TRACE.as_bytes(), 7, before));
         let mut writer = Device::new(Vec::new(rt.alloc()));
-        let result = decode_lines(rt.alloc(), false, &mut reader, &mut writer);
+        let result = decode_lines(rt.alloc(), AS_WRITTEN, &mut reader, &mut writer);
         let written = writer.into_inner();
         assert_eq!(rt; result, wanted(before < READS, Fault::Read));
         assert!(rt; ANSWERS.as_bytes().starts_with(written.as_slice()));
@@ -51,7 +56,7 @@ fn tells_the_write_that_fails(rt: HostRuntime) -> Result<(), Fail> {
     for before in 0..WRITES + 3 {
         let mut reader = Device::new(TRACE.as_bytes());
         let mut writer = FailingWriter::new(Vec::new(rt.alloc()), 9, before);
-        let result = decode_lines(rt.alloc(), false, &mut reader, &mut writer);
+        let result = decode_lines(rt.alloc(), AS_WRITTEN, &mut reader, &mut writer);
         assert_eq!(rt; result, wanted(before < WRITES, Fault::Write));
         assert!(rt; ANSWERS.as_bytes().starts_with(writer.octets()));
         assert_eq!(rt; writer.octets().len(), ANSWERS.len().min(9 * before));
@@ -64,7 +69,7 @@ fn tells_the_write_of_a_device_that_fails(rt: HostRuntime) -> Result<(), Fail> {
     for before in 0..WRITES + 3 {
         let mut reader = Device::new(TRACE.as_bytes());
         let mut writer = Device::new(FailingWriter::new(Vec::new(rt.alloc()), 9, before));
-        let result = decode_lines(rt.alloc(), false, &mut reader, &mut writer);
+        let result = decode_lines(rt.alloc(), AS_WRITTEN, &mut reader, &mut writer);
         let written = writer.into_inner();
         assert_eq!(rt; result, wanted(before < WRITES, Fault::Write));
         assert!(rt; ANSWERS.as_bytes().starts_with(written.octets()));
@@ -80,7 +85,7 @@ fn answers_in_any_pieces(rt: HostRuntime) -> Result<(), Fail> {
         let mut reader = FailingReader::new(TRACE.as_bytes(), most, 1000);
         let mut writer = FailingWriter::new(Vec::new(rt.alloc()), most, 1000);
         assert_eq!(rt;
-            decode_lines(rt.alloc(), false, &mut reader, &mut writer),
+            decode_lines(rt.alloc(), AS_WRITTEN, &mut reader, &mut writer),
             Ok(1)
         );
         assert_eq!(rt; writer.octets(), ANSWERS.as_bytes());

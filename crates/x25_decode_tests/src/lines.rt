@@ -1,6 +1,6 @@
 use std::alloc::Global;
 use std::test::Fail;
-use x25_decode::decode_lines;
+use x25_decode::{Reading, decode_lines};
 use x25_frame::{Frame, Role, Seq, encode};
 use x25_io::Device;
 
@@ -9,10 +9,15 @@ const TRACE: &str = "> 013febdf\n< 01738357\n> 01001000fb00007702\nx\n> 0101\n";
 const ANSWERS: &str =
     "> SABM cmd P=1\n< UA rsp F=1\n> I cmd P=0 S=0 R=0 | RESTART cause=0 diag=0\n? 60\n> fault 1 short\n";
 
-fn decoded(rt: &HostRuntime, long: bool, input: &[u8]) -> Result<(u8, Vec<u8>), Fail> {
+const AS_WRITTEN: Reading = Reading {
+    long: false,
+    wide: false,
+};
+
+fn decoded(rt: &HostRuntime, reading: Reading, input: &[u8]) -> Result<(u8, Vec<u8>), Fail> {
     let mut reader = Device::new(input);
     let mut writer = Device::new(Vec::new(rt.alloc()));
-    let status = decode_lines(rt.alloc(), long, &mut reader, &mut writer)?;
+    let status = decode_lines(rt.alloc(), reading, &mut reader, &mut writer)?;
     Ok((status, writer.into_inner()))
 }
 
@@ -41,8 +46,8 @@ fn answers_lines(rt: HostRuntime) -> Result<(), Fail> {
         (TRACE, ANSWERS, 1),
     ];
     for (input, output, status) in rows {
-        for long in [false, true] {
-            let (answer, written) = decoded(&rt, long, input.as_bytes())?;
+        for (long, wide) in [(false, false), (true, false), (false, true), (true, true)] {
+            let (answer, written) = decoded(&rt, Reading { long, wide }, input.as_bytes())?;
             assert_eq!(rt; written.as_slice(), output.as_bytes());
             assert_eq!(rt; answer, status);
         }
@@ -72,7 +77,7 @@ fn answers_long_lines(rt: HostRuntime) -> Result<(), Fail> {
     let output = format!(in alloc;
         "< I cmd P=1 S=0 R=0 | {shown}\n? 60\n> SABM cmd P=1\n? 60\n< I cmd P=1 S=0 R=0 | {shown}\n"
     )?;
-    let (status, written) = decoded(&rt, false, input.as_str().as_bytes())?;
+    let (status, written) = decoded(&rt, AS_WRITTEN, input.as_str().as_bytes())?;
     assert_eq!(rt; status, 1);
     assert!(rt; written.as_slice() == output.as_str().as_bytes());
     Ok(())
@@ -111,11 +116,34 @@ fn answers_calls_by_the_length_of_their_user_data(rt: HostRuntime) -> Result<(),
     for (long, most) in [(false, 16), (true, 128)] {
         for count in [16, 17, 128, 129] {
             let line = call_line(rt.alloc(), count)?;
-            let (status, written) = decoded(&rt, long, line.as_str().as_bytes())?;
+            let (status, written) = decoded(
+                &rt,
+                Reading { long, wide: false },
+                line.as_str().as_bytes(),
+            )?;
             let wanted = call_answer(rt.alloc(), count, most)?;
             assert_eq!(rt; status, 0);
             assert_eq!(rt; written.as_slice(), wanted.as_str().as_bytes());
         }
     }
+    Ok(())
+}
+
+/// Lines with packets in forms that a station doesn't write, and their answers.
+const OTHER_FORMS: &str =
+    "> 010050010b11120201011c3b\n> 0102100113050594\n> 017fef9d\n> 013febdf\n";
+
+const OTHER_ANSWERS: &str =
+    "> I cmd P=0 S=0 R=0 | CALL ch=1 D=1 called=1 calling=2 fac=0101 data=- ~ wide\n> I cmd P=0 S=1 R=0 | CLEAR ch=1 cause=5 ~ wide\n> SABME cmd P=1 ~ wide\n> SABM cmd P=1\n";
+
+#[test]
+fn answers_packets_in_other_forms(rt: HostRuntime) -> Result<(), Fail> {
+    let reading = Reading {
+        long: false,
+        wide: true,
+    };
+    let (status, written) = decoded(&rt, reading, OTHER_FORMS.as_bytes())?;
+    assert_eq!(rt; status, 0);
+    assert_eq!(rt; written.as_slice(), OTHER_ANSWERS.as_bytes());
     Ok(())
 }

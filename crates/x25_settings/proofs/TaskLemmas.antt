@@ -1,6 +1,6 @@
 -- What the words of the command line say.
-use Rattle.std.proofs.Common.{◌≡◌, ◌∙◌, ℕ, Bool, true, false, List, [], ◌∷◌, Option, Some, None, ap, refl, sym, subst, codes}
-use Rattle.std.specs.Prelude.{is_some, cond, option_map, option_and_then, ◌||◌}
+use Rattle.std.proofs.Common.{◌≡◌, ◌∙◌, ℕ, Bool, true, false, List, [], ◌∷◌, Option, Some, None, inl, inr, ap, refl, sym, subst, codes}
+use Rattle.std.specs.Prelude.{is_some, cond, option_map, option_and_then, ◌||◌, ◌&&◌}
 use Rattle.std.specs.Str.{bytes_eq}
 use Rattle.std.proofs.lemmas.Slice.Eq.{bytes_eq-Decides}
 use Rattle.std.proofs.lemmas.Option.{same_Some}
@@ -52,8 +52,10 @@ again_judging words g say =
 
 pub again : (words : List (List ℕ)) (task : Task) → Say words task → task_in words ≡ Some task
 unfolding task_in
-again words (Decode true) e = ap task_in e
-again words (Decode false) e = ap task_in e
+again words (Decode false false) say = ap task_in say.1 ∙ ap decode_in say.2
+again words (Decode true false) say = ap task_in say.1 ∙ ap decode_in say.2
+again words (Decode false true) say = ap task_in say.1 ∙ ap decode_in say.2
+again words (Decode true true) say = ap task_in say.1 ∙ elim say.2 [ inl e ↦ ap decode_in e | inr e ↦ ap decode_in e ]
 again words Vectors e = ap task_in e
 again words (Sim s) say = ap task_in say.1 ∙ ap (option_map (λ s. Sim s)) (again_simulation say.0 s say.2)
 again words (Station p) say = ap task_in say.1 ∙ ap (option_map (λ p. Station p)) (again_place say.0 p say.2)
@@ -75,13 +77,36 @@ given : (words : List (List ℕ)) (t task : Task) → Some t ≡ Some task → S
 given words t task e say = subst (Say words) (same_Some t task e) say
 
 found_decode : (word : List ℕ) (words : List (List ℕ)) (task : Task) → word ≡ codes "decode" → decode_in words ≡ Some task → Say (word ∷ words) task
-found_decode word [] task is e = given (word ∷ []) (Decode false) task e (ap (λ w. w ∷ []) is)
-found_decode word (next ∷ []) task is e = by_next (bytes_eq next (codes "--long")) refl e
+found_decode word [] task is e = given (word ∷ []) (Decode false false) task e ([], ap (λ w. w ∷ []) is, refl)
+found_decode word (next ∷ []) task is e = by_next (bytes_eq next (codes "--long")) (bytes_eq next (codes "--wide")) refl refl e
   where
-    by_next : (b : Bool) → bytes_eq next (codes "--long") ≡ b → cond b (Some (Decode true)) None ≡ Some task → Say (word ∷ next ∷ []) task
-    by_next true same e = given (word ∷ next ∷ []) (Decode true) task e (ap (λ w. w ∷ next ∷ []) is ∙ ap (λ n. codes "decode" ∷ n ∷ []) ((bytes_eq-Decides next (codes "--long")).0 same))
-    by_next false same e = absurd (cc)
-found_decode word (next ∷ more ∷ words) task is e = absurd (cc)
+    by_next : (a b : Bool) → bytes_eq next (codes "--long") ≡ a → bytes_eq next (codes "--wide") ≡ b
+        → cond a (Some (Decode true false)) (cond b (Some (Decode false true)) None) ≡ Some task → Say (word ∷ next ∷ []) task
+    by_next true b same _ e = given (word ∷ next ∷ []) (Decode true false) task e
+        (next ∷ [], ap (λ w. w ∷ next ∷ []) is, ap (λ n. n ∷ []) ((bytes_eq-Decides next (codes "--long")).0 same))
+    by_next false true _ same e = given (word ∷ next ∷ []) (Decode false true) task e
+        (next ∷ [], ap (λ w. w ∷ next ∷ []) is, ap (λ n. n ∷ []) ((bytes_eq-Decides next (codes "--wide")).0 same))
+    by_next false false _ _ e = absurd (cc)
+found_decode word (next ∷ more ∷ []) task is e =
+    by_both (bytes_eq next (codes "--long")) (bytes_eq more (codes "--wide")) (bytes_eq next (codes "--wide")) (bytes_eq more (codes "--long")) refl refl refl refl e
+  where
+    pair : (x y z w : List ℕ) → x ≡ z → y ≡ w → x ∷ y ∷ [] ≡ z ∷ w ∷ []
+    pair x y z w h k = ap (λ n. n ∷ y ∷ []) h ∙ ap (λ m. z ∷ m ∷ []) k
+
+    by_both : (a b c d : Bool) → bytes_eq next (codes "--long") ≡ a → bytes_eq more (codes "--wide") ≡ b
+        → bytes_eq next (codes "--wide") ≡ c → bytes_eq more (codes "--long") ≡ d
+        → cond ((a && b) || (c && d)) (Some (Decode true true)) None ≡ Some task → Say (word ∷ next ∷ more ∷ []) task
+    by_both true true c d h k _ _ e = given (word ∷ next ∷ more ∷ []) (Decode true true) task e
+        (next ∷ more ∷ [], ap (λ w. w ∷ next ∷ more ∷ []) is, inl (pair _ _ _ _ ((bytes_eq-Decides next (codes "--long")).0 h) ((bytes_eq-Decides more (codes "--wide")).0 k)))
+    by_both true false true true _ _ h k e = given (word ∷ next ∷ more ∷ []) (Decode true true) task e
+        (next ∷ more ∷ [], ap (λ w. w ∷ next ∷ more ∷ []) is, inr (pair _ _ _ _ ((bytes_eq-Decides next (codes "--wide")).0 h) ((bytes_eq-Decides more (codes "--long")).0 k)))
+    by_both false b true true _ _ h k e = given (word ∷ next ∷ more ∷ []) (Decode true true) task e
+        (next ∷ more ∷ [], ap (λ w. w ∷ next ∷ more ∷ []) is, inr (pair _ _ _ _ ((bytes_eq-Decides next (codes "--wide")).0 h) ((bytes_eq-Decides more (codes "--long")).0 k)))
+    by_both true false true false _ _ _ _ e = absurd (cc)
+    by_both true false false d _ _ _ _ e = absurd (cc)
+    by_both false b true false _ _ _ _ e = absurd (cc)
+    by_both false b false d _ _ _ _ e = absurd (cc)
+found_decode word (next ∷ more ∷ another ∷ words) task is e = absurd (cc)
 
 found_vectors : (word : List ℕ) (words : List (List ℕ)) (task : Task) → word ≡ codes "vectors" → vectors_in words ≡ Some task → Say (word ∷ words) task
 found_vectors word [] task is e = given (word ∷ []) Vectors task e (ap (λ w. w ∷ []) is)
@@ -186,7 +211,7 @@ found_task [] task e = absurd (cc)
 found_task (word ∷ words) task e = found_behind word words task e
 
 pub within : (words : List (List ℕ)) (task : Task) → Say words task → AreInRange task
-within words (Decode long) say = tt
+within words (Decode long wide) say = tt
 within words Vectors say = tt
 within words (Sim s) say = subst simulation.AreInRange (sym say.2.2) (in_range say.0 say.2.0 say.2.1)
 within words (Station p) say = subst PlaceIsInRange (sym say.2.same) (in_range say.2.rest say.2.end say.2.choose)

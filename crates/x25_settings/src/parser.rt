@@ -91,6 +91,16 @@ fn long_option<'a>(alloc: Global) -> Arg<'a> {
         .help("Take up to 128 octets of user data in a CALL, in place of 16")
 }
 
+/// That packets are read in all their forms.
+fn wide_option<'a>(alloc: Global) -> Arg<'a> {
+    Arg::new(alloc, "wide")
+        .long("wide")
+        .action(ArgAction::SetTrue)
+        .help(
+            "Read packets in all the forms that X.25 lets equipment send, and mark those by `~ wide`",
+        )
+}
+
 /// The tries of the link.
 fn tries_option<'a>(alloc: Global) -> Arg<'a> {
     number_option(
@@ -148,8 +158,8 @@ fn decode_command<'a>(alloc: Global) -> Result<Command<'a>, AllocError> {
         .about(
             "Answer lines of octets, `> HEX` from the DTE and `< HEX` from the DCE, by lines of text",
         )
-        .override_usage("x25 decode [--long] < TRACE");
-    command.arg(long_option(alloc))
+        .override_usage("x25 decode [--long] [--wide] < TRACE");
+    with_arg(command.arg(long_option(alloc)), wide_option(alloc))
 }
 
 fn vectors_command<'a>(alloc: Global) -> Command<'a> {

@@ -1,6 +1,6 @@
 //! What the words of the command line ask for.
 ghost use Rattle.std.specs.Prelude.{◌≡◌, Ok, IfOk, map};
-ghost use Rattle.x25_settings.specs.Options.Choosing.{decode_in, deframe_in, frame_in, task_behind, task_in};
+ghost use Rattle.x25_settings.specs.Options.Choosing.{decode_in, deframe_in, frame_in, option_in, options_in, task_behind, task_in};
 ghost use Rattle.x25_settings.specs.Options.Choosing.{vectors_in};
 ghost use Rattle.x25_settings.specs.Words.{AreInRange, Say};
 ghost use Rattle.x25_settings.specs.declared.words.SettingsError.TheVariants.{NoMemory};
@@ -21,6 +21,8 @@ pub enum Task {
     Decode {
         /// A CALL may have 128 octets of user data, and else 16.
         long: bool,
+        /// Packets are read in all the forms that a peer may send.
+        wide: bool,
     },
     Vectors,
     Sim(Simulation),
@@ -72,13 +74,52 @@ impl From<AllocError> for SettingsError {
     }
 }
 
+/// What one option of `decode` says.
+fn read_option(word: &str) -> Option<Task>
+    ensures { result ≡ option_in word.now }
+{
+    if is(word, "--long") {
+        Some(Task::Decode {
+            long: true,
+            wide: false,
+        })
+    } else if is(word, "--wide") {
+        Some(Task::Decode {
+            long: false,
+            wide: true,
+        })
+    } else {
+        None
+    }
+}
+
+/// What two options of `decode` say.
+fn read_options(word: &str, next: &str) -> Option<Task>
+    ensures { result ≡ options_in word.now next.now }
+{
+    let in_order = is(word, "--long") && is(next, "--wide");
+    let turned = is(word, "--wide") && is(next, "--long");
+    if in_order || turned {
+        Some(Task::Decode {
+            long: true,
+            wide: true,
+        })
+    } else {
+        None
+    }
+}
+
 /// What the words behind `decode` say, where they are plain.
 fn read_decode<S: AsStr>(words: &[S]) -> Option<Task>
     ensures { result ≡ decode_in (map S.text words.now) }
 {
     match words {
-        [] => Some(Task::Decode { long: false }),
-        [word] if is(word.as_str(), "--long") => Some(Task::Decode { long: true }),
+        [] => Some(Task::Decode {
+            long: false,
+            wide: false,
+        }),
+        [word] => read_option(word.as_str()),
+        [word, next] => read_options(word.as_str(), next.as_str()),
         _ => None,
     }
 }
@@ -188,7 +229,7 @@ fn usage_fault<'a, S: AsStr>(alloc: Global, words: &'a [S]) -> SettingsError {
 
 /// What the words after the program's name ask for.
 ///
-/// Plain words are `decode`, which `--long` may follow, `vectors`, or `sim` and then each at most once and in any order
+/// Plain words are `decode`, which `--long` and `--wide` may follow in any order, `vectors`, or `sim` and then each at most once and in any order
 /// `--tap`, `--down`, `--long`, `--k N`, `--n2 N` and `--channels N`, with N in decimal without leading zeros, from 1
 /// to 7, 255 and 16; what isn't said is 7, 10 and 1. Or they are `station`, then `dte` or `dce`, and then these options
 /// but `--tap` and `--down`. Or they are `judge`, and then `--k N` and `--long` alone of these. Or they are `deframe`

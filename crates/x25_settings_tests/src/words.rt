@@ -20,9 +20,35 @@ const PLACE: Place = Place {
 
 #[test]
 fn takes_plain_words_alone(rt: HostRuntime) {
-    let plain: [(&[&str], Task); 18] = [
-        (&["decode"], Task::Decode { long: false }),
-        (&["decode", "--long"], Task::Decode { long: true }),
+    let plain: [(&[&str], Task); 20] = [
+        (
+            &["decode"],
+            Task::Decode {
+                long: false,
+                wide: false,
+            },
+        ),
+        (
+            &["decode", "--long"],
+            Task::Decode {
+                long: true,
+                wide: false,
+            },
+        ),
+        (
+            &["decode", "--wide"],
+            Task::Decode {
+                long: false,
+                wide: true,
+            },
+        ),
+        (
+            &["decode", "--wide", "--long"],
+            Task::Decode {
+                long: true,
+                wide: true,
+            },
+        ),
         (&["vectors"], Task::Vectors),
         (&["sim"], Task::Sim(DEFAULTS)),
         (
@@ -199,7 +225,7 @@ const PLAIN: &str =
 
 /// The help of `decode`.
 const DECODE: &str =
-    "Answer lines of octets, `> HEX` from the DTE and `< HEX` from the DCE, by lines of text\n\nUsage: x25 decode [--long] < TRACE\n\nOptions:\n      --long  Take up to 128 octets of user data in a CALL, in place of 16\n  -h, --help  Print help\n";
+    "Answer lines of octets, `> HEX` from the DTE and `< HEX` from the DCE, by lines of text\n\nUsage: x25 decode [--long] [--wide] < TRACE\n\nOptions:\n      --long  Take up to 128 octets of user data in a CALL, in place of 16\n      --wide  Read packets in all the forms that X.25 lets equipment send, and mark those by `~ wide`\n  -h, --help  Print help\n";
 
 /// The help of `sim`.
 const SIM: &str =

@@ -15,7 +15,7 @@ use x25_frame::{Frame, FrameError, Seq};
 pub const MOST_TEXT: usize = 8_300;
 
 #[inline]
-fn push_supervisory(label: &[u8], command: bool, pf: bool, nr: Seq, text: &mut Text)
+pub(crate) fn push_supervisory(label: &[u8], command: bool, pf: bool, nr: Seq, text: &mut Text)
     requires room { length text.old + (length label.now + 11) ≤ ROOM }
     ensures text { text.new ≡ text.old ++ (label.now ++ supervisory_text command pf nr.number) }
     ensures size { length text.new ≡ length text.old + (length label.now + 11) }

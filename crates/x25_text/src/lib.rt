@@ -7,6 +7,8 @@ mod frame_text;
 mod hexadecimal;
 mod packet_text;
 mod text;
+mod wide_frame_text;
+mod wide_packet_text;
 
 pub use frame_text::{MOST_TEXT, push_fault, push_frame};
 pub use hexadecimal::{
@@ -14,3 +16,5 @@ pub use hexadecimal::{
 };
 pub use packet_text::{MOST_PACKET_TEXT, push_information, push_packet};
 pub use text::{MOST_OCTETS, ROOM, Text, digit};
+pub use wide_frame_text::{push_other_frame, push_wide_frame};
+pub use wide_packet_text::{push_wide_information, push_wide_packet};

@@ -13,7 +13,7 @@ use x25_packet::{Digits, Packet, PacketError, decode_within, longest_user};
 pub const MOST_PACKET_TEXT: usize = 8_260;
 
 /// Appends a label and then octets.
-fn push_field(label: &[u8], octets: &[u8], text: &mut Text)
+pub(crate) fn push_field(label: &[u8], octets: &[u8], text: &mut Text)
     requires few { length octets.now ≤ MOST_OCTETS }
     requires room { length text.old + (length label.now + (2 * length octets.now + 1)) ≤ ROOM }
     ensures text { text.new ≡ text.old ++ (label.now ++ octets_text octets.now) }
@@ -48,7 +48,7 @@ fn push_address(label: &[u8], digits: &Digits, text: &mut Text)
 }
 
 /// Appends a cause and a diagnostic.
-fn push_reason(cause: u8, diagnostic: u8, text: &mut Text)
+pub(crate) fn push_reason(cause: u8, diagnostic: u8, text: &mut Text)
     requires room { length text.old + 23 ≤ ROOM }
     ensures text { text.new ≡ text.old ++ reason_text cause diagnostic }
     ensures size { length text.new ≤ length text.old + 23 }
@@ -57,7 +57,7 @@ fn push_reason(cause: u8, diagnostic: u8, text: &mut Text)
     text.push_number(b" diag=", u16::from(diagnostic));
 }
 
-fn push_addresses(called: &Digits, calling: &Digits, text: &mut Text)
+pub(crate) fn push_addresses(called: &Digits, calling: &Digits, text: &mut Text)
     requires room { length text.old + 49 ≤ ROOM }
     ensures text { text.new ≡ text.old ++ addresses_text called.now calling.now }
     ensures size { length text.new ≤ length text.old + 49 }
@@ -66,12 +66,13 @@ fn push_addresses(called: &Digits, calling: &Digits, text: &mut Text)
     push_address(b" calling=", calling, text);
 }
 
-fn push_fields(facilities: &[u8], user: &[u8], text: &mut Text)
-    requires facilities { length facilities.now ≤ 6 }
+/// Appends a facility field and user data.
+pub(crate) fn push_fields(facilities: &[u8], user: &[u8], text: &mut Text)
+    requires facilities { length facilities.now ≤ 109 }
     requires user { length user.now ≤ 128 }
-    requires room { length text.old + 281 ≤ ROOM }
+    requires room { length text.old + 487 ≤ ROOM }
     ensures text { text.new ≡ text.old ++ fields_text facilities.now user.now }
-    ensures size { length text.new ≤ length text.old + 281 }
+    ensures size { length text.new ≤ length text.old + 487 }
 {
     push_field(b" fac=", facilities, text);
     push_field(b" data=", user, text);
@@ -170,7 +171,7 @@ pub fn push_packet(packet: &Packet, text: &mut Text)
 }
 
 /// Appends the error that octets have that spell no packet.
-fn push_packet_fault(error: PacketError, text: &mut Text)
+pub(crate) fn push_packet_fault(error: PacketError, text: &mut Text)
     requires room { length text.old + 22 ≤ ROOM }
     ensures text { text.new ≡ text.old ++ packet_fault_text error }
     ensures size { length text.new ≤ length text.old + 22 }

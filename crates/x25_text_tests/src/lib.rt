@@ -9,3 +9,5 @@ mod frames;
 mod packets;
 #[cfg(test)]
 mod texts;
+#[cfg(test)]
+mod wide;

@@ -92,10 +92,19 @@ abbrev pub judge_in : List (List ℕ) → Option Judging
 judge_in words = option_and_then judging_of (chosen_in nothing words)
 
 -- the words behind `decode`
+abbrev pub option_in : List ℕ → Option Task
+option_in word = if bytes_eq word (codes "--long") then Some (Decode true false)
+    else if bytes_eq word (codes "--wide") then Some (Decode false true) else None
+
+abbrev pub options_in : List ℕ → List ℕ → Option Task
+options_in word next = if (bytes_eq word (codes "--long") && bytes_eq next (codes "--wide"))
+    || (bytes_eq word (codes "--wide") && bytes_eq next (codes "--long")) then Some (Decode true true) else None
+
 abbrev pub decode_in : List (List ℕ) → Option Task
-decode_in [] = Some (Decode false)
-decode_in (word ∷ []) = if bytes_eq word (codes "--long") then Some (Decode true) else None
-decode_in (word ∷ next ∷ words) = None
+decode_in [] = Some (Decode false false)
+decode_in (word ∷ []) = option_in word
+decode_in (word ∷ next ∷ []) = options_in word next
+decode_in (word ∷ next ∷ more ∷ words) = None
 
 -- those behind `vectors`
 abbrev pub vectors_in : List (List ℕ) → Option Task

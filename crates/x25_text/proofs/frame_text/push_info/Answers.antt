@@ -1,14 +1,8 @@
-use Rattle.std.proofs.Common.{ℕ, List, [], ◌∷◌, ◌≡◌, ◌∙◌, ◌++◌, ap, append_assoc, codes, decimal}
+use Rattle.std.proofs.Common.{◌∙◌, ◌++◌, ap}
 use Rattle.x25_frame.specs.Spelling.{bit}
 use Rattle.x25_text.specs.PacketText.{information_text}
+use Rattle.x25_text.proofs.InfoHead.{head_is}
 use Rattle.x25_text.proofs.frame_text.push_info.Goals as goal
-
--- the characters of the three numbers stand in one array
-head_is : (old behind : List ℕ) (p ns nr x y z : ℕ) → decimal p ≡ x ∷ [] → decimal ns ≡ y ∷ [] → decimal nr ≡ z ∷ []
-    → (old ++ (codes "I cmd P=" ++ (x ∷ []) ++ codes " S=" ++ (y ∷ []) ++ codes " R=" ++ (z ∷ []) ++ codes " | ")) ++ behind
-    ≡ old ++ (codes "I cmd P=" ++ decimal p ++ codes " S=" ++ decimal ns ++ codes " R=" ++ decimal nr ++ codes " | " ++ behind)
-head_is old behind p ns nr x y z a b c =
-    rw (a, b, c) (append_assoc old (codes "I cmd P=" ++ (x ∷ []) ++ codes " S=" ++ (y ∷ []) ++ codes " R=" ++ (z ∷ []) ++ codes " | ") behind)
 
 pub returns-clause-text : goal.returns-clause-text
 returns-clause-text c =

@@ -32,7 +32,7 @@ returns-in-Some-clause-leads g c = λ old rest all any h.
     answered _ old now now _ _ _ (behind ++ rest) all any _ _ _ (take count left) (take count left ++ 10 ∷ (behind ++ rest)) before
     (first_line _ old now now _ _ _ (behind ++ rest) all any (take count left) before c.in-Some.ensures.line.2 empty)
     (more_waits old now _ _ before.told _ before.tells
-    (c.in-Some.ensures.text ∙ ap (λ t. t ++ answer_to c.args.self.now.long_data (take count left)) c.text.ensures.value))
+    (c.in-Some.ensures.text ∙ ap (λ t. t ++ answer_to c.args.self.now.reading (take count left)) c.text.ensures.value))
     (sym (ap (λ b. refused || b) c.in-Some.ensures.taken ∙ or-false refused))
     (subst (λ begun. HoldsLine begun c.args.self.now.held) empty before.holds)
 

@@ -13,7 +13,7 @@ pub returns-clause-on : goal.returns-clause-on
 returns-clause-on g c = λ long old rest input h.
     let more = held_more _ old _ old _ _ _ rest _ _ c.hold.new.self c.in_ok-left.left.now
     (c.in_ok-left.ensures.leads old rest (output_of long input) (has_refused input) h.1) c.in_ok-left.ensures.open (λ begun. c.hold.ensures begun) in
-    (c.in_ok-left.ensures.long_data ∙ h.0, written _ old _ _ _ _ _ rest _ _ _ more (c.in_ok-flush.ensures.tells old more.told more.tells))
+    (c.in_ok-left.ensures.reading ∙ h.0, written _ old _ _ _ _ _ rest _ _ _ more (c.in_ok-flush.ensures.tells old more.told more.tells))
 
 pub returns-in_err-flush-clause-on : goal.returns-in_err-flush-clause-on
 returns-in_err-flush-clause-on g c = λ long old rest input h.

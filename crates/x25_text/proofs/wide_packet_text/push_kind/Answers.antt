@@ -1,0 +1,23 @@
+use Rattle.std.proofs.Common.{◌∙◌, ◌++◌, ap, append_assoc, codes, decimal}
+use Rattle.x25_wide.specs.Block.{plain_optional}
+use Rattle.x25_text.specs.WidePacketText.{optional_block_text}
+use Rattle.x25_text.proofs.wide_packet_text.push_kind.Goals as goal
+
+pub returns-in-ClearConf-clause-text : goal.returns-in-ClearConf-clause-text
+returns-in-ClearConf-clause-text c =
+    let behind = optional_block_text (plain_optional c.in-ClearConf.block) in
+    rw c.in-ClearConf.is
+    (c.push_optional_block-in-ClearConf.ensures.text ∙ ap (λ t. t ++ behind) c.push_number-in-ClearConf.ensures.text
+    ∙ append_assoc c.args.text.now (codes "CLEARCONF ch=" ++ decimal c.args.packet.now.channel) behind)
+
+pub returns-in-InterruptConf-clause-text : goal.returns-in-InterruptConf-clause-text
+returns-in-InterruptConf-clause-text c = rw c.in-InterruptConf.is c.push_number-in-InterruptConf.ensures.text
+
+pub returns-in-ResetConf-clause-text : goal.returns-in-ResetConf-clause-text
+returns-in-ResetConf-clause-text c = rw c.in-ResetConf.is c.push_number-in-ResetConf.ensures.text
+
+pub returns-in-RestartConf-clause-text : goal.returns-in-RestartConf-clause-text
+returns-in-RestartConf-clause-text c = rw c.in-RestartConf.is c.push-in-RestartConf.ensures.text
+
+pub returns-in-RegistrationConf-clause-text : goal.returns-in-RegistrationConf-clause-text
+returns-in-RegistrationConf-clause-text c = rw c.in-RegistrationConf.is c.push_field-in-RegistrationConf.ensures.text

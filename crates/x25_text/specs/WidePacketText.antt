@@ -1,0 +1,82 @@
+-- The text that a trace shows of a packet that has other forms than the one that a station writes (profile). Labels
+-- stand where there is what they name, so that the text tells all octets.
+use Rattle.std.specs.Prelude.{ℕ, ◌+◌, ◌/◌, ◌%◌, Bool, true, false, List, [], ◌∷◌, ◌++◌, codes, decimal, Option, Some}
+use Rattle.std.specs.Prelude.{None, Result, Ok, Err}
+use Rattle.x25_packet.specs.Digits.{halves_at}
+use Rattle.x25_packet.specs.Packet.{PlainPacket}
+use Rattle.x25_packet.specs.Reading.{packet_of}
+use Rattle.x25_packet.specs.Spelling.{longest_user}
+use Rattle.x25_packet.specs.declared.error.PacketError.{PacketError}
+use Rattle.x25_wide.specs.Block.{PlainBlock, PlainFields}
+use Rattle.x25_wide.specs.Packet.{PlainKind, PlainWide, call, accept, clear, extended_clear, clear_conf, user_data, rr}
+use Rattle.x25_wide.specs.Packet.{rnr, rej, interrupt, interrupt_conf, reset, reset_conf, restart, restart_conf}
+use Rattle.x25_wide.specs.Packet.{diagnostic, registration, registration_conf}
+use Rattle.x25_wide.specs.Reading.{wide_of}
+use Rattle.x25_text.specs.PacketText.{reason_text, addresses_text, fields_text, numbers_text, marks_text, packet_text}
+use Rattle.x25_text.specs.PacketText.{packet_fault_text}
+use Rattle.x25_text.specs.Text.{octets_text}
+
+-- D, where it is set
+abbrev pub confirmation_text : Bool → List ℕ
+confirmation_text true = codes " D=1"
+confirmation_text false = []
+
+abbrev pub wide_fields_text : Option PlainFields → List ℕ
+wide_fields_text None = []
+wide_fields_text (Some f) = fields_text f.facilities f.user
+
+abbrev pub block_text : PlainBlock → List ℕ
+block_text b = addresses_text (halves_at b.digits 0 (b.lengths % 16))
+    (halves_at b.digits (b.lengths % 16) (b.lengths / 16))
+    ++ wide_fields_text b.fields
+
+abbrev pub optional_block_text : Option PlainBlock → List ℕ
+optional_block_text None = []
+optional_block_text (Some b) = block_text b
+
+abbrev pub wide_reason_text : ℕ → Option ℕ → List ℕ
+wide_reason_text cause None = codes " cause=" ++ decimal cause
+wide_reason_text cause (Some reason) = reason_text cause reason
+
+-- by its channel, its Q and its D
+abbrev pub kind_text : ℕ → Bool → Bool → PlainKind → List ℕ
+kind_text channel q d (call block) = codes "CALL ch=" ++ decimal channel ++ confirmation_text d ++ block_text block
+kind_text channel q d (accept block) = codes "ACCEPT ch=" ++ decimal channel ++ confirmation_text d
+    ++ optional_block_text block
+kind_text channel q d (clear cause reason) = codes "CLEAR ch=" ++ decimal channel ++ wide_reason_text cause reason
+kind_text channel q d (extended_clear cause reason block) = codes "CLEAR ch=" ++ decimal channel
+    ++ reason_text cause reason ++ block_text block
+kind_text channel q d (clear_conf block) = codes "CLEARCONF ch=" ++ decimal channel ++ optional_block_text block
+kind_text channel q d (user_data m ps pr user) = codes "DATA ch=" ++ decimal channel ++ numbers_text ps pr
+    ++ marks_text m q
+    ++ confirmation_text d ++ (codes " data=" ++ octets_text user)
+kind_text channel q d (rr pr) = codes "RR ch=" ++ decimal channel ++ (codes " R=" ++ decimal pr)
+kind_text channel q d (rnr pr) = codes "RNR ch=" ++ decimal channel ++ (codes " R=" ++ decimal pr)
+kind_text channel q d (rej pr) = codes "REJ ch=" ++ decimal channel ++ (codes " R=" ++ decimal pr)
+kind_text channel q d (interrupt user) = codes "INT ch=" ++ decimal channel ++ (codes " data=" ++ octets_text user)
+kind_text channel q d interrupt_conf = codes "INTCONF ch=" ++ decimal channel
+kind_text channel q d (reset cause reason) = codes "RESET ch=" ++ decimal channel ++ wide_reason_text cause reason
+kind_text channel q d reset_conf = codes "RESETCONF ch=" ++ decimal channel
+kind_text channel q d (restart cause reason) = codes "RESTART" ++ wide_reason_text cause reason
+kind_text channel q d restart_conf = codes "RESTARTCONF"
+kind_text channel q d (diagnostic number explanation) = codes "DIAG diag=" ++ decimal number
+    ++ (codes " expl=" ++ octets_text explanation)
+kind_text channel q d (registration octets) = codes "REG data=" ++ octets_text octets
+kind_text channel q d (registration_conf octets) = codes "REGCONF data=" ++ octets_text octets
+
+abbrev pub wide_packet_text : PlainWide → List ℕ
+wide_packet_text w = kind_text w.channel w.q w.d w.kind ++ codes " ~ wide"
+
+abbrev pub wide_or_fault_text : Result PlainWide PacketError → List ℕ
+wide_or_fault_text (Ok w) = wide_packet_text w
+wide_or_fault_text (Err error) = packet_fault_text error
+
+-- a packet in the form that a station writes, and else what the octets are in any form
+abbrev pub either_text : Result PlainPacket PacketError → Result PlainWide PacketError → List ℕ
+either_text (Ok v) wide = packet_text v
+either_text (Err error) wide = wide_or_fault_text wide
+
+-- what stands behind the bar of an I frame
+abbrev pub wide_information_text : Bool → List ℕ → List ℕ
+wide_information_text long_data octets = either_text (packet_of (longest_user long_data) octets)
+    (wide_of (longest_user long_data) octets)

@@ -1,0 +1,202 @@
+//! Packets in all their forms as text.
+ghost use Rattle.std.specs.Prelude.{◌≡◌, ◌+◌, ◌*◌, ◌≤◌, ◌<◌, ◌++◌, codes, decimal, length};
+ghost use Rattle.x25_wide.specs.Block.{IsBlock, MayBeBlock, MayBeFields, plain_block, plain_fields, plain_optional};
+ghost use Rattle.x25_wide.specs.Packet.{plain, plain_kind};
+ghost use Rattle.x25_wide.specs.Packet.Spelling.{IsKind};
+ghost use Rattle.x25_text.specs.PacketText.{marks_text, numbers_text};
+ghost use Rattle.x25_text.specs.WidePacketText.{block_text, confirmation_text, kind_text, optional_block_text};
+ghost use Rattle.x25_text.specs.WidePacketText.{wide_fields_text, wide_information_text, wide_packet_text};
+ghost use Rattle.x25_text.specs.WidePacketText.{wide_reason_text};
+
+use crate::packet_text::{
+    MOST_PACKET_TEXT, push_addresses, push_field, push_fields, push_packet, push_packet_fault,
+    push_reason,
+};
+use crate::text::{ROOM, Text};
+use x25_frame::Seq;
+use x25_packet::{decode_within, longest_user};
+use x25_wide::{Block, Fields, Kind, WidePacket, decode};
+
+fn push_confirmation(d: bool, text: &mut Text)
+    requires room { length text.old + 4 ≤ ROOM }
+    ensures text { text.new ≡ text.old ++ confirmation_text d }
+    ensures size { length text.new ≤ length text.old + 4 }
+{
+    if d {
+        text.push(b" D=1");
+    }
+}
+
+/// Appends P(S) and P(R).
+fn push_numbers(ps: Seq, pr: Seq, text: &mut Text)
+    requires room { length text.old + 8 ≤ ROOM }
+    ensures text { text.new ≡ text.old ++ numbers_text ps.number pr.number }
+    ensures size { length text.new ≡ length text.old + 8 }
+{
+    text.push_seq(b" S=", ps);
+    text.push_seq(b" R=", pr);
+}
+
+/// Appends the more data mark and the qualifier.
+fn push_bits(m: bool, q: bool, text: &mut Text)
+    requires room { length text.old + 8 ≤ ROOM }
+    ensures text { text.new ≡ text.old ++ marks_text m q }
+    ensures size { length text.new ≡ length text.old + 8 }
+{
+    text.push_bit(b" M=", m);
+    text.push_bit(b" Q=", q);
+}
+
+fn push_wide_fields(fields: &Option<Fields>, text: &mut Text)
+    requires fields { MayBeFields 128 (plain_fields fields.now) }
+    requires room { length text.old + 487 ≤ ROOM }
+    ensures text { text.new ≡ text.old ++ wide_fields_text (plain_fields fields.now) }
+    ensures size { length text.new ≤ length text.old + 487 }
+{
+    if let Some(fields) = fields {
+        push_fields(fields.facilities, fields.user, text);
+    }
+}
+
+fn push_block(block: &Block, text: &mut Text)
+    requires block { IsBlock 128 (plain_block block.now) }
+    requires room { length text.old + 536 ≤ ROOM }
+    ensures text { text.new ≡ text.old ++ block_text (plain_block block.now) }
+    ensures size { length text.new ≤ length text.old + 536 }
+{
+    push_addresses(&block.called(), &block.calling(), text);
+    push_wide_fields(&block.fields, text);
+}
+
+fn push_optional_block(block: &Option<Block>, text: &mut Text)
+    requires block { MayBeBlock 128 (plain_optional block.now) }
+    requires room { length text.old + 536 ≤ ROOM }
+    ensures text { text.new ≡ text.old ++ optional_block_text (plain_optional block.now) }
+    ensures size { length text.new ≤ length text.old + 536 }
+{
+    if let Some(block) = block {
+        push_block(block, text);
+    }
+}
+
+fn push_wide_reason(cause: u8, diagnostic: Option<u8>, text: &mut Text)
+    requires room { length text.old + 23 ≤ ROOM }
+    ensures text { text.new ≡ text.old ++ wide_reason_text cause diagnostic }
+    ensures size { length text.new ≤ length text.old + 23 }
+{
+    match diagnostic {
+        Some(diagnostic) => push_reason(cause, diagnostic, text),
+        None => text.push_number(b" cause=", u16::from(cause)),
+    }
+}
+
+/// Appends a packet without the mark of its form.
+#[tactic(auto, using(crate::proofs::BlockLength::with_user_data))]
+fn push_kind(packet: &WidePacket, text: &mut Text)
+    requires range { IsKind 128 (plain_kind packet.now.kind) }
+    requires room { length text.old + 8_250 ≤ ROOM }
+    ensures text { text.new ≡ text.old
+        ++ kind_text packet.now.channel packet.now.q packet.now.d (plain_kind packet.now.kind) }
+    ensures size { length text.new ≤ length text.old + 8_250 }
+{
+    match &packet.kind {
+        Kind::Call { block } => {
+            text.push_number(b"CALL ch=", packet.channel);
+            push_confirmation(packet.d, text);
+            push_block(block, text);
+        }
+        Kind::Accept { block } => {
+            text.push_number(b"ACCEPT ch=", packet.channel);
+            push_confirmation(packet.d, text);
+            push_optional_block(block, text);
+        }
+        Kind::Clear { cause, diagnostic } => {
+            text.push_number(b"CLEAR ch=", packet.channel);
+            push_wide_reason(*cause, *diagnostic, text);
+        }
+        Kind::ExtendedClear {
+            cause,
+            diagnostic,
+            block,
+        } => {
+            text.push_number(b"CLEAR ch=", packet.channel);
+            push_reason(*cause, *diagnostic, text);
+            push_block(block, text);
+        }
+        Kind::ClearConf { block } => {
+            text.push_number(b"CLEARCONF ch=", packet.channel);
+            push_optional_block(block, text);
+        }
+        Kind::Data { m, ps, pr, user } => {
+            text.push_number(b"DATA ch=", packet.channel);
+            push_numbers(*ps, *pr, text);
+            push_bits(*m, packet.q, text);
+            push_confirmation(packet.d, text);
+            push_field(b" data=", user, text);
+        }
+        Kind::Rr { pr } => {
+            text.push_number(b"RR ch=", packet.channel);
+            text.push_seq(b" R=", *pr);
+        }
+        Kind::Rnr { pr } => {
+            text.push_number(b"RNR ch=", packet.channel);
+            text.push_seq(b" R=", *pr);
+        }
+        Kind::Rej { pr } => {
+            text.push_number(b"REJ ch=", packet.channel);
+            text.push_seq(b" R=", *pr);
+        }
+        Kind::Interrupt { user } => {
+            text.push_number(b"INT ch=", packet.channel);
+            push_field(b" data=", user, text);
+        }
+        Kind::InterruptConf => text.push_number(b"INTCONF ch=", packet.channel),
+        Kind::Reset { cause, diagnostic } => {
+            text.push_number(b"RESET ch=", packet.channel);
+            push_wide_reason(*cause, *diagnostic, text);
+        }
+        Kind::ResetConf => text.push_number(b"RESETCONF ch=", packet.channel),
+        Kind::Restart { cause, diagnostic } => {
+            text.push(b"RESTART");
+            push_wide_reason(*cause, *diagnostic, text);
+        }
+        Kind::RestartConf => text.push(b"RESTARTCONF"),
+        Kind::Diagnostic { code, explanation } => {
+            text.push_number(b"DIAG diag=", u16::from(*code));
+            push_field(b" expl=", explanation, text);
+        }
+        Kind::Registration { octets } => push_field(b"REG data=", octets, text),
+        Kind::RegistrationConf { octets } => push_field(b"REGCONF data=", octets, text),
+    }
+}
+
+/// Appends a packet that has another form than a station writes, with the mark of that.
+pub fn push_wide_packet(packet: &WidePacket, text: &mut Text)
+    requires range { IsKind 128 (plain_kind packet.now.kind) }
+    requires room { length text.old + MOST_PACKET_TEXT ≤ ROOM }
+    ensures text { text.new ≡ text.old ++ wide_packet_text (plain packet.now) }
+    ensures size { length text.new ≤ length text.old + MOST_PACKET_TEXT }
+{
+    push_kind(packet, text);
+    text.push(b" ~ wide");
+}
+
+/// Appends what the information of an I frame is: a packet as a station writes it, or else one in any form, or its
+/// error.
+///
+/// With `long_data` the user data of a CALL has at most 128 octets, else at most 16 without fast select.
+pub fn push_wide_information(long_data: bool, information: &[u8], text: &mut Text)
+    requires room { length text.old + MOST_PACKET_TEXT ≤ ROOM }
+    ensures text { text.new ≡ text.old ++ wide_information_text long_data information.now }
+    ensures size { length text.new ≤ length text.old + MOST_PACKET_TEXT }
+{
+    let most = longest_user(long_data);
+    if let Ok(packet) = decode_within(most, information) {
+        push_packet(&packet, text);
+        return;
+    }
+    match decode(most, information) {
+        Ok(packet) => push_wide_packet(&packet, text),
+        Err(error) => push_packet_fault(error, text),
+    }
+}
