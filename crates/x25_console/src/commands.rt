@@ -44,6 +44,7 @@ pub fn read_octets(digits: &HexDigits, octets: &mut Vec<u8>) -> Result<usize, Al
 
 /// The octets of user data that a command has, none where it has no such field, at the front of the list, and how many these are. Err: no
 /// memory; the list is as it was then.
+#[inline(always)]
 pub fn read_user(command: &Command, octets: &mut Vec<u8>) -> Result<usize, AllocError>
     ensures read { IfOk result (λ count. take count octets.new.items ≡ user_in (plain_command command.now)) }
     ensures few { IfOk result (λ count. count ≤ length octets.new.items) }
@@ -57,6 +58,7 @@ pub fn read_user(command: &Command, octets: &mut Vec<u8>) -> Result<usize, Alloc
 }
 
 /// The command with its octets of user data.
+#[inline(always)]
 pub fn station_command<'a>(command: &Command<'a>, user: &'a [u8]) -> Cmd<'a>
     requires { user.now ≡ user_in (plain_command command.now) }
     ensures { command_of result ≡ command_asked (plain_command command.now) }

@@ -7,7 +7,7 @@ use std::alloc::Global;
 use x25_console::{read_user, station_command, tell_nothing};
 use x25_decode::read_sent;
 use x25_io::{Fault, Output, Sink};
-use x25_script::{Command, ScriptLine, read_line};
+use x25_script::{Command, HexDigits, ScriptTaker, read_line};
 use x25_station::{Cfg, Role, Station, StationError, Step, Timer};
 use x25_text::MOST_OCTETS;
 
@@ -46,14 +46,13 @@ impl Pipe {
     ghost use Rattle.x25_io.specs.HeldLine.{most_line};
     ghost use Rattle.x25_io.specs.code.MarksFaults.{MarksFaults};
     ghost use Rattle.x25_io.specs.code.Written.{AppendsPrefix, Tells, TellsMore};
-    ghost use Rattle.x25_script.specs.ScriptLine.{plain, plain_command};
-    ghost use Rattle.x25_script.specs.Reading.{line_in};
+    ghost use Rattle.x25_script.specs.ScriptLine.{plain_command};
     ghost use Rattle.x25_station.specs.code.FitsStation.{FitsStation};
     ghost use Rattle.x25_station.specs.Config.{Settings, config_refusal, settings_from};
     ghost use Rattle.x25_station.specs.Station.{Station as State, new_station};
     ghost use Rattle.x25_station.specs.Step.{Outcome};
     ghost use Rattle.x25_station.specs.laws.TimerLaw.{Asks, Comes, Event, Fires, timer as timer_of};
-    ghost use Rattle.x25_pipe.specs.Pipe.{asked_turn, event_turn, mark_turn, only_of, pulling_turn, read_event, sayings_text, script_event, standing_turn, trace_event, turn, turn_of};
+    ghost use Rattle.x25_pipe.specs.Pipe.{asked_turn, event_turn, mark_turn, pulling_turn, sayings_text, standing_turn, trace_event, turn, turn_of};
     ghost use Rattle.x25_pipe.specs.code.Stands.{IsError, IsStep, Stands, Stood, Turns, answer_told};
 
     /// A station that never was up, and nothing was told.
@@ -219,7 +218,7 @@ impl Pipe {
     }
 
     /// The user of this end asks for something.
-    fn command<W: Sink>(&mut self, command: Command, writer: &mut W) -> Result<(), Fault>
+    fn ask<W: Sink>(&mut self, command: Command, writer: &mut W) -> Result<(), Fault>
         ensures turns { (c : Settings) (old : Option (List ℕ)) → Turns c old (W.contents writer.old) (W.contents writer.new) self.old self.new result
             (λ s. event_turn c s (Asks (command_asked (plain_command command.entry)))) }
         ensures written { OnOk result (self.new.output ≡ []) }
@@ -245,68 +244,6 @@ impl Pipe {
         }
     }
 
-    /// The user of an end asks for something.
-    fn command_at<W: Sink>(
-        &mut self,
-        end: Role,
-        command: Command,
-        writer: &mut W,
-    ) -> Result<(), Fault>
-        ensures turns { (c : Settings) (old : Option (List ℕ)) → Turns c old (W.contents writer.old) (W.contents writer.new) self.old self.new result
-            (λ s. asked_turn c s (only_of self.old.end end (Asks (command_asked (plain_command command.entry))))) }
-        ensures written { OnOk result (self.new.output ≡ []) }
-        ensures faults { MarksFaults W.Sink writer.old writer.new result }
-    {
-        if is_same(self.end, end) {
-            return self.command(command, writer);
-        }
-        self.read_nothing(writer)
-    }
-
-    /// T1 of an end runs out.
-    fn fire_at<W: Sink>(&mut self, end: Role, writer: &mut W) -> Result<(), Fault>
-        ensures turns { (c : Settings) (old : Option (List ℕ)) → Turns c old (W.contents writer.old) (W.contents writer.new) self.old self.new result
-            (λ s. asked_turn c s (only_of self.old.end end Fires)) }
-        ensures written { OnOk result (self.new.output ≡ []) }
-        ensures faults { MarksFaults W.Sink writer.old writer.new result }
-    {
-        if is_same(self.end, end) {
-            return self.fire(writer);
-        }
-        self.read_nothing(writer)
-    }
-
-    /// What a line of a script asks of this end happens; a line of the other end, or of the line between, asks for nothing.
-    fn follow<W: Sink>(&mut self, line: ScriptLine, writer: &mut W) -> Result<(), Fault>
-        ensures turns { (c : Settings) (old : Option (List ℕ)) → Turns c old (W.contents writer.old) (W.contents writer.new) self.old self.new result
-            (λ s. asked_turn c s (script_event self.old.end (plain line.entry))) }
-        ensures written { OnOk result (self.new.output ≡ []) }
-        ensures faults { MarksFaults W.Sink writer.old writer.new result }
-    {
-        match line {
-            ScriptLine::Command { end, command } => self.command_at(end, command, writer),
-            ScriptLine::T1 { end } => self.fire_at(end, writer),
-            ScriptLine::Deliver { .. } => self.read_nothing(writer),
-            ScriptLine::Lose { .. } => self.read_nothing(writer),
-            ScriptLine::Damage { .. } => self.read_nothing(writer),
-            ScriptLine::Drain { .. } => self.read_nothing(writer),
-            ScriptLine::Heal => self.read_nothing(writer),
-        }
-    }
-
-    /// What a line that is none of a trace asks for happens.
-    fn obey_script<W: Sink>(&mut self, line: &[u8], writer: &mut W) -> Result<(), Fault>
-        ensures turns { (c : Settings) (old : Option (List ℕ)) → Turns c old (W.contents writer.old) (W.contents writer.new) self.old self.new result
-            (λ s. asked_turn c s (read_event self.old.end line.now None)) }
-        ensures written { OnOk result (self.new.output ≡ []) }
-        ensures faults { MarksFaults W.Sink writer.old writer.new result }
-    {
-        match read_line(line) {
-            Some(asked) => self.follow(asked, writer),
-            None => self.read_nothing(writer),
-        }
-    }
-
     /// What a line asks for happens.
     pub(crate) fn obey<W: Sink>(&mut self, line: &[u8], writer: &mut W) -> Result<(), Fault>
         ensures turns { length line.now ≤ most_line → (c : Settings) (old : Option (List ℕ)) → Turns c old (W.contents writer.old) (W.contents writer.new) self.old self.new result (turn c line.now) }
@@ -315,7 +252,7 @@ impl Pipe {
     {
         match read_sent(line, self.octets.as_mut_slice()) {
             Some((from, count)) => self.hear(from, count, writer),
-            None => self.obey_script(line, writer),
+            None => read_line(line, self, writer),
         }
     }
 
@@ -324,5 +261,64 @@ impl Pipe {
         ensures { result ≡ self.now.is_refused }
     {
         self.is_refused
+    }
+}
+
+/// What a line of a script asks of this end happens; a line of the other end, or of the line between, asks for nothing.
+impl<W: Sink> ScriptTaker<W> for Pipe {
+    ghost use Rattle.std.specs.Prelude.{[], List, ℕ, OnOk, Option, option_and_then};
+    ghost use Rattle.x25_io.specs.code.MarksFaults.{MarksFaults};
+    ghost use Rattle.x25_station.specs.Config.{Settings};
+    ghost use Rattle.x25_pipe.specs.Pipe.{asked_turn, script_event};
+    ghost use Rattle.x25_pipe.specs.code.Stands.{Turns};
+
+    type Answer = Result<(), Fault>;
+
+    ghost gives = { λ p was q is result asked. ((c : Settings) (old : Option (List ℕ))
+        → Turns c old (W.contents was) (W.contents is) p q result (λ s. asked_turn c s (option_and_then (script_event p.end) asked)))
+        × OnOk result (q.output ≡ []) × MarksFaults W.Sink was is result };
+
+    fn command(&mut self, end: Role, asked: Command, writer: &mut W) -> Result<(), Fault> {
+        if is_same(self.end, end) {
+            return self.ask(asked, writer);
+        }
+        self.read_nothing(writer)
+    }
+
+    fn t1(&mut self, end: Role, writer: &mut W) -> Result<(), Fault> {
+        if is_same(self.end, end) {
+            return self.fire(writer);
+        }
+        self.read_nothing(writer)
+    }
+
+    fn deliver(&mut self, _from: Role, writer: &mut W) -> Result<(), Fault> {
+        self.read_nothing(writer)
+    }
+
+    fn lose(&mut self, _from: Role, _place: u16, writer: &mut W) -> Result<(), Fault> {
+        self.read_nothing(writer)
+    }
+
+    fn damage(
+        &mut self,
+        _from: Role,
+        _place: u16,
+        _octets: HexDigits,
+        writer: &mut W,
+    ) -> Result<(), Fault> {
+        self.read_nothing(writer)
+    }
+
+    fn drain(&mut self, _count: u16, writer: &mut W) -> Result<(), Fault> {
+        self.read_nothing(writer)
+    }
+
+    fn heal(&mut self, writer: &mut W) -> Result<(), Fault> {
+        self.read_nothing(writer)
+    }
+
+    fn nothing(&mut self, writer: &mut W) -> Result<(), Fault> {
+        self.read_nothing(writer)
     }
 }

@@ -76,12 +76,6 @@ accept_again channel params h k =
     bind_again _ _ (decimal channel, params) _ (with_params_again (decimal channel) params (decimal_no_blank channel h) k)
     (bind_again _ _ channel _ (number_read channel h) refl)
 
--- a channel alone
-pub accept_alone : (text : List ℕ) (channel : ℕ) → number_in text ≡ Some channel → accept_in text ≡ Some (accept channel None)
-accept_alone text channel e =
-    let found = number_found text channel e in
-    ap accept_in (found.1 ∙ sym (append-nil (decimal channel))) ∙ accept_again channel None (omega (arith, found.0)) tt
-
 send_again : (channel : ℕ) (q : Bool) (user digits : List ℕ) → IsNumber channel → Writes digits user
     → send_in (decimal channel ++ (32 ∷ (q_text q ++ (32 ∷ digits)))) ≡ Some (send channel q user)
 unfolding send_in
@@ -91,26 +85,6 @@ send_again channel q user digits h w =
     (bind_again _ _ channel _ (number_read channel h)
     (bind_again _ _ q _ (q_again q)
     (bind_again _ _ user _ (octets_again digits user w) refl))))
-
--- a channel before a blank
-pub channel_before : (text : List ℕ) (digits channel : ℕ) → digits < length text → get_or text digits 0 ≡ 32 → Some channel ≡ number_in (take digits text)
-    → (text ≡ decimal channel ++ (32 ∷ drop (digits + 1) text)) × IsNumber channel
-channel_before text digits channel within blank e =
-    let number = number_found (take digits text) channel (sym e) in
-    let rest : drop digits text ≡ 32 ∷ drop (digits + 1) text = next_at digits text within ∙ ap (λ c. c ∷ drop (digits + 1) text) blank in
-    (sym (take-append-drop digits text) ∙ ap (λ t. take digits text ++ t) rest ∙ ap (λ t. t ++ (32 ∷ drop (digits + 1) text)) number.1, omega (arith, number.0))
-
--- what is sent, by its fields
-pub sent_by : (text rest digits user : List ℕ) (channel : ℕ) (q : Bool) → IsNumber channel → text ≡ decimal channel ++ (32 ∷ rest) → rest ≡ q_text q ++ (32 ∷ digits)
-    → Some user ≡ octets_in digits → send_in text ≡ Some (send channel q user)
-sent_by text rest digits user channel q h e f g =
-    ap send_in (e ∙ ap (λ t. decimal channel ++ (32 ∷ t)) f) ∙ send_again channel q user digits h (octets_found digits user (sym g))
-
--- what is accepted as it was proposed
-pub accept_read : (text fields : List ℕ) (read : Option ℕ) → command_in text ≡ accept_in fields → read ≡ number_in fields
-    → IfSome read (λ channel. command_in text ≡ Some (accept channel None))
-accept_read text fields None e f = tt
-accept_read text fields (Some channel) e f = e ∙ accept_alone fields channel (sym f)
 
 interrupt_again : (channel : ℕ) (user digits : List ℕ) → IsNumber channel → Writes digits user
     → interrupt_in (decimal channel ++ (32 ∷ digits)) ≡ Some (interrupt channel user)

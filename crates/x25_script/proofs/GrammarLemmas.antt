@@ -4,13 +4,10 @@ use Rattle.std.specs.Prelude.{option_map, codes, decimal, nat_lt}
 use Rattle.std.proofs.lemmas.Bool.{eqb-false, ltb-true}
 use Rattle.std.proofs.lemmas.Option.{same_Some, none-some, cond_some}
 use Rattle.x25_bits.specs.declared.role.Role.{Role}
-use Rattle.x25_script.specs.declared.words.Keyword.{Keyword}
-use Rattle.x25_script.specs.declared.words.Keyword.TheVariants.{End, T1, Deliver, Lose, Damage, Drain}
-use Rattle.x25_script.specs.declared.words.Verb.{Verb}
-use Rattle.x25_script.specs.declared.words.Verb.TheVariants.{Call, Accept, Clear, Send, Interrupt, Reset, Ready, NotReady}
 use Rattle.x25_circuit.specs.declared.params.Params.{Params}
 use Rattle.x25_script.specs.ScriptLine.{PlainCommand, clear, reset, ready, not_ready, restart, pull, connect, disconnect, PlainLine, heal}
 use Rattle.x25_script.specs.Reading.Spelling.{end_text, direction_text, q_text, address_text, IsNumber, AreParams, params_text, SpellsCommand, Spells}
+use Rattle.x25_script.specs.Reading.{Keyword, End, T1, Deliver, Lose, Damage, Drain, Verb, Call, Accept, Clear, Send, Interrupt, Reset, Ready, NotReady}
 use Rattle.x25_script.specs.Reading.{parts_of, end_in, from_in, q_in, number_in, address_in, octets_in, verb_in, keyword_in, small_number_in, params_in, with_params_of, with_params_in, call_in, accept_in, send_in, interrupt_in, on_channel, with_fields, bare_command_in, command_of, command_in, lose_in, damage_in, drain_in, after, bare_line_in, line_of, line_in}
 use Rattle.x25_script.proofs.NumberLemmas.{number_found}
 use Rattle.x25_script.proofs.PartLemmas.{chosen, bind_found, IsText, word_step, parts_joined, end_found, from_found, q_found, address_found, octets_found}
@@ -186,7 +183,7 @@ with_fields_found Reset fields v e = channel_found reset (codes "reset ") fields
 with_fields_found Ready fields v e = channel_found ready (codes "ready ") fields v e (λ n h. (h, refl))
 with_fields_found NotReady fields v e = channel_found not_ready (codes "notready ") fields v e (λ n h. (h, refl))
 
-bare_found : (text : List ℕ) (v : PlainCommand) → bare_command_in text ≡ Some v → SpellsCommand v text
+pub bare_found : (text : List ℕ) (v : PlainCommand) → bare_command_in text ≡ Some v → SpellsCommand v text
 bare_found text v e =
     word_step SpellsCommand text (codes "restart") restart v _ refl e (λ e.
     word_step SpellsCommand text (codes "pull") pull v _ refl e (λ e.

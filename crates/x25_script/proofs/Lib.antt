@@ -5,3 +5,4 @@ pub mod PartLemmas
 pub mod GrammarLemmas
 pub mod AgainLemmas
 pub mod CarriedLemmas
+pub mod WordLemmas

@@ -1,5 +1,5 @@
 -- Fields apart by a blank.
-use Rattle.std.proofs.Common.{ℕ, ◌==◌, ◌≡◌, ◌∙◌, ◌⊎◌, inl, inr, Bool, true, false, List, [], ◌∷◌, ◌++◌, length, Option, Some, None, Result, Ok, Err, refl, ap, sym, subst, arith}
+use Rattle.std.proofs.Common.{ℕ, ◌==◌, ◌≡◌, ◌≢◌, ◌∙◌, ◌⊎◌, inl, inr, Bool, true, false, List, [], ◌∷◌, ◌++◌, length, Option, Some, None, Result, Ok, Err, refl, ap, sym, subst, arith}
 use Rattle.std.specs.Prelude.{cond, not, option_map, option_and_then, ◌&&◌, if◌then◌else◌, codes, nat_eq}
 use Rattle.std.specs.Char.{is_ascii_digit, is_ascii_hexdigit}
 use Rattle.std.specs.List.{list_all}
@@ -35,6 +35,9 @@ map_found None f y e = absurd (none-some _ e)
 
 pub bytes_same : (a b : List ℕ) → bytes_eq a b ≡ true → a ≡ b
 bytes_same a b h = (bytes_eq-Decides a b).0 h
+
+pub bytes_other : (a b : List ℕ) → bytes_eq a b ≡ false → a ≢ b
+bytes_other a b h e = let same = (bytes_eq-Decides a b).1 e in absurd (cc)
 
 -- what a text is read as, where each text has its own
 abbrev pub IsText : {A : Type 0} → (A → List ℕ) → A → List ℕ → Type 0

@@ -1,5 +1,6 @@
 -- What characters read as: the line that they spell, or none (profile).
-use Rattle.std.specs.Prelude.{ℕ, ◌≡◌, ◌==◌, ◌&&◌, nat_lt, Bool, true, false, List, [], ◌∷◌, length, codes, decimal}
+use Rattle.std.specs.Prelude.{ℕ, ◌≡◌, ◌≢◌, ◌++◌, ◌==◌, ◌&&◌, nat_lt, Bool, true, false, List, [], ◌∷◌, length, codes}
+use Rattle.std.specs.Prelude.{decimal}
 use Rattle.std.specs.Prelude.{if◌then◌else◌, Option, Some, None, option_map, option_and_then}
 use Rattle.std.specs.Char.{is_ascii_digit}
 use Rattle.std.specs.List.{list_all}
@@ -10,17 +11,31 @@ use Rattle.x25_bits.specs.declared.role.Role.{Role}
 use Rattle.x25_bits.specs.declared.role.Role.TheVariants.{Dte, Dce}
 use Rattle.x25_circuit.specs.declared.params.Params.{Params}
 use Rattle.x25_script.specs.declared.script_line.Command.{Command}
-use Rattle.x25_script.specs.declared.script_line.ScriptLine.{ScriptLine}
-use Rattle.x25_script.specs.declared.words.Keyword.{Keyword}
-use Rattle.x25_script.specs.declared.words.Keyword.TheVariants.{End, T1, Deliver, Lose, Damage, Drain}
-use Rattle.x25_script.specs.declared.words.Verb.{Verb}
-use Rattle.x25_script.specs.declared.words.Verb.TheVariants.{Call, Accept, Clear, Send, Interrupt, Reset, Ready}
-use Rattle.x25_script.specs.declared.words.Verb.TheVariants.{NotReady}
 use Rattle.x25_script.specs.HexDigits.{octets_of}
 use Rattle.x25_script.specs.ScriptLine.{PlainCommand, call, accept, clear, send, interrupt, reset, ready, not_ready}
 use Rattle.x25_script.specs.ScriptLine.{restart, pull, connect, disconnect, PlainLine, command, t1, deliver, lose}
-use Rattle.x25_script.specs.ScriptLine.{damage, drain, heal, plain_command, plain}
+use Rattle.x25_script.specs.ScriptLine.{damage, drain, heal, plain_command}
 pub mod Spelling
+
+-- the first word of a line
+pub data Keyword : Type 0 where
+  End : Role → Keyword
+  T1 : Keyword
+  Deliver : Keyword
+  Lose : Keyword
+  Damage : Keyword
+  Drain : Keyword
+
+-- the word of a command that has fields
+pub data Verb : Type 0 where
+  Call : Verb
+  Accept : Verb
+  Clear : Verb
+  Send : Verb
+  Interrupt : Verb
+  Reset : Verb
+  Ready : Verb
+  NotReady : Verb
 
 -- a step of reading, where the steps before it read something
 infixl 10 ◌>>=◌
@@ -245,6 +260,6 @@ abbrev pub GivesCommand : Option Command → Option PlainCommand → Type 0
 GivesCommand None read = read ≡ None
 GivesCommand (Some asked) read = read ≡ Some (plain_command asked)
 
-abbrev pub GivesLine : Option ScriptLine → Option PlainLine → Type 0
-GivesLine None read = read ≡ None
-GivesLine (Some line) read = read ≡ Some (plain line)
+-- a text doesn't begin with this word
+abbrev pub IsNotBehind : List ℕ → List ℕ → Type 0
+IsNotBehind word text = (rest : List ℕ) → text ≢ word ++ rest

@@ -4,8 +4,6 @@ use Rattle.x25_bits.specs.declared.role.Role.{Role}
 use Rattle.x25_circuit.specs.declared.params.Params.{Params}
 use Rattle.x25_script.specs.declared.script_line.Command.{Command}
 use Rattle.x25_script.specs.declared.script_line.Command.TheVariants as command_code
-use Rattle.x25_script.specs.declared.script_line.ScriptLine.{ScriptLine}
-use Rattle.x25_script.specs.declared.script_line.ScriptLine.TheVariants as line_code
 
 -- A call has the characters of the called address, those of the calling one, and the user data; the others begin with
 -- their channel, before Q and the user data. A call and its acceptance may have packet sizes and windows.
@@ -46,12 +44,3 @@ plain_command command_code.Restart = restart
 plain_command command_code.Pull = pull
 plain_command command_code.Connect = connect
 plain_command command_code.Disconnect = disconnect
-
-abbrev pub plain : ScriptLine → PlainLine
-plain (line_code.Command end asked) = command end (plain_command asked)
-plain (line_code.T1 end) = t1 end
-plain (line_code.Deliver from) = deliver from
-plain (line_code.Lose from place) = lose from place
-plain (line_code.Damage from place octets) = damage from place octets
-plain (line_code.Drain count) = drain count
-plain line_code.Heal = heal

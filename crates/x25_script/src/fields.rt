@@ -1,15 +1,14 @@
 //! The fields of a line.
-ghost use Rattle.std.specs.Prelude.{◌≡◌, ◌==◌, ◌≤◌, true, false, nat_lt, if◌then◌else◌, length, Some, None};
-ghost use Rattle.std.specs.Prelude.{MatchOption};
+ghost use Rattle.std.specs.Prelude.{◌≡◌, ◌==◌, ◌≤◌, ◌++◌, true, false, nat_lt, if◌then◌else◌, length, take};
+ghost use Rattle.std.specs.Prelude.{IsTrue, MatchOption, None, Some};
 ghost use Rattle.std.specs.Char.{is_ascii_digit};
 ghost use Rattle.std.specs.List.{list_all, position};
 ghost use Rattle.std.specs.Str.{bytes_eq};
 ghost use Rattle.std.specs.Str.Parse.{digits_value};
-ghost use Rattle.x25_script.specs.Reading.{address_in, end_in, from_in, keyword_in, digits_in, number_in, octets_in};
-ghost use Rattle.x25_script.specs.Reading.{parts_of, q_in, small_number_in, verb_in, GivesParts, GivesText};
+ghost use Rattle.x25_script.specs.Reading.{address_in, digits_in, end_in, from_in, number_in, octets_in};
+ghost use Rattle.x25_script.specs.Reading.{parts_of, q_in, small_number_in, GivesParts, GivesText, IsNotBehind};
 
 use crate::hex_digits::HexDigits;
-use crate::words::{Keyword, Verb};
 use x25_bits::Role;
 
 /// Whether the text is this word.
@@ -17,6 +16,36 @@ pub(crate) fn is(text: &[u8], word: &str) -> bool
     ensures { result ≡ bytes_eq text.now word.now }
 {
     text == word.as_bytes()
+}
+
+/// Whether the text begins with this word. Each character is compared, so that it is one comparison at a literal word.
+#[inline(always)]
+fn begins_with(text: &[u8], word: &[u8]) -> bool
+    ensures value { result ≡ bytes_eq word.now (take (length word.now) text.now) }
+    ensures bound { IsTrue result → length word.now ≤ length text.now }
+{
+    if text.len() < word.len() {
+        return false;
+    }
+    let mut is_same = true;
+    let mut left = word.len();
+    while left > 0 {
+        left -= 1;
+        is_same = (word[left] == text[left]) & is_same;
+    }
+    is_same
+}
+
+/// What follows this word, where the text begins with it.
+#[inline(always)]
+pub(crate) fn behind<'a>(text: &'a [u8], word: &[u8]) -> Option<&'a [u8]>
+    ensures { MatchOption result (IsNotBehind word.now text.now) (λ rest. text.now ≡ word.now ++ rest.now) }
+{
+    if begins_with(text, word) {
+        Some(&text[word.len()..])
+    } else {
+        None
+    }
 }
 
 /// The place of the first blank.
@@ -170,47 +199,5 @@ pub(crate) fn octets(text: &[u8]) -> Option<HexDigits<'_>>
         None
     } else {
         HexDigits::of(text)
-    }
-}
-
-pub(crate) fn keyword(word: &[u8]) -> Option<Keyword>
-    ensures { result ≡ keyword_in word.now }
-{
-    if is(word, "t1") {
-        Some(Keyword::T1)
-    } else if is(word, "deliver") {
-        Some(Keyword::Deliver)
-    } else if is(word, "lose") {
-        Some(Keyword::Lose)
-    } else if is(word, "damage") {
-        Some(Keyword::Damage)
-    } else if is(word, "drain") {
-        Some(Keyword::Drain)
-    } else {
-        Some(Keyword::End(end(word)?))
-    }
-}
-
-pub(crate) fn verb(word: &[u8]) -> Option<Verb>
-    ensures { result ≡ verb_in word.now }
-{
-    if is(word, "call") {
-        Some(Verb::Call)
-    } else if is(word, "accept") {
-        Some(Verb::Accept)
-    } else if is(word, "clear") {
-        Some(Verb::Clear)
-    } else if is(word, "send") {
-        Some(Verb::Send)
-    } else if is(word, "int") {
-        Some(Verb::Interrupt)
-    } else if is(word, "reset") {
-        Some(Verb::Reset)
-    } else if is(word, "ready") {
-        Some(Verb::Ready)
-    } else if is(word, "notready") {
-        Some(Verb::NotReady)
-    } else {
-        None
     }
 }

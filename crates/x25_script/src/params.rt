@@ -21,6 +21,7 @@ fn read_params(text: &[u8]) -> Option<Params>
 }
 
 /// The last field that has to stand, and the four numbers where a blank follows it.
+#[inline(always)]
 #[tactic(auto, unfolding(crate::specs::Reading::with_params_in))]
 pub(crate) fn with_params(text: &[u8]) -> Option<(&[u8], Option<Params>)>
     ensures { GivesWithParams result (with_params_in text.now) }

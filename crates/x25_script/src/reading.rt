@@ -1,45 +1,40 @@
 //! A line of a script read from its characters.
-ghost use Rattle.std.specs.Prelude.{◌≡◌, IfSome, IsSomeAnd, Some, option_map};
-ghost use Rattle.x25_script.specs.ScriptLine.{PlainLine, command, deliver, drain, lose, plain, t1};
-ghost use Rattle.x25_script.specs.Reading.{after, bare_line_in, command_in, damage_in, drain_in, line_in, lose_in};
-ghost use Rattle.x25_script.specs.Reading.{number_in, GivesLine};
+ghost use Rattle.std.specs.Prelude.{◌≡◌, IfSome, List, ℕ, Option, Some, option_map};
+ghost use Rattle.x25_script.specs.ScriptLine.{PlainLine, damage, drain, lose};
+ghost use Rattle.x25_script.specs.Reading.{after, command_in, damage_in, drain_in, line_in, lose_in, GivesCommand};
+ghost use Rattle.x25_script.specs.Reading.{Deliver, End, T1};
 ghost use Rattle.x25_script.specs.Reading.Spelling.{Spells};
-ghost use Rattle.x25_script.specs.declared.words.Keyword.TheVariants.{Deliver, End};
 
-use crate::command::read_command;
-use crate::fields::{end, from, is, keyword, number, octets, split_blank};
-use crate::script_line::ScriptLine;
-use crate::words::Keyword;
+use crate::command::{accept, other_command, send};
+use crate::fields::{behind, end, from, is, number, octets, split_blank};
+use crate::hex_digits::HexDigits;
+use crate::script_line::{Command, ScriptTaker};
 use x25_bits::Role;
 
+/// From which end a frame is lost, and its place.
+#[inline(always)]
 #[tactic(auto, unfolding(crate::specs::Reading::lose_in))]
-fn lose(fields: &[u8]) -> Option<ScriptLine<'_>>
-    ensures { GivesLine result (lose_in fields.now) }
+fn lost(fields: &[u8]) -> Option<(Role, u16)>
+    ensures { option_map (λ parts. lose parts.0 parts.1) result ≡ lose_in fields.now }
 {
     let (direction, place) = split_blank(fields)?;
-    Some(ScriptLine::Lose {
-        from: from(direction)?,
-        place: number(place)?,
-    })
+    Some((from(direction)?, number(place)?))
 }
 
+/// From which end a frame is damaged, its place, and what stands there then.
 #[tactic(auto, unfolding(crate::specs::Reading::damage_in))]
-fn damage(fields: &[u8]) -> Option<ScriptLine<'_>>
-    ensures { GivesLine result (damage_in fields.now) }
+fn damaged(fields: &[u8]) -> Option<(Role, u16, HexDigits<'_>)>
+    ensures { option_map (λ parts. damage parts.0 parts.1 parts.2) result ≡ damage_in fields.now }
 {
     let (direction, rest) = split_blank(fields)?;
     let (place, digits) = split_blank(rest)?;
-    Some(ScriptLine::Damage {
-        from: from(direction)?,
-        place: number(place)?,
-        octets: octets(digits)?,
-    })
+    Some((from(direction)?, number(place)?, octets(digits)?))
 }
 
 /// How many frames arrive at most.
 #[inline(always)]
 #[tactic(auto, unfolding(crate::specs::Reading::drain_in))]
-fn drained(fields: &[u8]) -> Option<u16>
+fn at_most(fields: &[u8]) -> Option<u16>
     ensures { option_map drain result ≡ drain_in fields.now }
 {
     let count = number(fields)?;
@@ -49,205 +44,136 @@ fn drained(fields: &[u8]) -> Option<u16>
     Some(count)
 }
 
+/// Hands a command on, where there is one.
 #[inline(always)]
-fn drain(fields: &[u8]) -> Option<ScriptLine<'_>>
-    ensures { GivesLine result (drain_in fields.now) }
+fn hand_command<W, T: ScriptTaker<W>>(
+    end: Role,
+    asked: Option<Command<'_>>,
+    taker: &mut T,
+    with: &mut W,
+) -> T::Answer
+    ensures { (text : List ℕ) → GivesCommand asked.entry (command_in text)
+        → T.gives taker.old with.old taker.new with.new result (after (End end) text) }
 {
-    let count = drained(fields)?;
-    Some(ScriptLine::Drain { count })
-}
-
-/// What an end is commanded.
-#[inline(always)]
-fn commanded(end: Role, text: &[u8]) -> Option<ScriptLine<'_>>
-    ensures { GivesLine result (after (End end) text.now) }
-{
-    let command = read_command(text)?;
-    Some(ScriptLine::Command { end, command })
-}
-
-#[inline(always)]
-fn delivered(direction: &[u8]) -> Option<ScriptLine<'_>>
-    ensures { GivesLine result (after Deliver direction.now) }
-{
-    let from = from(direction)?;
-    Some(ScriptLine::Deliver { from })
-}
-
-/// The line of this first word, with what follows it.
-fn line_with(word: Keyword, fields: &[u8]) -> Option<ScriptLine<'_>>
-    ensures { GivesLine result (after word fields.now) }
-{
-    match word {
-        Keyword::End(end) => commanded(end, fields),
-        Keyword::T1 => {
-            let end = end(fields)?;
-            Some(ScriptLine::T1 { end })
-        }
-        Keyword::Deliver => delivered(fields),
-        Keyword::Lose => lose(fields),
-        Keyword::Damage => damage(fields),
-        Keyword::Drain => drain(fields),
+    match asked {
+        Some(command) => taker.command(end, command, with),
+        None => taker.nothing(with),
     }
 }
 
-/// A line of one word.
-fn bare_line(text: &[u8]) -> Option<ScriptLine<'_>>
-    ensures { GivesLine result (bare_line_in text.now) }
-{
-    if is(text, "heal") {
-        Some(ScriptLine::Heal)
-    } else {
-        None
-    }
-}
-
-/// A line that begins with any word.
+/// What an end is commanded, by its first word.
 #[inline(never)]
-#[tactic(auto, unfolding(crate::specs::Reading::line_in))]
-fn any_line(line: &[u8]) -> Option<ScriptLine<'_>>
-    ensures { GivesLine result (line_in line.now) }
+fn read_command<W, T: ScriptTaker<W>>(
+    end: Role,
+    text: &[u8],
+    taker: &mut T,
+    with: &mut W,
+) -> T::Answer
+    ensures { T.gives taker.old with.old taker.new with.new result (after (End end) text.now) }
 {
-    match split_blank(line) {
-        Some((word, fields)) => line_with(keyword(word)?, fields),
-        None => bare_line(line),
+    if let Some(fields) = behind(text, b"send ") {
+        return hand_command(end, send(fields), taker, with);
+    }
+    if let Some(fields) = behind(text, b"accept ") {
+        return hand_command(end, accept(fields), taker, with);
+    }
+    hand_command(end, other_command(text), taker, with)
+}
+
+#[inline(always)]
+fn read_t1<W, T: ScriptTaker<W>>(fields: &[u8], taker: &mut T, with: &mut W) -> T::Answer
+    ensures { T.gives taker.old with.old taker.new with.new result (after T1 fields.now) }
+{
+    match end(fields) {
+        Some(end) => taker.t1(end, with),
+        None => taker.nothing(with),
     }
 }
 
-/// The end that a line begins with, and what follows its blank.
 #[inline(always)]
-#[tactic(auto, unfolding(crate::specs::Reading::line_in, crate::specs::Reading::parts_of))]
-fn commanded_end(line: &[u8]) -> Option<(Role, &[u8])>
-    ensures { IfSome result (λ parts. line_in line.now ≡ after (End parts.0) parts.1.now) }
+fn read_deliver<W, T: ScriptTaker<W>>(fields: &[u8], taker: &mut T, with: &mut W) -> T::Answer
+    ensures { T.gives taker.old with.old taker.new with.new result (after Deliver fields.now) }
 {
-    match line {
-        [b'd', b't', b'e', b' ', text @ ..] => Some((Role::Dte, text)),
-        [b'd', b'c', b'e', b' ', text @ ..] => Some((Role::Dce, text)),
-        _ => None,
+    match from(fields) {
+        Some(from) => taker.deliver(from, with),
+        None => taker.nothing(with),
     }
 }
 
-/// What follows the word `deliver` and its blank.
 #[inline(always)]
-#[tactic(auto, unfolding(crate::specs::Reading::line_in, crate::specs::Reading::parts_of))]
-fn behind_deliver(line: &[u8]) -> Option<&[u8]>
-    ensures { IfSome result (λ fields. line_in line.now ≡ after Deliver fields.now) }
+fn read_lose<W, T: ScriptTaker<W>>(fields: &[u8], taker: &mut T, with: &mut W) -> T::Answer
+    ensures { T.gives taker.old with.old taker.new with.new result (lose_in fields.now) }
 {
-    match line {
-        [b'd', b'e', b'l', b'i', b'v', b'e', b'r', b' ', fields @ ..] => Some(fields),
-        _ => None,
+    match lost(fields) {
+        Some((from, place)) => taker.lose(from, place, with),
+        None => taker.nothing(with),
     }
 }
 
-/// What follows the word `drain` and its blank.
-#[inline(always)]
-#[tactic(auto, unfolding(crate::specs::Reading::line_in, crate::specs::Reading::parts_of))]
-fn behind_drain(line: &[u8]) -> Option<&[u8]>
-    ensures { IfSome result (λ fields. line_in line.now ≡ drain_in fields.now) }
+fn read_damage<W, T: ScriptTaker<W>>(fields: &[u8], taker: &mut T, with: &mut W) -> T::Answer
+    ensures { T.gives taker.old with.old taker.new with.new result (damage_in fields.now) }
 {
-    match line {
-        [b'd', b'r', b'a', b'i', b'n', b' ', fields @ ..] => Some(fields),
-        _ => None,
+    match damaged(fields) {
+        Some((from, place, octets)) => taker.damage(from, place, octets, with),
+        None => taker.nothing(with),
     }
 }
 
-/// The end that a line loses a frame from, and what follows its direction and a blank.
 #[inline(always)]
-#[tactic(auto, unfolding(crate::specs::Reading::line_in, crate::specs::Reading::lose_in, crate::specs::Reading::parts_of))]
-fn behind_lose(line: &[u8]) -> Option<(Role, &[u8])>
-    ensures { IfSome result (λ parts. line_in line.now ≡ option_map (lose parts.0) (number_in parts.1.now)) }
+fn read_drain<W, T: ScriptTaker<W>>(fields: &[u8], taker: &mut T, with: &mut W) -> T::Answer
+    ensures { T.gives taker.old with.old taker.new with.new result (drain_in fields.now) }
 {
-    match line {
-        [b'l', b'o', b's', b'e', b' ', b'>', b' ', place @ ..] => Some((Role::Dte, place)),
-        [b'l', b'o', b's', b'e', b' ', b'<', b' ', place @ ..] => Some((Role::Dce, place)),
-        _ => None,
+    match at_most(fields) {
+        Some(count) => taker.drain(count, with),
+        None => taker.nothing(with),
     }
 }
 
-/// The words that most lines begin with are tried first.
+/// The line, by its first word.
 #[inline(always)]
-fn read(line: &[u8]) -> Option<ScriptLine<'_>>
-    ensures { GivesLine result (line_in line.now) }
+fn read<W, T: ScriptTaker<W>>(line: &[u8], taker: &mut T, with: &mut W) -> T::Answer
+    ensures { T.gives taker.old with.old taker.new with.new result (line_in line.now) }
 {
-    if let Some((end, text)) = commanded_end(line) {
-        return commanded(end, text);
+    if let Some(fields) = behind(line, b"deliver ") {
+        return read_deliver(fields, taker, with);
     }
-    if let Some(direction) = behind_deliver(line) {
-        return delivered(direction);
+    if let Some(text) = behind(line, b"dte ") {
+        return read_command(Role::Dte, text, taker, with);
     }
-    if let Some(count) = behind_drain(line) {
-        return drain(count);
+    if let Some(text) = behind(line, b"dce ") {
+        return read_command(Role::Dce, text, taker, with);
     }
-    // In a place of its own, so that the lines above needn't go through memory.
-    let other = any_line(line);
-    other
-}
-
-/// The end from which a line asks that the next frame arrive. `None` says nothing of the line. It takes no memory.
-/// Profile.
-#[inline(always)]
-pub fn read_deliver(line: &[u8]) -> Option<Role>
-    ensures { IfSome result (λ end. line_in line.now ≡ Some (deliver end)) }
-{
-    let direction = behind_deliver(line)?;
-    let end = from(direction)?;
-    Some(end)
-}
-
-/// The end whose timer T1 runs out by a line. `None` says nothing of the line. It takes no memory. Profile.
-#[inline(always)]
-#[tactic(auto, unfolding(crate::specs::Reading::line_in, crate::specs::Reading::parts_of))]
-pub fn read_t1(line: &[u8]) -> Option<Role>
-    ensures { IfSome result (λ at. line_in line.now ≡ Some (t1 at)) }
-{
-    match line {
-        [b't', b'1', b' ', b'd', b't', b'e'] => Some(Role::Dte),
-        [b't', b'1', b' ', b'd', b'c', b'e'] => Some(Role::Dce),
-        _ => None,
+    if let Some(fields) = behind(line, b"drain ") {
+        return read_drain(fields, taker, with);
     }
+    if let Some(fields) = behind(line, b"t1 ") {
+        return read_t1(fields, taker, with);
+    }
+    if let Some(fields) = behind(line, b"lose ") {
+        return read_lose(fields, taker, with);
+    }
+    if let Some(fields) = behind(line, b"damage ") {
+        return read_damage(fields, taker, with);
+    }
+    if is(line, "heal") {
+        return taker.heal(with);
+    }
+    taker.nothing(with)
 }
 
-/// How many frames a line asks at most to arrive. `None` says nothing of the line. It takes no memory. Profile.
-#[inline(always)]
-pub fn read_drain(line: &[u8]) -> Option<u16>
-    ensures { IfSome result (λ count. line_in line.now ≡ Some (drain count)) }
-{
-    let fields = behind_drain(line)?;
-    let count = drained(fields)?;
-    Some(count)
-}
-
-/// The end from which a line loses a frame, and the place of that frame. `None` says nothing of the line. It takes no
-/// memory. Profile.
-#[inline(always)]
-pub fn read_lose(line: &[u8]) -> Option<(Role, u16)>
-    ensures { IfSome result (λ parts. line_in line.now ≡ Some (lose parts.0 parts.1)) }
-{
-    let (from, digits) = behind_lose(line)?;
-    let place = number(digits)?;
-    Some((from, place))
-}
-
-/// The end that a line commands, and the command. `None` says nothing of the line. Profile.
-#[inline(always)]
-pub fn read_end(line: &[u8]) -> Option<(Role, &[u8])>
-    ensures { IfSome result (λ parts. line_in line.now ≡ option_map (command parts.0) (command_in parts.1.now)) }
-{
-    commanded_end(line)
-}
-
-/// The line of a script that the characters spell, without a line feed, where they spell one. It takes no memory.
-/// Profile.
+/// Reads a line of a script, its characters without a line feed: the taker does what it asks for, and answers. It takes
+/// no memory itself. Profile.
 ///
 /// A line is its fields, apart by one blank each. Nothing else stands between or around them: no carriage return, no
 /// tab, no sign and no leading zero.
 #[inline(always)]
-pub fn read_line(line: &[u8]) -> Option<ScriptLine<'_>>
-    ensures exact { GivesLine result (line_in line.now) }
+pub fn read_line<W, T: ScriptTaker<W>>(line: &[u8], taker: &mut T, with: &mut W) -> T::Answer
+    ensures exact { T.gives taker.old with.old taker.new with.new result (line_in line.now) }
     // What is read is spelled so.
-    ensures found { IfSome result (λ v. Spells (plain v) line.now) }
+    ensures found { (asked : Option PlainLine) × T.gives taker.old with.old taker.new with.new result asked
+        × IfSome asked (λ v. Spells v line.now) }
     // What is spelled so is read.
-    ensures only { (v : PlainLine) → Spells v line.now → IsSomeAnd result (λ w. plain w ≡ v) }
+    ensures only { (v : PlainLine) → Spells v line.now → T.gives taker.old with.old taker.new with.new result (Some v) }
 {
-    read(line)
+    read(line, taker, with)
 }

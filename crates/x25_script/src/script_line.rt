@@ -1,3 +1,7 @@
+ghost use Rattle.std.specs.Prelude.{Option, None, Some};
+ghost use Rattle.x25_script.specs.ScriptLine.{PlainLine, command, damage, deliver, drain, heal, lose, plain_command};
+ghost use Rattle.x25_script.specs.ScriptLine.{t1};
+
 use crate::hex_digits::HexDigits;
 use x25_bits::Role;
 use x25_circuit::Params;
@@ -49,49 +53,53 @@ pub enum Command<'a> {
     Disconnect,
 }
 
-/// A message that the user of an end asks to send. Its octets are borrowed from its line.
-#[derive(Debug, Drop)]
-pub struct Sent<'a> {
-    pub channel: u16,
-    pub q: bool,
-    pub user: HexDigits<'a>,
-}
-
-/// A line of a script. Addresses and octets are borrowed from it.
+/// What takes lines of a script: each kind comes to a method of its own, so that no value of a line is made. `with` is
+/// what the taker needs beside itself, as a writer.
 ///
 /// A direction is named by the end that it leads away from. `place` counts the frames on the line in this direction
-/// from
-/// 0, the next to arrive; `count` is 1 to 65,535.
-#[derive(Debug, Drop)]
-pub enum ScriptLine<'a> {
+/// from 0, the next to arrive; `count` is 1 to 65,535.
+pub trait ScriptTaker<W> {
+    type Answer;
+
+    // `gives old was new is answer asked`: so the taker and what it needs are behind what is asked, `None` where the
+    // characters are no line.
+    ghost gives: { Self → W → Self → W → Self.Answer → Option PlainLine → Type 0 };
+
     /// The user of an end asks for something.
-    Command {
-        end: Role,
-        command: Command<'a>,
-    },
+    fn command(&mut self, end: Role, asked: Command<'_>, with: &mut W) -> Self::Answer
+        ensures { gives self.old with.old self.new with.new result (Some (command end (plain_command asked.entry))) };
+
     /// Timer T1 of an end runs out.
-    T1 {
-        end: Role,
-    },
+    fn t1(&mut self, end: Role, with: &mut W) -> Self::Answer
+        ensures { gives self.old with.old self.new with.new result (Some (t1 end)) };
+
     /// The next frame from an end arrives.
-    Deliver {
-        from: Role,
-    },
+    fn deliver(&mut self, from: Role, with: &mut W) -> Self::Answer
+        ensures { gives self.old with.old self.new with.new result (Some (deliver from)) };
+
     /// A frame from an end is lost.
-    Lose {
-        from: Role,
-        place: u16,
-    },
+    fn lose(&mut self, from: Role, place: u16, with: &mut W) -> Self::Answer
+        ensures { gives self.old with.old self.new with.new result (Some (lose from place)) };
+
     /// A frame from an end is damaged: these octets stand in its place.
-    Damage {
+    fn damage(
+        &mut self,
         from: Role,
         place: u16,
-        octets: HexDigits<'a>,
-    },
+        octets: HexDigits<'_>,
+        with: &mut W,
+    ) -> Self::Answer
+        ensures { gives self.old with.old self.new with.new result (Some (damage from place octets.entry)) };
+
     /// Frames arrive, at most this many.
-    Drain {
-        count: u16,
-    },
+    fn drain(&mut self, count: u16, with: &mut W) -> Self::Answer
+        ensures { gives self.old with.old self.new with.new result (Some (drain count)) };
+
     /// All that is on the line arrives, timer T1 runs out at each end where it runs, and what was handed down arrives.
-    Heal,
+    fn heal(&mut self, with: &mut W) -> Self::Answer
+        ensures { gives self.old with.old self.new with.new result (Some heal) };
+
+    /// The characters are no line.
+    fn nothing(&mut self, with: &mut W) -> Self::Answer
+        ensures { gives self.old with.old self.new with.new result None };
 }

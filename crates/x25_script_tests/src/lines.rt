@@ -1,12 +1,10 @@
-use crate::shown::shown;
+use crate::shown::Shown;
+use std::alloc::Global;
 use std::test::Fail;
-use x25_script::{
-    Role, lines_are_in_octets, read_accept, read_command, read_deliver, read_drain, read_end,
-    read_line, read_lose, read_send, read_t1, reading_is_the_grammar,
-};
+use x25_script::{lines_are_in_octets, read_line, reading_is_the_grammar};
 
 /// Lines of a script, and what they say.
-const LINES: [(&[u8], &str); 43] = [
+const LINES: [(&[u8], &str); 46] = [
     (b"dte call 1 2 41", "DTE: call of [1] from [2] with 41"),
     (
         b"dce call 123 4567 48656C6c6F",
@@ -89,6 +87,9 @@ const LINES: [(&[u8], &str); 43] = [
     (b"drain 1", "at most 1 come"),
     (b"drain 65535", "at most 65535 come"),
     (b"heal", "heals"),
+    (b"dce send 100 0 00", "DCE: sends on 100 with Q false 00"),
+    (b"dte send 99 1 00FF", "DTE: sends on 99 with Q true 00ff"),
+    (b"dte reset 1", "DTE: resets 1"),
 ];
 
 /// Characters that are no line of a script.
@@ -272,155 +273,51 @@ const OTHERS: [&[u8]; 177] = [
     b"dte restart\0",
 ];
 
+/// Texts that are no lines, each by one character or one field.
+const NEAR: [&[u8]; 16] = [
+    b"deliver =",
+    b"t1 dxe",
+    b"t1 dt",
+    b"lose < 65536",
+    b"lose = 0",
+    b"dce ",
+    b"dce send 01 0 00",
+    b"dce send 1a 0 00",
+    b"dce send 10 2 00",
+    b"dce send 10 00 00",
+    b"dce send 1 0 0",
+    b"dce send 1 0 0g",
+    b"dce send 1 0 ",
+    b"dce send   0 00",
+    b"dte send 300 0 ",
+    b"dte reset 1 ",
+];
+
 #[test]
 fn lines_say_what_they_spell(rt: HostRuntime) -> Result<(), Fail> {
     reading_is_the_grammar();
     lines_are_in_octets();
     for (line, wanted) in LINES {
-        let read = read_line(line).ok_or("it is a line")?;
-        let text = shown(rt.alloc(), &read)?;
+        let text = read_line(line, &mut Shown, &mut rt.alloc())?.ok_or("it is a line")?;
         assert_eq!(rt; text.as_str(), wanted);
     }
     Ok(())
 }
 
+fn is_no_line(line: &[u8], mut alloc: Global) -> bool {
+    matches!(read_line(line, &mut Shown, &mut alloc), Ok(None))
+}
+
 #[test]
 fn others_are_no_lines(rt: HostRuntime) {
     for line in OTHERS {
-        assert!(rt; read_line(line).is_none(), "{line:?}");
-    }
-}
-
-/// Lines, and the end from which they ask that a frame arrive.
-const DELIVERIES: [(&[u8], Option<Role>); 5] = [
-    (b"deliver >", Some(Role::Dte)),
-    (b"deliver <", Some(Role::Dce)),
-    (b"deliver", None),
-    (b"deliver =", None),
-    (b"deliver > ", None),
-];
-
-/// Lines, and the end whose timer T1 runs out by them.
-const FIRINGS: [(&[u8], Option<Role>); 6] = [
-    (b"t1 dte", Some(Role::Dte)),
-    (b"t1 dce", Some(Role::Dce)),
-    (b"t1 dxe", None),
-    (b"t1 dte ", None),
-    (b"t1 dt", None),
-    (b"t2 dte", None),
-];
-
-/// Lines, and how many frames arrive by them at most.
-const DRAINS: [(&[u8], Option<u16>); 7] = [
-    (b"drain 1", Some(1)),
-    (b"drain 65535", Some(65535)),
-    (b"drain 65536", None),
-    (b"drain 0", None),
-    (b"drain 01", None),
-    (b"drain ", None),
-    (b"drait 1", None),
-];
-
-/// Lines, and the end from which they lose a frame, with its place.
-const LOSSES: [(&[u8], Option<(Role, u16)>); 8] = [
-    (b"lose > 0", Some((Role::Dte, 0))),
-    (b"lose < 65535", Some((Role::Dce, 65535))),
-    (b"lose < 65536", None),
-    (b"lose > 00", None),
-    (b"lose > ", None),
-    (b"lose >", None),
-    (b"lose = 0", None),
-    (b"loss > 0", None),
-];
-
-/// Lines, and the end that they command.
-const COMMANDED: [(&[u8], Option<Role>); 5] = [
-    (b"dte restart", Some(Role::Dte)),
-    (b"dce ", Some(Role::Dce)),
-    (b"dte", None),
-    (b"dxe restart", None),
-    (b"t1 dte", None),
-];
-
-/// Commands, and the channel whose call they accept as it was proposed.
-const ACCEPTANCES: [(&[u8], Option<u16>); 6] = [
-    (b"accept 0", Some(0)),
-    (b"accept 65535", Some(65535)),
-    (b"accept 65536", None),
-    (b"accept 01", None),
-    (b"accept 1 7 7 2 2", None),
-    (b"accepts 1", None),
-];
-
-/// Commands, and whether they are read as messages that are to be sent, by a channel of one digit or two.
-const MESSAGES: [(&[u8], bool); 15] = [
-    (b"send 0 0 -", true),
-    (b"send 9 1 00FF", true),
-    (b"send 10 0 00", true),
-    (b"send 99 1 -", true),
-    (b"send 100 0 00", false),
-    (b"send 01 0 00", false),
-    (b"send 1a 0 00", false),
-    (b"send 10 2 00", false),
-    (b"send 10 00 00", false),
-    (b"send 1 2 00", false),
-    (b"send 1 0 0", false),
-    (b"send 1 0 0g", false),
-    (b"send 1 0 ", false),
-    (b"send   0 00", false),
-    (b"sent 1 0 00", false),
-];
-
-#[test]
-fn some_lines_are_read_by_themselves(rt: HostRuntime) {
-    for (line, end) in DELIVERIES {
-        assert_eq!(rt; read_deliver(line), end);
-    }
-    for (line, end) in FIRINGS {
-        assert_eq!(rt; read_t1(line), end);
-    }
-    for (line, count) in DRAINS {
-        assert_eq!(rt; read_drain(line), count);
-    }
-    for (line, lost) in LOSSES {
-        assert_eq!(rt; read_lose(line), lost);
-    }
-    for (line, end) in COMMANDED {
-        assert_eq!(rt; read_end(line).map(|(end, _)| end), end);
-    }
-}
-
-/// Texts, and whether they are commands.
-const COMMANDS: [(&[u8], bool); 7] = [
-    (b"restart", true),
-    (b"send 300 0 -", true),
-    (b"accept 1 7 7 2 2", true),
-    (b"reset 1", true),
-    (b"send 300 0 ", false),
-    (b"reset 1 ", false),
-    (b"", false),
-];
-
-#[test]
-fn some_commands_are_read_by_themselves(rt: HostRuntime) {
-    for (text, channel) in ACCEPTANCES {
-        assert_eq!(rt; read_accept(text), channel);
-    }
-    for (text, is_read) in COMMANDS {
-        assert_eq!(rt; read_command(text).is_some(), is_read);
-    }
-    for (text, is_read) in MESSAGES {
-        assert_eq!(rt; read_send(text).is_some(), is_read);
+        assert!(rt; is_no_line(line, rt.alloc()), "{line:?}");
     }
 }
 
 #[test]
-fn a_message_has_its_fields(rt: HostRuntime) -> Result<(), Fail> {
-    let sent = read_send(b"send 9 1 00FF").ok_or("it is a message")?;
-    assert_eq!(rt; sent.channel, 9);
-    assert!(rt; sent.q);
-    let mut octets = vec![in rt.alloc(); 1u8; sent.user.len()]?;
-    sent.user.write_to(octets.as_mut_slice());
-    assert_eq!(rt; octets.as_slice(), [0, 255].as_slice());
-    Ok(())
+fn near_lines_are_no_lines(rt: HostRuntime) {
+    for line in NEAR {
+        assert!(rt; is_no_line(line, rt.alloc()), "{line:?}");
+    }
 }

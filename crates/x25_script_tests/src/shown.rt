@@ -1,7 +1,7 @@
 //! What a line reads as, in words of the tests' own.
 use std::alloc::{AllocError, Global};
 use x25_circuit::Params;
-use x25_script::{Command, HexDigits, Role, ScriptLine};
+use x25_script::{Command, HexDigits, Role, ScriptTaker};
 
 fn end_name(end: Role) -> &'static str {
     match end {
@@ -71,35 +71,67 @@ fn command_shown(alloc: Global, command: &Command<'_>) -> Result<String, AllocEr
     }
 }
 
-pub fn shown(alloc: Global, line: &ScriptLine<'_>) -> Result<String, AllocError> {
-    match line {
-        ScriptLine::Command { end, command } => {
-            let end = end_name(*end);
-            let command = command_shown(alloc, command)?;
-            format!(in alloc; "{end}: {command}")
-        }
-        ScriptLine::T1 { end } => {
-            let end = end_name(*end);
-            format!(in alloc; "T1 of {end}")
-        }
-        ScriptLine::Deliver { from } => {
-            let from = end_name(*from);
-            format!(in alloc; "from {from} comes one")
-        }
-        ScriptLine::Lose { from, place } => {
-            let from = end_name(*from);
-            format!(in alloc; "from {from} is lost {place}")
-        }
-        ScriptLine::Damage {
-            from,
-            place,
-            octets,
-        } => {
-            let from = end_name(*from);
-            let octets = octets_shown(alloc, octets)?;
-            format!(in alloc; "from {from} {place} becomes {octets}")
-        }
-        ScriptLine::Drain { count } => format!(in alloc; "at most {count} come"),
-        ScriptLine::Heal => String::from_str(alloc, "heals"),
+/// Tells of the lines that it takes.
+#[derive(Clone, Copy)]
+pub struct Shown;
+
+impl ScriptTaker<Global> for Shown {
+    type Answer = Result<Option<String>, AllocError>;
+
+    ghost gives = { λ old was new is answer asked. Unit {0} };
+
+    fn command(
+        &mut self,
+        end: Role,
+        asked: Command,
+        alloc: &mut Global,
+    ) -> Result<Option<String>, AllocError> {
+        let end = end_name(end);
+        let asked = command_shown(*alloc, &asked)?;
+        Ok(Some(format!(in *alloc; "{end}: {asked}")?))
+    }
+
+    fn t1(&mut self, end: Role, alloc: &mut Global) -> Result<Option<String>, AllocError> {
+        let end = end_name(end);
+        Ok(Some(format!(in *alloc; "T1 of {end}")?))
+    }
+
+    fn deliver(&mut self, from: Role, alloc: &mut Global) -> Result<Option<String>, AllocError> {
+        let from = end_name(from);
+        Ok(Some(format!(in *alloc; "from {from} comes one")?))
+    }
+
+    fn lose(
+        &mut self,
+        from: Role,
+        place: u16,
+        alloc: &mut Global,
+    ) -> Result<Option<String>, AllocError> {
+        let from = end_name(from);
+        Ok(Some(format!(in *alloc; "from {from} is lost {place}")?))
+    }
+
+    fn damage(
+        &mut self,
+        from: Role,
+        place: u16,
+        octets: HexDigits,
+        alloc: &mut Global,
+    ) -> Result<Option<String>, AllocError> {
+        let from = end_name(from);
+        let octets = octets_shown(*alloc, &octets)?;
+        Ok(Some(format!(in *alloc; "from {from} {place} becomes {octets}")?))
+    }
+
+    fn drain(&mut self, count: u16, alloc: &mut Global) -> Result<Option<String>, AllocError> {
+        Ok(Some(format!(in *alloc; "at most {count} come")?))
+    }
+
+    fn heal(&mut self, alloc: &mut Global) -> Result<Option<String>, AllocError> {
+        Ok(Some(String::from_str(*alloc, "heals")?))
+    }
+
+    fn nothing(&mut self, _alloc: &mut Global) -> Result<Option<String>, AllocError> {
+        Ok(None)
     }
 }

@@ -1,19 +1,16 @@
 -- A script, line by line.
 use Rattle.std.proofs.Common.{◌≡◌, ◌∙◌, ◌<◌, ◌≤◌, ℕ, Bool, false, List, [], ◌∷◌, ◌++◌, length, Option, Some, None, Result, append_assoc, ap, sym, subst, refl, if◌then◌else◌}
-use Rattle.std.specs.Prelude.{option_map}
 use Rattle.std.specs.Io.KnownBytes.{Appends}
 use Rattle.std.proofs.lemmas.Bool.{le-leb, lt-leb}
 use Rattle.std.proofs.lemmas.List.{append-nil}
 use Rattle.x25_io.specs.HeldLine.{most_line}
 use Rattle.x25_io.specs.code.Written.{AppendsPrefix}
 use Rattle.x25_io.specs.declared.fault.Fault.{Fault}
-use Rattle.x25_bits.specs.declared.role.Role.{Role}
-use Rattle.x25_script.specs.ScriptLine.{PlainCommand, PlainLine, command}
-use Rattle.x25_script.specs.Reading.{command_in, line_in}
+use Rattle.x25_script.specs.Reading.{line_in}
 use Rattle.x25_station.specs.declared.config.Cfg.{Cfg}
 use Rattle.x25_world.specs.World.{World}
 use Rattle.x25_sim.specs.Telling.{sayings_text, has_refusal}
-use Rattle.x25_sim.specs.Stage.{Turn, quiet, and_then, asked_in, asked_turn, line_turn, turn, turns}
+use Rattle.x25_sim.specs.Stage.{Turn, quiet, and_then, asked_in, asked_turn, turn, turns}
 use Rattle.x25_sim.specs.code.Stands.{Stands, Stood, Turns}
 use Rattle.x25_sim.specs.code.Leaves.{Leaves}
 use Rattle.x25_sim.specs.code.Stream.{WritesLines}
@@ -72,32 +69,13 @@ whole_told cfg tap old now s whole l empty =
 
 -- ---- what a line asks for
 
-asks : (line : List ℕ) (asked : PlainLine) → length line ≤ most_line → line_in line ≡ Some asked → asked_in line ≡ Some asked
+asks : (line : List ℕ) → length line ≤ most_line → asked_in line ≡ line_in line
 unfolding asked_in
-asks line asked few e = ap (λ b. if b then line_in line else None) (le-leb (length line) most_line few) ∙ e
+asks line few = ap (λ b. if b then line_in line else None) (le-leb (length line) most_line few)
 
-asks_none : (line : List ℕ) → length line ≤ most_line → line_in line ≡ None → asked_in line ≡ None
-unfolding asked_in
-asks_none line few e = ap (λ b. if b then line_in line else None) (le-leb (length line) most_line few) ∙ e
-
--- a line that isn't too long is obeyed, where what it asks for happens
-pub obeyed : (cfg : Cfg) (tap : Bool) (old now next : Option (List ℕ)) (s u : Stage) (result : Result Unit Fault) (line : List ℕ) (asked : PlainLine) → length line ≤ most_line
-    → line_in line ≡ Some asked → Turns cfg tap old now next s u result (line_turn cfg tap asked) → Turns cfg tap old now next s u result (turn cfg tap line)
+-- what a line asks for happens, where it isn't too long
+pub obeyed : (cfg : Cfg) (tap : Bool) (old now next : Option (List ℕ)) (s u : Stage) (result : Result Unit Fault) (line : List ℕ) → length line ≤ most_line
+    → Turns cfg tap old now next s u result (λ w. asked_turn cfg tap w (line_in line)) → Turns cfg tap old now next s u result (turn cfg tap line)
 unfolding turn
-obeyed cfg tap old now next s u result line asked few e h = λ w told refused stands.
-    subst (λ read. Stood cfg tap old next u told refused result (asked_turn cfg tap w read)) (sym (asks line asked few e)) (h w told refused stands)
-
--- the same of a command of an end
-pub obeyed_at : (cfg : Cfg) (tap : Bool) (old now next : Option (List ℕ)) (s u : Stage) (result : Result Unit Fault) (line text : List ℕ) (end : Role) (asked : PlainCommand)
-    → length line ≤ most_line → line_in line ≡ option_map (command end) (command_in text) → command_in text ≡ Some asked
-    → Turns cfg tap old now next s u result (line_turn cfg tap (command end asked)) → Turns cfg tap old now next s u result (turn cfg tap line)
-obeyed_at cfg tap old now next s u result line text end asked few e f h =
-    obeyed cfg tap old now next s u result line (command end asked) few (e ∙ ap (option_map (command end)) f) h
-
--- the same of nothing that a line can ask for
-pub unread_at : (cfg : Cfg) (tap : Bool) (old now next : Option (List ℕ)) (s u : Stage) (result : Result Unit Fault) (line text : List ℕ) (end : Role)
-    → length line ≤ most_line → line_in line ≡ option_map (command end) (command_in text) → command_in text ≡ None
-    → Turns cfg tap old now next s u result (λ w. asked_turn cfg tap w None) → Turns cfg tap old now next s u result (turn cfg tap line)
-unfolding turn
-unread_at cfg tap old now next s u result line text end few e f h = λ w told refused stands.
-    subst (λ read. Stood cfg tap old next u told refused result (asked_turn cfg tap w read)) (sym (asks_none line few (e ∙ ap (option_map (command end)) f))) (h w told refused stands)
+obeyed cfg tap old now next s u result line few h = λ w told refused stands.
+    subst (λ read. Stood cfg tap old next u told refused result (asked_turn cfg tap w read)) (sym (asks line few)) (h w told refused stands)

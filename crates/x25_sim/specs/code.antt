@@ -2,4 +2,3 @@
 pub mod Stands
 pub mod Leaves
 pub mod Stream
-pub mod Ready

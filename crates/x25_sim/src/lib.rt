@@ -5,7 +5,6 @@
 
 mod law;
 mod running;
-mod simulation;
 mod simulator;
 mod stage;
 mod telling;
@@ -15,6 +14,5 @@ pub use law::{
     scripts_move,
 };
 pub use running::sim;
-pub use simulation::Simulation;
 pub use x25_io::{Device, Failed, Fault, Sink, Source};
 pub use x25_station::Cfg;

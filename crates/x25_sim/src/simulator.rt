@@ -1,15 +1,9 @@
 //! A script, line by line.
-ghost use Rattle.std.specs.Prelude.{◌≤◌, length};
-ghost use Rattle.x25_io.specs.HeldLine.{most_line};
-ghost use Rattle.x25_script.specs.Reading.{GivesLine};
-ghost use Rattle.x25_sim.specs.Stage.{asked_in};
-
-use crate::stage::Stage;
+use crate::stage::{Stage, away_from};
+use x25_console::{read_octets, read_user, station_command};
 use x25_io::{Fault, LineTaker, Sink};
-use x25_script::{
-    Role, ScriptLine, read_accept, read_command, read_deliver, read_drain, read_end, read_line,
-    read_lose, read_send, read_t1,
-};
+use x25_script::{Command, HexDigits, Role, ScriptTaker, read_line};
+use x25_world::Event;
 
 /// The octets of a line, and the stations.
 #[derive(Drop)]
@@ -18,95 +12,83 @@ pub(crate) struct Simulator {
     stage: Stage,
 }
 
-/// What a line that isn't too long asks for.
-#[tactic(auto, unfolding(crate::specs::Stage::asked_in))]
-fn script_line(line: &[u8]) -> Option<ScriptLine<'_>>
-    ensures { length line.now ≤ most_line → GivesLine result (asked_in line.now) }
-{
-    read_line(line)
-}
-
 impl Simulator {
-    ghost use Rattle.std.specs.Prelude.{◌≡◌, ℕ, List, Bool, Option, option_map};
-    ghost use Rattle.x25_script.specs.ScriptLine.{command};
-    ghost use Rattle.x25_script.specs.Reading.{command_in, line_in};
-    ghost use Rattle.x25_io.specs.code.MarksFaults.{MarksFaults};
-    ghost use Rattle.x25_station.specs.declared.config.Cfg.{Cfg as Settings};
-    ghost use Rattle.x25_sim.specs.Stage.{turn};
-    ghost use Rattle.x25_sim.specs.code.Stands.{Turns};
+    ghost use Rattle.std.specs.Prelude.{◌≡◌};
 
     pub(crate) fn new(octets: Vec<u8>, stage: Stage) -> Simulator
         ensures { result.stage ≡ stage }
     {
         Simulator { octets, stage }
     }
+}
 
-    /// What a line asks for happens.
+/// What a line of the script asks for happens, and is told.
+impl<W: Sink> ScriptTaker<W> for Simulator {
+    ghost use Rattle.std.specs.Prelude.{Bool, List, ℕ, Option};
+    ghost use Rattle.x25_io.specs.code.MarksFaults.{MarksFaults};
+    ghost use Rattle.x25_station.specs.declared.config.Cfg.{Cfg as Settings};
+    ghost use Rattle.x25_sim.specs.Stage.{asked_turn};
+    ghost use Rattle.x25_sim.specs.code.Stands.{Turns};
+
+    type Answer = Result<(), Fault>;
+
+    ghost gives = { λ s was u is result asked. ((cfg : Settings) (tap : Bool) (old : Option (List ℕ))
+        → Turns cfg tap old (W.contents was) (W.contents is) s.stage u.stage result (λ w. asked_turn cfg tap w asked))
+        × MarksFaults W.Sink was is result };
+
     #[inline(always)]
-    #[tactic(auto, unfolding(crate::specs::Stage::turn))]
-    fn obey_any<W: Sink>(&mut self, line: &[u8], writer: &mut W) -> Result<(), Fault>
-        ensures turns { length line.now ≤ most_line → (cfg : Settings) (tap : Bool) (old : Option (List ℕ))
-            → Turns cfg tap old (W.contents writer.old) (W.contents writer.new) self.old.stage self.new.stage result (turn cfg tap line.now) }
-        ensures faults { MarksFaults W.Sink writer.old writer.new result }
-    {
-        match script_line(line) {
-            Some(asked) => self.stage.obey(asked, &mut self.octets, writer),
-            None => self.stage.read_nothing(writer),
-        }
+    #[tactic(auto, unfolding(crate::specs::Stage::line_turn))]
+    fn command(&mut self, end: Role, asked: Command, writer: &mut W) -> Result<(), Fault> {
+        let count = read_user(&asked, &mut self.octets)?;
+        let command = station_command(&asked, &self.octets[..count]);
+        self.stage.happen(Event::Command(end, command), writer)
     }
 
-    /// What an end is commanded happens. The commands that most scripts have most of are tried first.
     #[inline(never)]
-    fn obey_end<W: Sink>(&mut self, end: Role, text: &[u8], writer: &mut W) -> Result<(), Fault>
-        ensures turns { (line : List ℕ) → length line ≤ most_line → line_in line ≡ option_map (command end) (command_in text.now) → (cfg : Settings) (tap : Bool) (old : Option (List ℕ))
-            → Turns cfg tap old (W.contents writer.old) (W.contents writer.new) self.old.stage self.new.stage result (turn cfg tap line) }
-        ensures faults { MarksFaults W.Sink writer.old writer.new result }
-    {
-        if let Some(message) = read_send(text) {
-            return self.stage.send(end, message, &mut self.octets, writer);
-        }
-        if let Some(channel) = read_accept(text) {
-            return self.stage.accept(end, channel, writer);
-        }
-        match read_command(text) {
-            Some(asked) => self.stage.command(end, asked, &mut self.octets, writer),
-            None => self.stage.read_nothing(writer),
-        }
+    #[tactic(auto, unfolding(crate::specs::Stage::line_turn))]
+    fn t1(&mut self, end: Role, writer: &mut W) -> Result<(), Fault> {
+        self.stage.happen(Event::T1(end), writer)
     }
 
-    /// What a line asks for happens, where it commands no end.
     #[inline(never)]
-    fn obey_other<W: Sink>(&mut self, line: &[u8], writer: &mut W) -> Result<(), Fault>
-        ensures turns { length line.now ≤ most_line → (cfg : Settings) (tap : Bool) (old : Option (List ℕ))
-            → Turns cfg tap old (W.contents writer.old) (W.contents writer.new) self.old.stage self.new.stage result (turn cfg tap line.now) }
-        ensures faults { MarksFaults W.Sink writer.old writer.new result }
-    {
-        if let Some((from, place)) = read_lose(line) {
-            return self.stage.lose(from, place, writer);
-        }
-        self.obey_any(line, writer)
+    #[tactic(auto, unfolding(crate::specs::Stage::line_turn))]
+    fn deliver(&mut self, from: Role, writer: &mut W) -> Result<(), Fault> {
+        self.stage.happen(Event::Deliver(away_from(from)), writer)
     }
 
-    /// What a line asks for happens. The lines that most scripts have most of are tried first.
+    #[inline(never)]
+    #[tactic(auto, unfolding(crate::specs::Stage::line_turn))]
+    fn lose(&mut self, from: Role, place: u16, writer: &mut W) -> Result<(), Fault> {
+        let lost = Event::Lose(away_from(from), usize::from(place));
+        self.stage.happen(lost, writer)
+    }
+
+    #[tactic(auto, unfolding(crate::specs::Stage::line_turn))]
+    fn damage(
+        &mut self,
+        from: Role,
+        place: u16,
+        octets: HexDigits,
+        writer: &mut W,
+    ) -> Result<(), Fault> {
+        let count = read_octets(&octets, &mut self.octets)?;
+        let damaged = Event::Damage(away_from(from), usize::from(place), &self.octets[..count]);
+        self.stage.happen(damaged, writer)
+    }
+
     #[inline(always)]
-    fn obey<W: Sink>(&mut self, line: &[u8], writer: &mut W) -> Result<(), Fault>
-        ensures turns { length line.now ≤ most_line → (cfg : Settings) (tap : Bool) (old : Option (List ℕ))
-            → Turns cfg tap old (W.contents writer.old) (W.contents writer.new) self.old.stage self.new.stage result (turn cfg tap line.now) }
-        ensures faults { MarksFaults W.Sink writer.old writer.new result }
-    {
-        if let Some(end) = read_deliver(line) {
-            return self.stage.deliver(end, writer);
-        }
-        if let Some((end, text)) = read_end(line) {
-            return self.obey_end(end, text, writer);
-        }
-        if let Some(at) = read_t1(line) {
-            return self.stage.t1(at, writer);
-        }
-        if let Some(count) = read_drain(line) {
-            return self.stage.deliver_most(count, writer);
-        }
-        self.obey_other(line, writer)
+    #[tactic(auto, unfolding(crate::specs::Stage::line_turn))]
+    fn drain(&mut self, count: u16, writer: &mut W) -> Result<(), Fault> {
+        self.stage.drain(u32::from(count), writer)
+    }
+
+    #[tactic(auto, unfolding(crate::specs::Stage::line_turn))]
+    fn heal(&mut self, writer: &mut W) -> Result<(), Fault> {
+        self.stage.heal(writer)
+    }
+
+    fn nothing(&mut self, writer: &mut W) -> Result<(), Fault> {
+        self.stage.read_nothing(writer)
     }
 }
 
@@ -132,7 +114,7 @@ impl LineTaker for Simulator {
     #[inline(always)]
     fn take_line<W: Sink>(&mut self, line: Option<&[u8]>, writer: &mut W) -> Result<(), Fault> {
         match line {
-            Some(line) => self.obey(line, writer),
+            Some(line) => read_line(line, self, writer),
             None => self.stage.read_nothing(writer),
         }
     }

@@ -8,9 +8,8 @@ ghost use Rattle.x25_sim.specs.code.Stands.{opening};
 
 use crate::telling::{tell_entries, tell_frames, tell_refusal};
 use std::alloc::Global;
-use x25_console::{read_octets, read_user, station_command, tell_nothing};
+use x25_console::tell_nothing;
 use x25_io::{Fault, Output, Sink};
-use x25_script::{Command, ScriptLine, Sent};
 use x25_station::{Cfg, Cmd, Step};
 use x25_world::{
     Direction, Event, Role, SABM_ARRIVES, UA_ARRIVES, World, WorldError, two_stations_keep_order,
@@ -59,7 +58,7 @@ fn unless_memory(error: WorldError) -> Result<(), Fault>
 }
 
 /// The direction that leads away from an end.
-fn away_from(end: Role) -> Direction
+pub(crate) fn away_from(end: Role) -> Direction
     ensures end { end_of result ≡ other end }
     ensures line { (v : ShownWorld) → line_of v result ≡ line_from v end }
 {
@@ -71,14 +70,13 @@ fn away_from(end: Role) -> Direction
 
 impl Stage {
     ghost use Rattle.std.specs.Prelude.{◌≡◌, ◌⊎◌, ◌++◌, true, ℕ, List, Bool, Option, Some, None, [], false, OnOk, OnErr, IfErr, MatchResult, is_none, option_map};
-    ghost use Rattle.x25_script.specs.ScriptLine.{accept, command, deliver, drain, lose, plain, plain_command, send, t1};
     ghost use Rattle.x25_io.specs.code.MarksFaults.{MarksFaults};
     ghost use Rattle.x25_io.specs.code.Written.{AppendsPrefix, Tells, TellsMore};
     ghost use Rattle.x25_station.specs.declared.config.Cfg.{Cfg as Settings};
     ghost use Rattle.x25_world.specs.World.{World as State, start, entered, tapped, WorldOutcome, event_of, refusal_of};
     ghost use Rattle.x25_world.specs.Healing.{next_end};
     ghost use Rattle.x25_sim.specs.Telling.{taps, sayings_text};
-    ghost use Rattle.x25_sim.specs.Stage.{and_then, asked_turn, drained, emptied, event_turn, fired, healed, line_turn, most_times, opened, pulled, told_between, tried, turn_of};
+    ghost use Rattle.x25_sim.specs.Stage.{and_then, asked_turn, drained, emptied, event_turn, fired, healed, most_times, opened, pulled, told_between, tried, turn_of};
     ghost use Rattle.x25_sim.specs.code.Stands.{IsOpening, Stands, Stood, Turns};
 
     /// The first world, of which nothing was told.
@@ -196,7 +194,7 @@ impl Stage {
     }
 
     /// At most so many frames are delivered.
-    fn drain<W: Sink>(&mut self, count: u32, writer: &mut W) -> Result<(), Fault>
+    pub(crate) fn drain<W: Sink>(&mut self, count: u32, writer: &mut W) -> Result<(), Fault>
         ensures turns { (cfg : Settings) (tap : Bool) (old : Option (List ℕ))
             → Turns cfg tap old (W.contents writer.old) (W.contents writer.new) self.old self.new result (drained cfg tap count) }
         ensures faults { MarksFaults W.Sink writer.old writer.new result }
@@ -295,7 +293,7 @@ impl Stage {
 
     /// The line is good for a moment: what is on it arrives, timer T1 runs out at each end where it runs, and what they send then and what waits in
     /// the circuits arrives.
-    fn heal<W: Sink>(&mut self, writer: &mut W) -> Result<(), Fault>
+    pub(crate) fn heal<W: Sink>(&mut self, writer: &mut W) -> Result<(), Fault>
         ensures turns { (cfg : Settings) (tap : Bool) (old : Option (List ℕ))
             → Turns cfg tap old (W.contents writer.old) (W.contents writer.new) self.old self.new result (healed cfg tap) }
         ensures faults { MarksFaults W.Sink writer.old writer.new result }
@@ -312,148 +310,6 @@ impl Stage {
     {
         self.is_refused = true;
         tell_nothing(&mut self.output, writer)
-    }
-
-    /// What the user of an end asks for happens. The user data is read into the list.
-    #[tactic(auto, unfolding(crate::specs::Stage::line_turn))]
-    pub(crate) fn command<W: Sink>(
-        &mut self,
-        end: Role,
-        asked: Command,
-        octets: &mut Vec<u8>,
-        writer: &mut W,
-    ) -> Result<(), Fault>
-        ensures turns { (cfg : Settings) (tap : Bool) (old : Option (List ℕ))
-            → Turns cfg tap old (W.contents writer.old) (W.contents writer.new) self.old self.new result (line_turn cfg tap (command end (plain_command asked.entry))) }
-        ensures faults { MarksFaults W.Sink writer.old writer.new result }
-    {
-        let count = read_user(&asked, octets)?;
-        let command = station_command(&asked, &octets[..count]);
-        self.happen(Event::Command(end, command), writer)
-    }
-
-    /// The next frame from an end arrives.
-    #[inline(never)]
-    #[tactic(auto, unfolding(crate::specs::Stage::line_turn))]
-    pub(crate) fn deliver<W: Sink>(&mut self, from: Role, writer: &mut W) -> Result<(), Fault>
-        ensures turns { (cfg : Settings) (tap : Bool) (old : Option (List ℕ))
-            → Turns cfg tap old (W.contents writer.old) (W.contents writer.new) self.old self.new result (line_turn cfg tap (deliver from)) }
-        ensures faults { MarksFaults W.Sink writer.old writer.new result }
-    {
-        self.happen(Event::Deliver(away_from(from)), writer)
-    }
-
-    /// Timer T1 of an end runs out.
-    #[inline(never)]
-    #[tactic(auto, unfolding(crate::specs::Stage::line_turn))]
-    pub(crate) fn t1<W: Sink>(&mut self, at: Role, writer: &mut W) -> Result<(), Fault>
-        ensures turns { (cfg : Settings) (tap : Bool) (old : Option (List ℕ))
-            → Turns cfg tap old (W.contents writer.old) (W.contents writer.new) self.old self.new result (line_turn cfg tap (t1 at)) }
-        ensures faults { MarksFaults W.Sink writer.old writer.new result }
-    {
-        self.happen(Event::T1(at), writer)
-    }
-
-    /// A frame from an end is lost.
-    #[inline(never)]
-    #[tactic(auto, unfolding(crate::specs::Stage::line_turn))]
-    pub(crate) fn lose<W: Sink>(
-        &mut self,
-        from: Role,
-        place: u16,
-        writer: &mut W,
-    ) -> Result<(), Fault>
-        ensures turns { (cfg : Settings) (tap : Bool) (old : Option (List ℕ))
-            → Turns cfg tap old (W.contents writer.old) (W.contents writer.new) self.old self.new result (line_turn cfg tap (lose from place)) }
-        ensures faults { MarksFaults W.Sink writer.old writer.new result }
-    {
-        self.happen(Event::Lose(away_from(from), usize::from(place)), writer)
-    }
-
-    /// Frames arrive, at most so many.
-    #[inline(always)]
-    #[tactic(auto, unfolding(crate::specs::Stage::line_turn))]
-    pub(crate) fn deliver_most<W: Sink>(&mut self, count: u16, writer: &mut W) -> Result<(), Fault>
-        ensures turns { (cfg : Settings) (tap : Bool) (old : Option (List ℕ))
-            → Turns cfg tap old (W.contents writer.old) (W.contents writer.new) self.old self.new result (line_turn cfg tap (drain count)) }
-        ensures faults { MarksFaults W.Sink writer.old writer.new result }
-    {
-        self.drain(u32::from(count), writer)
-    }
-
-    /// A call is accepted as it was proposed.
-    #[inline(always)]
-    #[tactic(auto, unfolding(crate::specs::Stage::line_turn))]
-    pub(crate) fn accept<W: Sink>(
-        &mut self,
-        end: Role,
-        channel: u16,
-        writer: &mut W,
-    ) -> Result<(), Fault>
-        ensures turns { (cfg : Settings) (tap : Bool) (old : Option (List ℕ))
-            → Turns cfg tap old (W.contents writer.old) (W.contents writer.new) self.old self.new result (line_turn cfg tap (command end (accept channel None))) }
-        ensures faults { MarksFaults W.Sink writer.old writer.new result }
-    {
-        self.happen(Event::Command(end, Cmd::Accept { channel }), writer)
-    }
-
-    /// A message is sent. The user data is read into the list, where it isn't known before that it is refused.
-    #[inline(always)]
-    #[tactic(auto, unfolding(crate::specs::Stage::line_turn))]
-    pub(crate) fn send<W: Sink>(
-        &mut self,
-        end: Role,
-        message: Sent,
-        octets: &mut Vec<u8>,
-        writer: &mut W,
-    ) -> Result<(), Fault>
-        ensures turns { (cfg : Settings) (tap : Bool) (old : Option (List ℕ))
-            → Turns cfg tap old (W.contents writer.old) (W.contents writer.new) self.old self.new result
-            (line_turn cfg tap (command end (send message.entry.channel message.entry.q message.entry.user))) }
-        ensures faults { MarksFaults W.Sink writer.old writer.new result }
-    {
-        let asked = message.user.len();
-        if let Some(error) = self.world.message_refusal(end, message.channel, asked) {
-            return self.refuse(error, writer);
-        }
-        let count = read_octets(&message.user, octets)?;
-        let sent = Cmd::Send {
-            channel: message.channel,
-            q: message.q,
-            user: &octets[..count],
-        };
-        self.happen(Event::Command(end, sent), writer)
-    }
-
-    /// What a line of the script asks for happens. The octets that it has are read into the list.
-    #[tactic(auto, unfolding(crate::specs::Stage::line_turn))]
-    pub(crate) fn obey<W: Sink>(
-        &mut self,
-        line: ScriptLine,
-        octets: &mut Vec<u8>,
-        writer: &mut W,
-    ) -> Result<(), Fault>
-        ensures turns { (cfg : Settings) (tap : Bool) (old : Option (List ℕ))
-            → Turns cfg tap old (W.contents writer.old) (W.contents writer.new) self.old self.new result (line_turn cfg tap (plain line.entry)) }
-        ensures faults { MarksFaults W.Sink writer.old writer.new result }
-    {
-        match line {
-            ScriptLine::Command { end, command } => self.command(end, command, octets, writer),
-            ScriptLine::T1 { end } => self.t1(end, writer),
-            ScriptLine::Deliver { from } => self.deliver(from, writer),
-            ScriptLine::Lose { from, place } => self.lose(from, place, writer),
-            ScriptLine::Damage {
-                from,
-                place,
-                octets: digits,
-            } => {
-                let count = read_octets(&digits, octets)?;
-                let damage = Event::Damage(away_from(from), usize::from(place), &octets[..count]);
-                self.happen(damage, writer)
-            }
-            ScriptLine::Drain { count } => self.deliver_most(count, writer),
-            ScriptLine::Heal => self.heal(writer),
-        }
     }
 
     /// Whether a line or an event was refused.
@@ -474,10 +330,7 @@ impl Stage {
         ensures write { IfErr result (λ fault. fault ≡ Fault.Write) }
         ensures marked { OnErr result (W.is_marked writer.new ≡ true) }
     {
-        match self.output.flush(writer) {
-            Ok(()) => Ok(()),
-            Err(_) => Err(Fault::Write),
-        }
+        Ok(self.output.flush(writer)?)
     }
 
     /// Tells the frames of the first world where they are asked for.

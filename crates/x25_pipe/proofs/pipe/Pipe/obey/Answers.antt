@@ -14,6 +14,6 @@ returns-in-Some-clause-turns g c = λ few k old s told refused h.
 pub returns-in-None-clause-turns : goal.returns-in-None-clause-turns
 unfolding turn
 returns-in-None-clause-turns g c = λ few k old s told refused h.
-    subst (λ event. Stood k old (g.W.Sink.contents c.obey_script.new.writer) c.obey_script.new.self told refused c.obey_script.result (asked_turn k s event))
+    subst (λ event. Stood k old (g.W.Sink.contents c.read_line.new.with) c.read_line.new.taker told refused c.read_line.result (asked_turn k s event))
     (event_read_at _ k.role c.args.line.now None h.role few c.in-None.ensures.sent)
-    (c.obey_script.ensures.turns k old s told refused (record { fits = h.fits; role = h.role; tells = h.tells; status = h.status }))
+    (c.read_line.ensures.exact.0 k old s told refused (record { fits = h.fits; role = h.role; tells = h.tells; status = h.status }))

@@ -1,0 +1,99 @@
+-- A line is read by its first word.
+use Rattle.std.proofs.Common.{ℕ, ◌≡◌, ◌∙◌, ◌≢◌, List, [], ◌∷◌, ◌++◌, true, false, Option, Some, None, refl, ap, sym, take, drop, length, codes}
+use Rattle.std.specs.Str.{bytes_eq}
+use Rattle.std.proofs.lemmas.Option.{none-some}
+use Rattle.std.proofs.lemmas.Slice.Eq.{bytes_eq-Decides}
+use Rattle.std.proofs.lemmas.List.{take-append-drop}
+use Rattle.std.proofs.Math.Seq.{take_at}
+use Rattle.x25_bits.specs.declared.role.Role.TheVariants.{Dte, Dce}
+use Rattle.x25_script.specs.ScriptLine.{PlainCommand, call, accept, clear, send, interrupt, reset, ready, not_ready, restart, pull, connect, disconnect, PlainLine, command, t1, deliver, lose, damage, drain, heal}
+use Rattle.x25_script.specs.Reading.Spelling.{Spells, SpellsCommand}
+use Rattle.x25_script.specs.Reading.{parts_of, Keyword, End, T1, Deliver, Lose, Damage, Drain, Verb, Call, Accept, Clear, Send, Interrupt, Reset, Ready, NotReady, with_fields, bare_command_in, command_in, after, line_in, IsNotBehind}
+use Rattle.x25_script.proofs.AgainLemmas.{command_again}
+use Rattle.x25_script.proofs.GrammarLemmas.{bare_found, command_found, keyword_text, line_found, verb_text}
+
+-- a text that begins with a word, and one that doesn't
+pub begun : (text word : List ℕ) → bytes_eq word (take (length word) text) ≡ true → text ≡ word ++ drop (length word) text
+begun text word h =
+    sym (take-append-drop (length word) text) ∙ ap (λ front. front ++ drop (length word) text) (sym ((bytes_eq-Decides word (take (length word) text)).0 h))
+
+pub not_begun : (text word : List ℕ) → bytes_eq word (take (length word) text) ≡ false → IsNotBehind word text
+not_begun text word h rest e =
+    let front : word ≡ take (length word) text = sym (ap (take (length word)) e ∙ take_at word rest (length word) refl) in
+    let is = (bytes_eq-Decides word (take (length word) text)).1 front in
+    absurd (cc)
+
+-- ---- a word with a blank behind it
+
+pub line_behind : (word : Keyword) (text fields : List ℕ) → text ≡ keyword_text word ++ (32 ∷ fields) → line_in text ≡ after word fields
+unfolding line_in parts_of
+line_behind (End Dte) text fields e = ap line_in e
+line_behind (End Dce) text fields e = ap line_in e
+line_behind T1 text fields e = ap line_in e
+line_behind Deliver text fields e = ap line_in e
+line_behind Lose text fields e = ap line_in e
+line_behind Damage text fields e = ap line_in e
+line_behind Drain text fields e = ap line_in e
+
+pub heals : (text : List ℕ) → text ≡ codes "heal" → line_in text ≡ Some heal
+unfolding line_in parts_of
+heals text e = ap line_in e
+
+pub command_behind : (word : Verb) (text fields : List ℕ) → text ≡ verb_text word ++ (32 ∷ fields) → command_in text ≡ with_fields word fields
+unfolding command_in parts_of
+command_behind Call text fields e = ap command_in e
+command_behind Accept text fields e = ap command_in e
+command_behind Clear text fields e = ap command_in e
+command_behind Send text fields e = ap command_in e
+command_behind Interrupt text fields e = ap command_in e
+command_behind Reset text fields e = ap command_in e
+command_behind Ready text fields e = ap command_in e
+command_behind NotReady text fields e = ap command_in e
+
+-- ---- none of the words
+
+none_or_some : {A : Type 0} (read : Option A) → ((v : A) → read ≡ Some v → ⊥) → read ≡ None
+none_or_some None h = refl
+none_or_some (Some v) h = absurd (h v refl)
+
+pub no_line : (text : List ℕ) → IsNotBehind (codes "deliver ") text → IsNotBehind (codes "dte ") text → IsNotBehind (codes "dce ") text → IsNotBehind (codes "drain ") text
+    → IsNotBehind (codes "t1 ") text → IsNotBehind (codes "lose ") text → IsNotBehind (codes "damage ") text → text ≢ codes "heal" → line_in text ≡ None
+no_line text no_deliver no_dte no_dce no_drain no_t1 no_lose no_damage no_heal = none_or_some (line_in text) (λ v e. go v (line_found text v e))
+  where
+    go : (v : PlainLine) → Spells v text → ⊥
+    go (command Dte asked) s = no_dte s.0 s.1
+    go (command Dce asked) s = no_dce s.0 s.1
+    go (t1 end) s = no_t1 _ s
+    go (deliver from) s = no_deliver _ s
+    go (lose from place) s = no_lose _ s.1
+    go (damage from place octets) s = no_damage _ s.1.2
+    go (drain count) s = no_drain _ s.2
+    go heal s = no_heal s
+
+-- what is left are the commands without fields
+pub bare_alone : (text : List ℕ) → IsNotBehind (codes "send ") text → IsNotBehind (codes "accept ") text → IsNotBehind (codes "call ") text → IsNotBehind (codes "int ") text
+    → IsNotBehind (codes "reset ") text → IsNotBehind (codes "clear ") text → IsNotBehind (codes "ready ") text → IsNotBehind (codes "notready ") text
+    → command_in text ≡ bare_command_in text
+bare_alone text no_send no_accept no_call no_int no_reset no_clear no_ready no_not_ready = go (command_in text) refl
+  where
+    spelled : (v : PlainCommand) → SpellsCommand v text → command_in text ≡ Some v → command_in text ≡ bare_command_in text
+    spelled (call called calling user params) s e = absurd (no_call _ s.3.2)
+    spelled (accept channel params) s e = absurd (no_accept _ s.2)
+    spelled (clear channel) s e = absurd (no_clear _ s.1)
+    spelled (send channel q user) s e = absurd (no_send _ s.1.2)
+    spelled (interrupt channel user) s e = absurd (no_int _ s.1.2)
+    spelled (reset channel) s e = absurd (no_reset _ s.1)
+    spelled (ready channel) s e = absurd (no_ready _ s.1)
+    spelled (not_ready channel) s e = absurd (no_not_ready _ s.1)
+    spelled restart s e = e ∙ sym (ap bare_command_in s)
+    spelled pull s e = e ∙ sym (ap bare_command_in s)
+    spelled connect s e = e ∙ sym (ap bare_command_in s)
+    spelled disconnect s e = e ∙ sym (ap bare_command_in s)
+
+    bare : (read : Option PlainCommand) → bare_command_in text ≡ read → command_in text ≡ None → command_in text ≡ bare_command_in text
+    bare None is e = e ∙ sym is
+    bare (Some v) is e = absurd (none-some v (sym e ∙ command_again v text (bare_found text v is)))
+
+    go : (read : Option PlainCommand) → command_in text ≡ read → command_in text ≡ bare_command_in text
+    go None e = bare (bare_command_in text) refl e
+    go (Some v) e = spelled v (command_found text v e) e
