@@ -17,14 +17,17 @@ fn station(alloc: Global, up: bool) -> Result<Link, LinkError> {
     if up {
         link.connect()?;
         link.take(&[0x01, 0x73, 0x83, 0x57])?;
+        link.swap_frames(&mut Vec::new(alloc));
     }
     Ok(link)
 }
 
 // The frames that a link sent, in hexadecimal.
 fn sent_text(alloc: Global, link: &mut Link) -> Result<String, AllocError> {
+    let mut frames = Vec::new(alloc);
+    link.swap_frames(&mut frames);
     let mut text = String::new(alloc);
-    for frame in link.sent() {
+    for frame in frames {
         append(&mut text, hex::encode(alloc, frame.as_slice())?.as_str())?;
     }
     Ok(text)
