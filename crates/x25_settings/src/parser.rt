@@ -91,6 +91,14 @@ fn long_option<'a>(alloc: Global) -> Arg<'a> {
         .help("Take up to 128 octets of user data in a CALL, in place of 16")
 }
 
+/// That what isn't judged counts.
+fn strict_option<'a>(alloc: Global) -> Arg<'a> {
+    Arg::new(alloc, "strict")
+        .long("strict")
+        .action(ArgAction::SetTrue)
+        .help("Answer status 1 too where a frame or a packet wasn't judged")
+}
+
 /// The tries of the link.
 fn tries_option<'a>(alloc: Global) -> Arg<'a> {
     number_option(
@@ -188,7 +196,8 @@ fn judge_command<'a>(alloc: Global) -> Result<Command<'a>, AllocError> {
         .override_usage("x25 judge [OPTIONS] < TRACE")
         .after_help(JUDGE_EXAMPLE);
     let command = with_arg(Ok(command), window_option(alloc));
-    with_arg(command, long_option(alloc))
+    let command = with_arg(command, long_option(alloc));
+    with_arg(command, strict_option(alloc))
 }
 
 fn deframe_command<'a>(alloc: Global) -> Result<Command<'a>, AllocError> {
