@@ -29,6 +29,13 @@ def add_program(parser):
     parser.add_argument("--x25", default=find_program(), metavar="PROGRAM", help="the program")
 
 
+def last_lines(child):
+    """What a program that is asked line by line writes once there is no line more."""
+    os.set_blocking(child.stdin.fileno(), True)
+    child.stdin.close()
+    return child.stdout.read().decode("ascii", "replace").splitlines()
+
+
 def let_end(child):
     """Closes the pipes of a program that is asked line by line, which ends it, and waits for its end."""
     child.stdout.close()
@@ -105,6 +112,10 @@ class Decoder:
                     break
         return b"".join(answers)
 
+    def last_lines(self):
+        """What the task writes once there is no line more."""
+        return [] if self._child is None else last_lines(self._child)
+
     def _begun(self):
         if self._program is None:
             raise BadInput(MISSING)
@@ -146,6 +157,12 @@ class Judge:
             for place, text in zip(places, self._group_texts(group, [lines[place] for place in places])):
                 texts[place] = text
         return texts
+
+    def counts(self):
+        """Yields the number of each connection, and a line of how much was judged: of its frames, and of the packets of each channel."""
+        for group, judge in self._judges.items():
+            number, is_made_up = group or (1, False)
+            yield from ((number, line) for line in judge.last_lines() if not (is_made_up and " frames, " in line))
 
     def _group_texts(self, group, lines):
         """The answers to lines of one connection. Of one whose frames are made up the link is set up first, and each I frame taken at once."""

@@ -16,7 +16,9 @@ aren't shown, their packets are.
               once, though its frame be repeated
   --stats     writes at the end how many frames, packets and octets of data went each way, and how many I frames came out of order or again
   --judge     says behind a frame which end broke which rule of the link or the packet layer with it, and what may be noted (`x25 judge`), of each connection by itself; --k
-              is the window. Of packets without frames (XOT, LLC) the rules of the packet layer alone; not of lines of `x25 decode`
+              is the window. Of packets without frames (XOT, LLC) the rules of the packet layer alone; not of lines of `x25 decode`. At the
+              end it says how many frames and packets there were, and how many of them were judged; with --strict the status is 1 too where
+              one wasn't
   --channel   shows the packets of a channel alone; 0 is that of RESTART. With --stats it counts them
 
 The program is the one that --x25 or the variable X25 names, or `x25` of the PATH, or else the one that was built or
@@ -303,6 +305,7 @@ def words():
     parser.add_argument("--k", type=int, choices=range(1, 8), default=7, help="the window that --judge goes by (7)")
     parser.add_argument("--long", action="store_true", help="a CALL may have 128 octets of user data, as with `decode --long`")
     pcap2x25.add_capture_words(parser)
+    parser.add_argument("--strict", action="store_true", help="with --judge: status 1 too where a frame or a packet wasn't judged")
     decoding.add_program(parser)
     return parser.parse_args()
 
@@ -332,7 +335,10 @@ def main():
         if options.channel is not None and not options.messages:
             blocks = ([it for it in block if channel_of(it[2]) == options.channel] for block in blocks)
         show(view, blocks, sys.stdout)
-    return reader.status
+        counts = list(decoder.counts()) if options.judge else []
+    for number, line in counts:
+        print(f"#{number} {line}" if number > 1 else line)
+    return 1 if options.strict and any(not line.endswith(" 0 not judged") for _, line in counts) else reader.status
 
 
 if __name__ == "__main__":

@@ -61,6 +61,11 @@ def shown_messages(text):
     return [(*it[:3], it[3] or "-") for it in found]
 
 
+def shown(judged):
+    """What is shown without the lines of how much was judged."""
+    return re.sub(r"^(#\d+ )?# .*\n", "", judged, flags=re.MULTILINE)
+
+
 class Names(unittest.TestCase):
     def test_refusals_are_those_of_the_document(self):
         table = support.read("docs/FORMATS.md").decode().split("| Number | Why |")[1].split("\n\n")[0]
@@ -204,16 +209,18 @@ class Dump(ToolCase):
         for name, words in (("judge_repeats", []), ("judge_over_window", ["--k", "2"])):
             given, expected = (support.read(f"tests/golden/{name}.{kind}") for kind in ("in", "out"))
             self.assertEqual(self.dump(given, "--judge", *words, "--x25", support.PROGRAM, status=1), expected.decode())
-        self.assertEqual(self.dump(given, "--judge", "--x25", support.PROGRAM), expected.decode().replace(OVER, ""))
+        judged = self.dump(given, "--judge", "--x25", support.PROGRAM)
+        self.assertEqual(shown(judged), shown(expected.decode().replace(OVER, "")))
+        self.assertEqual(self.dump(given, "--judge", "--strict", "--x25", support.PROGRAM, status=1), judged)
 
     @support.needs_program
     def test_connections_are_judged_apart(self):
         frames = [b"\x01\x01\x3f", b"\x00\x01\x73", b"\x01\x01\x00\x10\x01\x01", b"\x01\x01\x00\x10\x01\x01"]
         rows = self.dump(samples.pcap([(at, 0, frame) for at, frame in enumerate(frames)]), "--judge", "--x25", support.PROGRAM, status=1).splitlines()
-        self.assertEqual([" ! " in row for row in rows], [False] * 4 + [True])
+        self.assertEqual([" ! " in row for row in rows], [False] * 4 + [True] + [False] * 3)
         judged, note = self.dump(self.capture(), "--judge", "--x25", support.PROGRAM), " ~ note: not judged before a RESTART, a CLEAR or a CALL is answered (4.1): channel 1"
         self.assertEqual(judged.count(note), 2)
-        self.assertEqual(judged.replace(note, ""), self.dump(self.capture(), "--x25", support.PROGRAM))
+        self.assertEqual(shown(judged.replace(note, "")), self.dump(self.capture(), "--x25", support.PROGRAM))
 
     @support.needs_program
     def test_packets_without_frames_are_judged(self):
@@ -228,9 +235,10 @@ class Dump(ToolCase):
             records.append((at, 0, samples.ethernet(samples.ipv4(is_of_client, samples.tcp(is_of_client, sequences[is_of_client], stream)))))
             sequences[is_of_client] += len(stream)
         rows = self.dump(samples.pcap(records, link_type=1), "--judge", "--x25", support.PROGRAM, status=1).splitlines()
-        self.assertEqual(len(rows), 1 + len(ways))
-        self.assertEqual([row for row in rows if " ! " in row], [rows[-1]])
-        self.assertIn("P(S) isn't the next one (4.4.1.1): it should be 2", rows[-1])
+        self.assertEqual(len(rows), 1 + len(ways) + 2)
+        self.assertEqual([row for row in rows if " ! " in row], [rows[-3]])
+        self.assertIn("P(S) isn't the next one (4.4.1.1): it should be 2", rows[-3])
+        self.assertEqual([row.partition(": ")[0] for row in rows[-2:]], ["# dte channel 1", "# dce channel 1"])
 
     @support.needs_program
     def test_a_capture_without_x25(self):

@@ -59,7 +59,7 @@ task_text (Decode long wide) input = decode.output_of (record { long = long; wid
 task_text Vectors input = verdicts
 task_text (Sim s) input = script_text s input
 task_text (Station p) input = lines_text p input
-task_text (Judge g) input = judge.output_of (judge.begins g.k g.long) input
+task_text (Judge g) input = judge.output_of (judge.begins g.k g.long g.strict) input
 task_text (Deframe end) input = deframed (role_in end) input
 task_text Frame input = framed_octets input
 
@@ -68,7 +68,7 @@ task_status (Decode long wide) input = decode.status_of input
 task_status Vectors input = if are_right then 0 else 1
 task_status (Sim s) input = script_status s input
 task_status (Station p) input = lines_status p input
-task_status (Judge g) input = judge.status_of (judge.begins g.k g.long) input
+task_status (Judge g) input = judge.status_of (judge.begins g.k g.long g.strict) input
 task_status (Deframe end) input = 0
 task_status Frame input = frame_status input
 
@@ -90,7 +90,7 @@ WritesEnded (Decode long wide) old now rest input =
 WritesEnded Vectors old now rest input = ⊥
 WritesEnded (Sim s) old now rest input = WritesEndedScript s old now rest input
 WritesEnded (Station p) old now rest input = WritesEndedLines p old now rest input
-WritesEnded (Judge g) old now rest input = judging.WritesEnded old now rest (judge.output_of (judge.begins g.k g.long) input)
+WritesEnded (Judge g) old now rest input = judging.WritesEnded old now rest (judge.output_of (judge.begins g.k g.long g.strict) input)
 WritesEnded (Deframe end) old now rest input = WritesRead (role_in end) old now rest input
 WritesEnded Frame old now rest input = WritesFrames old now rest input
 

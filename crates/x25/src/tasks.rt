@@ -176,7 +176,14 @@ pub(crate) fn perform<R: Source, W: Sink>(
         Task::Sim(simulation) => simulate(alloc, simulation, reader, writer),
         Task::Station(place) => answer_lines(alloc, place, reader, writer),
         Task::Vectors => vectors(alloc, writer),
-        Task::Judge(judging) => judge_lines(alloc, judging.k, judging.long, reader, writer),
+        Task::Judge(judging) => judge_lines(
+            alloc,
+            judging.k,
+            judging.long,
+            judging.strict,
+            reader,
+            writer,
+        ),
         Task::Deframe(end) => deframe(alloc, role_of(end), reader, writer),
         Task::Frame => frame(alloc, reader, writer),
     }

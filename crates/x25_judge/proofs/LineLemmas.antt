@@ -1,7 +1,7 @@
 -- What answers lines, and one that is too long.
 use Rattle.std.proofs.Common.{◌≡◌, ◌||◌, ℕ, true, false, List, [], ◌∷◌, ◌++◌, ap, refl, codes, None}
 use Rattle.x25_decode.specs.Decoding.{sent_in}
-use Rattle.x25_judge.specs.Judge.{answer_to, sent_of, text_of, has_fault}
+use Rattle.x25_judge.specs.Judge.{answer_to, counts_text, sent_of, text_of, has_fault}
 use Rattle.x25_judge.specs.declared.judge.Judge.{Judge}
 
 module _ (j : Judge) where
@@ -13,7 +13,7 @@ module _ (j : Judge) where
   unfolding has_fault
   fault_first line lines = refl
 
-  pub no_text : text_of j [] ≡ []
+  pub no_text : text_of j [] ≡ counts_text j
   unfolding text_of
   no_text = refl
 

@@ -12,7 +12,7 @@ use Rattle.x25_io.specs.code.LinesLead.{LinesLead}
 use Rattle.x25_io.specs.code.Written.{AppendsPrefix, Tells}
 use Rattle.x25_io.proofs.TakerLemmas.{between}
 use Rattle.x25_io.proofs.ToldLemmas.{prefix_more, none_told, part_of_all, told_prefix}
-use Rattle.x25_judge.specs.Judge.{answer_to, output_of, text_of, has_fault}
+use Rattle.x25_judge.specs.Judge.{answer_to, counts_text, output_of, text_of, has_fault}
 use Rattle.x25_judge.specs.code.Stream.{JudgesOn, WritesLines}
 use Rattle.x25_judge.specs.declared.answerer.Answerer.{Answerer}
 use Rattle.x25_judge.specs.declared.judge.Judge.{Judge}
@@ -76,11 +76,18 @@ module _ (j : Judge) (old now next : Option (List ℕ)) (input : List ℕ) where
   )
 
   -- .. and no line is to come
-  pub ended : (a : Answerer) (output : List ℕ) (h : JudgesOn j a old now [] input) → Tells old next output h.told → output ≡ []
+  all_told : (a : Answerer) (h : JudgesOn j a old now [] input) → h.told ++ counts_text a.judge ≡ output_of j input
+  all_told a h = ap (λ t. h.told ++ t) (sym (no_text a.judge)) ∙ h.same
+
+  pub ended : (a : Answerer) (output : List ℕ) (h : JudgesOn j a old now [] input) → Tells old next output (h.told ++ counts_text a.judge) → output ≡ []
       → Appends old next (output_of j input) × (a.is_faulty ≡ has_fault j (lines_of input))
   ended a output h tells none =
-      let text : h.told ≡ output_of j input = sym (append-nil h.told) ∙ ap (λ t. h.told ++ t) (sym (no_text a.judge)) ∙ h.same in
-      let written : tells.written ≡ h.told = sym (append-nil tells.written) ∙ ap (λ t. tells.written ++ t) (sym none) ∙ tells.same in (
-        subst (Appends old next) (written ∙ text) tells.appends,
+      let written : tells.written ≡ h.told ++ counts_text a.judge =
+      sym (append-nil tells.written) ∙ ap (λ t. tells.written ++ t) (sym none) ∙ tells.same in (
+        subst (Appends old next) (written ∙ all_told a h) tells.appends,
         sym (or-false a.is_faulty) ∙ ap (λ b. a.is_faulty || b) (sym (no_fault a.judge)) ∙ h.status,
       )
+
+  pub end_failed : (a : Answerer) (h : JudgesOn j a old now [] input) → AppendsPrefix old next (h.told ++ counts_text a.judge)
+      → AppendsPrefix old next (output_of j input)
+  end_failed a h b = subst (AppendsPrefix old next) (all_told a h) b

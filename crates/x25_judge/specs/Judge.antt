@@ -1,20 +1,24 @@
 -- What `judge` writes, as a function of what it reads (profile): for each line what `decode` writes, and the rule that its frame breaks.
-use Rattle.std.specs.Prelude.{ℕ, Bool, true, false, ◌||◌, List, [], ◌∷◌, ◌++◌, codes, if◌then◌else◌, Option, Some, None, is_some, Result, Ok, Err}
+use Rattle.std.specs.Prelude.{ℕ, Bool, true, false, not, ◌&&◌, ◌||◌, List, [], ◌∷◌, ◌++◌, codes, if◌then◌else◌, Option, Some, None, is_some, Result, Ok, Err}
 use Rattle.x25_bits.specs.declared.role.Role.{Role}
 use Rattle.x25_bits.specs.declared.role.Role.TheVariants.{Dte, Dce}
 use Rattle.x25_decode.specs.Decoding.{mark_of, n1, sent_in}
-use Rattle.x25_frame.specs.Frame.{PlainFrame}
+use Rattle.x25_frame.specs.Frame.{PlainFrame, info}
 use Rattle.x25_frame.specs.Reading.{frame_of}
 use Rattle.x25_frame.specs.declared.error.FrameError.{FrameError}
 use Rattle.x25_frame.specs.declared.error.FrameError.TheVariants.{Short, BadFcs, BadAddress, Undefined, NoInfoAllowed, TooLong}
 use Rattle.x25_io.specs.Lines.{lines_of}
 use Rattle.x25_text.specs.FrameText.{reading_text}
 use Rattle.x25_packet_judge.specs.Book as book
+use Rattle.x25_judge.specs.Counts.{counted, end_text, more, no_counts, none}
 use Rattle.x25_judge.specs.Held.{none_held, is_same, keeps}
 use Rattle.x25_judge.specs.Note.{first_note, note_text, unjudged_note}
 use Rattle.x25_judge.specs.RuleText.{rule_text}
-use Rattle.x25_judge.specs.Sides.{no_end, sees, misses}
+use Rattle.x25_judge.specs.Sides.{no_end, is_judged, sees, misses}
+use Rattle.x25_packet.specs.Reading.{channel_in}
 use Rattle.x25_packet_judge.specs.declared.book.Book.{Book}
+use Rattle.x25_packet_judge.specs.declared.book.Verdict.{Verdict}
+use Rattle.x25_judge.specs.declared.counts.Count.{Count}
 use Rattle.x25_judge.specs.declared.judge.Judge.{Judge}
 use Rattle.x25_judge.specs.declared.judge.Remark.{Remark}
 use Rattle.x25_packet_judge.specs.declared.packet_rule.PacketRule.{PacketRule}
@@ -23,24 +27,29 @@ use Rattle.x25_judge.specs.declared.rule.Rule.{Rule}
 use Rattle.x25_judge.specs.declared.rule.Rule.TheVariants.{NoFrame, Packet}
 use Rattle.x25_judge.specs.declared.sides.Sides.{Sides}
 
--- before anything was sent: k, and whether the user data of a CALL may be long
-abbrev pub begins : ℕ → Bool → Judge
-begins window long_data = record {
+-- before anything was sent: k, whether the user data of a CALL may be long, and whether what isn't judged counts as faulty
+abbrev pub begins : ℕ → Bool → Bool → Judge
+begins window long_data is_strict = record {
   window = window;
   long_data = long_data;
+  is_strict = is_strict;
   dte = no_end;
   dce = no_end;
   dte_held = none_held;
   dce_held = none_held;
   book = book.empty;
+  dte_frames = none;
+  dce_frames = none;
+  dte_packets = no_counts;
+  dce_packets = no_counts;
 }
 
 -- ---- a frame
 
 -- the end that sends comes first
 abbrev pub sides_of : Role → Judge → Sides
-sides_of Dte j = record { own = j.dte; other = j.dce; rule = None; note = None }
-sides_of Dce j = record { own = j.dce; other = j.dte; rule = None; note = None }
+sides_of Dte j = record { own = j.dte; other = j.dce; rule = None; note = None; is_again = false }
+sides_of Dce j = record { own = j.dce; other = j.dte; rule = None; note = None; is_again = false }
 
 -- the octets of its I frames
 abbrev pub held_of : Role → Judge → List (List ℕ)
@@ -54,6 +63,38 @@ behind Dce t b j = record j { dte = t.other; dce = t.own; book = b }
 abbrev pub holding : Role → List (List ℕ) → Judge → Judge
 holding Dte held j = record j { dte_held = held }
 holding Dce held j = record j { dce_held = held }
+
+-- ---- what was judged
+
+abbrev pub frames_of : Role → Judge → Count
+frames_of Dte j = j.dte_frames
+frames_of Dce j = j.dce_frames
+
+abbrev pub packets_of : Role → Judge → List Count
+packets_of Dte j = j.dte_packets
+packets_of Dce j = j.dce_packets
+
+abbrev pub counts_frame : Role → Bool → Judge → Judge
+counts_frame Dte is_judged j = record j { dte_frames = more 0 is_judged j.dte_frames }
+counts_frame Dce is_judged j = record j { dce_frames = more 0 is_judged j.dce_frames }
+
+abbrev pub counts_packet : Role → ℕ → Bool → Judge → Judge
+counts_packet Dte channel is_judged j = record j { dte_packets = counted channel is_judged j.dte_packets }
+counts_packet Dce channel is_judged j = record j { dce_packets = counted channel is_judged j.dce_packets }
+
+abbrev pub counts_on : Role → Option ℕ → Bool → Judge → Judge
+counts_on from (Some channel) is_judged j = counts_packet from channel is_judged j
+counts_on from None is_judged j = counts_packet from 0 is_judged j
+
+-- A packet counts where its I frame wasn't sent before. Information that is too short to name a channel counts on channel 0.
+unfoldable pub counts_carried : Role → PlainFrame → Bool → Bool → Judge → Judge
+counts_carried from (info ns nr p octets) is_again is_judged j = if is_again then j else counts_on from (channel_in octets) is_judged j
+counts_carried from frame is_again is_judged j = j
+
+-- no packet of the frame goes unjudged
+unfoldable pub covers : PlainFrame → Bool → Bool → Bool
+covers (info ns nr p octets) is_again is_judged = is_again || is_judged
+covers frame is_again is_judged = true
 
 -- a rule of the link layer is told before one of the packet layer
 abbrev pub all_told : Option Rule → Option PacketRule → Option Rule
@@ -90,31 +131,50 @@ no_frame (Undefined control) = Some NoFrame
 no_frame (NoInfoAllowed control) = Some NoFrame
 no_frame TooLong = Some NoFrame
 
-abbrev pub told_of : Judge → Role → Result PlainFrame FrameError → Sides → Option Rule → Option Note → Book → Answer
-told_of j from read t rule note b = record {
-  next = behind from t b j;
-  text = mark_of from ++ reading_text j.long_data read ++ remark_text from rule note ++ codes "\n";
-  is_faulty = is_some rule;
+abbrev pub is_faulty_by : Bool → Remark → Bool
+is_faulty_by is_strict r = is_some r.rule || (is_strict && not r.is_judged)
+
+abbrev pub told_of : Judge → Role → Result PlainFrame FrameError → Remark → Judge → Answer
+told_of j from read r next = record {
+  next = next;
+  text = mark_of from ++ reading_text j.long_data read ++ remark_text from r.rule r.note ++ codes "\n";
+  is_faulty = is_faulty_by j.is_strict r;
 }
 
 -- a frame, as it is seen by the link layer and by the packet layer
+abbrev pub remark_by : Judge → Role → PlainFrame → Sides → Verdict → Remark
+remark_by j from frame t v = record {
+  rule = all_told t.rule v.rule;
+  note = first_note (unjudged_note v.unjudged) t.note;
+  is_judged = is_judged frame (sides_of from j) && covers frame t.is_again v.is_judged;
+}
+
+abbrev pub next_by : Judge → Role → PlainFrame → Sides → book.Seen → Judge
+next_by j from frame t s = counts_carried from frame t.is_again s.verdict.is_judged
+    (counts_frame from (is_judged frame (sides_of from j)) (behind from t s.book (holding from (keeps (held_of from j) frame) j)))
+
 abbrev pub told_seen : Judge → Role → PlainFrame → Sides → book.Seen → Answer
-told_seen j from frame t s = told_of (holding from (keeps (held_of from j) frame) j) from (Ok frame) t (all_told t.rule s.rule) (first_note (unjudged_note s.unjudged) t.note) s.book
+told_seen j from frame t s = told_of j from (Ok frame) (remark_by j from frame t s.verdict) (next_by j from frame t s)
 
 abbrev pub told_frame : Judge → Role → PlainFrame → Sides → Answer
 told_frame j from frame t = told_seen j from frame t (book.sees from j.long_data frame (is_some t.rule) j.book)
 
 abbrev pub remark_of : Judge → Role → PlainFrame → Sides → Remark
-remark_of j from frame t =
-    let s = book.sees from j.long_data frame (is_some t.rule) j.book in
-    record { rule = all_told t.rule s.rule; note = first_note (unjudged_note s.unjudged) t.note }
+remark_of j from frame t = remark_by j from frame t (book.sees from j.long_data frame (is_some t.rule) j.book).verdict
+
+-- octets that spell no frame are judged where they aren't damaged
+abbrev pub remark_missed : FrameError → Remark
+remark_missed e = record { rule = no_frame e; note = None; is_judged = is_some (no_frame e) }
+
+abbrev pub next_missed : Role → FrameError → Judge → Judge
+next_missed from e j = counts_frame from (is_some (no_frame e)) (behind from (misses (sides_of from j)) (book.misses from j.book) j)
 
 abbrev pub seen_by : Judge → Role → PlainFrame → Sides
 seen_by j from frame = sees j.window (is_same (held_of from j) frame) frame (sides_of from j)
 
 abbrev pub read_of : Judge → Role → Result PlainFrame FrameError → Answer
 read_of j from (Ok frame) = told_frame j from frame (seen_by j from frame)
-read_of j from (Err e) = told_of j from (Err e) (misses (sides_of from j)) (no_frame e) None (book.misses from j.book)
+read_of j from (Err e) = told_of j from (Err e) (remark_missed e) (next_missed from e j)
 
 -- a line that is none of a trace counts as faulty
 abbrev pub sent_of : Judge → Option (Role × List ℕ) → Answer
@@ -126,8 +186,12 @@ answer_to j line = sent_of j (sent_in line)
 
 -- ---- lines
 
+-- behind the last one, how much was judged
+abbrev pub counts_text : Judge → List ℕ
+counts_text j = end_text Dte j.dte_frames j.dte_packets ++ end_text Dce j.dce_frames j.dce_packets
+
 unfoldable pub text_of : Judge → List (List ℕ) → List ℕ
-text_of j [] = []
+text_of j [] = counts_text j
 text_of j (line ∷ lines) = (answer_to j line).text ++ text_of (answer_to j line).next lines
 
 unfoldable pub has_fault : Judge → List (List ℕ) → Bool
@@ -138,6 +202,6 @@ has_fault j (line ∷ lines) = (answer_to j line).is_faulty || has_fault (answer
 abbrev pub output_of : Judge → List ℕ → List ℕ
 output_of j input = text_of j (lines_of input)
 
--- the status that `judge` ends with: 1 where a rule was broken or a line is none of a trace
+-- the status that `judge` ends with: 1 where a rule was broken or a line is none of a trace, or where it is strict and anything wasn't judged
 abbrev pub status_of : Judge → List ℕ → ℕ
 status_of j input = if has_fault j (lines_of input) then 1 else 0

@@ -1,5 +1,6 @@
 pub mod Note
 pub mod Held
+pub mod Counts
 pub mod RuleText
 pub mod Way
 pub mod Sides

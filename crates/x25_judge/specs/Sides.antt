@@ -3,6 +3,7 @@
 use Rattle.std.specs.Prelude.{ℕ, ◌+◌, ◌-◌, ◌==◌, nat_lt, Bool, true, false, not, ◌&&◌, ◌||◌, if◌then◌else◌, min, Option, Some, None}
 use Rattle.x25_frame.specs.Frame.{PlainFrame, info, rr, rnr, rej, sabm, disc, ua, dm, frmr}
 use Rattle.x25_judge.specs.Note.{first_note}
+use Rattle.x25_judge.specs.Way as way
 use Rattle.x25_judge.specs.Way.{fresh, lost, missed, unheard, answered, answered_again, answering_again, heard, rejected, sent_back, sent}
 use Rattle.x25_judge.specs.declared.note.Note.{Note}
 use Rattle.x25_judge.specs.declared.note.Note.TheVariants.{PollAgain, PollUnseen}
@@ -134,7 +135,7 @@ abbrev pub of_other : Told → Sides → Sides
 of_other told t = remarks told (with_other (with_way told.way t.other) t)
 
 abbrev pub of_own : Told → Sides → Sides
-of_own told t = remarks told (with_own (with_way told.way t.own) t)
+of_own told t = record (remarks told (with_own (with_way told.way t.own) t)) { is_again = told.is_again }
 
 -- ---- P and F (section 2.4.3)
 
@@ -269,6 +270,32 @@ sees window is_same (disc p) t = leaves (asks_more (asks_if p t))
 sees window is_same (ua f) t = accepts_asked f t
 sees window is_same (dm f) t = declines (answers_if f t)
 sees window is_same (frmr f why) t = leaves (answers_if f t)
+
+-- ---- whether the numbers and bits of a frame are judged, by what went before it
+
+-- N(R)s of the first end: numbers of the other one are known, and no frame was missed that would explain one
+abbrev pub judges_hearing : Sides → Bool
+judges_hearing t = not (is_unseen t.own.phase) && (way.is_sure t.other.way && not t.other.way.is_missed)
+
+-- .. and its N(S)s
+abbrev pub judges_sending : Sides → Bool
+judges_sending t = not (way.is_unseen t.own.way) && not t.own.way.is_missed
+
+-- an answer by F=1, or by UA: what was asked is known
+abbrev pub judges_answer : ℕ → Sides → Bool
+judges_answer asked t = t.other.is_followed || not (asked == 0)
+
+-- none is at fault that SABM or DISC
+unfoldable pub is_judged : PlainFrame → Sides → Bool
+is_judged (info ns nr p octets) t = judges_hearing t && judges_sending t
+is_judged (rr command nr pf) t = judges_hearing t
+is_judged (rnr command nr pf) t = judges_hearing t
+is_judged (rej command nr pf) t = judges_hearing t
+is_judged (sabm p) t = true
+is_judged (disc p) t = true
+is_judged (ua f) t = judges_answer t.other.asked t
+is_judged (dm f) t = not f || judges_answer t.other.polls t
+is_judged (frmr f why) t = not f || judges_answer t.other.polls t
 
 -- octets that spell none: a frame that was damaged, which may have been any
 unfoldable pub misses : Sides → Sides

@@ -12,14 +12,18 @@ use Rattle.x25_judge.specs.declared.way.Way.{Way}
 use Rattle.x25_judge.specs.declared.way.Told.{Told}
 
 abbrev pub quiet : Way → Told
-quiet w = record { way = w; rule = None; note = None }
+quiet w = record { way = w; rule = None; note = None; is_again = false }
 
 abbrev pub breaks : Rule → Way → Told
-breaks rule w = record { way = w; rule = Some rule; note = None }
+breaks rule w = record { way = w; rule = Some rule; note = None; is_again = false }
 
 -- what a loss explains
 abbrev pub notes : Note → Way → Told
-notes note w = record { way = w; rule = None; note = Some note }
+notes note w = record { way = w; rule = None; note = Some note; is_again = false }
+
+-- of an I frame that was sent before
+abbrev pub sent_before : Told → Told
+sent_before told = record told { is_again = true }
 
 -- the end's numbers begin from 0
 abbrev pub begun : Sight → Way
@@ -207,8 +211,8 @@ unexplained is_same back w =
 -- Sent again: with the octets that the number had, where these were seen and no frame was missed since.
 abbrev pub again : Bool → ℕ → Way → Way → Told
 again is_same back way w =
-    if not is_same && (nat_le back w.kept && not w.is_missed) then breaks Differs way
-    else notes SentAgain way
+    if not is_same && (nat_le back w.kept && not w.is_missed) then sent_before (breaks Differs way)
+    else sent_before (notes SentAgain way)
 
 -- V(S) may be set back to a number that was sent, and is acknowledged up to there: by timer T1 with P=1, or by a cause, which says no farther
 -- one (section 2.4.5.9)

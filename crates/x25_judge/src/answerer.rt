@@ -22,18 +22,23 @@ pub(crate) struct Answerer {
 impl Answerer {
     ghost use Rattle.std.specs.Prelude.{◌≡◌, ◌<◌, ◌≤◌, ◌++◌, [], ℕ, List, Option, true, false, ◌||◌, IfOk, OnOk, OnErr, MatchOption, MatchResult};
     ghost use Rattle.x25_io.specs.HeldLine.{most_line};
-    ghost use Rattle.x25_io.specs.code.Written.{AppendsPrefix, Tells};
-    ghost use Rattle.x25_judge.specs.Judge.{answer_to, begins};
+    ghost use Rattle.x25_io.specs.code.Written.{AppendsPrefix, Tells, TellsMore};
+    ghost use Rattle.x25_judge.specs.Judge.{answer_to, begins, counts_text};
 
     /// Nothing waits.
-    pub(crate) fn new(alloc: Global, window: u8, long_data: bool) -> Result<Answerer, AllocError>
-        ensures judge { IfOk result (λ a. a.judge ≡ begins window long_data) }
+    pub(crate) fn new(
+        alloc: Global,
+        window: u8,
+        long_data: bool,
+        is_strict: bool,
+    ) -> Result<Answerer, AllocError>
+        ensures judge { IfOk result (λ a. a.judge ≡ begins window long_data is_strict) }
         ensures empty { IfOk result (λ a. a.output ≡ []) }
         ensures faultless { IfOk result (λ a. a.is_faulty ≡ false) }
     {
         let answer = Text::new(alloc)?;
         let output = Output::new(alloc)?;
-        let judge = Judge::new(alloc, window, long_data)?;
+        let judge = Judge::new(alloc, window, long_data, is_strict)?;
         Ok(Answerer {
             octets: [0; MOST_OCTETS],
             answer,
@@ -82,6 +87,18 @@ impl Answerer {
         self.is_faulty |= is_faulty;
         self.output.tell(self.answer.as_slice(), writer)
     }
+
+    /// Tells how much was judged, and writes what waits.
+    fn finish<W: Sink>(&mut self, writer: &mut W) -> Result<(), Failed>
+        ensures kept { OnOk result (W.is_marked writer.new ≡ W.is_marked writer.old) }
+        ensures tells { TellsMore result (W.contents writer.old) (W.contents writer.new) self.old.output self.new.output (counts_text self.old.judge) }
+        ensures empty { OnOk result (self.new.output ≡ []) }
+        ensures is_faulty { self.new.is_faulty ≡ self.old.is_faulty }
+        ensures marked { OnErr result (W.is_marked writer.new ≡ true) }
+    {
+        self.judge.tell_counts(&mut self.output, writer)?;
+        self.output.flush(writer)
+    }
 }
 
 impl LineTaker for Answerer {
@@ -119,7 +136,7 @@ impl LineTaker for Answerer {
     }
 
     fn end<W: Sink>(&mut self, writer: &mut W) -> Result<u8, Fault> {
-        match self.output.flush(writer) {
+        match self.finish(writer) {
             Ok(()) => Ok(u8::from(self.is_faulty)),
             Err(_) => Err(Fault::Write),
         }

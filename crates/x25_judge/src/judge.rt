@@ -1,13 +1,14 @@
 //! What answers a line.
-ghost use Rattle.std.specs.Prelude.{◌≡◌, ◌+◌, ◌≤◌, ◌++◌, length, codes, is_some, IfOk};
+ghost use Rattle.std.specs.Prelude.{◌≡◌, ◌+◌, ◌≤◌, ◌++◌, ℕ, List, Option, true, length, codes, is_some, IfOk, OnOk, OnErr, MatchResult};
+ghost use Rattle.x25_io.specs.code.Written.{AppendsPrefix, Tells, TellsMore};
 ghost use Rattle.x25_decode.specs.Decoding.{mark_of, n1};
 ghost use Rattle.x25_frame.specs.Reading.{frame_of};
 ghost use Rattle.x25_frame.specs.Frame.{plain};
-ghost use Rattle.x25_packet_judge.specs.Book.{misses as book_misses};
+ghost use Rattle.x25_packet_judge.specs.Book.{sees as book_sees};
 ghost use Rattle.x25_judge.specs.Held.{is_same, keeps};
-ghost use Rattle.x25_judge.specs.Judge.{all_told, answer_to, begins, behind, held_of, holding, no_frame, read_of, noted_text, remark_of, remark_text, seen_by, sides_of, told_frame};
-ghost use Rattle.x25_judge.specs.Sides.{misses};
+ghost use Rattle.x25_judge.specs.Judge.{all_told, answer_to, begins, behind, counts_carried, counts_frame, counts_packet, counts_text, covers, held_of, holding, is_faulty_by, next_by, next_missed, no_frame, read_of, noted_text, remark_missed, remark_of, remark_text, seen_by, sides_of};
 
+use crate::counts::{Count, Counts, tell_end};
 use crate::held::Held;
 use crate::note::{MOST_NOTE, Note, first_note, push_note, unjudged_note};
 use crate::rule::Rule;
@@ -16,6 +17,8 @@ use crate::sides::{End, Sides};
 use std::alloc::{AllocError, Global};
 use x25_decode::read_sent;
 use x25_frame::{Frame, FrameError, N1, Role, decode};
+use x25_io::{Failed, Output, Sink};
+use x25_packet::channel;
 use x25_packet_judge::{Book, PacketRule};
 use x25_text::{MOST_OCTETS, MOST_TEXT, ROOM, Text, push_fault, push_frame};
 
@@ -30,18 +33,25 @@ pub(crate) const MOST_ANSWER: usize = MOST_TEXT + MOST_REMARK + 3;
 pub(crate) struct Judge {
     pub(crate) window: u8,
     pub(crate) long_data: bool,
+    /// A frame or packet that isn't judged counts as faulty.
+    pub(crate) is_strict: bool,
     pub(crate) dte: End,
     pub(crate) dce: End,
     pub(crate) dte_held: Held,
     pub(crate) dce_held: Held,
     pub(crate) book: Book,
+    pub(crate) dte_frames: Count,
+    pub(crate) dce_frames: Count,
+    pub(crate) dte_packets: Counts,
+    pub(crate) dce_packets: Counts,
 }
 
-/// The rule that a frame breaks, and what is noted of it.
+/// The rule that a frame breaks, what is noted of it, and whether all of it was judged.
 #[derive(Clone, Copy)]
 pub(crate) struct Remark {
     pub(crate) rule: Option<Rule>,
     pub(crate) note: Option<Note>,
+    pub(crate) is_judged: bool,
 }
 
 /// A rule of the link layer is told before one of the packet layer.
@@ -68,15 +78,33 @@ fn no_frame(error: FrameError) -> Option<Rule>
     }
 }
 
-/// Appends the rule that was broken, where one was, or what is noted, and a line feed; whether one was is answered.
-fn tell(from: Role, remark: Remark, text: &mut Text) -> bool
+/// Whether no packet of the frame goes unjudged.
+#[tactic(auto, unfolding(crate::specs::Judge::covers))]
+fn covers(frame: &Frame, is_again: bool, is_judged: bool) -> bool
+    ensures { result ≡ covers (plain frame.now) is_again is_judged }
+{
+    match frame {
+        Frame::I { .. } => is_again || is_judged,
+        Frame::Rr { .. }
+        | Frame::Rnr { .. }
+        | Frame::Rej { .. }
+        | Frame::Sabm { .. }
+        | Frame::Disc { .. }
+        | Frame::Ua { .. }
+        | Frame::Dm { .. }
+        | Frame::Frmr { .. } => true,
+    }
+}
+
+/// Appends the rule that was broken, where one was, or what is noted, and a line feed; whether the frame counts as faulty is answered.
+fn tell(from: Role, is_strict: bool, remark: Remark, text: &mut Text) -> bool
     requires { length text.old + (MOST_REMARK + 1) ≤ ROOM }
     ensures text { text.new ≡ text.old ++ (remark_text from remark.rule remark.note ++ codes "\n") }
-    ensures is_faulty { result ≡ is_some remark.rule }
+    ensures is_faulty { result ≡ is_faulty_by is_strict remark }
 {
     push_remark(from, remark, text);
     text.push(b"\n");
-    remark.rule.is_some()
+    remark.rule.is_some() || (is_strict && !remark.is_judged)
 }
 
 /// Appends the end and the rule that it broke, or else what is noted.
@@ -111,21 +139,70 @@ fn push_noted(note: Option<Note>, text: &mut Text)
 
 impl Judge {
     /// Nothing was sent.
-    pub(crate) fn new(alloc: Global, window: u8, long_data: bool) -> Result<Judge, AllocError>
-        ensures { IfOk result (λ judge. judge ≡ begins window long_data) }
+    pub(crate) fn new(
+        alloc: Global,
+        window: u8,
+        long_data: bool,
+        is_strict: bool,
+    ) -> Result<Judge, AllocError>
+        ensures { IfOk result (λ judge. judge ≡ begins window long_data is_strict) }
     {
         let dte_held = Held::new(alloc)?;
         let dce_held = Held::new(alloc)?;
         let book = Book::new(alloc)?;
+        let dte_packets = Counts::new(alloc)?;
+        let dce_packets = Counts::new(alloc)?;
         Ok(Judge {
             window,
             long_data,
+            is_strict,
             dte: End::new(),
             dce: End::new(),
             dte_held,
             dce_held,
             book,
+            dte_frames: Count::none(),
+            dce_frames: Count::none(),
+            dte_packets,
+            dce_packets,
         })
+    }
+
+    /// Counts a frame.
+    fn count_frame(&mut self, from: Role, is_judged: bool)
+        ensures { self.new ≡ counts_frame from is_judged self.old }
+    {
+        match from {
+            Role::Dte => self.dte_frames = self.dte_frames.more(0, is_judged),
+            Role::Dce => self.dce_frames = self.dce_frames.more(0, is_judged),
+        }
+    }
+
+    /// Counts a packet.
+    fn count_packet(&mut self, from: Role, channel: u16, is_judged: bool)
+        ensures { self.new ≡ counts_packet from channel is_judged self.old }
+    {
+        match from {
+            Role::Dte => self.dte_packets.add(channel, is_judged),
+            Role::Dce => self.dce_packets.add(channel, is_judged),
+        }
+    }
+
+    /// Counts the packet of an I frame that wasn't sent before.
+    #[tactic(auto, unfolding(crate::specs::Judge::counts_carried))]
+    fn count_carried(&mut self, from: Role, frame: &Frame, is_again: bool, is_judged: bool)
+        ensures { self.new ≡ counts_carried from (plain frame.now) is_again is_judged self.old }
+    {
+        let Frame::I { info, .. } = frame else {
+            return;
+        };
+        if is_again {
+            return;
+        }
+        match channel(info) {
+            Some(channel) => self.count_packet(from, channel, is_judged),
+            None => self.count_packet(from, 0, is_judged),
+        }
     }
 
     /// The end that sends, and the other one.
@@ -138,12 +215,14 @@ impl Judge {
                 other: self.dce,
                 rule: None,
                 note: None,
+                is_again: false,
             },
             Role::Dce => Sides {
                 own: self.dce,
                 other: self.dte,
                 rule: None,
                 note: None,
+                is_again: false,
             },
         }
     }
@@ -184,28 +263,43 @@ impl Judge {
 
     /// The rule that a frame breaks, and what is noted of it.
     fn sees(&mut self, from: Role, frame: &Frame) -> Remark
-        ensures next { self.new ≡ (told_frame self.old from (plain frame.now) (seen_by self.old from (plain frame.now))).next }
+        ensures next { self.new ≡ next_by self.old from (plain frame.now) (seen_by self.old from (plain frame.now))
+            (book_sees from self.old.long_data (plain frame.now) (is_some (seen_by self.old from (plain frame.now)).rule) self.old.book) }
         ensures remark { result ≡ remark_of self.old from (plain frame.now) (seen_by self.old from (plain frame.now)) }
     {
         let is_same = self.has(from, frame);
-        let sides = self.sides(from).sees(self.window, is_same, frame);
+        let before = self.sides(from);
+        let is_judged = before.is_judged(frame);
+        let sides = before.sees(self.window, is_same, frame);
         self.hold(from, frame);
         let verdict = self
             .book
             .sees(from, self.long_data, frame, sides.rule.is_some());
         self.keep(from, sides);
+        self.count_frame(from, is_judged);
+        self.count_carried(from, frame, sides.is_again, verdict.is_judged);
         Remark {
             rule: all_told(sides.rule, verdict.rule),
             note: first_note(unjudged_note(verdict.unjudged), sides.note),
+            is_judged: is_judged && covers(frame, sides.is_again, verdict.is_judged),
         }
     }
 
-    fn misses(&mut self, from: Role)
-        ensures { self.new ≡ behind from (misses (sides_of from self.old)) (book_misses from self.old.book) self.old }
+    /// The rule that octets break which spell no frame.
+    fn misses(&mut self, from: Role, error: FrameError) -> Remark
+        ensures next { self.new ≡ next_missed from error self.old }
+        ensures remark { result ≡ remark_missed error }
     {
         let sides = self.sides(from).misses();
         self.book.misses(from);
         self.keep(from, sides);
+        let rule = no_frame(error);
+        self.count_frame(from, rule.is_some());
+        Remark {
+            rule,
+            note: None,
+            is_judged: rule.is_some(),
+        }
     }
 
     /// Appends what the octets read as, and the rule that they break; whether they break one is answered.
@@ -215,6 +309,7 @@ impl Judge {
         ensures next { self.new ≡ (read_of self.old from (frame_of from n1 octets.now)).next }
         ensures is_faulty { result ≡ (read_of self.old from (frame_of from n1 octets.now)).is_faulty }
     {
+        let is_strict = self.is_strict;
         match from {
             Role::Dte => text.push(b"> "),
             Role::Dce => text.push(b"< "),
@@ -223,18 +318,40 @@ impl Judge {
             Ok(frame) => {
                 push_frame(self.long_data, &frame, text);
                 let remark = self.sees(from, &frame);
-                tell(from, remark, text)
+                tell(from, is_strict, remark, text)
             }
             Err(error) => {
                 push_fault(error, text);
-                self.misses(from);
-                let remark = Remark {
-                    rule: no_frame(error),
-                    note: None,
-                };
-                tell(from, remark, text)
+                let remark = self.misses(from, error);
+                tell(from, is_strict, remark, text)
             }
         }
+    }
+
+    /// Tells how much was judged.
+    pub(crate) fn tell_counts<W: Sink>(
+        &self,
+        output: &mut Output,
+        writer: &mut W,
+    ) -> Result<(), Failed>
+        ensures kept { OnOk result (W.is_marked writer.new ≡ W.is_marked writer.old) }
+        ensures tells { TellsMore result (W.contents writer.old) (W.contents writer.new) output.old output.new (counts_text self.now) }
+        ensures marked { OnErr result (W.is_marked writer.new ≡ true) }
+    {
+        tell_end(
+            Role::Dte,
+            self.dte_frames,
+            &self.dte_packets,
+            output,
+            writer,
+        )?;
+        tell_end(
+            Role::Dce,
+            self.dce_frames,
+            &self.dce_packets,
+            output,
+            writer,
+        )
     }
 
     /// Appends the line that answers a line; whether it was at fault is answered. `octets` is overwritten.

@@ -10,8 +10,9 @@ use std::alloc::Global;
 use x25_io::{Fault, HeldLine, LineByLine, PIECE, Sink, Source, take_text};
 
 /// Answers each line of a trace that the reader gives by the line of `decode`, and behind it, where the frame breaks a rule of the link
-/// layer, or its packet one of the packet layer, by the end that sent it and the rule. It answers the status: 1 where a rule was broken
-/// or a line was refused, else 0.
+/// layer, or its packet one of the packet layer, by the end that sent it and the rule; and at the end how many frames and packets of each
+/// end there were, and how many of them were judged. It answers the status: 1 where a rule was broken or a line was refused, or where
+/// it `is_strict` and anything wasn't judged, else 0.
 ///
 /// The trace has what both ends sent, in the order in which it passed. At most `window` I frames may be unacknowledged; of data packets
 /// on a channel as many as its call and the acceptance say. With `long` the
@@ -22,6 +23,7 @@ pub fn judge_lines<R: Source, W: Sink>(
     alloc: Global,
     window: u8,
     long: bool,
+    is_strict: bool,
     reader: &mut R,
     writer: &mut W,
 ) -> Result<u8, Fault>
@@ -30,17 +32,17 @@ pub fn judge_lines<R: Source, W: Sink>(
     ensures zero_or_one { IfOk result (λ status. status ≤ 1) }
     // What is written is the text of all that was read.
     ensures text { OnOk result (IfSome (R.remaining reader.old) (λ input. length input < 2 ^ 64 - 1
-        → Appends (W.contents writer.old) (W.contents writer.new) (output_of (begins window long) input))) }
+        → Appends (W.contents writer.old) (W.contents writer.new) (output_of (begins window long is_strict) input))) }
     ensures status { IfOk result (λ status. IfSome (R.remaining reader.old) (λ input. length input < 2 ^ 64 - 1
-        → status ≡ status_of (begins window long) input)) }
+        → status ≡ status_of (begins window long is_strict) input)) }
 
     // What was written before a fault is a beginning of it.
     ensures fault { OnErr result (IfSome (R.remaining reader.old) (λ input. length input < 2 ^ 64 - 1
-        → AppendsPrefix (W.contents writer.old) (W.contents writer.new) (output_of (begins window long) input))) }
+        → AppendsPrefix (W.contents writer.old) (W.contents writer.new) (output_of (begins window long is_strict) input))) }
     // At a failed read the answers to all lines that had ended are written.
     ensures ended { IsErrOf result Fault.Read → IfSome (R.remaining reader.old) (λ input.
         (rest : List ℕ) × (R.remaining reader.new ≡ Some rest)
-        × WritesEnded (W.contents writer.old) (W.contents writer.new) rest (output_of (begins window long) input)) }
+        × WritesEnded (W.contents writer.old) (W.contents writer.new) rest (output_of (begins window long is_strict) input)) }
 
     ensures memory { IsErrOf result Fault.NoMemory → (reader.new ≡ reader.old) × (writer.new ≡ writer.old) }
     ensures read { IsErrOf result Fault.Read → R.is_marked reader.new ≡ true }
@@ -48,7 +50,7 @@ pub fn judge_lines<R: Source, W: Sink>(
 {
     let mut piece = vec![in alloc; 0u8; PIECE]?;
     let held = HeldLine::new(alloc)?;
-    let answerer = Answerer::new(alloc, window, long)?;
+    let answerer = Answerer::new(alloc, window, long, is_strict)?;
     let lines = LineByLine::new(held, answerer);
     take_text(lines, piece.as_mut_slice(), reader, writer)
 }

@@ -4,6 +4,7 @@
 #![tactic(auto)]
 
 mod answerer;
+mod counts;
 mod held;
 mod judge;
 mod judging;

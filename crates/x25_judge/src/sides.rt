@@ -34,13 +34,15 @@ pub(crate) struct End {
     pub(crate) way: Way,
 }
 
-/// The end that sends a frame and the other end, the first rule that the frame breaks, and what is noted of it first.
+/// The end that sends a frame and the other end, the first rule that the frame breaks, what is noted of it first, and whether it is an
+/// I frame that was sent before.
 #[derive(Clone, Copy)]
 pub(crate) struct Sides {
     pub(crate) own: End,
     pub(crate) other: End,
     pub(crate) rule: Option<Rule>,
     pub(crate) note: Option<Note>,
+    pub(crate) is_again: bool,
 }
 
 /// The first of two rules.
@@ -274,7 +276,11 @@ impl Sides {
     fn of_own(self, told: Told) -> Sides
         ensures { result ≡ definition.of_own told self }
     {
-        self.with_own(self.own.with_way(told.way)).remarks(told)
+        let next = self.with_own(self.own.with_way(told.way)).remarks(told);
+        Sides {
+            is_again: told.is_again,
+            ..next
+        }
     }
 
     // ---- P and F
@@ -501,6 +507,43 @@ impl Sides {
             Frame::Ua { f } => self.accepts_asked(*f),
             Frame::Dm { f } => self.answers_if(*f).declines(),
             Frame::Frmr { f, .. } => self.answers_if(*f).leaves(),
+        }
+    }
+
+    // ---- whether the numbers and bits of a frame are judged
+
+    /// Whether its N(R) is.
+    fn judges_hearing(self) -> bool
+        ensures { result ≡ definition.judges_hearing self }
+    {
+        !self.own.phase.is_unseen() && (self.other.way.is_sure() && !self.other.way.is_missed)
+    }
+
+    /// Whether its N(S) is.
+    fn judges_sending(self) -> bool
+        ensures { result ≡ definition.judges_sending self }
+    {
+        !self.own.way.is_unseen() && !self.own.way.is_missed
+    }
+
+    /// Whether an answer is, to so many that the other end asked for.
+    fn judges_answer(self, asked: u8) -> bool
+        ensures { result ≡ definition.judges_answer asked self }
+    {
+        self.other.is_followed || asked != 0
+    }
+
+    /// Whether the first end's next frame is judged.
+    #[tactic(auto, unfolding(crate::specs::Sides::is_judged))]
+    pub(crate) fn is_judged(self, frame: &Frame) -> bool
+        ensures { result ≡ definition.is_judged (plain frame.now) self }
+    {
+        match frame {
+            Frame::I { .. } => self.judges_hearing() && self.judges_sending(),
+            Frame::Rr { .. } | Frame::Rnr { .. } | Frame::Rej { .. } => self.judges_hearing(),
+            Frame::Sabm { .. } | Frame::Disc { .. } => true,
+            Frame::Ua { .. } => self.judges_answer(self.other.asked),
+            Frame::Dm { f } | Frame::Frmr { f, .. } => !*f || self.judges_answer(self.other.polls),
         }
     }
 

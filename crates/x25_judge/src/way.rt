@@ -42,12 +42,13 @@ pub(crate) struct Way {
     pub(crate) is_missed: bool,
 }
 
-/// A way behind a frame, the rule that the frame breaks, and what is noted of it.
+/// A way behind a frame, the rule that the frame breaks, what is noted of it, and whether it is an I frame that was sent before.
 #[derive(Clone, Copy)]
 pub(crate) struct Told {
     pub(crate) way: Way,
     pub(crate) rule: Option<Rule>,
     pub(crate) note: Option<Note>,
+    pub(crate) is_again: bool,
 }
 
 fn quiet(way: Way) -> Told
@@ -57,6 +58,7 @@ fn quiet(way: Way) -> Told
         way,
         rule: None,
         note: None,
+        is_again: false,
     }
 }
 
@@ -67,6 +69,7 @@ fn breaks(rule: Rule, way: Way) -> Told
         way,
         rule: Some(rule),
         note: None,
+        is_again: false,
     }
 }
 
@@ -77,6 +80,17 @@ fn notes(note: Note, way: Way) -> Told
         way,
         rule: None,
         note: Some(note),
+        is_again: false,
+    }
+}
+
+/// Of an I frame that was sent before.
+fn sent_before(told: Told) -> Told
+    ensures { result ≡ definition.sent_before told }
+{
+    Told {
+        is_again: true,
+        ..told
     }
 }
 
@@ -114,13 +128,13 @@ impl Way {
         self.ever == 0
     }
 
-    fn is_sure(self) -> bool
+    pub(crate) fn is_sure(self) -> bool
         ensures { result ≡ definition.is_sure self }
     {
         matches!(self.sight, Sight::Sure)
     }
 
-    fn is_unseen(self) -> bool
+    pub(crate) fn is_unseen(self) -> bool
         ensures { result ≡ definition.is_unseen self }
     {
         matches!(self.sight, Sight::Unseen)
@@ -423,9 +437,9 @@ impl Way {
         ensures { result ≡ definition.again is_same back way self }
     {
         if !is_same && (back <= self.kept && !self.is_missed) {
-            breaks(Rule::Differs, way)
+            sent_before(breaks(Rule::Differs, way))
         } else {
-            notes(Note::SentAgain, way)
+            sent_before(notes(Note::SentAgain, way))
         }
     }
 

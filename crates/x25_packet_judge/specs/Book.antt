@@ -1,5 +1,5 @@
 -- The packet layers of both ends and all their channels, and what a frame changes and breaks. ITU-T X.25 (10/96), sections 3 and 4.
-use Rattle.std.specs.Prelude.{ℕ, ◌%◌, ◌==◌, Bool, not, ◌&&◌, ◌||◌, if◌then◌else◌, is_some, List, slice_index_or, slice_set, Option, Some, None, Result, Ok, Err}
+use Rattle.std.specs.Prelude.{ℕ, ◌%◌, ◌==◌, Bool, true, false, not, ◌&&◌, ◌||◌, if◌then◌else◌, is_some, List, slice_index_or, slice_set, Option, Some, None, Result, Ok, Err}
 use Rattle.x25_bits.specs.declared.role.Role.{Role}
 use Rattle.x25_bits.specs.declared.role.Role.TheVariants.{Dte, Dce}
 use Rattle.x25_frame.specs.Frame.{PlainFrame, info, rr, rnr, rej, sabm, disc, ua, dm, frmr}
@@ -12,6 +12,7 @@ use Rattle.x25_packet_judge.specs.Packets.{sends}
 use Rattle.x25_packet_judge.specs.Pair.{is_known, noted, unknown}
 use Rattle.x25_packet_judge.specs.Port.{all_alike, blank, fresh}
 use Rattle.x25_packet_judge.specs.declared.book.Book.{Book}
+use Rattle.x25_packet_judge.specs.declared.book.Verdict.{Verdict}
 use Rattle.x25_packet_judge.specs.declared.layer.Layers.{Layers}
 use Rattle.x25_packet_judge.specs.declared.packet_rule.PacketRule.{PacketRule}
 use Rattle.x25_packet_judge.specs.declared.pair.Pair.{Pair}
@@ -66,21 +67,25 @@ puts Dce channel p b = record {
 
 -- ---- a packet
 
--- behind a frame: the rule that its packet breaks, and a channel that isn't judged from there on; 0 stands for all
+-- behind a frame, with what is told of its packet
 pub record Seen : Type 0 where
   pub book : Book
-  pub rule : Option PacketRule
-  pub unjudged : Option ℕ
+  pub verdict : Verdict
 
+-- the packet was judged
 abbrev pub told : Book → Option PacketRule → Seen
-told b rule = record { book = b; rule = rule; unjudged = None }
+told b rule = record { book = b; verdict = record { rule = rule; unjudged = None; is_judged = true } }
+
+-- .. and wasn't: a channel that isn't judged from there on may be noted, of which 0 stands for all
+abbrev pub passed : Book → Option ℕ → Seen
+passed b unjudged = record { book = b; verdict = record { rule = None; unjudged = unjudged; is_judged = false } }
 
 abbrev pub quiet : Book → Seen
-quiet b = told b None
+quiet b = passed b None
 
 -- the channel isn't judged, which is noted once
 abbrev pub blind : Role → ℕ → Pair → Book → Seen
-blind from channel p b = record { book = puts from channel (noted p) b; rule = None; unjudged = if p.own.is_noted || p.other.is_noted then None else Some channel }
+blind from channel p b = passed (puts from channel (noted p) b) (if p.own.is_noted || p.other.is_noted then None else Some channel)
 
 -- both ends of its channel, behind it
 abbrev pub put_by : Role → ℕ → Pair → Option PacketRule → Book → Seen
@@ -108,7 +113,7 @@ restarts from t b = told (keeps from t (fills from fresh b)) t.rule
 
 -- all channels of both ends do
 abbrev pub refinds : Role → Layers → Book → Seen
-refinds from t b = quiet (keeps from (layer.refinds t) (fills_both fresh b))
+refinds from t b = told (keeps from (layer.refinds t) (fills_both fresh b)) None
 
 -- .. behind a fault of restarts
 abbrev pub confirms_lost : Role → Layers → Book → Seen
@@ -124,9 +129,10 @@ unfoldable pub confirms : Role → Layers → Book → Seen
 confirms from t b =
     if layer.are_lost t then confirms_lost from t b
     else if layer.is_answer t then answers from t b
-    else if layer.is_second_answer t then quiet (keeps from (layer.confirms_again t) (fills from blank b))
-    else if layer.are_sure t then told (keeps from (layer.confirms_unseen t) (fills from blank b)) (layer.confirms_unseen t).rule
-    else told (keeps from (layer.confirms_unseen t) (fills_both blank b)) (layer.confirms_unseen t).rule
+    else if layer.is_second_answer t then told (keeps from (layer.confirms_again t) (fills from blank b)) None
+    else if layer.are_counted t then told (keeps from (layer.confirms_unseen t) (fills from blank b)) (layer.confirms_unseen t).rule
+    else if layer.are_sure t then quiet (keeps from (layer.confirms_unseen t) (fills from blank b))
+    else quiet (keeps from (layer.confirms_unseen t) (fills_both blank b))
 
 unfoldable pub takes : Role → ℕ → PlainPacket → Book → Seen
 takes from channel (restart cause diagnostic) b = restarts from (layer.restarts (layers_of from b)) b
@@ -136,7 +142,7 @@ takes from channel packet b = runs from channel packet b
 -- octets that spell none: nothing may be said of their channel, or of restarts where they name none
 abbrev pub misses_on : Role → ℕ → Book → Seen
 misses_on from channel b =
-    if channel == 0 then record { book = keeps from (layer.are_unsure (layers_of from b)) b; rule = None; unjudged = Some 0 }
+    if channel == 0 then passed (keeps from (layer.are_unsure (layers_of from b)) b) (Some 0)
     else blind from channel (unknown (pair_of from (layer.are_level (layers_of from b)) channel b)) b
 
 abbrev pub takes_read : Role → ℕ → Result PlainPacket PacketError → Book → Seen

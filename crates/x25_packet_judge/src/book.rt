@@ -1,5 +1,5 @@
 //! The packet layers of both ends and all their channels.
-ghost use Rattle.std.specs.Prelude.{◌≡◌, IfOk, None};
+ghost use Rattle.std.specs.Prelude.{◌≡◌, IfOk, None, true, false};
 ghost use Rattle.x25_frame.specs.Frame.{plain as plain_frame};
 ghost use Rattle.x25_packet.specs.Packet.{plain};
 ghost use Rattle.x25_packet_judge.specs.Book as definition;
@@ -22,20 +22,33 @@ pub struct Book {
     pub(crate) dce_ports: Ports,
 }
 
-/// What is told of a packet: the rule that it breaks, and a channel that isn't judged from there on, of which 0 stands for all.
+/// What is told of a packet: the rule that it breaks, a channel that isn't judged from there on, of which 0 stands for all, and whether
+/// the packet was judged.
 #[derive(Clone, Copy)]
 pub struct Verdict {
     pub rule: Option<PacketRule>,
     pub unjudged: Option<u16>,
+    pub is_judged: bool,
 }
 
 fn told(rule: Option<PacketRule>) -> Verdict
-    ensures rule { result.rule ≡ rule }
-    ensures unjudged { result.unjudged ≡ None }
+    ensures { result ≡ record { rule = rule; unjudged = None; is_judged = true } }
 {
     Verdict {
         rule,
         unjudged: None,
+        is_judged: true,
+    }
+}
+
+/// Of a packet that wasn't judged.
+fn passed(unjudged: Option<u16>) -> Verdict
+    ensures { result ≡ record { rule = None; unjudged = unjudged; is_judged = false } }
+{
+    Verdict {
+        rule: None,
+        unjudged,
+        is_judged: false,
     }
 }
 
@@ -154,25 +167,20 @@ impl Book {
     /// The channel isn't judged, which is noted once.
     fn blind(&mut self, from: Role, channel: u16, pair: Pair) -> Verdict
         ensures book { self.new ≡ (definition.blind from channel pair self.old).book }
-        ensures rule { result.rule ≡ None }
-        ensures unjudged { result.unjudged ≡ (definition.blind from channel pair self.old).unjudged }
+        ensures verdict { result ≡ (definition.blind from channel pair self.old).verdict }
     {
         self.put(from, channel, pair.noted());
-        Verdict {
-            rule: None,
-            unjudged: if pair.own.is_noted || pair.other.is_noted {
-                None
-            } else {
-                Some(channel)
-            },
+        if pair.own.is_noted || pair.other.is_noted {
+            passed(None)
+        } else {
+            passed(Some(channel))
         }
     }
 
     /// Both ends of a channel, behind a packet.
     fn put_by(&mut self, from: Role, channel: u16, pair: Pair, rule: Option<PacketRule>) -> Verdict
         ensures book { self.new ≡ (definition.put_by from channel pair rule self.old).book }
-        ensures rule { result.rule ≡ (definition.put_by from channel pair rule self.old).rule }
-        ensures unjudged { result.unjudged ≡ (definition.put_by from channel pair rule self.old).unjudged }
+        ensures verdict { result ≡ (definition.put_by from channel pair rule self.old).verdict }
     {
         if pair.is_known() || rule.is_some() {
             self.put(from, channel, pair);
@@ -186,8 +194,7 @@ impl Book {
     #[tactic(auto, unfolding(crate::specs::Book::takes_on))]
     fn takes_on(&mut self, from: Role, layers: Layers, channel: u16, packet: &Packet) -> Verdict
         ensures book { self.new ≡ (definition.takes_on from layers channel (plain packet.now) self.old).book }
-        ensures rule { result.rule ≡ (definition.takes_on from layers channel (plain packet.now) self.old).rule }
-        ensures unjudged { result.unjudged ≡ (definition.takes_on from layers channel (plain packet.now) self.old).unjudged }
+        ensures verdict { result ≡ (definition.takes_on from layers channel (plain packet.now) self.old).verdict }
     {
         self.keep(from, layers);
         if layers.rule.is_some() {
@@ -206,8 +213,7 @@ impl Book {
     #[tactic(auto, unfolding(crate::specs::Book::runs))]
     fn runs(&mut self, from: Role, channel: u16, packet: &Packet) -> Verdict
         ensures book { self.new ≡ (definition.runs from channel (plain packet.now) self.old).book }
-        ensures rule { result.rule ≡ (definition.runs from channel (plain packet.now) self.old).rule }
-        ensures unjudged { result.unjudged ≡ (definition.runs from channel (plain packet.now) self.old).unjudged }
+        ensures verdict { result ≡ (definition.runs from channel (plain packet.now) self.old).verdict }
     {
         let layers = self.layers(from);
         if layers.runs_early() {
@@ -222,8 +228,7 @@ impl Book {
     #[tactic(auto, unfolding(crate::specs::Book::restarts))]
     fn restarts(&mut self, from: Role, layers: Layers) -> Verdict
         ensures book { self.new ≡ (definition.restarts from layers self.old).book }
-        ensures rule { result.rule ≡ (definition.restarts from layers self.old).rule }
-        ensures unjudged { result.unjudged ≡ (definition.restarts from layers self.old).unjudged }
+        ensures verdict { result ≡ (definition.restarts from layers self.old).verdict }
     {
         self.fill(from, Port::fresh());
         self.keep(from, layers);
@@ -239,21 +244,23 @@ impl Book {
     }
 
     /// .. behind a fault of restarts.
-    fn confirms_lost(&mut self, from: Role, layers: Layers)
-        ensures { self.new ≡ (definition.confirms_lost from layers self.old).book }
+    fn confirms_lost(&mut self, from: Role, layers: Layers) -> Verdict
+        ensures book { self.new ≡ (definition.confirms_lost from layers self.old).book }
+        ensures verdict { result ≡ (definition.confirms_lost from layers self.old).verdict }
     {
         if layers.is_sure_answer() {
             self.refinds(from, layers);
+            told(None)
         } else {
             self.keep(from, layers.confirms_lost());
+            passed(None)
         }
     }
 
     /// .. and else, of a RESTART that was seen.
     fn answers(&mut self, from: Role, layers: Layers) -> Verdict
         ensures book { self.new ≡ (definition.answers from layers self.old).book }
-        ensures rule { result.rule ≡ (definition.answers from layers self.old).rule }
-        ensures unjudged { result.unjudged ≡ (definition.answers from layers self.old).unjudged }
+        ensures verdict { result ≡ (definition.answers from layers self.old).verdict }
     {
         if layers.are_counted() {
             self.restarts(from, layers.answers_restart())
@@ -267,12 +274,10 @@ impl Book {
     #[tactic(auto, unfolding(crate::specs::Book::confirms))]
     fn confirms(&mut self, from: Role, layers: Layers) -> Verdict
         ensures book { self.new ≡ (definition.confirms from layers self.old).book }
-        ensures rule { result.rule ≡ (definition.confirms from layers self.old).rule }
-        ensures unjudged { result.unjudged ≡ (definition.confirms from layers self.old).unjudged }
+        ensures verdict { result ≡ (definition.confirms from layers self.old).verdict }
     {
         if layers.are_lost() {
-            self.confirms_lost(from, layers);
-            return told(None);
+            return self.confirms_lost(from, layers);
         }
         if layers.is_answer() {
             return self.answers(from, layers);
@@ -283,23 +288,26 @@ impl Book {
             return told(None);
         }
         let next = layers.confirms_unseen();
+        if layers.are_counted() {
+            self.fill(from, Port::blank());
+            self.keep(from, next);
+            return told(next.rule);
+        }
         if layers.are_sure() {
             self.fill(from, Port::blank());
             self.keep(from, next);
-            told(next.rule)
         } else {
             self.fill_both(Port::blank());
             self.keep(from, next);
-            told(next.rule)
         }
+        passed(None)
     }
 
     /// A packet; what is told of it is answered.
     #[tactic(auto, unfolding(crate::specs::Book::takes))]
     fn takes(&mut self, from: Role, channel: u16, packet: &Packet) -> Verdict
         ensures book { self.new ≡ (definition.takes from channel (plain packet.now) self.old).book }
-        ensures rule { result.rule ≡ (definition.takes from channel (plain packet.now) self.old).rule }
-        ensures unjudged { result.unjudged ≡ (definition.takes from channel (plain packet.now) self.old).unjudged }
+        ensures verdict { result ≡ (definition.takes from channel (plain packet.now) self.old).verdict }
     {
         match packet {
             Packet::Restart { .. } => self.restarts(from, self.layers(from).restarts()),
@@ -321,16 +329,12 @@ impl Book {
     /// Octets that spell no packet: nothing may be said of their channel, or of restarts where they name none.
     fn misses_on(&mut self, from: Role, channel: u16) -> Verdict
         ensures book { self.new ≡ (definition.misses_on from channel self.old).book }
-        ensures rule { result.rule ≡ None }
-        ensures unjudged { result.unjudged ≡ (definition.misses_on from channel self.old).unjudged }
+        ensures verdict { result ≡ (definition.misses_on from channel self.old).verdict }
     {
         let layers = self.layers(from);
         if channel == 0 {
             self.keep(from, layers.unsure());
-            return Verdict {
-                rule: None,
-                unjudged: Some(0),
-            };
+            return passed(Some(0));
         }
         let pair = self.pair(from, layers.are_level(), channel).unknown();
         self.blind(from, channel, pair)
@@ -340,11 +344,10 @@ impl Book {
     #[tactic(auto, unfolding(crate::specs::Book::reads))]
     fn reads(&mut self, from: Role, long_data: bool, octets: &[u8]) -> Verdict
         ensures book { self.new ≡ (definition.reads from long_data octets.now self.old).book }
-        ensures rule { result.rule ≡ (definition.reads from long_data octets.now self.old).rule }
-        ensures unjudged { result.unjudged ≡ (definition.reads from long_data octets.now self.old).unjudged }
+        ensures verdict { result ≡ (definition.reads from long_data octets.now self.old).verdict }
     {
         let Some(channel) = channel(octets) else {
-            return told(None);
+            return passed(None);
         };
         match decode_within(longest_user(long_data), octets) {
             Ok(packet) => self.takes(from, channel, &packet),
@@ -370,15 +373,14 @@ impl Book {
     #[tactic(auto, unfolding(crate::specs::Book::moves))]
     fn moves(&mut self, from: Role, long_data: bool, number: u8, octets: &[u8]) -> Verdict
         ensures book { self.new ≡ (definition.moves from long_data number octets.now self.old).book }
-        ensures rule { result.rule ≡ (definition.moves from long_data number octets.now self.old).rule }
-        ensures unjudged { result.unjudged ≡ (definition.moves from long_data number octets.now self.old).unjudged }
+        ensures verdict { result ≡ (definition.moves from long_data number octets.now self.old).verdict }
     {
         let layers = self.layers(from);
         self.keep(from, layers.moves(number));
         if layers.may_judge(number) {
             self.reads(from, long_data, octets)
         } else {
-            told(None)
+            passed(None)
         }
     }
 
@@ -427,12 +429,11 @@ impl Book {
         is_broken: bool,
     ) -> Verdict
         ensures book { self.new ≡ (definition.sends_info from long_data numbers.0 numbers.1 octets.now is_broken self.old).book }
-        ensures rule { result.rule ≡ (definition.sends_info from long_data numbers.0 numbers.1 octets.now is_broken self.old).rule }
-        ensures unjudged { result.unjudged ≡ (definition.sends_info from long_data numbers.0 numbers.1 octets.now is_broken self.old).unjudged }
+        ensures verdict { result ≡ (definition.sends_info from long_data numbers.0 numbers.1 octets.now is_broken self.old).verdict }
     {
         if is_broken {
             self.keep(from, self.layers(from).lost());
-            told(None)
+            passed(None)
         } else {
             self.hears(from, numbers.1);
             self.moves(from, long_data, numbers.0, octets)
@@ -443,8 +444,7 @@ impl Book {
     #[tactic(auto, unfolding(crate::specs::Book::sees))]
     pub fn sees(&mut self, from: Role, long_data: bool, frame: &Frame, is_broken: bool) -> Verdict
         ensures book { self.new ≡ (definition.sees from long_data (plain_frame frame.now) is_broken self.old).book }
-        ensures rule { result.rule ≡ (definition.sees from long_data (plain_frame frame.now) is_broken self.old).rule }
-        ensures unjudged { result.unjudged ≡ (definition.sees from long_data (plain_frame frame.now) is_broken self.old).unjudged }
+        ensures verdict { result ≡ (definition.sees from long_data (plain_frame frame.now) is_broken self.old).verdict }
     {
         match frame {
             Frame::I { ns, nr, info, .. } => self.info(
@@ -456,25 +456,25 @@ impl Book {
             ),
             Frame::Rr { nr, .. } | Frame::Rnr { nr, .. } | Frame::Rej { nr, .. } => {
                 self.hears(from, nr.get());
-                told(None)
+                passed(None)
             }
             Frame::Sabm { .. } => {
                 self.begins(from, self.layers(from).asks());
-                told(None)
+                passed(None)
             }
             Frame::Ua { .. } => {
                 self.accepts_if(from, is_broken);
-                told(None)
+                passed(None)
             }
             Frame::Dm { .. } => {
                 self.keep(from, self.layers(from).declines());
-                told(None)
+                passed(None)
             }
             Frame::Disc { .. } => {
                 self.keep(from, self.layers(from).leaves());
-                told(None)
+                passed(None)
             }
-            Frame::Frmr { .. } => told(None),
+            Frame::Frmr { .. } => passed(None),
         }
     }
 

@@ -9,7 +9,7 @@ use Rattle.x25_settings.specs.declared.options.Judging.{Judging}
 use Rattle.x25_settings.specs.declared.options.Place.{Place}
 use Rattle.x25_settings.specs.declared.options.Chosen.{Chosen}
 use Rattle.x25_settings.specs.declared.options.Flag.{Flag}
-use Rattle.x25_settings.specs.declared.options.Flag.TheVariants.{Down, Long, Tap}
+use Rattle.x25_settings.specs.declared.options.Flag.TheVariants.{Down, Long, Tap, Strict}
 use Rattle.x25_settings.specs.declared.options.Numbered.{Numbered}
 use Rattle.x25_settings.specs.declared.options.Numbered.TheVariants.{Window, Tries, Channels}
 pub mod Choosing
@@ -18,6 +18,7 @@ abbrev pub flag_word : Flag → List ℕ
 flag_word Down = codes "--down"
 flag_word Long = codes "--long"
 flag_word Tap = codes "--tap"
+flag_word Strict = codes "--strict"
 
 abbrev pub word_of : Numbered → List ℕ
 word_of Window = codes "--k"
@@ -46,7 +47,7 @@ words_of (flag x) = flag_word x ∷ []
 words_of (number x n) = word_of x ∷ decimal n ∷ []
 
 abbrev pub nothing : Chosen
-nothing = record { down = false; long = false; tap = false; k = None; n2 = None; channels = None }
+nothing = record { down = false; long = false; tap = false; strict = false; k = None; n2 = None; channels = None }
 
 abbrev pub chosen_number : Chosen → Numbered → Option ℕ
 chosen_number c Window = c.k
@@ -57,16 +58,18 @@ abbrev pub chosen_flag : Chosen → Flag → Bool
 chosen_flag c Down = c.down
 chosen_flag c Long = c.long
 chosen_flag c Tap = c.tap
+chosen_flag c Strict = c.strict
 
 abbrev pub with_flag : Chosen → Flag → Chosen
-with_flag c Down = record { down = true; long = c.long; tap = c.tap; k = c.k; n2 = c.n2; channels = c.channels }
-with_flag c Long = record { down = c.down; long = true; tap = c.tap; k = c.k; n2 = c.n2; channels = c.channels }
-with_flag c Tap = record { down = c.down; long = c.long; tap = true; k = c.k; n2 = c.n2; channels = c.channels }
+with_flag c Down = record { down = true; long = c.long; tap = c.tap; strict = c.strict; k = c.k; n2 = c.n2; channels = c.channels }
+with_flag c Long = record { down = c.down; long = true; tap = c.tap; strict = c.strict; k = c.k; n2 = c.n2; channels = c.channels }
+with_flag c Tap = record { down = c.down; long = c.long; tap = true; strict = c.strict; k = c.k; n2 = c.n2; channels = c.channels }
+with_flag c Strict = record { down = c.down; long = c.long; tap = c.tap; strict = true; k = c.k; n2 = c.n2; channels = c.channels }
 
 abbrev pub with_number : Chosen → Numbered → ℕ → Chosen
-with_number c Window n = record { down = c.down; long = c.long; tap = c.tap; k = Some n; n2 = c.n2; channels = c.channels }
-with_number c Tries n = record { down = c.down; long = c.long; tap = c.tap; k = c.k; n2 = Some n; channels = c.channels }
-with_number c Channels n = record { down = c.down; long = c.long; tap = c.tap; k = c.k; n2 = c.n2; channels = Some n }
+with_number c Window n = record { down = c.down; long = c.long; tap = c.tap; strict = c.strict; k = Some n; n2 = c.n2; channels = c.channels }
+with_number c Tries n = record { down = c.down; long = c.long; tap = c.tap; strict = c.strict; k = c.k; n2 = Some n; channels = c.channels }
+with_number c Channels n = record { down = c.down; long = c.long; tap = c.tap; strict = c.strict; k = c.k; n2 = c.n2; channels = Some n }
 
 abbrev pub with_choice : Chosen → Choice → Chosen
 with_choice c (flag x) = with_flag c x
@@ -96,21 +99,21 @@ abbrev pub settled_at : End → Chosen → Place
 settled_at end c = record { end = end; long = c.long; k = chosen_or_default c Window; n2 = chosen_or_default c Tries; channels = chosen_or_default c Channels }
 
 abbrev pub judging_in : Chosen → Judging
-judging_in c = record { long = c.long; k = chosen_or_default c Window }
+judging_in c = record { long = c.long; strict = c.strict; k = chosen_or_default c Window }
 
 -- these words choose this
 abbrev pub Choose : List (List ℕ) → Chosen → Type 0
 Choose words end = (choices : List Choice) × (words ≡ flat_map words_of choices) × Leads nothing choices end
 
--- the words are plain, and they say this
+-- the words are plain, and they say this; of the options `--strict` is none
 abbrev pub SaySimulation : List (List ℕ) → Simulation → Type 0
-SaySimulation words s = (end : Chosen) × Choose words end × (s ≡ settled end)
+SaySimulation words s = (end : Chosen) × Choose words end × (end.strict ≡ false) × (s ≡ settled end)
 
 abbrev pub end_word : End → List ℕ
 end_word Dte = codes "dte"
 end_word Dce = codes "dce"
 
--- the first word is the end, and of the options `--down` and `--tap` are none
+-- the first word is the end, and of the options `--down`, `--tap` and `--strict` are none
 pub record SayPlace (words : List (List ℕ)) (p : Place) : Type 0 where
   pub rest : List (List ℕ)
   pub end : Chosen
@@ -118,9 +121,10 @@ pub record SayPlace (words : List (List ℕ)) (p : Place) : Type 0 where
   pub choose : Choose rest end
   pub no_down : end.down ≡ false
   pub no_tap : end.tap ≡ false
+  pub no_strict : end.strict ≡ false
   pub same : p ≡ settled_at p.end end
 
--- of the options `--k` and `--long` are there alone
+-- of the options `--k`, `--long` and `--strict` are there alone
 pub record SayJudging (words : List (List ℕ)) (g : Judging) : Type 0 where
   pub end : Chosen
   pub choose : Choose words end

@@ -1,7 +1,7 @@
 //! The words behind `sim`, `station`, `judge` and `deframe`.
 ghost use Rattle.std.specs.Prelude.{◌≡◌, ◌<◌, ◌↔◌, ◌∷◌, [], IfSome, MatchOption, IsTrue, decimal, map, length};
 ghost use Rattle.std.specs.Str.{bytes_eq};
-ghost use Rattle.x25_settings.specs.Options.Choosing.{chosen_in, end_in, flag_in, judge_in, judging_of, number_in};
+ghost use Rattle.x25_settings.specs.Options.Choosing.{chosen_in, end_in, flag_in, judge_in, judging_of, number_in, simulated};
 ghost use Rattle.x25_settings.specs.Options.Choosing.{numbered_in, placed, put_flag, put_number, simulation_in};
 ghost use Rattle.x25_settings.specs.Options.Choosing.{station_in};
 ghost use Rattle.x25_settings.specs.Options.{default_of, most_of, nothing, settled};
@@ -53,6 +53,8 @@ pub struct Place {
 pub struct Judging {
     /// A CALL has up to 128 octets of user data, in place of up to 16.
     pub long: bool,
+    /// What isn't judged makes the status 1 too.
+    pub strict: bool,
     /// The window of the link, 1 to 7.
     pub k: u8,
 }
@@ -63,6 +65,7 @@ enum Flag {
     Down,
     Long,
     Tap,
+    Strict,
 }
 
 /// The options that have a number.
@@ -121,6 +124,7 @@ struct Chosen {
     down: bool,
     long: bool,
     tap: bool,
+    strict: bool,
     k: Option<u8>,
     n2: Option<u8>,
     channels: Option<u8>,
@@ -141,6 +145,8 @@ fn flag_option(word: &str) -> Option<Flag>
         Some(Flag::Long)
     } else if is(word, "--tap") {
         Some(Flag::Tap)
+    } else if is(word, "--strict") {
+        Some(Flag::Strict)
     } else {
         None
     }
@@ -200,6 +206,10 @@ impl Chosen {
             Flag::Down if !self.down => Some(Chosen { down: true, ..self }),
             Flag::Long if !self.long => Some(Chosen { long: true, ..self }),
             Flag::Tap if !self.tap => Some(Chosen { tap: true, ..self }),
+            Flag::Strict if !self.strict => Some(Chosen {
+                strict: true,
+                ..self
+            }),
             _ => None,
         }
     }
@@ -231,11 +241,22 @@ impl Chosen {
         }
     }
 
-    /// At an end, with the defaults for the rest, where nothing was chosen that `sim` alone has.
+    /// Of a simulation, with the defaults for the rest, where nothing was chosen that `judge` alone has.
+    fn simulated(self) -> Option<Simulation>
+        ensures { result ≡ simulated self }
+    {
+        if self.strict {
+            None
+        } else {
+            Some(self.with_defaults())
+        }
+    }
+
+    /// At an end, with the defaults for the rest, where nothing was chosen that `sim` or `judge` alone has.
     fn at(self, end: End) -> Option<Place>
         ensures { result ≡ placed end self }
     {
-        if self.down || self.tap {
+        if (self.down || self.tap) || self.strict {
             return None;
         }
         let rest = self.with_defaults();
@@ -260,6 +281,7 @@ impl Chosen {
                 let rest = self.with_defaults();
                 Some(Judging {
                     long: rest.long,
+                    strict: self.strict,
                     k: rest.k,
                 })
             }
@@ -301,6 +323,7 @@ fn choose<S: AsStr>(words: &[S]) -> Option<Chosen>
         down: false,
         long: false,
         tap: false,
+        strict: false,
         k: None,
         n2: None,
         channels: None,
@@ -323,8 +346,7 @@ fn choose<S: AsStr>(words: &[S]) -> Option<Chosen>
 pub(crate) fn read_simulation<S: AsStr>(words: &[S]) -> Option<Simulation>
     ensures { result ≡ simulation_in (map S.text words.now) }
 {
-    let chosen = choose(words)?;
-    Some(chosen.with_defaults())
+    choose(words)?.simulated()
 }
 
 /// What the words behind `judge` say, where they are plain.

@@ -101,6 +101,14 @@ fn wide_option<'a>(alloc: Global) -> Arg<'a> {
         )
 }
 
+/// That what isn't judged counts.
+fn strict_option<'a>(alloc: Global) -> Arg<'a> {
+    Arg::new(alloc, "strict")
+        .long("strict")
+        .action(ArgAction::SetTrue)
+        .help("Answer status 1 too where a frame or a packet wasn't judged")
+}
+
 /// The tries of the link.
 fn tries_option<'a>(alloc: Global) -> Arg<'a> {
     number_option(
@@ -198,7 +206,8 @@ fn judge_command<'a>(alloc: Global) -> Result<Command<'a>, AllocError> {
         .override_usage("x25 judge [OPTIONS] < TRACE")
         .after_help(JUDGE_EXAMPLE);
     let command = with_arg(Ok(command), window_option(alloc));
-    with_arg(command, long_option(alloc))
+    let command = with_arg(command, long_option(alloc));
+    with_arg(command, strict_option(alloc))
 }
 
 fn deframe_command<'a>(alloc: Global) -> Result<Command<'a>, AllocError> {

@@ -20,7 +20,7 @@ const PLACE: Place = Place {
 
 #[test]
 fn takes_plain_words_alone(rt: HostRuntime) {
-    let plain: [(&[&str], Task); 20] = [
+    let plain: [(&[&str], Task); 21] = [
         (
             &["decode"],
             Task::Decode {
@@ -108,10 +108,29 @@ fn takes_plain_words_alone(rt: HostRuntime) {
         (&["deframe", "dte"], Task::Deframe(End::Dte)),
         (&["deframe", "dce"], Task::Deframe(End::Dce)),
         (&["frame"], Task::Frame),
-        (&["judge"], Task::Judge(Judging { long: false, k: 7 })),
+        (
+            &["judge"],
+            Task::Judge(Judging {
+                long: false,
+                strict: false,
+                k: 7,
+            }),
+        ),
+        (
+            &["judge", "--strict"],
+            Task::Judge(Judging {
+                long: false,
+                strict: true,
+                k: 7,
+            }),
+        ),
         (
             &["judge", "--long", "--k", "1"],
-            Task::Judge(Judging { long: true, k: 1 }),
+            Task::Judge(Judging {
+                long: true,
+                strict: false,
+                k: 1,
+            }),
         ),
         (&["station", "dte"], Task::Station(PLACE)),
         (
@@ -233,7 +252,7 @@ const SIM: &str =
 
 /// The help of `judge`.
 const JUDGE: &str =
-    "Answer lines of a trace of both ends as `decode` does, and say which end broke which rule\n\nUsage: x25 judge [OPTIONS] < TRACE\n\nOptions:\n      --k <N>  The window of the link: 1 to 7 [default: 7]\n      --long   Take up to 128 octets of user data in a CALL, in place of 16\n  -h, --help   Print help\n\nExamples:\n  x25 judge < examples/exchange.trace\n  x25 sim --tap < examples/losses.script | grep '^[<>]' | x25 judge\n";
+    "Answer lines of a trace of both ends as `decode` does, and say which end broke which rule\n\nUsage: x25 judge [OPTIONS] < TRACE\n\nOptions:\n      --k <N>   The window of the link: 1 to 7 [default: 7]\n      --long    Take up to 128 octets of user data in a CALL, in place of 16\n      --strict  Answer status 1 too where a frame or a packet wasn't judged\n  -h, --help    Print help\n\nExamples:\n  x25 judge < examples/exchange.trace\n  x25 sim --tap < examples/losses.script | grep '^[<>]' | x25 judge\n";
 
 #[test]
 fn says_what_is_wrong(rt: HostRuntime) -> Result<(), Fail> {

@@ -1,6 +1,6 @@
-use Rattle.std.proofs.Common.{◌≡◌, ◌∙◌, Bool, [], true, false, ap, refl, if◌then◌else◌}
+use Rattle.std.proofs.Common.{◌≡◌, ◌∙◌, Bool, true, false, ap, refl, if◌then◌else◌}
 use mir.Val.{bool_byte}
-use Rattle.x25_judge.proofs.StreamLemmas.{ended, part_written}
+use Rattle.x25_judge.proofs.StreamLemmas.{ended, end_failed}
 use Rattle.x25_judge.proofs.answerer.AnswererLineTaker.end.Goals as goal
 
 byte_is : (b : Bool) → bool_byte b ≡ (if b then 1 else 0)
@@ -9,8 +9,8 @@ byte_is false = refl
 
 pub returns-in-Ok-clause-all : goal.returns-in-Ok-clause-all
 returns-in-Ok-clause-all g c = λ j old input h.
-    let done = ended j old _ _ input c.args.self.now c.flush.new.self h (c.in-Ok.ensures.tells old h.told h.tells) c.in-Ok.ensures.empty in
-    (done.0, c.from.ensures ∙ ap bool_byte done.1 ∙ byte_is _)
+    let done = ended j old _ _ input c.args.self.now c.finish.new.self.output h (c.in-Ok.ensures.tells old h.told h.tells) c.in-Ok.ensures.empty in
+    (done.0, c.from.ensures ∙ ap bool_byte (c.finish.ensures.is_faulty ∙ done.1) ∙ byte_is _)
 
 pub returns-in-Err-clause-all : goal.returns-in-Err-clause-all
-returns-in-Err-clause-all g c = λ j old input h. part_written j old _ _ input c.args.self.now [] h (c.in-Err.ensures.tells old h.told h.tells)
+returns-in-Err-clause-all g c = λ j old input h. end_failed j old _ _ input c.args.self.now h (c.in-Err.ensures.tells old h.told h.tells)
