@@ -2,3 +2,4 @@ pub mod FacilityLemmas
 pub mod FoundLaws
 pub mod AgainLaws
 pub mod NarrowLaws
+pub mod NarrowRange

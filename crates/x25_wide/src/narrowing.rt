@@ -1,10 +1,13 @@
 //! What a station takes a packet for: one of those that it writes itself.
-ghost use Rattle.std.specs.Prelude.{◌≡◌};
+ghost use Rattle.std.specs.Prelude.{◌≡◌, ℕ, IfOk};
+ghost use Rattle.x25_packet.specs.Facilities.{IsFacilityField};
 ghost use Rattle.x25_packet.specs.Packet.{plain as plain_written};
 ghost use Rattle.x25_wide.specs.Block.{plain_fields};
 ghost use Rattle.x25_wide.specs.Narrowing.{HasDigits, are_within, field_in, field_said, field_taken, reason_taken};
 ghost use Rattle.x25_wide.specs.Narrowing.{user_taken, with_field};
-ghost use Rattle.x25_wide.specs.Packet.{plain_kind};
+ghost use Rattle.x25_packet.specs.Spelling.{IsInRange};
+ghost use Rattle.x25_wide.specs.Packet.{plain, plain_kind};
+ghost use Rattle.x25_wide.specs.Packet.Spelling.{IsPacket};
 ghost use Rattle.x25_wide.specs.Reading.{Gives};
 
 use crate::block::Fields;
@@ -85,18 +88,25 @@ fn field_taken(fields: &Option<Fields>) -> Result<NarrowField, PacketError>
     }
 }
 
+fn field_in(packet: &WidePacket) -> Result<NarrowField, PacketError>
+    ensures { result ≡ field_in (plain_kind packet.now.kind) }
+{
+    match &packet.kind {
+        Kind::Call { block } => field_taken(&block.fields),
+        Kind::Accept { block: Some(block) } => field_taken(&block.fields),
+        _ => field_taken(&None),
+    }
+}
+
 impl NarrowField {
     /// The facility field of what a packet is taken for: the facilities before a marker that a station knows.
     ///
     /// 26: a packet size or window size out of its range.
     pub fn of(packet: &WidePacket) -> Result<NarrowField, PacketError>
-        ensures { result ≡ field_in (plain_kind packet.now.kind) }
+        ensures exact { result ≡ field_in (plain_kind packet.now.kind) }
+        ensures field { IfOk result (λ field. IsFacilityField field) }
     {
-        match &packet.kind {
-            Kind::Call { block } => field_taken(&block.fields),
-            Kind::Accept { block: Some(block) } => field_taken(&block.fields),
-            _ => field_taken(&None),
-        }
+        field_in(packet)
     }
 
     /// The octets.
@@ -121,10 +131,7 @@ fn user_taken<'a>(fields: &Option<Fields<'a>>) -> &'a [u8]
     }
 }
 
-/// What a station takes the packet for, with the field that `NarrowField::of` has for it.
-///
-/// 22: REJ, DIAGNOSTIC and REGISTRATION, which a station doesn't know.
-pub fn narrow<'a>(
+fn with_field<'a>(
     packet: &WidePacket<'a>,
     field: &'a NarrowField,
 ) -> Result<Packet<'a>, PacketError>
@@ -188,4 +195,21 @@ pub fn narrow<'a>(
         | Kind::Registration { .. }
         | Kind::RegistrationConf { .. } => Err(PacketError::Unidentified),
     }
+}
+
+/// What a station takes the packet for, with the field that `NarrowField::of` has for it.
+///
+/// 22: REJ, DIAGNOSTIC and REGISTRATION, which a station doesn't know.
+pub fn narrow<'a>(
+    packet: &WidePacket<'a>,
+    field: &'a NarrowField,
+) -> Result<Packet<'a>, PacketError>
+    requires { HasDigits (plain_kind packet.now.kind) }
+    ensures exact { Gives plain_written result (with_field packet.now.channel packet.now.q
+        (plain_kind packet.now.kind) field.now) }
+    // Its fields are in their ranges, so that it can be spelled.
+    ensures range { (most : ℕ) → IsPacket most (plain packet.now) → IsFacilityField field.now
+        → IfOk result (λ p. IsInRange 128 (plain_written p)) }
+{
+    with_field(packet, field)
 }

@@ -1,0 +1,124 @@
+-- What a packet is taken for is in its ranges.
+use Rattle.std.proofs.Common.{ℕ, ◌/◌, ◌%◌, ◌≤◌, ◌≡◌, Bool, true, List, [], length, refl, sym, subst, inl, inr, arith, Option, Some, None, Result, Ok, Err, IfOk}
+use Rattle.std.specs.Prelude.{nat_le, ◌&&◌}
+use Rattle.std.proofs.lemmas.Bool.{and_parts, leb-true}
+use Rattle.x25_packet.proofs.AddressLaws.{address_at, block_when}
+use Rattle.x25_packet.specs.Digits.{IsAddress, halves_at}
+use Rattle.x25_packet.specs.Facilities as strict_field
+use Rattle.x25_packet.specs.Packet as strict
+use Rattle.x25_packet.specs.Spelling as strict_spelling
+use Rattle.x25_packet.specs.declared.error.PacketError.{PacketError}
+use Rattle.x25_packet.specs.declared.facilities.Directions.{Directions}
+use Rattle.x25_wide.specs.Block.{AreDigits, MayBeFields, PlainBlock, PlainFields, count_of}
+use Rattle.x25_wide.specs.Facilities.{none_own, own_in}
+use Rattle.x25_wide.specs.Narrowing.{are_within, field_in, field_said, field_taken, user_taken, with_field}
+use Rattle.x25_wide.specs.Packet.{PlainKind, call, accept, clear, extended_clear, clear_conf, user_data, rr, rnr, rej, interrupt, interrupt_conf, reset, reset_conf, restart, restart_conf, diagnostic, registration, registration_conf}
+use Rattle.x25_wide.specs.Packet.Spelling.{HasPlace, IsKind}
+use Rattle.x25_wide.specs.Reading.{Gives}
+use Rattle.x25_wide.specs.declared.facilities.Own.{Own}
+use Rattle.x25_wide.proofs.FoundLaws.{chosen, ok_err, ok_same}
+
+-- ---- the facility field
+
+given : (least most : ℕ) (o : Option Directions) → are_within least most o ≡ true → strict_field.IfGiven o (strict_field.AreWithin least most)
+given least most None h = tt
+given least most (Some v) h =
+    let parts = and_parts (strict_field.is_within least most v.called) (strict_field.is_within least most v.calling) h in
+    let first = and_parts (nat_le least v.called) (nat_le v.called most) parts.0 in
+    let second = and_parts (nat_le least v.calling) (nat_le v.calling most) parts.1 in
+    record {
+      called_least = leb-true _ _ first.0;
+      called_most = leb-true _ _ first.1;
+      calling_least = leb-true _ _ second.0;
+      calling_most = leb-true _ _ second.1;
+    }
+
+no_field : strict_field.IsFacilityField []
+no_field = (record { packet_size = None; window_size = None }, record { sizes = tt; windows = tt }, refl)
+
+said_fits : (own : Own) (field : List ℕ) → field_said own ≡ Ok field → strict_field.IsFacilityField field
+said_fits own field e = elim (chosen (are_within 4 12 own.packet_size && are_within 1 7 own.window_size) _ _ _ e) [
+  | inl p ↦
+      let parts = and_parts (are_within 4 12 own.packet_size) (are_within 1 7 own.window_size) p.0 in (
+        record { packet_size = own.packet_size; window_size = own.window_size },
+        record { sizes = given 4 12 own.packet_size parts.0; windows = given 1 7 own.window_size parts.1 },
+        sym (ok_same p.1),
+      )
+  | inr p ↦ absurd (ok_err p.1)
+]
+
+taken_fits : (f : Option PlainFields) (field : List ℕ) → field_taken f ≡ Ok field → strict_field.IsFacilityField field
+taken_fits None field e = subst strict_field.IsFacilityField (ok_same e) no_field
+taken_fits (Some f) field e = said_fits (own_in none_own 0 f.facilities) field e
+
+nothing_fits : (field : List ℕ) → (let r : Result (List ℕ) PacketError = Ok [] in r ≡ Ok field) → strict_field.IsFacilityField field
+nothing_fits field e = subst strict_field.IsFacilityField (ok_same e) no_field
+
+pub field_fits : (k : PlainKind) (field : List ℕ) → field_in k ≡ Ok field → strict_field.IsFacilityField field
+field_fits (call block) field e = taken_fits block.fields field e
+field_fits (accept None) field e = nothing_fits field e
+field_fits (accept (Some block)) field e = taken_fits block.fields field e
+field_fits (clear cause reason) field e = nothing_fits field e
+field_fits (extended_clear cause reason block) field e = nothing_fits field e
+field_fits (clear_conf block) field e = nothing_fits field e
+field_fits (user_data m ps pr user) field e = nothing_fits field e
+field_fits (rr pr) field e = nothing_fits field e
+field_fits (rnr pr) field e = nothing_fits field e
+field_fits (rej pr) field e = nothing_fits field e
+field_fits (interrupt user) field e = nothing_fits field e
+field_fits interrupt_conf field e = nothing_fits field e
+field_fits (reset cause reason) field e = nothing_fits field e
+field_fits reset_conf field e = nothing_fits field e
+field_fits (restart cause reason) field e = nothing_fits field e
+field_fits restart_conf field e = nothing_fits field e
+field_fits (diagnostic number explanation) field e = nothing_fits field e
+field_fits (registration octets) field e = nothing_fits field e
+field_fits (registration_conf octets) field e = nothing_fits field e
+
+-- ---- the packet
+
+user_few : (f : Option PlainFields) → MayBeFields 128 f → length (user_taken f) ≤ 128
+user_few None h = omega arith
+user_few (Some f) h = h.short
+
+called_address : (b : PlainBlock) → AreDigits b → IsAddress (halves_at b.digits 0 (b.lengths % 16))
+called_address b h =
+    let size = h.size in
+    address_at (count_of b.lengths) 0 (b.lengths % 16) b.digits (block_when (count_of b.lengths) b.digits h.decimal) (omega arith) (omega arith)
+
+calling_address : (b : PlainBlock) → AreDigits b → IsAddress (halves_at b.digits (b.lengths % 16) (b.lengths / 16))
+calling_address b h =
+    let size = h.size in
+    let few = h.few in
+    address_at (count_of b.lengths) (b.lengths % 16) (b.lengths / 16) b.digits (block_when (count_of b.lengths) b.digits h.decimal) (omega arith) (omega arith)
+
+abbrev InRange : Result strict.PlainPacket PacketError → Type 0
+InRange (Ok v) = strict_spelling.IsInRange 128 v
+InRange (Err e) = Unit {0}
+
+pub in_range : (most channel : ℕ) (q : Bool) (k : PlainKind) (field : List ℕ) → channel ≤ 4095 → HasPlace channel k → IsKind most k
+    → strict_field.IsFacilityField field → InRange (with_field channel q k field)
+in_range most channel q (call block) field few place h f =
+    ((place, few), called_address block h.0.digits, calling_address block h.0.digits, f, user_few block.fields h.0.fields)
+in_range most channel q (accept block) field few place h f = ((place, few), f)
+in_range most channel q (clear cause reason) field few place h f = (place, few)
+in_range most channel q (extended_clear cause reason block) field few place h f = (place, few)
+in_range most channel q (clear_conf block) field few place h f = (place, few)
+in_range most channel q (user_data m ps pr user) field few place h f = ((place, few), h.0, h.1, h.2)
+in_range most channel q (rr pr) field few place h f = ((place, few), h)
+in_range most channel q (rnr pr) field few place h f = ((place, few), h)
+in_range most channel q (rej pr) field few place h f = tt
+in_range most channel q (interrupt user) field few place h f = ((place, few), h.0, h.1)
+in_range most channel q interrupt_conf field few place h f = (place, few)
+in_range most channel q (reset cause reason) field few place h f = (place, few)
+in_range most channel q reset_conf field few place h f = (place, few)
+in_range most channel q (restart cause reason) field few place h f = tt
+in_range most channel q restart_conf field few place h f = tt
+in_range most channel q (diagnostic number explanation) field few place h f = tt
+in_range most channel q (registration octets) field few place h f = tt
+in_range most channel q (registration_conf octets) field few place h f = tt
+
+pub given_in_range : {A : Type 0} (plain : A → strict.PlainPacket) (r : Result A PacketError) (read : Result strict.PlainPacket PacketError) → Gives plain r read → InRange read
+    → IfOk r (λ p. strict_spelling.IsInRange 128 (plain p))
+given_in_range plain (Ok p) read e h = subst InRange e h
+given_in_range plain (Err x) read e h = tt
