@@ -115,7 +115,12 @@ params_in text = do
   size_calling ← small_number_in second.0
   win_called ← small_number_in third.0
   win_calling ← small_number_in third.1
-  Some (record { size_called = size_called; size_calling = size_calling; win_called = win_called; win_calling = win_calling })
+  Some (record {
+    size_called = size_called;
+    size_calling = size_calling;
+    win_called = win_called;
+    win_calling = win_calling;
+  })
 
 -- of a text and its parts at the first blank
 abbrev pub with_params_of : List ℕ → Option (List ℕ × List ℕ) → Option (List ℕ × Option Params)

@@ -1,6 +1,7 @@
--- What the simulator does with a script (profile): each line is an event of a world of two stations, `drain` and `heal` several events,
--- and what happens is said.
-use Rattle.std.specs.Prelude.{ℕ, zero, suc, nat_le, Bool, true, false, List, [], ◌∷◌, ◌++◌, length, drop, map, if◌then◌else◌, Option, Some, None}
+-- What the simulator does with a script (profile): each line is an event of a world of two stations, `drain` and `heal`
+-- several events, and what happens is said.
+use Rattle.std.specs.Prelude.{ℕ, zero, suc, nat_le, Bool, true, false, List, [], ◌∷◌, ◌++◌, length, drop, map}
+use Rattle.std.specs.Prelude.{if◌then◌else◌, Option, Some, None}
 use Rattle.x25_bits.specs.Role.{other}
 use Rattle.x25_bits.specs.declared.role.Role.{Role}
 use Rattle.x25_bits.specs.declared.role.Role.TheVariants.{Dte, Dce}
@@ -10,7 +11,8 @@ use Rattle.x25_script.specs.Reading.{line_in}
 use Rattle.x25_io.specs.Lines.{lines_of}
 use Rattle.x25_console.specs.Commands.{command_asked}
 use Rattle.x25_io.specs.HeldLine.{most_line}
-use Rattle.x25_world.specs.World.{World, OnTap, AtEnd, Event, Act, Commands, Receives, Fires, Loses, Damages, WorldOutcome, Happened, Declined, happens, start, connected}
+use Rattle.x25_world.specs.World.{World, OnTap, AtEnd, Event, Act, Commands, Receives, Fires, Loses, Damages}
+use Rattle.x25_world.specs.World.{WorldOutcome, Happened, Declined, happens, start, connected}
 use Rattle.x25_world.specs.Healing.{next_end}
 use Rattle.x25_sim.specs.Telling.{Saying, enters, taps, reads_nothing, refuses, sayings_text, has_refusal}
 
@@ -72,7 +74,8 @@ tried cfg tap e w = tried_of tap w (happens cfg w e)
 
 -- this act at the DTE, and then at the DCE
 unfoldable pub both_tried : Cfg → Bool → Act → World → Turn
-both_tried cfg tap act w = and_then (tried cfg tap (record { at = Dce; act = act })) (tried cfg tap (record { at = Dte; act = act }) w)
+both_tried cfg tap act w = and_then (tried cfg tap (record { at = Dce; act = act }))
+    (tried cfg tap (record { at = Dte; act = act }) w)
 
 -- how many deliveries follow one another at most, and how many rounds of them
 abbrev pub most_times : ℕ
@@ -94,7 +97,8 @@ unless_empty rest w (Some at) = rest w
 -- both pulls and what they put, again and again, as long as frames are on the line
 unfoldable pub emptied : Cfg → Bool → ℕ → World → Turn
 emptied cfg tap zero w = quiet w
-emptied cfg tap (suc n) w = and_then (λ v. unless_empty (emptied cfg tap n) v (next_end v.out v.back)) (pulled cfg tap w)
+emptied cfg tap (suc n) w = and_then (λ v. unless_empty (emptied cfg tap n) v (next_end v.out v.back))
+    (pulled cfg tap w)
 
 unfoldable pub healed : Cfg → Bool → World → Turn
 healed cfg tap w = and_then (emptied cfg tap most_times) (fired cfg tap w)
@@ -103,11 +107,13 @@ healed cfg tap w = and_then (emptied cfg tap most_times) (fired cfg tap w)
 
 -- A direction leads away from an end, and frames are delivered, lost and damaged at the other one.
 unfoldable pub line_turn : Cfg → Bool → PlainLine → World → Turn
-line_turn cfg tap (command end asked) w = event_turn cfg tap (record { at = end; act = Commands (command_asked asked) }) w
+line_turn cfg tap (command end asked) w = event_turn cfg tap
+    (record { at = end; act = Commands (command_asked asked) }) w
 line_turn cfg tap (t1 end) w = event_turn cfg tap (record { at = end; act = Fires }) w
 line_turn cfg tap (deliver from) w = event_turn cfg tap (record { at = other from; act = Receives }) w
 line_turn cfg tap (lose from place) w = event_turn cfg tap (record { at = other from; act = Loses place }) w
-line_turn cfg tap (damage from place octets) w = event_turn cfg tap (record { at = other from; act = Damages place octets }) w
+line_turn cfg tap (damage from place octets) w = event_turn cfg tap
+    (record { at = other from; act = Damages place octets }) w
 line_turn cfg tap (drain count) w = drained cfg tap count w
 line_turn cfg tap heal w = healed cfg tap w
 
@@ -135,7 +141,8 @@ connecting cfg tap = record { next = connected cfg; sayings = told_between tap s
 
 -- SABM and UA are delivered: both links are up
 unfoldable pub set_up : Cfg → Bool → Turn
-set_up cfg tap = and_then (event_turn cfg tap (record { at = Dte; act = Receives })) (and_then (event_turn cfg tap (record { at = Dce; act = Receives })) (connecting cfg tap))
+set_up cfg tap = and_then (event_turn cfg tap (record { at = Dte; act = Receives }))
+    (and_then (event_turn cfg tap (record { at = Dce; act = Receives })) (connecting cfg tap))
 
 -- both links are down where the script begins, and nothing is said, or they were just set up
 abbrev pub opened : Cfg → Bool → Bool → Turn

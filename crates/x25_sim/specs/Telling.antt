@@ -11,7 +11,8 @@ use Rattle.x25_world.specs.Error as world
 use Rattle.x25_world.specs.declared.error.WorldError.{WorldError}
 use Rattle.x25_world.specs.declared.error.WorldError.TheVariants.{Station}
 
--- an entry of the transcript; a frame that was put on the line; that a line of the script isn't in the grammar; that an event is refused
+-- an entry of the transcript; a frame that was put on the line; that a line of the script isn't in the grammar; that an
+-- event is refused
 pub data Saying : Type 0 where
   enters : (entry : AtEnd) → Saying
   taps : (frame : OnTap) → Saying

@@ -109,7 +109,8 @@ impl LineTaker for Simulator {
 
     ghost stands = { Simulates };
 
-    ghost ended = { λ a old now lines script. WritesLines a.cfg a.tap old now lines (simulated a.cfg a.down a.tap script) };
+    ghost ended = { λ a old now lines script. WritesLines a.cfg a.tap old now lines
+        (simulated a.cfg a.down a.tap script) };
 
     #[inline(always)]
     fn take_line<W: Sink>(&mut self, line: Option<&[u8]>, writer: &mut W) -> Result<(), Fault> {

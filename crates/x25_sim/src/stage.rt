@@ -25,7 +25,8 @@ pub(crate) struct Stage {
     is_refused: bool,
 }
 
-/// How many deliveries follow one another at most, and how many rounds of them, where frames arrive until there is none.
+/// How many deliveries follow one another at most, and how many rounds of them, where frames arrive until there is
+/// none.
 const MOST_TIMES: u32 = 4_294_967_295;
 
 /// Whether memory was refused.
@@ -69,14 +70,16 @@ pub(crate) fn away_from(end: Role) -> Direction
 }
 
 impl Stage {
-    ghost use Rattle.std.specs.Prelude.{◌≡◌, ◌⊎◌, ◌++◌, true, ℕ, List, Bool, Option, Some, None, [], false, OnOk, OnErr, IfErr, MatchResult, is_none, option_map};
+    ghost use Rattle.std.specs.Prelude.{◌≡◌, ◌⊎◌, ◌++◌, true, ℕ, List, Bool, Option, Some, None, [], false, OnOk};
+    ghost use Rattle.std.specs.Prelude.{OnErr, IfErr, MatchResult, is_none, option_map};
     ghost use Rattle.x25_io.specs.code.MarksFaults.{MarksFaults};
     ghost use Rattle.x25_io.specs.code.Written.{AppendsPrefix, Tells, TellsMore};
     ghost use Rattle.x25_station.specs.declared.config.Cfg.{Cfg as Settings};
     ghost use Rattle.x25_world.specs.World.{World as State, start, entered, tapped, WorldOutcome, event_of, refusal_of};
     ghost use Rattle.x25_world.specs.Healing.{next_end};
     ghost use Rattle.x25_sim.specs.Telling.{taps, sayings_text};
-    ghost use Rattle.x25_sim.specs.Stage.{and_then, asked_turn, drained, emptied, event_turn, fired, healed, most_times, opened, pulled, told_between, tried, turn_of};
+    ghost use Rattle.x25_sim.specs.Stage.{and_then, asked_turn, drained, emptied, event_turn, fired, healed};
+    ghost use Rattle.x25_sim.specs.Stage.{most_times, opened, pulled, told_between, tried, turn_of};
     ghost use Rattle.x25_sim.specs.code.Stands.{IsOpening, Stands, Stood, Turns};
 
     /// The first world, of which nothing was told.
@@ -103,7 +106,8 @@ impl Stage {
 
     /// Tells the frames on the line from an end that stand behind so many that were there before.
     fn tell_put<W: Sink>(&mut self, at: Role, before: usize, writer: &mut W) -> Result<(), Fault>
-        ensures tells { TellsMore result (W.contents writer.old) (W.contents writer.new) self.old.output self.new.output (sayings_text (map taps (tapped at (drop before (line_from self.old.world at))))) }
+        ensures tells { TellsMore result (W.contents writer.old) (W.contents writer.new) self.old.output self.new.output
+            (sayings_text (map taps (tapped at (drop before (line_from self.old.world at))))) }
         ensures world { self.new.world ≡ self.old.world }
         ensures tap { self.new.tap ≡ self.old.tap }
         ensures is_refused { self.new.is_refused ≡ self.old.is_refused }
@@ -113,13 +117,16 @@ impl Stage {
         tell_frames(at, &self.world, away, before, &mut self.output, writer)
     }
 
-    /// Tells the step of an end: its entries, and behind these its frames where they are asked for, which stand on the line behind so many.
+    /// Tells the step of an end: its entries, and behind these its frames where they are asked for, which stand on the
+    /// line behind so many.
     #[inline(always)]
     fn tell_step<W: Sink>(&mut self, at: Role, before: usize, writer: &mut W) -> Result<(), Fault>
-        ensures tells { (old : Option (List ℕ)) (told : List ℕ) (w next : State) → next.transcript ≡ w.transcript ++ entered at (map plain_entry self.old.step.entries.items)
+        ensures tells { (old : Option (List ℕ)) (told : List ℕ) (w next : State) → next.transcript ≡ w.transcript
+            ++ entered at (map plain_entry self.old.step.entries.items)
             → next.tap ≡ w.tap ++ tapped at (drop before (line_from self.old.world at))
             → Tells old (W.contents writer.old) self.old.output told → let sayings = told_between self.old.tap w next in
-            MatchResult result (λ _. Tells old (W.contents writer.new) self.new.output (told ++ sayings_text sayings)) (λ _. AppendsPrefix old (W.contents writer.new) (told ++ sayings_text sayings)) }
+            MatchResult result (λ _. Tells old (W.contents writer.new) self.new.output (told ++ sayings_text sayings))
+            (λ _. AppendsPrefix old (W.contents writer.new) (told ++ sayings_text sayings)) }
         ensures world { self.new.world ≡ self.old.world }
         ensures tap { self.new.tap ≡ self.old.tap }
         ensures is_refused { self.new.is_refused ≡ self.old.is_refused }
@@ -146,8 +153,10 @@ impl Stage {
     /// Tells that an event is refused; want of memory is a fault.
     #[inline(always)]
     fn refuse<W: Sink>(&mut self, error: WorldError, writer: &mut W) -> Result<(), Fault>
-        ensures stood { (cfg : Settings) (tap : Bool) (old : Option (List ℕ)) (w : State) (outcome : WorldOutcome) (told : List ℕ) (refused : Bool)
-            → Stands cfg tap old (W.contents writer.old) self.old w told refused → ((refusal_of outcome ≡ Some error) ⊎ (error ≡ WorldError.NoMemory))
+        ensures stood { (cfg : Settings) (tap : Bool) (old : Option (List ℕ)) (w : State) (outcome : WorldOutcome)
+            (told : List ℕ) (refused : Bool)
+            → Stands cfg tap old (W.contents writer.old) self.old w told refused
+            → ((refusal_of outcome ≡ Some error) ⊎ (error ≡ WorldError.NoMemory))
             → Stood cfg tap old (W.contents writer.new) self.new told refused result (turn_of tap w outcome) }
         ensures faults { MarksFaults W.Sink writer.old writer.new result }
     {
@@ -162,7 +171,8 @@ impl Stage {
     #[inline(always)]
     pub(crate) fn happen<W: Sink>(&mut self, event: Event, writer: &mut W) -> Result<(), Fault>
         ensures turns { (cfg : Settings) (tap : Bool) (old : Option (List ℕ))
-            → Turns cfg tap old (W.contents writer.old) (W.contents writer.new) self.old self.new result (event_turn cfg tap (event_of event.entry)) }
+            → Turns cfg tap old (W.contents writer.old) (W.contents writer.new) self.old self.new result
+            (event_turn cfg tap (event_of event.entry)) }
         ensures faults { MarksFaults W.Sink writer.old writer.new result }
     {
         let at = event.at();
@@ -196,7 +206,8 @@ impl Stage {
     /// At most so many frames are delivered.
     pub(crate) fn drain<W: Sink>(&mut self, count: u32, writer: &mut W) -> Result<(), Fault>
         ensures turns { (cfg : Settings) (tap : Bool) (old : Option (List ℕ))
-            → Turns cfg tap old (W.contents writer.old) (W.contents writer.new) self.old self.new result (drained cfg tap count) }
+            → Turns cfg tap old (W.contents writer.old) (W.contents writer.new) self.old self.new result
+            (drained cfg tap count) }
         ensures faults { MarksFaults W.Sink writer.old writer.new result }
     {
         for _ in 0..count {
@@ -211,7 +222,8 @@ impl Stage {
     /// An event happens, and is told; where it is refused nothing is told.
     fn attempt<W: Sink>(&mut self, event: Event, writer: &mut W) -> Result<(), Fault>
         ensures turns { (cfg : Settings) (tap : Bool) (old : Option (List ℕ))
-            → Turns cfg tap old (W.contents writer.old) (W.contents writer.new) self.old self.new result (tried cfg tap (event_of event.entry)) }
+            → Turns cfg tap old (W.contents writer.old) (W.contents writer.new) self.old self.new result
+            (tried cfg tap (event_of event.entry)) }
         ensures faults { MarksFaults W.Sink writer.old writer.new result }
     {
         let at = event.at();
@@ -247,7 +259,8 @@ impl Stage {
     ) -> Result<(), Fault>
         ensures turns { (cfg : Settings) (tap : Bool) (old : Option (List ℕ))
             → Turns cfg tap old (W.contents writer.old) (W.contents writer.new) self.old self.new result
-            (λ w. and_then (λ v. and_then (tried cfg tap (event_of second.entry)) (tried cfg tap (event_of first.entry) v)) (drained cfg tap most_times w)) }
+            (λ w. and_then (λ v. and_then (tried cfg tap (event_of second.entry)) (tried cfg tap (event_of first.entry) v))
+            (drained cfg tap most_times w)) }
         ensures faults { MarksFaults W.Sink writer.old writer.new result }
     {
         self.drain(MOST_TIMES, writer)?;
@@ -257,7 +270,8 @@ impl Stage {
     /// What is on the line arrives, and then timer T1 runs out at each end where it runs.
     fn fire<W: Sink>(&mut self, writer: &mut W) -> Result<(), Fault>
         ensures turns { (cfg : Settings) (tap : Bool) (old : Option (List ℕ))
-            → Turns cfg tap old (W.contents writer.old) (W.contents writer.new) self.old self.new result (fired cfg tap) }
+            → Turns cfg tap old (W.contents writer.old) (W.contents writer.new) self.old self.new result
+            (fired cfg tap) }
         ensures faults { MarksFaults W.Sink writer.old writer.new result }
     {
         self.deliver_all_then(Event::T1(Role::Dte), Event::T1(Role::Dce), writer)
@@ -266,7 +280,8 @@ impl Stage {
     /// What is on the line arrives, and then each end pulls what waits in its circuits.
     fn pull<W: Sink>(&mut self, writer: &mut W) -> Result<(), Fault>
         ensures turns { (cfg : Settings) (tap : Bool) (old : Option (List ℕ))
-            → Turns cfg tap old (W.contents writer.old) (W.contents writer.new) self.old self.new result (pulled cfg tap) }
+            → Turns cfg tap old (W.contents writer.old) (W.contents writer.new) self.old self.new result
+            (pulled cfg tap) }
         ensures faults { MarksFaults W.Sink writer.old writer.new result }
     {
         self.deliver_all_then(
@@ -279,7 +294,8 @@ impl Stage {
     /// So it goes on as long as that puts frames on the line.
     fn empty<W: Sink>(&mut self, writer: &mut W) -> Result<(), Fault>
         ensures turns { (cfg : Settings) (tap : Bool) (old : Option (List ℕ))
-            → Turns cfg tap old (W.contents writer.old) (W.contents writer.new) self.old self.new result (emptied cfg tap most_times) }
+            → Turns cfg tap old (W.contents writer.old) (W.contents writer.new) self.old self.new result
+            (emptied cfg tap most_times) }
         ensures faults { MarksFaults W.Sink writer.old writer.new result }
     {
         for _ in 0..MOST_TIMES {
@@ -291,11 +307,12 @@ impl Stage {
         Ok(())
     }
 
-    /// The line is good for a moment: what is on it arrives, timer T1 runs out at each end where it runs, and what they send then and what waits in
-    /// the circuits arrives.
+    /// The line is good for a moment: what is on it arrives, timer T1 runs out at each end where it runs, and what they
+    /// send then and what waits in the circuits arrives.
     pub(crate) fn heal<W: Sink>(&mut self, writer: &mut W) -> Result<(), Fault>
         ensures turns { (cfg : Settings) (tap : Bool) (old : Option (List ℕ))
-            → Turns cfg tap old (W.contents writer.old) (W.contents writer.new) self.old self.new result (healed cfg tap) }
+            → Turns cfg tap old (W.contents writer.old) (W.contents writer.new) self.old self.new result
+            (healed cfg tap) }
         ensures faults { MarksFaults W.Sink writer.old writer.new result }
     {
         self.fire(writer)?;
@@ -305,7 +322,8 @@ impl Stage {
     /// Tells that a line isn't in the grammar.
     pub(crate) fn read_nothing<W: Sink>(&mut self, writer: &mut W) -> Result<(), Fault>
         ensures turns { (cfg : Settings) (tap : Bool) (old : Option (List ℕ))
-            → Turns cfg tap old (W.contents writer.old) (W.contents writer.new) self.old self.new result (λ w. asked_turn cfg tap w None) }
+            → Turns cfg tap old (W.contents writer.old) (W.contents writer.new) self.old self.new result
+            (λ w. asked_turn cfg tap w None) }
         ensures faults { MarksFaults W.Sink writer.old writer.new result }
     {
         self.is_refused = true;
@@ -322,9 +340,11 @@ impl Stage {
     /// Writes what waits.
     pub(crate) fn flush<W: Sink>(&mut self, writer: &mut W) -> Result<(), Fault>
         ensures kept { OnOk result (W.is_marked writer.new ≡ W.is_marked writer.old) }
-        ensures stands { (cfg : Settings) (tap : Bool) (old : Option (List ℕ)) (w : State) (told : List ℕ) (refused : Bool)
+        ensures stands { (cfg : Settings) (tap : Bool) (old : Option (List ℕ)) (w : State) (told : List ℕ)
+            (refused : Bool)
             → Stands cfg tap old (W.contents writer.old) self.old w told refused
-            → MatchResult result (λ _. Stands cfg tap old (W.contents writer.new) self.new w told refused) (λ _. AppendsPrefix old (W.contents writer.new) told) }
+            → MatchResult result (λ _. Stands cfg tap old (W.contents writer.new) self.new w told refused)
+            (λ _. AppendsPrefix old (W.contents writer.new) told) }
         ensures empty { OnOk result (self.new.output ≡ []) }
         ensures is_refused { self.new.is_refused ≡ self.old.is_refused }
         ensures write { IfErr result (λ fault. fault ≡ Fault.Write) }
@@ -335,9 +355,12 @@ impl Stage {
 
     /// Tells the frames of the first world where they are asked for.
     fn begin<W: Sink>(&mut self, writer: &mut W) -> Result<(), Fault>
-        ensures tells { (cfg : Settings) (down : Bool) (old : Option (List ℕ)) (told : List ℕ) → FitsWorld cfg self.old.world (opening cfg down)
-            → Tells old (W.contents writer.old) self.old.output told → let sayings = told_between self.old.tap start (opening cfg down) in
-            MatchResult result (λ _. Tells old (W.contents writer.new) self.new.output (told ++ sayings_text sayings)) (λ _. AppendsPrefix old (W.contents writer.new) (told ++ sayings_text sayings)) }
+        ensures tells { (cfg : Settings) (down : Bool) (old : Option (List ℕ)) (told : List ℕ)
+            → FitsWorld cfg self.old.world (opening cfg down)
+            → Tells old (W.contents writer.old) self.old.output told
+            → let sayings = told_between self.old.tap start (opening cfg down) in
+            MatchResult result (λ _. Tells old (W.contents writer.new) self.new.output (told ++ sayings_text sayings))
+            (λ _. AppendsPrefix old (W.contents writer.new) (told ++ sayings_text sayings)) }
         ensures world { self.new.world ≡ self.old.world }
         ensures tap { self.new.tap ≡ self.old.tap }
         ensures is_refused { self.new.is_refused ≡ self.old.is_refused }
@@ -349,12 +372,13 @@ impl Stage {
         self.tell_put(Role::Dte, 0, writer)
     }
 
-    /// What the first world holds is told, and where the DTE has asked that the link be set up, its SABM and the UA are delivered, and that is
-    /// told.
+    /// What the first world holds is told, and where the DTE has asked that the link be set up, its SABM and the UA are
+    /// delivered, and that is told.
     pub(crate) fn open<W: Sink>(&mut self, writer: &mut W) -> Result<(), Fault>
         ensures stood { (cfg : Settings) (down : Bool) (old : Option (List ℕ)) → IsOpening cfg down self.old
             → self.old.is_refused ≡ false → Tells old (W.contents writer.old) self.old.output []
-            → Stood cfg self.old.tap old (W.contents writer.new) self.new [] false result (opened cfg down self.old.tap) }
+            → Stood cfg self.old.tap old (W.contents writer.new) self.new [] false result
+            (opened cfg down self.old.tap) }
         ensures faults { MarksFaults W.Sink writer.old writer.new result }
     {
         two_stations_keep_order();

@@ -7,8 +7,10 @@ use Rattle.x25_sim.specs.Stage.{Turn}
 use Rattle.x25_sim.specs.code.Stands.{Stands}
 use Rattle.x25_sim.specs.declared.stage.Stage.{Stage}
 
--- From where the simulator stands, `rest` leads to where the whole turn leads that began behind `told`, with the same said in all.
-pub record Leaves (cfg : Cfg) (tap : Bool) (old now : Option (List ℕ)) (s : Stage) (rest : World → Turn) (told : List ℕ) (refused : Bool) (whole : Turn) : Type 0 where
+-- From where the simulator stands, `rest` leads to where the whole turn leads that began behind `told`, with the same
+-- said in all.
+pub record Leaves (cfg : Cfg) (tap : Bool) (old now : Option (List ℕ)) (s : Stage) (rest : World
+    → Turn) (told : List ℕ) (refused : Bool) (whole : Turn) : Type 0 where
   pub at : World
   pub text : List ℕ
   pub status : Bool

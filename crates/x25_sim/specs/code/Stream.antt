@@ -17,10 +17,12 @@ pub record Asked : Type 0 where
 
 -- With `lines` to come the turns of the script are made in the end.
 abbrev pub Simulates : Asked → Simulator → Option (List ℕ) → Option (List ℕ) → List (List ℕ) → List ℕ → Type 0
-Simulates a s old now lines script = Leaves a.cfg a.tap old now s.stage (turns a.cfg a.tap lines) [] false (simulated a.cfg a.down a.tap script)
+Simulates a s old now lines script = Leaves a.cfg a.tap old now s.stage (turns a.cfg a.tap lines) [] false
+    (simulated a.cfg a.down a.tap script)
 
 -- Written is all of the text but what is said of the lines to come.
-pub record WritesLines (cfg : Cfg) (tap : Bool) (old now : Option (List ℕ)) (lines : List (List ℕ)) (whole : Turn) : Type 0 where
+pub record WritesLines (cfg : Cfg) (tap : Bool) (old now : Option (List ℕ)) (lines : List (List ℕ))
+    (whole : Turn) : Type 0 where
   pub at : World
   pub part : List ℕ
   pub appends : Appends old now part

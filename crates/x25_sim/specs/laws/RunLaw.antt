@@ -41,8 +41,8 @@ abbrev pub NoneAsks : List (List ℕ) → Type 0
 NoneAsks [] = Unit {0}
 NoneAsks (line ∷ lines) = IsNoConnectLine (asked_in line) × NoneAsks lines
 
--- these events, each accepted, whose users hand down octets, lead there from where the script begins; and said are the transcript and,
--- where it is asked for, the tap of that run; no event connects where no line asks for it
+-- these events, each accepted, whose users hand down octets, lead there from where the script begins; and said are the
+-- transcript and, where it is asked for, the tap of that run; no event connects where no line asks for it
 pub record IsRun (cfg : Cfg) (down tap : Bool) (script : List ℕ) : Type 0 where
   pub events : List Event
   pub accepted : AreAccepted cfg events (begins cfg down)
@@ -57,29 +57,35 @@ ScriptsAreRuns = (cfg : Cfg) (down tap : Bool) (script : List ℕ) → IsRun cfg
 
 -- what holds of each world to which a script leads, up to the moment at which an end goes up a second time
 abbrev pub OfScripts : (Cfg → World → Type 0) → Type 0
-OfScripts Holds = (cfg : Cfg) → config_refusal cfg ≡ None → (down tap : Bool) (script : List ℕ) → IsUpAtMostOnce cfg (simulated cfg down tap script).next
+OfScripts Holds = (cfg : Cfg) → config_refusal cfg ≡ None → (down tap : Bool) (script : List ℕ)
+    → IsUpAtMostOnce cfg (simulated cfg down tap script).next
     → Holds cfg (simulated cfg down tap script).next
 
 -- the same from a link just set up, which isn't set up anew
 abbrev pub OfScriptsSetUp : (Cfg → World → Type 0) → Type 0
-OfScriptsSetUp Holds = (cfg : Cfg) → config_refusal cfg ≡ None → (tap : Bool) (script : List ℕ) → IsUpOnce cfg (simulated cfg false tap script).next
+OfScriptsSetUp Holds = (cfg : Cfg) → config_refusal cfg ≡ None → (tap : Bool) (script : List ℕ)
+    → IsUpOnce cfg (simulated cfg false tap script).next
     → Holds cfg (simulated cfg false tap script).next
 
 -- by a script in which no line asks for it the link isn't set up anew
 abbrev pub UpOnceUnlessAsked : Type 0
-UpOnceUnlessAsked = (cfg : Cfg) → config_refusal cfg ≡ None → (tap : Bool) (script : List ℕ) → NoneAsks (lines_of script) → IsUpOnce cfg (simulated cfg false tap script).next
+UpOnceUnlessAsked = (cfg : Cfg) → config_refusal cfg ≡ None → (tap : Bool) (script : List ℕ)
+    → NoneAsks (lines_of script) → IsUpOnce cfg (simulated cfg false tap script).next
 
 -- the entries among what is said are the transcript of that world
 abbrev pub ScriptsAreTold : Type 0
-ScriptsAreTold = (cfg : Cfg) (down tap : Bool) (script : List ℕ) → entries_in (simulated cfg down tap script).sayings ≡ (simulated cfg down tap script).next.transcript
+ScriptsAreTold = (cfg : Cfg) (down tap : Bool) (script : List ℕ)
+    → entries_in (simulated cfg down tap script).sayings ≡ (simulated cfg down tap script).next.transcript
 
 -- and the frames, where they are asked for, its tap
 abbrev pub ScriptsAreTapped : Type 0
-ScriptsAreTapped = (cfg : Cfg) (down : Bool) (script : List ℕ) → frames_in (simulated cfg down true script).sayings ≡ (simulated cfg down true script).next.tap
+ScriptsAreTapped = (cfg : Cfg) (down : Bool) (script : List ℕ)
+    → frames_in (simulated cfg down true script).sayings ≡ (simulated cfg down true script).next.tap
 
 -- what holds of each world to which a script leads, over set-up and re-set-up at any moment
 abbrev pub OfAllScripts : (Cfg → World → Type 0) → Type 0
-OfAllScripts Holds = (cfg : Cfg) → config_refusal cfg ≡ None → (down tap : Bool) (script : List ℕ) → Holds cfg (simulated cfg down tap script).next
+OfAllScripts Holds = (cfg : Cfg) → config_refusal cfg ≡ None → (down tap : Bool) (script : List ℕ)
+    → Holds cfg (simulated cfg down tap script).next
 
 -- a line `heal` leads to where the schedule of healing leads
 abbrev pub HealIsTheSchedule : Type 0

@@ -8,9 +8,10 @@ use Rattle.x25_sim.specs.Telling.{Saying, sayings_text}
 use Rattle.x25_sim.specs.Stage.{simulated}
 use Rattle.x25_sim.specs.laws.RunLaw.{entries_in, frames_in}
 
--- What was written behind `old` is the text of sayings. The entries among these are the transcript of the two stations to which the script
--- leads, and the frames, where they are asked for, their tap. Of these stations this holds.
-pub record Writes (Holds : Cfg → World → Type 0) (cfg : Cfg) (down tap : Bool) (script : List ℕ) (old now : Option (List ℕ)) : Type 0 where
+-- What was written behind `old` is the text of sayings. The entries among these are the transcript of the two stations
+-- to which the script leads, and the frames, where they are asked for, their tap. Of these stations this holds.
+pub record Writes (Holds : Cfg → World
+    → Type 0) (cfg : Cfg) (down tap : Bool) (script : List ℕ) (old now : Option (List ℕ)) : Type 0 where
   pub sayings : List Saying
   pub text : Appends old now (sayings_text sayings)
   pub entries : entries_in sayings ≡ (simulated cfg down tap script).next.transcript
@@ -19,8 +20,11 @@ pub record Writes (Holds : Cfg → World → Type 0) (cfg : Cfg) (down tap : Boo
 
 -- the same, as long as neither end goes up a second time
 abbrev pub WritesOnce : (Cfg → World → Type 0) → Cfg → Bool → Bool → List ℕ → Option (List ℕ) → Option (List ℕ) → Type 0
-WritesOnce Holds cfg down tap script old now = IsUpAtMostOnce cfg (simulated cfg down tap script).next → Writes Holds cfg down tap script old now
+WritesOnce Holds cfg down tap script old now = IsUpAtMostOnce cfg (simulated cfg down tap script).next
+    → Writes Holds cfg down tap script old now
 
 -- the same of a script that begins with the link set up, which isn't set up anew
-abbrev pub WritesSetUp : (Cfg → World → Type 0) → Cfg → Bool → Bool → List ℕ → Option (List ℕ) → Option (List ℕ) → Type 0
-WritesSetUp Holds cfg down tap script old now = down ≡ false → IsUpOnce cfg (simulated cfg down tap script).next → Writes Holds cfg down tap script old now
+abbrev pub WritesSetUp : (Cfg → World → Type 0) → Cfg → Bool → Bool → List ℕ → Option (List ℕ) → Option (List ℕ)
+    → Type 0
+WritesSetUp Holds cfg down tap script old now = down ≡ false → IsUpOnce cfg (simulated cfg down tap script).next
+    → Writes Holds cfg down tap script old now
