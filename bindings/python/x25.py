@@ -19,7 +19,7 @@
 Traceback (most recent call last):
 x25.Refused: 15: the link is up
 
-A station is in one call at a time, of whichever thread. It is let go of by `close`, at the end of a `with` block, or with its last name.
+A station may be used by any thread. It is let go of by `close`, at the end of a `with` block, or with its last name.
 """
 
 from __future__ import annotations
@@ -140,7 +140,7 @@ _FUNCTIONS = {
     "idle": ([], ctypes.c_bool),
 }
 
-_loaded: dict[str, ctypes.CDLL] = {}
+_loaded: dict[str, ctypes.PyDLL] = {}
 
 
 def library_path() -> str:
@@ -150,11 +150,12 @@ def library_path() -> str:
     return path if os.path.exists(path) else ctypes.util.find_library("x25") or "libx25.so"
 
 
-def load(path: str | None = None) -> ctypes.CDLL:
+def load(path: str | None = None) -> ctypes.PyDLL:
     """The library at a path, or where `library_path` says."""
     path = path or library_path()
     if path not in _loaded:
-        library = ctypes.CDLL(path)
+        # Python's lock is held in each call, so that no two threads are in one.
+        library = ctypes.PyDLL(path)
         for name, (parameters, result) in _FUNCTIONS.items():
             function = getattr(library, f"x25_{name}")
             function.argtypes, function.restype = [ctypes.POINTER(_Slot), *parameters], result
