@@ -115,7 +115,8 @@ def called(it):
 
 
 def negotiated(it):
-    """sizes of 256 octets and windows of 3 proposed by the station: taken where the kernel's socket has set them, else answered by 128 and 2"""
+    """sizes of 256, windows of 3, proposed by the station"""
+    # They are taken where the kernel's socket has set them, and else answered by 128 and 2.
     for address, taken in (LARGE, "size=8,8 win=3,3"), (PLAIN, "size=7,7 win=2,2"):
         channel, slot, ours, guests = call(it, " 8 8 3 3", address)
         clear(it, channel, slot)
@@ -125,7 +126,7 @@ def negotiated(it):
 
 
 def calls(it):
-    """a call by the kernel with these, a message of it, a clear by it"""
+    """a call, a message and a clear by the kernel, with these"""
     it.order("facilities 8 8 3 3", "set")
     behind = it.guest.mark()
     channel = channel_of(it.heed("call 111 222 aabb", "dce incoming"))
@@ -149,7 +150,7 @@ def echoed(it, channel, size, seed, q=0):
 
 
 def messages(it):
-    """12 messages of 1 to 10,000 octets, 17,255 octets each way, echoed octet for octet"""
+    """12 messages, 17,255 octets each way, echoed"""
     channel, slot, _, _ = call(it, " 8 8 3 3", LARGE)
     for size in SIZES:
         echoed(it, channel, size, size & 255)
@@ -157,7 +158,7 @@ def messages(it):
 
 
 def at_once(it):
-    """four channels at once, 3 messages of 2,500 octets on each, echoed"""
+    """four channels at once, 3 messages on each, echoed"""
     opened = [call(it, " 7 7 2 2")[:2] for _ in range(CHANNELS)]
     since, size = it.ours.mark(), 2500
     for channel, _ in opened:
@@ -206,7 +207,7 @@ def is_not_ready(octets, channel):
 
 
 def too_long(it):
-    """a message of 60,000 octets, larger than the kernel's receive buffer: it stays not ready until the clear"""
+    """a message larger than the kernel's receive buffer"""
     channel, slot, _, _ = call(it, " 8 8 3 3", LARGE)
     behind = it.guest.mark()
     it.ours.tell(f"dce send {channel} 0 {pattern(60_000, 1)}")
@@ -221,7 +222,7 @@ def too_long(it):
 
 
 def again(it):
-    """DISC by the kernel, set-up anew, restart, a call and a message"""
+    """DISC by the kernel, set-up anew, a call, a message"""
     since = it.ours.mark()
     it.order("down", "down")
     # The kernel sends DISC once; where that is lost the link goes down by its SABM.
@@ -258,7 +259,7 @@ def frmrs(trace):
 
 
 # What is counted of each probability, in the rows behind those that are played.
-COUNTED = ("frames sent, come, lost on the way out, lost on the way in", "firings of T1 here", "FRMR")
+COUNTED = ("frames sent, come", "frames lost out, in", "firings of T1 here", "FRMR")
 
 
 def counted(it):
@@ -266,9 +267,9 @@ def counted(it):
     said = " ".join(line.partition("frames: ")[2] for line in it.ours.said if "frames: " in line)
     found = re.match(r"(\d+) sent, (\d+) came; (\d+) \+ (\d+) lost, .*; T1 fired (\d+) times", said)
     if not found:
-        return ["not told", "not told", str(frmrs(it.trace))]
-    *frames, fired = (f"{int(number):,}" for number in found.groups())
-    return [", ".join(frames), fired, str(frmrs(it.trace))]
+        return ["not told"] * 3 + [str(frmrs(it.trace))]
+    sent, come, out, back, fired = (f"{int(number):,}" for number in found.groups())
+    return [f"{sent}, {come}", f"{out}, {back}", fired, str(frmrs(it.trace))]
 
 
 def prepare(guest):
@@ -318,7 +319,7 @@ def run(options):
     print("| Row | " + " | ".join(map(column, [*options.lose, XOT])) + " |")
     print("|---" * (1 + len(columns)) + "|")
     for name in [row.__doc__ for row in ROWS + LINK_ROWS + LAST_ROWS] + list(COUNTED):
-        print(f"| {name} | " + " | ".join(cells.get(name, "not played") for cells in columns) + " |")
+        print(f"| {name} | " + " | ".join(cells.get(name, "-") for cells in columns) + " |")
     return not any("FAILED" in cell for cells in columns for cell in cells.values())
 
 

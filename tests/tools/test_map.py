@@ -155,7 +155,7 @@ class Walk(unittest.TestCase):
         text = support.read(os.path.join(support.ROOT, "docs", "WALK.md")).decode()
         hops = re.findall(r"^\d+\. `(x25\w*)/(\w+\.rt)` `(\w+)`: ", text, re.MULTILINE)
         self.assertEqual(len(hops), len(re.findall(r"^\d+\. ", text, re.MULTILINE)))
-        self.assertLessEqual(text.count("\n"), 80)
+        self.assertLessEqual(text.count("\n"), 110)
         for crate, file, function in hops:
             with self.subTest(f"{crate}/{file} {function}"):
                 source = support.read(os.path.join(CRATES, crate, "src", file)).decode()
