@@ -15,7 +15,7 @@ for it in "/usr/src/$name.tar.xz" "$headers/Makefile" /usr/bin/qemu-system-x86_6
 done
 
 # The kernel and its modules, left in modules/ and vmlinuz.
-if [ ! -e version ] || [ "$(cat version)" != "$version" ]; then
+if [ ! -e modules/tun.ko ] || [ ! -e version ] || [ "$(cat version)" != "$version" ]; then
     rm -rf version image source modules
     mkdir -p source modules build/x25 build/lapbether
     apt-get download -q "linux-image-$version"
