@@ -14,7 +14,7 @@ import support
 
 WIDTH = 100
 # Those that are wider yet.
-WIDER = ("docs/FORMATS.md", "docs/INTEROP.md", "docs/MANUAL.md")
+WIDER = ("docs/INTEROP.md",)
 LENGTHS = {"README.md": 100, "docs/ARCHITECTURE.md": 125, "docs/PROOFS.md": 175, "docs/DECISIONS.md": 240, "CONTRIBUTING.md": 130}
 CRATES = os.path.join(support.ROOT, "crates")
 # What is named and stands elsewhere: what commands leave behind, the sources of Linux, what whoever races decoders has.
