@@ -42,6 +42,7 @@ module _ (E : Bx) {M : Type 1} {𝓤 : Ura M} {𝓛 : Logic 𝓤} {K : Type 0} {
       → ((h : Val) → v ≡ vstruct (of_list (vptr b o ∷ h ∷ [])) → Fits E.al h → Seq K 𝓛 (‵ (handle E a h) ∷ Γ) G)
       → Seq K 𝓛 (‵ ((Tuple (RawPtr ∷ P E ∷ [])).own_val (p, a) (v ∷ [])) ∷ Γ) G
   pair_out t p a b o v at next =
-      fpick t (λ parts. fsplit t $ feq_l t (λ whole. fsplit t $ feq_l t (λ first. fsplit t $ handle_tells E.al t a parts.1.0 (λ h second fits.
+      fpick t (λ parts. fsplit t $ feq_l t (λ whole. fsplit t $ feq_l t (λ first. fsplit t $
+      handle_tells E.al t a parts.1.0 (λ h second fits.
       move t (1 ∷ []) $ types.Kit.drop t $ next h
       (ap only (whole ∙ (λ i. vstruct (of_list ((first ∙ ap (λ q. ptr_val q ∷ []) at) i ++ (second i ++ []))) ∷ []))) fits))))

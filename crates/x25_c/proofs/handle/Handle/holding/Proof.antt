@@ -33,12 +33,16 @@ holding_spec 𝓤 𝓛 𝓜 𝓡 wired =
     let box : D boxed = record { ptr = pieces.at; alloc = pieces.alloc; value = pieces.value } in
     let made : To.Denot = record { at = pieces.at; alloc = pieces.alloc; held = Some pieces.value } in
     qed 𝓛 ((‵ ftrue ⊛ ‵ (fsep ((B boxed).own_val box z.0.4.0) ftrue)) ∷ raw (emp 𝓤) ∷ []) ∵ split ! $ drop ! $ fsplit ! $
-    box_out boxed ! box z.0.4.0 (λ p o h e spelled fits. box_in boxed ! box p o box.value e refl $ let w = word boxed h p o in use1 𝓛 (‵ (To.own_val made (w ∷ []))) (id⊢ 𝓤 _) $ keep ! (0 ∷ []) $
+    box_out boxed ! box z.0.4.0 (λ p o h e spelled fits. box_in boxed ! box p o box.value e refl $
+    let w = word boxed h p o in use1 𝓛 (‵ (To.own_val made (w ∷ []))) (id⊢ 𝓤 _) $ keep ! (0 ∷ []) $
     let Γ : List (Item 𝓤) = ‵ (To.own_val made (w ∷ [])) ∷ [] in
     by ! (subst (λ (us : List Val). ent 𝓤 (types.Kit.⋆ 𝓛 Γ) (WpFn 𝓤 𝓛.H 𝓣.C 𝓣.Λ code.function (us ++ []) Post)) (sym spelled)
     (qed 𝓛 Γ ∵ enter ! 𝓣.C 𝓣.Λ code.function (w ∷ []) _ $ alloc_all ! (λ ls. pass_all ! refl (box_typed boxed h p o fits, tt) $
-    sets ! (of_opd ! (get_in ! (fld ! refl (stop !)) (sub ! 0 refl (whole !)))) refl (tt, tt) $ sets ! (of_opd ! (get_in ! (fld ! refl (stop !)) (sub ! 1 refl (whole !)))) refl fits $
+    sets ! (of_opd ! (get_in ! (fld ! refl (stop !)) (sub ! 0 refl (whole !)))) refl (tt, tt) $
+    sets ! (of_opd ! (get_in ! (fld ! refl (stop !)) (sub ! 1 refl (whole !)))) refl fits $
     -- the pointer under its other type
-    sets ! (of_opd ! (get ! refl)) refl (tt, tt) $ sets ! (agg ! (and_then ! (get ! refl) (and_then ! (get ! refl) (no_more !)))) refl (box_typed boxed h p o fits) $ returns ! (look_at ! 0 refl) $ free_all ! refl $
+    sets ! (of_opd ! (get ! refl)) refl (tt, tt) $
+    sets ! (agg ! (and_then ! (get ! refl) (and_then ! (get ! refl) (no_more !)))) refl (box_typed boxed h p o fits) $
+    returns ! (look_at ! 0 refl) $ free_all ! refl $
     suffices ! _ (ends_at 𝓛 holding.ended stays clauses z w made (tt, tt) (tt, tt)) $ says ! refl $
     nothing ! $ nothing ! $ fjoin ! $ join ! $ nothing ! $ join ! $ done !)))))
