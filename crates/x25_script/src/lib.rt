@@ -13,6 +13,6 @@ mod script_line;
 
 pub use hex_digits::HexDigits;
 pub use law::{lines_are_in_octets, reading_is_the_grammar};
-pub use reading::read_line;
+pub use reading::{read_command, read_line};
 pub use script_line::{Command, ScriptTaker};
 pub use x25_bits::Role;

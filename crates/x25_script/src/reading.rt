@@ -61,9 +61,9 @@ fn hand_command<W, T: ScriptTaker<W>>(
     }
 }
 
-/// What an end is commanded, by its first word.
+/// Hands on what an end is commanded, as a line has it behind the name of that end.
 #[inline(never)]
-fn read_command<W, T: ScriptTaker<W>>(
+pub fn read_command<W, T: ScriptTaker<W>>(
     end: Role,
     text: &[u8],
     taker: &mut T,
