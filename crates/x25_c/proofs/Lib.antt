@@ -1,2 +1,3 @@
 pub mod BoxLemmas
 pub mod HappenLemmas
+pub mod AskedLemmas

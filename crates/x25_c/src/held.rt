@@ -15,7 +15,7 @@ ghost use Rattle.x25_c.specs.code.Happens.{GivesAnswer, Happens, IsNew, PullsBeh
 use crate::happening::{Happening, happen};
 use std::alloc::{AllocError, Global};
 use x25_console::{read_user, station_command};
-use x25_script::{Command, read_command};
+use x25_script::{Command, HexDigits, ScriptTaker, read_command};
 use x25_station::{Role, Station, StationError, Step};
 use x25_text::Text;
 use x25_transcript::push_entry;
@@ -87,11 +87,14 @@ impl Held {
     }
 
     /// Does the command that a text spells, where it spells one.
-    pub(crate) fn command(&mut self, alloc: Global, text: &[u8]) -> Option<Result<(), StationError>>
+    pub(crate) fn obey(
+        &mut self,
+        mut alloc: Global,
+        text: &[u8],
+    ) -> Option<Result<(), StationError>>
         ensures { GivesAnswer self.old self.new result (command_in text.now) }
     {
-        let command = read_command(text)?;
-        Some(self.ask(alloc, command))
+        read_command(self.end, text, self, &mut alloc)
     }
 
     pub(crate) fn frame(&self, i: usize) -> &[u8]
@@ -116,5 +119,62 @@ impl Held {
             Some(entry) => push_entry(self.end, entry, &mut self.line),
             None => Ok(()),
         }
+    }
+}
+
+/// The command that is read is done; a text without the name of an end asks for nothing else.
+impl ScriptTaker<Global> for Held {
+    ghost use Rattle.x25_c.specs.code.Happens.{GivesAnswer, asked_in};
+
+    type Answer = Option<Result<(), StationError>>;
+
+    ghost gives = { λ h was g is result asked. GivesAnswer h g result (asked_in asked) };
+
+    fn command(
+        &mut self,
+        _end: Role,
+        asked: Command,
+        alloc: &mut Global,
+    ) -> Option<Result<(), StationError>> {
+        Some(self.ask(*alloc, asked))
+    }
+
+    fn t1(&mut self, _end: Role, _alloc: &mut Global) -> Option<Result<(), StationError>> {
+        None
+    }
+
+    fn deliver(&mut self, _from: Role, _alloc: &mut Global) -> Option<Result<(), StationError>> {
+        None
+    }
+
+    fn lose(
+        &mut self,
+        _from: Role,
+        _place: u16,
+        _alloc: &mut Global,
+    ) -> Option<Result<(), StationError>> {
+        None
+    }
+
+    fn damage(
+        &mut self,
+        _from: Role,
+        _place: u16,
+        _octets: HexDigits,
+        _alloc: &mut Global,
+    ) -> Option<Result<(), StationError>> {
+        None
+    }
+
+    fn drain(&mut self, _count: u16, _alloc: &mut Global) -> Option<Result<(), StationError>> {
+        None
+    }
+
+    fn heal(&mut self, _alloc: &mut Global) -> Option<Result<(), StationError>> {
+        None
+    }
+
+    fn nothing(&mut self, _alloc: &mut Global) -> Option<Result<(), StationError>> {
+        None
     }
 }

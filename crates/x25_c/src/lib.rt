@@ -184,7 +184,7 @@ pub extern "C" fn x25_command(alloc: Global, slot: &mut Slot, text: &[u8]) -> u3
     let Some(mut held) = slot.take(alloc) else {
         return NO_STATION;
     };
-    let answer = held.command(alloc, text);
+    let answer = held.obey(alloc, text);
     slot.put(held);
     match answer {
         Some(answer) => number_of(answer),

@@ -3,7 +3,7 @@ use Rattle.std.specs.Prelude.{◌≡◌, Bool, false, ◌++◌, map, Option, Som
 use Rattle.x25_bits.specs.declared.role.Role.{Role}
 use Rattle.x25_console.specs.Commands.{command_asked}
 use Rattle.x25_frame.specs.Spelling.{spelling_of}
-use Rattle.x25_script.specs.ScriptLine.{PlainCommand}
+use Rattle.x25_script.specs.ScriptLine.{PlainCommand, PlainLine, command}
 use Rattle.x25_station.specs.declared.config.Cfg.{Cfg}
 use Rattle.x25_station.specs.declared.error.StationError.{StationError}
 use Rattle.x25_station.specs.declared.timer.Timer.{Timer}
@@ -22,7 +22,7 @@ use Rattle.x25_c.specs.Happening.{rest_of, happens, timer_of_rest, timer_at_both
 
 abbrev pub event_of : code.Happening → Event
 event_of (variant.Comes octets) = Comes octets.now
-event_of (variant.Asks command) = Asks (command_of command)
+event_of (variant.Asks asked) = Asks (command_of asked)
 event_of variant.Fires = Fires
 
 -- at an accepted event T1 becomes what the definition says, and at a refused one it is as it was
@@ -58,6 +58,11 @@ pub record PullsBehind (old new : Held) : Type 0 where
   pub entries : new.step.entries ≡ old.step.entries
   pub timer : (c : Settings) (s : Station) → FitsStation c old.station s →
       new.step.timer ≡ timer_of_rest new.waits c old.step.timer s
+
+-- what a line commands
+abbrev pub asked_in : Option PlainLine → Option PlainCommand
+asked_in (Some (command end asked)) = Some asked
+asked_in _ = None
 
 -- a text is answered where it spells a command
 abbrev pub GivesAnswer : Held → Held → Option (Result Unit StationError) → Option PlainCommand → Type 0
