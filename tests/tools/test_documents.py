@@ -13,8 +13,6 @@ from glob import glob
 import support
 
 WIDTH = 100
-# Those that are wider yet.
-WIDER = ("docs/INTEROP.md",)
 LENGTHS = {"README.md": 100, "docs/ARCHITECTURE.md": 125, "docs/PROOFS.md": 175, "docs/DECISIONS.md": 240, "CONTRIBUTING.md": 130}
 CRATES = os.path.join(support.ROOT, "crates")
 # What is named and stands elsewhere: what commands leave behind, the sources of Linux, what whoever races decoders has.
@@ -55,7 +53,7 @@ def is_path(code):
 
 class Form(unittest.TestCase):
     def test_no_line_is_wider(self):
-        for document in set(documents()).difference(WIDER):
+        for document in documents():
             wide = [str(number) for number, line in enumerate(text_of(document).splitlines(), 1) if len(line) > WIDTH]
             with self.subTest(document):
                 self.assertEqual(" ".join(wide), "")
