@@ -16,7 +16,7 @@ _x25() {
             judge:*) words="--k --long --strict --help" ;;
             deframe:deframe) words="dte dce --help" ;;
             deframe:*) words="--help" ;;
-            decode:*) words="--long --help" ;;
+            decode:*) words="--long --wide --help" ;;
             vectors:* | frame:*) words="--help" ;;
             help:*) ((COMP_CWORD == 2)) && words="decode vectors sim station judge deframe frame help" ;;
         esac
