@@ -1,5 +1,6 @@
 -- What the program writes for a task, and the status that it ends with (profile).
-use Rattle.std.specs.Prelude.{◌≡◌, ◌≤◌, ◌<◌, ◌-◌, ◌^◌, ◌⊎◌, ⊤, ℕ, Bool, true, false, List, length, if◌then◌else◌, Option, IfSome}
+use Rattle.std.specs.Prelude.{◌≡◌, ◌≤◌, ◌<◌, ◌-◌, ◌^◌, ◌⊎◌, ⊤, ℕ, Bool, true, false, List, length, if◌then◌else◌}
+use Rattle.std.specs.Prelude.{Option, IfSome}
 use Rattle.std.specs.Io.KnownBytes.{Appends}
 use Rattle.x25_bits.specs.declared.role.Role.{Role}
 use Rattle.x25_bits.specs.declared.role.Role.TheVariants as role
@@ -74,7 +75,8 @@ task_status Frame input = frame_status input
 
 -- Of a script, written is all but what is said of the line that has begun and of the rest.
 abbrev pub WritesEndedScript : Simulation → Option (List ℕ) → Option (List ℕ) → List ℕ → List ℕ → Type 0
-WritesEndedScript s old now rest script = simulator.WritesEnded (settings_in s) s.tap old now rest (simulated (settings_in s) s.down s.tap script)
+WritesEndedScript s old now rest script = simulator.WritesEnded (settings_in s) s.tap old now rest
+    (simulated (settings_in s) s.down s.tap script)
 
 -- Of the lines of a station, likewise.
 abbrev pub WritesEndedLines : Place → Option (List ℕ) → Option (List ℕ) → List ℕ → List ℕ → Type 0
@@ -82,20 +84,22 @@ WritesEndedLines p old now rest input =
     let c = settings_from (role_in p.end) (cfg_in p) in
     pipe.WritesEnded c old now rest (piped c input)
 
--- At a failed read all is written but what the line that has begun and the rest give, of `deframe` all that was read gives, and of
--- `frame` all but fewer than eight bits. `vectors` reads nothing.
+-- At a failed read all is written but what the line that has begun and the rest give, of `deframe` all that was read
+-- gives, and of `frame` all but fewer than eight bits. `vectors` reads nothing.
 abbrev pub WritesEnded : Task → Option (List ℕ) → Option (List ℕ) → List ℕ → List ℕ → Type 0
 WritesEnded (Decode long wide) old now rest input =
-    decoder.WritesEnded (record { long = long; wide = wide }) old now rest (decode.output_of (record { long = long; wide = wide }) input)
+    decoder.WritesEnded (record { long = long; wide = wide }) old now rest
+    (decode.output_of (record { long = long; wide = wide }) input)
 WritesEnded Vectors old now rest input = ⊥
 WritesEnded (Sim s) old now rest input = WritesEndedScript s old now rest input
 WritesEnded (Station p) old now rest input = WritesEndedLines p old now rest input
-WritesEnded (Judge g) old now rest input = judging.WritesEnded old now rest (judge.output_of (judge.begins g.k g.long g.strict) input)
+WritesEnded (Judge g) old now rest input = judging.WritesEnded old now rest
+    (judge.output_of (judge.begins g.k g.long g.strict) input)
 WritesEnded (Deframe end) old now rest input = WritesRead (role_in end) old now rest input
 WritesEnded Frame old now rest input = WritesFrames old now rest input
 
--- What was written for a script, behind `old`, is the transcript of a run of two stations, and with `--tap` its frames; of these stations this
--- holds: ..
+-- What was written for a script, behind `old`, is the transcript of a run of two stations, and with `--tap` its frames;
+-- of these stations this holds: ..
 abbrev pub WritesScript : (Cfg → World → Type 0) → Simulation → List ℕ → Option (List ℕ) → Option (List ℕ) → Type 0
 WritesScript Holds s script old now = written.Writes Holds (settings_in s) s.down s.tap script old now
 
@@ -105,11 +109,13 @@ WritesScriptOnce Holds s script old now = written.WritesOnce Holds (settings_in 
 
 -- .. of a script that begins with the link set up.
 abbrev pub WritesScriptSetUp : (Cfg → World → Type 0) → Simulation → List ℕ → Option (List ℕ) → Option (List ℕ) → Type 0
-WritesScriptSetUp Holds s script old now = s.down ≡ false → IsUpOnce (settings_in s) (simulated (settings_in s) s.down s.tap script).next
+WritesScriptSetUp Holds s script old now = s.down ≡ false
+    → IsUpOnce (settings_in s) (simulated (settings_in s) s.down s.tap script).next
     → WritesScript Holds s script old now
 
 -- of a task that runs a script; of the others nothing is said
-abbrev pub OfScript : (Simulation → List ℕ → Option (List ℕ) → Option (List ℕ) → Type 0) → Task → List ℕ → Option (List ℕ) → Option (List ℕ) → Type 0
+abbrev pub OfScript : (Simulation → List ℕ → Option (List ℕ) → Option (List ℕ) → Type 0) → Task → List ℕ
+    → Option (List ℕ) → Option (List ℕ) → Type 0
 OfScript Holds (Decode long wide) script old now = ⊤
 OfScript Holds Vectors script old now = ⊤
 OfScript Holds (Sim s) script old now = Holds s script old now
@@ -128,7 +134,8 @@ is_plain (Judge g) = true
 is_plain (Deframe end) = true
 is_plain Frame = false
 
--- How a run ends. Either the task is done: the status is its own, 0 or 1, and what is written its text of all that was read ..
+-- How a run ends. Either the task is done: the status is its own, 0 or 1, and what is written its text of all that was
+-- read ..
 abbrev pub IsDone : Task → ℕ → Option (List ℕ) → Option (List ℕ) → Option (List ℕ) → Type 0
 IsDone task status input old now = (status ≤ 1) × IfSome input (λ input. length input < 2 ^ 64 - 1
     → (status ≡ task_status task input) × Appends old now (task_text task input))

@@ -1,7 +1,7 @@
 //! `x25`: traces of X.25 on lines of text.
 //!
-//! Exit statuses: 0, also where help or the version is asked for; 1 where a line was refused or a rule broken; 2 for words that
-//! ask for nothing it does; 3 where a read, a write or memory failed.
+//! Exit statuses: 0, also where help or the version is asked for; 1 where a line was refused or a rule broken; 2 for
+//! words that ask for nothing it does; 3 where a read, a write or memory failed.
 #![tactic(auto)]
 
 ghost use Rattle.clap.specs.Values.{kind_of};
@@ -61,8 +61,8 @@ fn run<E: Eprint + AllocGlobal, R: Source, W: Write>(
     conclude(rt, result, writer.is_closed())
 }
 
-/// Tells the parser's text, and answers the exit status: help and the version go to standard output with 0, and why other
-/// words aren't plain to standard error with 2. Profile.
+/// Tells the parser's text, and answers the exit status: help and the version go to standard output with 0, and why
+/// other words aren't plain to standard error with 2. Profile.
 fn tell<E: Print + Eprint>(rt: &E, error: clap::Error) -> u8
     ensures { IsToldOf (kind_of error) result }
 {
@@ -109,7 +109,8 @@ fn start<E: Print + Eprint + AllocGlobal, R: Source, W: Write, S: AsStr>(
     ensures plain { (task : TaskValue) → Say (map S.text words.now) task
         → Ends task result (R.remaining reader.old) (W.contents writer.old.writer) (W.contents writer.new.writer) }
     // For others no status is a task's 1.
-    ensures other { ((task : TaskValue) → ¬ Say (map S.text words.now) task) → (result ≡ 0) ⊎ (result ≡ 2) ⊎ (result ≡ 3) }
+    ensures other { ((task : TaskValue) → ¬ Say (map S.text words.now) task) → (result ≡ 0) ⊎ (result ≡ 2)
+        ⊎ (result ≡ 3) }
     ensures untouched { ((task : TaskValue) → ¬ Say (map S.text words.now) task)
         → (reader.new ≡ reader.old) × (writer.new ≡ writer.old) }
 {

@@ -1,7 +1,10 @@
 //! What each task does, over any reader and writer.
-ghost use Rattle.std.specs.Prelude.{◌≡◌, ◌≤◌, ◌<◌, ◌-◌, ◌^◌, ℕ, true, List, Some, IfOk, OnOk, OnErr, IfSome, IsErrOf, length};
+ghost use Rattle.std.specs.Prelude.{◌≡◌, ◌≤◌, ◌<◌, ◌-◌, ◌^◌, ℕ, true, List, Some, IfOk, OnOk, OnErr, IfSome, IsErrOf};
+ghost use Rattle.std.specs.Prelude.{length};
 ghost use Rattle.std.specs.Io.KnownBytes.{Appends};
-ghost use Rattle.x25.specs.Tasks.{OfScript, WritesEnded, WritesEndedLines, WritesEndedScript, WritesScript, WritesScriptOnce, WritesScriptSetUp, cfg_in, is_plain, lines_status, lines_text, role_in, script_status, script_text, settings_in, task_status, task_text};
+ghost use Rattle.x25.specs.Tasks.{OfScript, WritesEnded, WritesEndedLines, WritesEndedScript, WritesScript};
+ghost use Rattle.x25.specs.Tasks.{WritesScriptOnce, WritesScriptSetUp, cfg_in, is_plain, lines_status, lines_text};
+ghost use Rattle.x25.specs.Tasks.{role_in, script_status, script_text, settings_in, task_status, task_text};
 ghost use Rattle.x25_io.specs.code.Written.{AppendsPrefix};
 ghost use Rattle.x25_settings.specs.Options as options;
 ghost use Rattle.x25_settings.specs.Words.{AreInRange};
@@ -60,7 +63,8 @@ fn answer_lines<R: Source, W: Sink>(
     writer: &mut W,
 ) -> Result<u8, Fault>
     requires { options.PlaceIsInRange place }
-    ensures clean { OnOk result ((R.is_marked reader.new ≡ R.is_marked reader.old) × (W.is_marked writer.new ≡ W.is_marked writer.old)) }
+    ensures clean { OnOk result ((R.is_marked reader.new ≡ R.is_marked reader.old)
+        × (W.is_marked writer.new ≡ W.is_marked writer.old)) }
     ensures zero_or_one { IfOk result (λ status. status ≤ 1) }
     ensures text { OnOk result (IfSome (R.remaining reader.old) (λ input. length input < 2 ^ 64 - 1
         → Appends (W.contents writer.old) (W.contents writer.new) (lines_text place input))) }
@@ -73,7 +77,8 @@ fn answer_lines<R: Source, W: Sink>(
         × WritesEndedLines place (W.contents writer.old) (W.contents writer.new) rest input) }
     ensures read { IsErrOf result Fault.Read → R.is_marked reader.new ≡ true }
     ensures write { IsErrOf result Fault.Write → W.is_marked writer.new ≡ true }
-    ensures memory { IsErrOf result Fault.NoMemory → (R.is_marked reader.new ≡ R.is_marked reader.old) × (W.is_marked writer.new ≡ W.is_marked writer.old) }
+    ensures memory { IsErrOf result Fault.NoMemory → (R.is_marked reader.new ≡ R.is_marked reader.old)
+        × (W.is_marked writer.new ≡ W.is_marked writer.old) }
 {
     station(alloc, role_of(place.end), cfg_of(place), reader, writer)
 }
@@ -86,15 +91,16 @@ fn simulate<R: Source, W: Sink>(
     writer: &mut W,
 ) -> Result<u8, Fault>
     requires { options.AreInRange simulation }
-    ensures clean { OnOk result ((R.is_marked reader.new ≡ R.is_marked reader.old) × (W.is_marked writer.new ≡ W.is_marked writer.old)) }
+    ensures clean { OnOk result ((R.is_marked reader.new ≡ R.is_marked reader.old)
+        × (W.is_marked writer.new ≡ W.is_marked writer.old)) }
     ensures zero_or_one { IfOk result (λ status. status ≤ 1) }
     ensures text { OnOk result (IfSome (R.remaining reader.old) (λ script. length script < 2 ^ 64 - 1
         → Appends (W.contents writer.old) (W.contents writer.new) (script_text simulation script))) }
     ensures status { IfOk result (λ status. IfSome (R.remaining reader.old) (λ script. length script < 2 ^ 64 - 1
         → status ≡ script_status simulation script)) }
 
-    // What is written for a script is the transcript of a run of two stations, of which the claims hold: as long as neither end goes up
-    // a second time, `window` of a script that begins with the link set up, ..
+    // What is written for a script is the transcript of a run of two stations, of which the claims hold: as long as
+    // neither end goes up a second time, `window` of a script that begins with the link set up, ..
     ensures lawful { OnOk result (IfSome (R.remaining reader.old) (λ script. length script < 2 ^ 64 - 1
         → WritesScriptOnce IsLawful simulation script (W.contents writer.old) (W.contents writer.new))) }
     ensures named { OnOk result (IfSome (R.remaining reader.old) (λ script. length script < 2 ^ 64 - 1
@@ -116,7 +122,8 @@ fn simulate<R: Source, W: Sink>(
         × WritesEndedScript simulation (W.contents writer.old) (W.contents writer.new) rest script) }
     ensures read { IsErrOf result Fault.Read → R.is_marked reader.new ≡ true }
     ensures write { IsErrOf result Fault.Write → W.is_marked writer.new ≡ true }
-    ensures memory { IsErrOf result Fault.NoMemory → (R.is_marked reader.new ≡ R.is_marked reader.old) × (W.is_marked writer.new ≡ W.is_marked writer.old) }
+    ensures memory { IsErrOf result Fault.NoMemory → (R.is_marked reader.new ≡ R.is_marked reader.old)
+        × (W.is_marked writer.new ≡ W.is_marked writer.old) }
 {
     let (down, tap) = (simulation.down, simulation.tap);
     sim(alloc, down, settings_of(simulation), tap, reader, writer)
@@ -131,7 +138,8 @@ pub(crate) fn perform<R: Source, W: Sink>(
 ) -> Result<u8, Fault>
     requires { AreInRange task }
     // Where a status is answered, no call of the reader or of the writer failed.
-    ensures clean { OnOk result ((R.is_marked reader.new ≡ R.is_marked reader.old) × (W.is_marked writer.new ≡ W.is_marked writer.old)) }
+    ensures clean { OnOk result ((R.is_marked reader.new ≡ R.is_marked reader.old)
+        × (W.is_marked writer.new ≡ W.is_marked writer.old)) }
     ensures zero_or_one { IfOk result (λ status. status ≤ 1) }
     // What is written is the task's text of all that was read, and the status is the task's.
     ensures text { OnOk result (IfSome (R.remaining reader.old) (λ input. length input < 2 ^ 64 - 1
@@ -139,8 +147,8 @@ pub(crate) fn perform<R: Source, W: Sink>(
     ensures status { IfOk result (λ status. IfSome (R.remaining reader.old) (λ input. length input < 2 ^ 64 - 1
         → status ≡ task_status task input)) }
 
-    // What is written for a script is the transcript of a run of two stations, of which the claims hold: as long as neither end goes up
-    // a second time, `window` of a script that begins with the link set up, ..
+    // What is written for a script is the transcript of a run of two stations, of which the claims hold: as long as
+    // neither end goes up a second time, `window` of a script that begins with the link set up, ..
     ensures lawful { OnOk result (IfSome (R.remaining reader.old) (λ script. length script < 2 ^ 64 - 1
         → OfScript (WritesScriptOnce IsLawful) task script (W.contents writer.old) (W.contents writer.new))) }
     ensures named { OnOk result (IfSome (R.remaining reader.old) (λ script. length script < 2 ^ 64 - 1
@@ -148,7 +156,8 @@ pub(crate) fn perform<R: Source, W: Sink>(
     ensures arrives { OnOk result (IfSome (R.remaining reader.old) (λ script. length script < 2 ^ 64 - 1
         → OfScript (WritesScriptOnce ArrivesAll) task script (W.contents writer.old) (W.contents writer.new))) }
     ensures quiet { OnOk result (IfSome (R.remaining reader.old) (λ script. length script < 2 ^ 64 - 1
-        → OfScript (WritesScriptOnce HasNoProcedureError) task script (W.contents writer.old) (W.contents writer.new))) }
+        → OfScript (WritesScriptOnce HasNoProcedureError) task script (W.contents writer.old)
+        (W.contents writer.new))) }
     ensures window { OnOk result (IfSome (R.remaining reader.old) (λ script. length script < 2 ^ 64 - 1
         → OfScript (WritesScriptSetUp IsInWindow) task script (W.contents writer.old) (W.contents writer.new))) }
     // .. and of every script those on sessions.
@@ -166,9 +175,11 @@ pub(crate) fn perform<R: Source, W: Sink>(
     ensures read { IsErrOf result Fault.Read → R.is_marked reader.new ≡ true }
     ensures write { IsErrOf result Fault.Write → W.is_marked writer.new ≡ true }
     // Nor did any where want of memory is answered.
-    ensures memory { IsErrOf result Fault.NoMemory → (R.is_marked reader.new ≡ R.is_marked reader.old) × (W.is_marked writer.new ≡ W.is_marked writer.old) }
+    ensures memory { IsErrOf result Fault.NoMemory → (R.is_marked reader.new ≡ R.is_marked reader.old)
+        × (W.is_marked writer.new ≡ W.is_marked writer.old) }
     // Of `decode`, `vectors`, `judge` and `deframe` it is answered with nothing read and nothing written.
-    ensures untouched { IsErrOf result Fault.NoMemory → is_plain task ≡ true → (reader.new ≡ reader.old) × (writer.new ≡ writer.old) }
+    ensures untouched { IsErrOf result Fault.NoMemory → is_plain task ≡ true → (reader.new ≡ reader.old)
+        × (writer.new ≡ writer.old) }
     ensures unread { task ≡ Task.Vectors → reader.new ≡ reader.old }
 {
     match task {

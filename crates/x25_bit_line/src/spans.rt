@@ -31,7 +31,8 @@ fn take_span<W: Sink>(
         → Reads lines.old.from old (W.contents writer.old) deframer.old lines.old.output before
         → MatchResult result (λ place. Reads lines.old.from old (W.contents writer.new) deframer.new lines.new.output
         (before ++ part at place (bits_of octets.now)))
-        (λ _. AppendsPrefix old (W.contents writer.new) (class_lines lines.old.from (found_of (before ++ drop at (bits_of octets.now))))) }
+        (λ _. AppendsPrefix old (W.contents writer.new) (class_lines lines.old.from (found_of (before
+        ++ drop at (bits_of octets.now))))) }
     ensures marked { OnErr result (W.is_marked writer.new ≡ true) }
     ensures from { lines.new.from ≡ lines.old.from }
 {
@@ -57,7 +58,8 @@ pub(crate) fn take_octets<W: Sink>(
         → Reads lines.old.from old (W.contents writer.old) deframer.old lines.old.output before
         → MatchResult result (λ _. Reads lines.old.from old (W.contents writer.new) deframer.new lines.new.output
         (before ++ bits_of octets.now))
-        (λ _. AppendsPrefix old (W.contents writer.new) (class_lines lines.old.from (found_of (before ++ bits_of octets.now)))) }
+        (λ _. AppendsPrefix old (W.contents writer.new) (class_lines lines.old.from (found_of (before
+        ++ bits_of octets.now)))) }
     ensures marked { OnErr result (W.is_marked writer.new ≡ true) }
     ensures from { lines.new.from ≡ lines.old.from }
 {

@@ -1,7 +1,8 @@
 use std::test::Fail;
 use x25_bits::Blanks;
 
-/// How many frames memory is to be promised for, where blanks for two are kept: whether it is, and for how many it is promised then.
+/// How many frames memory is to be promised for, where blanks for two are kept: whether it is, and for how many it is
+/// promised then.
 static PROMISES: [(usize, bool, usize); 5] = [
     (1, true, 1),
     (3, false, 1),

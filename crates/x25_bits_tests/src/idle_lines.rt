@@ -15,7 +15,8 @@ fn push_all(bits: &Bits, line: &mut Bits) -> Result<(), NoMemory> {
 /// What comes behind the flags of an idle line before the next frame.
 static STRAYS: [&str; 6] = ["", "0", "1", "011", "0111111", "11111111111111111111111111"];
 
-/// For each place and each of those, a frame, as many bits as it takes to begin there, thirty flags, the stray bits and a frame.
+/// For each place and each of those, a frame, as many bits as it takes to begin there, thirty flags, the stray bits and
+/// a frame.
 fn idle_lines(alloc: Global) -> Result<Bits, NoMemory> {
     let flag = bits_of(alloc, &[FLAG])?;
     let mut line = Bits::new(alloc);

@@ -20,8 +20,8 @@ use x25_station::{Role, Station, StationError, Step};
 use x25_text::Text;
 use x25_transcript::push_entry;
 
-/// A station, which end it is, what it answered to its last call, nothing where that was refused, and whether memory was
-/// refused for the pull behind that.
+/// A station, which end it is, what it answered to its last call, nothing where that was refused, and whether memory
+/// was refused for the pull behind that.
 #[derive(Drop)]
 pub struct Held {
     pub end: Role,

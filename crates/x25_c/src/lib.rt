@@ -207,8 +207,8 @@ pub extern "C" fn x25_frames(alloc: Global, slot: &mut Slot) -> usize
     count
 }
 
-/// Copies the octets of frame `i` of the last answer, counted from 0, to the front of `room` where they fit, and answers
-/// how many they are; 0 where there is none.
+/// Copies the octets of frame `i` of the last answer, counted from 0, to the front of `room` where they fit, and
+/// answers how many they are; 0 where there is none.
 #[unsafe(no_mangle)]
 pub extern "C" fn x25_frame(alloc: Global, slot: &mut Slot, i: usize, room: &mut [u8]) -> usize
     ensures kept { slot.new.handle.held ≡ slot.old.handle.held }

@@ -50,7 +50,12 @@ is_address_text text = nat_le (length text) 15 && list_all is_figure text
 
 -- the digits of the texts, the user data, and what is proposed
 abbrev pub request_of : List ℕ → List ℕ → List ℕ → Params → CallRequest
-request_of called calling user params = record { called = digits_of_text called; calling = digits_of_text calling; user = user; params = params }
+request_of called calling user params = record {
+  called = digits_of_text called;
+  calling = digits_of_text calling;
+  user = user;
+  params = params;
+}
 
 -- what is the default isn't said
 abbrev pub call_sent : CallRequest → PlainPacket
@@ -109,13 +114,29 @@ interrupt_open x t user =
     if nat_le 1 (length user) && nat_le (length user) 32
     then (if t.int_out
     then Refused InterruptOutstanding
-    else keeps_on x (record { sent = t.sent; taken = t.taken; acked = t.acked; rest = t.rest; int_out = true; peer_ready = t.peer_ready; own_ready = t.own_ready }) (Some (interrupt 1 user)))
+    else keeps_on x (record {
+      sent = t.sent;
+      taken = t.taken;
+      acked = t.acked;
+      rest = t.rest;
+      int_out = true;
+      peer_ready = t.peer_ready;
+      own_ready = t.own_ready;
+    }) (Some (interrupt 1 user)))
     else Refused BadParameter
 
 -- RR or RNR goes, also where this end was so before (section 4.4.1.5)
 abbrev pub ready_open : Circuit → Talk → Bool → Outcome
 ready_open x t is_ready =
-    keeps_on x (record { sent = t.sent; taken = t.taken; acked = t.acked; rest = t.rest; int_out = t.int_out; peer_ready = t.peer_ready; own_ready = is_ready })
+    keeps_on x (record {
+      sent = t.sent;
+      taken = t.taken;
+      acked = t.acked;
+      rest = t.rest;
+      int_out = t.int_out;
+      peer_ready = t.peer_ready;
+      own_ready = is_ready;
+    })
     (Some (status is_ready (length t.taken)))
 
 abbrev pub send_in : Settings → Circuit → State → Bool → List ℕ → Outcome

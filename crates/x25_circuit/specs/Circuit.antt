@@ -46,7 +46,14 @@ begun = record { state = Free; clears = 0; resets = 0; params = default_params; 
 
 -- in this state, in which nothing is kept
 abbrev pub entered : Circuit → State → Params → Bool → Circuit
-entered x state params calls = record { state = state; clears = x.clears; resets = x.resets; params = params; calls = calls; talk = silent }
+entered x state params calls = record {
+  state = state;
+  clears = x.clears;
+  resets = x.resets;
+  params = params;
+  calls = calls;
+  talk = silent;
+}
 
 -- p1 with everything dropped; the counts are as they were
 abbrev pub forgotten : Circuit → Circuit
@@ -58,7 +65,14 @@ zeroed x = record { state = x.state; clears = 0; resets = 0; params = x.params; 
 
 -- in the same state
 abbrev pub talking : Circuit → Talk → Circuit
-talking x talk = record { state = x.state; clears = x.clears; resets = x.resets; params = x.params; calls = x.calls; talk = talk }
+talking x talk = record {
+  state = x.state;
+  clears = x.clears;
+  resets = x.resets;
+  params = x.params;
+  calls = x.calls;
+  talk = talk;
+}
 
 -- ---- the terms of data packets
 

@@ -40,11 +40,33 @@ ignores x = record { next = x; owed = None; notices = [] }
 
 -- to p1, by a clear that is counted
 abbrev pub clears_to : Circuit → Option PlainPacket → List PlainNotice → Answer
-clears_to x owed notices = record { next = record { state = Free; clears = suc x.clears; resets = 0; params = default_params; calls = false; talk = silent }; owed = owed; notices = notices }
+clears_to x owed notices = record {
+  next = record {
+    state = Free;
+    clears = suc x.clears;
+    resets = 0;
+    params = default_params;
+    calls = false;
+    talk = silent;
+  };
+  owed = owed;
+  notices = notices;
+}
 
 -- to d1, by a reset that is counted; packet sizes and windows stay
 abbrev pub resets_to : Circuit → Option PlainPacket → List PlainNotice → Answer
-resets_to x owed notices = record { next = record { state = Open; clears = x.clears; resets = suc x.resets; params = x.params; calls = x.calls; talk = silent }; owed = owed; notices = notices }
+resets_to x owed notices = record {
+  next = record {
+    state = Open;
+    clears = x.clears;
+    resets = suc x.resets;
+    params = x.params;
+    calls = x.calls;
+    talk = silent;
+  };
+  owed = owed;
+  notices = notices;
+}
 
 -- the state is as it was
 abbrev pub talks : Circuit → Talk → Option PlainPacket → List PlainNotice → Answer
@@ -184,12 +206,28 @@ takes x t pr piece =
 -- RR and RNR (section 4.4.1.5)
 abbrev pub hears_status : Circuit → Talk → Bool → ℕ → Answer
 hears_status x t is_ready pr =
-    talks x (record { sent = t.sent; taken = t.taken; acked = resolved t.acked pr; rest = t.rest; int_out = t.int_out; peer_ready = is_ready; own_ready = t.own_ready }) None []
+    talks x (record {
+      sent = t.sent;
+      taken = t.taken;
+      acked = resolved t.acked pr;
+      rest = t.rest;
+      int_out = t.int_out;
+      peer_ready = is_ready;
+      own_ready = t.own_ready;
+    }) None []
 
 -- INTERRUPT CONFIRMATION (section 4.3.7)
 abbrev pub confirms : Settings → Circuit → Talk → Bool → Answer
 confirms c x t true =
-    talks x (record { sent = t.sent; taken = t.taken; acked = t.acked; rest = t.rest; int_out = false; peer_ready = t.peer_ready; own_ready = t.own_ready }) None (interrupt_done ∷ [])
+    talks x (record {
+      sent = t.sent;
+      taken = t.taken;
+      acked = t.acked;
+      rest = t.rest;
+      int_out = false;
+      peer_ready = t.peer_ready;
+      own_ready = t.own_ready;
+    }) None (interrupt_done ∷ [])
 confirms c x t false = resets_for c x 43
 
 abbrev pub row_open : Settings → Circuit → Talk → PlainPacket → Answer
@@ -212,7 +250,12 @@ row_data c x state packet = unexpected c x state
 
 -- what a CALL doesn't say is proposed as the default
 abbrev pub request_in : List ℕ → List ℕ → List ℕ → List ℕ → CallRequest
-request_in called calling facilities user = record { called = called; calling = calling; user = user; params = said_in default_params facilities }
+request_in called calling facilities user = record {
+  called = called;
+  calling = calling;
+  user = user;
+  params = said_in default_params facilities;
+}
 
 abbrev pub answers : Settings → Circuit → PlainPacket → Answer
 answers c x (call channel called calling facilities user) = row_call c x x.state

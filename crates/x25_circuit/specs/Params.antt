@@ -36,7 +36,12 @@ abbrev pub windows_of : Params → Directions
 windows_of p = record { called = p.win_called; calling = p.win_calling }
 
 abbrev pub params_of : Directions → Directions → Params
-params_of sizes windows = record { size_called = sizes.called; size_calling = sizes.calling; win_called = windows.called; win_calling = windows.calling }
+params_of sizes windows = record {
+  size_called = sizes.called;
+  size_calling = sizes.calling;
+  win_called = windows.called;
+  win_calling = windows.calling;
+}
 
 -- what is said where these are known: nothing of the same two values
 abbrev pub news : Directions → Directions → Option Directions

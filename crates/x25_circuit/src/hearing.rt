@@ -38,7 +38,8 @@ impl Circuit {
             → FitsCircuit c self.new (unless c x (number_ground x.talk pr.number)
             (hears_status x x.talk is_ready pr.number)).next }
         ensures says { (c : Settings) (x : Channel) → FitsCircuit c self.old x →
-            Says result (unless c x (number_ground x.talk pr.number) (hears_status x x.talk is_ready pr.number)).owed (unless c x (number_ground x.talk pr.number) (hears_status x x.talk is_ready pr.number)).notices }
+            Says result (unless c x (number_ground x.talk pr.number) (hears_status x x.talk is_ready pr.number)).owed
+            (unless c x (number_ground x.talk pr.number) (hears_status x x.talk is_ready pr.number)).notices }
         ensures range { IsSendable (plain_owed result.packet) }
         ensures room { room_of self.old ≤ room_of self.new }
     {
@@ -53,7 +54,8 @@ impl Circuit {
         ensures next { (c : Settings) (x : Channel) → FitsCircuit c self.old x
             → FitsCircuit c self.new (confirms c x x.talk self.old.transfer.interrupt_out).next }
         ensures says { (c : Settings) (x : Channel) → FitsCircuit c self.old x →
-            Says result (confirms c x x.talk self.old.transfer.interrupt_out).owed (confirms c x x.talk self.old.transfer.interrupt_out).notices }
+            Says result (confirms c x x.talk self.old.transfer.interrupt_out).owed
+            (confirms c x x.talk self.old.transfer.interrupt_out).notices }
         ensures range { IsSendable (plain_owed result.packet) }
         ensures room { room_of self.old ≤ room_of self.new }
     {
@@ -69,7 +71,8 @@ impl Circuit {
         ensures next { (c : Settings) (x : Channel) → FitsCircuit c self.old x
             → FitsCircuit c self.new (resets_for c x (first_ground x.talk pr.number diagnostic)).next }
         ensures says { (c : Settings) (x : Channel) → FitsCircuit c self.old x →
-            Says result (resets_for c x (first_ground x.talk pr.number diagnostic)).owed (resets_for c x (first_ground x.talk pr.number diagnostic)).notices }
+            Says result (resets_for c x (first_ground x.talk pr.number diagnostic)).owed
+            (resets_for c x (first_ground x.talk pr.number diagnostic)).notices }
         ensures range { IsSendable (plain_owed result.packet) }
         ensures room { room_of self.old ≤ room_of self.new }
     {
@@ -88,7 +91,9 @@ impl Circuit {
             → FitsCircuit c self.new (unless c x (number_ground x.talk pr.number)
             (takes x x.talk pr.number (piece_of q m user.now))).next }
         ensures says { (c : Settings) (x : Channel) → FitsCircuit c self.old x →
-            Says result (unless c x (number_ground x.talk pr.number) (takes x x.talk pr.number (piece_of q m user.now))).owed (unless c x (number_ground x.talk pr.number) (takes x x.talk pr.number (piece_of q m user.now))).notices }
+            Says result (unless c x (number_ground x.talk pr.number)
+            (takes x x.talk pr.number (piece_of q m user.now))).owed
+            (unless c x (number_ground x.talk pr.number) (takes x x.talk pr.number (piece_of q m user.now))).notices }
         ensures range { IsSendable (plain_owed result.packet) }
         ensures room { IfNone result.packet (room_of self.old ≤ room_of self.new) }
     {
@@ -115,7 +120,8 @@ impl Circuit {
             → OnOk result (FitsCircuit c self.new
             (row_open c x x.talk (user_data 1 q m ps.number pr.number user.now)).next) }
         ensures says { (c : Settings) (x : Channel) → FitsCircuit c self.old x →
-            IfOk result (λ reply. Says reply (row_open c x x.talk (user_data 1 q m ps.number pr.number user.now)).owed (row_open c x x.talk (user_data 1 q m ps.number pr.number user.now)).notices) }
+            IfOk result (λ reply. Says reply (row_open c x x.talk (user_data 1 q m ps.number pr.number user.now)).owed
+            (row_open c x x.talk (user_data 1 q m ps.number pr.number user.now)).notices) }
         ensures range { IfOk result (λ reply. IsSendable (plain_owed reply.packet)) }
         ensures err { IfErr result (λ e. e ≡ CircuitError.NoMemory) }
         ensures missing { OnErr result (room_of self.old < min (length user.now) 4096) }
@@ -139,7 +145,8 @@ impl Circuit {
         ensures next { (c : Settings) (x : Channel) → FitsCircuit c self.old x
             → OnOk result (FitsCircuit c self.new (row_open c x x.talk (plain packet.now)).next) }
         ensures says { (c : Settings) (x : Channel) → FitsCircuit c self.old x →
-            IfOk result (λ reply. Says reply (row_open c x x.talk (plain packet.now)).owed (row_open c x x.talk (plain packet.now)).notices) }
+            IfOk result (λ reply. Says reply (row_open c x x.talk (plain packet.now)).owed
+            (row_open c x x.talk (plain packet.now)).notices) }
         ensures range { IfOk result (λ reply. IsSendable (plain_owed reply.packet)) }
         ensures err { IfErr result (λ e. e ≡ CircuitError.NoMemory) }
         ensures missing { OnErr result (room_of self.old < min (length (user_octets (plain packet.now))) 4096) }
@@ -171,7 +178,8 @@ impl Circuit {
         ensures next { (c : Settings) (x : Channel) → FitsCircuit c self.old x
             → OnOk result (FitsCircuit c self.new (row_data c x self.old.state (plain packet.now)).next) }
         ensures says { (c : Settings) (x : Channel) → FitsCircuit c self.old x →
-            IfOk result (λ reply. Says reply (row_data c x self.old.state (plain packet.now)).owed (row_data c x self.old.state (plain packet.now)).notices) }
+            IfOk result (λ reply. Says reply (row_data c x self.old.state (plain packet.now)).owed
+            (row_data c x self.old.state (plain packet.now)).notices) }
         ensures range { IfOk result (λ reply. IsSendable (plain_owed reply.packet)) }
         ensures err { IfErr result (λ e. e ≡ CircuitError.NoMemory) }
         ensures missing { OnErr result (room_of self.old < min (length (user_octets (plain packet.now))) 4096) }
@@ -197,7 +205,8 @@ impl Circuit {
         ensures next { (c : Settings) (x : Channel) → FitsCircuit c self.old x
             → OnOk result (FitsCircuit c self.new (answers c x (plain packet.now)).next) }
         ensures says { (c : Settings) (x : Channel) → FitsCircuit c self.old x →
-            IfOk result (λ reply. Says reply (answers c x (plain packet.now)).owed (answers c x (plain packet.now)).notices) }
+            IfOk result (λ reply. Says reply (answers c x (plain packet.now)).owed
+            (answers c x (plain packet.now)).notices) }
         ensures range { IfOk result (λ reply. IsSendable (plain_owed reply.packet)) }
         ensures err { IfErr result (λ e. e ≡ CircuitError.NoMemory) }
         ensures missing { OnErr result (room_of self.old < min (length (user_octets (plain packet.now))) 4096) }

@@ -35,7 +35,10 @@ impl Model for PartialMessage {
 
     ghost Value = { ShownPartial };
 
-    ghost view = { λ p. record { part = record { begun = p.begun; user = take p.filled p.places.items }; room = vec_len p.places - p.filled } };
+    ghost view = { λ p. record {
+      part = record { begun = p.begun; user = take p.filled p.places.items };
+      room = vec_len p.places - p.filled;
+    } };
 
     ghost invariant = { λ p. (p.filled ≤ vec_len p.places) × (p.filled ≤ 65535) × (vec_capacity p.places ≤ 69631) };
 }

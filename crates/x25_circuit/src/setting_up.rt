@@ -62,7 +62,12 @@ impl Circuit {
         ensures says { (c : Settings) (x : Channel) → FitsCircuit c self.old x
             → Says result (collides c.role x
             (record { called = called.now; calling = calling.now; user = user.now; params = flow.params })).owed
-            (collides c.role x (record { called = called.now; calling = calling.now; user = user.now; params = flow.params })).notices }
+            (collides c.role x (record {
+              called = called.now;
+              calling = calling.now;
+              user = user.now;
+              params = flow.params;
+            })).notices }
         ensures range { IsSendable (plain_owed result.packet) }
         ensures room { room_of self.old ≤ room_of self.new }
     {
@@ -105,7 +110,8 @@ impl Circuit {
         ensures next { (c : Settings) (x : Channel) → FitsCircuit c self.old x
             → FitsCircuit c self.new (connects c x (said_in x.params facilities.now)).next }
         ensures says { (c : Settings) (x : Channel) → FitsCircuit c self.old x →
-            Says result (connects c x (said_in x.params facilities.now)).owed (connects c x (said_in x.params facilities.now)).notices }
+            Says result (connects c x (said_in x.params facilities.now)).owed
+            (connects c x (said_in x.params facilities.now)).notices }
         ensures range { IsSendable (plain_owed result.packet) }
         ensures room { room_of self.old ≤ room_of self.new }
     {

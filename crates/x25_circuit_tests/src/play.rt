@@ -45,8 +45,8 @@ pub enum Event<'a> {
     Zero,
     /// Nothing happens. The text says how many octets of a message in part have come, and memory is kept for.
     Joined,
-    /// Nothing happens. The text says how many messages wait, clears and resets, whether the circuit is free or open, and sizes
-    /// and windows.
+    /// Nothing happens. The text says how many messages wait, clears and resets, whether the circuit is free or open,
+    /// and sizes and windows.
     Ask,
 }
 

@@ -4,9 +4,11 @@ use Rattle.x25_circuit.specs.Params.{default_params}
 use Rattle.x25_circuit.specs.Calling.{Accepts, Clears, Sends, Interrupts, Resets, SaysReady, SaysNotReady}
 use Rattle.x25_layer.specs.Calls.{Asks, Dials, Restarts, PullsAll}
 use Rattle.x25_station.specs.Command.{Command, Requests, Connects, Disconnects}
-use Rattle.x25_script.specs.ScriptLine.{PlainCommand, call, accept, clear, send, interrupt, reset, ready, not_ready, restart, pull, connect, disconnect}
+use Rattle.x25_script.specs.ScriptLine.{PlainCommand, call, accept, clear, send, interrupt, reset, ready, not_ready}
+use Rattle.x25_script.specs.ScriptLine.{restart, pull, connect, disconnect}
 
--- A call without packet sizes and windows proposes the default, and an acceptance without them accepts what was proposed.
+-- A call without packet sizes and windows proposes the default, and an acceptance without them accepts what was
+-- proposed.
 abbrev pub command_asked : PlainCommand → Command
 command_asked (call called calling user params) = Requests (Dials called calling user (unwrap_or params default_params))
 command_asked (accept channel params) = Requests (Asks channel (Accepts params))

@@ -28,7 +28,8 @@ fn write_front(digits: &HexDigits, octets: &mut [u8])
     digits.write_to(&mut octets[..digits.len()]);
 }
 
-/// The octets that the digits write, at the front of the list, and how many these are. Err: no memory; the list is as it was then.
+/// The octets that the digits write, at the front of the list, and how many these are. Err: no memory; the list is as
+/// it was then.
 ///
 /// A list that was as long once takes none.
 pub fn read_octets(digits: &HexDigits, octets: &mut Vec<u8>) -> Result<usize, AllocError>
@@ -42,8 +43,8 @@ pub fn read_octets(digits: &HexDigits, octets: &mut Vec<u8>) -> Result<usize, Al
     Ok(count)
 }
 
-/// The octets of user data that a command has, none where it has no such field, at the front of the list, and how many these are. Err: no
-/// memory; the list is as it was then.
+/// The octets of user data that a command has, none where it has no such field, at the front of the list, and how many
+/// these are. Err: no memory; the list is as it was then.
 #[inline(always)]
 pub fn read_user(command: &Command, octets: &mut Vec<u8>) -> Result<usize, AllocError>
     ensures read { IfOk result (λ count. take count octets.new.items ≡ user_in (plain_command command.now)) }

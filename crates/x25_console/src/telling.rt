@@ -50,7 +50,8 @@ fn tell_entry<W: Sink>(
     Ok(push_entry(at, entry, output.text())?)
 }
 
-/// Tells the entries of an end. 62: a call of the writer failed, and the writer is marked; 70: no memory for a long line.
+/// Tells the entries of an end. 62: a call of the writer failed, and the writer is marked; 70: no memory for a long
+/// line.
 #[inline(always)]
 pub fn tell_entries<W: Sink>(
     at: Role,
@@ -77,8 +78,8 @@ fn push_frame(from: Role, octets: &[u8], text: &mut Text) -> Result<(), AllocErr
     text.try_push(b"\n")
 }
 
-/// Tells a frame that an end sent, as a line for `decode`. 62: a call of the writer failed, and the writer is marked; 70: no
-/// memory for a long line.
+/// Tells a frame that an end sent, as a line for `decode`. 62: a call of the writer failed, and the writer is marked;
+/// 70: no memory for a long line.
 pub fn tell_frame<W: Sink>(
     from: Role,
     octets: &[u8],
@@ -102,8 +103,8 @@ fn push_refusal(number: u8, text: &mut Text)
     text.push(b"\n");
 }
 
-/// Tells that what a line asks for is refused, by the number of the error. 62 alone: a call of the writer failed, and the
-/// writer is marked.
+/// Tells that what a line asks for is refused, by the number of the error. 62 alone: a call of the writer failed, and
+/// the writer is marked.
 pub fn tell_refusal<W: Sink>(number: u8, output: &mut Output, writer: &mut W) -> Result<(), Fault>
     ensures tells { TellsMore result (W.contents writer.old) (W.contents writer.new) output.old output.new
         (refusal_line number) }

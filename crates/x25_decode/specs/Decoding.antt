@@ -1,5 +1,6 @@
 -- What `decode` writes, as a function of what it reads (profile).
-use Rattle.std.specs.Prelude.{ℕ, ◌==◌, nat_le, Bool, not, List, [], ◌∷◌, ◌++◌, length, codes, if◌then◌else◌, Option, Some, None, is_some, option_map, option_and_then}
+use Rattle.std.specs.Prelude.{ℕ, ◌==◌, nat_le, Bool, not, List, [], ◌∷◌, ◌++◌, length, codes, if◌then◌else◌, Option}
+use Rattle.std.specs.Prelude.{Some, None, is_some, option_map, option_and_then}
 use Rattle.std.specs.List.{flat_map, list_any}
 use Rattle.std.specs.Result.{result_ok}
 use Rattle.hex.specs.Hex.{decode_of}

@@ -20,8 +20,16 @@ stored =
     record { name = codes "V3"; line = codes "< 01738357"; answer = codes "< UA rsp F=1\n" } ∷
     record { name = codes "V4"; line = codes "> 033f5bec"; answer = codes "> fault 4 undefined ctl=3f\n" } ∷
     record { name = codes "V5"; line = codes "> 053f8bb8"; answer = codes "> fault 3 address\n" } ∷
-    record { name = codes "V6"; line = codes "> 01001000fb00007702"; answer = codes "> I cmd P=0 S=0 R=0 | RESTART cause=0 diag=0\n" } ∷
-    record { name = codes "V7"; line = codes "< 03001000fb0700c478"; answer = codes "< I cmd P=0 S=0 R=0 | RESTART cause=7 diag=0\n" } ∷
+    record {
+      name = codes "V6";
+      line = codes "> 01001000fb00007702";
+      answer = codes "> I cmd P=0 S=0 R=0 | RESTART cause=0 diag=0\n";
+    } ∷
+    record {
+      name = codes "V7";
+      line = codes "< 03001000fb0700c478";
+      answer = codes "< I cmd P=0 S=0 R=0 | RESTART cause=7 diag=0\n";
+    } ∷
     record { name = codes "V8"; line = codes "< 01211426"; answer = codes "< RR rsp F=0 R=1\n" } ∷
     record { name = codes "V9"; line = codes "> 0321a415"; answer = codes "> RR rsp F=0 R=1\n" } ∷
     record { name = codes "V10"; line = codes "< 01095e8b"; answer = codes "< REJ rsp F=0 R=0\n" } ∷
@@ -30,8 +38,16 @@ stored =
     record { name = codes "V13"; line = codes "< 01872000080f31"; answer = codes "< FRMR rsp F=0 why=200008\n" } ∷
     record { name = codes "V14"; line = codes "> 0101"; answer = codes "> fault 1 short\n" } ∷
     record { name = codes "V15"; line = codes "> 013febde"; answer = codes "> fault 2 fcs\n" } ∷
-    record { name = codes "V16"; line = codes "> 01209d37"; answer = codes "> I cmd P=0 S=0 R=1 | fault 20 diag=38\n" } ∷
-    record { name = codes "V17"; line = codes "> 012210010b431234567000417605"; answer = codes "> I cmd P=0 S=1 R=1 | CALL ch=1 called=123 calling=4567 fac=- data=41\n" } ∷
+    record {
+      name = codes "V16";
+      line = codes "> 01209d37";
+      answer = codes "> I cmd P=0 S=0 R=1 | fault 20 diag=38\n";
+    } ∷
+    record {
+      name = codes "V17";
+      line = codes "> 012210010b431234567000417605";
+      answer = codes "> I cmd P=0 S=1 R=1 | CALL ch=1 called=123 calling=4567 fac=- data=41\n";
+    } ∷
     []
 
 -- a vector of the program, as text

@@ -1,7 +1,9 @@
 //! What answers a line.
-ghost use Rattle.std.specs.Prelude.{◌≡◌, ◌+◌, ◌*◌, ◌≤◌, ◌++◌, Some, None, false, codes, length, take, IfSome, MatchOption};
+ghost use Rattle.std.specs.Prelude.{◌≡◌, ◌+◌, ◌*◌, ◌≤◌, ◌++◌, Some, None, false, codes, length, take, IfSome};
+ghost use Rattle.std.specs.Prelude.{MatchOption};
 ghost use Rattle.x25_frame.specs.Reading.{frame_of};
-ghost use Rattle.x25_decode.specs.Decoding.{answer_to, is_refused, line_text, mark_of, n1, octets_in, sender_of, sent_in, sent_text};
+ghost use Rattle.x25_decode.specs.Decoding.{answer_to, is_refused, line_text, mark_of, n1, octets_in, sender_of};
+ghost use Rattle.x25_decode.specs.Decoding.{sent_in, sent_text};
 ghost use Rattle.x25_decode.specs.code.Front.{StandsInFront};
 ghost use Rattle.x25_text.specs.FrameText.{reading_text};
 ghost use Rattle.x25_text.specs.WideFrameText.{wide_reading_text};
@@ -157,13 +159,14 @@ pub fn answer(reading: Reading, line: &[u8], octets: &mut [u8], text: &mut Text)
     }
 }
 
-/// Reads the octets of the line at the front of a text to the front of `octets`, where it can be read with no search for its
-/// end, and answers their sender and how many they are.
+/// Reads the octets of the line at the front of a text to the front of `octets`, where it can be read with no search
+/// for its end, and answers their sender and how many they are.
 fn read_front(left: &[u8], octets: &mut [u8]) -> Option<(Role, usize)>
     requires { length octets.old ≡ MOST_OCTETS }
     ensures few { IfSome result (λ sent. sent.1 ≤ MOST_OCTETS) }
     ensures line { IfSome result (λ sent. StandsInFront (2 * sent.1 + 2) left.now) }
-    ensures sent { IfSome result (λ sent. sent_in (take (2 * sent.1 + 2) left.now) ≡ Some (sent.0, take sent.1 octets.new)) }
+    ensures sent { IfSome result (λ sent. sent_in (take (2 * sent.1 + 2) left.now)
+        ≡ Some (sent.0, take sent.1 octets.new)) }
 {
     let [mark, b' ', digits @ ..] = left else {
         return None;
@@ -177,8 +180,8 @@ fn read_front(left: &[u8], octets: &mut [u8]) -> Option<(Role, usize)>
     }
 }
 
-/// Appends the line that answers the line at the front of a text, where that can be read with no search for its end, and
-/// answers how many characters it has before its line feed. `octets` is overwritten.
+/// Appends the line that answers the line at the front of a text, where that can be read with no search for its end,
+/// and answers how many characters it has before its line feed. `octets` is overwritten.
 ///
 /// `reading` says how octets are read.
 #[tactic(auto, unfolding(crate::specs::Decoding::answer_to, crate::specs::Decoding::is_refused))]
@@ -191,7 +194,8 @@ pub fn answer_front(
     requires octets { length octets.old ≡ MOST_OCTETS }
     requires room { length text.old + MOST_ANSWER ≤ ROOM }
     ensures line { IfSome result (λ count. StandsInFront count left.now) }
-    ensures text { MatchOption result (text.new ≡ text.old) (λ count. text.new ≡ text.old ++ answer_to reading (take count left.now)) }
+    ensures text { MatchOption result (text.new ≡ text.old) (λ count. text.new ≡ text.old
+        ++ answer_to reading (take count left.now)) }
     ensures taken { IfSome result (λ count. is_refused (take count left.now) ≡ false) }
 {
     match read_front(left, octets) {

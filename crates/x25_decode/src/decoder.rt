@@ -19,7 +19,8 @@ pub struct Decoder {
 }
 
 impl Decoder {
-    ghost use Rattle.std.specs.Prelude.{◌≡◌, ◌≤◌, ◌<◌, ◌+◌, ◌++◌, ◌∷◌, [], ℕ, Bool, true, List, Option, ◌||◌, IfOk, OnOk, OnErr, MatchOption, MatchResult, length};
+    ghost use Rattle.std.specs.Prelude.{◌≡◌, ◌≤◌, ◌<◌, ◌+◌, ◌++◌, ◌∷◌, [], ℕ, Bool, true, List, Option, ◌||◌, IfOk};
+    ghost use Rattle.std.specs.Prelude.{OnOk, OnErr, MatchOption, MatchResult, length};
     ghost use Rattle.std.specs.Io.KnownBytes.{Appends};
     ghost use Rattle.x25_decode.specs.Decoding.{answer_to, is_refused};
     ghost use Rattle.x25_decode.specs.code.Stream.{DecodesOn, LeadsFrom};
@@ -31,7 +32,8 @@ impl Decoder {
     ///
     /// `reading` says how octets are read.
     pub fn new(alloc: Global, reading: Reading) -> Result<Decoder, AllocError>
-        ensures { IfOk result (λ d. (old : Option (List ℕ)) (input : List ℕ) → DecodesOn reading d old old input input) }
+        ensures { IfOk result (λ d. (old : Option (List ℕ)) (input : List ℕ)
+            → DecodesOn reading d old old input input) }
     {
         let held = HeldLine::new(alloc)?;
         let output = Output::new(alloc)?;
@@ -47,7 +49,8 @@ impl Decoder {
     /// Answers the line that is held, and says whether it is refused.
     fn answer_held(&mut self) -> bool
         requires room { length self.old.output + MOST_ANSWER ≤ ROOM }
-        ensures text { (begun : List ℕ) → HoldsLine begun self.old.held → self.new.output ≡ self.old.output ++ answer_to self.old.reading begun }
+        ensures text { (begun : List ℕ) → HoldsLine begun self.old.held → self.new.output ≡ self.old.output
+            ++ answer_to self.old.reading begun }
         ensures refused { (begun : List ℕ) → HoldsLine begun self.old.held → result ≡ is_refused begun }
         ensures held { self.new.held ≡ self.old.held }
         ensures is_refused { self.new.is_refused ≡ self.old.is_refused }
@@ -65,8 +68,10 @@ impl Decoder {
     /// The line that is held has ended.
     fn end_line(&mut self)
         requires room { length self.old.output + MOST_ANSWER ≤ ROOM }
-        ensures text { (begun : List ℕ) → HoldsLine begun self.old.held → self.new.output ≡ self.old.output ++ answer_to self.old.reading begun }
-        ensures refused { (begun : List ℕ) → HoldsLine begun self.old.held → self.new.is_refused ≡ (self.old.is_refused || is_refused begun) }
+        ensures text { (begun : List ℕ) → HoldsLine begun self.old.held → self.new.output ≡ self.old.output
+            ++ answer_to self.old.reading begun }
+        ensures refused { (begun : List ℕ) → HoldsLine begun self.old.held
+            → self.new.is_refused ≡ (self.old.is_refused || is_refused begun) }
         ensures cleared { HoldsLine [] self.new.held }
         ensures reading { self.new.reading ≡ self.old.reading }
     {
@@ -79,7 +84,8 @@ impl Decoder {
     fn close(&mut self, tail: &[u8])
         requires open { IsOpen tail.now }
         requires room { length self.old.output + MOST_ANSWER ≤ ROOM }
-        ensures leads { (old now : Option (List ℕ)) (rest all : List ℕ) (any : Bool) → LeadsFrom old now self.old (tail.now ++ 10 ∷ rest) all any
+        ensures leads { (old now : Option (List ℕ)) (rest all : List ℕ) (any : Bool)
+            → LeadsFrom old now self.old (tail.now ++ 10 ∷ rest) all any
             → LeadsFrom old now self.new rest all any }
         ensures reading { self.new.reading ≡ self.old.reading }
     {
@@ -92,11 +98,14 @@ impl Decoder {
         self.end_line();
     }
 
-    /// Takes the line at the front of a text, where it ends there, and answers what stands behind it. Its end is searched for.
+    /// Takes the line at the front of a text, where it ends there, and answers what stands behind it. Its end is
+    /// searched for.
     fn take_found_line<'a>(&mut self, left: &'a [u8]) -> Option<&'a [u8]>
         requires room { length self.old.output + MOST_ANSWER ≤ ROOM }
-        ensures leads { (old now : Option (List ℕ)) (rest all : List ℕ) (any : Bool) → LeadsFrom old now self.old (left.now ++ rest) all any
-            → MatchOption result (LeadsFrom old now self.new (left.now ++ rest) all any) (λ more. LeadsFrom old now self.new (more.now ++ rest) all any) }
+        ensures leads { (old now : Option (List ℕ)) (rest all : List ℕ) (any : Bool)
+            → LeadsFrom old now self.old (left.now ++ rest) all any
+            → MatchOption result (LeadsFrom old now self.new (left.now
+            ++ rest) all any) (λ more. LeadsFrom old now self.new (more.now ++ rest) all any) }
         ensures line { MatchOption result (IsOpen left.now) (λ more. length more.now < length left.now) }
         ensures reading { self.new.reading ≡ self.old.reading }
     {
@@ -116,10 +125,12 @@ impl Decoder {
         ensures kept { OnOk result (W.is_marked writer.new ≡ W.is_marked writer.old) }
         ensures leads { (old : Option (List ℕ)) (rest all : List ℕ) (any : Bool)
             → LeadsFrom old (W.contents writer.old) self.old (left.now ++ rest) all any
-            → MatchResult result (λ after. MatchOption after (LeadsFrom old (W.contents writer.new) self.new (left.now ++ rest) all any)
+            → MatchResult result (λ after. MatchOption after (LeadsFrom old (W.contents writer.new) self.new (left.now
+            ++ rest) all any)
             (λ more. LeadsFrom old (W.contents writer.new) self.new (more.now ++ rest) all any))
             (λ _. AppendsPrefix old (W.contents writer.new) all) }
-        ensures line { IfOk result (λ after. MatchOption after (IsOpen left.now) (λ more. length more.now < length left.now)) }
+        ensures line { IfOk result (λ after. MatchOption after (IsOpen left.now)
+            (λ more. length more.now < length left.now)) }
         ensures marked { OnErr result (W.is_marked writer.new ≡ true) }
         ensures reading { self.new.reading ≡ self.old.reading }
     {

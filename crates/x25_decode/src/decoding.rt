@@ -1,5 +1,6 @@
 //! Lines of octets answered by lines of text.
-ghost use Rattle.std.specs.Prelude.{◌≡◌, ◌<◌, ◌≤◌, ◌-◌, ◌^◌, ℕ, true, List, Some, IfOk, OnOk, OnErr, IfSome, IsErrOf, length};
+ghost use Rattle.std.specs.Prelude.{◌≡◌, ◌<◌, ◌≤◌, ◌-◌, ◌^◌, ℕ, true, List, Some, IfOk, OnOk, OnErr, IfSome, IsErrOf};
+ghost use Rattle.std.specs.Prelude.{length};
 ghost use Rattle.std.specs.Io.KnownBytes.{Appends};
 ghost use Rattle.x25_decode.specs.Decoding.{output_of, status_of};
 ghost use Rattle.x25_decode.specs.code.Stream.{WritesEnded};
@@ -13,9 +14,10 @@ use x25_io::{Fault, PIECE, Sink, Source, take_text};
 /// Answers each line that the reader gives by a line to the writer, and answers the status: 1 where a line was refused,
 /// else 0.
 ///
-/// `reading` says how octets are read. At most one line of 131,200 characters is held, and after each read the answers to the lines that have ended are written. The buffers are made first: `NoMemory`
-/// comes with nothing read and nothing written. A reader is called at most 2^64 - 1 times; the clauses on the text speak
-/// of inputs of fewer octets than that. Profile.
+/// `reading` says how octets are read. At most one line of 131,200 characters is held, and after each read the answers
+/// to the lines that have ended are written. The buffers are made first: `NoMemory` comes with nothing read and nothing
+/// written. A reader is called at most 2^64 - 1 times; the clauses on the text speak of inputs of fewer octets than
+/// that. Profile.
 pub fn decode_lines<R: Source, W: Sink>(
     alloc: Global,
     reading: Reading,
@@ -23,7 +25,8 @@ pub fn decode_lines<R: Source, W: Sink>(
     writer: &mut W,
 ) -> Result<u8, Fault>
     // Where a status is answered, no call of the reader or of the writer failed.
-    ensures clean { OnOk result ((R.is_marked reader.new ≡ R.is_marked reader.old) × (W.is_marked writer.new ≡ W.is_marked writer.old)) }
+    ensures clean { OnOk result ((R.is_marked reader.new ≡ R.is_marked reader.old)
+        × (W.is_marked writer.new ≡ W.is_marked writer.old)) }
     ensures zero_or_one { IfOk result (λ status. status ≤ 1) }
     // What is written is the text of all that was read.
     ensures text { OnOk result (IfSome (R.remaining reader.old) (λ input. length input < 2 ^ 64 - 1

@@ -2,7 +2,8 @@
 ghost use Rattle.std.specs.Prelude.{◌≡◌, true, if◌then◌else◌, length, map, IfOk, IsErrOf, OnErr, OnOk};
 ghost use Rattle.std.specs.Io.KnownBytes.{Appends};
 ghost use Rattle.std.specs.List.{flat_map, list_all};
-ghost use Rattle.x25_decode.specs.TestVectors.{are_right, is_check_right, is_right, shown, verdict, verdict_of, verdicts};
+ghost use Rattle.x25_decode.specs.TestVectors.{are_right, is_check_right, is_right, shown, verdict, verdict_of};
+ghost use Rattle.x25_decode.specs.TestVectors.{verdicts};
 ghost use Rattle.x25_io.specs.code.Written.{AppendsPrefix};
 
 use crate::answer::{Reading, answer};
@@ -113,7 +114,8 @@ static VECTORS: [Vector; 16] = [
 /// Writes a name, and `ok` or `bad`.
 fn write_verdict<W: Sink>(writer: &mut W, name: &str, is_right: bool) -> Result<(), Failed>
     ensures ok { OnOk result (Appends (W.contents writer.old) (W.contents writer.new) (verdict name.now is_right)) }
-    ensures err { OnErr result (AppendsPrefix (W.contents writer.old) (W.contents writer.new) (verdict name.now is_right)) }
+    ensures err { OnErr result (AppendsPrefix (W.contents writer.old) (W.contents writer.new)
+        (verdict name.now is_right)) }
     ensures kept { OnOk result (W.is_marked writer.new ≡ W.is_marked writer.old) }
     ensures marked { OnErr result (W.is_marked writer.new ≡ true) }
 {
@@ -138,8 +140,10 @@ fn holds(vector: &Vector, octets: &mut [u8], text: &mut Text) -> bool
 /// Writes a line for each vector, and answers whether all hold.
 fn write_each<W: Sink>(vectors: &[Vector], text: &mut Text, writer: &mut W) -> Result<bool, Failed>
     ensures right { IfOk result (λ all. all ≡ list_all is_right (map shown vectors.now)) }
-    ensures ok { OnOk result (Appends (W.contents writer.old) (W.contents writer.new) (flat_map verdict_of (map shown vectors.now))) }
-    ensures err { OnErr result (AppendsPrefix (W.contents writer.old) (W.contents writer.new) (flat_map verdict_of (map shown vectors.now))) }
+    ensures ok { OnOk result (Appends (W.contents writer.old) (W.contents writer.new)
+        (flat_map verdict_of (map shown vectors.now))) }
+    ensures err { OnErr result (AppendsPrefix (W.contents writer.old) (W.contents writer.new)
+        (flat_map verdict_of (map shown vectors.now))) }
     ensures kept { OnOk result (W.is_marked writer.new ≡ W.is_marked writer.old) }
     ensures marked { OnErr result (W.is_marked writer.new ≡ true) }
 {

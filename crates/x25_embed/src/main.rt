@@ -1,5 +1,5 @@
-//! `x25_embed`: two stations in a program of its own. It has the lines between them, loses a frame, and fires timer T1; then it
-//! prints what was reported to each user.
+//! `x25_embed`: two stations in a program of its own. It has the lines between them, loses a frame, and fires timer T1;
+//! then it prints what was reported to each user.
 #![tactic(auto)]
 
 mod driving;

@@ -5,7 +5,8 @@ use Rattle.x25_bits.specs.declared.role.Role.{Role}
 use Rattle.x25_frame.specs.Frame.{PlainFrame}
 use Rattle.x25_frame.specs.Spelling.{address_of, is_command, control_of, IsInRange, MayCarry, IsWithin}
 use Rattle.x25_frame.specs.declared.error.FrameError.{FrameError}
-use Rattle.x25_frame.specs.declared.error.FrameError.TheVariants.{Short, BadFcs, BadAddress, Undefined, NoInfoAllowed, TooLong}
+use Rattle.x25_frame.specs.declared.error.FrameError.TheVariants.{Short, BadFcs, BadAddress, Undefined, NoInfoAllowed}
+use Rattle.x25_frame.specs.declared.error.FrameError.TheVariants.{TooLong}
 
 abbrev pub number_of : FrameError → ℕ
 number_of Short = 1
@@ -39,6 +40,8 @@ IsFirstError from n1 octets (Undefined control) = IsValid octets
     × ((slice_index octets 0 ≢ 1) → slice_index octets 0 ≡ 3)
     × ((v : PlainFrame) → ¬ HasKind from v octets) × (slice_index octets 1 ≡ control)
 IsFirstError from n1 octets (NoInfoAllowed control) = IsValid octets
-    × ((v : PlainFrame) × HasKind from v octets × ¬ MayCarry v (information_in octets)) × (slice_index octets 1 ≡ control)
+    × ((v : PlainFrame) × HasKind from v octets × ¬ MayCarry v (information_in octets))
+    × (slice_index octets 1 ≡ control)
 IsFirstError from n1 octets TooLong = IsValid octets
-    × ((v : PlainFrame) × HasKind from v octets × MayCarry v (information_in octets) × ¬ IsWithin n1 v (information_in octets))
+    × ((v : PlainFrame) × HasKind from v octets × MayCarry v (information_in octets)
+    × ¬ IsWithin n1 v (information_in octets))

@@ -2,8 +2,8 @@ ghost use Rattle.std.specs.Prelude.{◌≡◌, ◌&&◌};
 
 use x25_bits::Seq;
 
-/// N1, the most octets of information of an I frame: those of the longest data packet, a header of three octets and 4,096 octets of user
-/// data (profile). ITU-T X.25 (10/96), section 2.4.8.5, which counts bits.
+/// N1, the most octets of information of an I frame: those of the longest data packet, a header of three octets and
+/// 4,096 octets of user data (profile). ITU-T X.25 (10/96), section 2.4.8.5, which counts bits.
 pub const N1: usize = 4099;
 
 /// A frame of LAPB, ITU-T X.25 (10/96), section 2.3.4. Its information is borrowed.

@@ -1,5 +1,6 @@
 //! From a frame to the octets that spell it.
-ghost use Rattle.std.specs.Prelude.{◌≡◌, ◌+◌, ◌*◌, ◌≤◌, [], ◌∷◌, ◌++◌, OnOk, OnErr, IsOk, length, vec_len, vec_capacity};
+ghost use Rattle.std.specs.Prelude.{◌≡◌, ◌+◌, ◌*◌, ◌≤◌, [], ◌∷◌, ◌++◌, OnOk, OnErr, IsOk, length, vec_len};
+ghost use Rattle.std.specs.Prelude.{vec_capacity};
 ghost use Rattle.std.specs.Vec.{VecUnchanged};
 ghost use Rattle.x25_frame.specs.Frame.{plain};
 ghost use Rattle.x25_bits.specs.Bits.{bit};
@@ -55,7 +56,8 @@ fn information<'a>(frame: &'a Frame<'a>) -> &'a [u8]
 pub fn encode(from: Role, frame: &Frame, octets: &mut Vec<u8>) -> Result<(), NoMemory>
     ensures ok { OnOk result (octets.new.items ≡ octets.old.items ++ spelling_of from (plain frame.now)) }
     ensures err { OnErr result (VecUnchanged octets.old octets.new) }
-    ensures room { vec_len octets.old + (length (information_of (plain frame.now)) + 4) ≤ vec_capacity octets.old → IsOk result }
+    ensures room { vec_len octets.old + (length (information_of (plain frame.now)) + 4) ≤ vec_capacity octets.old
+        → IsOk result }
 {
     let head = [address(from, frame.is_command()), control(frame)];
     let info = information(frame);
@@ -74,7 +76,8 @@ pub fn encode(from: Role, frame: &Frame, octets: &mut Vec<u8>) -> Result<(), NoM
 /// .. of a frame without information, which has this address and control.
 #[inline(always)]
 fn encode_bare(address: u8, control: u8, octets: &mut Vec<u8>) -> Result<(), NoMemory>
-    ensures ok { OnOk result (octets.new.items ≡ octets.old.items ++ (address ∷ control ∷ [] ++ seal_of (address ∷ control ∷ []))) }
+    ensures ok { OnOk result (octets.new.items ≡ octets.old.items
+        ++ (address ∷ control ∷ [] ++ seal_of (address ∷ control ∷ []))) }
     ensures err { OnErr result (VecUnchanged octets.old octets.new) }
     ensures room { vec_len octets.old + 4 ≤ vec_capacity octets.old → IsOk result }
 {

@@ -69,8 +69,8 @@ pub fn any_peer_keeps_stretches()
 {}
 
 /// Worked rows. A peer takes a data packet and says nothing, sends one of its own that acknowledges none, which is
-/// handed up, and acknowledges later. A peer confirms our RESTART and calls, our user accepts, and its message is handed
-/// up.
+/// handed up, and acknowledges later. A peer confirms our RESTART and calls, our user accepts, and its message is
+/// handed up.
 pub fn peers_move()
     ensures late { LatePeerMoves }
     ensures layer { PeerLayerMoves }

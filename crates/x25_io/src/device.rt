@@ -104,8 +104,8 @@ impl<W: Write> Sink for Device<W> {
     }
 }
 
-/// Writes all the octets, in as many calls as that takes. Err: one of them failed; the writer is marked then, and octets from their front
-/// are written.
+/// Writes all the octets, in as many calls as that takes. Err: one of them failed; the writer is marked then, and
+/// octets from their front are written.
 pub fn write_all<W: Sink>(writer: &mut W, octets: &[u8]) -> Result<(), Failed>
     ensures kept { OnOk result (W.is_marked writer.new ≡ W.is_marked writer.old) }
     ensures ok { OnOk result (Appends (W.contents writer.old) (W.contents writer.new) octets.now) }

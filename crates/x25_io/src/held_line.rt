@@ -6,7 +6,8 @@ use std::alloc::{AllocError, Global};
 /// The most characters of a line, without its line feed.
 const MOST_LINE: usize = 131_200;
 
-/// The line that has begun, as far as it is held: its characters, or that it is too long. No call but `new` takes memory.
+/// The line that has begun, as far as it is held: its characters, or that it is too long. No call but `new` takes
+/// memory.
 #[derive(Drop)]
 pub struct HeldLine {
     characters: Vec<u8>,
@@ -55,7 +56,8 @@ impl HeldLine {
     /// Whether the part is a line by itself: none has begun, and the part isn't too long.
     #[inline]
     pub(crate) fn is_whole(&self, part: &[u8]) -> bool
-        ensures { (begun : List ℕ) → HoldsLine begun self.now → IsTrue result → (begun ≡ []) × (length part.now ≤ most_line) }
+        ensures { (begun : List ℕ) → HoldsLine begun self.now → IsTrue result → (begun ≡ [])
+            × (length part.now ≤ most_line) }
     {
         self.is_empty() && part.len() <= MOST_LINE
     }

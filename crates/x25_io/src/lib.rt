@@ -1,5 +1,5 @@
-//! What programs over readers and writers share: devices that remember a fault, a text in pieces, its lines, the line that has
-//! begun, text on its way to a writer, and what ends a run. Profile.
+//! What programs over readers and writers share: devices that remember a fault, a text in pieces, its lines, the line
+//! that has begun, text on its way to a writer, and what ends a run. Profile.
 #![tactic(auto)]
 
 mod device;

@@ -1,5 +1,6 @@
 //! A text that is taken line by line.
-ghost use Rattle.std.specs.Prelude.{◌≡◌, ◌≤◌, ◌<◌, ◌∷◌, [], ℕ, true, List, Option, IfOk, OnOk, IsErrOf, MatchOption, MatchResult, length};
+ghost use Rattle.std.specs.Prelude.{◌≡◌, ◌≤◌, ◌<◌, ◌∷◌, [], ℕ, true, List, Option, IfOk, OnOk, IsErrOf, MatchOption};
+ghost use Rattle.std.specs.Prelude.{MatchResult, length};
 ghost use Rattle.std.specs.Io.KnownBytes.{Appends};
 ghost use Rattle.x25_io.specs.HeldLine.{most_line};
 ghost use Rattle.x25_io.specs.code.Written.{AppendsPrefix};
@@ -22,7 +23,8 @@ pub trait LineTaker: Drop {
     ghost waiting: { Self → List ℕ };
 
     ghost may_want: { Type 0 };
-    // `stands setting taker old now lines text`: the writer held `old` at first and holds `now`, and `lines` of the text are to come.
+    // `stands setting taker old now lines text`: the writer held `old` at first and holds `now`, and `lines` of the
+    // text are to come.
     ghost stands: { Setting → Self → Option (List ℕ) → Option (List ℕ) → List (List ℕ) → List ℕ → Type 0 };
     // `ended setting old now lines text`: all is written but what `lines` give.
     ghost ended: { Setting → Option (List ℕ) → Option (List ℕ) → List (List ℕ) → List ℕ → Type 0 };
@@ -30,8 +32,10 @@ pub trait LineTaker: Drop {
     /// Takes a line, `None` where it is longer than any that is held.
     fn take_line<W: Sink>(&mut self, line: Option<&[u8]>, writer: &mut W) -> Result<(), Fault>
         ensures kept { OnOk result (W.is_marked writer.new ≡ W.is_marked writer.old) }
-        ensures on { (setting : Setting) (old : Option (List ℕ)) (first : List ℕ) (lines : List (List ℕ)) (text : List ℕ)
-            → MatchOption line.entry (most_line < length first) (λ held. (held.now ≡ first) × (length first ≤ most_line))
+        ensures on { (setting : Setting) (old : Option (List ℕ)) (first : List ℕ) (lines : List (List ℕ))
+            (text : List ℕ)
+            → MatchOption line.entry (most_line < length first) (λ held. (held.now ≡ first)
+            × (length first ≤ most_line))
             → stands setting self.old old (W.contents writer.old) (first ∷ lines) text
             → MatchResult result (λ _. stands setting self.new old (W.contents writer.new) lines text)
             (λ _. AppendsPrefix old (W.contents writer.new) (text_of setting text)) }
@@ -45,7 +49,8 @@ pub trait LineTaker: Drop {
         ensures kept { OnOk result (W.is_marked writer.new ≡ W.is_marked writer.old) }
         ensures on { (setting : Setting) (old : Option (List ℕ)) (lines : List (List ℕ)) (text : List ℕ)
             → stands setting self.old old (W.contents writer.old) lines text
-            → MatchResult result (λ _. stands setting self.new old (W.contents writer.new) lines text × ended setting old (W.contents writer.new) lines text
+            → MatchResult result (λ _. stands setting self.new old (W.contents writer.new) lines text
+            × ended setting old (W.contents writer.new) lines text
             × AppendsPrefix old (W.contents writer.new) (text_of setting text))
             (λ _. AppendsPrefix old (W.contents writer.new) (text_of setting text)) }
         ensures write { IsErrOf result Fault.Write → W.is_marked writer.new ≡ true }
@@ -56,8 +61,10 @@ pub trait LineTaker: Drop {
     fn end<W: Sink>(&mut self, writer: &mut W) -> Result<u8, Fault>
         ensures zero_or_one { IfOk result (λ status. status ≤ 1) }
         ensures kept { OnOk result (W.is_marked writer.new ≡ W.is_marked writer.old) }
-        ensures all { (setting : Setting) (old : Option (List ℕ)) (text : List ℕ) → stands setting self.old old (W.contents writer.old) [] text
-            → MatchResult result (λ status. Appends old (W.contents writer.new) (text_of setting text) × (status ≡ status_of setting text))
+        ensures all { (setting : Setting) (old : Option (List ℕ)) (text : List ℕ)
+            → stands setting self.old old (W.contents writer.old) [] text
+            → MatchResult result (λ status. Appends old (W.contents writer.new) (text_of setting text)
+            × (status ≡ status_of setting text))
             (λ _. AppendsPrefix old (W.contents writer.new) (text_of setting text)) }
         ensures write { IsErrOf result Fault.Write → W.is_marked writer.new ≡ true }
         ensures memory { IsErrOf result Fault.NoMemory → may_want × (W.is_marked writer.new ≡ W.is_marked writer.old) }
@@ -88,13 +95,15 @@ impl<T: LineTaker> LineByLine<T> {
     /// The line that is held has ended.
     fn end_line<W: Sink>(&mut self, writer: &mut W) -> Result<(), Fault>
         ensures kept { OnOk result (W.is_marked writer.new ≡ W.is_marked writer.old) }
-        ensures on { (setting : T.Setting) (old : Option (List ℕ)) (begun : List ℕ) (lines : List (List ℕ)) (text : List ℕ) → HoldsLine begun self.old.held
+        ensures on { (setting : T.Setting) (old : Option (List ℕ)) (begun : List ℕ) (lines : List (List ℕ))
+            (text : List ℕ) → HoldsLine begun self.old.held
             → T.stands setting self.old.taker old (W.contents writer.old) (begun ∷ lines) text
             → MatchResult result (λ _. T.stands setting self.new.taker old (W.contents writer.new) lines text)
             (λ _. AppendsPrefix old (W.contents writer.new) (T.text_of setting text)) }
         ensures cleared { OnOk result (HoldsLine [] self.new.held) }
         ensures write { IsErrOf result Fault.Write → W.is_marked writer.new ≡ true }
-        ensures memory { IsErrOf result Fault.NoMemory → T.may_want × (W.is_marked writer.new ≡ W.is_marked writer.old) }
+        ensures memory { IsErrOf result Fault.NoMemory → T.may_want
+            × (W.is_marked writer.new ≡ W.is_marked writer.old) }
         ensures read { IsErrOf result Fault.Read → ⊥ }
     {
         self.taker.take_line(self.held.line(), writer)?;
@@ -107,11 +116,14 @@ impl<T: LineTaker> LineByLine<T> {
         requires { IsOpen tail.now }
         ensures kept { OnOk result (W.is_marked writer.new ≡ W.is_marked writer.old) }
         ensures on { (setting : T.Setting) (old : Option (List ℕ)) (rest text : List ℕ)
-            → LinesLead (λ lines. T.stands setting self.old.taker old (W.contents writer.old) lines text) self.old.held (tail.now ++ 10 ∷ rest)
-            → MatchResult result (λ _. LinesLead (λ lines. T.stands setting self.new.taker old (W.contents writer.new) lines text) self.new.held rest)
+            → LinesLead (λ lines. T.stands setting self.old.taker old (W.contents writer.old) lines text) self.old.held
+            (tail.now ++ 10 ∷ rest)
+            → MatchResult result (λ _. LinesLead
+            (λ lines. T.stands setting self.new.taker old (W.contents writer.new) lines text) self.new.held rest)
             (λ _. AppendsPrefix old (W.contents writer.new) (T.text_of setting text)) }
         ensures write { IsErrOf result Fault.Write → W.is_marked writer.new ≡ true }
-        ensures memory { IsErrOf result Fault.NoMemory → T.may_want × (W.is_marked writer.new ≡ W.is_marked writer.old) }
+        ensures memory { IsErrOf result Fault.NoMemory → T.may_want
+            × (W.is_marked writer.new ≡ W.is_marked writer.old) }
         ensures read { IsErrOf result Fault.Read → ⊥ }
     {
         // It isn't copied where it lies in the piece as a whole.
@@ -132,7 +144,8 @@ impl<T: LineTaker> TextTaker for LineByLine<T> {
 
     ghost status_of = { T.status_of };
 
-    ghost leads = { λ setting t old now rest text. LinesLead (λ lines. T.stands setting t.taker old now lines text) t.held rest };
+    ghost leads = { λ setting t old now rest text. LinesLead
+        (λ lines. T.stands setting t.taker old now lines text) t.held rest };
 
     ghost ended = { λ setting old now rest text. LinesEnded (λ lines. T.ended setting old now lines text) rest };
 

@@ -36,7 +36,8 @@ impl Output {
     pub fn flush<W: Sink>(&mut self, writer: &mut W) -> Result<(), Failed>
         ensures kept { OnOk result (W.is_marked writer.new ≡ W.is_marked writer.old) }
         ensures tells { (old : Option (List ℕ)) (told : List ℕ) → Tells old (W.contents writer.old) self.old told
-            → MatchResult result (λ _. Tells old (W.contents writer.new) self.new told) (λ _. AppendsPrefix old (W.contents writer.new) told) }
+            → MatchResult result (λ _. Tells old (W.contents writer.new) self.new told)
+            (λ _. AppendsPrefix old (W.contents writer.new) told) }
         ensures empty { OnOk result (self.new ≡ []) }
         ensures marked { OnErr result (W.is_marked writer.new ≡ true) }
     {
@@ -45,13 +46,15 @@ impl Output {
         Ok(())
     }
 
-    /// Writes what waits, where else so many characters have no room behind it. Err: a call of the writer failed, and the writer is marked.
+    /// Writes what waits, where else so many characters have no room behind it. Err: a call of the writer failed, and
+    /// the writer is marked.
     #[inline]
     pub fn make_room<W: Sink>(&mut self, count: usize, writer: &mut W) -> Result<(), Failed>
         requires few { count ≤ ROOM }
         ensures kept { OnOk result (W.is_marked writer.new ≡ W.is_marked writer.old) }
         ensures tells { (old : Option (List ℕ)) (told : List ℕ) → Tells old (W.contents writer.old) self.old told
-            → MatchResult result (λ _. Tells old (W.contents writer.new) self.new told) (λ _. AppendsPrefix old (W.contents writer.new) told) }
+            → MatchResult result (λ _. Tells old (W.contents writer.new) self.new told)
+            (λ _. AppendsPrefix old (W.contents writer.new) told) }
         ensures room { OnOk result (length self.new + count ≤ ROOM) }
         ensures marked { OnErr result (W.is_marked writer.new ≡ true) }
     {
@@ -71,8 +74,8 @@ impl Output {
         write_all(writer, line)
     }
 
-    /// Tells a line: it waits behind what was told before. One that is longer than the buffer is written. Err: a call of the writer failed,
-    /// and the writer is marked.
+    /// Tells a line: it waits behind what was told before. One that is longer than the buffer is written. Err: a call
+    /// of the writer failed, and the writer is marked.
     pub fn tell<W: Sink>(&mut self, line: &[u8], writer: &mut W) -> Result<(), Failed>
         ensures kept { OnOk result (W.is_marked writer.new ≡ W.is_marked writer.old) }
         ensures tells { TellsMore result (W.contents writer.old) (W.contents writer.new) self.old self.new line.now }

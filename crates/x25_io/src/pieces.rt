@@ -1,5 +1,6 @@
 //! A text that is read, taken and answered a piece at a time.
-ghost use Rattle.std.specs.Prelude.{◌≡◌, ◌≢◌, ◌<◌, ◌≤◌, ◌-◌, ◌^◌, ◌++◌, [], ℕ, true, List, Option, Some, IfOk, OnOk, OnErr, IfSome, IsErrOf, MatchResult, length};
+ghost use Rattle.std.specs.Prelude.{◌≡◌, ◌≢◌, ◌<◌, ◌≤◌, ◌-◌, ◌^◌, ◌++◌, [], ℕ, true, List, Option, Some, IfOk, OnOk};
+ghost use Rattle.std.specs.Prelude.{OnErr, IfSome, IsErrOf, MatchResult, length};
 ghost use Rattle.std.specs.Io.KnownBytes.{Appends};
 ghost use Rattle.x25_io.specs.code.Written.{AppendsPrefix};
 
@@ -17,7 +18,8 @@ pub trait TextTaker: Drop {
     ghost text_of: { Setting → List ℕ → List ℕ };
     // The status at its end.
     ghost status_of: { Setting → List ℕ → ℕ };
-    // `leads setting taker old now rest text`: the writer held `old` at first and holds `now`, and `rest` of the text is to come.
+    // `leads setting taker old now rest text`: the writer held `old` at first and holds `now`, and `rest` of the text
+    // is to come.
     ghost leads: { Setting → Self → Option (List ℕ) → Option (List ℕ) → List ℕ → List ℕ → Type 0 };
     // `ended setting old now rest text`: all is written but what the line that has begun and `rest` give.
     ghost ended: { Setting → Option (List ℕ) → Option (List ℕ) → List ℕ → List ℕ → Type 0 };
@@ -42,8 +44,10 @@ pub trait TextTaker: Drop {
     fn end<W: Sink>(self, writer: &mut W) -> Result<u8, Fault>
         ensures zero_or_one { IfOk result (λ status. status ≤ 1) }
         ensures kept { OnOk result (W.is_marked writer.new ≡ W.is_marked writer.old) }
-        ensures all { (setting : Setting) (old : Option (List ℕ)) (text : List ℕ) → leads setting self old (W.contents writer.old) [] text
-            → MatchResult result (λ status. Appends old (W.contents writer.new) (text_of setting text) × (status ≡ status_of setting text))
+        ensures all { (setting : Setting) (old : Option (List ℕ)) (text : List ℕ)
+            → leads setting self old (W.contents writer.old) [] text
+            → MatchResult result (λ status. Appends old (W.contents writer.new) (text_of setting text)
+            × (status ≡ status_of setting text))
             (λ _. AppendsPrefix old (W.contents writer.new) (text_of setting text)) }
         ensures write { IsErrOf result Fault.Write → W.is_marked writer.new ≡ true }
         ensures memory { IsErrOf result Fault.NoMemory → may_want × (W.is_marked writer.new ≡ W.is_marked writer.old) }
@@ -51,9 +55,11 @@ pub trait TextTaker: Drop {
 
     /// Writes what waits after a failed read, and answers the fault: `Write` where that fails too.
     fn give_up<W: Sink>(self, writer: &mut W) -> Fault
-        ensures part { (setting : Setting) (old : Option (List ℕ)) (rest text : List ℕ) → leads setting self old (W.contents writer.old) rest text
+        ensures part { (setting : Setting) (old : Option (List ℕ)) (rest text : List ℕ)
+            → leads setting self old (W.contents writer.old) rest text
             → AppendsPrefix old (W.contents writer.new) (text_of setting text) }
-        ensures lines { (setting : Setting) (old : Option (List ℕ)) (rest text : List ℕ) → leads setting self old (W.contents writer.old) rest text
+        ensures lines { (setting : Setting) (old : Option (List ℕ)) (rest text : List ℕ)
+            → leads setting self old (W.contents writer.old) rest text
             → result ≡ Fault.Read → ended setting old (W.contents writer.new) rest text }
         ensures memory { result ≢ Fault.NoMemory }
         ensures marked { result ≡ Fault.Write → W.is_marked writer.new ≡ true };
@@ -61,8 +67,8 @@ pub trait TextTaker: Drop {
 
 /// Reads octets into `piece` until the reader's end, has each piece of them taken, and answers the status.
 ///
-/// A failed read is answered by `Read`, a failed write by `Write`, and `NoMemory` comes only from a taker that may want memory.
-/// A reader is called at most 2^64 - 1 times; then its text counts as ended. Profile.
+/// A failed read is answered by `Read`, a failed write by `Write`, and `NoMemory` comes only from a taker that may want
+/// memory. A reader is called at most 2^64 - 1 times; then its text counts as ended. Profile.
 pub fn take_text<T: TextTaker, R: Source, W: Sink>(
     mut taker: T,
     piece: &mut [u8],
@@ -70,19 +76,29 @@ pub fn take_text<T: TextTaker, R: Source, W: Sink>(
     writer: &mut W,
 ) -> Result<u8, Fault>
     requires room { 0 < length piece.old }
-    ensures clean { OnOk result ((R.is_marked reader.new ≡ R.is_marked reader.old) × (W.is_marked writer.new ≡ W.is_marked writer.old)) }
+    ensures clean { OnOk result ((R.is_marked reader.new ≡ R.is_marked reader.old)
+        × (W.is_marked writer.new ≡ W.is_marked writer.old)) }
     ensures zero_or_one { IfOk result (λ status. status ≤ 1) }
-    ensures text { (setting : T.Setting) (old : Option (List ℕ)) → ((text : List ℕ) → T.leads setting taker old (W.contents writer.old) text text)
-        → OnOk result (IfSome (R.remaining reader.old) (λ text. length text < 2 ^ 64 - 1 → Appends old (W.contents writer.new) (T.text_of setting text))) }
-    ensures status { (setting : T.Setting) (old : Option (List ℕ)) → ((text : List ℕ) → T.leads setting taker old (W.contents writer.old) text text)
-        → IfOk result (λ status. IfSome (R.remaining reader.old) (λ text. length text < 2 ^ 64 - 1 → status ≡ T.status_of setting text)) }
-    ensures fault { (setting : T.Setting) (old : Option (List ℕ)) → ((text : List ℕ) → T.leads setting taker old (W.contents writer.old) text text)
-        → OnErr result (IfSome (R.remaining reader.old) (λ text. length text < 2 ^ 64 - 1 → AppendsPrefix old (W.contents writer.new) (T.text_of setting text))) }
-    ensures ended { (setting : T.Setting) (old : Option (List ℕ)) → ((text : List ℕ) → T.leads setting taker old (W.contents writer.old) text text)
+    ensures text { (setting : T.Setting) (old : Option (List ℕ))
+        → ((text : List ℕ) → T.leads setting taker old (W.contents writer.old) text text)
+        → OnOk result (IfSome (R.remaining reader.old) (λ text. length text < 2 ^ 64 - 1
+        → Appends old (W.contents writer.new) (T.text_of setting text))) }
+    ensures status { (setting : T.Setting) (old : Option (List ℕ))
+        → ((text : List ℕ) → T.leads setting taker old (W.contents writer.old) text text)
+        → IfOk result (λ status. IfSome (R.remaining reader.old) (λ text. length text < 2 ^ 64 - 1
+        → status ≡ T.status_of setting text)) }
+    ensures fault { (setting : T.Setting) (old : Option (List ℕ))
+        → ((text : List ℕ) → T.leads setting taker old (W.contents writer.old) text text)
+        → OnErr result (IfSome (R.remaining reader.old) (λ text. length text < 2 ^ 64 - 1
+        → AppendsPrefix old (W.contents writer.new) (T.text_of setting text))) }
+    ensures ended { (setting : T.Setting) (old : Option (List ℕ))
+        → ((text : List ℕ) → T.leads setting taker old (W.contents writer.old) text text)
         → IsErrOf result Fault.Read → IfSome (R.remaining reader.old) (λ text.
-        (rest : List ℕ) × (R.remaining reader.new ≡ Some rest) × T.ended setting old (W.contents writer.new) rest text) }
+        (rest : List ℕ) × (R.remaining reader.new ≡ Some rest)
+        × T.ended setting old (W.contents writer.new) rest text) }
     ensures memory { IsErrOf result Fault.NoMemory
-        → T.may_want × (R.is_marked reader.new ≡ R.is_marked reader.old) × (W.is_marked writer.new ≡ W.is_marked writer.old) }
+        → T.may_want × (R.is_marked reader.new ≡ R.is_marked reader.old)
+        × (W.is_marked writer.new ≡ W.is_marked writer.old) }
     ensures read { IsErrOf result Fault.Read → R.is_marked reader.new ≡ true }
     ensures write { IsErrOf result Fault.Write → W.is_marked writer.new ≡ true }
 {

@@ -1,21 +1,25 @@
-//! Two programs `x25 station` joined by a line, as laws about what they read and write. Each is the contract of a function that does nothing.
+//! Two programs `x25 station` joined by a line, as laws about what they read and write. Each is the contract of a
+//! function that does nothing.
 ghost use Rattle.x25_world.specs.laws.Claims.{HasNoProcedureError, IsNamed};
 ghost use Rattle.x25_world.specs.laws.SessionClaims.{SessionsKeepOrder};
-ghost use Rattle.x25_joined.specs.laws.JoinedClaims.{AreLawful, AreWorlds, Arrive, OfPrograms, OfProgramsUpOnce, UntilSecondUp};
-ghost use Rattle.x25_joined.specs.rows.JoinedRows.{FiringHasToWait, LinkIsSetUp, LostSabmGoesAgain, MessageArrives, OtherLinesDoNothing};
+ghost use Rattle.x25_joined.specs.laws.JoinedClaims.{AreLawful, AreWorlds, Arrive, OfPrograms, OfProgramsUpOnce};
+ghost use Rattle.x25_joined.specs.laws.JoinedClaims.{UntilSecondUp};
+ghost use Rattle.x25_joined.specs.rows.JoinedRows.{FiringHasToWait, LinkIsSetUp, LostSabmGoesAgain, MessageArrives};
+ghost use Rattle.x25_joined.specs.rows.JoinedRows.{OtherLinesDoNothing};
 
 use x25_script::lines_are_in_octets;
 use x25_world::{stations_meet_in_sessions, two_stations_keep_order};
 
-/// Two programs, one at each end, with the same settings: each reads lines of its user, firings of its timer T1, and the frames that the other
-/// wrote, as they were written, in the order in which they were, but for those that are lost and those that others came in the place of,
-/// which fail their frame check sequence; in any interleaving. What `station` writes for all that each read, by its clause `text`, is told by a
-/// run of two stations over a line, from both links down, whose events are each accepted: their entries are the transcript of each end, their
-/// frames what it put on the line, and the stations and the frames on the line are those where the run leads. A line that is refused, and one
-/// that names the other end's user, is no event of it.
+/// Two programs, one at each end, with the same settings: each reads lines of its user, firings of its timer T1, and
+/// the frames that the other wrote, as they were written, in the order in which they were, but for those that are lost
+/// and those that others came in the place of, which fail their frame check sequence; in any interleaving. What
+/// `station` writes for all that each read, by its clause `text`, is told by a run of two stations over a line, from
+/// both links down, whose events are each accepted: their entries are the transcript of each end, their frames what it
+/// put on the line, and the stations and the frames on the line are those where the run leads. A line that is refused,
+/// and one that names the other end's user, is no event of it.
 ///
-/// Premises: k is 1 to 7, N2 1 to 255, channels 1 to 16; a user's line is no frame of the other end; timer T1 of an end that awaits
-/// UA doesn't run out while its SABM, or a UA to it, is on the line.
+/// Premises: k is 1 to 7, N2 1 to 255, channels 1 to 16; a user's line is no frame of the other end; timer T1 of an end
+/// that awaits UA doesn't run out while its SABM, or a UA to it, is on the line.
 pub fn two_programs_are_a_world()
     ensures { AreWorlds }
 {
@@ -25,9 +29,11 @@ pub fn two_programs_are_a_world()
 
 /// As long as neither program writes `linkup` a second time:
 ///
-/// - `lawful`: on each channel and under each name of a stretch, the messages, interrupts and calls that a program writes as handed up are a
-///   beginning of those that the other wrote as handed down: each comes once, in order, whole, and none of another call.
-/// - `arrives`: what is handed up is all of the messages and interrupts of a stretch, where the end that gives is idle, as its last mark says, and both
+/// - `lawful`: on each channel and under each name of a stretch, the messages, interrupts and calls that a program
+/// writes as handed up are a
+/// beginning of those that the other wrote as handed down: each comes once, in order, whole, and none of another call.
+/// - `arrives`: what is handed up is all of the messages and interrupts of a stretch, where the end that gives is idle,
+/// as its last mark says, and both
 ///   ends have that stretch open.
 /// - `named`, `quiet`: what `two_stations_keep_order` says of the transcript and of what was put on the line.
 ///
@@ -42,8 +48,8 @@ pub fn two_programs_keep_order()
     two_stations_keep_order();
 }
 
-/// Wherever a program writes `linkup` again: what `stations_meet_in_sessions` says of two stations, with their sessions by what the programs
-/// wrote.
+/// Wherever a program writes `linkup` again: what `stations_meet_in_sessions` says of two stations, with their sessions
+/// by what the programs wrote.
 ///
 /// Premises: those of `two_programs_are_a_world`.
 pub fn programs_meet_in_sessions()
@@ -53,8 +59,9 @@ pub fn programs_meet_in_sessions()
     stations_meet_in_sessions();
 }
 
-/// Worked rows, each a history that may happen: what two programs read and write as the link is set up, and as SABM is lost, or damaged, and goes
-/// again when timer T1 runs out, which has to wait while SABM is on the line; lines that do nothing; and a call with a message.
+/// Worked rows, each a history that may happen: what two programs read and write as the link is set up, and as SABM is
+/// lost, or damaged, and goes again when timer T1 runs out, which has to wait while SABM is on the line; lines that do
+/// nothing; and a call with a message.
 pub fn programs_move()
     ensures set_up { LinkIsSetUp }
     ensures lost { LostSabmGoesAgain }

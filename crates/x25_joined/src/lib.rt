@@ -1,5 +1,5 @@
-//! Two programs `x25 station` joined by a line that keeps order and may lose or visibly damage any frame: what they write is a run of two
-//! stations, and what holds of it.
+//! Two programs `x25 station` joined by a line that keeps order and may lose or visibly damage any frame: what they
+//! write is a run of two stations, and what holds of it.
 //!
 //! It runs nothing: its public functions state laws as their contracts.
 #![tactic(auto)]

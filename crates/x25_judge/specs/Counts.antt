@@ -1,5 +1,6 @@
 -- How many frames and packets of an end were seen, and how many of them were judged (profile).
-use Rattle.std.specs.Prelude.{ℕ, ◌+◌, ◌-◌, ◌%◌, ◌==◌, Bool, if◌then◌else◌, min, List, [], ◌++◌, codes, decimal, replicate, slice_index_or, slice_set}
+use Rattle.std.specs.Prelude.{ℕ, ◌+◌, ◌-◌, ◌%◌, ◌==◌, Bool, if◌then◌else◌, min, List, [], ◌++◌, codes, decimal}
+use Rattle.std.specs.Prelude.{replicate, slice_index_or, slice_set}
 use Rattle.std.specs.List.{flat_map}
 use Rattle.x25_bits.specs.declared.role.Role.{Role}
 use Rattle.x25_bits.specs.declared.role.Role.TheVariants.{Dte, Dce}
@@ -13,14 +14,20 @@ abbrev pub grown : ℕ → ℕ
 grown count = min (count + 1) 18446744073709551615
 
 abbrev pub more : ℕ → Bool → Count → Count
-more channel is_judged c = record { channel = channel; seen = grown c.seen; judged = if is_judged then grown c.judged else c.judged }
+more channel is_judged c = record {
+  channel = channel;
+  seen = grown c.seen;
+  judged = if is_judged then grown c.judged
+      else c.judged;
+}
 
 -- of each of the channels 0 to 4,095
 unfoldable pub no_counts : List Count
 no_counts = replicate 4096 none
 
 abbrev pub counted : ℕ → Bool → List Count → List Count
-counted channel is_judged counts = slice_set counts (channel % 4096) (more channel is_judged (slice_index_or counts (channel % 4096) none))
+counted channel is_judged counts = slice_set counts (channel % 4096)
+    (more channel is_judged (slice_index_or counts (channel % 4096) none))
 
 -- ---- text
 
@@ -28,7 +35,8 @@ abbrev pub number_text : ℕ → List ℕ
 number_text count = decimal count
 
 abbrev pub counted_text : Count → List ℕ → List ℕ
-counted_text c what = number_text c.seen ++ what ++ number_text c.judged ++ codes " judged, " ++ number_text (c.seen - c.judged) ++ codes " not judged\n"
+counted_text c what = number_text c.seen ++ what ++ number_text c.judged ++ codes " judged, "
+    ++ number_text (c.seen - c.judged) ++ codes " not judged\n"
 
 abbrev pub frames_line : Role → Count → List ℕ
 frames_line Dte c = codes "# dte: " ++ counted_text c (codes " frames, ")

@@ -1,5 +1,6 @@
 -- The octets of the last I frame of each number that an end sent (profile).
-use Rattle.std.specs.Prelude.{ℕ, ◌%◌, nat_le, Bool, false, List, [], if◌then◌else◌, length, replicate, slice_index_or, slice_set}
+use Rattle.std.specs.Prelude.{ℕ, ◌%◌, nat_le, Bool, false, List, [], if◌then◌else◌, length, replicate, slice_index_or}
+use Rattle.std.specs.Prelude.{slice_set}
 use Rattle.std.specs.Str.{bytes_eq}
 use Rattle.x25_frame.specs.Frame.{PlainFrame, info}
 use Rattle.x25_text.specs.declared.text.TheConstants.{ROOM}

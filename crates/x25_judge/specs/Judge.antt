@@ -1,12 +1,15 @@
--- What `judge` writes, as a function of what it reads (profile): for each line what `decode` writes, and the rule that its frame breaks.
-use Rattle.std.specs.Prelude.{ℕ, Bool, true, false, not, ◌&&◌, ◌||◌, List, [], ◌∷◌, ◌++◌, codes, if◌then◌else◌, Option, Some, None, is_some, Result, Ok, Err}
+-- What `judge` writes, as a function of what it reads (profile): for each line what `decode` writes, and the rule that
+-- its frame breaks.
+use Rattle.std.specs.Prelude.{ℕ, Bool, true, false, not, ◌&&◌, ◌||◌, List, [], ◌∷◌, ◌++◌, codes, if◌then◌else◌, Option}
+use Rattle.std.specs.Prelude.{Some, None, is_some, Result, Ok, Err}
 use Rattle.x25_bits.specs.declared.role.Role.{Role}
 use Rattle.x25_bits.specs.declared.role.Role.TheVariants.{Dte, Dce}
 use Rattle.x25_decode.specs.Decoding.{mark_of, n1, sent_in}
 use Rattle.x25_frame.specs.Frame.{PlainFrame, info}
 use Rattle.x25_frame.specs.Reading.{frame_of}
 use Rattle.x25_frame.specs.declared.error.FrameError.{FrameError}
-use Rattle.x25_frame.specs.declared.error.FrameError.TheVariants.{Short, BadFcs, BadAddress, Undefined, NoInfoAllowed, TooLong}
+use Rattle.x25_frame.specs.declared.error.FrameError.TheVariants.{Short, BadFcs, BadAddress, Undefined, NoInfoAllowed}
+use Rattle.x25_frame.specs.declared.error.FrameError.TheVariants.{TooLong}
 use Rattle.x25_io.specs.Lines.{lines_of}
 use Rattle.x25_text.specs.FrameText.{reading_text}
 use Rattle.x25_packet_judge.specs.Book as book
@@ -27,7 +30,8 @@ use Rattle.x25_judge.specs.declared.rule.Rule.{Rule}
 use Rattle.x25_judge.specs.declared.rule.Rule.TheVariants.{NoFrame, Packet}
 use Rattle.x25_judge.specs.declared.sides.Sides.{Sides}
 
--- before anything was sent: k, whether the user data of a CALL may be long, and whether what isn't judged counts as faulty
+-- before anything was sent: k, whether the user data of a CALL may be long, and whether what isn't judged counts as
+-- faulty
 abbrev pub begins : ℕ → Bool → Bool → Judge
 begins window long_data is_strict = record {
   window = window;
@@ -86,9 +90,11 @@ abbrev pub counts_on : Role → Option ℕ → Bool → Judge → Judge
 counts_on from (Some channel) is_judged j = counts_packet from channel is_judged j
 counts_on from None is_judged j = counts_packet from 0 is_judged j
 
--- A packet counts where its I frame wasn't sent before. Information that is too short to name a channel counts on channel 0.
+-- A packet counts where its I frame wasn't sent before. Information that is too short to name a channel counts on
+-- channel 0.
 unfoldable pub counts_carried : Role → PlainFrame → Bool → Bool → Judge → Judge
-counts_carried from (info ns nr p octets) is_again is_judged j = if is_again then j else counts_on from (channel_in octets) is_judged j
+counts_carried from (info ns nr p octets) is_again is_judged j = if is_again then j
+    else counts_on from (channel_in octets) is_judged j
 counts_carried from frame is_again is_judged j = j
 
 -- no packet of the frame goes unjudged
@@ -151,7 +157,8 @@ remark_by j from frame t v = record {
 
 abbrev pub next_by : Judge → Role → PlainFrame → Sides → book.Seen → Judge
 next_by j from frame t s = counts_carried from frame t.is_again s.verdict.is_judged
-    (counts_frame from (is_judged frame (sides_of from j)) (behind from t s.book (holding from (keeps (held_of from j) frame) j)))
+    (counts_frame from (is_judged frame (sides_of from j))
+    (behind from t s.book (holding from (keeps (held_of from j) frame) j)))
 
 abbrev pub told_seen : Judge → Role → PlainFrame → Sides → book.Seen → Answer
 told_seen j from frame t s = told_of j from (Ok frame) (remark_by j from frame t s.verdict) (next_by j from frame t s)
@@ -167,7 +174,8 @@ abbrev pub remark_missed : FrameError → Remark
 remark_missed e = record { rule = no_frame e; note = None; is_judged = is_some (no_frame e) }
 
 abbrev pub next_missed : Role → FrameError → Judge → Judge
-next_missed from e j = counts_frame from (is_some (no_frame e)) (behind from (misses (sides_of from j)) (book.misses from j.book) j)
+next_missed from e j = counts_frame from (is_some (no_frame e))
+    (behind from (misses (sides_of from j)) (book.misses from j.book) j)
 
 abbrev pub seen_by : Judge → Role → PlainFrame → Sides
 seen_by j from frame = sees j.window (is_same (held_of from j) frame) frame (sides_of from j)
@@ -202,6 +210,7 @@ has_fault j (line ∷ lines) = (answer_to j line).is_faulty || has_fault (answer
 abbrev pub output_of : Judge → List ℕ → List ℕ
 output_of j input = text_of j (lines_of input)
 
--- the status that `judge` ends with: 1 where a rule was broken or a line is none of a trace, or where it is strict and anything wasn't judged
+-- the status that `judge` ends with: 1 where a rule was broken or a line is none of a trace, or where it is strict and
+-- anything wasn't judged
 abbrev pub status_of : Judge → List ℕ → ℕ
 status_of j input = if has_fault j (lines_of input) then 1 else 0

@@ -1,8 +1,9 @@
--- What is noted of a frame that breaks no rule: what a loss, damage or a trace that begins in the middle explains, and what isn't judged from
--- there on (profile).
+-- What is noted of a frame that breaks no rule: what a loss, damage or a trace that begins in the middle explains, and
+-- what isn't judged from there on (profile).
 use Rattle.std.specs.Prelude.{ℕ, ◌==◌, ◌++◌, List, Option, Some, None, codes, decimal, if◌then◌else◌}
 use Rattle.x25_judge.specs.declared.note.Note.{Note}
-use Rattle.x25_judge.specs.declared.note.Note.TheVariants.{Unjudged, NoneJudged, SentAgain, SentBehindDamage, HeardBehindDamage, PollAgain, PollUnseen}
+use Rattle.x25_judge.specs.declared.note.Note.TheVariants.{Unjudged, NoneJudged, SentAgain, SentBehindDamage}
+use Rattle.x25_judge.specs.declared.note.Note.TheVariants.{HeardBehindDamage, PollAgain, PollUnseen}
 
 abbrev pub first_note : Option Note → Option Note → Option Note
 first_note (Some note) next = Some note
@@ -14,7 +15,8 @@ unjudged_note None = None
 unjudged_note (Some channel) = if channel == 0 then Some NoneJudged else Some (Unjudged channel)
 
 abbrev pub note_text : Note → List ℕ
-note_text (Unjudged channel) = codes "not judged before a RESTART, a CLEAR or a CALL is answered (4.1): channel " ++ decimal channel
+note_text (Unjudged channel) = codes "not judged before a RESTART, a CLEAR or a CALL is answered (4.1): channel "
+    ++ decimal channel
 note_text NoneJudged = codes "no channel is judged before a RESTART is answered (3.3.1)"
 note_text SentAgain = codes "an I frame is sent again (2.4.5.9)"
 note_text SentBehindDamage = codes "N(S) is out of order behind a damaged frame (2.4.5.1)"

@@ -2,7 +2,8 @@
 use Rattle.std.specs.Prelude.{ℕ, List, ◌++◌, codes, decimal}
 use Rattle.x25_packet_judge.specs.PacketRuleText.{packet_rule_text}
 use Rattle.x25_judge.specs.declared.rule.Rule.{Rule}
-use Rattle.x25_judge.specs.declared.rule.Rule.TheVariants.{NoFrame, UaUnasked, NotUp, NoPoll, Unsent, Falls, RejectAgain, OverWindow, Skips, Repeats, Differs, Packet}
+use Rattle.x25_judge.specs.declared.rule.Rule.TheVariants.{NoFrame, UaUnasked, NotUp, NoPoll, Unsent, Falls}
+use Rattle.x25_judge.specs.declared.rule.Rule.TheVariants.{RejectAgain, OverWindow, Skips, Repeats, Differs, Packet}
 
 abbrev pub rule_text : Rule → List ℕ
 rule_text NoFrame = codes "no frame of LAPB has these octets (2.3.5.4)"

@@ -1,10 +1,12 @@
 -- Both ends of a link as what they sent shows them, and what a frame changes and breaks.
 -- ITU-T X.25 (10/96), sections 2.4.3 to 2.4.5; what is said behind a fault is profile.
-use Rattle.std.specs.Prelude.{ℕ, ◌+◌, ◌-◌, ◌==◌, nat_lt, Bool, true, false, not, ◌&&◌, ◌||◌, if◌then◌else◌, min, Option, Some, None}
+use Rattle.std.specs.Prelude.{ℕ, ◌+◌, ◌-◌, ◌==◌, nat_lt, Bool, true, false, not, ◌&&◌, ◌||◌, if◌then◌else◌, min, Option}
+use Rattle.std.specs.Prelude.{Some, None}
 use Rattle.x25_frame.specs.Frame.{PlainFrame, info, rr, rnr, rej, sabm, disc, ua, dm, frmr}
 use Rattle.x25_judge.specs.Note.{first_note}
 use Rattle.x25_judge.specs.Way as way
-use Rattle.x25_judge.specs.Way.{fresh, lost, missed, unheard, answered, answered_again, answering_again, heard, rejected, sent_back, sent}
+use Rattle.x25_judge.specs.Way.{fresh, lost, missed, unheard, answered, answered_again, answering_again, heard}
+use Rattle.x25_judge.specs.Way.{rejected, sent_back, sent}
 use Rattle.x25_judge.specs.declared.note.Note.{Note}
 use Rattle.x25_judge.specs.declared.note.Note.TheVariants.{PollAgain, PollUnseen}
 use Rattle.x25_judge.specs.declared.rule.Rule.{Rule}
@@ -169,7 +171,8 @@ bits command pf t = if not pf then t else if command then polls t else answers_p
 abbrev pub asks_if : Bool → Sides → Sides
 asks_if p t = if p then polls t else t
 
--- of an unnumbered response: it may answer what was sent before the trace begins, until an I frame in the trace is acknowledged
+-- of an unnumbered response: it may answer what was sent before the trace begins, until an I frame in the trace is
+-- acknowledged
 abbrev pub answers_if : Bool → Sides → Sides
 answers_if f t = if f then answers_poll t.other.is_followed t else t
 
@@ -179,7 +182,8 @@ answers_if f t = if f then answers_poll t.other.is_followed t else t
 abbrev pub runs : Sides → Sides
 runs t = if may_run t.own.phase
     then with_own (with_phase (running t.own.phase) t.own) t
-    else tells (Some NotUp) (with_other (with_way (lost t.other.way) t.other) (with_own (with_way (lost t.own.way) (with_phase Unseen t.own)) t))
+    else tells (Some NotUp) (with_other (with_way (lost t.other.way) t.other)
+    (with_own (with_way (lost t.own.way) (with_phase Unseen t.own)) t))
 
 -- an N(R) is about the other end's I frames
 abbrev pub hears_told : Told → Sides → Sides
@@ -218,7 +222,8 @@ asks_more t = with_own (with_asked (min (t.own.asked + 1) 255) t.own) t
 abbrev pub answers : Sides → Sides
 answers t = with_other (with_asked (fewer t.other.asked) t.other) t
 
--- None that was seen may be answered (DM may answer any command), and none of before the trace, since it shows that an I frame of the end that asks was acknowledged.
+-- None that was seen may be answered (DM may answer any command), and none of before the trace, since it shows that an
+-- I frame of the end that asks was acknowledged.
 abbrev pub is_unasked : Sides → Bool
 is_unasked t = t.other.is_followed && t.other.asked == 0
 
@@ -299,5 +304,6 @@ is_judged (frmr f why) t = not f || judges_answer t.other.polls t
 
 -- octets that spell none: a frame that was damaged, which may have been any
 unfoldable pub misses : Sides → Sides
-misses t = asks_more (asks_on t.own.is_polling (with_other (with_phase (accepted t.other.phase) (with_way (unheard t.other.way) t.other))
+misses t = asks_more (asks_on t.own.is_polling
+    (with_other (with_phase (accepted t.other.phase) (with_way (unheard t.other.way) t.other))
     (with_own (with_phase (unsure t.own.phase) (with_way (missed t.own.way) t.own)) t)))

@@ -1,11 +1,14 @@
 -- What the I frames of one end, and the N(R)s that answer them, have shown so far, modulo 8, and the rules on them.
--- ITU-T X.25 (10/96), sections 2.3.2, 2.4.5 and 2.4.8.6. How faults are told apart, and what is said behind one, is profile.
-use Rattle.std.specs.Prelude.{ℕ, ◌+◌, ◌-◌, ◌%◌, ◌==◌, nat_lt, nat_le, Bool, true, false, not, ◌&&◌, ◌||◌, if◌then◌else◌, min, Some, None}
+-- ITU-T X.25 (10/96), sections 2.3.2, 2.4.5 and 2.4.8.6. How faults are told apart, and what is said behind one, is
+-- profile.
+use Rattle.std.specs.Prelude.{ℕ, ◌+◌, ◌-◌, ◌%◌, ◌==◌, nat_lt, nat_le, Bool, true, false, not, ◌&&◌, ◌||◌, if◌then◌else◌}
+use Rattle.std.specs.Prelude.{min, Some, None}
 use Rattle.x25_packet_judge.specs.Numbers.{apart}
 use Rattle.x25_judge.specs.declared.note.Note.{Note}
 use Rattle.x25_judge.specs.declared.note.Note.TheVariants.{SentAgain, SentBehindDamage, HeardBehindDamage}
 use Rattle.x25_judge.specs.declared.rule.Rule.{Rule}
-use Rattle.x25_judge.specs.declared.rule.Rule.TheVariants.{Unsent, Falls, RejectAgain, OverWindow, Skips, Repeats, Differs}
+use Rattle.x25_judge.specs.declared.rule.Rule.TheVariants.{Unsent, Falls, RejectAgain, OverWindow, Skips, Repeats}
+use Rattle.x25_judge.specs.declared.rule.Rule.TheVariants.{Differs}
 use Rattle.x25_judge.specs.declared.way.Sight.{Sight}
 use Rattle.x25_judge.specs.declared.way.Sight.TheVariants.{Unseen, Deaf, Astray, Sure}
 use Rattle.x25_judge.specs.declared.way.Way.{Way}
@@ -99,8 +102,8 @@ answered w = if is_fresh w then fresh true else lost w
 abbrev pub answered_again : Way → Way
 answered_again w = if w.is_missed then lost w else w
 
--- The end answers again: its numbers begin anew, but the N(R)s of the other end, which is up by the first answer, go on where I frames were
--- sent since.
+-- The end answers again: its numbers begin anew, but the N(R)s of the other end, which is up by the first answer, go on
+-- where I frames were sent since.
 abbrev pub answering_again : Way → Way
 answering_again w = begun (if is_fresh w then Sure else Deaf)
 
@@ -116,7 +119,8 @@ place w = apart w.next w.behind
 
 -- one that isn't has fallen to one that was valid before, or acknowledges what was never sent, whichever is nearer
 abbrev pub invalid : ℕ → Way → Rule
-invalid ahead w = if nat_le (8 - ahead) (w.ever - w.pending) && nat_lt (8 - ahead) (ahead - w.pending) then Falls (awaited w) else Unsent w.next
+invalid ahead w = if nat_le (8 - ahead) (w.ever - w.pending) && nat_lt (8 - ahead) (ahead - w.pending)
+    then Falls (awaited w) else Unsent w.next
 
 -- all below is acknowledged, and where that is more than before, what was asked for by REJ has come
 abbrev pub acknowledged : ℕ → Way → Way
@@ -149,7 +153,12 @@ abbrev pub farther : ℕ → Way → ℕ
 farther far w = if nat_lt 0 w.causes && nat_lt far w.farthest then w.farthest else far
 
 abbrev pub sent_back : ℕ → Way → Way
-sent_back number w = record w { causes = min (w.causes + 1) 255; reach = apart w.next number; farthest = farther (apart w.next number) w }
+sent_back number w = record w {
+  causes = min (w.causes + 1) 255;
+  reach = apart w.next number;
+  farthest = farther
+      (apart w.next number) w;
+}
 
 -- ---- N(S)
 
@@ -214,21 +223,23 @@ again is_same back way w =
     if not is_same && (nat_le back w.kept && not w.is_missed) then sent_before (breaks Differs way)
     else sent_before (notes SentAgain way)
 
--- V(S) may be set back to a number that was sent, and is acknowledged up to there: by timer T1 with P=1, or by a cause, which says no farther
--- one (section 2.4.5.9)
+-- V(S) may be set back to a number that was sent, and is acknowledged up to there: by timer T1 with P=1, or by a cause,
+-- which says no farther one (section 2.4.5.9)
 abbrev pub may_go_back : Bool → ℕ → Way → Bool
 may_go_back is_poll back w = nat_lt w.behind back
-    && (nat_le (known_pending w) back && (nat_le back w.ever && (is_poll || (nat_lt 0 w.causes && nat_le back w.farthest))))
+    && (nat_le (known_pending w) back && (nat_le back w.ever
+    && (is_poll || (nat_lt 0 w.causes && nat_le back w.farthest))))
 
 -- timer T1 needs no cause
 abbrev pub gone_back : Bool → ℕ → Way → Way
 gone_back is_poll back w = if is_poll then repeated back w else went_back back w
 
--- One that was sent before. Where V(S) was set back, it is the one behind the last, or one that is acknowledged up to there; else
--- V(S) is set back now.
+-- One that was sent before. Where V(S) was set back, it is the one behind the last, or one that is acknowledged up to
+-- there; else V(S) is set back now.
 abbrev pub sent_again : Bool → Bool → ℕ → Way → Told
 sent_again is_poll is_same back w =
-    if back == w.behind || (nat_le (known_pending w) back && nat_lt back w.behind) then again is_same back (repeated back w) w
+    if back == w.behind || (nat_le (known_pending w) back && nat_lt back w.behind)
+    then again is_same back (repeated back w) w
     else if may_go_back is_poll back w then again is_same back (gone_back is_poll back w) w
     else unexplained is_same back w
 
@@ -245,4 +256,5 @@ counted w = record w { ever = min (w.ever + 1) 255 }
 
 -- An I frame: with P=1 or not, and with the octets that the last one of this number had or with others.
 abbrev pub sent : ℕ → ℕ → Bool → Bool → Way → Told
-sent window number is_poll is_same w = if is_unseen w then quiet (counted w) else sent_number window is_poll is_same (apart w.next number) w
+sent window number is_poll is_same w = if is_unseen w then quiet (counted w)
+    else sent_number window is_poll is_same (apart w.next number) w

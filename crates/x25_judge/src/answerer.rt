@@ -20,7 +20,8 @@ pub(crate) struct Answerer {
 }
 
 impl Answerer {
-    ghost use Rattle.std.specs.Prelude.{◌≡◌, ◌<◌, ◌≤◌, ◌++◌, [], ℕ, List, Option, true, false, ◌||◌, IfOk, OnOk, OnErr, MatchOption, MatchResult};
+    ghost use Rattle.std.specs.Prelude.{◌≡◌, ◌<◌, ◌≤◌, ◌++◌, [], ℕ, List, Option, true, false, ◌||◌, IfOk, OnOk, OnErr};
+    ghost use Rattle.std.specs.Prelude.{MatchOption, MatchResult};
     ghost use Rattle.x25_io.specs.HeldLine.{most_line};
     ghost use Rattle.x25_io.specs.code.Written.{AppendsPrefix, Tells, TellsMore};
     ghost use Rattle.x25_judge.specs.Judge.{answer_to, begins, counts_text};
@@ -50,11 +51,15 @@ impl Answerer {
 
     /// The answer to a line, `None` where it is too long; whether that was at fault is answered.
     fn judge_line(&mut self, line: Option<&[u8]>) -> bool
-        ensures text { (first : List ℕ) → MatchOption line.entry (most_line < length first) (λ held. (held.now ≡ first) × (length first ≤ most_line))
+        ensures text { (first : List ℕ) → MatchOption line.entry (most_line < length first) (λ held. (held.now ≡ first)
+            × (length first ≤ most_line))
             → self.new.answer ≡ (answer_to self.old.judge first).text }
-        ensures next { (first : List ℕ) → MatchOption line.entry (most_line < length first) (λ held. (held.now ≡ first) × (length first ≤ most_line))
+        ensures next { (first : List ℕ) → MatchOption line.entry (most_line < length first) (λ held. (held.now ≡ first)
+            × (length first ≤ most_line))
             → self.new.judge ≡ (answer_to self.old.judge first).next }
-        ensures is_faulty { (first : List ℕ) → MatchOption line.entry (most_line < length first) (λ held. (held.now ≡ first) × (length first ≤ most_line))
+        ensures is_faulty { (first : List ℕ)
+            → MatchOption line.entry (most_line < length first) (λ held. (held.now ≡ first)
+            × (length first ≤ most_line))
             → result ≡ (answer_to self.old.judge first).is_faulty }
         ensures output { self.new.output ≡ self.old.output }
         ensures before { self.new.is_faulty ≡ self.old.is_faulty }
@@ -73,13 +78,19 @@ impl Answerer {
     /// Answers a line.
     fn answer_line<W: Sink>(&mut self, line: Option<&[u8]>, writer: &mut W) -> Result<(), Failed>
         ensures kept { OnOk result (W.is_marked writer.new ≡ W.is_marked writer.old) }
-        ensures tells { (old : Option (List ℕ)) (told first : List ℕ) → MatchOption line.entry (most_line < length first) (λ held. (held.now ≡ first) × (length first ≤ most_line))
+        ensures tells { (old : Option (List ℕ)) (told first : List ℕ)
+            → MatchOption line.entry (most_line < length first) (λ held. (held.now ≡ first)
+            × (length first ≤ most_line))
             → Tells old (W.contents writer.old) self.old.output told
-            → MatchResult result (λ _. Tells old (W.contents writer.new) self.new.output (told ++ (answer_to self.old.judge first).text))
+            → MatchResult result (λ _. Tells old (W.contents writer.new) self.new.output (told
+            ++ (answer_to self.old.judge first).text))
             (λ _. AppendsPrefix old (W.contents writer.new) (told ++ (answer_to self.old.judge first).text)) }
-        ensures next { (first : List ℕ) → MatchOption line.entry (most_line < length first) (λ held. (held.now ≡ first) × (length first ≤ most_line))
+        ensures next { (first : List ℕ) → MatchOption line.entry (most_line < length first) (λ held. (held.now ≡ first)
+            × (length first ≤ most_line))
             → self.new.judge ≡ (answer_to self.old.judge first).next }
-        ensures is_faulty { (first : List ℕ) → MatchOption line.entry (most_line < length first) (λ held. (held.now ≡ first) × (length first ≤ most_line))
+        ensures is_faulty { (first : List ℕ)
+            → MatchOption line.entry (most_line < length first) (λ held. (held.now ≡ first)
+            × (length first ≤ most_line))
             → self.new.is_faulty ≡ (self.old.is_faulty || (answer_to self.old.judge first).is_faulty) }
         ensures marked { OnErr result (W.is_marked writer.new ≡ true) }
     {
@@ -91,7 +102,8 @@ impl Answerer {
     /// Tells how much was judged, and writes what waits.
     fn finish<W: Sink>(&mut self, writer: &mut W) -> Result<(), Failed>
         ensures kept { OnOk result (W.is_marked writer.new ≡ W.is_marked writer.old) }
-        ensures tells { TellsMore result (W.contents writer.old) (W.contents writer.new) self.old.output self.new.output (counts_text self.old.judge) }
+        ensures tells { TellsMore result (W.contents writer.old) (W.contents writer.new) self.old.output self.new.output
+            (counts_text self.old.judge) }
         ensures empty { OnOk result (self.new.output ≡ []) }
         ensures is_faulty { self.new.is_faulty ≡ self.old.is_faulty }
         ensures marked { OnErr result (W.is_marked writer.new ≡ true) }

@@ -1,5 +1,6 @@
 //! How many frames and packets were seen, and how many of them were judged.
-ghost use Rattle.std.specs.Prelude.{◌≡◌, ◌+◌, ◌≤◌, ◌%◌, ◌++◌, [], true, ℕ, IfOk, List, OnOk, OnErr, Option, MatchResult, length, slice_index_or, vec_capacity};
+ghost use Rattle.std.specs.Prelude.{◌≡◌, ◌+◌, ◌≤◌, ◌%◌, ◌++◌, [], true, ℕ, IfOk, List, OnOk, OnErr, Option};
+ghost use Rattle.std.specs.Prelude.{MatchResult, length, slice_index_or, vec_capacity};
 ghost use Rattle.std.specs.List.{flat_map};
 ghost use Rattle.x25_io.specs.code.Written.{AppendsPrefix, Tells, TellsMore};
 ghost use Rattle.x25_judge.specs.Counts as definition;
@@ -168,7 +169,8 @@ fn tell_frames<W: Sink>(
     writer: &mut W,
 ) -> Result<(), Failed>
     ensures kept { OnOk result (W.is_marked writer.new ≡ W.is_marked writer.old) }
-    ensures tells { TellsMore result (W.contents writer.old) (W.contents writer.new) output.old output.new (definition.frames_line from count) }
+    ensures tells { TellsMore result (W.contents writer.old) (W.contents writer.new) output.old output.new
+        (definition.frames_line from count) }
     ensures marked { OnErr result (W.is_marked writer.new ≡ true) }
 {
     output.make_room(MOST_COUNT, writer)?;
@@ -184,7 +186,8 @@ fn tell_channel<W: Sink>(
     writer: &mut W,
 ) -> Result<(), Failed>
     ensures kept { OnOk result (W.is_marked writer.new ≡ W.is_marked writer.old) }
-    ensures tells { TellsMore result (W.contents writer.old) (W.contents writer.new) output.old output.new (definition.packets_line from count.now) }
+    ensures tells { TellsMore result (W.contents writer.old) (W.contents writer.new) output.old output.new
+        (definition.packets_line from count.now) }
     ensures marked { OnErr result (W.is_marked writer.new ≡ true) }
 {
     output.make_room(MOST_COUNT, writer)?;

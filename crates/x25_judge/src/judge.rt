@@ -1,12 +1,16 @@
 //! What answers a line.
-ghost use Rattle.std.specs.Prelude.{◌≡◌, ◌+◌, ◌≤◌, ◌++◌, ℕ, List, Option, true, length, codes, is_some, IfOk, OnOk, OnErr, MatchResult};
+ghost use Rattle.std.specs.Prelude.{◌≡◌, ◌+◌, ◌≤◌, ◌++◌, ℕ, List, Option, true, length, codes, is_some, IfOk, OnOk};
+ghost use Rattle.std.specs.Prelude.{OnErr, MatchResult};
 ghost use Rattle.x25_io.specs.code.Written.{AppendsPrefix, Tells, TellsMore};
 ghost use Rattle.x25_decode.specs.Decoding.{mark_of, n1};
 ghost use Rattle.x25_frame.specs.Reading.{frame_of};
 ghost use Rattle.x25_frame.specs.Frame.{plain};
 ghost use Rattle.x25_packet_judge.specs.Book.{sees as book_sees};
 ghost use Rattle.x25_judge.specs.Held.{is_same, keeps};
-ghost use Rattle.x25_judge.specs.Judge.{all_told, answer_to, begins, behind, counts_carried, counts_frame, counts_packet, counts_text, covers, held_of, holding, is_faulty_by, next_by, next_missed, no_frame, read_of, noted_text, remark_missed, remark_of, remark_text, seen_by, sides_of};
+ghost use Rattle.x25_judge.specs.Judge.{all_told, answer_to, begins, behind, counts_carried, counts_frame};
+ghost use Rattle.x25_judge.specs.Judge.{counts_packet, counts_text, covers, held_of, holding, is_faulty_by, next_by};
+ghost use Rattle.x25_judge.specs.Judge.{next_missed, no_frame, read_of, noted_text, remark_missed, remark_of};
+ghost use Rattle.x25_judge.specs.Judge.{remark_text, seen_by, sides_of};
 
 use crate::counts::{Count, Counts, tell_end};
 use crate::held::Held;
@@ -96,7 +100,8 @@ fn covers(frame: &Frame, is_again: bool, is_judged: bool) -> bool
     }
 }
 
-/// Appends the rule that was broken, where one was, or what is noted, and a line feed; whether the frame counts as faulty is answered.
+/// Appends the rule that was broken, where one was, or what is noted, and a line feed; whether the frame counts as
+/// faulty is answered.
 fn tell(from: Role, is_strict: bool, remark: Remark, text: &mut Text) -> bool
     requires { length text.old + (MOST_REMARK + 1) ≤ ROOM }
     ensures text { text.new ≡ text.old ++ (remark_text from remark.rule remark.note ++ codes "\n") }
@@ -264,7 +269,8 @@ impl Judge {
     /// The rule that a frame breaks, and what is noted of it.
     fn sees(&mut self, from: Role, frame: &Frame) -> Remark
         ensures next { self.new ≡ next_by self.old from (plain frame.now) (seen_by self.old from (plain frame.now))
-            (book_sees from self.old.long_data (plain frame.now) (is_some (seen_by self.old from (plain frame.now)).rule) self.old.book) }
+            (book_sees from self.old.long_data (plain frame.now)
+            (is_some (seen_by self.old from (plain frame.now)).rule) self.old.book) }
         ensures remark { result ≡ remark_of self.old from (plain frame.now) (seen_by self.old from (plain frame.now)) }
     {
         let is_same = self.has(from, frame);
@@ -335,7 +341,8 @@ impl Judge {
         writer: &mut W,
     ) -> Result<(), Failed>
         ensures kept { OnOk result (W.is_marked writer.new ≡ W.is_marked writer.old) }
-        ensures tells { TellsMore result (W.contents writer.old) (W.contents writer.new) output.old output.new (counts_text self.now) }
+        ensures tells { TellsMore result (W.contents writer.old) (W.contents writer.new) output.old output.new
+            (counts_text self.now) }
         ensures marked { OnErr result (W.is_marked writer.new ≡ true) }
     {
         tell_end(

@@ -1,4 +1,5 @@
-//! The judge of a trace, over any reader and writer: which end broke which rule of the link layer or of the packet layer.
+//! The judge of a trace, over any reader and writer: which end broke which rule of the link layer or of the packet
+//! layer.
 //!
 //! docs/FORMATS.md has the lines and what is said of them. Profile.
 #![tactic(auto)]

@@ -4,8 +4,8 @@ ghost use Rattle.x25_judge.specs.Note as definition;
 
 use x25_text::{ROOM, Text};
 
-/// What isn't judged, and what a loss, damage or a trace that begins in the middle explains. ITU-T X.25 (10/96); the section is in the text of
-/// each.
+/// What isn't judged, and what a loss, damage or a trace that begins in the middle explains. ITU-T X.25 (10/96); the
+/// section is in the text of each.
 #[derive(Clone, Copy)]
 pub(crate) enum Note {
     Unjudged { channel: u16 },

@@ -34,8 +34,8 @@ pub(crate) struct End {
     pub(crate) way: Way,
 }
 
-/// The end that sends a frame and the other end, the first rule that the frame breaks, what is noted of it first, and whether it is an
-/// I frame that was sent before.
+/// The end that sends a frame and the other end, the first rule that the frame breaks, what is noted of it first, and
+/// whether it is an I frame that was sent before.
 #[derive(Clone, Copy)]
 pub(crate) struct Sides {
     pub(crate) own: End,
@@ -488,8 +488,8 @@ impl Sides {
 
     // ---- any frame
 
-    /// The first end sends a frame, an I frame with the octets that its last one of this number had or with others; at most `window` I frames
-    /// may be unacknowledged.
+    /// The first end sends a frame, an I frame with the octets that its last one of this number had or with others; at
+    /// most `window` I frames may be unacknowledged.
     #[tactic(auto, unfolding(crate::specs::Sides::sees))]
     pub(crate) fn sees(self, window: u8, is_same: bool, frame: &Frame) -> Sides
         ensures { result ≡ definition.sees window is_same (plain frame.now) self }

@@ -6,8 +6,8 @@ use crate::note::Note;
 use crate::rule::Rule;
 use x25_packet_judge::apart;
 
-/// What may be said of a way: nothing, since its numbers aren't known; not of its N(R)s, since the other end goes on with those of before;
-/// not of its N(R)s until one is valid, since one of them was at fault; or all.
+/// What may be said of a way: nothing, since its numbers aren't known; not of its N(R)s, since the other end goes on
+/// with those of before; not of its N(R)s until one is valid, since one of them was at fault; or all.
 #[derive(Clone, Copy)]
 pub(crate) enum Sight {
     Unseen,
@@ -42,7 +42,8 @@ pub(crate) struct Way {
     pub(crate) is_missed: bool,
 }
 
-/// A way behind a frame, the rule that the frame breaks, what is noted of it, and whether it is an I frame that was sent before.
+/// A way behind a frame, the rule that the frame breaks, what is noted of it, and whether it is an I frame that was
+/// sent before.
 #[derive(Clone, Copy)]
 pub(crate) struct Told {
     pub(crate) way: Way,

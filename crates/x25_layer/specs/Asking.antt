@@ -17,7 +17,8 @@ with_circuit l h x = record { restarting = l.restarting; restarts = l.restarts; 
 
 -- the circuit has done what was asked and answers this packet, or it refused
 abbrev pub AsksCircuit : LayerSettings → code.Layer → Result (Option Packet) LayerError → Layer → ℕ → Outcome → Type 0
-AsksCircuit c v result l h (Done next packet) = IsOkAnd result (λ p. FitsLayer c v (with_circuit l h next) × (plain_sent p ≡ packet))
+AsksCircuit c v result l h (Done next packet) = IsOkAnd result (λ p. FitsLayer c v (with_circuit l h next)
+    × (plain_sent p ≡ packet))
 AsksCircuit c v result l h (Refused e) = result ≡ Err (error.Circuit e)
 
 -- where memory is missing: a refusal of the circuit goes before 70

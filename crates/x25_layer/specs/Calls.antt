@@ -10,8 +10,8 @@ use Rattle.x25_layer.specs.declared.error.LayerError.{LayerError}
 use Rattle.x25_layer.specs.declared.error.LayerError.TheVariants as error
 use Rattle.x25_layer.specs.Layer.{LayerSettings, Layer, is_channel, put_at, packet_on, is_ready, restarting_from}
 
--- a call of a circuit on a channel; a new call, which takes a free channel, with the packet sizes and windows that it proposes; a restart;
--- and that the data packets which wait be pulled, which puts no packet of its own
+-- a call of a circuit on a channel; a new call, which takes a free channel, with the packet sizes and windows that it
+-- proposes; a restart; and that the data packets which wait be pulled, which puts no packet of its own
 pub data LayerRequest : Type 0 where
   Asks : (channel : ℕ) → (request : Request) → LayerRequest
   Dials : (called : List ℕ) → (calling : List ℕ) → (user : List ℕ) → (params : Params) → LayerRequest
@@ -37,7 +37,8 @@ abbrev pub highest_free : (ℕ → Circuit) → ℕ → Option ℕ
 highest_free circuits zero = None
 highest_free circuits (suc n) = if is_free (circuits (suc n)) then Some (suc n) else highest_free circuits n
 
--- A DTE calls on the highest free channel and a DCE on the lowest (sections 4.1.2 and 4.1.3), so that they seldom collide.
+-- A DTE calls on the highest free channel and a DCE on the lowest (sections 4.1.2 and 4.1.3), so that they seldom
+-- collide.
 abbrev pub free_channel : Role → (ℕ → Circuit) → ℕ → Option ℕ
 free_channel Dte circuits channels = highest_free circuits channels
 free_channel Dce circuits channels = lowest_free circuits channels
@@ -57,22 +58,27 @@ if_at_once false is_full good = good
 
 -- the circuit of a channel does what is asked; the others are as they were
 abbrev pub outcome_on : ℕ → (ℕ → Circuit) → ℕ → Outcome → LayerOutcome
-outcome_on restarts circuits h (Done next packet) = Accepted (is_ready restarts (put_at circuits h next)) (packet_on h packet)
+outcome_on restarts circuits h (Done next packet) = Accepted (is_ready restarts (put_at circuits h next))
+    (packet_on h packet)
 outcome_on restarts circuits h (Refused e) = Declined (error.Circuit e)
 
-abbrev pub dialled : LayerSettings → Bool → ℕ → (ℕ → Circuit) → Option ℕ → List ℕ → List ℕ → List ℕ → Params → LayerOutcome
+abbrev pub dialled : LayerSettings → Bool → ℕ → (ℕ → Circuit) → Option ℕ → List ℕ → List ℕ → List ℕ → Params
+    → LayerOutcome
 dialled c is_full restarts circuits None called calling user params = Declined error.NoFreeChannel
 dialled c is_full restarts circuits (Some h) called calling user params =
-    where_room is_full (outcome_on restarts circuits h (outcome c.circuit (circuits h) (Calls called calling user params)))
+    where_room is_full (outcome_on restarts circuits h
+    (outcome c.circuit (circuits h) (Calls called calling user params)))
 
 abbrev pub outcome_ready : LayerSettings → Bool → ℕ → (ℕ → Circuit) → LayerRequest → LayerOutcome
 outcome_ready c is_full restarts circuits (Asks h request) =
     if is_channel c.channels h
-    then if_at_once (puts_at_once request) is_full (outcome_on restarts circuits h (outcome c.circuit (circuits h) request))
+    then if_at_once (puts_at_once request) is_full
+    (outcome_on restarts circuits h (outcome c.circuit (circuits h) request))
     else Declined error.NoSuchChannel
 outcome_ready c is_full restarts circuits (Dials called calling user params) =
     dialled c is_full restarts circuits (free_channel c.circuit.role circuits c.channels) called calling user params
-outcome_ready c is_full restarts circuits Restarts = where_room is_full (Accepted (restarting_from restarts circuits) (Some (restart 0 0)))
+outcome_ready c is_full restarts circuits Restarts = where_room is_full
+    (Accepted (restarting_from restarts circuits) (Some (restart 0 0)))
 outcome_ready c is_full restarts circuits PullsAll = Accepted (is_ready restarts circuits) None
 
 abbrev pub outcome_in : LayerSettings → Bool → Bool → ℕ → (ℕ → Circuit) → LayerRequest → LayerOutcome
@@ -90,7 +96,14 @@ pub record LayerPulled : Type 0 where
   pub packet : Option PlainPacket
 
 abbrev pub pulled_on : Layer → ℕ → Pulled → LayerPulled
-pulled_on l h p = record { next = record { restarting = l.restarting; restarts = l.restarts; circuits = put_at l.circuits h p.next }; packet = packet_on h p.packet }
+pulled_on l h p = record {
+  next = record {
+    restarting = l.restarting;
+    restarts = l.restarts;
+    circuits = put_at l.circuits h p.next;
+  };
+  packet = packet_on h p.packet;
+}
 
 abbrev pub layer_pulled : LayerSettings → Layer → ℕ → LayerPulled
 layer_pulled c l h = pulled_on l h (pulled c.circuit (l.circuits h))

@@ -2,7 +2,8 @@
 use Rattle.std.specs.Prelude.{ℕ}
 use Rattle.x25_circuit.specs.Error as circuit
 use Rattle.x25_layer.specs.declared.error.LayerError.{LayerError}
-use Rattle.x25_layer.specs.declared.error.LayerError.TheVariants.{NotUp, QueueFull, BadConfig, Restarting, NoFreeChannel, NoSuchChannel, Circuit, NoMemory}
+use Rattle.x25_layer.specs.declared.error.LayerError.TheVariants.{NotUp, QueueFull, BadConfig, Restarting}
+use Rattle.x25_layer.specs.declared.error.LayerError.TheVariants.{NoFreeChannel, NoSuchChannel, Circuit, NoMemory}
 
 abbrev pub number_of : LayerError → ℕ
 number_of NotUp = 9

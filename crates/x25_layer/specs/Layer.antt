@@ -1,6 +1,8 @@
--- The packet layer of one end: restart, and its circuits by logical channel. ITU-T X.25 (10/96), sections 3.1, 3.3 and 4.5, and
--- Annex C, table C-2. Diagnostics are of the profile, and so is that a packet is dropped which names no channel of this end.
-use Rattle.std.specs.Prelude.{ℕ, suc, List, [], ◌∷◌, Option, Some, None, Bool, true, false, nat_le, ◌==◌, ◌&&◌, if◌then◌else◌}
+-- The packet layer of one end: restart, and its circuits by logical channel. ITU-T X.25 (10/96), sections 3.1, 3.3 and
+-- 4.5, and Annex C, table C-2. Diagnostics are of the profile, and so is that a packet is dropped which names no
+-- channel of this end.
+use Rattle.std.specs.Prelude.{ℕ, suc, List, [], ◌∷◌, Option, Some, None, Bool, true, false, nat_le, ◌==◌, ◌&&◌}
+use Rattle.std.specs.Prelude.{if◌then◌else◌}
 use Rattle.x25_bits.specs.declared.role.Role.{Role}
 use Rattle.x25_packet.specs.declared.error.PacketError.{PacketError}
 use Rattle.x25_packet.specs.Packet.{PlainPacket, restart, restart_conf}
@@ -56,26 +58,55 @@ is_ready restarts circuits = record { restarting = false; restarts = restarts; c
 
 -- the circuit of a channel answers; the others are as they were
 abbrev pub answers_on : ℕ → (ℕ → Circuit) → ℕ → Answer → LayerAnswer
-answers_on restarts circuits h a = record { next = is_ready restarts (put_at circuits h a.next); owed = packet_on h a.owed; notices = notices_on h a.notices }
+answers_on restarts circuits h a = record {
+  next = is_ready restarts
+      (put_at circuits h a.next);
+  owed = packet_on h a.owed;
+  notices = notices_on h a.notices;
+}
 
 -- the packet is dropped
 abbrev pub drops : Bool → ℕ → (ℕ → Circuit) → LayerAnswer
-drops restarting restarts circuits = record { next = record { restarting = restarting; restarts = restarts; circuits = circuits }; owed = None; notices = [] }
+drops restarting restarts circuits = record {
+  next = record {
+    restarting = restarting;
+    restarts = restarts;
+    circuits = circuits;
+  };
+  owed = None;
+  notices = [];
+}
 
 -- one restart more is done: all circuits begin afresh
 abbrev pub restarts_to : ℕ → Option PlainPacket → List LayerNotice → LayerAnswer
-restarts_to restarts owed notices = record { next = is_ready (suc restarts) (λ k. begun); owed = owed; notices = notices }
+restarts_to restarts owed notices = record {
+  next = is_ready (suc restarts)
+      (λ k. begun);
+  owed = owed;
+  notices = notices;
+}
 
 -- RESTART is sent: all circuits in p1, and their counts as they were
 abbrev pub restarting_from : ℕ → (ℕ → Circuit) → Layer
-restarting_from restarts circuits = record { restarting = true; restarts = restarts; circuits = λ k. forgotten (circuits k) }
+restarting_from restarts circuits = record {
+  restarting = true;
+  restarts = restarts;
+  circuits = λ k. forgotten
+      (circuits k);
+}
 
 -- ---- packets handed up
 
 abbrev pub answers_ready : LayerSettings → ℕ → (ℕ → Circuit) → PlainPacket → LayerAnswer
-answers_ready c restarts circuits (restart cause diagnostic) = restarts_to restarts (Some restart_conf) (restarted cause diagnostic ∷ [])
+answers_ready c restarts circuits (restart cause diagnostic) = restarts_to restarts (Some restart_conf)
+    (restarted cause diagnostic ∷ [])
 answers_ready c restarts circuits restart_conf =
-    record { next = restarting_from restarts circuits; owed = Some (restart (cause_at c.circuit.role 1) 17); notices = layer_fault 17 ∷ [] }
+    record {
+      next = restarting_from restarts circuits;
+      owed = Some
+          (restart (cause_at c.circuit.role 1) 17);
+      notices = layer_fault 17 ∷ [];
+    }
 answers_ready c restarts circuits packet =
     if is_channel c.channels (channel_of packet)
     then answers_on restarts circuits (channel_of packet) (answers c.circuit (circuits (channel_of packet)) packet)
@@ -83,7 +114,8 @@ answers_ready c restarts circuits packet =
 
 -- all else is dropped until the restart is confirmed
 abbrev pub answers_restarting : ℕ → (ℕ → Circuit) → PlainPacket → LayerAnswer
-answers_restarting restarts circuits (restart cause diagnostic) = restarts_to restarts None (restarted cause diagnostic ∷ [])
+answers_restarting restarts circuits (restart cause diagnostic) = restarts_to restarts None
+    (restarted cause diagnostic ∷ [])
 answers_restarting restarts circuits restart_conf = restarts_to restarts None (restart_done ∷ [])
 answers_restarting restarts circuits packet = drops true restarts circuits
 
@@ -98,7 +130,8 @@ layer_answers c l packet = answers_in c l.restarting l.restarts l.circuits packe
 abbrev pub undecoded_in : LayerSettings → Bool → ℕ → (ℕ → Circuit) → ℕ → PacketError → LayerAnswer
 undecoded_in c true restarts circuits h error = drops true restarts circuits
 undecoded_in c false restarts circuits h error =
-    if is_channel c.channels h then answers_on restarts circuits h (undecoded c.circuit (circuits h) error) else drops false restarts circuits
+    if is_channel c.channels h then answers_on restarts circuits h (undecoded c.circuit (circuits h) error)
+    else drops false restarts circuits
 
 abbrev pub layer_undecoded : LayerSettings → Layer → ℕ → PacketError → LayerAnswer
 layer_undecoded c l h error = undecoded_in c l.restarting l.restarts l.circuits h error
@@ -109,7 +142,8 @@ layer_undecoded c l h error = undecoded_in c l.restarting l.restarts l.circuits 
 abbrev pub at_rest : Layer
 at_rest = is_ready 0 (λ k. begun)
 
--- At LinkDown all is dropped: no restart is under way, and all channels are in p1. The counts are as they were, until LinkUp.
+-- At LinkDown all is dropped: no restart is under way, and all channels are in p1. The counts are as they were, until
+-- LinkUp.
 abbrev pub rested : Layer → Layer
 rested l = is_ready l.restarts (λ k. forgotten (l.circuits k))
 
@@ -118,4 +152,9 @@ abbrev pub restart_cause : Role → ℕ
 restart_cause role = by_role role 0 7
 
 abbrev pub goes_up : LayerSettings → LayerAnswer
-goes_up c = record { next = restarting_from 0 (λ k. begun); owed = Some (restart (restart_cause c.circuit.role) 0); notices = [] }
+goes_up c = record {
+  next = restarting_from 0 (λ k. begun);
+  owed = Some
+      (restart (restart_cause c.circuit.role) 0);
+  notices = [];
+}

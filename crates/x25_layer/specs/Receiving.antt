@@ -35,4 +35,5 @@ channel_hears c l h read = answers_on l.restarts l.circuits h (circuit_hears c.c
 -- .. and where the layer isn't, or has no such channel, they are dropped
 abbrev pub hears_on : LayerSettings → Layer → Bool → ℕ → Result PlainPacket PacketError → LayerAnswer
 hears_on c l true h read = drops true l.restarts l.circuits
-hears_on c l false h read = if is_channel c.channels h then channel_hears c l h read else drops false l.restarts l.circuits
+hears_on c l false h read = if is_channel c.channels h then channel_hears c l h read
+    else drops false l.restarts l.circuits

@@ -18,8 +18,9 @@ HaveRoom len vs = (k : ℕ) (v : circuit_code.Circuit) → slice_get vs k ≡ So
 abbrev pub HaveAtMost : ℕ → List circuit_code.Circuit → Type 0
 HaveAtMost bound vs = (k : ℕ) (v : circuit_code.Circuit) → slice_get vs k ≡ Some v → room_of v ≤ bound
 
--- Memory is set aside for a packet with at most so many octets of user data, or for LinkDown and LinkUp: for 16 packets that are put, in the
--- layer and in its link (n), which are the owed one and 15 data packets, and in each circuit for the user data.
+-- Memory is set aside for a packet with at most so many octets of user data, or for LinkDown and LinkUp: for 16 packets
+-- that are put, in the layer and in its link (n), which are the owed one and 15 data packets, and in each circuit for
+-- the user data.
 pub record HasRoom (len : ℕ) (v : code.Layer) (n : ℕ) : Type 0 where
   pub memory : 16 ≤ v.memory
   pub spares : 16 ≤ n

@@ -1,6 +1,7 @@
--- A layer over a link: each call's own packet is put, and then the data packets of all channels, in rounds. The refusals and the
--- rounds are of the profile.
-use Rattle.std.specs.Prelude.{ℕ, zero, suc, ◌+◌, List, [], ◌∷◌, ◌++◌, length, option_to_list, Option, Some, None, Result, Ok, Err, Bool, nat_lt, ◌==◌, if◌then◌else◌}
+-- A layer over a link: each call's own packet is put, and then the data packets of all channels, in rounds. The
+-- refusals and the rounds are of the profile.
+use Rattle.std.specs.Prelude.{ℕ, zero, suc, ◌+◌, List, [], ◌∷◌, ◌++◌, length, option_to_list, Option, Some, None}
+use Rattle.std.specs.Prelude.{Result, Ok, Err, Bool, nat_lt, ◌==◌, if◌then◌else◌}
 use Rattle.x25_packet.specs.declared.error.PacketError.{PacketError}
 use Rattle.x25_packet.specs.Packet.{PlainPacket}
 use Rattle.x25_packet.specs.Reading.{packet_of, channel_in}
@@ -8,8 +9,10 @@ use Rattle.x25_packet.specs.Spelling.{longest_user}
 use Rattle.x25_circuit.specs.Circuit.{Circuit}
 use Rattle.x25_layer.specs.declared.error.LayerError.{LayerError}
 use Rattle.x25_layer.specs.declared.error.LayerError.TheVariants as error
-use Rattle.x25_layer.specs.Layer.{LayerSettings, Layer, LayerNotice, LayerAnswer, layer_answers, layer_undecoded, drops, goes_up}
-use Rattle.x25_layer.specs.Calls.{LayerRequest, LayerOutcome, Accepted, Declined, layer_outcome, LayerPulled, layer_pulled}
+use Rattle.x25_layer.specs.Layer.{LayerSettings, Layer, LayerNotice, LayerAnswer, layer_answers, layer_undecoded, drops}
+use Rattle.x25_layer.specs.Layer.{goes_up}
+use Rattle.x25_layer.specs.Calls.{LayerRequest, LayerOutcome, Accepted, Declined, layer_outcome, LayerPulled}
+use Rattle.x25_layer.specs.Calls.{layer_pulled}
 
 -- what a layer sees of its link at the start of a step: whether it is up, and how many packets wait once these were put
 pub record LinkView : Type 0 where
@@ -33,7 +36,8 @@ with_pulled s p (Some packet) = record { layer = p.next; put = s.put ++ packet �
 
 -- one packet of a channel, where fewer than 8 packets wait in the link
 abbrev pub pull_one : LinkView → LayerSettings → ℕ → Putting → Putting
-pull_one link c h s = if nat_lt (link.waits s.put) 8 then with_pulled s (layer_pulled c s.layer h) (layer_pulled c s.layer h).packet else s
+pull_one link c h s = if nat_lt (link.waits s.put) 8
+    then with_pulled s (layer_pulled c s.layer h) (layer_pulled c s.layer h).packet else s
 
 -- one packet of each channel up to a number, in rising order
 abbrev pub round : LinkView → LayerSettings → ℕ → Putting → Putting
@@ -49,7 +53,8 @@ abbrev pub rounds_of : ℕ → LinkView → LayerSettings → Putting → Puttin
 rounds_of zero link c s = s
 rounds_of (suc n) link c s = rounds_of n link c (round link c c.channels s)
 
--- Rounds until one gives none: each that gives one leaves fewer to be sent, and behind one that gives none the others give none.
+-- Rounds until one gives none: each that gives one leaves fewer to be sent, and behind one that gives none the others
+-- give none.
 abbrev pub rounds : LinkView → LayerSettings → Putting → Putting
 rounds link c s = rounds_of (backlog s.layer.circuits c.channels) link c s
 
@@ -65,7 +70,8 @@ went link c (Declined e) = Refuses e
 
 -- refused with 9 where the link isn't up; 256 packets are a full queue
 abbrev pub calls : LinkView → LayerSettings → Layer → LayerRequest → Answered
-calls link c l request = if link.is_up then went link c (layer_outcome c (link.waits [] == 256) l request) else Refuses error.NotUp
+calls link c l request = if link.is_up then went link c (layer_outcome c (link.waits [] == 256) l request)
+    else Refuses error.NotUp
 
 -- ---- what the link hands up or notes
 

@@ -1,5 +1,6 @@
 //! What the user asks of the circuit of a channel: the steps that all calls with a channel share.
-ghost use Rattle.std.specs.Prelude.{◌≡◌, ◌≢◌, ℕ, Bool, ◌<◌, ◌≤◌, ◌&&◌, ◌==◌, length, List, [], true, false, vec_capacity, IfErr, IfOk, IfSome, OnErr};
+ghost use Rattle.std.specs.Prelude.{◌≡◌, ◌≢◌, ℕ, Bool, ◌<◌, ◌≤◌, ◌&&◌, ◌==◌, length, List, [], true, false};
+ghost use Rattle.std.specs.Prelude.{vec_capacity, IfErr, IfOk, IfSome, OnErr};
 ghost use Rattle.x25_circuit.specs.Calling.{outcome, Sends};
 ghost use Rattle.x25_circuit.specs.code.Replies.{IsSendable, plain_sent};
 ghost use Rattle.x25_circuit.specs.Request.{plain_request, MayPut};
@@ -36,12 +37,15 @@ impl Layer {
         request: Request<'a>,
     ) -> Result<Option<Packet<'a>>, LayerError>
         requires { is_channel (length self.old.circuits.items) channel ≡ true }
-        ensures outcome { (c : LayerSettings) (l : State) → FitsLayer c self.old l → AsksCircuit c self.new result l channel (outcome c.circuit (l.circuits channel) (plain_request request.entry)) }
+        ensures outcome { (c : LayerSettings) (l : State) → FitsLayer c self.old l
+            → AsksCircuit c self.new result l channel
+            (outcome c.circuit (l.circuits channel) (plain_request request.entry)) }
         ensures range { IfOk result (λ packet. IsSendable (plain_sent packet)) }
         ensures at_once { IfOk result (λ packet. MayPut (plain_request request.entry) packet) }
         ensures memory { self.new.memory ≡ self.old.memory }
         ensures room { (len : ℕ) → HaveRoom len self.old.circuits.items → HaveRoom len self.new.circuits.items }
-        ensures fits { (c : LayerSettings) (l : State) → FitsLayer c self.old l → OnErr result (FitsLayer c self.new l) }
+        ensures fits { (c : LayerSettings) (l : State) → FitsLayer c self.old l
+            → OnErr result (FitsLayer c self.new l) }
         ensures kinds { IfErr result (λ e. e ≢ LayerError.NoMemory) }
     {
         self.quiet = false;
@@ -55,7 +59,8 @@ impl Layer {
     // Where memory is missing for a call, a refusal of its circuit goes before 70.
     fn without_memory(&self, channel: u16, request: &Request<'_>) -> LayerError
         requires { is_channel (length self.now.circuits.items) channel ≡ true }
-        ensures { (c : LayerSettings) (l : State) → FitsLayer c self.now l → result ≡ error_without_memory (outcome c.circuit (l.circuits channel) (plain_request request.now)) }
+        ensures { (c : LayerSettings) (l : State) → FitsLayer c self.now l
+            → result ≡ error_without_memory (outcome c.circuit (l.circuits channel) (plain_request request.now)) }
     {
         let Some(circuit) = self.circuit(channel) else {
             unreachable!();
@@ -79,7 +84,9 @@ impl Layer {
         requires up { L.up link.old ≡ true }
         requires free { puts_at_once (plain_request request) ≡ true → L.waits link.old < 256 }
         requires longest { 4099 ≤ L.longest link.old }
-        ensures { Does L.OrderedLink self.old link.old self.new link.new result 16 (λ view c l. went view c (outcome_on l.restarts l.circuits channel (outcome c.circuit (l.circuits channel) (plain_request request.entry)))) }
+        ensures { Does L.OrderedLink self.old link.old self.new link.new result 16
+            (λ view c l. went view c (outcome_on l.restarts l.circuits channel
+            (outcome c.circuit (l.circuits channel) (plain_request request.entry)))) }
     {
         if self.set_aside(link, MOST_PUT).is_err() {
             return Err(self.without_memory(channel, &request));
@@ -90,8 +97,9 @@ impl Layer {
         Ok(())
     }
 
-    /// Memory of a message of a channel that is needed no more, for one of so many octets, where there is some: of one whose packets were all handed
-    /// down, or that was given back, and for at most 4,096. What is too small is let go of. The layer is as before.
+    /// Memory of a message of a channel that is needed no more, for one of so many octets, where there is some: of one
+    /// whose packets were all handed down, or that was given back, and for at most 4,096. What is too small is let go
+    /// of. The layer is as before.
     pub fn spent_memory(&mut self, channel: u16, count: usize) -> Option<Vec<u8>>
         ensures layer { (c : LayerSettings) (l : State) → FitsLayer c self.old l → FitsLayer c self.new l }
         ensures aside { self.new.memory ≡ self.old.memory }
@@ -116,8 +124,9 @@ impl Layer {
         self.circuits[place].spent_memory(count)
     }
 
-    /// Takes the memory of a message back, for one of this channel that comes or is sent later. It is let go of where the channel isn't configured, where
-    /// it is for more than 4,096 octets, and where two of the channel are kept. The layer is as before.
+    /// Takes the memory of a message back, for one of this channel that comes or is sent later. It is let go of where
+    /// the channel isn't configured, where it is for more than 4,096 octets, and where two of the channel are kept. The
+    /// layer is as before.
     pub fn give_back(&mut self, channel: u16, memory: Vec<u8>)
         ensures layer { (c : LayerSettings) (l : State) → FitsLayer c self.old l → FitsLayer c self.new l }
         ensures aside { self.new.memory ≡ self.old.memory }
@@ -145,8 +154,12 @@ impl Layer {
         channel: u16,
         request: &Request<'_>,
     ) -> Option<LayerError>
-        ensures value { (c : LayerSettings) (l : State) (x : L.State) → FitsLayer c self.now l → L.fits link.now x → result ≡ call_refusal (calls (view_of L.up_in L.waits_in L.after_put x) c l (Asks channel (plain_request request.now))) }
-        ensures refused { (c : LayerSettings) (l : State) (x : L.State) → FitsLayer c self.now l → L.fits link.now x → IfSome result (λ e. calls (view_of L.up_in L.waits_in L.after_put x) c l (Asks channel (plain_request request.now)) ≡ Refuses e) }
+        ensures value { (c : LayerSettings) (l : State) (x : L.State) → FitsLayer c self.now l → L.fits link.now x
+            → result ≡ call_refusal (calls (view_of L.up_in L.waits_in L.after_put x) c l
+            (Asks channel (plain_request request.now))) }
+        ensures refused { (c : LayerSettings) (l : State) (x : L.State) → FitsLayer c self.now l → L.fits link.now x
+            → IfSome result (λ e. calls (view_of L.up_in L.waits_in L.after_put x) c l
+            (Asks channel (plain_request request.now)) ≡ Refuses e) }
     {
         if !link.is_up() {
             return Some(LayerError::NotUp);
@@ -166,7 +179,8 @@ impl Layer {
         }
     }
 
-    /// Why `ask` would refuse a message of so many octets on a channel now, if it would, as `refusal`: what they are isn't looked at.
+    /// Why `ask` would refuse a message of so many octets on a channel now, if it would, as `refusal`: what they are
+    /// isn't looked at.
     #[inline(always)]
     pub fn message_refusal<L: OrderedLink>(
         &self,
@@ -174,8 +188,14 @@ impl Layer {
         channel: u16,
         count: usize,
     ) -> Option<LayerError>
-        ensures value { (c : LayerSettings) (l : State) (x : L.State) (q : Bool) (user : List ℕ) → length user ≡ count → FitsLayer c self.now l → L.fits link.now x → result ≡ call_refusal (calls (view_of L.up_in L.waits_in L.after_put x) c l (Asks channel (Sends q user))) }
-        ensures refused { (c : LayerSettings) (l : State) (x : L.State) (q : Bool) (user : List ℕ) → length user ≡ count → FitsLayer c self.now l → L.fits link.now x → IfSome result (λ e. calls (view_of L.up_in L.waits_in L.after_put x) c l (Asks channel (Sends q user)) ≡ Refuses e) }
+        ensures value { (c : LayerSettings) (l : State) (x : L.State) (q : Bool) (user : List ℕ) → length user ≡ count
+            → FitsLayer c self.now l → L.fits link.now x
+            → result ≡ call_refusal (calls (view_of L.up_in L.waits_in L.after_put x) c l
+            (Asks channel (Sends q user))) }
+        ensures refused { (c : LayerSettings) (l : State) (x : L.State) (q : Bool) (user : List ℕ) → length user ≡ count
+            → FitsLayer c self.now l → L.fits link.now x
+            → IfSome result (λ e. calls (view_of L.up_in L.waits_in L.after_put x) c l (Asks channel (Sends q user))
+            ≡ Refuses e) }
     {
         if !link.is_up() {
             return Some(LayerError::NotUp);
@@ -192,11 +212,14 @@ impl Layer {
         }
     }
 
-    /// Why `call` and `call_with` would refuse any call now, if they would: 9 NotUp, 40 Restarting or 41 NoFreeChannel. `None` says nothing: a call may be
-    /// refused on the other grounds.
+    /// Why `call` and `call_with` would refuse any call now, if they would: 9 NotUp, 40 Restarting or 41 NoFreeChannel.
+    /// `None` says nothing: a call may be refused on the other grounds.
     #[inline(always)]
     pub fn dial_refusal<L: OrderedLink>(&self, link: &L) -> Option<LayerError>
-        ensures { (c : LayerSettings) (l : State) (x : L.State) (called calling user : List ℕ) (params : Params) → FitsLayer c self.now l → L.fits link.now x → IfSome result (λ e. calls (view_of L.up_in L.waits_in L.after_put x) c l (Dials called calling user params) ≡ Refuses e) }
+        ensures { (c : LayerSettings) (l : State) (x : L.State) (called calling user : List ℕ) (params : Params)
+            → FitsLayer c self.now l → L.fits link.now x
+            → IfSome result (λ e. calls (view_of L.up_in L.waits_in L.after_put x) c l
+            (Dials called calling user params) ≡ Refuses e) }
     {
         if !link.is_up() {
             return Some(LayerError::NotUp);
@@ -212,8 +235,10 @@ impl Layer {
 
     /// Asks the circuit of a channel, puts its packet, where there is one, and pulls: all calls with a channel in one.
     ///
-    /// 9 NotUp, 40 Restarting, 42 NoSuchChannel, 10 QueueFull but for a message, then as the circuit refuses it, and else 70 alone.
-    // It and what it calls stand in their callers' place, where the kind of the request is known and it needn't be copied whole.
+    /// 9 NotUp, 40 Restarting, 42 NoSuchChannel, 10 QueueFull but for a message, then as the circuit refuses it, and
+    /// else 70 alone.
+    // It and what it calls stand in their callers' place, where the kind of the request is known and it needn't be
+    // copied whole.
     #[inline(always)]
     pub fn ask<L: OrderedLink>(
         &mut self,
@@ -222,7 +247,8 @@ impl Layer {
         request: Request<'_>,
     ) -> Result<(), LayerError>
         requires { 4099 ≤ L.longest link.old }
-        ensures { Answers L.OrderedLink self.old link.old self.new link.new result 16 (Asks channel (plain_request request.entry)) }
+        ensures { Answers L.OrderedLink self.old link.old self.new link.new result 16
+            (Asks channel (plain_request request.entry)) }
     {
         if !link.is_up() {
             return Err(LayerError::NotUp);

@@ -1,12 +1,12 @@
 //! The calls of the user with a channel. ITU-T X.25 (10/96), sections 4.1, 4.3 and 4.4.
 //!
-//! Each is refused for the first of these grounds, numbers of the profile: 9 NotUp, 40 Restarting, 42 NoSuchChannel (a new
-//! call: 41 NoFreeChannel), 10 QueueFull where 256 packets wait (not `send`, which puts no packet at once), and then as the
-//! circuit refuses it. 70 comes in place of acceptance alone, and only where the layer or its link has set memory aside for
-//! fewer than 16 packets. Where a call is refused, the layer and the link are as before.
+//! Each is refused for the first of these grounds, numbers of the profile: 9 NotUp, 40 Restarting, 42 NoSuchChannel (a
+//! new call: 41 NoFreeChannel), 10 QueueFull where 256 packets wait (not `send`, which puts no packet at once), and
+//! then as the circuit refuses it. 70 comes in place of acceptance alone, and only where the layer or its link has set
+//! memory aside for fewer than 16 packets. Where a call is refused, the layer and the link are as before.
 //!
-//! An accepted call puts its packet, and then the data packets of all channels in rounds, while fewer than 8 packets wait. The
-//! link takes packets of 4,099 octets.
+//! An accepted call puts its packet, and then the data packets of all channels in rounds, while fewer than 8 packets
+//! wait. The link takes packets of 4,099 octets.
 ghost use Rattle.std.specs.Prelude.{◌≡◌, ◌≤◌, None, Some, IfOk};
 ghost use Rattle.x25_circuit.specs.Params.{default_params};
 ghost use Rattle.x25_circuit.specs.Calling.{Accepts, Clears, Sends, Interrupts, Resets, SaysReady, SaysNotReady};
@@ -22,11 +22,12 @@ use x25_circuit::{Params, Proposal, Request};
 use x25_link::OrderedLink;
 
 impl Layer {
-    /// Calls the other end, with addresses of 0 to 15 digits and at most 16 octets of user data (128 where it may be long), on the highest free channel at
-    /// a DTE and on the lowest at a DCE, which it answers. It proposes the default packet sizes and windows.
+    /// Calls the other end, with addresses of 0 to 15 digits and at most 16 octets of user data (128 where it may be
+    /// long), on the highest free channel at a DTE and on the lowest at a DCE, which it answers. It proposes the
+    /// default packet sizes and windows.
     ///
-    /// 9 NotUp, 40 Restarting, 41 NoFreeChannel, 10 QueueFull, then 34 BadParameter of the circuit where an address or the user
-    /// data is none of these, and else 70 alone.
+    /// 9 NotUp, 40 Restarting, 41 NoFreeChannel, 10 QueueFull, then 34 BadParameter of the circuit where an address or
+    /// the user data is none of these, and else 70 alone.
     pub fn call<L: OrderedLink>(
         &mut self,
         link: &mut L,
@@ -35,17 +36,19 @@ impl Layer {
         user: &[u8],
     ) -> Result<u16, LayerError>
         requires { 4099 ≤ L.longest link.old }
-        ensures does { Answers L.OrderedLink self.old link.old self.new link.new result 16 (Dials called.now calling.now user.now default_params) }
-        ensures channel { (c : LayerSettings) (l : State) → FitsLayer c self.old l → IfOk result (λ channel. free_channel c.circuit.role l.circuits c.channels ≡ Some channel) }
+        ensures does { Answers L.OrderedLink self.old link.old self.new link.new result 16
+            (Dials called.now calling.now user.now default_params) }
+        ensures channel { (c : LayerSettings) (l : State) → FitsLayer c self.old l
+            → IfOk result (λ channel. free_channel c.circuit.role l.circuits c.channels ≡ Some channel) }
     {
         self.call_with(link, called, calling, user, Params::default())
     }
 
-    /// Calls as `call`, and proposes these packet sizes and windows: sizes of 4 to 12, and windows of 1 to 7. What isn't the
-    /// default stands in the CALL. ITU-T X.25 (10/96), section 6.12.
+    /// Calls as `call`, and proposes these packet sizes and windows: sizes of 4 to 12, and windows of 1 to 7. What
+    /// isn't the default stands in the CALL. ITU-T X.25 (10/96), section 6.12.
     ///
-    /// 9 NotUp, 40 Restarting, 41 NoFreeChannel, 10 QueueFull, then 34 BadParameter of the circuit where an address, the user
-    /// data, a size or a window is none of these, and else 70 alone.
+    /// 9 NotUp, 40 Restarting, 41 NoFreeChannel, 10 QueueFull, then 34 BadParameter of the circuit where an address,
+    /// the user data, a size or a window is none of these, and else 70 alone.
     pub fn call_with<L: OrderedLink>(
         &mut self,
         link: &mut L,
@@ -55,8 +58,10 @@ impl Layer {
         params: Params,
     ) -> Result<u16, LayerError>
         requires { 4099 ≤ L.longest link.old }
-        ensures does { Answers L.OrderedLink self.old link.old self.new link.new result 16 (Dials called.now calling.now user.now params) }
-        ensures channel { (c : LayerSettings) (l : State) → FitsLayer c self.old l → IfOk result (λ channel. free_channel c.circuit.role l.circuits c.channels ≡ Some channel) }
+        ensures does { Answers L.OrderedLink self.old link.old self.new link.new result 16
+            (Dials called.now calling.now user.now params) }
+        ensures channel { (c : LayerSettings) (l : State) → FitsLayer c self.old l
+            → IfOk result (λ channel. free_channel c.circuit.role l.circuits c.channels ≡ Some channel) }
     {
         if !link.is_up() {
             return Err(LayerError::NotUp);
@@ -83,8 +88,8 @@ impl Layer {
 
     /// Accepts the call that came on a channel, with the packet sizes and windows that it proposes: CALL ACCEPTED goes.
     ///
-    /// 9 NotUp, 40 Restarting, 42 NoSuchChannel, 10 QueueFull, then 30 WrongState of the circuit where no call came, and else 70
-    /// alone.
+    /// 9 NotUp, 40 Restarting, 42 NoSuchChannel, 10 QueueFull, then 30 WrongState of the circuit where no call came,
+    /// and else 70 alone.
     pub fn accept<L: OrderedLink>(&mut self, link: &mut L, channel: u16) -> Result<(), LayerError>
         requires { 4099 ≤ L.longest link.old }
         ensures { Answers L.OrderedLink self.old link.old self.new link.new result 16 (Asks channel (Accepts None)) }
@@ -95,8 +100,8 @@ impl Layer {
     /// Accepts the call that came on a channel with these packet sizes and windows, each from the proposed value to the
     /// default. What isn't as proposed stands in the CALL ACCEPTED. ITU-T X.25 (10/96), section 6.12.
     ///
-    /// 9 NotUp, 40 Restarting, 42 NoSuchChannel, 10 QueueFull, then 30 WrongState of the circuit where no call came and 34
-    /// BadParameter where a size or a window is none of these, and else 70 alone.
+    /// 9 NotUp, 40 Restarting, 42 NoSuchChannel, 10 QueueFull, then 30 WrongState of the circuit where no call came and
+    /// 34 BadParameter where a size or a window is none of these, and else 70 alone.
     pub fn accept_with<L: OrderedLink>(
         &mut self,
         link: &mut L,
@@ -104,7 +109,8 @@ impl Layer {
         params: Params,
     ) -> Result<(), LayerError>
         requires { 4099 ≤ L.longest link.old }
-        ensures { Answers L.OrderedLink self.old link.old self.new link.new result 16 (Asks channel (Accepts (Some params))) }
+        ensures { Answers L.OrderedLink self.old link.old self.new link.new result 16
+            (Asks channel (Accepts (Some params))) }
     {
         let answer = Proposal::new(params);
         self.ask(
@@ -118,8 +124,8 @@ impl Layer {
 
     /// Clears the call on a channel, and drops everything on it: CLEAR with cause and diagnostic 0 goes.
     ///
-    /// 9 NotUp, 40 Restarting, 42 NoSuchChannel, 10 QueueFull, then 30 WrongState of the circuit in p1 and where this end's CLEAR
-    /// isn't confirmed yet, and else 70 alone.
+    /// 9 NotUp, 40 Restarting, 42 NoSuchChannel, 10 QueueFull, then 30 WrongState of the circuit in p1 and where this
+    /// end's CLEAR isn't confirmed yet, and else 70 alone.
     pub fn clear<L: OrderedLink>(&mut self, link: &mut L, channel: u16) -> Result<(), LayerError>
         requires { 4099 ≤ L.longest link.old }
         ensures { Answers L.OrderedLink self.old link.old self.new link.new result 16 (Asks channel Clears) }
@@ -127,11 +133,11 @@ impl Layer {
         self.ask(link, channel, Request::Clear)
     }
 
-    /// Lets a message of at most 65,535 octets wait on a channel, with this qualifier, to be sent in data packets. Where it is
-    /// refused, the message is dropped.
+    /// Lets a message of at most 65,535 octets wait on a channel, with this qualifier, to be sent in data packets.
+    /// Where it is refused, the message is dropped.
     ///
-    /// 9 NotUp, 40 Restarting, 42 NoSuchChannel, then 30 WrongState of the circuit outside of p4 with d1, 32 TooLong and 31 Full
-    /// where 8 messages wait, and else 70 alone. That 256 packets wait in the link doesn't refuse it.
+    /// 9 NotUp, 40 Restarting, 42 NoSuchChannel, then 30 WrongState of the circuit outside of p4 with d1, 32 TooLong
+    /// and 31 Full where 8 messages wait, and else 70 alone. That 256 packets wait in the link doesn't refuse it.
     #[inline(always)]
     pub fn send<L: OrderedLink>(
         &mut self,
@@ -141,15 +147,16 @@ impl Layer {
         user: Vec<u8>,
     ) -> Result<(), LayerError>
         requires { 4099 ≤ L.longest link.old }
-        ensures { Answers L.OrderedLink self.old link.old self.new link.new result 16 (Asks channel (Sends q user.items)) }
+        ensures { Answers L.OrderedLink self.old link.old self.new link.new result 16
+            (Asks channel (Sends q user.items)) }
     {
         self.ask(link, channel, Request::Send { q, user })
     }
 
     /// Sends an interrupt of 1 to 32 octets on a channel.
     ///
-    /// 9 NotUp, 40 Restarting, 42 NoSuchChannel, 10 QueueFull, then 30 WrongState of the circuit outside of p4 with d1, 34
-    /// BadParameter for another length and 33 InterruptOutstanding, and else 70 alone.
+    /// 9 NotUp, 40 Restarting, 42 NoSuchChannel, 10 QueueFull, then 30 WrongState of the circuit outside of p4 with d1,
+    /// 34 BadParameter for another length and 33 InterruptOutstanding, and else 70 alone.
     pub fn interrupt<L: OrderedLink>(
         &mut self,
         link: &mut L,
@@ -157,14 +164,17 @@ impl Layer {
         user: &[u8],
     ) -> Result<(), LayerError>
         requires { 4099 ≤ L.longest link.old }
-        ensures { Answers L.OrderedLink self.old link.old self.new link.new result 16 (Asks channel (Interrupts user.now)) }
+        ensures { Answers L.OrderedLink self.old link.old self.new link.new result 16
+            (Asks channel (Interrupts user.now)) }
     {
         self.ask(link, channel, Request::Interrupt { user })
     }
 
-    /// Resets the call on a channel, and drops what waits and what came in part: RESET with cause and diagnostic 0 goes.
+    /// Resets the call on a channel, and drops what waits and what came in part: RESET with cause and diagnostic 0
+    /// goes.
     ///
-    /// 9 NotUp, 40 Restarting, 42 NoSuchChannel, 10 QueueFull, then 30 WrongState of the circuit outside of p4 with d1, and else
+    /// 9 NotUp, 40 Restarting, 42 NoSuchChannel, 10 QueueFull, then 30 WrongState of the circuit outside of p4 with d1,
+    /// and else
     /// 70 alone.
     pub fn reset<L: OrderedLink>(&mut self, link: &mut L, channel: u16) -> Result<(), LayerError>
         requires { 4099 ≤ L.longest link.old }
@@ -175,7 +185,8 @@ impl Layer {
 
     /// Says that this end is ready to receive data packets on a channel, also where it was: RR goes.
     ///
-    /// 9 NotUp, 40 Restarting, 42 NoSuchChannel, 10 QueueFull, then 30 WrongState of the circuit outside of p4 with d1, and else
+    /// 9 NotUp, 40 Restarting, 42 NoSuchChannel, 10 QueueFull, then 30 WrongState of the circuit outside of p4 with d1,
+    /// and else
     /// 70 alone.
     pub fn ready<L: OrderedLink>(&mut self, link: &mut L, channel: u16) -> Result<(), LayerError>
         requires { 4099 ≤ L.longest link.old }
@@ -186,7 +197,8 @@ impl Layer {
 
     /// Says that this end isn't ready to receive data packets on a channel, also where it wasn't: RNR goes.
     ///
-    /// 9 NotUp, 40 Restarting, 42 NoSuchChannel, 10 QueueFull, then 30 WrongState of the circuit outside of p4 with d1, and else
+    /// 9 NotUp, 40 Restarting, 42 NoSuchChannel, 10 QueueFull, then 30 WrongState of the circuit outside of p4 with d1,
+    /// and else
     /// 70 alone.
     pub fn not_ready<L: OrderedLink>(
         &mut self,

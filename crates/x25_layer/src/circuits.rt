@@ -18,7 +18,14 @@ pub(crate) fn begun_circuits(
     channels: usize,
     long_data: bool,
 ) -> Result<Vec<Circuit>, LayerError>
-    ensures fits { IfOk result (λ v. FitsCircuits (record { channels = channels; circuit = record { role = role; long_data = long_data } }) v.items at_rest.circuits) }
+    ensures fits { IfOk result (λ v. FitsCircuits
+        (record {
+          channels = channels;
+          circuit = record {
+            role = role;
+            long_data = long_data;
+          };
+        }) v.items at_rest.circuits) }
     ensures count { IfOk result (λ v. length v.items ≡ channels) }
     ensures err { IfErr result (λ e. e ≡ LayerError.NoMemory) }
 {
@@ -36,7 +43,8 @@ pub(crate) fn begun_circuits(
 
 /// All circuits are as if never used.
 pub(crate) fn begin_all(circuits: &mut Vec<Circuit>)
-    ensures fits { (c : LayerSettings) (f : ℕ → Channel) → FitsCircuits c circuits.old.items f → FitsCircuits c circuits.new.items at_rest.circuits }
+    ensures fits { (c : LayerSettings) (f : ℕ → Channel) → FitsCircuits c circuits.old.items f
+        → FitsCircuits c circuits.new.items at_rest.circuits }
     ensures count { length circuits.new.items ≡ length circuits.old.items }
     ensures room { (len : ℕ) → HaveRoom len circuits.old.items → HaveRoom len circuits.new.items }
 {
@@ -48,7 +56,8 @@ pub(crate) fn begin_all(circuits: &mut Vec<Circuit>)
 
 /// All circuits go to p1, with everything dropped. Their counts are as they were.
 pub(crate) fn forget_all(circuits: &mut Vec<Circuit>)
-    ensures fits { (c : LayerSettings) (f : ℕ → Channel) → FitsCircuits c circuits.old.items f → FitsCircuits c circuits.new.items (λ k. forgotten (f k)) }
+    ensures fits { (c : LayerSettings) (f : ℕ → Channel) → FitsCircuits c circuits.old.items f
+        → FitsCircuits c circuits.new.items (λ k. forgotten (f k)) }
     ensures count { length circuits.new.items ≡ length circuits.old.items }
     ensures room { (len : ℕ) → HaveRoom len circuits.old.items → HaveRoom len circuits.new.items }
 {

@@ -12,7 +12,8 @@ use x25_circuit::Circuit;
 
 fn lowest_free(circuits: &[Circuit]) -> Option<u16>
     requires { length circuits.now ≤ 16 }
-    ensures value { (c : LayerSettings) (f : ℕ → Channel) → FitsCircuits c circuits.now f → result ≡ lowest_free f (length circuits.now) }
+    ensures value { (c : LayerSettings) (f : ℕ → Channel) → FitsCircuits c circuits.now f
+        → result ≡ lowest_free f (length circuits.now) }
     ensures some { IfSome result (λ channel. is_channel (length circuits.now) channel ≡ true) }
 {
     let mut channel = 0;
@@ -27,7 +28,8 @@ fn lowest_free(circuits: &[Circuit]) -> Option<u16>
 
 fn highest_free(circuits: &[Circuit]) -> Option<u16>
     requires { length circuits.now ≤ 16 }
-    ensures value { (c : LayerSettings) (f : ℕ → Channel) → FitsCircuits c circuits.now f → result ≡ highest_free f (length circuits.now) }
+    ensures value { (c : LayerSettings) (f : ℕ → Channel) → FitsCircuits c circuits.now f
+        → result ≡ highest_free f (length circuits.now) }
     ensures some { IfSome result (λ channel. is_channel (length circuits.now) channel ≡ true) }
 {
     let mut free = None;
@@ -44,7 +46,8 @@ fn highest_free(circuits: &[Circuit]) -> Option<u16>
 impl Layer {
     /// The channel that a new call takes: the highest free one at a DTE, and the lowest at a DCE.
     pub(crate) fn free_channel(&self) -> Option<u16>
-        ensures value { (c : LayerSettings) (l : State) → FitsLayer c self.now l → result ≡ free_channel c.circuit.role l.circuits c.channels }
+        ensures value { (c : LayerSettings) (l : State) → FitsLayer c self.now l
+            → result ≡ free_channel c.circuit.role l.circuits c.channels }
         ensures some { IfSome result (λ channel. is_channel (length self.now.circuits.items) channel ≡ true) }
     {
         match self.role {

@@ -2,18 +2,22 @@ ghost use Rattle.std.specs.Prelude.{Bool, ℕ};
 ghost use Rattle.x25_layer.specs.laws.Law.{Always, IsQuietWorld, IsLawfulWorld, ArrivesAll, KeepsOrder};
 ghost use Rattle.x25_layer.specs.laws.NameLaw.{NamesAreCounted, NoClearComesInP1};
 ghost use Rattle.x25_layer.specs.laws.Apart.{AlwaysApart};
-ghost use Rattle.x25_layer.specs.laws.ApartLaw.{IsOverLinks, RestartsFirst, BeginsAlone, OwnMovesDecide, StaysDown, EventsRunOn};
+ghost use Rattle.x25_layer.specs.laws.ApartLaw.{IsOverLinks, RestartsFirst, BeginsAlone, OwnMovesDecide, StaysDown};
+ghost use Rattle.x25_layer.specs.laws.ApartLaw.{EventsRunOn};
 ghost use Rattle.x25_layer.specs.laws.RoundLaw.{CallsRun, HearsRun, RoundsSettle, ComesUpAlone};
 ghost use Rattle.x25_layer.specs.laws.PeerClaims.{WithAnyPeer, FindsNoError, IsAllInOrder};
-ghost use Rattle.x25_layer.specs.laws.WaitLaw.{RoundsLeaveNone, StillPullsNone, ClosedKeepNone, NoneOpenInRestart, WaitForUsersAlone};
+ghost use Rattle.x25_layer.specs.laws.WaitLaw.{RoundsLeaveNone, StillPullsNone, ClosedKeepNone, NoneOpenInRestart};
+ghost use Rattle.x25_layer.specs.laws.WaitLaw.{WaitForUsersAlone};
 
 /// Two layers over links that keep order, whatever their users ask and whenever a link goes down: after every event,
 ///
 /// - what each link was given is what the other handed up, and then what is in flight;
 /// - no end sent the other or reported to its user an error of procedure;
-/// - on each channel and under each name of a stretch, what an end handed up is a beginning of what the other handed down, of
+/// - on each channel and under each name of a stretch, what an end handed up is a beginning of what the other handed
+/// down, of
 ///   messages, of interrupts and of calls;
-/// - and all of the messages and interrupts of a stretch that is open at both ends, where all that the giver handed down is
+/// - and all of the messages and interrupts of a stretch that is open at both ends, where all that the giver handed
+/// down is
 ///   acknowledged and none of its messages waits.
 pub fn two_layers_keep_order()
     ensures order { (long_data : Bool) (channels : ℕ) → Always KeepsOrder long_data channels }
@@ -25,8 +29,8 @@ pub fn two_layers_keep_order()
     x25_handshakes::keeps_order();
 }
 
-/// The same two layers: where an end's link is up, the name of the stretch on each channel is the restarts, clears and resets that
-/// were reported to its user. No CLEAR comes in p1, which would count and report nothing.
+/// The same two layers: where an end's link is up, the name of the stretch on each channel is the restarts, clears and
+/// resets that were reported to its user. No CLEAR comes in p1, which would count and report nothing.
 pub fn names_are_told()
     ensures names { (long_data : Bool) (channels : ℕ) → Always NamesAreCounted long_data channels }
     ensures clear { (long_data : Bool) (channels : ℕ) → Always NoClearComesInP1 long_data channels }
@@ -35,9 +39,9 @@ pub fn names_are_told()
     x25_handshakes::keeps_order();
 }
 
-/// Two layers, each end by itself, where each packet that an end's link hands up is the next of those that the other end gave:
-/// every list of such events leads where it leads two layers over links, of which all of the above holds. And nothing is
-/// reported to an end's user before the first packet, which is reported as a restart by the other end.
+/// Two layers, each end by itself, where each packet that an end's link hands up is the next of those that the other
+/// end gave: every list of such events leads where it leads two layers over links, of which all of the above holds. And
+/// nothing is reported to an end's user before the first packet, which is reported as a restart by the other end.
 pub fn apart_layers_keep_order()
     ensures runs { (long_data : Bool) (channels : ℕ) → IsOverLinks long_data channels }
     ensures order { (long_data : Bool) (channels : ℕ) → AlwaysApart KeepsOrder long_data channels }
@@ -52,9 +56,10 @@ pub fn apart_layers_keep_order()
     names_are_told();
 }
 
-/// One end by itself, whatever happens to it and whatever its link hands up: of two ends' events its own alone decide what it is;
-/// until a packet comes it gave its RESTART alone, no call of its user was accepted, and nothing was reported; after its link went
-/// down nothing changes. And events behind others run on from where those led, in order where both are.
+/// One end by itself, whatever happens to it and whatever its link hands up: of two ends' events its own alone decide
+/// what it is; until a packet comes it gave its RESTART alone, no call of its user was accepted, and nothing was
+/// reported; after its link went down nothing changes. And events behind others run on from where those led, in order
+/// where both are.
 pub fn each_end_is_by_itself()
     ensures own { OwnMovesDecide }
     ensures alone { BeginsAlone }
@@ -62,8 +67,8 @@ pub fn each_end_is_by_itself()
     ensures behind { EventsRunOn }
 {}
 
-/// A call of a layer over a link is a run: the step of the call, and then pulls of data packets, until a round of pulls gives
-/// nothing. When the link comes up, RESTART is put alone.
+/// A call of a layer over a link is a run: the step of the call, and then pulls of data packets, until a round of pulls
+/// gives nothing. When the link comes up, RESTART is put alone.
 pub fn calls_are_runs()
     ensures calls { CallsRun }
     ensures hears { HearsRun }
@@ -88,19 +93,22 @@ pub fn any_peer_keeps_transcripts()
     x25_handshakes::any_peer_keeps_layers();
 }
 
-/// What a pull leaves. Behind the rounds, where fewer than 8 packets wait in the link, no channel has a packet that may be sent; and none
-/// has one where a pull of all leaves the layer as it was. A circuit that isn't open keeps no message, whatever happened, and none is open while a
-/// restart is under way.
-/// And of two layers over links that keep order, whatever their users ask, where both links are up with nothing in flight and a pull of
-/// an end gives no packet: on each channel no message waits there, as its circuit isn't open, or as all that was handed down in
-/// the stretch was handed up at the other end; or that stretch is open at both ends and the user of the other one isn't ready.
+/// What a pull leaves. Behind the rounds, where fewer than 8 packets wait in the link, no channel has a packet that may
+/// be sent; and none has one where a pull of all leaves the layer as it was. A circuit that isn't open keeps no
+/// message, whatever happened, and none is open while a restart is under way. And of two layers over links that keep
+/// order, whatever their users ask, where both links are up with nothing in flight and a pull of an end gives no
+/// packet: on each channel no message waits there, as its circuit isn't open, or as all that was handed down in the
+/// stretch was handed up at the other end; or that stretch is open at both ends and the user of the other one isn't
+/// ready.
 pub fn messages_wait_for_users()
     ensures left { RoundsLeaveNone }
     ensures still { StillPullsNone }
     ensures closed { (long_data : Bool) (channels : ℕ) → AlwaysApart ClosedKeepNone long_data channels }
     ensures restarting { (long_data : Bool) (channels : ℕ) → AlwaysApart NoneOpenInRestart long_data channels }
-    ensures waits { (long_data : Bool) (channels : ℕ) → Always (WaitForUsersAlone long_data channels) long_data channels }
-    ensures apart { (long_data : Bool) (channels : ℕ) → AlwaysApart (WaitForUsersAlone long_data channels) long_data channels }
+    ensures waits { (long_data : Bool) (channels : ℕ)
+        → Always (WaitForUsersAlone long_data channels) long_data channels }
+    ensures apart { (long_data : Bool) (channels : ℕ)
+        → AlwaysApart (WaitForUsersAlone long_data channels) long_data channels }
 {
     x25_circuit::values_are_agreed();
     x25_handshakes::keeps_order();

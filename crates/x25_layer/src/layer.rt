@@ -1,4 +1,5 @@
-ghost use Rattle.std.specs.Prelude.{◌≡◌, ℕ, ◌-◌, ◌^◌, ◌<◌, ◌≤◌, ◌↔◌, length, max, true, false, IfOk, IfErr, IfSome, IfNone, IsErrOf};
+ghost use Rattle.std.specs.Prelude.{◌≡◌, ℕ, ◌-◌, ◌^◌, ◌<◌, ◌≤◌, ◌↔◌, length, max, true, false, IfOk, IfErr, IfSome};
+ghost use Rattle.std.specs.Prelude.{IfNone, IsErrOf};
 ghost use Rattle.x25_layer.specs.code.Counts.{HaveCountsLeft};
 ghost use Rattle.x25_layer.specs.code.Waiting.{NoneWaits};
 
@@ -44,14 +45,17 @@ impl Layer {
     ghost use Rattle.x25_layer.specs.Layer.{LayerSettings, at_rest, is_channel, rested};
     ghost use Rattle.x25_layer.specs.Layer.{Layer as State};
     ghost use Rattle.x25_layer.specs.Room.{HasRoom};
-    ghost use Rattle.x25_layer.specs.code.FitsLayer.{FitsLayer, plain_stretch, name_at, params_at, is_open_at, waits_up_to, is_full};
+    ghost use Rattle.x25_layer.specs.code.FitsLayer.{FitsLayer, plain_stretch, name_at, params_at, is_open_at};
+    ghost use Rattle.x25_layer.specs.code.FitsLayer.{waits_up_to, is_full};
     ghost use Rattle.x25_layer.specs.Layer.InPart.{joined_at};
 
-    /// The layer of an end whose link isn't up, with so many channels, 1 to 16. A call has at most 16 octets of user data.
+    /// The layer of an end whose link isn't up, with so many channels, 1 to 16. A call has at most 16 octets of user
+    /// data.
     ///
     /// 14 BadConfig for another number of channels, and else 70 alone.
     pub fn new(alloc: Global, role: Role, channels: usize) -> Result<Layer, LayerError>
-        ensures fits { IfOk result (λ v. FitsLayer (record { channels = channels; circuit = record { role = role; long_data = false } }) v at_rest) }
+        ensures fits { IfOk result (λ v. FitsLayer
+            (record { channels = channels; circuit = record { role = role; long_data = false } }) v at_rest) }
         ensures none_aside { IfOk result (λ v. v.memory ≡ 0) }
         ensures config { IsErrOf result LayerError.BadConfig ↔ (is_channel 16 channels ≡ false) }
         ensures memory { is_channel 16 channels ≡ true → IfErr result (λ e. e ≡ LayerError.NoMemory) }
@@ -59,7 +63,8 @@ impl Layer {
         Layer::with(alloc, role, channels, false)
     }
 
-    /// As `new`, but with `long_data` a call has at most 128 octets of user data (profile). It is the same at both ends.
+    /// As `new`, but with `long_data` a call has at most 128 octets of user data (profile). It is the same at both
+    /// ends.
     ///
     /// 14 BadConfig for another number of channels, and else 70 alone.
     pub fn with(
@@ -68,7 +73,8 @@ impl Layer {
         channels: usize,
         long_data: bool,
     ) -> Result<Layer, LayerError>
-        ensures fits { IfOk result (λ v. FitsLayer (record { channels = channels; circuit = record { role = role; long_data = long_data } }) v at_rest) }
+        ensures fits { IfOk result (λ v. FitsLayer
+            (record { channels = channels; circuit = record { role = role; long_data = long_data } }) v at_rest) }
         ensures none_aside { IfOk result (λ v. v.memory ≡ 0) }
         ensures config { IsErrOf result LayerError.BadConfig ↔ (is_channel 16 channels ≡ false) }
         ensures memory { is_channel 16 channels ≡ true → IfErr result (λ e. e ≡ LayerError.NoMemory) }
@@ -91,7 +97,8 @@ impl Layer {
 
     /// The name of the stretch of a channel, where it is configured.
     pub fn name(&self, channel: u16) -> Option<Stretch>
-        ensures { (c : LayerSettings) (l : State) → FitsLayer c self.now l → plain_stretch result ≡ name_at c l channel }
+        ensures { (c : LayerSettings) (l : State) → FitsLayer c self.now l
+            → plain_stretch result ≡ name_at c l channel }
     {
         let circuit = self.circuit(channel)?;
         let (clears, resets) = circuit.counts();
@@ -102,8 +109,8 @@ impl Layer {
         })
     }
 
-    /// Packet sizes and windows on a channel, where it is configured: those that are proposed, until the call is accepted, and
-    /// then those in force; the defaults where there is no call.
+    /// Packet sizes and windows on a channel, where it is configured: those that are proposed, until the call is
+    /// accepted, and then those in force; the defaults where there is no call.
     pub fn params(&self, channel: u16) -> Option<Params>
         ensures { (c : LayerSettings) (l : State) → FitsLayer c self.now l → result ≡ params_at c l channel }
     {
@@ -123,7 +130,8 @@ impl Layer {
 
     /// How many messages wait in all circuits.
     pub fn waits(&self) -> usize
-        ensures { (c : LayerSettings) (l : State) → FitsLayer c self.now l → result ≡ waits_up_to l.circuits c.channels }
+        ensures { (c : LayerSettings) (l : State) → FitsLayer c self.now l
+            → result ≡ waits_up_to l.circuits c.channels }
     {
         let mut waits = 0;
         for circuit in self.circuits.iter() {
@@ -132,8 +140,8 @@ impl Layer {
         waits
     }
 
-    /// How many octets have come of the message of which some packets came on a channel, at most 65,535; 0 where there is none, or the
-    /// channel isn't configured.
+    /// How many octets have come of the message of which some packets came on a channel, at most 65,535; 0 where there
+    /// is none, or the channel isn't configured.
     pub fn octets_joined(&self, channel: u16) -> usize
         ensures value { (c : LayerSettings) (l : State) → FitsLayer c self.now l → result ≡ joined_at c l channel }
         ensures short { result ≤ 65535 }
@@ -144,9 +152,9 @@ impl Layer {
         }
     }
 
-    /// How many octets of memory are kept for the message of which some packets came on a channel: for these octets, and for those for
-    /// which `room` set memory aside. They are 69,631 at most, those of the longest message and of one packet more; 0 where the
-    /// channel isn't configured.
+    /// How many octets of memory are kept for the message of which some packets came on a channel: for these octets,
+    /// and for those for which `room` set memory aside. They are 69,631 at most, those of the longest message and of
+    /// one packet more; 0 where the channel isn't configured.
     pub fn octets_kept(&self, channel: u16) -> usize
         ensures least { (c : LayerSettings) (l : State) → FitsLayer c self.now l → joined_at c l channel ≤ result }
         ensures most { result ≤ 69631 }
@@ -157,8 +165,8 @@ impl Layer {
         }
     }
 
-    /// How many buffers of the longest packet, of 4,099 octets each, are kept: 16 at most, or as many as memory is set aside for. They
-    /// are used where memory for a packet is refused.
+    /// How many buffers of the longest packet, of 4,099 octets each, are kept: 16 at most, or as many as memory is set
+    /// aside for. They are used where memory for a packet is refused.
     pub fn blanks(&self) -> usize
         ensures least { self.now.memory ≤ result }
         ensures most { result ≤ max self.now.memory 16 }
@@ -166,8 +174,8 @@ impl Layer {
         self.memory.kept()
     }
 
-    /// Drops everything, at LinkDown: no restart is under way, and all channels are in p1. The counts are as they were, until `up`
-    /// sets them to 0. Memory that was set aside is kept.
+    /// Drops everything, at LinkDown: no restart is under way, and all channels are in p1. The counts are as they were,
+    /// until `up` sets them to 0. Memory that was set aside is kept.
     pub fn down(&mut self)
         ensures layer { (c : LayerSettings) (l : State) → FitsLayer c self.old l → FitsLayer c self.new (rested l) }
         ensures room { (len spares : ℕ) → HasRoom len self.old spares → HasRoom len self.new spares }
@@ -181,7 +189,8 @@ impl Layer {
 
     /// The circuit of a channel.
     pub(crate) fn circuit(&self, channel: u16) -> Option<&Circuit>
-        ensures fits { (c : LayerSettings) (l : State) → FitsLayer c self.now l → IfSome result (λ circuit. FitsCircuit c.circuit circuit.now (l.circuits channel)) }
+        ensures fits { (c : LayerSettings) (l : State) → FitsLayer c self.now l
+            → IfSome result (λ circuit. FitsCircuit c.circuit circuit.now (l.circuits channel)) }
         ensures some { IfSome result (λ circuit. is_channel (length self.now.circuits.items) channel ≡ true) }
         ensures none { IfNone result (is_channel (length self.now.circuits.items) channel ≡ false) }
     {

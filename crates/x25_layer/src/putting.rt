@@ -1,5 +1,6 @@
 //! Packets that a layer puts into its link.
-ghost use Rattle.std.specs.Prelude.{◌≡◌, ℕ, ◌+◌, ◌-◌, ◌<◌, ◌≤◌, [], length, max, vec_capacity, true, IfErr, OnOk, OnErr};
+ghost use Rattle.std.specs.Prelude.{◌≡◌, ℕ, ◌+◌, ◌-◌, ◌<◌, ◌≤◌, [], length, max, vec_capacity, true, IfErr, OnOk};
+ghost use Rattle.std.specs.Prelude.{OnErr};
 ghost use Rattle.x25_layer.specs.Layer.{LayerSettings};
 ghost use Rattle.x25_layer.specs.Layer.{Layer as State};
 ghost use Rattle.x25_layer.specs.code.FitsLayer.{FitsLayer};
@@ -67,7 +68,8 @@ impl Layer {
         ensures layer { self.new ≡ record self.old { memory = self.new.memory } }
         ensures fits { (c : LayerSettings) (l : State) → FitsLayer c self.old l → FitsLayer c self.new l }
         ensures memory { self.new.memory + 1 ≡ self.old.memory }
-        ensures link { (x : L.State) → L.fits link.old x → L.fits link.new (L.after_put x (spelling_of (plain packet.now))) }
+        ensures link { (x : L.State) → L.fits link.old x
+            → L.fits link.new (L.after_put x (spelling_of (plain packet.now))) }
         ensures spares { L.spares link.new ≡ L.spares link.old - 1 }
         ensures longest { L.longest link.new ≡ L.longest link.old }
         ensures up { L.up link.new ≡ L.up link.old }
@@ -94,7 +96,8 @@ pub(crate) fn put<L: OrderedLink>(
     requires free { L.waits link.old < 256 }
     requires longest { 4099 ≤ L.longest link.old }
     ensures memory { memory.new + 1 ≡ memory.old }
-    ensures link { (x : L.State) → L.fits link.old x → L.fits link.new (L.after_put x (spelling_of (plain packet.now))) }
+    ensures link { (x : L.State) → L.fits link.old x
+        → L.fits link.new (L.after_put x (spelling_of (plain packet.now))) }
     ensures spares { L.spares link.new ≡ L.spares link.old - 1 }
     ensures longest { L.longest link.new ≡ L.longest link.old }
     ensures up { L.up link.new ≡ L.up link.old }

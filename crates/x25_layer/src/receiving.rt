@@ -1,5 +1,6 @@
 //! Octets that the link handed up. ITU-T X.25 (10/96), sections 3.3 and 4, and Annex C.
-ghost use Rattle.std.specs.Prelude.{◌≡◌, ℕ, ◌+◌, ◌-◌, ◌^◌, ◌<◌, ◌≤◌, [], length, max, min, true, IfErr, IfOk, IfNone, IsOk, OnOk, OnErr, option_to_list};
+ghost use Rattle.std.specs.Prelude.{◌≡◌, ℕ, ◌+◌, ◌-◌, ◌^◌, ◌<◌, ◌≤◌, [], length, max, min, true, IfErr, IfOk, IfNone};
+ghost use Rattle.std.specs.Prelude.{IsOk, OnOk, OnErr, option_to_list};
 ghost use Rattle.x25_packet.specs.Reading.{packet_of};
 ghost use Rattle.x25_packet.specs.Spelling.{longest_user};
 ghost use Rattle.x25_circuit.specs.Circuit.{Settings};
@@ -31,8 +32,11 @@ fn hear_circuit<'a>(
 ) -> Result<Reply<'a>, CircuitError>
     requires kind { IsOfChannel (plain_read read.now) }
     requires left { HasCountsLeft circuit.old }
-    ensures next { (c : Settings) (x : Channel) → FitsCircuit c circuit.old x → OnOk result (FitsCircuit c circuit.new (circuit_hears c x (plain_read read.now)).next) }
-    ensures says { (c : Settings) (x : Channel) → FitsCircuit c circuit.old x → IfOk result (λ reply. Says reply (circuit_hears c x (plain_read read.now)).owed (circuit_hears c x (plain_read read.now)).notices) }
+    ensures next { (c : Settings) (x : Channel) → FitsCircuit c circuit.old x
+        → OnOk result (FitsCircuit c circuit.new (circuit_hears c x (plain_read read.now)).next) }
+    ensures says { (c : Settings) (x : Channel) → FitsCircuit c circuit.old x
+        → IfOk result (λ reply. Says reply (circuit_hears c x (plain_read read.now)).owed
+        (circuit_hears c x (plain_read read.now)).notices) }
     ensures range { IfOk result (λ reply. IsSendable (plain_owed reply.packet)) }
     ensures missing { OnErr result (room_of circuit.old < min (brings (plain_read read.now)) 4096) }
     ensures unchanged { OnErr result (circuit.new ≡ circuit.old) }
@@ -74,15 +78,23 @@ impl Layer {
         requires channel { is_channel (length self.old.circuits.items) channel ≡ true }
         requires kind { IsOfChannel (plain_read read.now) }
         requires left { HaveCountsLeft self.old.circuits.items }
-        ensures layer { (c : LayerSettings) (l : State) → FitsLayer c self.old l → OnOk result (FitsLayer c self.new (with_circuit l channel (circuit_hears c.circuit (l.circuits channel) (plain_read read.now)).next)) }
-        ensures says { (c : LayerSettings) (l : State) → FitsLayer c self.old l → IfOk result (λ reply. Says reply (circuit_hears c.circuit (l.circuits channel) (plain_read read.now)).owed (circuit_hears c.circuit (l.circuits channel) (plain_read read.now)).notices) }
+        ensures layer { (c : LayerSettings) (l : State) → FitsLayer c self.old l
+            → OnOk result (FitsLayer c self.new
+            (with_circuit l channel (circuit_hears c.circuit (l.circuits channel) (plain_read read.now)).next)) }
+        ensures says { (c : LayerSettings) (l : State) → FitsLayer c self.old l
+            → IfOk result (λ reply. Says reply (circuit_hears c.circuit (l.circuits channel) (plain_read read.now)).owed
+            (circuit_hears c.circuit (l.circuits channel) (plain_read read.now)).notices) }
         ensures range { IfOk result (λ reply. IsSendable (plain_owed reply.packet)) }
         ensures memory { self.new.memory ≡ self.old.memory }
         ensures err { IfErr result (λ e. e ≡ LayerError.NoMemory) }
-        ensures layer_stays { (c : LayerSettings) (l : State) → FitsLayer c self.old l → OnErr result (FitsLayer c self.new l) }
-        ensures enough { (len : ℕ) → brings (plain_read read.now) ≤ len → HaveRoom len self.old.circuits.items → IsOk result }
-        ensures room { (len : ℕ) → HaveRoom len self.old.circuits.items → IfOk result (λ reply. IfNone reply.packet (HaveRoom len self.new.circuits.items)) }
-        ensures room_stays { (len : ℕ) → HaveRoom len self.old.circuits.items → OnErr result (HaveRoom len self.new.circuits.items) }
+        ensures layer_stays { (c : LayerSettings) (l : State) → FitsLayer c self.old l
+            → OnErr result (FitsLayer c self.new l) }
+        ensures enough { (len : ℕ) → brings (plain_read read.now) ≤ len → HaveRoom len self.old.circuits.items
+            → IsOk result }
+        ensures room { (len : ℕ) → HaveRoom len self.old.circuits.items
+            → IfOk result (λ reply. IfNone reply.packet (HaveRoom len self.new.circuits.items)) }
+        ensures room_stays { (len : ℕ) → HaveRoom len self.old.circuits.items
+            → OnErr result (HaveRoom len self.new.circuits.items) }
     {
         self.quiet = false;
         self.counts_left = false;
@@ -93,8 +105,8 @@ impl Layer {
         }
     }
 
-    // A packet of a channel, or octets that spell none. They are dropped while a restart is under way, and where the channel
-    // isn't configured.
+    // A packet of a channel, or octets that spell none. They are dropped while a restart is under way, and where the
+    // channel isn't configured.
     fn hear_on<'a, L: OrderedLink>(
         &mut self,
         link: &mut L,
@@ -108,9 +120,14 @@ impl Layer {
         requires up { L.up link.old ≡ true }
         requires free { L.waits link.old < 256 }
         requires longest { 4099 ≤ L.longest link.old }
-        ensures layer { (c : LayerSettings) (l : State) → FitsLayer c self.old l → OnOk result (FitsLayer c self.new (hears_on c l l.restarting channel (plain_read read.now)).next) }
-        ensures link { (c : LayerSettings) (l : State) (x : L.State) → FitsLayer c self.old l → L.fits link.old x → OnOk result (L.fits link.new (after_all L.after_put x (option_to_list (hears_on c l l.restarting channel (plain_read read.now)).owed))) }
-        ensures told { (c : LayerSettings) (l : State) → FitsLayer c self.old l → IfOk result (λ told. plain_told told ≡ (hears_on c l l.restarting channel (plain_read read.now)).notices) }
+        ensures layer { (c : LayerSettings) (l : State) → FitsLayer c self.old l
+            → OnOk result (FitsLayer c self.new (hears_on c l l.restarting channel (plain_read read.now)).next) }
+        ensures link { (c : LayerSettings) (l : State) (x : L.State) → FitsLayer c self.old l → L.fits link.old x
+            → OnOk result (L.fits link.new (after_all L.after_put x
+            (option_to_list (hears_on c l l.restarting channel (plain_read read.now)).owed))) }
+        ensures told { (c : LayerSettings) (l : State) → FitsLayer c self.old l
+            → IfOk result (λ told. plain_told told
+            ≡ (hears_on c l l.restarting channel (plain_read read.now)).notices) }
         ensures nothing { IfOk result (λ told. plain_told told ≡ [] → told ≡ Told.Nothing) }
         ensures memory { OnOk result (self.old.memory ≤ self.new.memory + 1) }
         ensures spares { OnOk result (L.spares link.old ≤ L.spares link.new + 1) }
@@ -119,14 +136,18 @@ impl Layer {
         ensures longest { L.longest link.new ≡ L.longest link.old }
         ensures up { OnOk result (L.up link.new ≡ L.up link.old) }
         ensures err { IfErr result (λ e. e ≡ LayerError.NoMemory) }
-        ensures layer_stays { (c : LayerSettings) (l : State) → FitsLayer c self.old l → OnErr result (FitsLayer c self.new l) }
+        ensures layer_stays { (c : LayerSettings) (l : State) → FitsLayer c self.old l
+            → OnErr result (FitsLayer c self.new l) }
         ensures link_stays { (x : L.State) → L.fits link.old x → OnErr result (L.fits link.new x) }
-        ensures enough { (len : ℕ) → brings (plain_read read.now) ≤ len → HaveRoom len self.old.circuits.items → IsOk result }
+        ensures enough { (len : ℕ) → brings (plain_read read.now) ≤ len → HaveRoom len self.old.circuits.items
+            → IsOk result }
         ensures used { OnOk result (self.old.memory + L.spares link.new ≡ self.new.memory + L.spares link.old) }
-        ensures room { (len : ℕ) → HaveRoom len self.old.circuits.items → L.spares link.new ≡ L.spares link.old → OnOk result (HaveRoom len self.new.circuits.items) }
+        ensures room { (len : ℕ) → HaveRoom len self.old.circuits.items → L.spares link.new ≡ L.spares link.old
+            → OnOk result (HaveRoom len self.new.circuits.items) }
         ensures memory_stays { OnErr result (self.new.memory ≡ self.old.memory) }
         ensures spares_stay { OnErr result (L.spares link.new ≡ L.spares link.old) }
-        ensures room_stays { (len : ℕ) → HaveRoom len self.old.circuits.items → OnErr result (HaveRoom len self.new.circuits.items) }
+        ensures room_stays { (len : ℕ) → HaveRoom len self.old.circuits.items
+            → OnErr result (HaveRoom len self.new.circuits.items) }
     {
         if self.restarting {
             return Ok(Told::Nothing);
@@ -156,9 +177,16 @@ impl Layer {
         requires up { L.up link.old ≡ true }
         requires free { L.waits link.old < 256 }
         requires longest { 4099 ≤ L.longest link.old }
-        ensures layer { (c : LayerSettings) (l : State) → FitsLayer c self.old l → OnOk result (FitsLayer c self.new (answer_to c l octets.now (packet_of (longest_user self.old.long_data) octets.now)).next) }
-        ensures link { (c : LayerSettings) (l : State) (x : L.State) → FitsLayer c self.old l → L.fits link.old x → OnOk result (L.fits link.new (after_all L.after_put x (option_to_list (answer_to c l octets.now (packet_of (longest_user self.old.long_data) octets.now)).owed))) }
-        ensures told { (c : LayerSettings) (l : State) → FitsLayer c self.old l → IfOk result (λ told. plain_told told ≡ (answer_to c l octets.now (packet_of (longest_user self.old.long_data) octets.now)).notices) }
+        ensures layer { (c : LayerSettings) (l : State) → FitsLayer c self.old l
+            → OnOk result (FitsLayer c self.new
+            (answer_to c l octets.now (packet_of (longest_user self.old.long_data) octets.now)).next) }
+        ensures link { (c : LayerSettings) (l : State) (x : L.State) → FitsLayer c self.old l → L.fits link.old x
+            → OnOk result (L.fits link.new (after_all L.after_put x
+            (option_to_list (answer_to c l octets.now
+            (packet_of (longest_user self.old.long_data) octets.now)).owed))) }
+        ensures told { (c : LayerSettings) (l : State) → FitsLayer c self.old l
+            → IfOk result (λ told. plain_told told
+            ≡ (answer_to c l octets.now (packet_of (longest_user self.old.long_data) octets.now)).notices) }
         ensures nothing { IfOk result (λ told. plain_told told ≡ [] → told ≡ Told.Nothing) }
         ensures memory { OnOk result (self.old.memory ≤ self.new.memory + 1) }
         ensures spares { OnOk result (L.spares link.old ≤ L.spares link.new + 1) }
@@ -167,14 +195,17 @@ impl Layer {
         ensures longest { L.longest link.new ≡ L.longest link.old }
         ensures up { OnOk result (L.up link.new ≡ L.up link.old) }
         ensures err { IfErr result (λ e. e ≡ LayerError.NoMemory) }
-        ensures layer_stays { (c : LayerSettings) (l : State) → FitsLayer c self.old l → OnErr result (FitsLayer c self.new l) }
+        ensures layer_stays { (c : LayerSettings) (l : State) → FitsLayer c self.old l
+            → OnErr result (FitsLayer c self.new l) }
         ensures link_stays { (x : L.State) → L.fits link.old x → OnErr result (L.fits link.new x) }
         ensures enough { (len : ℕ) → length octets.now ≤ len + 3 → HaveRoom len self.old.circuits.items → IsOk result }
         ensures used { OnOk result (self.old.memory + L.spares link.new ≡ self.new.memory + L.spares link.old) }
-        ensures room { (len : ℕ) → HaveRoom len self.old.circuits.items → L.spares link.new ≡ L.spares link.old → OnOk result (HaveRoom len self.new.circuits.items) }
+        ensures room { (len : ℕ) → HaveRoom len self.old.circuits.items → L.spares link.new ≡ L.spares link.old
+            → OnOk result (HaveRoom len self.new.circuits.items) }
         ensures memory_stays { OnErr result (self.new.memory ≡ self.old.memory) }
         ensures spares_stay { OnErr result (L.spares link.new ≡ L.spares link.old) }
-        ensures room_stays { (len : ℕ) → HaveRoom len self.old.circuits.items → OnErr result (HaveRoom len self.new.circuits.items) }
+        ensures room_stays { (len : ℕ) → HaveRoom len self.old.circuits.items
+            → OnErr result (HaveRoom len self.new.circuits.items) }
     {
         let Some(channel) = channel(octets) else {
             return Ok(Told::Nothing);
@@ -191,15 +222,17 @@ impl Layer {
         }
     }
 
-    /// Takes octets that the link handed up, puts the packet that is owed for them, and pulls data packets. It answers what
-    /// is reported to the users, `Told::Nothing` exactly where that is nothing; a stretch has its name after the call.
+    /// Takes octets that the link handed up, puts the packet that is owed for them, and pulls data packets. It answers
+    /// what is reported to the users, `Told::Nothing` exactly where that is nothing; a stretch has its name after the
+    /// call.
     ///
-    /// No count is full, the link is up, fewer than 256 packets wait in it, and it takes packets of 4,099 octets. Octets that
-    /// spell no packet go to the channel that the first two name. They are dropped where they name no configured channel, and,
-    /// but for RESTART and its confirmation, while this end's restart isn't confirmed.
+    /// No count is full, the link is up, fewer than 256 packets wait in it, and it takes packets of 4,099 octets.
+    /// Octets that spell no packet go to the channel that the first two name. They are dropped where they name no
+    /// configured channel, and, but for RESTART and its confirmation, while this end's restart isn't confirmed.
     ///
-    /// 70 alone, and not where `room` set memory aside for the octets behind the first three. The layer and the link are as before then. Of what `room` set aside a call
-    /// takes as much here as in the link: for each packet that it puts. Where it puts none, the promise stands.
+    /// 70 alone, and not where `room` set memory aside for the octets behind the first three. The layer and the link
+    /// are as before then. Of what `room` set aside a call takes as much here as in the link: for each packet that it
+    /// puts. Where it puts none, the promise stands.
     pub fn packet<'a, L: OrderedLink>(
         &mut self,
         link: &mut L,
@@ -209,20 +242,29 @@ impl Layer {
         requires up { L.up link.old ≡ true }
         requires free { L.waits link.old < 256 }
         requires longest { 4099 ≤ L.longest link.old }
-        ensures layer { (c : LayerSettings) (l : State) (x : L.State) → FitsLayer c self.old l → L.fits link.old x → OnOk result (FitsLayer c self.new (hears (view_of L.up_in L.waits_in L.after_put x) c l octets.now).step.layer) }
-        ensures link { (c : LayerSettings) (l : State) (x : L.State) → FitsLayer c self.old l → L.fits link.old x → OnOk result (L.fits link.new (after_all L.after_put x (hears (view_of L.up_in L.waits_in L.after_put x) c l octets.now).step.put)) }
-        ensures told { (c : LayerSettings) (l : State) (view : LinkView) → FitsLayer c self.old l → IfOk result (λ told. plain_told told ≡ (hears view c l octets.now).notices) }
+        ensures layer { (c : LayerSettings) (l : State) (x : L.State) → FitsLayer c self.old l → L.fits link.old x
+            → OnOk result (FitsLayer c self.new
+            (hears (view_of L.up_in L.waits_in L.after_put x) c l octets.now).step.layer) }
+        ensures link { (c : LayerSettings) (l : State) (x : L.State) → FitsLayer c self.old l → L.fits link.old x
+            → OnOk result (L.fits link.new (after_all L.after_put x
+            (hears (view_of L.up_in L.waits_in L.after_put x) c l octets.now).step.put)) }
+        ensures told { (c : LayerSettings) (l : State) (view : LinkView) → FitsLayer c self.old l
+            → IfOk result (λ told. plain_told told ≡ (hears view c l octets.now).notices) }
         ensures nothing { IfOk result (λ told. plain_told told ≡ [] → told ≡ Told.Nothing) }
         ensures longest { L.longest link.new ≡ L.longest link.old }
         ensures err { IfErr result (λ e. e ≡ LayerError.NoMemory) }
-        ensures enough { (len : ℕ) → length octets.now ≤ len + 3 → HasRoom len self.old (L.spares link.old) → IsOk result }
+        ensures enough { (len : ℕ) → length octets.now ≤ len + 3 → HasRoom len self.old (L.spares link.old)
+            → IsOk result }
         ensures most_memory { self.new.memory ≤ max self.old.memory 16 }
         ensures most_spares { L.spares link.new ≤ max (L.spares link.old) 16 }
-        ensures layer_stays { (c : LayerSettings) (l : State) → FitsLayer c self.old l → OnErr result (FitsLayer c self.new l) }
+        ensures layer_stays { (c : LayerSettings) (l : State) → FitsLayer c self.old l
+            → OnErr result (FitsLayer c self.new l) }
         ensures link_stays { (x : L.State) → L.fits link.old x → OnErr result (L.fits link.new x) }
-        ensures used { 16 ≤ self.old.memory → 16 ≤ L.spares link.old → OnOk result (self.old.memory + L.spares link.new ≡ self.new.memory + L.spares link.old) }
+        ensures used { 16 ≤ self.old.memory → 16 ≤ L.spares link.old
+            → OnOk result (self.old.memory + L.spares link.new ≡ self.new.memory + L.spares link.old) }
         ensures room { OnOk result (KeepsRoom self.old (L.spares link.old) self.new (L.spares link.new)) }
-        ensures room_stays { (len : ℕ) → HasRoom len self.old (L.spares link.old) → OnErr result (HasRoom len self.new (L.spares link.new)) }
+        ensures room_stays { (len : ℕ) → HasRoom len self.old (L.spares link.old)
+            → OnErr result (HasRoom len self.new (L.spares link.new)) }
     {
         self.set_aside(link, MOST_PUT)?;
         let told = self.hear(link, octets)?;

@@ -1,5 +1,6 @@
 //! Restart. ITU-T X.25 (10/96), section 3.3.
-ghost use Rattle.std.specs.Prelude.{◌≡◌, ℕ, suc, ◌+◌, ◌-◌, ◌^◌, ◌<◌, ◌≤◌, [], max, true, false, option_to_list, IfErr, OnOk, OnErr, IsOk};
+ghost use Rattle.std.specs.Prelude.{◌≡◌, ℕ, suc, ◌+◌, ◌-◌, ◌^◌, ◌<◌, ◌≤◌, [], max, true, false, option_to_list, IfErr};
+ghost use Rattle.std.specs.Prelude.{OnOk, OnErr, IsOk};
 ghost use Rattle.x25_packet.specs.Packet.{restart, restart_conf};
 ghost use Rattle.x25_packet.specs.Spelling.{spelling_of};
 ghost use Rattle.x25_circuit.specs.Circuit.{begun};
@@ -37,8 +38,8 @@ fn restart_cause(role: Role) -> u8
     }
 }
 
-// The cause of the RESTART that answers a RESTART CONFIRMATION of no restart: 1 is local procedure error, in place of which a DTE
-// sends 128 (profile).
+// The cause of the RESTART that answers a RESTART CONFIRMATION of no restart: 1 is local procedure error, in place of
+// which a DTE sends 128 (profile).
 fn fault_cause(role: Role) -> u8
     ensures { result ≡ cause_at role 1 }
 {
@@ -49,23 +50,27 @@ fn fault_cause(role: Role) -> u8
 }
 
 impl Layer {
-    /// Begins afresh with a RESTART, at LinkUp. The link is up, fewer than 256 packets wait in it, and it takes packets of 4,099
-    /// octets.
+    /// Begins afresh with a RESTART, at LinkUp. The link is up, fewer than 256 packets wait in it, and it takes packets
+    /// of 4,099 octets.
     ///
     /// 70 alone, and not where `room` set memory aside. The layer and the link are as before then.
     pub fn up<L: OrderedLink>(&mut self, link: &mut L) -> Result<(), LayerError>
         requires up { L.up link.old ≡ true }
         requires free { L.waits link.old < 256 }
         requires longest { 4099 ≤ L.longest link.old }
-        ensures layer { (c : LayerSettings) (l : State) (x : L.State) → FitsLayer c self.old l → L.fits link.old x → OnOk result (FitsLayer c self.new (comes_up (view_of L.up_in L.waits_in L.after_put x) c).step.layer) }
-        ensures link { (c : LayerSettings) (l : State) (x : L.State) → FitsLayer c self.old l → L.fits link.old x → OnOk result (L.fits link.new (after_all L.after_put x (comes_up (view_of L.up_in L.waits_in L.after_put x) c).step.put)) }
+        ensures layer { (c : LayerSettings) (l : State) (x : L.State) → FitsLayer c self.old l → L.fits link.old x
+            → OnOk result (FitsLayer c self.new (comes_up (view_of L.up_in L.waits_in L.after_put x) c).step.layer) }
+        ensures link { (c : LayerSettings) (l : State) (x : L.State) → FitsLayer c self.old l → L.fits link.old x
+            → OnOk result (L.fits link.new (after_all L.after_put x
+            (comes_up (view_of L.up_in L.waits_in L.after_put x) c).step.put)) }
         ensures err { IfErr result (λ e. e ≡ LayerError.NoMemory) }
         ensures longest { L.longest link.new ≡ L.longest link.old }
         ensures missing { OnErr result (LacksMemory 1 self.old (L.spares link.old)) }
         ensures most_memory { self.new.memory ≤ max self.old.memory 16 }
         ensures most_spares { L.spares link.new ≤ max (L.spares link.old) 16 }
         ensures enough { (len : ℕ) → HasRoom len self.old (L.spares link.old) → IsOk result }
-        ensures layer_stays { (c : LayerSettings) (l : State) → FitsLayer c self.old l → OnErr result (FitsLayer c self.new l) }
+        ensures layer_stays { (c : LayerSettings) (l : State) → FitsLayer c self.old l
+            → OnErr result (FitsLayer c self.new l) }
         ensures link_stays { (x : L.State) → L.fits link.old x → OnErr result (L.fits link.new x) }
     {
         self.set_aside(link, 1)?;
@@ -82,11 +87,11 @@ impl Layer {
         Ok(())
     }
 
-    /// Restarts all channels of this end: each goes to p1, and RESTART with cause and diagnostic 0 is sent. The link takes
-    /// packets of 4,099 octets.
+    /// Restarts all channels of this end: each goes to p1, and RESTART with cause and diagnostic 0 is sent. The link
+    /// takes packets of 4,099 octets.
     ///
-    /// 9 NotUp, then 40 Restarting, then 10 QueueFull where 256 packets wait, and else 70 alone, and that only where memory
-    /// for no packet is set aside. The layer and the link are as before then.
+    /// 9 NotUp, then 40 Restarting, then 10 QueueFull where 256 packets wait, and else 70 alone, and that only where
+    /// memory for no packet is set aside. The layer and the link are as before then.
     pub fn restart<L: OrderedLink>(&mut self, link: &mut L) -> Result<(), LayerError>
         requires { 4099 ≤ L.longest link.old }
         ensures { Answers L.OrderedLink self.old link.old self.new link.new result 1 Restarts }
@@ -112,8 +117,10 @@ impl Layer {
         requires up { L.up link.old ≡ true }
         requires free { L.waits link.old < 256 }
         requires longest { 4099 ≤ L.longest link.old }
-        ensures layer { (c : LayerSettings) (l : State) → FitsLayer c self.old l → FitsLayer c self.new (restarting_from l.restarts l.circuits) }
-        ensures link { (x : L.State) → L.fits link.old x → L.fits link.new (L.after_put x (spelling_of (restart cause diagnostic))) }
+        ensures layer { (c : LayerSettings) (l : State) → FitsLayer c self.old l
+            → FitsLayer c self.new (restarting_from l.restarts l.circuits) }
+        ensures link { (x : L.State) → L.fits link.old x
+            → L.fits link.new (L.after_put x (spelling_of (restart cause diagnostic))) }
         ensures memory { self.new.memory + 1 ≡ self.old.memory }
         ensures spares { L.spares link.new ≡ L.spares link.old - 1 }
         ensures longest { L.longest link.new ≡ L.longest link.old }
@@ -131,7 +138,8 @@ impl Layer {
     // One restart more is done: all circuits begin afresh.
     fn restart_is_done(&mut self)
         requires { self.old.restarts < 2 ^ 64 - 1 }
-        ensures layer { (c : LayerSettings) (l : State) → FitsLayer c self.old l → FitsLayer c self.new (is_ready (suc l.restarts) (λ k. begun)) }
+        ensures layer { (c : LayerSettings) (l : State) → FitsLayer c self.old l
+            → FitsLayer c self.new (is_ready (suc l.restarts) (λ k. begun)) }
         ensures memory { self.new.memory ≡ self.old.memory }
         ensures room { (len : ℕ) → HaveRoom len self.old.circuits.items → HaveRoom len self.new.circuits.items }
     {
@@ -155,9 +163,13 @@ impl Layer {
         requires up { L.up link.old ≡ true }
         requires free { L.waits link.old < 256 }
         requires longest { 4099 ≤ L.longest link.old }
-        ensures layer { (c : LayerSettings) (l : State) → FitsLayer c self.old l → FitsLayer c self.new (layer_answers c l (restart cause diagnostic)).next }
-        ensures link { (c : LayerSettings) (l : State) (x : L.State) → FitsLayer c self.old l → L.fits link.old x → L.fits link.new (after_all L.after_put x (option_to_list (layer_answers c l (restart cause diagnostic)).owed)) }
-        ensures told { (c : LayerSettings) (l : State) → FitsLayer c self.old l → plain_told result ≡ (layer_answers c l (restart cause diagnostic)).notices }
+        ensures layer { (c : LayerSettings) (l : State) → FitsLayer c self.old l
+            → FitsLayer c self.new (layer_answers c l (restart cause diagnostic)).next }
+        ensures link { (c : LayerSettings) (l : State) (x : L.State) → FitsLayer c self.old l → L.fits link.old x
+            → L.fits link.new (after_all L.after_put x
+            (option_to_list (layer_answers c l (restart cause diagnostic)).owed)) }
+        ensures told { (c : LayerSettings) (l : State) → FitsLayer c self.old l
+            → plain_told result ≡ (layer_answers c l (restart cause diagnostic)).notices }
         ensures nothing { plain_told result ≡ [] → result ≡ Told.Nothing }
         ensures memory { self.old.memory ≤ self.new.memory + 1 }
         ensures spares { L.spares link.old ≤ L.spares link.new + 1 }
@@ -177,7 +189,8 @@ impl Layer {
         Told::Restarted { cause, diagnostic }
     }
 
-    /// RESTART CONFIRMATION. Where this end restarts nothing, it is an error of procedure, answered by RESTART (profile).
+    /// RESTART CONFIRMATION. Where this end restarts nothing, it is an error of procedure, answered by RESTART
+    /// (profile).
     pub(crate) fn hear_restart_conf<'a, L: OrderedLink>(&mut self, link: &mut L) -> Told<'a>
         requires restarts { self.old.restarts < 2 ^ 64 - 1 }
         requires memory { 0 < self.old.memory }
@@ -185,9 +198,12 @@ impl Layer {
         requires up { L.up link.old ≡ true }
         requires free { L.waits link.old < 256 }
         requires longest { 4099 ≤ L.longest link.old }
-        ensures layer { (c : LayerSettings) (l : State) → FitsLayer c self.old l → FitsLayer c self.new (layer_answers c l restart_conf).next }
-        ensures link { (c : LayerSettings) (l : State) (x : L.State) → FitsLayer c self.old l → L.fits link.old x → L.fits link.new (after_all L.after_put x (option_to_list (layer_answers c l restart_conf).owed)) }
-        ensures told { (c : LayerSettings) (l : State) → FitsLayer c self.old l → plain_told result ≡ (layer_answers c l restart_conf).notices }
+        ensures layer { (c : LayerSettings) (l : State) → FitsLayer c self.old l
+            → FitsLayer c self.new (layer_answers c l restart_conf).next }
+        ensures link { (c : LayerSettings) (l : State) (x : L.State) → FitsLayer c self.old l → L.fits link.old x
+            → L.fits link.new (after_all L.after_put x (option_to_list (layer_answers c l restart_conf).owed)) }
+        ensures told { (c : LayerSettings) (l : State) → FitsLayer c self.old l
+            → plain_told result ≡ (layer_answers c l restart_conf).notices }
         ensures nothing { plain_told result ≡ [] → result ≡ Told.Nothing }
         ensures memory { self.old.memory ≤ self.new.memory + 1 }
         ensures spares { L.spares link.old ≤ L.spares link.new + 1 }

@@ -17,7 +17,8 @@ use x25_link::OrderedLink;
 
 // Whether a count of the circuit is at its most.
 fn is_full(circuit: &Circuit) -> bool
-    ensures value { (c : Settings) (x : Channel) → FitsCircuit c circuit.now x → result ≡ (is_most x.clears || is_most x.resets) }
+    ensures value { (c : Settings) (x : Channel) → FitsCircuit c circuit.now x
+        → result ≡ (is_most x.clears || is_most x.resets) }
     ensures left { result ≡ false → HasCountsLeft circuit.now }
 {
     let (clears, resets) = circuit.counts();
@@ -26,7 +27,8 @@ fn is_full(circuit: &Circuit) -> bool
 
 // Whether a count of one of the circuits is at its most.
 fn any_full(circuits: &[Circuit]) -> bool
-    ensures value { (c : LayerSettings) (f : ℕ → Channel) → FitsCircuits c circuits.now f → result ≡ full_up_to f (length circuits.now) }
+    ensures value { (c : LayerSettings) (f : ℕ → Channel) → FitsCircuits c circuits.now f
+        → result ≡ full_up_to f (length circuits.now) }
     ensures left { result ≡ false → HaveCountsLeft circuits.now }
 {
     for circuit in circuits.iter() {
@@ -37,17 +39,19 @@ fn any_full(circuits: &[Circuit]) -> bool
     false
 }
 
-// Sets memory aside in each circuit for so many octets of user data of a packet, but for no more than the longest has. For none no circuit
-// is asked.
+// Sets memory aside in each circuit for so many octets of user data of a packet, but for no more than the longest has.
+// For none no circuit is asked.
 fn room_in_all(circuits: &mut Vec<Circuit>, len: usize) -> Result<(), LayerError>
-    ensures fits { (c : LayerSettings) (f : ℕ → Channel) → FitsCircuits c circuits.old.items f → FitsCircuits c circuits.new.items f }
+    ensures fits { (c : LayerSettings) (f : ℕ → Channel) → FitsCircuits c circuits.old.items f
+        → FitsCircuits c circuits.new.items f }
     ensures count { length circuits.new.items ≡ length circuits.old.items }
     ensures left { HaveCountsLeft circuits.old.items → HaveCountsLeft circuits.new.items }
     ensures still { NoneWaits circuits.old.items → NoneWaits circuits.new.items }
     ensures room { OnOk result (HaveRoom len circuits.new.items) }
     ensures err { IfErr result (λ e. e ≡ LayerError.NoMemory) }
     ensures enough { HaveRoom len circuits.old.items → IsOk result }
-    ensures most { (bound : ℕ) → 4096 ≤ bound → HaveAtMost bound circuits.old.items → HaveAtMost bound circuits.new.items }
+    ensures most { (bound : ℕ) → 4096 ≤ bound → HaveAtMost bound circuits.old.items
+        → HaveAtMost bound circuits.new.items }
 {
     if len == 0 {
         return Ok(());
@@ -72,10 +76,10 @@ impl Layer {
         self.restarts == u64::MAX || any_full(&self.circuits)
     }
 
-    /// Sets memory aside, here and in the link, for one `packet` with at most `len` octets of user data, which are those behind its
-    /// header of three, or for `up`, or for `down` and then `up`, which are then not refused with 70. It changes nothing else. However
-    /// much is asked, and however often, memory is set aside for 16 packets that are put, and in each circuit for 4,096 octets, or for
-    /// what was before.
+    /// Sets memory aside, here and in the link, for one `packet` with at most `len` octets of user data, which are
+    /// those behind its header of three, or for `up`, or for `down` and then `up`, which are then not refused with 70.
+    /// It changes nothing else. However much is asked, and however often, memory is set aside for 16 packets that are
+    /// put, and in each circuit for 4,096 octets, or for what was before.
     ///
     /// 70 alone, and only where less was set aside.
     pub fn room<L: OrderedLink>(&mut self, link: &mut L, len: usize) -> Result<(), LayerError>
@@ -89,7 +93,8 @@ impl Layer {
         ensures enough { HasRoom len self.old (L.spares link.old) → IsOk result }
         ensures most_memory { self.new.memory ≤ max self.old.memory 16 }
         ensures most_spares { L.spares link.new ≤ max (L.spares link.old) 16 }
-        ensures most_circuits { (bound : ℕ) → 4096 ≤ bound → HaveAtMost bound self.old.circuits.items → HaveAtMost bound self.new.circuits.items }
+        ensures most_circuits { (bound : ℕ) → 4096 ≤ bound → HaveAtMost bound self.old.circuits.items
+            → HaveAtMost bound self.new.circuits.items }
         ensures err { IfErr result (λ e. e ≡ LayerError.NoMemory) }
     {
         self.counts_left = !self.full();

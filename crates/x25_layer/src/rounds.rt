@@ -29,13 +29,14 @@ fn may_pull<L: OrderedLink>(link: &L, memory: &PacketMemory) -> bool
     ensures few { result ≡ true → L.waits link.now < 8 }
     ensures memory { result ≡ true → 0 < memory.now }
     ensures spares { result ≡ true → 0 < L.spares link.now }
-    ensures state { (y : L.State) → L.fits link.now y → IsEnough (L.lists y) memory.now → IsEnough (L.lists y) (L.spares link.now) → result ≡ nat_lt (L.waits_in y) 8 }
+    ensures state { (y : L.State) → L.fits link.now y → IsEnough (L.lists y) memory.now
+        → IsEnough (L.lists y) (L.spares link.now) → result ≡ nat_lt (L.waits_in y) 8 }
 {
     link.waiting() < FEW && memory.promised() > 0 && link.spare() > 0
 }
 
-// Puts the next data packet of a circuit, where it may send one and fewer than 8 packets wait in the link: whether it did. It isn't quiet where
-// a message waits then.
+// Puts the next data packet of a circuit, where it may send one and fewer than 8 packets wait in the link: whether it
+// did. It isn't quiet where a message waits then.
 #[inline(always)]
 fn pull_one<L: OrderedLink>(
     circuit: &mut Circuit,
@@ -47,11 +48,23 @@ fn pull_one<L: OrderedLink>(
     requires channel { IsChannel channel }
     requires up { L.up link.old ≡ true }
     requires longest { 4099 ≤ L.longest link.old }
-    ensures circuit { (c : Settings) (x : Channel) (y : L.State) → FitsCircuit c circuit.old x → L.fits link.old y → IsEnough (L.lists y) memory.old → IsEnough (L.lists y) (L.spares link.old) → FitsCircuit c circuit.new (pulled_where (nat_lt (L.waits_in y) 8) c x).next }
-    ensures link { (c : Settings) (x : Channel) (y : L.State) → FitsCircuit c circuit.old x → L.fits link.old y → IsEnough (L.lists y) memory.old → IsEnough (L.lists y) (L.spares link.old) → L.fits link.new (after_all L.after_put y (option_to_list (packet_on channel (pulled_where (nat_lt (L.waits_in y) 8) c x).packet))) }
-    ensures none { (c : Settings) (x : Channel) (y : L.State) → FitsCircuit c circuit.old x → L.fits link.old y → IsEnough (L.lists y) memory.old → IsEnough (L.lists y) (L.spares link.old) → result ≡ false → (pulled_where (nat_lt (L.waits_in y) 8) c x).packet ≡ None }
-    ensures memory { (c : Settings) (x : Channel) (y : L.State) → FitsCircuit c circuit.old x → L.fits link.old y → IsEnough (L.lists y) memory.old → IsEnough (L.lists y) (L.spares link.old) → memory.old ≤ memory.new + length (option_to_list (pulled_where (nat_lt (L.waits_in y) 8) c x).packet) }
-    ensures spares { (c : Settings) (x : Channel) (y : L.State) → FitsCircuit c circuit.old x → L.fits link.old y → IsEnough (L.lists y) memory.old → IsEnough (L.lists y) (L.spares link.old) → L.spares link.old ≤ L.spares link.new + length (option_to_list (pulled_where (nat_lt (L.waits_in y) 8) c x).packet) }
+    ensures circuit { (c : Settings) (x : Channel) (y : L.State) → FitsCircuit c circuit.old x → L.fits link.old y
+        → IsEnough (L.lists y) memory.old → IsEnough (L.lists y) (L.spares link.old)
+        → FitsCircuit c circuit.new (pulled_where (nat_lt (L.waits_in y) 8) c x).next }
+    ensures link { (c : Settings) (x : Channel) (y : L.State) → FitsCircuit c circuit.old x → L.fits link.old y
+        → IsEnough (L.lists y) memory.old → IsEnough (L.lists y) (L.spares link.old)
+        → L.fits link.new (after_all L.after_put y
+        (option_to_list (packet_on channel (pulled_where (nat_lt (L.waits_in y) 8) c x).packet))) }
+    ensures none { (c : Settings) (x : Channel) (y : L.State) → FitsCircuit c circuit.old x → L.fits link.old y
+        → IsEnough (L.lists y) memory.old → IsEnough (L.lists y) (L.spares link.old) → result ≡ false
+        → (pulled_where (nat_lt (L.waits_in y) 8) c x).packet ≡ None }
+    ensures memory { (c : Settings) (x : Channel) (y : L.State) → FitsCircuit c circuit.old x → L.fits link.old y
+        → IsEnough (L.lists y) memory.old → IsEnough (L.lists y) (L.spares link.old)
+        → memory.old ≤ memory.new + length (option_to_list (pulled_where (nat_lt (L.waits_in y) 8) c x).packet) }
+    ensures spares { (c : Settings) (x : Channel) (y : L.State) → FitsCircuit c circuit.old x → L.fits link.old y
+        → IsEnough (L.lists y) memory.old → IsEnough (L.lists y) (L.spares link.old)
+        → L.spares link.old ≤ L.spares link.new + length
+        (option_to_list (pulled_where (nat_lt (L.waits_in y) 8) c x).packet) }
     ensures no_more { memory.new ≤ memory.old }
     ensures used { memory.old + L.spares link.new ≡ memory.new + L.spares link.old }
     ensures room { room_of circuit.old ≤ room_of circuit.new }
@@ -82,11 +95,23 @@ fn pull_waiting<L: OrderedLink>(
     requires channel { IsChannel channel }
     requires up { L.up link.old ≡ true }
     requires longest { 4099 ≤ L.longest link.old }
-    ensures circuit { (c : Settings) (x : Channel) (y : L.State) → FitsCircuit c circuit.old x → L.fits link.old y → IsEnough (L.lists y) memory.old → IsEnough (L.lists y) (L.spares link.old) → FitsCircuit c circuit.new (pulled_where (nat_lt (L.waits_in y) 8) c x).next }
-    ensures link { (c : Settings) (x : Channel) (y : L.State) → FitsCircuit c circuit.old x → L.fits link.old y → IsEnough (L.lists y) memory.old → IsEnough (L.lists y) (L.spares link.old) → L.fits link.new (after_all L.after_put y (option_to_list (packet_on channel (pulled_where (nat_lt (L.waits_in y) 8) c x).packet))) }
-    ensures none { (c : Settings) (x : Channel) (y : L.State) → FitsCircuit c circuit.old x → L.fits link.old y → IsEnough (L.lists y) memory.old → IsEnough (L.lists y) (L.spares link.old) → result ≡ false → (pulled_where (nat_lt (L.waits_in y) 8) c x).packet ≡ None }
-    ensures memory { (c : Settings) (x : Channel) (y : L.State) → FitsCircuit c circuit.old x → L.fits link.old y → IsEnough (L.lists y) memory.old → IsEnough (L.lists y) (L.spares link.old) → memory.old ≤ memory.new + length (option_to_list (pulled_where (nat_lt (L.waits_in y) 8) c x).packet) }
-    ensures spares { (c : Settings) (x : Channel) (y : L.State) → FitsCircuit c circuit.old x → L.fits link.old y → IsEnough (L.lists y) memory.old → IsEnough (L.lists y) (L.spares link.old) → L.spares link.old ≤ L.spares link.new + length (option_to_list (pulled_where (nat_lt (L.waits_in y) 8) c x).packet) }
+    ensures circuit { (c : Settings) (x : Channel) (y : L.State) → FitsCircuit c circuit.old x → L.fits link.old y
+        → IsEnough (L.lists y) memory.old → IsEnough (L.lists y) (L.spares link.old)
+        → FitsCircuit c circuit.new (pulled_where (nat_lt (L.waits_in y) 8) c x).next }
+    ensures link { (c : Settings) (x : Channel) (y : L.State) → FitsCircuit c circuit.old x → L.fits link.old y
+        → IsEnough (L.lists y) memory.old → IsEnough (L.lists y) (L.spares link.old)
+        → L.fits link.new (after_all L.after_put y
+        (option_to_list (packet_on channel (pulled_where (nat_lt (L.waits_in y) 8) c x).packet))) }
+    ensures none { (c : Settings) (x : Channel) (y : L.State) → FitsCircuit c circuit.old x → L.fits link.old y
+        → IsEnough (L.lists y) memory.old → IsEnough (L.lists y) (L.spares link.old) → result ≡ false
+        → (pulled_where (nat_lt (L.waits_in y) 8) c x).packet ≡ None }
+    ensures memory { (c : Settings) (x : Channel) (y : L.State) → FitsCircuit c circuit.old x → L.fits link.old y
+        → IsEnough (L.lists y) memory.old → IsEnough (L.lists y) (L.spares link.old)
+        → memory.old ≤ memory.new + length (option_to_list (pulled_where (nat_lt (L.waits_in y) 8) c x).packet) }
+    ensures spares { (c : Settings) (x : Channel) (y : L.State) → FitsCircuit c circuit.old x → L.fits link.old y
+        → IsEnough (L.lists y) memory.old → IsEnough (L.lists y) (L.spares link.old)
+        → L.spares link.old ≤ L.spares link.new + length
+        (option_to_list (pulled_where (nat_lt (L.waits_in y) 8) c x).packet) }
     ensures no_more { memory.new ≤ memory.old }
     ensures used { memory.old + L.spares link.new ≡ memory.new + L.spares link.old }
     ensures room { room_of circuit.old ≤ room_of circuit.new }
@@ -107,7 +132,8 @@ fn pull_waiting<L: OrderedLink>(
     true
 }
 
-// One round: whether a packet was put. Where it is known that no message waits, and where the link takes none, no circuit is asked.
+// One round: whether a packet was put. Where it is known that no message waits, and where the link takes none, no
+// circuit is asked.
 #[inline(always)]
 fn round<L: OrderedLink>(
     circuits: &mut Vec<Circuit>,
@@ -119,9 +145,12 @@ fn round<L: OrderedLink>(
     requires up { L.up link.old ≡ true }
     requires still { quiet.old ≡ true → NoneWaits circuits.old.items }
     requires longest { 4099 ≤ L.longest link.old }
-    ensures stands { (c : LayerSettings) (x : L.State) (s : Putting) → Stands (L.fits link.old) L.lists L.after_put c circuits.old.items memory.old (L.spares link.old) x s →
-        Stands (L.fits link.new) L.lists L.after_put c circuits.new.items memory.new (L.spares link.new) x (round (view_of L.up_in L.waits_in L.after_put x) c c.channels s) }
-    ensures none { (c : LayerSettings) (x : L.State) (s : Putting) → Stands (L.fits link.old) L.lists L.after_put c circuits.old.items memory.old (L.spares link.old) x s →
+    ensures stands { (c : LayerSettings) (x : L.State) (s : Putting)
+        → Stands (L.fits link.old) L.lists L.after_put c circuits.old.items memory.old (L.spares link.old) x s →
+        Stands (L.fits link.new) L.lists L.after_put c circuits.new.items memory.new (L.spares link.new) x
+        (round (view_of L.up_in L.waits_in L.after_put x) c c.channels s) }
+    ensures none { (c : LayerSettings) (x : L.State) (s : Putting)
+        → Stands (L.fits link.old) L.lists L.after_put c circuits.old.items memory.old (L.spares link.old) x s →
         result ≡ false → round (view_of L.up_in L.waits_in L.after_put x) c c.channels s ≡ s }
     ensures count { length circuits.new.items ≡ length circuits.old.items }
     ensures room { (len : ℕ) → HaveRoom len circuits.old.items → HaveRoom len circuits.new.items }
@@ -154,9 +183,12 @@ fn go_round<L: OrderedLink>(
     requires few { length circuits.old.items ≤ 16 }
     requires up { L.up link.old ≡ true }
     requires longest { 4099 ≤ L.longest link.old }
-    ensures stands { (c : LayerSettings) (x : L.State) (s : Putting) → Stands (L.fits link.old) L.lists L.after_put c circuits.old.items memory.old (L.spares link.old) x s →
-        Stands (L.fits link.new) L.lists L.after_put c circuits.new.items memory.new (L.spares link.new) x (round (view_of L.up_in L.waits_in L.after_put x) c c.channels s) }
-    ensures none { (c : LayerSettings) (x : L.State) (s : Putting) → Stands (L.fits link.old) L.lists L.after_put c circuits.old.items memory.old (L.spares link.old) x s →
+    ensures stands { (c : LayerSettings) (x : L.State) (s : Putting)
+        → Stands (L.fits link.old) L.lists L.after_put c circuits.old.items memory.old (L.spares link.old) x s →
+        Stands (L.fits link.new) L.lists L.after_put c circuits.new.items memory.new (L.spares link.new) x
+        (round (view_of L.up_in L.waits_in L.after_put x) c c.channels s) }
+    ensures none { (c : LayerSettings) (x : L.State) (s : Putting)
+        → Stands (L.fits link.old) L.lists L.after_put c circuits.old.items memory.old (L.spares link.old) x s →
         result ≡ false → round (view_of L.up_in L.waits_in L.after_put x) c c.channels s ≡ s }
     ensures count { length circuits.new.items ≡ length circuits.old.items }
     ensures room { (len : ℕ) → HaveRoom len circuits.old.items → HaveRoom len circuits.new.items }
@@ -179,12 +211,12 @@ fn go_round<L: OrderedLink>(
 }
 
 impl Layer {
-    /// Puts the data packets that wait in all channels, in rounds, while fewer than 8 packets wait in the link, and nothing else
-    /// (profile). Each accepted call does so behind its own packet; what the link does by itself doesn't, so that without a call a
-    /// message may wait though nothing is on its way.
+    /// Puts the data packets that wait in all channels, in rounds, while fewer than 8 packets wait in the link, and
+    /// nothing else (profile). Each accepted call does so behind its own packet; what the link does by itself doesn't,
+    /// so that without a call a message may wait though nothing is on its way.
     ///
-    /// 9 NotUp, 40 Restarting, and else 70 alone, and that only where the layer or its link has set memory aside for fewer than 16
-    /// packets. The layer and the link are as before then.
+    /// 9 NotUp, 40 Restarting, and else 70 alone, and that only where the layer or its link has set memory aside for
+    /// fewer than 16 packets. The layer and the link are as before then.
     pub fn pull<L: OrderedLink>(&mut self, link: &mut L) -> Result<(), LayerError>
         requires { 4099 ≤ L.longest link.old }
         ensures { Answers L.OrderedLink self.old link.old self.new link.new result 16 PullsAll }
@@ -202,16 +234,20 @@ impl Layer {
 
     /// Puts the data packets of all channels, in rounds, while fewer than 8 packets wait in the link.
     ///
-    /// There are at most 15: each is pulled where fewer than 8 packets wait, and of those that don't wait at most 7 aren't
-    /// acknowledged.
+    /// There are at most 15: each is pulled where fewer than 8 packets wait, and of those that don't wait at most 7
+    /// aren't acknowledged.
     #[inline(always)]
     pub(crate) fn pull_all<L: OrderedLink>(&mut self, link: &mut L)
         requires up { L.up link.old ≡ true }
         requires longest { 4099 ≤ L.longest link.old }
         requires memory { 15 ≤ self.old.memory }
         requires spares { 15 ≤ L.spares link.old }
-        ensures layer { (c : LayerSettings) (s : Putting) (x : L.State) → FitsLayer c self.old s.layer → L.fits link.old (after_all L.after_put x s.put) → FitsLayer c self.new (rounds (view_of L.up_in L.waits_in L.after_put x) c s).layer }
-        ensures link { (c : LayerSettings) (s : Putting) (x : L.State) → FitsLayer c self.old s.layer → L.fits link.old (after_all L.after_put x s.put) → L.fits link.new (after_all L.after_put x (rounds (view_of L.up_in L.waits_in L.after_put x) c s).put) }
+        ensures layer { (c : LayerSettings) (s : Putting) (x : L.State) → FitsLayer c self.old s.layer
+            → L.fits link.old (after_all L.after_put x s.put)
+            → FitsLayer c self.new (rounds (view_of L.up_in L.waits_in L.after_put x) c s).layer }
+        ensures link { (c : LayerSettings) (s : Putting) (x : L.State) → FitsLayer c self.old s.layer
+            → L.fits link.old (after_all L.after_put x s.put)
+            → L.fits link.new (after_all L.after_put x (rounds (view_of L.up_in L.waits_in L.after_put x) c s).put) }
         ensures room { (len : ℕ) → HaveRoom len self.old.circuits.items → HaveRoom len self.new.circuits.items }
         ensures no_more { self.new.memory ≤ self.old.memory }
         ensures used { self.old.memory + L.spares link.new ≡ self.new.memory + L.spares link.old }

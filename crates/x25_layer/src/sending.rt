@@ -16,8 +16,8 @@ use x25_packet::Packet;
 /// The octets of a data packet before its user data. ITU-T X.25 (10/96), section 5.3.1.
 pub(crate) const DATA_HEADER: usize = 3;
 
-/// The most octets of a CALL before its user data: 3, an address block of 16, and a facility field of 6 behind its length.
-/// Section 5.2.1.
+/// The most octets of a CALL before its user data: 3, an address block of 16, and a facility field of 6 behind its
+/// length. Section 5.2.1.
 const CALL_HEADER: usize = 26;
 
 /// The most octets of any other packet, which are those of an INTERRUPT: 3, and 32 of user data. Section 5.3.2.
@@ -50,7 +50,8 @@ pub(crate) fn most_octets(packet: &Packet) -> usize
 }
 
 impl Layer {
-    /// Puts the packet that a circuit sends for its user, where there is one, on its channel into the link, in memory that was set aside.
+    /// Puts the packet that a circuit sends for its user, where there is one, on its channel into the link, in memory
+    /// that was set aside.
     #[inline(always)]
     pub(crate) fn put_sent<L: OrderedLink>(
         &mut self,
@@ -70,7 +71,8 @@ impl Layer {
         ensures memory { self.old.memory ≤ self.new.memory + 1 }
         ensures used { self.old.memory + L.spares link.new ≡ self.new.memory + L.spares link.old }
         ensures no_more { self.new.memory ≤ self.old.memory }
-        ensures link { (x : L.State) → L.fits link.old x → L.fits link.new (after_all L.after_put x (option_to_list (packet_on channel (plain_sent packet.entry)))) }
+        ensures link { (x : L.State) → L.fits link.old x
+            → L.fits link.new (after_all L.after_put x (option_to_list (packet_on channel (plain_sent packet.entry)))) }
         ensures spares { L.spares link.old ≤ L.spares link.new + 1 }
         ensures longest { L.longest link.new ≡ L.longest link.old }
         ensures up { L.up link.new ≡ L.up link.old }
@@ -84,7 +86,8 @@ impl Layer {
         self.put(link, &packet, most);
     }
 
-    /// Puts the packet that a circuit owes for one that came, where there is one, on its channel into the link, in memory that was set aside.
+    /// Puts the packet that a circuit owes for one that came, where there is one, on its channel into the link, in
+    /// memory that was set aside.
     #[inline(always)]
     pub(crate) fn put_owed<L: OrderedLink>(
         &mut self,
@@ -104,7 +107,8 @@ impl Layer {
         ensures memory { self.old.memory ≤ self.new.memory + 1 }
         ensures used { self.old.memory + L.spares link.new ≡ self.new.memory + L.spares link.old }
         ensures no_more { self.new.memory ≤ self.old.memory }
-        ensures link { (x : L.State) → L.fits link.old x → L.fits link.new (after_all L.after_put x (option_to_list (packet_on channel (plain_owed owed)))) }
+        ensures link { (x : L.State) → L.fits link.old x
+            → L.fits link.new (after_all L.after_put x (option_to_list (packet_on channel (plain_owed owed)))) }
         ensures spares { L.spares link.old ≤ L.spares link.new + 1 }
         ensures longest { L.longest link.new ≡ L.longest link.old }
         ensures up { L.up link.new ≡ L.up link.old }

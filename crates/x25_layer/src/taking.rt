@@ -1,6 +1,7 @@
-//! Data packets, RR and RNR with which nothing is wrong, which most packets are: read and taken by themselves, without the types that
-//! have place for any packet and any notice. ITU-T X.25 (10/96), sections 4.3 and 4.4.1.
-ghost use Rattle.std.specs.Prelude.{◌≡◌, ℕ, ◌+◌, ◌<◌, ◌≤◌, length, true, false, Ok, OnSome, IfSome, IfNone, option_to_list};
+//! Data packets, RR and RNR with which nothing is wrong, which most packets are: read and taken by themselves, without
+//! the types that have place for any packet and any notice. ITU-T X.25 (10/96), sections 4.3 and 4.4.1.
+ghost use Rattle.std.specs.Prelude.{◌≡◌, ℕ, ◌+◌, ◌<◌, ◌≤◌, length, true, false, Ok, OnSome, IfSome, IfNone};
+ghost use Rattle.std.specs.Prelude.{option_to_list};
 ghost use Rattle.x25_packet.specs.Reading.{packet_of, data_of, channelled};
 ghost use Rattle.x25_circuit.specs.Notice.{deliveries};
 ghost use Rattle.x25_circuit.specs.Hearing.{answers};
@@ -55,7 +56,8 @@ fn data<'a>(q: bool, kind: u8, user: &'a [u8]) -> Option<Flow<'a>>
 // RR or RNR, which end with their type.
 #[inline(always)]
 fn status<'a>(kind: u8, body: &[u8]) -> Option<Flow<'a>>
-    ensures { (most channel : ℕ) → IfSome result (λ flow. channelled most channel kind body.now ≡ Ok (plain_flow channel flow)) }
+    ensures { (most channel : ℕ)
+        → IfSome result (λ flow. channelled most channel kind body.now ≡ Ok (plain_flow channel flow)) }
 {
     let [] = body else {
         return None;
@@ -99,14 +101,20 @@ impl Layer {
     #[inline(always)]
     fn take_on(&mut self, channel: u16, flow: &Flow<'_>) -> Option<Taken>
         requires channel { is_channel (length self.old.circuits.items) channel ≡ true }
-        ensures layer { (c : LayerSettings) (l : State) → FitsLayer c self.old l → OnSome result (FitsLayer c self.new (with_circuit l channel (answers c.circuit (l.circuits channel) (plain_flow channel flow.now)).next)) }
-        ensures says { (c : LayerSettings) (l : State) → FitsLayer c self.old l → IfSome result (λ taken. SaysTaken taken (answers c.circuit (l.circuits channel) (plain_flow channel flow.now))) }
+        ensures layer { (c : LayerSettings) (l : State) → FitsLayer c self.old l
+            → OnSome result (FitsLayer c self.new
+            (with_circuit l channel (answers c.circuit (l.circuits channel) (plain_flow channel flow.now)).next)) }
+        ensures says { (c : LayerSettings) (l : State) → FitsLayer c self.old l
+            → IfSome result (λ taken. SaysTaken taken
+            (answers c.circuit (l.circuits channel) (plain_flow channel flow.now))) }
         ensures range { IfSome result (λ taken. IsSendable (plain_owed taken.owed)) }
         ensures memory { self.new.memory ≡ self.old.memory }
         ensures restarts { self.new.restarts ≡ self.old.restarts }
-        ensures layer_stays { (c : LayerSettings) (l : State) → FitsLayer c self.old l → IfNone result (FitsLayer c self.new l) }
+        ensures layer_stays { (c : LayerSettings) (l : State) → FitsLayer c self.old l
+            → IfNone result (FitsLayer c self.new l) }
         ensures left { IsNotFull self.old → IfNone result (IsNotFull self.new) }
-        ensures room_stays { (len : ℕ) → HaveRoom len self.old.circuits.items → IfNone result (HaveRoom len self.new.circuits.items) }
+        ensures room_stays { (len : ℕ) → HaveRoom len self.old.circuits.items
+            → IfNone result (HaveRoom len self.new.circuits.items) }
     {
         let place = usize::from(channel) - 1;
         match self.circuits[place].take(flow) {
@@ -115,27 +123,37 @@ impl Layer {
         }
     }
 
-    /// Takes octets that the link handed up where they spell a data packet, RR or RNR with which nothing is wrong, as `packet` does, and
-    /// answers the channel and the message that ends with the packet. It takes no memory: it is for packets for which `room` set memory
-    /// aside, and it spares them the way through `packet`.
+    /// Takes octets that the link handed up where they spell a data packet, RR or RNR with which nothing is wrong, as
+    /// `packet` does, and answers the channel and the message that ends with the packet. It takes no memory: it is for
+    /// packets for which `room` set memory aside, and it spares them the way through `packet`.
     ///
-    /// None of other octets and packets, while a restart is under way, of a channel that isn't configured or isn't in p4 with d1, and
-    /// where memory is missing; it may be None of any octets. Layer and link are as before then, and what `room` promised stands.
+    /// None of other octets and packets, while a restart is under way, of a channel that isn't configured or isn't in
+    /// p4 with d1, and where memory is missing; it may be None of any octets. Layer and link are as before then, and
+    /// what `room` promised stands.
     pub fn transfer<L: OrderedLink>(&mut self, link: &mut L, octets: &[u8]) -> Option<Delivery>
         requires up { L.up link.old ≡ true }
         requires free { L.waits link.old < 256 }
         requires longest { 4099 ≤ L.longest link.old }
-        ensures layer { (c : LayerSettings) (l : State) (x : L.State) → FitsLayer c self.old l → L.fits link.old x → OnSome result (FitsLayer c self.new (hears (view_of L.up_in L.waits_in L.after_put x) c l octets.now).step.layer) }
-        ensures link { (c : LayerSettings) (l : State) (x : L.State) → FitsLayer c self.old l → L.fits link.old x → OnSome result (L.fits link.new (after_all L.after_put x (hears (view_of L.up_in L.waits_in L.after_put x) c l octets.now).step.put)) }
-        ensures told { (c : LayerSettings) (l : State) (view : LinkView) → FitsLayer c self.old l → IfSome result (λ delivery. notices_on delivery.channel (deliveries (option_to_list delivery.message)) ≡ (hears view c l octets.now).notices) }
-        ensures channel { (c : LayerSettings) (l : State) → FitsLayer c self.old l → IfSome result (λ delivery. is_channel c.channels delivery.channel ≡ true) }
+        ensures layer { (c : LayerSettings) (l : State) (x : L.State) → FitsLayer c self.old l → L.fits link.old x
+            → OnSome result (FitsLayer c self.new
+            (hears (view_of L.up_in L.waits_in L.after_put x) c l octets.now).step.layer) }
+        ensures link { (c : LayerSettings) (l : State) (x : L.State) → FitsLayer c self.old l → L.fits link.old x
+            → OnSome result (L.fits link.new (after_all L.after_put x
+            (hears (view_of L.up_in L.waits_in L.after_put x) c l octets.now).step.put)) }
+        ensures told { (c : LayerSettings) (l : State) (view : LinkView) → FitsLayer c self.old l
+            → IfSome result (λ delivery. notices_on delivery.channel (deliveries (option_to_list delivery.message))
+            ≡ (hears view c l octets.now).notices) }
+        ensures channel { (c : LayerSettings) (l : State) → FitsLayer c self.old l
+            → IfSome result (λ delivery. is_channel c.channels delivery.channel ≡ true) }
         ensures longest { L.longest link.new ≡ L.longest link.old }
         ensures no_more { self.new.memory ≤ self.old.memory }
         ensures used { self.old.memory + L.spares link.new ≡ self.new.memory + L.spares link.old }
-        ensures layer_stays { (c : LayerSettings) (l : State) → FitsLayer c self.old l → IfNone result (FitsLayer c self.new l) }
+        ensures layer_stays { (c : LayerSettings) (l : State) → FitsLayer c self.old l
+            → IfNone result (FitsLayer c self.new l) }
         ensures link_stays { IfNone result (link.new ≡ link.old) }
         ensures left { IsNotFull self.old → IfNone result (IsNotFull self.new) }
-        ensures room_stays { (len : ℕ) → HasRoom len self.old (L.spares link.old) → IfNone result (HasRoom len self.new (L.spares link.new)) }
+        ensures room_stays { (len : ℕ) → HasRoom len self.old (L.spares link.old)
+            → IfNone result (HasRoom len self.new (L.spares link.new)) }
     {
         if self.restarting || self.memory.promised() < MOST_PUT || link.spare() < MOST_PUT {
             return None;

@@ -1,7 +1,7 @@
 use x25_circuit::Notice;
 
-/// What is reported to the users of octets that were handed up. Addresses and user data are borrowed from the octets; a message is handed
-/// over whole.
+/// What is reported to the users of octets that were handed up. Addresses and user data are borrowed from the octets; a
+/// message is handed over whole.
 #[derive(Debug, Drop)]
 pub enum Told<'a> {
     /// Nothing: they were dropped, or there is nothing to tell of them.

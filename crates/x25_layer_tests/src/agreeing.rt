@@ -5,7 +5,8 @@ use crate::play::{Row, play};
 use std::test::Fail;
 use x25_layer::Role;
 
-// A size of 3 is out of range. Of what is answered 256 octets and window 3 are those of the calling end, which cuts by them.
+// A size of 3 is out of range. Of what is answered 256 octets and window 3 are those of the calling end, which cuts by
+// them.
 static CALLING: [Row; 9] = [
     (Agreed(1), "size 7 7 window 2 2", ""),
     (Agreed(2), "none", ""),

@@ -1,5 +1,6 @@
 //! Tests of `x25_layer`: the numbers of its errors, the user's calls, LinkUp, LinkDown and restart, what
-//! the link hands up, user data of calls, the rounds of pulls, memory of messages that serves again, and two layers that are joined.
+//! the link hands up, user data of calls, the rounds of pulls, memory of messages that serves again, and two layers
+//! that are joined.
 #![tactic(auto)]
 
 #[cfg(test)]

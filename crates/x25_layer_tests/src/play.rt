@@ -40,8 +40,8 @@ pub enum Event<'a> {
     NotReady(u16),
     /// Octets, in hexadecimal, are handed up by the link.
     Take(&'a str),
-    /// The same, by the call that takes packets of data transfer alone. The text is the channel and how many octets the message has
-    /// that ends with the packet, or 'none'.
+    /// The same, by the call that takes packets of data transfer alone. The text is the channel and how many octets the
+    /// message has that ends with the packet, or 'none'.
     Transfer(&'a str),
     /// So many packets of the octet 7 are handed down to the link, by another than the layer.
     Fill(usize),

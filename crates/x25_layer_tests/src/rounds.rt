@@ -12,8 +12,8 @@ static TWO_OPEN: [Row; 4] = [
     (Accept(2), "ok", "10020f"),
 ];
 
-// Where eight packets wait, nothing is pulled. Then octets that are dropped pull, and two packets of each channel fill its window.
-// RR opens it, and the packet that is owed goes before the pulled ones. Then a message begins to come.
+// Where eight packets wait, nothing is pulled. Then octets that are dropped pull, and two packets of each channel fill
+// its window. RR opens it, and the packet that is owed goes before the pulled ones. Then a message begins to come.
 static ALTERNATING: [Row; 12] = [
     (Fill(8), "", STAY),
     (Send(1, false, 300), "ok", STAY),
@@ -62,7 +62,8 @@ fn pulls_end_where_eight_packets_wait(rt: HostRuntime) -> Result<(), Fail> {
     )
 }
 
-// What waits beside eight packets of another goes at a pull, as the window of each channel has it. It puts nothing of its own.
+// What waits beside eight packets of another goes at a pull, as the window of each channel has it. It puts nothing of
+// its own.
 static PULLED: [Row; 9] = [
     (Fill(8), "", STAY),
     (Send(1, false, 300), "ok", STAY),

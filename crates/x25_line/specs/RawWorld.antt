@@ -1,5 +1,6 @@
 -- The world of two bare ends: each event is a list of moves of the window machine. Items are octets (profile).
-use Rattle.std.specs.Prelude.{◌≡◌, ℕ, ◌+◌, ◌%◌, List, [], ◌∷◌, length, max, Option, Some, None, Bool, true, false, nat_le, ◌==◌, if◌then◌else◌}
+use Rattle.std.specs.Prelude.{◌≡◌, ℕ, ◌+◌, ◌%◌, List, [], ◌∷◌, length, max, Option, Some, None, Bool, true, false}
+use Rattle.std.specs.Prelude.{nat_le, ◌==◌, if◌then◌else◌}
 use Rattle.x25_window.specs.laws.Window.{End, Numbered, Frame}
 use Rattle.x25_line.specs.laws.Line.{Line, Move, fresh_line, swapped, all_moved}
 use Rattle.x25_line.specs.laws.Line.Move.{HandsDown, Sends, Tells, Arrives, Loses}
@@ -7,7 +8,8 @@ use Rattle.x25_bits.specs.declared.role.Role.{Role}
 use Rattle.x25_bits.specs.declared.role.Role.TheVariants.{Dte, Dce}
 use Rattle.x25_bits.specs.Role.{end_of}
 use Rattle.x25_line.specs.declared.raw_error.RawError.{RawError}
-use Rattle.x25_line.specs.declared.raw_error.RawError.TheVariants.{BadAck, Full, Empty, NoSuchFrame, NothingToSend, NoMemory}
+use Rattle.x25_line.specs.declared.raw_error.RawError.TheVariants.{BadAck, Full, Empty, NoSuchFrame, NothingToSend}
+use Rattle.x25_line.specs.declared.raw_error.RawError.TheVariants.{NoMemory}
 use Rattle.x25_line.specs.declared.raw_event.RawAct.{RawAct}
 use Rattle.x25_line.specs.declared.raw_event.RawAct.TheVariants as act
 use Rattle.x25_line.specs.declared.raw_event.RawEvent.{RawEvent}

@@ -4,17 +4,23 @@ ghost use Rattle.x25_frame.specs.laws.ReadingLaw.{ReadsSpelled};
 ghost use Rattle.x25_link.specs.laws.NoteLaw.{TakeHandsUp};
 ghost use Rattle.x25_link.specs.laws.BusyLaw.{BusyLaws};
 ghost use Rattle.x25_line.specs.laws.LawsBelow.{HealingLaws};
-ghost use Rattle.x25_line.specs.laws.StationClaims.{Always, BothInOrder, BothHaveTheirLists, BothNoteTheirEnds, NoFrmrSent, AllSentAreWhole, OneLinkUnlessConnected, EachEventHandsOne};
+ghost use Rattle.x25_line.specs.laws.StationClaims.{Always, BothInOrder, BothHaveTheirLists, BothNoteTheirEnds};
+ghost use Rattle.x25_line.specs.laws.StationClaims.{NoFrmrSent, AllSentAreWhole, OneLinkUnlessConnected};
+ghost use Rattle.x25_line.specs.laws.StationClaims.{EachEventHandsOne};
 ghost use Rattle.x25_line.specs.laws.PeerClaims.{WithAnyPeer, WithAnyLapbPeer, OnAnySilentTape};
 ghost use Rattle.x25_line.specs.laws.PeerClaims.{KeepsOrder, FindsNoFault};
 ghost use Rattle.x25_line.specs.laws.StationPeers.{AreBothPeers};
 ghost use Rattle.x25_line.specs.laws.WholeNumbers.{MachineGoesAlong, OnceStaysOnce};
-ghost use Rattle.x25_line.specs.laws.SessionClaims.{Throughout, MeetInStep, MetAreInOrder, UnmetHandNothingUp, OnlyBegunHaveLists, EachUpStands, EachHearsLatest, EachMeetsLatest, IdleHasArrived, NoSessionSendsFrmr, AllSessionsSendWhole, SessionsAreStations, SetUpIsTheStart};
+ghost use Rattle.x25_line.specs.laws.SessionClaims.{Throughout, MeetInStep, MetAreInOrder, UnmetHandNothingUp};
+ghost use Rattle.x25_line.specs.laws.SessionClaims.{OnlyBegunHaveLists, EachUpStands, EachHearsLatest, EachMeetsLatest};
+ghost use Rattle.x25_line.specs.laws.SessionClaims.{IdleHasArrived, NoSessionSendsFrmr, AllSessionsSendWhole};
+ghost use Rattle.x25_line.specs.laws.SessionClaims.{SessionsAreStations, SetUpIsTheStart};
 ghost use Rattle.x25_line.specs.laws.SessionNumbers.{StandingGoesAlong};
 ghost use Rattle.x25_line.specs.laws.SessionEvents.{EachEventHandsInSession, EachEventMeetsLatest};
 ghost use Rattle.x25_line.specs.rows.PeerRows.{OddPeerMoves, SilentTapeMoves, TapeTells};
 ghost use Rattle.x25_line.specs.rows.SessionRows.{SetsUpFromNothing, SetsUpAgain, UntimelyIsOutOfStep};
-ghost use Rattle.x25_line.specs.rows.StationRows.{PacketGoes, PacketsCross, LostComesAgain, DamagedComesAgain, DisconnectEnds, AbandonEnds, ConnectSetsUp, ConnectIsDeclined};
+ghost use Rattle.x25_line.specs.rows.StationRows.{PacketGoes, PacketsCross, LostComesAgain, DamagedComesAgain};
+ghost use Rattle.x25_line.specs.rows.StationRows.{DisconnectEnds, AbandonEnds, ConnectSetsUp, ConnectIsDeclined};
 
 use x25_frame::reads_what_is_spelled;
 use x25_link::{
@@ -38,16 +44,16 @@ pub(crate) fn laws_below()
     reads_what_is_spelled();
 }
 
-/// Two link stations, by the definition that a link meets call by call, joined by a line of octets that keeps order and may
-/// lose or visibly damage any frame, from a link just set up: what holds after each list of events at either end, Connect among
-/// them, as long as the link isn't set up anew, by which an end notes LinkUp.
+/// Two link stations, by the definition that a link meets call by call, joined by a line of octets that keeps order and
+/// may lose or visibly damage any frame, from a link just set up: what holds after each list of events at either end,
+/// Connect among them, as long as the link isn't set up anew, by which an end notes LinkUp.
 ///
-/// What one end handed up is a beginning of what the other was handed down, and the same where the giver is idle. What an
-/// end counts as acknowledged was handed up. The window machine that goes on from event to event is behind each moment, in which a frame on
-/// the line keeps the whole numbers that it was given as it was put, and its window holds all along. No FRMR is ever sent. Each frame ever sent may be
-/// spelled, and the packet of an I frame is one that was handed down. An end that left Up noted why, and then each time that it
-/// asked for set-up in vain. Where no Connect is accepted (`once`), the link is never set up anew, and an end notes one LinkDown
-/// at most.
+/// What one end handed up is a beginning of what the other was handed down, and the same where the giver is idle. What
+/// an end counts as acknowledged was handed up. The window machine that goes on from event to event is behind each
+/// moment, in which a frame on the line keeps the whole numbers that it was given as it was put, and its window holds
+/// all along. No FRMR is ever sent. Each frame ever sent may be spelled, and the packet of an I frame is one that was
+/// handed down. An end that left Up noted why, and then each time that it asked for set-up in vain. Where no Connect is
+/// accepted (`once`), the link is never set up anew, and an end notes one LinkDown at most.
 pub fn links_keep_order()
     ensures order { Always BothInOrder }
     ensures lists { Always BothHaveTheirLists }
@@ -107,22 +113,24 @@ pub fn peers_move()
     reads_what_is_spelled();
 }
 
-/// Two link stations and the line between them, from nothing or from a link just set up: what holds after each list of events at
-/// either end, over set-up and re-set-up at any moment, where timer T1 of an end that awaits UA doesn't run out while its SABM or a
-/// UA to it is on the line. A session of an end begins as it notes LinkUp, and two sessions meet where one hears a frame with an
-/// N(R) that was sent in the other.
+/// Two link stations and the line between them, from nothing or from a link just set up: what holds after each list of
+/// events at either end, over set-up and re-set-up at any moment, where timer T1 of an end that awaits UA doesn't run
+/// out while its SABM or a UA to it is on the line. A session of an end begins as it notes LinkUp, and two sessions
+/// meet where one hears a frame with an N(R) that was sent in the other.
 ///
-/// Sessions meet one to one, and in order at both ends. What is handed up in a session is a beginning of what was handed down in
-/// the one that it meets, and a session that meets none hands nothing up. The session of an end that is Up, and the one that it
-/// meets or is to meet, are those of a link set up once, of which all holds that `links_keep_order` says. No FRMR is ever sent.
-/// Each frame ever sent may be spelled, and the packet of an I frame was handed down in a session of one of the ends.
+/// Sessions meet one to one, and in order at both ends. What is handed up in a session is a beginning of what was
+/// handed down in the one that it meets, and a session that meets none hands nothing up. The session of an end that is
+/// Up, and the one that it meets or is to meet, are those of a link set up once, of which all holds that
+/// `links_keep_order` says. No FRMR is ever sent. Each frame ever sent may be spelled, and the packet of an I frame was
+/// handed down in a session of one of the ends.
 ///
-/// Behind the two sessions that stand is one window machine, which goes on from event to event, and begins anew where two sessions do:
-/// a frame is given its whole numbers as it is put on the line, and keeps them as long as it is there.
+/// Behind the two sessions that stand is one window machine, which goes on from event to event, and begins anew where
+/// two sessions do: a frame is given its whole numbers as it is put on the line, and keeps them as long as it is there.
 ///
-/// An end that is Up hears the latest session of the other end alone, and meets no other. So one event brings one meeting at most,
-/// that of the latest sessions of both ends, and only then a packet may be handed up. Where an end is idle, and the other is Up
-/// too or met its session, all that was handed down in this session was handed up in the latest session of the other.
+/// An end that is Up hears the latest session of the other end alone, and meets no other. So one event brings one
+/// meeting at most, that of the latest sessions of both ends, and only then a packet may be handed up. Where an end is
+/// idle, and the other is Up too or met its session, all that was handed down in this session was handed up in the
+/// latest session of the other.
 pub fn sessions_keep_order()
     ensures step { Throughout MeetInStep }
     ensures order { Throughout MetAreInOrder }
@@ -140,16 +148,16 @@ pub fn sessions_keep_order()
     laws_below();
 }
 
-/// With the sessions forgotten, they are the two stations of `links_keep_order`: the same events do the same, and what is handed
-/// down and up there is what was in all sessions.
+/// With the sessions forgotten, they are the two stations of `links_keep_order`: the same events do the same, and what
+/// is handed down and up there is what was in all sessions.
 pub fn sessions_are_links()
     ensures alike { SessionsAreStations }
     ensures start { SetUpIsTheStart }
 {}
 
-/// Worked rows: a SABM is lost and goes again, and a packet is handed up in the first session of each end; set up again, a packet
-/// that was on the line is still one of the first sessions, and the next is one of the second. Where timer T1 runs out while
-/// the SABM is on the line, the sessions may get out of step.
+/// Worked rows: a SABM is lost and goes again, and a packet is handed up in the first session of each end; set up
+/// again, a packet that was on the line is still one of the first sessions, and the next is one of the second. Where
+/// timer T1 runs out while the SABM is on the line, the sessions may get out of step.
 pub fn sessions_move()
     ensures first { SetsUpFromNothing }
     ensures second { SetsUpAgain }
@@ -158,23 +166,23 @@ pub fn sessions_move()
     reads_what_is_spelled();
 }
 
-/// One event hands up one packet at most, and hands down the packet that is put, in the latest session of the end where it
-/// happens. The next session begins only as octets come, and with nothing handed down or up.
+/// One event hands up one packet at most, and hands down the packet that is put, in the latest session of the end where
+/// it happens. The next session begins only as octets come, and with nothing handed down or up.
 pub fn each_session_event_hands_one()
     ensures { EachEventHandsInSession }
 {
     notes_what_changes();
 }
 
-/// One event hands up one packet at most, and hands down the packet that is put, at the end where it happens. LinkUp is noted only
-/// as octets come, and what was noted stays.
+/// One event hands up one packet at most, and hands down the packet that is put, at the end where it happens. LinkUp is
+/// noted only as octets come, and what was noted stays.
 pub fn each_event_hands_one()
     ensures { EachEventHandsOne }
 {}
 
-/// Worked rows: a packet is handed up and acknowledged, also where one comes the other way at once, and where its frame is
-/// lost or damaged and goes again. An end leaves at `disconnect` and at `abandon`. At `connect` the link is set up anew, or the
-/// other end declines.
+/// Worked rows: a packet is handed up and acknowledged, also where one comes the other way at once, and where its frame
+/// is lost or damaged and goes again. An end leaves at `disconnect` and at `abandon`. At `connect` the link is set up
+/// anew, or the other end declines.
 pub fn links_move()
     ensures goes { PacketGoes }
     ensures cross { PacketsCross }

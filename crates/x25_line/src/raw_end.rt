@@ -1,10 +1,12 @@
-ghost use Rattle.std.specs.Prelude.{ℕ, ◌≡◌, ◌≢◌, ◌+◌, ◌%◌, ◌<◌, ◌≤◌, List, [], ◌∷◌, ◌++◌, length, remove, max, OnOk, OnErr, IfOk, IfErr, MatchOption, Option, Some, None, Err, ◌⊎◌, slice_get, IsErrOf};
+ghost use Rattle.std.specs.Prelude.{ℕ, ◌≡◌, ◌≢◌, ◌+◌, ◌%◌, ◌<◌, ◌≤◌, List, [], ◌∷◌, ◌++◌, length, remove, max, OnOk};
+ghost use Rattle.std.specs.Prelude.{OnErr, IfOk, IfErr, MatchOption, Option, Some, None, Err, ◌⊎◌, slice_get, IsErrOf};
 ghost use Rattle.x25_window.specs.laws.Window.{End, Step, Frame, after, frame_of, frames_of, fresh_end};
 ghost use Rattle.x25_window.specs.laws.Window.Step.{HandDown, Send};
 ghost use Rattle.x25_window.specs.code.Modulo.{resolved};
 ghost use Rattle.x25_line.specs.laws.Line.{arrived};
 ghost use Rattle.x25_line.specs.RawWorld.{RawState, acts, refusal_of, place_after_offer, is_wanted};
-ghost use Rattle.x25_line.specs.code.RawFitting.{FitsLine, FitsFrame, FitsEnd, FitsSide, Delivered, BringsBadAck, IsDue, TakesMemory};
+ghost use Rattle.x25_line.specs.code.RawFitting.{FitsLine, FitsFrame, FitsEnd, FitsSide, Delivered, BringsBadAck};
+ghost use Rattle.x25_line.specs.code.RawFitting.{IsDue, TakesMemory};
 
 use crate::raw_error::RawError;
 use crate::raw_event::RawAct;
@@ -28,13 +30,19 @@ impl Model for RawEnd {
 
     ghost Value = { ShownEnd };
 
-    ghost view = { λ e. record { sender = e.sender; wanted = e.receiver; given = e.given.items; taken = e.taken.items } };
+    ghost view = { λ e. record {
+      sender = e.sender;
+      wanted = e.receiver;
+      given = e.given.items;
+      taken = e.taken.items;
+    } };
 }
 
 impl RawEnd {
     /// An end that was given nothing and has taken nothing, or `None` where the window isn't 1 to 7. 70 alone.
     pub fn new(alloc: Global, window: u8) -> Result<Option<RawEnd>, NoMemory>
-        ensures { IfOk result (λ made. MatchOption made (¬ ((1 ≤ window) × (window ≤ 7))) (λ end. FitsEnd end (fresh_end window) 0)) }
+        ensures { IfOk result (λ made. MatchOption made (¬ ((1 ≤ window)
+            × (window ≤ 7))) (λ end. FitsEnd end (fresh_end window) 0)) }
     {
         let Some(sender) = Sender::new(alloc, window)? else {
             return Ok(None);
@@ -68,15 +76,17 @@ impl RawEnd {
         self.sender.unacked()
     }
 
-    /// An item is handed down and goes on the line. 8 Full where as many stand unacknowledged as the window holds, and else 70 alone; all is
-    /// as before then.
+    /// An item is handed down and goes on the line. 8 Full where as many stand unacknowledged as the window holds, and
+    /// else 70 alone; all is as before then.
     pub fn offer(&mut self, out: &mut Vec<RawFrame>, item: u8) -> Result<(), RawError>
         ensures open { (e : End ℕ) (place : ℕ) → FitsEnd self.old e place → OnOk result (e.sent < e.acked + e.window) }
         ensures end { (e : End ℕ) (place : ℕ) → FitsEnd self.old e place →
             OnOk result (FitsEnd self.new (after (after e (HandDown item)) (Send e.sent)) (place_after_offer e place)) }
-        ensures line { (e : End ℕ) (place : ℕ) (fs : List (Frame ℕ)) → FitsEnd self.old e place → FitsLine out.old.items fs →
+        ensures line { (e : End ℕ) (place : ℕ) (fs : List (Frame ℕ)) → FitsEnd self.old e place
+            → FitsLine out.old.items fs →
             OnOk result (FitsLine out.new.items (fs ++ frames_of (after e (HandDown item)) (Send e.sent))) }
-        ensures full { (e : End ℕ) (place : ℕ) → FitsEnd self.old e place → result ≡ Err RawError.Full → e.sent ≡ e.acked + e.window }
+        ensures full { (e : End ℕ) (place : ℕ) → FitsEnd self.old e place → result ≡ Err RawError.Full
+            → e.sent ≡ e.acked + e.window }
         ensures kinds { IfErr result (λ error. (error ≡ RawError.Full) ⊎ (error ≡ RawError.NoMemory)) }
         ensures unchanged { OnErr result ((self.new ≡ self.old) × (out.new.items ≡ out.old.items)) }
     {
@@ -94,14 +104,18 @@ impl RawEnd {
         Ok(())
     }
 
-    /// The item at the place to send from goes on the line. 55 NothingToSend where all were sent since that place was moved back, and else
+    /// The item at the place to send from goes on the line. 55 NothingToSend where all were sent since that place was
+    /// moved back, and else
     /// 70 alone; all is as before then.
     pub fn send_next(&mut self, out: &mut Vec<RawFrame>) -> Result<(), RawError>
         ensures below { (e : End ℕ) (place : ℕ) → FitsEnd self.old e place → OnOk result (place < e.sent) }
-        ensures end { (e : End ℕ) (place : ℕ) → FitsEnd self.old e place → OnOk result (FitsEnd self.new (after e (Send place)) (place + 1)) }
-        ensures line { (e : End ℕ) (place : ℕ) (fs : List (Frame ℕ)) → FitsEnd self.old e place → FitsLine out.old.items fs →
+        ensures end { (e : End ℕ) (place : ℕ) → FitsEnd self.old e place
+            → OnOk result (FitsEnd self.new (after e (Send place)) (place + 1)) }
+        ensures line { (e : End ℕ) (place : ℕ) (fs : List (Frame ℕ)) → FitsEnd self.old e place
+            → FitsLine out.old.items fs →
             OnOk result (FitsLine out.new.items (fs ++ frames_of e (Send place))) }
-        ensures none { (e : End ℕ) (place : ℕ) → FitsEnd self.old e place → result ≡ Err RawError.NothingToSend → place ≡ e.sent }
+        ensures none { (e : End ℕ) (place : ℕ) → FitsEnd self.old e place → result ≡ Err RawError.NothingToSend
+            → place ≡ e.sent }
         ensures kinds { IfErr result (λ error. (error ≡ RawError.NothingToSend) ⊎ (error ≡ RawError.NoMemory)) }
         ensures unchanged { OnErr result ((self.new ≡ self.old) × (out.new.items ≡ out.old.items)) }
     {
@@ -130,7 +144,8 @@ impl RawEnd {
     /// A frame without an item goes on the line. 70 alone; the line is as before then.
     #[tactic(auto, using(crate::proofs::FitLemmas::FitsLine_push))]
     pub fn tell(&self, out: &mut Vec<RawFrame>) -> Result<(), RawError>
-        ensures line { (e : End ℕ) (place : ℕ) (fs : List (Frame ℕ)) → FitsEnd self.now e place → FitsLine out.old.items fs →
+        ensures line { (e : End ℕ) (place : ℕ) (fs : List (Frame ℕ)) → FitsEnd self.now e place
+            → FitsLine out.old.items fs →
             OnOk result (FitsLine out.new.items (fs ++ frame_of e None ∷ [])) }
         ensures kinds { IfErr result (λ error. error ≡ RawError.NoMemory) }
         ensures unchanged { OnErr result (out.new.items ≡ out.old.items) }
@@ -145,15 +160,18 @@ impl RawEnd {
         Ok(())
     }
 
-    /// The front frame of the line to this end arrives. 50 Empty where there is none, 7 BadAck where its N(R) is invalid, and else 70 alone;
-    /// all is as before then.
+    /// The front frame of the line to this end arrives. 50 Empty where there is none, 7 BadAck where its N(R) is
+    /// invalid, and else 70 alone; all is as before then.
     pub fn receive(&mut self, back: &mut Vec<RawFrame>) -> Result<(), RawError>
-        ensures ok { (e : End ℕ) (place : ℕ) (fs : List (Frame ℕ)) → FitsEnd self.old e place → FitsLine back.old.items fs →
+        ensures ok { (e : End ℕ) (place : ℕ) (fs : List (Frame ℕ)) → FitsEnd self.old e place
+            → FitsLine back.old.items fs →
             OnOk result (Delivered self.new back.new.items e place fs) }
         ensures empty { result ≡ Err RawError.Empty → back.old.items ≡ [] }
-        ensures bad { (e : End ℕ) (place : ℕ) (fs : List (Frame ℕ)) → FitsEnd self.old e place → FitsLine back.old.items fs →
+        ensures bad { (e : End ℕ) (place : ℕ) (fs : List (Frame ℕ)) → FitsEnd self.old e place
+            → FitsLine back.old.items fs →
             result ≡ Err RawError.BadAck → BringsBadAck e fs }
-        ensures kinds { IfErr result (λ error. (error ≡ RawError.Empty) ⊎ ((error ≡ RawError.BadAck) ⊎ (error ≡ RawError.NoMemory))) }
+        ensures kinds { IfErr result (λ error. (error ≡ RawError.Empty)
+            ⊎ ((error ≡ RawError.BadAck) ⊎ (error ≡ RawError.NoMemory))) }
         ensures unchanged { OnErr result ((self.new ≡ self.old) × (back.new.items ≡ back.old.items)) }
     {
         if back.is_empty() {
@@ -168,7 +186,8 @@ impl RawEnd {
     // The N(R) of a frame is heard, and its item taken where it is the one awaited.
     fn hear(&mut self, frame: RawFrame) -> Result<(), RawError>
         ensures ok { (e : End ℕ) (place : ℕ) (f : Frame ℕ) → FitsEnd self.old e place → FitsFrame frame f →
-            OnOk result (FitsEnd self.new (arrived (is_wanted (length e.taken) f.carried) f e) (max place (resolved e.acked (f.ack % 8)))) }
+            OnOk result (FitsEnd self.new (arrived (is_wanted (length e.taken) f.carried) f e)
+            (max place (resolved e.acked (f.ack % 8)))) }
         ensures bad { (e : End ℕ) (place : ℕ) (f : Frame ℕ) → FitsEnd self.old e place → FitsFrame frame f →
             result ≡ Err RawError.BadAck → length e.given < resolved e.acked (f.ack % 8) }
         ensures kinds { IfErr result (λ error. (error ≡ RawError.BadAck) ⊎ (error ≡ RawError.NoMemory)) }
@@ -192,7 +211,8 @@ impl RawEnd {
 /// The frame at the place is lost. 51 NoSuchFrame alone, where there is none.
 #[tactic(auto, using(crate::proofs::FitLemmas::FitsLine_remove))]
 pub fn lose(back: &mut Vec<RawFrame>, place: usize) -> Result<(), RawError>
-    ensures ok { (fs : List (Frame ℕ)) → FitsLine back.old.items fs → OnOk result (FitsLine back.new.items (remove fs place)) }
+    ensures ok { (fs : List (Frame ℕ)) → FitsLine back.old.items fs
+        → OnOk result (FitsLine back.new.items (remove fs place)) }
     ensures there { OnOk result (place < length back.old.items) }
     ensures refused { IfErr result (λ error. (error ≡ RawError.NoSuchFrame) × (length back.old.items ≤ place)) }
     ensures unchanged { OnErr result (back.new.items ≡ back.old.items) }
@@ -204,8 +224,8 @@ pub fn lose(back: &mut Vec<RawFrame>, place: usize) -> Result<(), RawError>
     Ok(())
 }
 
-/// What one end does, on the line from it and the line to it. Refused as the call is that does it, with 7, 8, 50, 51, 55 or 70; all is as
-/// before then.
+/// What one end does, on the line from it and the line to it. Refused as the call is that does it, with 7, 8, 50, 51,
+/// 55 or 70; all is as before then.
 pub fn act(
     near: &mut RawEnd,
     out: &mut Vec<RawFrame>,
@@ -214,10 +234,12 @@ pub fn act(
 ) -> Result<(), RawError>
     ensures step { (s : RawState) → FitsSide near.old out.old.items back.old.items s →
         OnOk result (FitsSide near.new out.new.items back.new.items (acts s act)) }
-    ensures accepted { (s : RawState) → FitsSide near.old out.old.items back.old.items s → OnOk result (refusal_of s act ≡ None) }
+    ensures accepted { (s : RawState) → FitsSide near.old out.old.items back.old.items s
+        → OnOk result (refusal_of s act ≡ None) }
     ensures refused { (s : RawState) → FitsSide near.old out.old.items back.old.items s → IfErr result (IsDue s act) }
     ensures memory { IsErrOf result RawError.NoMemory → TakesMemory act }
-    ensures unchanged { OnErr result ((near.new ≡ near.old) × (out.new.items ≡ out.old.items) × (back.new.items ≡ back.old.items)) }
+    ensures unchanged { OnErr result ((near.new ≡ near.old) × (out.new.items ≡ out.old.items)
+        × (back.new.items ≡ back.old.items)) }
 {
     match act {
         RawAct::Offer(item) => near.offer(out, item),

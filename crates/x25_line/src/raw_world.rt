@@ -1,6 +1,8 @@
-ghost use Rattle.std.specs.Prelude.{ℕ, ◌≡◌, ◌≢◌, ◌<◌, ◌≤◌, OnOk, OnErr, IfOk, IfErr, IfSome, MatchOption, length, take, slice_get, Some, None, Err, IsErrOf, List};
+ghost use Rattle.std.specs.Prelude.{ℕ, ◌≡◌, ◌≢◌, ◌<◌, ◌≤◌, OnOk, OnErr, IfOk, IfErr, IfSome, MatchOption, length, take};
+ghost use Rattle.std.specs.Prelude.{slice_get, Some, None, Err, IsErrOf, List};
 ghost use Rattle.x25_line.specs.RawWorld.{RawState, happens, run, start, event_refusal, act_of_event, AllAccepted};
-ghost use Rattle.x25_line.specs.code.RawFitting.{FitsWorld, InOrder, IsPrefix, IsRefusal, StopsAt, TakesMemory, RunInWindow, shown_end, other_end};
+ghost use Rattle.x25_line.specs.code.RawFitting.{FitsWorld, InOrder, IsPrefix, IsRefusal, StopsAt, TakesMemory};
+ghost use Rattle.x25_line.specs.code.RawFitting.{RunInWindow, shown_end, other_end};
 
 use crate::raw_end::{RawEnd, act};
 use crate::raw_error::{RawError, RawRefused};
@@ -30,7 +32,8 @@ impl Model for RawWorld {
 
     ghost view = { λ w. record { dte = w.dte; dce = w.dce; to_dce = w.to_dce.items; to_dte = w.to_dte.items } };
 
-    ghost invariant = { λ w. ∥ Run (record { dte = w.dte; dce = w.dce; to_dce = w.to_dce.items; to_dte = w.to_dte.items }) ∥₁ };
+    ghost invariant = { λ w. ∥ Run
+        (record { dte = w.dte; dce = w.dce; to_dce = w.to_dce.items; to_dte = w.to_dte.items }) ∥₁ };
 }
 
 impl RawWorld {
@@ -38,7 +41,8 @@ impl RawWorld {
     ///
     /// 70 where memory is refused.
     pub fn new(alloc: Global, window: u8) -> Result<Option<RawWorld>, NoMemory>
-        ensures { IfOk result (λ made. MatchOption made (¬ ((1 ≤ window) × (window ≤ 7))) (λ world. FitsWorld world (start window))) }
+        ensures { IfOk result (λ made. MatchOption made (¬ ((1 ≤ window)
+            × (window ≤ 7))) (λ world. FitsWorld world (start window))) }
     {
         let Some(dte) = RawEnd::new(alloc, window)? else {
             return Ok(None);
@@ -57,8 +61,8 @@ impl RawWorld {
     /// Lets the event happen.
     ///
     /// Refused with the one ground that applies, 8, 50, 51 or 55, and else accepted; 70 where memory is refused, which
-    /// `Again` and `Lose` take none of. Then the world is as before. It is never refused with 7: each N(R) that arrives is
-    /// valid.
+    /// `Again` and `Lose` take none of. Then the world is as before. It is never refused with 7: each N(R) that arrives
+    /// is valid.
     pub fn apply(&mut self, event: RawEvent) -> Result<(), RawError>
         ensures step { (s : RawState) → FitsWorld self.old s → OnOk result (FitsWorld self.new (happens s event)) }
         ensures accepted { (s : RawState) → FitsWorld self.old s → OnOk result (event_refusal s event ≡ None) }
@@ -79,13 +83,14 @@ impl RawWorld {
         }
     }
 
-    /// Lets the events happen in order, as by `apply`, up to the first that is refused. The events before it were accepted,
-    /// and stand. Refused with 70 only at an event that takes memory.
+    /// Lets the events happen in order, as by `apply`, up to the first that is refused. The events before it were
+    /// accepted, and stand. Refused with 70 only at an event that takes memory.
     pub fn run(&mut self, events: &[RawEvent]) -> Result<(), RawRefused>
         ensures step { (s : RawState) → FitsWorld self.old s → OnOk result (FitsWorld self.new (run events.now s)) }
         ensures accepted { (s : RawState) → FitsWorld self.old s → OnOk result (AllAccepted s events.now) }
         ensures stopped { (s : RawState) → FitsWorld self.old s → IfErr result (StopsAt events.now s self.new) }
-        ensures memory { IfErr result (λ refused. refused.error ≡ RawError.NoMemory → IfSome (slice_get events.now refused.index) (λ event. TakesMemory (act_of_event event))) }
+        ensures memory { IfErr result (λ refused. refused.error ≡ RawError.NoMemory
+            → IfSome (slice_get events.now refused.index) (λ event. TakesMemory (act_of_event event))) }
         ensures never_bad { IfErr result (λ refused. refused.error ≢ RawError.BadAck) }
         ensures there { InOrder self.new.dte self.new.dce }
         ensures back { InOrder self.new.dce self.new.dte }

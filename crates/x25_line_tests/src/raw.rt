@@ -4,8 +4,8 @@ use x25_line::RawEvent::{Again, Deliver, Lose, Next, Offer, Tell};
 use x25_line::Role::{Dce, Dte};
 use x25_line::{RawError, RawEvent, RawRefused, RawWorld};
 
-/// Events, each with the number of its error, 0 where it is accepted; and then how many items of the DTE are unacknowledged
-/// and how many the DCE has taken.
+/// Events, each with the number of its error, 0 where it is accepted; and then how many items of the DTE are
+/// unacknowledged and how many the DCE has taken.
 type Rows = &'static [(RawEvent, u8, u8, usize)];
 
 /// A full window is sent again and taken once.

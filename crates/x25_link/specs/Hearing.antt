@@ -56,7 +56,7 @@ rejects c octets why t = leaves FrmrSent (sends (reject_of c octets why t.near) 
 abbrev pub is_valid : ℕ → LinkStation → Bool
 is_valid nr s = nat_le (resolved s.outgoing.acked nr) s.outgoing.sent
 
--- all frames below it are acknowledged (section 2.4.5.6)
+-- all frames below it are acknowledged (section 2.4.5.5)
 abbrev pub acknowledged : ℕ → Side → Side
 acknowledged nr t =
     let s = t.near in

@@ -1,5 +1,5 @@
 -- The packets that a station was handed down, on a whole list and unbounded numbers.
--- ITU-T X.25 (10/96), sections 2.3.2, 2.4.5.1 and 2.4.5.6.
+-- ITU-T X.25 (10/96), sections 2.3.2, 2.4.5.1 and 2.4.5.5.
 use Rattle.std.specs.Prelude.{ℕ, ◌+◌, ◌-◌, nat_lt, Bool, ◌&&◌, List, [], ◌∷◌, ◌++◌, length, slice_index_or, max}
 
 -- The packets handed down since the link was set up, of which number n goes with N(S) n modulo 8; how many of these are

@@ -190,7 +190,7 @@ impl Link {
         self.station.timer_runs()
     }
 
-    /// The number of the first I frame that the other end didn't acknowledge: all below it are. Section 2.4.5.6.
+    /// The number of the first I frame that the other end didn't acknowledge: all below it are. Section 2.4.5.5.
     pub fn acknowledged(&self) -> Seq
         ensures { (c : Settings) (s : StationState) → FitsLink c self.now s → result.number ≡ s.outgoing.acked % 8 }
     {

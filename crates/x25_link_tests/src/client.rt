@@ -8,8 +8,8 @@ use std::test::Fail;
 use x25_bits::Role;
 use x25_link::{Link, LinkError, OrderedLink, PlainLink};
 
-// Puts an answer, and behind it a further packet where fewer than 8 packets wait. Which of them is a function of the state
-// that the link fits. Refused with 70 alone, and the link is as it was then.
+// Puts an answer, and behind it a further packet where fewer than 8 packets wait. Which of them is a function of the
+// state that the link fits. Refused with 70 alone, and the link is as it was then.
 fn answer_and_pull<L: OrderedLink>(
     link: &mut L,
     answer: Vec<u8>,
@@ -20,7 +20,8 @@ fn answer_and_pull<L: OrderedLink>(
     requires answer_short { vec_len answer ≤ L.longest link.old }
     requires further_short { vec_len further ≤ L.longest link.old }
     ensures state { (x : L.State) → L.fits link.old x →
-        OnOk result (L.fits link.new (if nat_lt (L.waits_in (L.after_put x answer.items)) 8 then L.after_put (L.after_put x answer.items) further.items else L.after_put x answer.items)) }
+        OnOk result (L.fits link.new (if nat_lt (L.waits_in (L.after_put x answer.items)) 8
+        then L.after_put (L.after_put x answer.items) further.items else L.after_put x answer.items)) }
     ensures refused { IfErr result (λ e. e ≡ LinkError.NoMemory) }
     ensures err { OnErr result (link.new ≡ link.old) }
 {

@@ -1,4 +1,5 @@
-//! Tests of `x25_link`: worked examples of link stations as tables of events and texts, a plain link, and a client of any link.
+//! Tests of `x25_link`: worked examples of link stations as tables of events and texts, a plain link, and a client of
+//! any link.
 #![tactic(auto)]
 
 #[cfg(test)]

@@ -21,7 +21,8 @@ pub enum Event<'a> {
     PutMany(u16),
     /// The first frame on the line to this station arrives.
     Deliver,
-    /// The first frame on the line to this station arrives, and a packet of this one octet is handed down in the same step.
+    /// The first frame on the line to this station arrives, and a packet of this one octet is handed down in the same
+    /// step.
     Reply(u8),
     /// The first frame on the line to this station is lost.
     Lose,
@@ -33,7 +34,8 @@ pub enum Event<'a> {
     HearRej(u8, bool),
     /// An RR response with this N(R) and F arrives that the other station didn't send.
     HearRr(u8, bool),
-    /// An I frame with N(S) and N(R) 0 and so many octets of information, all 0, arrives that the other station didn't send.
+    /// An I frame with N(S) and N(R) 0 and so many octets of information, all 0, arrives that the other station didn't
+    /// send.
     HearLong(usize),
     /// Octets arrive that the other station didn't send.
     Take(&'a [u8]),

@@ -1,5 +1,7 @@
--- The packet layers of both ends and all their channels, and what a frame changes and breaks. ITU-T X.25 (10/96), sections 3 and 4.
-use Rattle.std.specs.Prelude.{ℕ, ◌%◌, ◌==◌, Bool, true, false, not, ◌&&◌, ◌||◌, if◌then◌else◌, is_some, List, slice_index_or, slice_set, Option, Some, None, Result, Ok, Err}
+-- The packet layers of both ends and all their channels, and what a frame changes and breaks. ITU-T X.25 (10/96),
+-- sections 3 and 4.
+use Rattle.std.specs.Prelude.{ℕ, ◌%◌, ◌==◌, Bool, true, false, not, ◌&&◌, ◌||◌, if◌then◌else◌, is_some, List}
+use Rattle.std.specs.Prelude.{slice_index_or, slice_set, Option, Some, None, Result, Ok, Err}
 use Rattle.x25_bits.specs.declared.role.Role.{Role}
 use Rattle.x25_bits.specs.declared.role.Role.TheVariants.{Dte, Dce}
 use Rattle.x25_frame.specs.Frame.{PlainFrame, info, rr, rnr, rej, sabm, disc, ua, dm, frmr}
@@ -48,8 +50,20 @@ abbrev pub port_of : ℕ → List Port → Port
 port_of channel ports = slice_index_or ports (channel % 4096) blank
 
 abbrev pub pair_of : Role → Bool → ℕ → Book → Pair
-pair_of Dte reaches channel b = record { from = Dte; reaches = reaches; own = port_of channel b.dte_ports; other = port_of channel b.dce_ports; rule = None }
-pair_of Dce reaches channel b = record { from = Dce; reaches = reaches; own = port_of channel b.dce_ports; other = port_of channel b.dte_ports; rule = None }
+pair_of Dte reaches channel b = record {
+  from = Dte;
+  reaches = reaches;
+  own = port_of channel b.dte_ports;
+  other = port_of channel b.dce_ports;
+  rule = None;
+}
+pair_of Dce reaches channel b = record {
+  from = Dce;
+  reaches = reaches;
+  own = port_of channel b.dce_ports;
+  other = port_of channel b.dte_ports;
+  rule = None;
+}
 
 abbrev pub puts : Role → ℕ → Pair → Book → Book
 puts Dte channel p b = record {
@@ -85,11 +99,13 @@ quiet b = passed b None
 
 -- the channel isn't judged, which is noted once
 abbrev pub blind : Role → ℕ → Pair → Book → Seen
-blind from channel p b = passed (puts from channel (noted p) b) (if p.own.is_noted || p.other.is_noted then None else Some channel)
+blind from channel p b = passed (puts from channel (noted p) b) (if p.own.is_noted || p.other.is_noted then None
+    else Some channel)
 
 -- both ends of its channel, behind it
 abbrev pub put_by : Role → ℕ → Pair → Option PacketRule → Book → Seen
-put_by from channel p rule b = if is_known p || is_some rule then told (puts from channel p b) rule else blind from channel p b
+put_by from channel p rule b = if is_known p || is_some rule then told (puts from channel p b) rule
+    else blind from channel p b
 
 abbrev pub took : Role → Layers → ℕ → Pair → Book → Seen
 took from t channel p b = put_by from channel p p.rule (keeps from t b)
@@ -117,20 +133,22 @@ refinds from t b = told (keeps from (layer.refinds t) (fills_both fresh b)) None
 
 -- .. behind a fault of restarts
 abbrev pub confirms_lost : Role → Layers → Book → Seen
-confirms_lost from t b = if layer.is_sure_answer t then refinds from t b else quiet (keeps from (layer.confirms_lost t) b)
+confirms_lost from t b = if layer.is_sure_answer t then refinds from t b
+    else quiet (keeps from (layer.confirms_lost t) b)
 
 -- .. and else, of a RESTART that was seen
 abbrev pub answers : Role → Layers → Book → Seen
 answers from t b = if layer.are_counted t then restarts from (layer.answers_restart t) b else refinds from t b
 
--- A confirmation of none that was seen, or again of one that was sent again: of the channels of its sender nothing is known, and of the other
--- end's what was followed.
+-- A confirmation of none that was seen, or again of one that was sent again: of the channels of its sender nothing is
+-- known, and of the other end's what was followed.
 unfoldable pub confirms : Role → Layers → Book → Seen
 confirms from t b =
     if layer.are_lost t then confirms_lost from t b
     else if layer.is_answer t then answers from t b
     else if layer.is_second_answer t then told (keeps from (layer.confirms_again t) (fills from blank b)) None
-    else if layer.are_counted t then told (keeps from (layer.confirms_unseen t) (fills from blank b)) (layer.confirms_unseen t).rule
+    else if layer.are_counted t
+    then told (keeps from (layer.confirms_unseen t) (fills from blank b)) (layer.confirms_unseen t).rule
     else if layer.are_sure t then quiet (keeps from (layer.confirms_unseen t) (fills from blank b))
     else quiet (keeps from (layer.confirms_unseen t) (fills_both blank b))
 
@@ -172,12 +190,14 @@ reads_if may from long_data octets b = if may then reads from long_data octets b
 -- an I frame, by N(S)
 unfoldable pub moves : Role → Bool → ℕ → List ℕ → Book → Seen
 moves from long_data number octets b =
-    reads_if (layer.may_judge number (layers_of from b)) from long_data octets (keeps from (layer.moves number (layers_of from b)) b)
+    reads_if (layer.may_judge number (layers_of from b)) from long_data octets
+    (keeps from (layer.moves number (layers_of from b)) b)
 
 -- one that breaks a rule of the link layer may hide packets
 unfoldable pub sends_info : Role → Bool → ℕ → ℕ → List ℕ → Bool → Book → Seen
 sends_info from long_data ns nr octets is_broken b =
-    if is_broken then quiet (keeps from (layer.loses (layers_of from b)) b) else moves from long_data ns octets (hears from nr b)
+    if is_broken then quiet (keeps from (layer.loses (layers_of from b)) b)
+    else moves from long_data ns octets (hears from nr b)
 
 -- the channels of both ends begin anew: of an end that is followed on, nothing was seen of them yet
 unfoldable pub begins : Role → Layers → Book → Book
@@ -185,7 +205,8 @@ begins from t b = keeps from t (fills_both fresh b)
 
 -- UA; behind frames of the other end, which is up, it comes again, and nothing is known of channels
 unfoldable pub accepts : Role → Layers → Book → Book
-accepts from t b = if t.other.is_fresh then begins from (layer.accepts t) b else keeps from (layer.accepts t) (fills_both blank b)
+accepts from t b = if t.other.is_fresh then begins from (layer.accepts t) b
+    else keeps from (layer.accepts t) (fills_both blank b)
 
 unfoldable pub accepts_if : Role → Bool → Layers → Book → Book
 accepts_if from is_broken t b = if is_broken && layer.is_unasked t then b else accepts from t b

@@ -1,11 +1,13 @@
 -- The data packets of one end on a channel, and the P(R)s that answer them, modulo 8, and the rules on them.
 -- ITU-T X.25 (10/96), section 4.4.1. What is said behind a fault is profile.
-use Rattle.std.specs.Prelude.{ℕ, ◌+◌, ◌-◌, ◌%◌, ◌==◌, nat_lt, nat_le, Bool, true, false, ◌&&◌, ◌||◌, if◌then◌else◌, min, Some, None}
+use Rattle.std.specs.Prelude.{ℕ, ◌+◌, ◌-◌, ◌%◌, ◌==◌, nat_lt, nat_le, Bool, true, false, ◌&&◌, ◌||◌, if◌then◌else◌, min}
+use Rattle.std.specs.Prelude.{Some, None}
 use Rattle.x25_packet_judge.specs.Numbers.{apart}
 use Rattle.x25_packet_judge.specs.declared.flow.Flow.{Flow}
 use Rattle.x25_packet_judge.specs.declared.flow.FlowTold.{FlowTold}
 use Rattle.x25_packet_judge.specs.declared.packet_rule.PacketRule.{PacketRule}
-use Rattle.x25_packet_judge.specs.declared.packet_rule.PacketRule.TheVariants.{PacketUnsent, PacketFalls, PacketSkips, OverPackets}
+use Rattle.x25_packet_judge.specs.declared.packet_rule.PacketRule.TheVariants.{PacketUnsent, PacketFalls, PacketSkips}
+use Rattle.x25_packet_judge.specs.declared.packet_rule.PacketRule.TheVariants.{OverPackets}
 
 abbrev pub quiet : Flow → FlowTold
 quiet f = record { flow = f; rule = None }
@@ -44,11 +46,20 @@ heard number f = heard_ahead (apart number (awaited f)) f
 
 -- one number more; more than seven can't be told apart
 abbrev pub grown : Bool → Flow → Flow
-grown is_sure f = record { is_sure = is_sure; next = min (f.next + 1) 255 % 8; pending = if nat_lt f.pending 7 then min (f.pending + 1) 255 else 7 }
+grown is_sure f = record {
+  is_sure = is_sure;
+  next = min (f.next + 1) 255 % 8;
+  pending = if nat_lt f.pending 7
+      then min (f.pending + 1) 255 else 7;
+}
 
 -- another number than the next (section 4.4.1.1): the numbers go on from there
 abbrev pub moved : ℕ → Flow → FlowTold
-moved number f = record { flow = record { is_sure = false; next = min (number + 1) 255 % 8; pending = 7 }; rule = Some (PacketSkips f.next) }
+moved number f = record {
+  flow = record { is_sure = false; next = min (number + 1) 255 % 8; pending = 7 };
+  rule = Some
+      (PacketSkips f.next);
+}
 
 -- at most so many are unacknowledged as the window says, where it is known (section 4.4.1.2); 0 says that it isn't
 abbrev pub sent : ℕ → ℕ → Flow → FlowTold

@@ -1,6 +1,7 @@
 -- The packet layers of both ends, as the frames of the link and their RESTARTs show them, and the rules on these.
 -- ITU-T X.25 (10/96), section 3.3. When packets are judged, and what is said behind a fault, is profile.
-use Rattle.std.specs.Prelude.{ℕ, ◌+◌, ◌-◌, ◌%◌, ◌==◌, nat_lt, Bool, true, false, not, ◌&&◌, ◌||◌, if◌then◌else◌, min, Some}
+use Rattle.std.specs.Prelude.{ℕ, ◌+◌, ◌-◌, ◌%◌, ◌==◌, nat_lt, Bool, true, false, not, ◌&&◌, ◌||◌, if◌then◌else◌, min}
+use Rattle.std.specs.Prelude.{Some}
 use Rattle.x25_packet_judge.specs.PacketRule.{first}
 use Rattle.x25_packet_judge.specs.Numbers.{apart}
 use Rattle.x25_packet_judge.specs.declared.layer.Restart.{Restart}
@@ -137,10 +138,17 @@ abbrev pub confirmed_again : Layer → Layer
 confirmed_again l = record l { again = l.again - 1 }
 
 abbrev pub found : Restart → Layer → Layer
-found restart l = record l { restart = restart; owed = 0; is_sure = true; is_counted = true; is_lost = false; is_stray = false }
+found restart l = record l {
+  restart = restart;
+  owed = 0;
+  is_sure = true;
+  is_counted = true;
+  is_lost = false;
+  is_stray = false;
+}
 
--- Behind a fault nothing is known, but how many RESTARTs of the other end it may still confirm, and whether an answer to its own may be on its
--- way, which the other end has sent where `is_answered`.
+-- Behind a fault nothing is known, but how many RESTARTs of the other end it may still confirm, and whether an answer
+-- to its own may be on its way, which the other end has sent where `is_answered`.
 abbrev pub given_up : Bool → Layer → Layer
 given_up is_answered l = record l {
   restart = Ready;
@@ -215,8 +223,8 @@ moves number t = if is_next number t then with_own (moved t.own) t else t
 abbrev pub asks : Layers → Layers
 asks t = begins t.own.asked (asks_more t)
 
--- UA again, behind frames that the other end sent since it is up: the packets of the first end are followed from an N(R) on, or from the UA
--- on where it sent nothing since the first one
+-- UA again, behind frames that the other end sent since it is up: the packets of the first end are followed from an
+-- N(R) on, or from the UA on where it sent nothing since the first one
 abbrev pub late : Layer → Layer
 late l = if l.is_fresh then begun (l.asked - 1) else unknown (l.asked - 1)
 
@@ -281,8 +289,8 @@ asks_again t = with_other (asked_again t.other) t
 abbrev pub is_awaiting : Layers → Bool
 is_awaiting t = is_asking t.own.restart && (are_counted t && nat_lt 0 t.other.owed)
 
--- One that is sent again while it waits is confirmed once or twice. One behind packets that were missed may be such a one; nothing is
--- said of channels until it is confirmed.
+-- One that is sent again while it waits is confirmed once or twice. One behind packets that were missed may be such a
+-- one; nothing is said of channels until it is confirmed.
 abbrev pub restarts : Layers → Layers
 restarts t =
     if are_lost t then goes_to Asking (with_other (owing true t.other) t)
@@ -312,8 +320,8 @@ answers_restart t = marks Ready t
 abbrev pub confirms_unseen : Layers → Layers
 confirms_unseen t = if are_counted t then strays (give_up (tells RestartUnasked t)) else opens t
 
--- Behind a fault it does where the RESTART that was sent last is the only one that may be confirmed, and no other answer to it may be on its
--- way.
+-- Behind a fault it does where the RESTART that was sent last is the only one that may be confirmed, and no other
+-- answer to it may be on its way.
 abbrev pub is_sure_answer : Layers → Bool
 is_sure_answer t = (is_asking t.other.restart && t.own.owed == 1) && (t.other.owed == 0 && not t.other.is_stray)
 

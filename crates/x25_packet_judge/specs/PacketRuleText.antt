@@ -1,7 +1,13 @@
 -- What is said of a rule of the packet layer that a packet breaks (profile).
 use Rattle.std.specs.Prelude.{ℕ, List, [], ◌++◌, Option, Some, None, codes, decimal}
 use Rattle.x25_packet_judge.specs.declared.packet_rule.PacketRule.{PacketRule}
-use Rattle.x25_packet_judge.specs.declared.packet_rule.PacketRule.TheVariants.{RestartAwaited, RestartUnasked, ClearAwaited, ClearUnasked, CallAgain, AcceptUnasked, NoCall, ResetAwaited, ResetUnasked, PacketUnsent, PacketFalls, PacketSkips, OverPackets, InterruptAgain, InterruptUnasked, TooManyOctets, NotFull, QualifierChanges}
+use Rattle.x25_packet_judge.specs.declared.packet_rule.PacketRule.TheVariants.{RestartAwaited, RestartUnasked}
+use Rattle.x25_packet_judge.specs.declared.packet_rule.PacketRule.TheVariants.{ClearAwaited, ClearUnasked, CallAgain}
+use Rattle.x25_packet_judge.specs.declared.packet_rule.PacketRule.TheVariants.{AcceptUnasked, NoCall, ResetAwaited}
+use Rattle.x25_packet_judge.specs.declared.packet_rule.PacketRule.TheVariants.{ResetUnasked, PacketUnsent, PacketFalls}
+use Rattle.x25_packet_judge.specs.declared.packet_rule.PacketRule.TheVariants.{PacketSkips, OverPackets, InterruptAgain}
+use Rattle.x25_packet_judge.specs.declared.packet_rule.PacketRule.TheVariants.{InterruptUnasked, TooManyOctets, NotFull}
+use Rattle.x25_packet_judge.specs.declared.packet_rule.PacketRule.TheVariants.{QualifierChanges}
 
 abbrev pub words_of : PacketRule → List ℕ
 words_of RestartAwaited = codes "nothing but RESTART goes before its confirmation (3.3.1)"

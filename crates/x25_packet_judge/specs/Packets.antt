@@ -1,9 +1,13 @@
 -- Both ends of a logical channel, and any packet of it. ITU-T X.25 (10/96), sections 4.1, 4.3 and 4.4.
 use Rattle.std.specs.Prelude.{Bool, true, false, not, ◌&&◌, length, if◌then◌else◌}
-use Rattle.x25_packet.specs.Packet.{PlainPacket, call, accept, clear, clear_conf, user_data, rr, rnr, interrupt, interrupt_conf, reset, reset_conf, restart, restart_conf}
-use Rattle.x25_packet_judge.specs.Pair.{with_own, breaks, is_known, clears, confirms_clear, starts, starts_early, is_awaiting, settles, finds, finds_call, hastens, clears_unknown, calls_unknown, calls, accepts, may_talk}
+use Rattle.x25_packet.specs.Packet.{PlainPacket, call, accept, clear, clear_conf, user_data, rr, rnr, interrupt}
+use Rattle.x25_packet.specs.Packet.{interrupt_conf, reset, reset_conf, restart, restart_conf}
+use Rattle.x25_packet_judge.specs.Pair.{with_own, breaks, is_known, clears, confirms_clear, starts, starts_early}
+use Rattle.x25_packet_judge.specs.Pair.{is_awaiting, settles, finds, finds_call, hastens, clears_unknown, calls_unknown}
+use Rattle.x25_packet_judge.specs.Pair.{calls, accepts, may_talk}
 use Rattle.x25_packet_judge.specs.Port as port
-use Rattle.x25_packet_judge.specs.Talking.{resets, confirms_reset, goes_on, hears, sends_data, interrupts, confirms_interrupt}
+use Rattle.x25_packet_judge.specs.Talking.{resets, confirms_reset, goes_on, hears, sends_data, interrupts}
+use Rattle.x25_packet_judge.specs.Talking.{confirms_interrupt}
 use Rattle.x25_packet_judge.specs.Terms.{said, usual}
 use Rattle.x25_packet_judge.specs.declared.packet_rule.PacketRule.TheVariants.{NoCall}
 use Rattle.x25_packet_judge.specs.declared.pair.Pair.{Pair}
@@ -50,7 +54,8 @@ sends_unknown (restart cause diagnostic) t = t
 sends_unknown restart_conf t = t
 sends_unknown packet t = settles (hastens t)
 
--- The first end sends a packet of the channel. One that goes before the confirmation of a CLEAR leaves open where the channel stands.
+-- The first end sends a packet of the channel. One that goes before the confirmation of a CLEAR leaves open where the
+-- channel stands.
 unfoldable pub sends : PlainPacket → Pair → Pair
 sends packet t =
     if not (is_known t) then sends_unknown packet t

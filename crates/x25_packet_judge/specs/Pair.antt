@@ -1,5 +1,5 @@
--- Both ends of a logical channel: setting up and clearing, and the rules on them. ITU-T X.25 (10/96), section 4.1; what is
--- said behind a fault is profile.
+-- Both ends of a logical channel: setting up and clearing, and the rules on them. ITU-T X.25 (10/96), section 4.1; what
+-- is said behind a fault is profile.
 use Rattle.std.specs.Prelude.{ℕ, ◌==◌, nat_lt, Bool, true, false, not, ◌&&◌, ◌||◌, if◌then◌else◌, List, Option, Some}
 use Rattle.x25_bits.specs.declared.role.Role.{Role}
 use Rattle.x25_bits.specs.declared.role.Role.TheVariants.{Dte, Dce}
@@ -7,7 +7,8 @@ use Rattle.x25_packet_judge.specs.PacketRule.{first}
 use Rattle.x25_packet_judge.specs.Port as port
 use Rattle.x25_packet_judge.specs.Terms.{said}
 use Rattle.x25_packet_judge.specs.declared.packet_rule.PacketRule.{PacketRule}
-use Rattle.x25_packet_judge.specs.declared.packet_rule.PacketRule.TheVariants.{ClearAwaited, ClearUnasked, CallAgain, AcceptUnasked}
+use Rattle.x25_packet_judge.specs.declared.packet_rule.PacketRule.TheVariants.{ClearAwaited, ClearUnasked, CallAgain}
+use Rattle.x25_packet_judge.specs.declared.packet_rule.PacketRule.TheVariants.{AcceptUnasked}
 use Rattle.x25_packet_judge.specs.declared.pair.Pair.{Pair}
 use Rattle.x25_packet_judge.specs.declared.port.Call.{Call}
 use Rattle.x25_packet_judge.specs.declared.port.Call.TheVariants.{Idle, Called, Calling, Collided, Answered, Open}
@@ -45,8 +46,8 @@ breaks rule t = doubts (tells (Some rule) t)
 abbrev pub is_known : Pair → Bool
 is_known t = t.own.is_known && t.other.is_known
 
--- Each end has sent as many CLEARs and confirmations as the other. Else what the first end sends is dropped: by the other end,
--- that has cleared, or has still to take this end's CLEAR.
+-- Each end has sent as many CLEARs and confirmations as the other. Else what the first end sends is dropped: by the
+-- other end, that has cleared, or has still to take this end's CLEAR.
 abbrev pub is_matched : Pair → Bool
 is_matched t = t.reaches && (t.own.owed == 0 && t.other.owed == 0)
 
@@ -57,7 +58,8 @@ is_together t = is_matched t && (t.own.talk.owed == 0 && t.other.talk.owed == 0)
 -- What the first end sent before a CLEAR or RESET, until the other end answers it; what it answers itself is past.
 abbrev pub keeps_former : Bool → Talk → Pair → Pair
 keeps_former is_known talk t =
-    with_other (port.with_former port.no_former t.other) (with_own (port.with_former (port.former_of is_known talk) t.own) t)
+    with_other (port.with_former port.no_former t.other)
+    (with_own (port.with_former (port.former_of is_known talk) t.own) t)
 
 -- ---- clearing (sections 4.1.7 to 4.1.9)
 
@@ -89,9 +91,11 @@ starts_early t = breaks ClearAwaited t
 abbrev pub reaching : Port → Pair → Pair
 reaching other t = if t.reaches then with_other other t else t
 
--- `owed` is the most CLEARs of the other end that an end may still confirm. A CLEAR that may be the answer to one waits for none.
+-- `owed` is the most CLEARs of the other end that an end may still confirm. A CLEAR that may be the answer to one waits
+-- for none.
 abbrev pub clears_unknown : Pair → Pair
-clears_unknown t = reaching (port.clearing false (port.owing_clear true t.other)) (with_own (port.clears_unknown (t.own.owed == 0) t.own) t)
+clears_unknown t = reaching (port.clearing false (port.owing_clear true t.other))
+    (with_own (port.clears_unknown (t.own.owed == 0) t.own) t)
 
 -- One that is repeated while it waits leaves open what its confirmations answer.
 abbrev pub clears : Pair → Pair
@@ -115,14 +119,16 @@ abbrev pub is_sure_answer : Pair → Bool
 is_sure_answer t = (t.other.is_clearing && t.own.owed == 1) && (t.other.owed == 0 && not t.other.is_stray)
 
 abbrev pub confirms_unknown : Pair → Pair
-confirms_unknown t = reaching (port.strayed (is_doubtful t) (port.clearing false t.other)) (with_own (port.owing_less (port.settled t.own)) t)
+confirms_unknown t = reaching (port.strayed (is_doubtful t) (port.clearing false t.other))
+    (with_own (port.owing_less (port.settled t.own)) t)
 
 -- its confirmation makes the channel known
 abbrev pub finds : Pair → Pair
 finds t = if is_sure_answer t then with_other (port.found t.other) (with_own port.fresh t) else confirms_unknown t
 
 abbrev pub is_up : Terms → Pair → Pair
-is_up terms t = with_other (port.set_up Answered false terms port.fresh) (with_own (port.set_up Open true terms port.fresh) t)
+is_up terms t = with_other (port.set_up Answered false terms port.fresh)
+    (with_own (port.set_up Open true terms port.fresh) t)
 
 -- .. and so does CALL ACCEPTED behind a CALL, where not both ends called, and no fault left open which CALL it is
 abbrev pub may_find_call : Pair → Bool

@@ -1,4 +1,5 @@
--- One end of a logical channel, as what it sent shows it. ITU-T X.25 (10/96), sections 4.1, 4.3 and 4.4; what is kept is profile.
+-- One end of a logical channel, as what it sent shows it. ITU-T X.25 (10/96), sections 4.1, 4.3 and 4.4; what is kept
+-- is profile.
 use Rattle.std.specs.Prelude.{ℕ, ◌+◌, ◌-◌, Bool, true, false, ◌&&◌, ◌||◌, if◌then◌else◌, min, List, replicate}
 use Rattle.x25_packet_judge.specs.Flow as flow
 use Rattle.x25_packet_judge.specs.Message.{octets_of}
@@ -149,10 +150,12 @@ abbrev pub with_former : Former → Port → Port
 with_former former p = record p { former = former }
 
 abbrev pub with_former_flow : Flow → Port → Port
-with_former_flow f p = with_former (record { is_known = p.former.is_known; flow = f; is_interrupting = p.former.is_interrupting }) p
+with_former_flow f p = with_former
+    (record { is_known = p.former.is_known; flow = f; is_interrupting = p.former.is_interrupting }) p
 
 abbrev pub confirmed_former : Port → Port
-confirmed_former p = with_former (record { is_known = p.former.is_known; flow = p.former.flow; is_interrupting = false }) p
+confirmed_former p = with_former
+    (record { is_known = p.former.is_known; flow = p.former.flow; is_interrupting = false }) p
 
 abbrev pub with_talk : Talk → Port → Port
 with_talk talk p = record p { talk = talk }
@@ -160,7 +163,8 @@ with_talk talk p = record p { talk = talk }
 -- what the called end sends, or what the calling end sends
 abbrev pub talk_of : Bool → Terms → Talk
 talk_of is_called terms =
-    if is_called then begun false 0 terms.called_window (octets_of terms.called_size) else begun false 0 terms.calling_window (octets_of terms.calling_size)
+    if is_called then begun false 0 terms.called_window (octets_of terms.called_size)
+    else begun false 0 terms.calling_window (octets_of terms.calling_size)
 
 abbrev pub set_up : Call → Bool → Terms → Port → Port
 set_up call is_called terms p = with_talk (talk_of is_called terms) (proposing terms (in_call call p))

@@ -1,12 +1,14 @@
--- Both ends of a logical channel: data, interrupts and resets, and the rules on them. ITU-T X.25 (10/96), sections 4.3 and 4.4; what
--- is said behind a fault is profile.
+-- Both ends of a logical channel: data, interrupts and resets, and the rules on them. ITU-T X.25 (10/96), sections 4.3
+-- and 4.4; what is said behind a fault is profile.
 use Rattle.std.specs.Prelude.{ℕ, ◌==◌, nat_lt, Bool, true, false, ◌&&◌, if◌then◌else◌, Some}
 use Rattle.x25_packet_judge.specs.Flow.{heard, sent}
 use Rattle.x25_packet_judge.specs.Message.{after, broken}
-use Rattle.x25_packet_judge.specs.Pair.{with_own, with_other, tells, breaks, unknown, is_matched, is_together, keeps_former}
+use Rattle.x25_packet_judge.specs.Pair.{with_own, with_other, tells, breaks, unknown, is_matched, is_together}
+use Rattle.x25_packet_judge.specs.Pair.{keeps_former}
 use Rattle.x25_packet_judge.specs.Port as port
 use Rattle.x25_packet_judge.specs.declared.flow.FlowTold.{FlowTold}
-use Rattle.x25_packet_judge.specs.declared.packet_rule.PacketRule.TheVariants.{ResetAwaited, ResetUnasked, InterruptAgain, InterruptUnasked}
+use Rattle.x25_packet_judge.specs.declared.packet_rule.PacketRule.TheVariants.{ResetAwaited, ResetUnasked}
+use Rattle.x25_packet_judge.specs.declared.packet_rule.PacketRule.TheVariants.{InterruptAgain, InterruptUnasked}
 use Rattle.x25_packet_judge.specs.declared.pair.Pair.{Pair}
 use Rattle.x25_packet_judge.specs.declared.port.Talk.{Talk}
 
@@ -21,7 +23,8 @@ with_other_talk talk t = with_other (port.with_talk talk t.other) t
 -- RESET or its confirmation
 abbrev pub marks_reset : Bool → Pair → Pair
 marks_reset is_resetting t = keeps_former (is_resetting && is_together t) t.own.talk
-    (with_own_talk (port.reset is_resetting t.own.talk) (with_other_talk (port.owing (is_matched t && t.own.talk.owed == 0) t.other.talk) t))
+    (with_own_talk (port.reset is_resetting t.own.talk) (with_other_talk (port.owing (is_matched t
+    && t.own.talk.owed == 0) t.other.talk) t))
 
 -- one that is repeated while it waits leaves open what its confirmations answer
 abbrev pub resets : Pair → Pair
@@ -47,8 +50,8 @@ of_own told t = tells told.rule (with_own_talk (port.with_flow told.flow t.own.t
 abbrev pub of_former : FlowTold → Pair → Pair
 of_former told t = tells told.rule (with_other (port.with_former_flow told.flow t.other) t)
 
--- A P(R) is about the other end's data packets; while its RESET or CLEAR is on the way, about those before, since the end confirms these
--- before it sends anything else.
+-- A P(R) is about the other end's data packets; while its RESET or CLEAR is on the way, about those before, since the
+-- end confirms these before it sends anything else.
 abbrev pub hears : ℕ → Pair → Pair
 hears number t =
     if is_together t then of_other (heard number t.other.talk.flow) t
@@ -60,7 +63,8 @@ numbers number t = of_own (sent t.own.talk.window number t.own.talk.flow) t
 
 abbrev pub carries : Bool → Bool → ℕ → Pair → Pair
 carries m q size t =
-    with_own_talk (port.with_message (after m q) t.own.talk) (tells (broken t.own.talk.most m q size t.own.talk.message) t)
+    with_own_talk (port.with_message (after m q) t.own.talk)
+    (tells (broken t.own.talk.most m q size t.own.talk.message) t)
 
 -- DATA, by the number of its octets
 abbrev pub sends_data : Bool → Bool → ℕ → ℕ → ℕ → Pair → Pair
@@ -75,6 +79,8 @@ interrupts t = if t.own.talk.is_interrupting
 
 abbrev pub confirms_interrupt : Pair → Pair
 confirms_interrupt t =
-    if is_together t then (if t.other.talk.is_interrupting then with_other_talk (port.interrupting false t.other.talk) t else breaks InterruptUnasked t)
-    else if t.other.former.is_known then (if t.other.former.is_interrupting then with_other (port.confirmed_former t.other) t else breaks InterruptUnasked t)
+    if is_together t then (if t.other.talk.is_interrupting then with_other_talk (port.interrupting false t.other.talk) t
+    else breaks InterruptUnasked t)
+    else if t.other.former.is_known then (if t.other.former.is_interrupting
+    then with_other (port.confirmed_former t.other) t else breaks InterruptUnasked t)
     else t

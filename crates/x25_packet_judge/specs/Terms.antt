@@ -14,12 +14,22 @@ usual = record { called_size = 7; calling_size = 7; called_window = 2; calling_w
 abbrev pub with_sizes : Option Directions → Terms → Terms
 with_sizes None t = t
 with_sizes (Some sizes) t =
-    record { called_size = sizes.called; calling_size = sizes.calling; called_window = t.called_window; calling_window = t.calling_window }
+    record {
+      called_size = sizes.called;
+      calling_size = sizes.calling;
+      called_window = t.called_window;
+      calling_window = t.calling_window;
+    }
 
 abbrev pub with_windows : Option Directions → Terms → Terms
 with_windows None t = t
 with_windows (Some windows) t =
-    record { called_size = t.called_size; calling_size = t.calling_size; called_window = windows.called; calling_window = windows.calling }
+    record {
+      called_size = t.called_size;
+      calling_size = t.calling_size;
+      called_window = windows.called;
+      calling_window = windows.calling;
+    }
 
 abbrev pub said_by : Result Facilities PacketError → Terms → Terms
 said_by (Ok facilities) t = with_windows facilities.window_size (with_sizes facilities.packet_size t)

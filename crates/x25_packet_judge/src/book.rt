@@ -22,8 +22,8 @@ pub struct Book {
     pub(crate) dce_ports: Ports,
 }
 
-/// What is told of a packet: the rule that it breaks, a channel that isn't judged from there on, of which 0 stands for all, and whether
-/// the packet was judged.
+/// What is told of a packet: the rule that it breaks, a channel that isn't judged from there on, of which 0 stands for
+/// all, and whether the packet was judged.
 #[derive(Clone, Copy)]
 pub struct Verdict {
     pub rule: Option<PacketRule>,
@@ -428,8 +428,10 @@ impl Book {
         octets: &[u8],
         is_broken: bool,
     ) -> Verdict
-        ensures book { self.new ≡ (definition.sends_info from long_data numbers.0 numbers.1 octets.now is_broken self.old).book }
-        ensures verdict { result ≡ (definition.sends_info from long_data numbers.0 numbers.1 octets.now is_broken self.old).verdict }
+        ensures book { self.new
+            ≡ (definition.sends_info from long_data numbers.0 numbers.1 octets.now is_broken self.old).book }
+        ensures verdict { result
+            ≡ (definition.sends_info from long_data numbers.0 numbers.1 octets.now is_broken self.old).verdict }
     {
         if is_broken {
             self.keep(from, self.layers(from).lost());
@@ -440,7 +442,8 @@ impl Book {
         }
     }
 
-    /// The end sends a frame, which breaks a rule of the link layer where `is_broken`; what is told of its packet is answered.
+    /// The end sends a frame, which breaks a rule of the link layer where `is_broken`; what is told of its packet is
+    /// answered.
     #[tactic(auto, unfolding(crate::specs::Book::sees))]
     pub fn sees(&mut self, from: Role, long_data: bool, frame: &Frame, is_broken: bool) -> Verdict
         ensures book { self.new ≡ (definition.sees from long_data (plain_frame frame.now) is_broken self.old).book }

@@ -13,7 +13,8 @@ pub(crate) enum Restart {
     Ready,
 }
 
-/// Whether an end's packets are followed: not yet; not until its next set-up of the link; or each, in the order of N(S).
+/// Whether an end's packets are followed: not yet; not until its next set-up of the link; or each, in the order of
+/// N(S).
 #[derive(Clone, Copy)]
 pub(crate) enum Track {
     Unseen,
@@ -34,7 +35,8 @@ pub(crate) struct Layer {
     /// How many SABMs and DISCs of the other end may still be answered.
     pub(crate) asked: u8,
     pub(crate) restart: Restart,
-    /// How many RESTARTs and confirmations the other end has sent more than this one; behind a fault, how many RESTARTs it may still confirm.
+    /// How many RESTARTs and confirmations the other end has sent more than this one; behind a fault, how many RESTARTs
+    /// it may still confirm.
     pub(crate) owed: u8,
     /// How many RESTARTs of the other end were sent again while they waited, and may be confirmed once more.
     pub(crate) again: u8,
@@ -656,7 +658,8 @@ impl Layers {
             .with_other(self.other.found(Restart::Asking))
     }
 
-    /// Whether behind a fault a confirmation answers the RESTART that was sent last, and nothing else can be the answer to it.
+    /// Whether behind a fault a confirmation answers the RESTART that was sent last, and nothing else can be the answer
+    /// to it.
     pub(crate) fn is_sure_answer(self) -> bool
         ensures { result ≡ definition.is_sure_answer self }
     {

@@ -2,7 +2,8 @@
 ghost use Rattle.std.specs.Prelude.{◌≡◌};
 ghost use Rattle.x25_packet_judge.specs.PacketRule as definition;
 
-/// A rule that a packet breaks, with what would have been right. ITU-T X.25 (10/96); the section is in the text of each.
+/// A rule that a packet breaks, with what would have been right. ITU-T X.25 (10/96); the section is in the text of
+/// each.
 ///
 /// Numbers are P(S) and P(R), data packets that are unacknowledged, and octets of user data.
 #[derive(Clone, Copy)]

@@ -6,8 +6,8 @@ use crate::flow::Flow;
 use crate::message::{Message, octets_of};
 use crate::terms::Terms;
 
-/// A call, as an end may know it: none; one from the other end; its own; both; its own, and accepted; or one in which it
-/// sends data.
+/// A call, as an end may know it: none; one from the other end; its own; both; its own, and accepted; or one in which
+/// it sends data.
 #[derive(Clone, Copy)]
 pub(crate) enum Call {
     Idle,
@@ -56,8 +56,8 @@ pub(crate) struct Port {
     pub(crate) is_noted: bool,
     /// CLEAR was sent, and nothing behind it yet.
     pub(crate) is_clearing: bool,
-    /// How many CLEARs and confirmations the other end has sent more than this one; where nothing is known, how many CLEARs it may still
-    /// confirm.
+    /// How many CLEARs and confirmations the other end has sent more than this one; where nothing is known, how many
+    /// CLEARs it may still confirm.
     pub(crate) owed: u8,
     pub(crate) call: Call,
     /// What is proposed.

@@ -1,5 +1,6 @@
 //! One end of each logical channel.
-ghost use Rattle.std.specs.Prelude.{◌≡◌, ◌≤◌, ◌%◌, [], IfOk, List, length, map, slice_index_or, slice_set, vec_capacity};
+ghost use Rattle.std.specs.Prelude.{◌≡◌, ◌≤◌, ◌%◌, [], IfOk, List, length, map, slice_index_or, slice_set};
+ghost use Rattle.std.specs.Prelude.{vec_capacity};
 ghost use Rattle.std.specs.List.{All};
 ghost use Rattle.x25_packet_judge.specs.Port.{all_alike, blank};
 ghost use Rattle.x25_packet_judge.specs.code.Slots.{IsOld, shown};
@@ -34,7 +35,8 @@ impl Model for Ports {
 
     ghost view = { λ p. map (shown p.fills p.usual) p.slots.items };
 
-    ghost invariant = { λ p. (length p.slots.items ≡ 4096) × (4096 ≤ vec_capacity p.slots) × All (IsOld p.fills) p.slots.items };
+    ghost invariant = { λ p. (length p.slots.items ≡ 4096) × (4096 ≤ vec_capacity p.slots)
+        × All (IsOld p.fills) p.slots.items };
 }
 
 /// Puts an end of each channel.

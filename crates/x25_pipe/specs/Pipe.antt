@@ -1,6 +1,8 @@
--- What one station behind a pipe does with what it reads (profile): each line is an event of this end, behind which it pulls what waits, and
--- it is answered by what both tell, entries and then frames, or by a refusal, and then by one mark.
-use Rattle.std.specs.Prelude.{ℕ, nat_le, Bool, true, false, List, [], ◌∷◌, ◌++◌, length, map, if◌then◌else◌, Option, Some, None, option_and_then, codes}
+-- What one station behind a pipe does with what it reads (profile): each line is an event of this end, behind which it
+-- pulls what waits, and it is answered by what both tell, entries and then frames, or by a refusal, and then by one
+-- mark.
+use Rattle.std.specs.Prelude.{ℕ, nat_le, Bool, true, false, List, [], ◌∷◌, ◌++◌, length, map, if◌then◌else◌, Option}
+use Rattle.std.specs.Prelude.{Some, None, option_and_then, codes}
 use Rattle.std.specs.List.{flat_map, list_any}
 use Rattle.x25_bits.specs.Role.{other}
 use Rattle.x25_bits.specs.declared.role.Role.{Role}
@@ -41,7 +43,8 @@ is_same Dce Dce = true
 abbrev pub only_of : Role → Role → Event → Option Event
 only_of end found event = if is_same end found then Some event else None
 
--- the events of a station alone; a line has nothing on it to deliver, lose or damage, and the other end isn't here to heal
+-- the events of a station alone; a line has nothing on it to deliver, lose or damage, and the other end isn't here to
+-- heal
 abbrev pub script_event : Role → PlainLine → Option Event
 script_event end (command at asked) = only_of end at (Asks (command_asked asked))
 script_event end (t1 at) = only_of end at Fires
@@ -67,11 +70,16 @@ event_in end line = if nat_le (length line) most_line then read_event end line (
 
 -- a step, and what is pulled behind it; where that is refused, as while the link isn't up, the step alone
 abbrev pub pulled_behind : Step → Outcome → Step
-pulled_behind step (Did pulls) = record { near = pulls.near; out = step.out ++ pulls.out; entries = step.entries ++ pulls.entries }
+pulled_behind step (Did pulls) = record {
+  near = pulls.near;
+  out = step.out ++ pulls.out;
+  entries = step.entries
+      ++ pulls.entries;
+}
 pulled_behind step (Refused e) = step
 
--- Behind each step the data packets that wait are pulled, so that none is left to wait where fewer than 8 packets wait in the link; where more
--- do, and behind a command that pulled them itself, none is pulled.
+-- Behind each step the data packets that wait are pulled, so that none is left to wait where fewer than 8 packets wait
+-- in the link; where more do, and behind a command that pulled them itself, none is pulled.
 abbrev pub and_pulls : Settings → Step → Step
 and_pulls c step = pulled_behind step (commands c step.near (Requests PullsAll))
 

@@ -1,5 +1,5 @@
-//! One station of X.25 behind a pipe: lines of a trace that come to it and lines of a script of its user are answered by what it
-//! does and by what its timer T1 does, over any readers and writers.
+//! One station of X.25 behind a pipe: lines of a trace that come to it and lines of a script of its user are answered
+//! by what it does and by what its timer T1 does, over any readers and writers.
 //!
 //! docs/MANUAL.md says how the lines are written. Profile.
 #![tactic(auto)]

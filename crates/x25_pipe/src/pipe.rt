@@ -41,7 +41,8 @@ fn is_memory(error: StationError) -> bool
 }
 
 impl Pipe {
-    ghost use Rattle.std.specs.Prelude.{[], ◌∷◌, ℕ, Bool, true, false, List, Option, Some, None, OnOk, OnErr, MatchResult, length, take};
+    ghost use Rattle.std.specs.Prelude.{[], ◌∷◌, ℕ, Bool, true, false, List, Option, Some, None, OnOk, OnErr};
+    ghost use Rattle.std.specs.Prelude.{MatchResult, length, take};
     ghost use Rattle.x25_console.specs.Commands.{command_asked};
     ghost use Rattle.x25_io.specs.HeldLine.{most_line};
     ghost use Rattle.x25_io.specs.code.MarksFaults.{MarksFaults};
@@ -52,7 +53,8 @@ impl Pipe {
     ghost use Rattle.x25_station.specs.Station.{Station as State, new_station};
     ghost use Rattle.x25_station.specs.Step.{Outcome};
     ghost use Rattle.x25_station.specs.laws.TimerLaw.{Asks, Comes, Event, Fires, timer as timer_of};
-    ghost use Rattle.x25_pipe.specs.Pipe.{asked_turn, event_turn, mark_turn, pulling_turn, sayings_text, standing_turn, trace_event, turn, turn_of};
+    ghost use Rattle.x25_pipe.specs.Pipe.{asked_turn, event_turn, mark_turn, pulling_turn, sayings_text, standing_turn};
+    ghost use Rattle.x25_pipe.specs.Pipe.{trace_event, turn, turn_of};
     ghost use Rattle.x25_pipe.specs.code.Stands.{IsError, IsStep, Stands, Stood, Turns, answer_told};
 
     /// A station that never was up, and nothing was told.
@@ -84,7 +86,8 @@ impl Pipe {
         ensures kept { OnOk result (W.is_marked writer.new ≡ W.is_marked writer.old) }
         ensures stands { (c : Settings) (old : Option (List ℕ)) (s : State) (told : List ℕ) (refused : Bool)
             → Stands c old (W.contents writer.old) self.old s told refused
-            → MatchResult result (λ _. Stands c old (W.contents writer.new) self.new s told refused) (λ _. AppendsPrefix old (W.contents writer.new) told) }
+            → MatchResult result (λ _. Stands c old (W.contents writer.new) self.new s told refused)
+            (λ _. AppendsPrefix old (W.contents writer.new) told) }
         ensures written { OnOk result (self.new.output ≡ []) }
         ensures is_refused { self.new.is_refused ≡ self.old.is_refused }
         ensures write { IfErr result (λ fault. fault ≡ Fault.Write) }
@@ -98,7 +101,8 @@ impl Pipe {
 
     /// Tells the mark of what T1 became, and writes what waits.
     fn mark<W: Sink>(&mut self, writer: &mut W) -> Result<(), Fault>
-        ensures turns { (c : Settings) (old : Option (List ℕ)) → Turns c old (W.contents writer.old) (W.contents writer.new)
+        ensures turns { (c : Settings) (old : Option (List ℕ))
+            → Turns c old (W.contents writer.old) (W.contents writer.new)
             self.old self.new result (mark_turn c self.old.step.timer) }
         ensures written { OnOk result (self.new.output ≡ []) }
         ensures faults { MarksFaults W.Sink writer.old writer.new result }
@@ -110,7 +114,8 @@ impl Pipe {
 
     /// The mark that comes before anything is read, or behind what changed nothing.
     pub(crate) fn mark_standing<W: Sink>(&mut self, writer: &mut W) -> Result<(), Fault>
-        ensures turns { (c : Settings) (old : Option (List ℕ)) → Turns c old (W.contents writer.old) (W.contents writer.new) self.old self.new result (standing_turn c) }
+        ensures turns { (c : Settings) (old : Option (List ℕ))
+            → Turns c old (W.contents writer.old) (W.contents writer.new) self.old self.new result (standing_turn c) }
         ensures written { OnOk result (self.new.output ≡ []) }
         ensures faults { MarksFaults W.Sink writer.old writer.new result }
     {
@@ -136,7 +141,8 @@ impl Pipe {
 
     /// Tells a step of the station: its entries, its frames and its mark.
     fn tell_step<W: Sink>(&mut self, writer: &mut W) -> Result<(), Fault>
-        ensures stood { (c : Settings) (old : Option (List ℕ)) (s : State) (o : Outcome) (told : List ℕ) (refused : Bool)
+        ensures stood { (c : Settings) (old : Option (List ℕ)) (s : State) (o : Outcome) (told : List ℕ)
+            (refused : Bool)
             → IsStep c self.old.station self.old.step o → self.old.end ≡ c.role
             → Tells old (W.contents writer.old) self.old.output told → self.old.is_refused ≡ refused
             → Stood c old (W.contents writer.new) self.new told refused result (turn_of c self.old.step.timer s o) }
@@ -149,8 +155,10 @@ impl Pipe {
 
     /// Pulls what waits behind a step of the station, and tells both.
     fn follow_up<W: Sink>(&mut self, writer: &mut W) -> Result<(), Fault>
-        ensures stood { (c : Settings) (old : Option (List ℕ)) (s : State) (event : Event) (o : Outcome) (told : List ℕ) (refused : Bool)
-            → IsStep c self.old.station self.old.step o → self.old.step.timer ≡ timer_of s event o → self.old.end ≡ c.role
+        ensures stood { (c : Settings) (old : Option (List ℕ)) (s : State) (event : Event) (o : Outcome) (told : List ℕ)
+            (refused : Bool)
+            → IsStep c self.old.station self.old.step o → self.old.step.timer ≡ timer_of s event o
+            → self.old.end ≡ c.role
             → Tells old (W.contents writer.old) self.old.output told → self.old.is_refused ≡ refused
             → Stood c old (W.contents writer.new) self.new told refused result (pulling_turn c s event o) }
         ensures written { OnOk result (self.new.output ≡ []) }
@@ -164,7 +172,8 @@ impl Pipe {
 
     /// Tells that an event is refused; want of memory is a fault.
     fn refuse<W: Sink>(&mut self, error: StationError, writer: &mut W) -> Result<(), Fault>
-        ensures stood { (c : Settings) (old : Option (List ℕ)) (s : State) (event : Event) (o : Outcome) (told : List ℕ) (refused : Bool)
+        ensures stood { (c : Settings) (old : Option (List ℕ)) (s : State) (event : Event) (o : Outcome) (told : List ℕ)
+            (refused : Bool)
             → Stands c old (W.contents writer.old) self.old s told refused → IsError error o
             → Stood c old (W.contents writer.new) self.new told refused result (pulling_turn c s event o) }
         ensures written { OnOk result (self.new.output ≡ []) }
@@ -180,7 +189,9 @@ impl Pipe {
 
     /// Tells that a line asks for nothing.
     pub(crate) fn read_nothing<W: Sink>(&mut self, writer: &mut W) -> Result<(), Fault>
-        ensures turns { (c : Settings) (old : Option (List ℕ)) → Turns c old (W.contents writer.old) (W.contents writer.new) self.old self.new result (λ s. asked_turn c s None) }
+        ensures turns { (c : Settings) (old : Option (List ℕ))
+            → Turns c old (W.contents writer.old) (W.contents writer.new) self.old self.new result
+            (λ s. asked_turn c s None) }
         ensures written { OnOk result (self.new.output ≡ []) }
         ensures faults { MarksFaults W.Sink writer.old writer.new result }
     {
@@ -192,7 +203,9 @@ impl Pipe {
     /// The first `count` octets of those read come.
     fn receive<W: Sink>(&mut self, count: usize, writer: &mut W) -> Result<(), Fault>
         requires { count ≤ length self.old.octets }
-        ensures turns { (c : Settings) (old : Option (List ℕ)) → Turns c old (W.contents writer.old) (W.contents writer.new) self.old self.new result (λ s. event_turn c s (Comes (take count self.old.octets))) }
+        ensures turns { (c : Settings) (old : Option (List ℕ))
+            → Turns c old (W.contents writer.old) (W.contents writer.new) self.old self.new result
+            (λ s. event_turn c s (Comes (take count self.old.octets))) }
         ensures written { OnOk result (self.new.output ≡ []) }
         ensures faults { MarksFaults W.Sink writer.old writer.new result }
     {
@@ -206,7 +219,8 @@ impl Pipe {
     /// The first `count` octets of those read were sent by an end.
     fn hear<W: Sink>(&mut self, from: Role, count: usize, writer: &mut W) -> Result<(), Fault>
         requires { count ≤ length self.old.octets }
-        ensures turns { (c : Settings) (old : Option (List ℕ)) → Turns c old (W.contents writer.old) (W.contents writer.new) self.old self.new result
+        ensures turns { (c : Settings) (old : Option (List ℕ))
+            → Turns c old (W.contents writer.old) (W.contents writer.new) self.old self.new result
             (λ s. asked_turn c s (trace_event self.old.end (from, take count self.old.octets))) }
         ensures written { OnOk result (self.new.output ≡ []) }
         ensures faults { MarksFaults W.Sink writer.old writer.new result }
@@ -219,7 +233,8 @@ impl Pipe {
 
     /// The user of this end asks for something.
     fn ask<W: Sink>(&mut self, command: Command, writer: &mut W) -> Result<(), Fault>
-        ensures turns { (c : Settings) (old : Option (List ℕ)) → Turns c old (W.contents writer.old) (W.contents writer.new) self.old self.new result
+        ensures turns { (c : Settings) (old : Option (List ℕ))
+            → Turns c old (W.contents writer.old) (W.contents writer.new) self.old self.new result
             (λ s. event_turn c s (Asks (command_asked (plain_command command.entry)))) }
         ensures written { OnOk result (self.new.output ≡ []) }
         ensures faults { MarksFaults W.Sink writer.old writer.new result }
@@ -234,7 +249,9 @@ impl Pipe {
 
     /// T1 runs out.
     fn fire<W: Sink>(&mut self, writer: &mut W) -> Result<(), Fault>
-        ensures turns { (c : Settings) (old : Option (List ℕ)) → Turns c old (W.contents writer.old) (W.contents writer.new) self.old self.new result (λ s. event_turn c s Fires) }
+        ensures turns { (c : Settings) (old : Option (List ℕ))
+            → Turns c old (W.contents writer.old) (W.contents writer.new) self.old self.new result
+            (λ s. event_turn c s Fires) }
         ensures written { OnOk result (self.new.output ≡ []) }
         ensures faults { MarksFaults W.Sink writer.old writer.new result }
     {
@@ -246,7 +263,8 @@ impl Pipe {
 
     /// What a line asks for happens.
     pub(crate) fn obey<W: Sink>(&mut self, line: &[u8], writer: &mut W) -> Result<(), Fault>
-        ensures turns { length line.now ≤ most_line → (c : Settings) (old : Option (List ℕ)) → Turns c old (W.contents writer.old) (W.contents writer.new) self.old self.new result (turn c line.now) }
+        ensures turns { length line.now ≤ most_line → (c : Settings) (old : Option (List ℕ))
+            → Turns c old (W.contents writer.old) (W.contents writer.new) self.old self.new result (turn c line.now) }
         ensures written { OnOk result (self.new.output ≡ []) }
         ensures faults { MarksFaults W.Sink writer.old writer.new result }
     {
@@ -275,7 +293,8 @@ impl<W: Sink> ScriptTaker<W> for Pipe {
     type Answer = Result<(), Fault>;
 
     ghost gives = { λ p was q is result asked. ((c : Settings) (old : Option (List ℕ))
-        → Turns c old (W.contents was) (W.contents is) p q result (λ s. asked_turn c s (option_and_then (script_event p.end) asked)))
+        → Turns c old (W.contents was) (W.contents is) p q result
+        (λ s. asked_turn c s (option_and_then (script_event p.end) asked)))
         × OnOk result (q.output ≡ []) × MarksFaults W.Sink was is result };
 
     fn command(&mut self, end: Role, asked: Command, writer: &mut W) -> Result<(), Fault> {

@@ -78,7 +78,8 @@ pub(crate) fn tell_mark<W: Sink>(
     output: &mut Output,
     writer: &mut W,
 ) -> Result<(), Fault>
-    ensures tells { (end : Role) → TellsMore result (W.contents writer.old) (W.contents writer.new) output.old output.new
+    ensures tells { (end : Role)
+        → TellsMore result (W.contents writer.old) (W.contents writer.new) output.old output.new
         (saying_line end (marks timer is_idle)) }
     ensures faults { MarksFaults W.Sink writer.old writer.new result }
 {

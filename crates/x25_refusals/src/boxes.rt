@@ -1,4 +1,5 @@
-//! Values in a place of their own: a body that holds the box lets go of it by one call, and not of each part of the value.
+//! Values in a place of their own: a body that holds the box lets go of it by one call, and not of each part of the
+//! value.
 use std::alloc::Global;
 
 /// A value in a place of its own. Memory that is refused is asked for again; there is none where it is refused twice.

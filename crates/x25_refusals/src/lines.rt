@@ -1,4 +1,5 @@
-//! Lines that are shown, in memory whose refused growths are asked for again: one refusal doesn't end the player itself.
+//! Lines that are shown, in memory whose refused growths are asked for again: one refusal doesn't end the player
+//! itself.
 use std::alloc::{AllocError, Global};
 use x25_station::{Entry, Role};
 use x25_text::Text;

@@ -1,5 +1,5 @@
-//! Two links, and the lines between them. What a user sends is handed down as one packet by `room` and `put`, as the packet layer
-//! hands packets down.
+//! Two links, and the lines between them. What a user sends is handed down as one packet by `room` and `put`, as the
+//! packet layer hands packets down.
 ghost use Rattle.std.specs.Prelude.{◌≤◌, vec_len};
 ghost use Rattle.x25_link.specs.code.FitsLink.{limit_of};
 

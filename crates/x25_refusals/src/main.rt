@@ -1,9 +1,9 @@
-//! `x25_refusals`: scripts that are played at two links, at two stations and at a world, by a player that goes on where a call is
-//! refused memory: the call has to leave all as it was, and is made again.
+//! `x25_refusals`: scripts that are played at two links, at two stations and at a world, by a player that goes on where
+//! a call is refused memory: the call has to leave all as it was, and is made again.
 //!
-//! It prints what each script shows, and how often each kind of call was made and refused. `tests/refused.py` runs it with each
-//! allocation refused in turn: but for the refusals, it has to print the same. Exit status: 1 where a call that was refused changed
-//! something, or the player can't go on.
+//! It prints what each script shows, and how often each kind of call was made and refused. `tests/refused.py` runs it
+//! with each allocation refused in turn: but for the refusals, it has to print the same. Exit status: 1 where a call
+//! that was refused changed something, or the player can't go on.
 #![tactic(auto)]
 
 mod boxes;

@@ -1,4 +1,5 @@
-//! A script that is played at two ends. An event that is refused memory has to leave all as it was, and then happens again.
+//! A script that is played at two ends. An event that is refused memory has to leave all as it was, and then happens
+//! again.
 use crate::counts::{Counts, Kind};
 use crate::ends::{Ends, Outcome, Seen, Trouble};
 use crate::lines::Lines;

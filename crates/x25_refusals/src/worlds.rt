@@ -151,7 +151,8 @@ impl Worlds {
         Ok(())
     }
 
-    /// The line is good for a moment, and what is told is shown. Where memory is refused, what was told stands, and the line is good again.
+    /// The line is good for a moment, and what is told is shown. Where memory is refused, what was told stands, and the
+    /// line is good again.
     pub(crate) fn heals(&mut self, counts: &mut Counts, shown: &mut Lines) -> Result<(), Trouble> {
         counts.called(Kind::Heal);
         let is_healed = heal(&mut self.world, &mut self.healed).is_ok();

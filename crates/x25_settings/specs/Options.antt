@@ -61,15 +61,71 @@ chosen_flag c Tap = c.tap
 chosen_flag c Strict = c.strict
 
 abbrev pub with_flag : Chosen → Flag → Chosen
-with_flag c Down = record { down = true; long = c.long; tap = c.tap; strict = c.strict; k = c.k; n2 = c.n2; channels = c.channels }
-with_flag c Long = record { down = c.down; long = true; tap = c.tap; strict = c.strict; k = c.k; n2 = c.n2; channels = c.channels }
-with_flag c Tap = record { down = c.down; long = c.long; tap = true; strict = c.strict; k = c.k; n2 = c.n2; channels = c.channels }
-with_flag c Strict = record { down = c.down; long = c.long; tap = c.tap; strict = true; k = c.k; n2 = c.n2; channels = c.channels }
+with_flag c Down = record {
+  down = true;
+  long = c.long;
+  tap = c.tap;
+  strict = c.strict;
+  k = c.k;
+  n2 = c.n2;
+  channels = c.channels;
+}
+with_flag c Long = record {
+  down = c.down;
+  long = true;
+  tap = c.tap;
+  strict = c.strict;
+  k = c.k;
+  n2 = c.n2;
+  channels = c.channels;
+}
+with_flag c Tap = record {
+  down = c.down;
+  long = c.long;
+  tap = true;
+  strict = c.strict;
+  k = c.k;
+  n2 = c.n2;
+  channels = c.channels;
+}
+with_flag c Strict = record {
+  down = c.down;
+  long = c.long;
+  tap = c.tap;
+  strict = true;
+  k = c.k;
+  n2 = c.n2;
+  channels = c.channels;
+}
 
 abbrev pub with_number : Chosen → Numbered → ℕ → Chosen
-with_number c Window n = record { down = c.down; long = c.long; tap = c.tap; strict = c.strict; k = Some n; n2 = c.n2; channels = c.channels }
-with_number c Tries n = record { down = c.down; long = c.long; tap = c.tap; strict = c.strict; k = c.k; n2 = Some n; channels = c.channels }
-with_number c Channels n = record { down = c.down; long = c.long; tap = c.tap; strict = c.strict; k = c.k; n2 = c.n2; channels = Some n }
+with_number c Window n = record {
+  down = c.down;
+  long = c.long;
+  tap = c.tap;
+  strict = c.strict;
+  k = Some n;
+  n2 = c.n2;
+  channels = c.channels;
+}
+with_number c Tries n = record {
+  down = c.down;
+  long = c.long;
+  tap = c.tap;
+  strict = c.strict;
+  k = c.k;
+  n2 = Some n;
+  channels = c.channels;
+}
+with_number c Channels n = record {
+  down = c.down;
+  long = c.long;
+  tap = c.tap;
+  strict = c.strict;
+  k = c.k;
+  n2 = c.n2;
+  channels = Some n;
+}
 
 abbrev pub with_choice : Chosen → Choice → Chosen
 with_choice c (flag x) = with_flag c x
@@ -93,10 +149,23 @@ chosen_or_default c x = unwrap_or (chosen_number c x) (default_of x)
 
 -- the defaults for the rest
 abbrev pub settled : Chosen → Simulation
-settled c = record { down = c.down; long = c.long; tap = c.tap; k = chosen_or_default c Window; n2 = chosen_or_default c Tries; channels = chosen_or_default c Channels }
+settled c = record {
+  down = c.down;
+  long = c.long;
+  tap = c.tap;
+  k = chosen_or_default c Window;
+  n2 = chosen_or_default c Tries;
+  channels = chosen_or_default c Channels;
+}
 
 abbrev pub settled_at : End → Chosen → Place
-settled_at end c = record { end = end; long = c.long; k = chosen_or_default c Window; n2 = chosen_or_default c Tries; channels = chosen_or_default c Channels }
+settled_at end c = record {
+  end = end;
+  long = c.long;
+  k = chosen_or_default c Window;
+  n2 = chosen_or_default c Tries;
+  channels = chosen_or_default c Channels;
+}
 
 abbrev pub judging_in : Chosen → Judging
 judging_in c = record { long = c.long; strict = c.strict; k = chosen_or_default c Window }

@@ -10,7 +10,8 @@ abbrev pub DecodeWords : Bool → Bool → List (List ℕ) → Type 0
 DecodeWords false false words = words ≡ []
 DecodeWords true false words = words ≡ codes "--long" ∷ []
 DecodeWords false true words = words ≡ codes "--wide" ∷ []
-DecodeWords true true words = (words ≡ codes "--long" ∷ codes "--wide" ∷ []) ⊎ (words ≡ codes "--wide" ∷ codes "--long" ∷ [])
+DecodeWords true true words = (words ≡ codes "--long" ∷ codes "--wide" ∷ [])
+    ⊎ (words ≡ codes "--wide" ∷ codes "--long" ∷ [])
 
 -- the words are plain, and they say the task
 abbrev pub Say : List (List ℕ) → Task → Type 0

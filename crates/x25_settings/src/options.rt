@@ -1,7 +1,8 @@
 //! The words behind `sim`, `station`, `judge` and `deframe`.
 ghost use Rattle.std.specs.Prelude.{◌≡◌, ◌<◌, ◌↔◌, ◌∷◌, [], IfSome, MatchOption, IsTrue, decimal, map, length};
 ghost use Rattle.std.specs.Str.{bytes_eq};
-ghost use Rattle.x25_settings.specs.Options.Choosing.{chosen_in, end_in, flag_in, judge_in, judging_of, number_in, simulated};
+ghost use Rattle.x25_settings.specs.Options.Choosing.{chosen_in, end_in, flag_in, judge_in, judging_of, number_in};
+ghost use Rattle.x25_settings.specs.Options.Choosing.{simulated};
 ghost use Rattle.x25_settings.specs.Options.Choosing.{numbered_in, placed, put_flag, put_number, simulation_in};
 ghost use Rattle.x25_settings.specs.Options.Choosing.{station_in};
 ghost use Rattle.x25_settings.specs.Options.{default_of, most_of, nothing, settled};

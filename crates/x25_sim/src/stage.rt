@@ -259,7 +259,8 @@ impl Stage {
     ) -> Result<(), Fault>
         ensures turns { (cfg : Settings) (tap : Bool) (old : Option (List ℕ))
             → Turns cfg tap old (W.contents writer.old) (W.contents writer.new) self.old self.new result
-            (λ w. and_then (λ v. and_then (tried cfg tap (event_of second.entry)) (tried cfg tap (event_of first.entry) v))
+            (λ w. and_then (λ v. and_then (tried cfg tap (event_of second.entry))
+            (tried cfg tap (event_of first.entry) v))
             (drained cfg tap most_times w)) }
         ensures faults { MarksFaults W.Sink writer.old writer.new result }
     {

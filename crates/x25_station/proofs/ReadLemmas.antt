@@ -12,7 +12,8 @@ use Rattle.x25_layer.specs.Layer.{LayerSettings, Layer, LayerAnswer, is_channel,
 use Rattle.x25_layer.specs.Calls.{LayerRequest, Asks, Dials, Restarts, PullsAll, LayerOutcome, Accepted, Declined, highest_free, lowest_free, first_of, free_channel, where_room, if_at_once, puts_at_once, outcome_on, dialled, outcome_ready, outcome_in, layer_outcome, layer_pulled}
 use Rattle.x25_layer.specs.declared.error.LayerError.TheVariants as error
 use Rattle.x25_layer.specs.laws.TwoLayers.{End, TwoLayers, Move, Requests, Pulls, HandsUp, GoesDown, Event, requested, pulled_in, handed_up, moves_in, moves, turned, settings_of, happens, run, started, start}
-use Rattle.x25_station.specs.laws.ReadLaw.{AreReadable, RequestsOctets, MovesOctets, BringOctets, PutsAreReadable}
+use Rattle.x25_layer.specs.laws.PeerJoined.{Joined, our_end, Happens, Ours, Does, Hears, HearsChannel}
+use Rattle.x25_station.specs.laws.ReadLaw.{BringsOctets, IsReachedByOctets, at_start, goes_on, PutsBesidePeersAreReadable, AreReadable, RequestsOctets, MovesOctets, BringOctets, PutsAreReadable}
 use Rattle.x25_station.proofs.FieldLemmas.{Fits, IsOn, moved_fits, moved_on, readable}
 use Rattle.x25_station.proofs.CircuitLemmas.{Agreed, CircuitFits, MayGive, AnswerFits, answers_fit, OutcomeFits, outcome_fits, PulledFits, pulled_fits}
 
@@ -273,3 +274,20 @@ pub puts_are_readable : ReadsWhatIsSpelled → Agreed → PutsAreReadable
 puts_are_readable reads laws long_data n few events octets =
     let f : WorldFits long_data (run long_data n events (start long_data n)) = run_fits long_data laws n few events (start long_data n) octets (start_fits long_data n) in
     (all_readable long_data reads (run long_data n events (start long_data n)).near.given f.near.given, all_readable long_data reads (run long_data n events (start long_data n)).far.given f.far.given)
+
+-- ---- a layer beside any peer
+
+happens_near : (long_data : Bool) → Agreed → (r : Role) (channels : ℕ) → channels ≤ 16 → (w v : Joined) → (h : Happens r long_data channels w v) → BringsOctets h → EndFits long_data w.near → EndFits long_data v.near
+happens_near long_data laws r channels few w v (Ours move stays) octets f =
+    (moves_fit long_data laws (settings_of r long_data channels) refl (our_end w) move few octets (record { near = f; far = f })).near
+happens_near long_data laws r channels few w v (Does deed p may is at) octets f = f
+happens_near long_data laws r channels few w v (Hears p rest packets front answers) octets f = f
+happens_near long_data laws r channels few w v (HearsChannel y passed p rest packets live has apart front answers) octets f = f
+
+reached_near : (long_data : Bool) → Agreed → (r : Role) (channels : ℕ) → channels ≤ 16 → (w : Joined) → IsReachedByOctets r long_data channels w → EndFits long_data w.near
+reached_near long_data laws Dte channels few w at_start = started_fits long_data (settings_of Dte long_data channels) (omega arith)
+reached_near long_data laws Dce channels few w at_start = started_fits long_data (settings_of Dce long_data channels) (omega arith)
+reached_near long_data laws r channels few w (goes_on v u h event octets) = happens_near long_data laws r channels few v w event octets (reached_near long_data laws r channels few v h)
+
+pub puts_beside_peers : ReadsWhatIsSpelled → Agreed → PutsBesidePeersAreReadable
+puts_beside_peers reads laws r long_data channels few w reached = all_readable long_data reads w.near.given (reached_near long_data laws r channels few w reached).given

@@ -12,8 +12,8 @@ pub data Command : Type 0 where
   Connects : Command
   Disconnects : Command
 
--- A call takes a free channel; the others name theirs. Where no packet sizes and windows are named, a call proposes the defaults, and
--- an acceptance takes what is proposed.
+-- A call takes a free channel; the others name theirs. Where no packet sizes and windows are named, a call proposes the
+-- defaults, and an acceptance takes what is proposed.
 abbrev pub command_of : Cmd → Command
 command_of (code.Call called calling user) = Requests (Dials called.now calling.now user.now default_params)
 command_of (code.CallWith called calling user params) = Requests (Dials called.now calling.now user.now params)

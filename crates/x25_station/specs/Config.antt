@@ -8,8 +8,8 @@ use Rattle.x25_station.specs.declared.config.Cfg.{Cfg}
 use Rattle.x25_station.specs.declared.error.StationError.{StationError}
 use Rattle.x25_station.specs.declared.error.StationError.TheVariants as error
 
--- which end it is, k and N2 of the link (sections 2.4.8.6 and 2.4.8.4), how many channels are configured, and whether the user data of a
--- CALL may be long
+-- which end it is, k and N2 of the link (sections 2.4.8.6 and 2.4.8.4), how many channels are configured, and whether
+-- the user data of a CALL may be long
 pub record Settings : Type 0 where
   pub role : Role
   pub window : ℕ
@@ -18,11 +18,18 @@ pub record Settings : Type 0 where
   pub long_data : Bool
 
 abbrev pub settings_from : Role → Cfg → Settings
-settings_from role cfg = record { role = role; window = cfg.k; retries = cfg.n2; channels = cfg.channels; long_data = cfg.long_data }
+settings_from role cfg = record {
+  role = role;
+  window = cfg.k;
+  retries = cfg.n2;
+  channels = cfg.channels;
+  long_data = cfg.long_data;
+}
 
 -- k is 1 to 7, N2 1 to 255, and there are 1 to 16 channels
 abbrev pub config_refusal : Cfg → Option StationError
-config_refusal cfg = if nat_le 1 cfg.k && (nat_le cfg.k 7 && (nat_le 1 cfg.n2 && (nat_le 1 cfg.channels && nat_le cfg.channels 16))) then None else Some error.BadConfig
+config_refusal cfg = if nat_le 1 cfg.k && (nat_le cfg.k 7
+    && (nat_le 1 cfg.n2 && (nat_le 1 cfg.channels && nat_le cfg.channels 16))) then None else Some error.BadConfig
 
 -- N1 is 4,099 octets: the longest data packet, with its header of three octets
 abbrev pub longest_packet : ℕ

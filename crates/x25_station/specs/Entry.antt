@@ -1,4 +1,5 @@
--- The entries of the transcript of a station (profile): what its user asked, what the link noted, and what the packet layer told.
+-- The entries of the transcript of a station (profile): what its user asked, what the link noted, and what the packet
+-- layer told.
 use Rattle.std.specs.Prelude.{ℕ, Bool, true, false, List, [], ◌∷◌, ◌++◌, Option, Some, None}
 use Rattle.x25_link.specs.declared.phase.Reason.{Reason}
 use Rattle.x25_link.specs.declared.phase.Notes.{Notes}
@@ -53,7 +54,8 @@ of_channels (e ∷ entries) = of_channel e ∷ of_channels entries
 
 abbrev pub station_asked : LayerSettings → Layer → Layer → LayerRequest → List StationEntry
 station_asked c l next (Asks h request) = of_channels (entries_asked c l next (Asks h request))
-station_asked c l next (Dials called calling user params) = of_channels (entries_asked c l next (Dials called calling user params))
+station_asked c l next (Dials called calling user params) = of_channels
+    (entries_asked c l next (Dials called calling user params))
 station_asked c l next Restarts = restart_asked ∷ []
 station_asked c l next PullsAll = []
 

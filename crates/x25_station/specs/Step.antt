@@ -1,5 +1,6 @@
--- Each call of a station: when it is refused, and what it does. A call of the link is a step of the link, and then what the layer does at
--- what that hands up or notes; a command to the layer is the layer's call. What the layer puts is handed down to the link in the same step.
+-- Each call of a station: when it is refused, and what it does. A call of the link is a step of the link, and then what
+-- the layer does at what that hands up or notes; a command to the layer is the layer's call. What the layer puts is
+-- handed down to the link in the same step.
 use Rattle.std.specs.Prelude.{ℕ, ◌==◌, Bool, true, false, ◌&&◌, if◌then◌else◌, List, [], ◌∷◌, ◌++◌, Option, Some, None}
 use Rattle.x25_packet.specs.Reading.{packet_of}
 use Rattle.x25_frame.specs.Frame.{PlainFrame}
@@ -8,7 +9,8 @@ use Rattle.x25_link.specs.declared.error.LinkError.{LinkError}
 use Rattle.x25_link.specs.declared.phase.Reason.{Reason}
 use Rattle.x25_link.specs.Station.{LinkStation, Side, is_up}
 use Rattle.x25_link.specs.Hearing.{Step as LinkStep}
-use Rattle.x25_link.specs.Link.{alone, take_step, timer_refusal, timer_step, connect_refusal, connect_step, disconnect_refusal, disconnect_step, abandon_step}
+use Rattle.x25_link.specs.Link.{alone, take_step, timer_refusal, timer_step, connect_refusal, connect_step}
+use Rattle.x25_link.specs.Link.{disconnect_refusal, disconnect_step, abandon_step}
 use Rattle.x25_layer.specs.Layer.{LayerSettings, Layer, LayerAnswer, rested}
 use Rattle.x25_layer.specs.Calls.{LayerRequest, LayerOutcome, Accepted, Declined, layer_outcome}
 use Rattle.x25_layer.specs.code.FitsLayer.{is_full}
@@ -17,7 +19,8 @@ use Rattle.x25_station.specs.declared.error.StationError.{StationError}
 use Rattle.x25_station.specs.declared.error.StationError.TheVariants as error
 use Rattle.x25_station.specs.Config.{Settings, link_settings, layer_settings}
 use Rattle.x25_station.specs.Command.{Command, Requests, Connects, Disconnects}
-use Rattle.x25_station.specs.Entry.{StationEntry, connect_asked, disconnect_asked, entries_noted, station_told, station_asked}
+use Rattle.x25_station.specs.Entry.{StationEntry, connect_asked, disconnect_asked, entries_noted, station_told}
+use Rattle.x25_station.specs.Entry.{station_asked}
 use Rattle.x25_station.specs.Station.{Station, all_put, view_of}
 
 -- the station after a step, the frames to send, in order, and the entries of the transcript
@@ -47,7 +50,8 @@ abbrev pub layer_down : Layer → Option Reason → Layer
 layer_down l None = l
 layer_down l (Some reason) = rested l
 
--- LinkDown; then LinkUp; else the packet that is handed up. Where there is none of these nothing is asked of the layer, so nothing is pulled.
+-- LinkDown; then LinkUp; else the packet that is handed up. Where there is none of these nothing is asked of the layer,
+-- so nothing is pulled.
 abbrev pub layer_at : LinkView → LayerSettings → Layer → Option (List ℕ) → Option Reason → Bool → Putting
 layer_at link c l packet down true = (comes_up link c).step
 layer_at link c l packet (Some reason) false = rests (rested l)
@@ -71,7 +75,8 @@ entries_heard c l None None false = []
 -- a step of the link, and then the layer
 abbrev pub follows : Settings → Layer → LinkStep → Step
 follows c l k =
-    with_puts c k.side (layer_at (view_of (link_settings c) k.side.near) (layer_settings c) l k.packet k.notes.down k.notes.up)
+    with_puts c k.side (layer_at (view_of (link_settings c) k.side.near)
+    (layer_settings c) l k.packet k.notes.down k.notes.up)
     (entries_noted k.notes ++ entries_heard (layer_settings c) l k.packet k.notes.down k.notes.up)
 
 -- ---- connect, disconnect, and timer T1: refused as the link's
@@ -92,10 +97,12 @@ led_by entries step = record { near = step.near; out = step.out; entries = entri
 
 -- connect as a command, which has an entry
 abbrev pub connects_asked : Settings → Station → Outcome
-connects_asked c s = unless (connect_refusal s.link.phase) (led_by (connect_asked ∷ []) (follows c s.layer (connect_step (link_settings c) s.link)))
+connects_asked c s = unless (connect_refusal s.link.phase)
+    (led_by (connect_asked ∷ []) (follows c s.layer (connect_step (link_settings c) s.link)))
 
 abbrev pub disconnects : Settings → Station → Outcome
-disconnects c s = unless (disconnect_refusal s.link.phase) (led_by (disconnect_asked ∷ []) (follows c s.layer (disconnect_step (link_settings c) s.link)))
+disconnects c s = unless (disconnect_refusal s.link.phase)
+    (led_by (disconnect_asked ∷ []) (follows c s.layer (disconnect_step (link_settings c) s.link)))
 
 -- ---- octets that come
 
@@ -104,7 +111,8 @@ abbrev pub abandons : Settings → Station → Bool
 abandons c s = is_up s.link.phase && is_full (layer_settings c) s.layer
 
 abbrev pub link_receives : Settings → Station → List ℕ → LinkStep
-link_receives c s octets = if abandons c s then abandon_step (link_settings c) s.link else take_step (link_settings c) octets s.link
+link_receives c s octets = if abandons c s then abandon_step (link_settings c) s.link
+    else take_step (link_settings c) octets s.link
 
 abbrev pub receives : Settings → Station → List ℕ → Step
 receives c s octets = follows c s.layer (link_receives c s octets)
@@ -122,7 +130,8 @@ did c t entries (Refuses e) = Refused (error.Layer e)
 
 abbrev pub requests_of : Settings → LinkStation → Layer → LinkView → LayerRequest → Outcome
 requests_of c link l view request =
-    did c (alone link) (entries_of_outcome (layer_settings c) l request (layer_outcome (layer_settings c) (view.waits [] == 256) l request)) (calls view (layer_settings c) l request)
+    did c (alone link) (entries_of_outcome (layer_settings c) l request
+    (layer_outcome (layer_settings c) (view.waits [] == 256) l request)) (calls view (layer_settings c) l request)
 
 abbrev pub requests : Settings → Station → LayerRequest → Outcome
 requests c s request = requests_of c s.link s.layer (view_of (link_settings c) s.link) request

@@ -1,4 +1,4 @@
--- What becomes of timer T1 at a step (sections 2.4.4.1, 2.4.5.6 and 2.4.5.9): it is off behind it, begins anew, or goes
+-- What becomes of timer T1 at a step (sections 2.4.4.1, 2.4.5.5 and 2.4.5.9): it is off behind it, begins anew, or goes
 -- on.
 use Rattle.std.specs.Prelude.{◌%◌, ◌==◌, Bool, true, false, not, ◌||◌, List, [], ◌∷◌}
 use Rattle.x25_link.specs.Station.{LinkStation}

@@ -53,10 +53,12 @@ fn copied_text(alloc: Global, text: &str) -> Result<String, StationError>
     }
 }
 
-// What is asked of a channel, for an entry. Which packet sizes and windows an acceptance shows is known once it is done.
+// What is asked of a channel, for an entry. Which packet sizes and windows an acceptance shows is known once it is
+// done.
 #[inline(always)]
 fn asked_of(alloc: Global, request: &Request<'_>) -> Result<Asked, StationError>
-    ensures ok { IfOk result (λ asked. (x : Circuit) → shown x (plain_asked asked) ≡ shown x (plain_request request.now)) }
+    ensures ok { IfOk result (λ asked. (x : Circuit)
+        → shown x (plain_asked asked) ≡ shown x (plain_request request.now)) }
     ensures err { IfErr result (λ e. e ≡ StationError.NoMemory) }
 {
     match request {
@@ -108,7 +110,8 @@ fn asked_call(
 // An acceptance shows the packet sizes and windows in force on its channel.
 #[inline(always)]
 fn as_shown(layer: &Layer, channel: u16, asked: Asked) -> Asked
-    ensures { (c : LayerSettings) (l : LayerState) → FitsLayer c layer.now l → is_channel c.channels channel ≡ true → plain_asked result ≡ shown (l.circuits channel) (plain_asked asked) }
+    ensures { (c : LayerSettings) (l : LayerState) → FitsLayer c layer.now l → is_channel c.channels channel ≡ true
+        → plain_asked result ≡ shown (l.circuits channel) (plain_asked asked) }
 {
     match asked {
         Asked::Accept { params } => Asked::Accept {
@@ -121,15 +124,18 @@ fn as_shown(layer: &Layer, channel: u16, asked: Asked) -> Asked
 impl Station {
     /// Does what the user asks.
     ///
-    /// `Connect` is refused with 12 where the link is being set up, 13 where it is closed and 15 where it is up, and `Disconnect` with
+    /// `Connect` is refused with 12 where the link is being set up, 13 where it is closed and 15 where it is up, and
+    /// `Disconnect` with
     /// 13 where it is closed. The others are refused with 9 where the link isn't up, then with
-    /// 40 while a restart is under way; one with a channel then with 42 where it isn't configured and a call with 41 where no
-    /// channel is free; then, but for a message, with 10 where 256 packets wait; and then as the circuit refuses it, with 30 to 34.
-    /// Else 70 alone, and 70 may come in place of each of these. The station is as before then.
+    /// 40 while a restart is under way; one with a channel then with 42 where it isn't configured and a call with 41
+    /// where no channel is free; then, but for a message, with 10 where 256 packets wait; and then as the circuit
+    /// refuses it, with 30 to 34. Else 70 alone, and 70 may come in place of each of these. The station is as before
+    /// then.
     #[inline(always)]
     pub fn command(&mut self, command: Cmd<'_>, out: &mut Step) -> Result<(), StationError>
         ensures does { Does self.old self.new out.new result (λ c s. commands c s (command_of command.entry)) }
-        ensures timer { TellsTimer self.old out.new.timer result false (λ c s. commands c s (command_of command.entry)) }
+        ensures timer { TellsTimer self.old out.new.timer result false
+            (λ c s. commands c s (command_of command.entry)) }
     {
         self.reuse(out);
         let before = self.clock();
@@ -150,10 +156,12 @@ impl Station {
         }
     }
 
-    // Why what is asked of a channel would be refused now, if it would; of other commands nothing is said. Nothing is made or copied for it.
+    // Why what is asked of a channel would be refused now, if it would; of other commands nothing is said. Nothing is
+    // made or copied for it.
     #[inline(never)]
     fn refusal(&self, command: &Cmd<'_>) -> Option<LayerError>
-        ensures { (c : Settings) (s : State) → FitsStation c self.now s → IfSome result (λ e. commands c s (command_of command.now) ≡ Refused (StationError.Layer e)) }
+        ensures { (c : Settings) (s : State) → FitsStation c self.now s
+            → IfSome result (λ e. commands c s (command_of command.now) ≡ Refused (StationError.Layer e)) }
     {
         match command {
             Cmd::Accept { channel } => self.refuses(*channel, &Request::Accept { answer: None }),
@@ -175,7 +183,9 @@ impl Station {
     // Why this would be refused on a channel now, if it would.
     #[inline(always)]
     fn refuses(&self, channel: u16, request: &Request<'_>) -> Option<LayerError>
-        ensures { (c : Settings) (s : State) → FitsStation c self.now s → IfSome result (λ e. requests c s (Asks channel (plain_request request.now)) ≡ Refused (StationError.Layer e)) }
+        ensures { (c : Settings) (s : State) → FitsStation c self.now s
+            → IfSome result (λ e. requests c s (Asks channel (plain_request request.now))
+            ≡ Refused (StationError.Layer e)) }
     {
         self.layer.refusal(&self.link, channel, request)
     }
@@ -183,7 +193,8 @@ impl Station {
     // Why a message of so many octets would be refused on a channel now, if it would.
     #[inline(always)]
     fn refuses_message(&self, channel: u16, count: usize) -> Option<LayerError>
-        ensures { (c : Settings) (s : State) (q : Bool) (user : List ℕ) → length user ≡ count → FitsStation c self.now s → IfSome result (λ e. requests c s (Asks channel (CircuitSends q user)) ≡ Refused (StationError.Layer e)) }
+        ensures { (c : Settings) (s : State) (q : Bool) (user : List ℕ) → length user ≡ count → FitsStation c self.now s
+            → IfSome result (λ e. requests c s (Asks channel (CircuitSends q user)) ≡ Refused (StationError.Layer e)) }
     {
         self.layer.message_refusal(&self.link, channel, count)
     }
@@ -191,15 +202,18 @@ impl Station {
     // Why any call would be refused now, if it would.
     #[inline(always)]
     fn refuses_calls(&self) -> Option<LayerError>
-        ensures { (c : Settings) (s : State) (called calling user : List ℕ) (params : Params) → FitsStation c self.now s → IfSome result (λ e. requests c s (Dials called calling user params) ≡ Refused (StationError.Layer e)) }
+        ensures { (c : Settings) (s : State) (called calling user : List ℕ) (params : Params) → FitsStation c self.now s
+            → IfSome result (λ e. requests c s (Dials called calling user params) ≡ Refused (StationError.Layer e)) }
     {
         self.layer.dial_refusal(&self.link)
     }
 
-    /// Why a message of so many octets would be refused on a channel now, if it would, so that one that is refused needn't be made. `None` says nothing.
+    /// Why a message of so many octets would be refused on a channel now, if it would, so that one that is refused
+    /// needn't be made. `None` says nothing.
     #[inline(always)]
     pub fn message_refusal(&self, channel: u16, count: usize) -> Option<StationError>
-        ensures { (c : Settings) (s : State) (q : Bool) (user : List ℕ) → length user ≡ count → FitsStation c self.now s → IfSome result (λ e. requests c s (Asks channel (CircuitSends q user)) ≡ Refused e) }
+        ensures { (c : Settings) (s : State) (q : Bool) (user : List ℕ) → length user ≡ count → FitsStation c self.now s
+            → IfSome result (λ e. requests c s (Asks channel (CircuitSends q user)) ≡ Refused e) }
     {
         match self.refuses_message(channel, count) {
             Some(error) => Some(StationError::Layer(error)),
@@ -244,8 +258,8 @@ impl Station {
         }
     }
 
-    // The data packets that wait in the circuits of all channels are handed down to the link, in rounds, while fewer than 8
-    // packets wait there (profile).
+    // The data packets that wait in the circuits of all channels are handed down to the link, in rounds, while fewer
+    // than 8 packets wait there (profile).
     fn pull_asked(&mut self, out: &mut Step) -> Result<(), StationError>
         requires { IsEmpty out.old }
         ensures { Does self.old self.new out.new result (λ c s. requests c s PullsAll) }
@@ -292,7 +306,8 @@ impl Station {
         out: &mut Step,
     ) -> Result<(), StationError>
         requires { IsEmpty out.old }
-        ensures { Does self.old self.new out.new result (λ c s. requests c s (Dials called.now calling.now user.now params)) }
+        ensures { Does self.old self.new out.new result
+            (λ c s. requests c s (Dials called.now calling.now user.now params)) }
     {
         steps_keep_bounds();
         holds_few();
@@ -329,7 +344,8 @@ impl Station {
         self.ask_as(channel, Request::Send { q, user }, asked, out)
     }
 
-    // A copy of the user data of a message, in the memory of an earlier one of the channel where that has room. The station is as before.
+    // A copy of the user data of a message, in the memory of an earlier one of the channel where that has room. The
+    // station is as before.
     #[inline(always)]
     fn copied_for(&mut self, channel: u16, user: &[u8]) -> Result<Vec<u8>, StationError>
         ensures fits { (c : Settings) (s : State) → FitsStation c self.old s → FitsStation c self.new s }
@@ -352,7 +368,8 @@ impl Station {
         out: &mut Step,
     ) -> Result<(), StationError>
         requires { IsEmpty out.old }
-        ensures { Does self.old self.new out.new result (λ c s. requests c s (Asks channel (plain_request request.entry))) }
+        ensures { Does self.old self.new out.new result
+            (λ c s. requests c s (Asks channel (plain_request request.entry))) }
     {
         let asked = asked_of(self.alloc, &request)?;
         self.ask_as(channel, request, asked, out)
@@ -369,7 +386,8 @@ impl Station {
     ) -> Result<(), StationError>
         requires shown { (x : Circuit) → shown x (plain_asked asked) ≡ shown x (plain_request request) }
         requires empty { IsEmpty out.old }
-        ensures { Does self.old self.new out.new result (λ c s. requests c s (Asks channel (plain_request request.entry))) }
+        ensures { Does self.old self.new out.new result
+            (λ c s. requests c s (Asks channel (plain_request request.entry))) }
     {
         steps_keep_bounds();
         holds_few();

@@ -1,7 +1,7 @@
 use x25_layer::Params;
 
-/// What the user of a station asks for. Channels are 1 to the number configured; addresses are texts of digits, and user data
-/// octets.
+/// What the user of a station asks for. Channels are 1 to the number configured; addresses are texts of digits, and
+/// user data octets.
 #[derive(Clone, Copy, Debug)]
 pub enum Cmd<'a> {
     /// Calls the other end on a free channel, with addresses of 0 to 15 digits and at most 16 octets of user data, or
@@ -56,7 +56,8 @@ pub enum Cmd<'a> {
     },
     /// Restarts the packet layer: all calls are cleared.
     Restart,
-    /// Hands the data packets that wait in the circuits down to the link, as far as that has room: `Station::pull`. It has no entry.
+    /// Hands the data packets that wait in the circuits down to the link, as far as that has room: `Station::pull`. It
+    /// has no entry.
     Pull,
     /// Begins to set the link up.
     Connect,

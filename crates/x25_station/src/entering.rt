@@ -1,5 +1,6 @@
 //! Entries of what the packet layer tells, in memory that was set aside.
-ghost use Rattle.std.specs.Prelude.{◌≡◌, ℕ, ◌+◌, ◌<◌, ◌≤◌, ◌++◌, [], ◌∷◌, map, take, true, option_to_list, vec_len, vec_capacity};
+ghost use Rattle.std.specs.Prelude.{◌≡◌, ℕ, ◌+◌, ◌<◌, ◌≤◌, ◌++◌, [], ◌∷◌, map, take, true, option_to_list, vec_len};
+ghost use Rattle.std.specs.Prelude.{vec_capacity};
 ghost use Rattle.x25_circuit.specs.Notice.{deliveries};
 ghost use Rattle.x25_circuit.specs.code.Replies.{plain_notice, notices_of};
 ghost use Rattle.x25_layer.specs.Layer.{Layer as LayerState, LayerSettings, is_channel, notices_on};
@@ -16,8 +17,8 @@ use x25_circuit::{Message, Notice};
 use x25_layer::{Layer, Told as Heard};
 use x25_packet::Digits;
 
-/// The most octets of a text in an entry: those of the user data of a call, where it may be long. Interrupts and addresses have
-/// fewer.
+/// The most octets of a text in an entry: those of the user data of a call, where it may be long. Interrupts and
+/// addresses have fewer.
 pub(crate) const LONGEST_TEXT: usize = 128;
 
 /// The most texts in an entry: the two addresses of a call, and its user data.
@@ -32,8 +33,10 @@ pub(crate) fn enter(layer: &Layer, entries: &mut Vec<Entry>, channel: u16, said:
     requires { vec_len entries.old < vec_capacity entries.old }
     ensures length { vec_len entries.new ≤ vec_len entries.old + 1 }
     ensures capacity { vec_capacity entries.new ≡ vec_capacity entries.old }
-    ensures entered { (c : LayerSettings) (l : LayerState) → FitsLayer c layer.now l → is_channel c.channels channel ≡ true →
-        map plain_entry entries.new.items ≡ map plain_entry entries.old.items ++ of_channel (record { channel = channel; name = name_of l channel; said = plain_said said }) ∷ [] }
+    ensures entered { (c : LayerSettings) (l : LayerState) → FitsLayer c layer.now l
+        → is_channel c.channels channel ≡ true →
+        map plain_entry entries.new.items ≡ map plain_entry entries.old.items
+        ++ of_channel (record { channel = channel; name = name_of l channel; said = plain_said said }) ∷ [] }
 {
     if let Some(name) = layer.name(channel) {
         entries.push_reserved(Entry::OnChannel {
@@ -54,8 +57,10 @@ pub(crate) fn enter_message(
 )
     requires { vec_len entries.old < vec_capacity entries.old }
     ensures length { vec_len entries.new ≤ vec_len entries.old + 1 }
-    ensures entered { (c : LayerSettings) (l : LayerState) → FitsLayer c layer.now l → is_channel c.channels channel ≡ true →
-        map plain_entry entries.new.items ≡ map plain_entry entries.old.items ++ station_told l (notices_on channel (deliveries (option_to_list message))) }
+    ensures entered { (c : LayerSettings) (l : LayerState) → FitsLayer c layer.now l
+        → is_channel c.channels channel ≡ true →
+        map plain_entry entries.new.items ≡ map plain_entry entries.old.items
+        ++ station_told l (notices_on channel (deliveries (option_to_list message))) }
 {
     if let Some(message) = message {
         enter(
@@ -131,7 +136,8 @@ fn told_of(texts: &mut TextMemory, notice: Notice<'_>) -> Told
     }
 }
 
-// Enters what the user of a channel is told: first that this end's own call was dropped, where it was, and then the notice.
+// Enters what the user of a channel is told: first that this end's own call was dropped, where it was, and then the
+// notice.
 fn enter_notices(
     layer: &Layer,
     texts: &mut TextMemory,
@@ -144,8 +150,10 @@ fn enter_notices(
     requires room { vec_len entries.old + 2 ≤ vec_capacity entries.old }
     ensures length { vec_len entries.new ≤ vec_len entries.old + 2 }
     ensures no_more { texts.new ≤ texts.old }
-    ensures entered { (c : LayerSettings) (l : LayerState) → FitsLayer c layer.now l → AreTellable c (notices_on channel (notices_of collided notice.entry)) →
-        map plain_entry entries.new.items ≡ map plain_entry entries.old.items ++ station_told l (notices_on channel (notices_of collided notice.entry)) }
+    ensures entered { (c : LayerSettings) (l : LayerState) → FitsLayer c layer.now l
+        → AreTellable c (notices_on channel (notices_of collided notice.entry)) →
+        map plain_entry entries.new.items ≡ map plain_entry entries.old.items
+        ++ station_told l (notices_on channel (notices_of collided notice.entry)) }
 {
     if collided {
         enter(layer, entries, channel, Said::Told(Told::Collided));
@@ -167,8 +175,10 @@ pub(crate) fn enter_told(
     requires room { vec_len entries.old + 2 ≤ vec_capacity entries.old }
     ensures length { vec_len entries.new ≤ vec_len entries.old + 2 }
     ensures no_more { texts.new ≤ texts.old }
-    ensures entered { (c : LayerSettings) (l : LayerState) → FitsLayer c layer.now l → AreTellable c (plain_heard told.entry) →
-        map plain_entry entries.new.items ≡ map plain_entry entries.old.items ++ station_told l (plain_heard told.entry) }
+    ensures entered { (c : LayerSettings) (l : LayerState) → FitsLayer c layer.now l
+        → AreTellable c (plain_heard told.entry) →
+        map plain_entry entries.new.items ≡ map plain_entry entries.old.items
+        ++ station_told l (plain_heard told.entry) }
 {
     match told {
         Heard::Nothing => {}

@@ -2,11 +2,12 @@ use x25_circuit::Message;
 use x25_layer::{Params, Stretch};
 use x25_link::Reason;
 
-/// An entry of the transcript of a station (profile): what its user asked, what the link noted, or what the packet layer reported.
-/// It owns what it says.
+/// An entry of the transcript of a station (profile): what its user asked, what the link noted, or what the packet
+/// layer reported. It owns what it says.
 #[derive(Debug, Drop)]
 pub enum Entry {
-    /// What the user of a channel asked, or what was reported to that user, under the name of the stretch that stood then.
+    /// What the user of a channel asked, or what was reported to that user, under the name of the stretch that stood
+    /// then.
     OnChannel {
         channel: u16,
         name: Stretch,
@@ -47,8 +48,8 @@ pub enum Said {
 /// What the user of a channel asked.
 #[derive(Debug, Drop)]
 pub enum Asked {
-    /// A call, with addresses of 0 to 15 figures and at most 16 octets of user data, or 128 where `Cfg::long_data` is set, and the
-    /// packet sizes and windows that it proposes.
+    /// A call, with addresses of 0 to 15 figures and at most 16 octets of user data, or 128 where `Cfg::long_data` is
+    /// set, and the packet sizes and windows that it proposes.
     Call {
         called: String,
         calling: String,

@@ -1,18 +1,21 @@
-//! A station is its link and its packet layer joined, and what it holds: laws, each the contract of a function that does nothing.
-ghost use Rattle.x25_station.specs.laws.JoinLaw.{RequestIsJoined, ReceiveIsJoined, QuietIsJoined, DownIsJoined, UpIsJoined};
+//! A station is its link and its packet layer joined, and what it holds: laws, each the contract of a function that
+//! does nothing.
+ghost use Rattle.x25_station.specs.laws.JoinLaw.{RequestIsJoined, ReceiveIsJoined, QuietIsJoined, DownIsJoined};
+ghost use Rattle.x25_station.specs.laws.JoinLaw.{UpIsJoined};
 ghost use Rattle.x25_station.specs.laws.KeepLaw.{ConnectKeeps, TimerKeeps, CommandKeeps, ReceiveKeeps};
-ghost use Rattle.x25_station.specs.laws.ReadLaw.{PutsAreReadable};
+ghost use Rattle.x25_station.specs.laws.ReadLaw.{PutsAreReadable, PutsBesidePeersAreReadable};
 ghost use Rattle.x25_station.specs.laws.HoldLaw.{FewWait, FewStand, FewMessages, FewJoined, FewHeld, FewAside};
-ghost use Rattle.x25_station.specs.laws.TimerLaw.{BeginsWhereDue, DeadlineIsTrue, FiringIsTaken, OffIsRefused, PullIsHeeded};
+ghost use Rattle.x25_station.specs.laws.TimerLaw.{BeginsWhereDue, DeadlineIsTrue, FiringIsTaken, OffIsRefused};
+ghost use Rattle.x25_station.specs.laws.TimerLaw.{PullIsHeeded};
 
 use x25_circuit::values_are_agreed;
 use x25_layer::calls_are_runs;
 use x25_link::{holds_few, notes_what_changes};
 use x25_packet::reading_is_the_grammar;
 
-/// Each step of a station is a step of its link, and then packets that are handed down to the link, each accepted. They are the packets
-/// that the same moves of the packet layer put over a link that keeps order, and the entries are those of the link's notes and of
-/// the layer's transcript.
+/// Each step of a station is a step of its link, and then packets that are handed down to the link, each accepted. They
+/// are the packets that the same moves of the packet layer put over a link that keeps order, and the entries are those
+/// of the link's notes and of the layer's transcript.
 pub fn steps_are_joined()
     ensures request { RequestIsJoined }
     ensures receive { ReceiveIsJoined }
@@ -24,8 +27,8 @@ pub fn steps_are_joined()
     notes_what_changes();
 }
 
-/// What two layers of at most 16 channels put, whatever happens to them: the octets of each packet are octets, fit in an I frame, and
-/// read as that packet, where what their users hand down is octets.
+/// What two layers of at most 16 channels put, whatever happens to them: the octets of each packet are octets, fit in
+/// an I frame, and read as that packet, where what their users hand down is octets.
 pub fn puts_are_readable()
     ensures { PutsAreReadable }
 {
@@ -33,8 +36,16 @@ pub fn puts_are_readable()
     values_are_agreed();
 }
 
-/// What each step of a station keeps, whatever comes: at most 256 packets wait in the link, and the packet layer is as LinkDown leaves it
-/// where the link isn't up.
+/// The same of what a layer puts beside any peer that keeps the rules of docs/PEER.md.
+pub fn puts_beside_peers_are_readable()
+    ensures { PutsBesidePeersAreReadable }
+{
+    reading_is_the_grammar();
+    values_are_agreed();
+}
+
+/// What each step of a station keeps, whatever comes: at most 256 packets wait in the link, and the packet layer is as
+/// LinkDown leaves it where the link isn't up.
 pub fn steps_keep_bounds()
     ensures connect { ConnectKeeps }
     ensures timer { TimerKeeps }
@@ -44,10 +55,11 @@ pub fn steps_keep_bounds()
     notes_what_changes();
 }
 
-/// What a station holds at most: 256 packets that wait in its link, 7 that were sent and aren't acknowledged, and for each channel
-/// 8 messages that wait, and one more whose last packet was pulled, until the next is begun, and one of which some packets came. A
-/// message, also one in part, has at most 65,535 octets. Between calls memory is set aside for at most 16 packets in its layer and in its
-/// link each, and for 3 texts of entries.
+/// What a station holds at most: 256 packets that wait in its link, 7 that were sent and aren't acknowledged, and for
+/// each channel
+/// 8 messages that wait, and one more whose last packet was pulled, until the next is begun, and one of which some
+/// packets came. A message, also one in part, has at most 65,535 octets. Between calls memory is set aside for at most
+/// 16 packets in its layer and in its link each, and for 3 texts of entries.
 pub fn stations_hold_few()
     ensures wait { FewWait }
     ensures stand { FewStand }
@@ -59,10 +71,11 @@ pub fn stations_hold_few()
     holds_few();
 }
 
-/// T1 and one who has a clock, over any events from a new station on. He drops his deadline at a step behind which T1 is off, sets it at
-/// one that begins T1 anew, and leaves it at any other and at a refusal: then it stands exactly while T1 runs, so that a firing when it
-/// passes is never refused with 11. So it does for one who sets it once, by what became of T1 at a step and a pull behind
-/// it. T1 begins anew at each step behind which it runs and that was its firing, told LinkUp or acknowledged a frame.
+/// T1 and one who has a clock, over any events from a new station on. He drops his deadline at a step behind which T1
+/// is off, sets it at one that begins T1 anew, and leaves it at any other and at a refusal: then it stands exactly
+/// while T1 runs, so that a firing when it passes is never refused with 11. So it does for one who sets it once, by
+/// what became of T1 at a step and a pull behind it. T1 begins anew at each step behind which it runs and that was its
+/// firing, told LinkUp or acknowledged a frame.
 pub fn deadlines_are_true()
     ensures deadline { DeadlineIsTrue }
     ensures taken { FiringIsTaken }

@@ -22,7 +22,8 @@ use x25_link::Reason;
 impl Station {
     /// Begins to set the link up. No entry is made.
     ///
-    /// 12 where it is being set up, 13 where it is closed, 15 where it is up, and else 70 alone. The station is as before then.
+    /// 12 where it is being set up, 13 where it is closed, 15 where it is up, and else 70 alone. The station is as
+    /// before then.
     pub fn connect(&mut self, out: &mut Step) -> Result<(), StationError>
         ensures does { Does self.old self.new out.new result connects }
         ensures exactly { (c : Settings) (s : State) → FitsStation c self.old s → RefusesExactly result (connects c s) }
@@ -125,7 +126,8 @@ pub(crate) fn note_down(layer: &mut Layer, down: Option<Reason>, entries: &mut V
     ensures room { (len spares : ℕ) → HasRoom len layer.old spares → HasRoom len layer.new spares }
     ensures memory { layer.new.memory ≡ layer.old.memory }
     ensures same { down ≡ None → layer.new ≡ layer.old }
-    ensures layer { (c : LayerSettings) (l : LayerState) → FitsLayer c layer.old l → FitsLayer c layer.new (layer_down l down) }
+    ensures layer { (c : LayerSettings) (l : LayerState) → FitsLayer c layer.old l
+        → FitsLayer c layer.new (layer_down l down) }
     ensures entries { map plain_entry entries.new.items ≡ map plain_entry entries.old.items ++ entries_down down }
 {
     if let Some(reason) = down {

@@ -25,13 +25,13 @@ fn unless_refused(error: LayerError) -> Result<(), StationError>
 }
 
 impl Station {
-    /// Pulls behind a step: hands the data packets that wait in the circuits of all channels down to the link, in rounds,
-    /// while fewer than 8 packets wait there, and puts the frames behind those of the step (profile). It has no entry, and
-    /// does nothing where the link isn't up or a restart is under way.
+    /// Pulls behind a step: hands the data packets that wait in the circuits of all channels down to the link, in
+    /// rounds, while fewer than 8 packets wait there, and puts the frames behind those of the step (profile). It has no
+    /// entry, and does nothing where the link isn't up or a restart is under way.
     ///
-    /// Each accepted command and each packet that comes pulls too. A step in which the link acts by itself doesn't, so that
-    /// a message may wait in its circuit while nothing is on its way: one who calls this behind each step leaves none to
-    /// wait so.
+    /// Each accepted command and each packet that comes pulls too. A step in which the link acts by itself doesn't, so
+    /// that a message may wait in its circuit while nothing is on its way: one who calls this behind each step leaves
+    /// none to wait so.
     ///
     /// 70 alone. The station is as before then, and so are the frames of the step.
     pub fn pull(&mut self, out: &mut Step) -> Result<(), StationError>

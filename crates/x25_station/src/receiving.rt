@@ -1,5 +1,6 @@
 //! Octets that come: the step of the link, and what the packet layer does at it.
-ghost use Rattle.std.specs.Prelude.{◌≡◌, ℕ, ◌+◌, ◌-◌, ◌<◌, ◌≤◌, ◌++◌, List, length, max, map, true, false, None, option_copied, vec_len, vec_capacity, IfSome, IfErr, OnOk};
+ghost use Rattle.std.specs.Prelude.{◌≡◌, ℕ, ◌+◌, ◌-◌, ◌<◌, ◌≤◌, ◌++◌, List, length, max, map, true, false, None};
+ghost use Rattle.std.specs.Prelude.{option_copied, vec_len, vec_capacity, IfSome, IfErr, OnOk};
 ghost use Rattle.x25_link.specs.Station.{Side};
 ghost use Rattle.x25_link.specs.code.FitsLink.{FitsWhole, up_of};
 ghost use Rattle.x25_layer.specs.Layer.{Layer as LayerState};
@@ -13,7 +14,8 @@ ghost use Rattle.x25_station.specs.code.PlainEntry.{plain_entry};
 ghost use Rattle.x25_station.specs.Receiving.{kept_of, CanPut};
 ghost use Rattle.x25_station.specs.Config.{Settings, link_settings, layer_settings};
 ghost use Rattle.x25_station.specs.Station.{Station as State, view_of, all_put};
-ghost use Rattle.x25_station.specs.Step.{Did, abandons, receives, layer_at, layer_answer, entries_heard, entries_of_answer};
+ghost use Rattle.x25_station.specs.Step.{Did, abandons, receives, layer_at, layer_answer, entries_heard};
+ghost use Rattle.x25_station.specs.Step.{entries_of_answer};
 
 use crate::entering::{MOST_TEXTS, TextMemory, enter_message, enter_told};
 use crate::entry::Entry;
@@ -27,7 +29,8 @@ use x25_layer::Layer;
 use x25_link::{Link, Notes, OrderedLink, holds_few, notes_what_changes};
 use x25_packet::reading_is_the_grammar;
 
-/// The octets of an I frame but for the user data of its packet: address, control and frame check sequence, and the header of the packet.
+/// The octets of an I frame but for the user data of its packet: address, control and frame check sequence, and the
+/// header of the packet.
 const HEADERS: usize = 2 + 2 + 3;
 
 // What the layer does at LinkUp.
@@ -37,10 +40,14 @@ fn come_up(layer: &mut Layer, link: &mut Link, entries: &mut Vec<Entry>)
     requires put { CanPut link.old }
     requires room { HasRoom 0 layer.old link.old.outbox.long }
     requires entries { vec_len entries.old < vec_capacity entries.old }
-    ensures layer { (c : Settings) (l : LayerState) (t : Side) → FitsLayer (layer_settings c) layer.old l → FitsWhole link.old (kept_of (link_settings c) t) →
-        FitsLayer (layer_settings c) layer.new (comes_up (view_of (link_settings c) t.near) (layer_settings c)).step.layer }
-    ensures link { (c : Settings) (l : LayerState) (t : Side) → FitsLayer (layer_settings c) layer.old l → FitsWhole link.old (kept_of (link_settings c) t) →
-        FitsWhole link.new (kept_of (link_settings c) (all_put (link_settings c) (comes_up (view_of (link_settings c) t.near) (layer_settings c)).step.put t)) }
+    ensures layer { (c : Settings) (l : LayerState) (t : Side) → FitsLayer (layer_settings c) layer.old l
+        → FitsWhole link.old (kept_of (link_settings c) t) →
+        FitsLayer (layer_settings c) layer.new
+        (comes_up (view_of (link_settings c) t.near) (layer_settings c)).step.layer }
+    ensures link { (c : Settings) (l : LayerState) (t : Side) → FitsLayer (layer_settings c) layer.old l
+        → FitsWhole link.old (kept_of (link_settings c) t) →
+        FitsWhole link.new (kept_of (link_settings c)
+        (all_put (link_settings c) (comes_up (view_of (link_settings c) t.near) (layer_settings c)).step.put t)) }
     ensures entries { map plain_entry entries.new.items ≡ map plain_entry entries.old.items ++ entries_up true }
     ensures length { vec_len entries.new ≡ vec_len entries.old + 1 }
     ensures most_memory { layer.new.memory ≤ max layer.old.memory 16 }
@@ -65,12 +72,19 @@ fn hear_other(
     requires room { HasRoom (length packet.now - 3) layer.old link.old.outbox.long }
     requires texts { 3 ≤ texts.old }
     requires entries { vec_len entries.old + 2 ≤ vec_capacity entries.old }
-    ensures layer { (c : Settings) (l : LayerState) (t : Side) → FitsLayer (layer_settings c) layer.old l → FitsWhole link.old (kept_of (link_settings c) t) →
-        FitsLayer (layer_settings c) layer.new (hears (view_of (link_settings c) t.near) (layer_settings c) l packet.now).step.layer }
-    ensures link { (c : Settings) (l : LayerState) (t : Side) → FitsLayer (layer_settings c) layer.old l → FitsWhole link.old (kept_of (link_settings c) t) →
-        FitsWhole link.new (kept_of (link_settings c) (all_put (link_settings c) (hears (view_of (link_settings c) t.near) (layer_settings c) l packet.now).step.put t)) }
-    ensures entries { (c : Settings) (l : LayerState) (t : Side) → FitsLayer (layer_settings c) layer.old l → FitsWhole link.old (kept_of (link_settings c) t) →
-        map plain_entry entries.new.items ≡ map plain_entry entries.old.items ++ entries_of_answer (layer_answer (layer_settings c) l packet.now) }
+    ensures layer { (c : Settings) (l : LayerState) (t : Side) → FitsLayer (layer_settings c) layer.old l
+        → FitsWhole link.old (kept_of (link_settings c) t) →
+        FitsLayer (layer_settings c) layer.new
+        (hears (view_of (link_settings c) t.near) (layer_settings c) l packet.now).step.layer }
+    ensures link { (c : Settings) (l : LayerState) (t : Side) → FitsLayer (layer_settings c) layer.old l
+        → FitsWhole link.old (kept_of (link_settings c) t) →
+        FitsWhole link.new (kept_of (link_settings c)
+        (all_put (link_settings c) (hears (view_of (link_settings c) t.near)
+        (layer_settings c) l packet.now).step.put t)) }
+    ensures entries { (c : Settings) (l : LayerState) (t : Side) → FitsLayer (layer_settings c) layer.old l
+        → FitsWhole link.old (kept_of (link_settings c) t) →
+        map plain_entry entries.new.items ≡ map plain_entry entries.old.items
+        ++ entries_of_answer (layer_answer (layer_settings c) l packet.now) }
     ensures length { vec_len entries.new ≤ vec_len entries.old + 2 }
     ensures most_memory { layer.new.memory ≤ max layer.old.memory 16 }
     ensures most_spares { link.new.outbox.long ≤ max link.old.outbox.long 16 }
@@ -94,12 +108,19 @@ fn hear(
     requires room { HasRoom (length packet.now - 3) layer.old link.old.outbox.long }
     requires texts { 3 ≤ texts.old }
     requires entries { vec_len entries.old + 2 ≤ vec_capacity entries.old }
-    ensures layer { (c : Settings) (l : LayerState) (t : Side) → FitsLayer (layer_settings c) layer.old l → FitsWhole link.old (kept_of (link_settings c) t) →
-        FitsLayer (layer_settings c) layer.new (hears (view_of (link_settings c) t.near) (layer_settings c) l packet.now).step.layer }
-    ensures link { (c : Settings) (l : LayerState) (t : Side) → FitsLayer (layer_settings c) layer.old l → FitsWhole link.old (kept_of (link_settings c) t) →
-        FitsWhole link.new (kept_of (link_settings c) (all_put (link_settings c) (hears (view_of (link_settings c) t.near) (layer_settings c) l packet.now).step.put t)) }
-    ensures entries { (c : Settings) (l : LayerState) (t : Side) → FitsLayer (layer_settings c) layer.old l → FitsWhole link.old (kept_of (link_settings c) t) →
-        map plain_entry entries.new.items ≡ map plain_entry entries.old.items ++ entries_of_answer (layer_answer (layer_settings c) l packet.now) }
+    ensures layer { (c : Settings) (l : LayerState) (t : Side) → FitsLayer (layer_settings c) layer.old l
+        → FitsWhole link.old (kept_of (link_settings c) t) →
+        FitsLayer (layer_settings c) layer.new
+        (hears (view_of (link_settings c) t.near) (layer_settings c) l packet.now).step.layer }
+    ensures link { (c : Settings) (l : LayerState) (t : Side) → FitsLayer (layer_settings c) layer.old l
+        → FitsWhole link.old (kept_of (link_settings c) t) →
+        FitsWhole link.new (kept_of (link_settings c)
+        (all_put (link_settings c) (hears (view_of (link_settings c) t.near)
+        (layer_settings c) l packet.now).step.put t)) }
+    ensures entries { (c : Settings) (l : LayerState) (t : Side) → FitsLayer (layer_settings c) layer.old l
+        → FitsWhole link.old (kept_of (link_settings c) t) →
+        map plain_entry entries.new.items ≡ map plain_entry entries.old.items
+        ++ entries_of_answer (layer_answer (layer_settings c) l packet.now) }
     ensures length { vec_len entries.new ≤ vec_len entries.old + 2 }
     ensures most_memory { layer.new.memory ≤ max layer.old.memory 16 }
     ensures most_spares { link.new.outbox.long ≤ max link.old.outbox.long 16 }
@@ -128,12 +149,21 @@ fn follow(
     requires room { IfSome packet (λ p. HasRoom (length p.now - 3) layer.old link.old.outbox.long) }
     requires texts { 3 ≤ texts.old }
     requires entries { vec_len entries.old + 3 ≤ vec_capacity entries.old }
-    ensures layer { (c : Settings) (l : LayerState) (t : Side) → FitsLayer (layer_settings c) layer.old l → FitsWhole link.old (kept_of (link_settings c) t) →
-        FitsLayer (layer_settings c) layer.new (layer_at (view_of (link_settings c) t.near) (layer_settings c) l (option_copied packet.entry) notes.down notes.up).layer }
-    ensures link { (c : Settings) (l : LayerState) (t : Side) → FitsLayer (layer_settings c) layer.old l → FitsWhole link.old (kept_of (link_settings c) t) →
-        FitsWhole link.new (kept_of (link_settings c) (all_put (link_settings c) (layer_at (view_of (link_settings c) t.near) (layer_settings c) l (option_copied packet.entry) notes.down notes.up).put t)) }
-    ensures entries { (c : Settings) (l : LayerState) (t : Side) → FitsLayer (layer_settings c) layer.old l → FitsWhole link.old (kept_of (link_settings c) t) →
-        map plain_entry entries.new.items ≡ map plain_entry entries.old.items ++ (entries_noted notes ++ entries_heard (layer_settings c) l (option_copied packet.entry) notes.down notes.up) }
+    ensures layer { (c : Settings) (l : LayerState) (t : Side) → FitsLayer (layer_settings c) layer.old l
+        → FitsWhole link.old (kept_of (link_settings c) t) →
+        FitsLayer (layer_settings c) layer.new
+        (layer_at (view_of (link_settings c) t.near) (layer_settings c) l
+        (option_copied packet.entry) notes.down notes.up).layer }
+    ensures link { (c : Settings) (l : LayerState) (t : Side) → FitsLayer (layer_settings c) layer.old l
+        → FitsWhole link.old (kept_of (link_settings c) t) →
+        FitsWhole link.new (kept_of (link_settings c)
+        (all_put (link_settings c) (layer_at (view_of (link_settings c) t.near) (layer_settings c) l
+        (option_copied packet.entry) notes.down notes.up).put t)) }
+    ensures entries { (c : Settings) (l : LayerState) (t : Side) → FitsLayer (layer_settings c) layer.old l
+        → FitsWhole link.old (kept_of (link_settings c) t) →
+        map plain_entry entries.new.items ≡ map plain_entry entries.old.items
+        ++ (entries_noted notes
+        ++ entries_heard (layer_settings c) l (option_copied packet.entry) notes.down notes.up) }
     ensures length { vec_len entries.new ≤ vec_len entries.old + 3 }
     ensures most_memory { layer.new.memory ≤ max layer.old.memory 16 }
     ensures most_spares { link.new.outbox.long ≤ max link.old.outbox.long 16 }
@@ -153,9 +183,9 @@ fn follow(
 }
 
 impl Station {
-    /// Takes octets that came, frame check sequence included, whatever they are: the link's step, and then what the packet layer
-    /// does at what that hands up or notes. Where the link is up and a count of the layer is at 2^64 - 1, the octets are dropped
-    /// and the link goes down.
+    /// Takes octets that came, frame check sequence included, whatever they are: the link's step, and then what the
+    /// packet layer does at what that hands up or notes. Where the link is up and a count of the layer is at 2^64 - 1,
+    /// the octets are dropped and the link goes down.
     ///
     /// 70 alone. The octets aren't taken then, and the station is as before.
     pub fn receive(&mut self, octets: &[u8], out: &mut Step) -> Result<(), StationError>
@@ -216,8 +246,9 @@ impl Station {
         Ok(())
     }
 
-    // Sets memory aside for all that octets may bring, with so many of user data: room for frames and entries, and their texts. However
-    // many they are, it is for 16 packets, 3 texts and 4,096 octets a circuit, or for what was before.
+    // Sets memory aside for all that octets may bring, with so many of user data: room for frames and entries, and
+    // their texts. However many they are, it is for 16 packets, 3 texts and 4,096 octets a circuit, or for what was
+    // before.
     fn set_aside(&mut self, len: usize, out: &mut Step) -> Result<(), StationError>
         requires { IsEmpty out.old }
         ensures fits { (c : Settings) (s : State) → FitsStation c self.old s → FitsStation c self.new s }
@@ -230,7 +261,8 @@ impl Station {
         ensures most_texts { self.new.texts ≤ max self.old.texts 3 }
         ensures most_memory { self.new.layer.memory ≤ max self.old.layer.memory 16 }
         ensures most_spares { self.new.link.outbox.long ≤ max self.old.link.outbox.long 16 }
-        ensures most_circuits { (bound : ℕ) → 4096 ≤ bound → HaveAtMost bound self.old.layer.circuits.items → HaveAtMost bound self.new.layer.circuits.items }
+        ensures most_circuits { (bound : ℕ) → 4096 ≤ bound → HaveAtMost bound self.old.layer.circuits.items
+            → HaveAtMost bound self.new.layer.circuits.items }
     {
         out.make_room()?;
         if self.texts.reserve(MOST_TEXTS).is_err() {

@@ -21,13 +21,13 @@ fn take_frames_back(link: &mut Link, frames: &mut Vec<Vec<u8>>)
 }
 
 impl Station {
-    /// Takes a step back that was read, of this station or of another, and leaves it empty: the memory of its frames serves
-    /// frames that are sent later, and that of a message that was sent or delivered, which is that of the last entry, a later
-    /// message of its channel. Timer T1 goes on in it, or is off. The station is as before. Each call does so at first with
-    /// the step that it is given.
+    /// Takes a step back that was read, of this station or of another, and leaves it empty: the memory of its frames
+    /// serves frames that are sent later, and that of a message that was sent or delivered, which is that of the last
+    /// entry, a later message of its channel. Timer T1 goes on in it, or is off. The station is as before. Each call
+    /// does so at first with the step that it is given.
     ///
-    /// Memory for more than 4,103 octets of a frame or 4,096 of a message is let go of, and so is what is left over where 32
-    /// frames, or two messages of the channel, are kept.
+    /// Memory for more than 4,103 octets of a frame or 4,096 of a message is let go of, and so is what is left over
+    /// where 32 frames, or two messages of the channel, are kept.
     #[inline(always)]
     pub fn reuse(&mut self, out: &mut Step)
         ensures fits { (c : Settings) (s : State) → FitsStation c self.old s → FitsStation c self.new s }

@@ -61,7 +61,8 @@ impl Station {
         })
     }
 
-    /// Whether the link is up, no packet waits in it, all that was sent is acknowledged, and no message waits in a circuit.
+    /// Whether the link is up, no packet waits in it, all that was sent is acknowledged, and no message waits in a
+    /// circuit.
     pub fn idle(&self) -> bool
         ensures { (c : Settings) (s : State) → FitsStation c self.now s → result ≡ is_idle c s }
     {
@@ -82,26 +83,28 @@ impl Station {
         self.link.timer_runs()
     }
 
-    /// How many octets have come of the message of which some packets came on a channel, at most 65,535; 0 where there is none, or the
-    /// channel isn't configured.
+    /// How many octets have come of the message of which some packets came on a channel, at most 65,535; 0 where there
+    /// is none, or the channel isn't configured.
     pub fn octets_joined(&self, channel: u16) -> usize
-        ensures value { (c : Settings) (s : State) → FitsStation c self.now s → result ≡ joined_at (layer_settings c) s.layer channel }
+        ensures value { (c : Settings) (s : State) → FitsStation c self.now s
+            → result ≡ joined_at (layer_settings c) s.layer channel }
         ensures short { result ≤ 65535 }
     {
         self.layer.octets_joined(channel)
     }
 
-    /// How many octets of memory are kept for the message of which some packets came on a channel: for these octets, and for those of one
-    /// packet more. They are 69,631 at most; 0 where the channel isn't configured.
+    /// How many octets of memory are kept for the message of which some packets came on a channel: for these octets,
+    /// and for those of one packet more. They are 69,631 at most; 0 where the channel isn't configured.
     pub fn octets_kept(&self, channel: u16) -> usize
-        ensures least { (c : Settings) (s : State) → FitsStation c self.now s → joined_at (layer_settings c) s.layer channel ≤ result }
+        ensures least { (c : Settings) (s : State) → FitsStation c self.now s
+            → joined_at (layer_settings c) s.layer channel ≤ result }
         ensures most { result ≤ 69631 }
     {
         self.layer.octets_kept(channel)
     }
 
-    /// How many buffers are kept for what memory is refused for later, 51 at most: 32 for a frame each, 16 for a packet, and 3 for a text
-    /// of an entry.
+    /// How many buffers are kept for what memory is refused for later, 51 at most: 32 for a frame each, 16 for a
+    /// packet, and 3 for a text of an entry.
     pub fn blanks(&self) -> usize
         ensures least { self.now.link.outbox.long + (self.now.layer.memory + self.now.texts) ≤ result }
         ensures most { result ≤ 51 }
@@ -109,14 +112,16 @@ impl Station {
         self.link.blanks() + self.layer.blanks() + self.texts.kept()
     }
 
-    /// How many buffers are kept that were given back, for frames that are sent later: 32 at most, of at most 4,103 octets each.
+    /// How many buffers are kept that were given back, for frames that are sent later: 32 at most, of at most 4,103
+    /// octets each.
     pub fn returned(&self) -> usize
         ensures { result ≤ 32 }
     {
         self.link.returned()
     }
 
-    /// Takes the memory of a frame back, of this station or of another, for one that is sent later. The station is as before.
+    /// Takes the memory of a frame back, of this station or of another, for one that is sent later. The station is as
+    /// before.
     ///
     /// It is let go of where it is for more than 4,103 octets, and where 32 are kept.
     pub fn give_back_frame(&mut self, octets: Vec<u8>)

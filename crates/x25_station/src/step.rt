@@ -6,14 +6,15 @@ use crate::error::StationError;
 use crate::timer::Timer;
 use std::alloc::Global;
 
-/// The most frames that a call of a station answers: nine in the link's step, seven I frames of the layer's packets, and an RR.
+/// The most frames that a call of a station answers: nine in the link's step, seven I frames of the layer's packets,
+/// and an RR.
 pub const MOST_FRAMES: usize = 17;
 
 /// The most entries that a call of a station makes.
 pub const MOST_ENTRIES: usize = 3;
 
-/// What a call of a station answers: the frames to send, frame check sequence included, and the entries of the transcript, each in
-/// order, and what becomes of timer T1. The entry of an accepted command is the first.
+/// What a call of a station answers: the frames to send, frame check sequence included, and the entries of the
+/// transcript, each in order, and what becomes of timer T1. The entry of an accepted command is the first.
 #[derive(Debug, Drop)]
 pub struct Step {
     pub frames: Vec<Vec<u8>>,

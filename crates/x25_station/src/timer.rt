@@ -8,7 +8,8 @@ ghost use Rattle.x25_station.specs.Config.{Settings};
 ghost use Rattle.x25_station.specs.Station.{Station as State};
 ghost use Rattle.x25_station.specs.Step.{Did, Step as PlainStep};
 ghost use Rattle.x25_station.specs.Timer as definition;
-ghost use Rattle.x25_station.specs.Timer.{is_link_up, pulled_timer, standing as standing_timer, tells_up as tell_up, timer_at};
+ghost use Rattle.x25_station.specs.Timer.{is_link_up, pulled_timer, standing as standing_timer, tells_up as tell_up};
+ghost use Rattle.x25_station.specs.Timer.{timer_at};
 
 use crate::entry::Entry;
 use crate::station::Station;
@@ -16,7 +17,7 @@ use x25_bits::Seq;
 
 /// What becomes of timer T1 at a step, for one who has a clock: he stops it, sets it anew, or leaves it as it is.
 ///
-/// ITU-T X.25 (10/96), sections 2.4.4.1, 2.4.5.6 and 2.4.5.9.
+/// ITU-T X.25 (10/96), sections 2.4.4.1, 2.4.5.5 and 2.4.5.9.
 #[derive(Clone, Copy, Debug, PartialEq, Eq)]
 pub enum Timer {
     /// It doesn't run.
@@ -88,7 +89,8 @@ impl Clock {
 
     // What becomes of T1 at a step that left `next`.
     fn behind(self, next: Clock, has_fired: bool, is_up: bool) -> Timer
-        ensures { (s : State) (step : PlainStep) → Watches self s → Watches next step.near → is_up ≡ tell_up step.entries →
+        ensures { (s : State) (step : PlainStep) → Watches self s → Watches next step.near
+            → is_up ≡ tell_up step.entries →
             result ≡ timer_at s has_fired (Did step) }
     {
         let is_acknowledged = is_another(self.acknowledged, next.acknowledged);

@@ -1,9 +1,11 @@
-//! The calls of a station without their claims: a body that makes one of the station's own carries all that it promises.
+//! The calls of a station without their claims: a body that makes one of the station's own carries all that it
+//! promises.
 
 use std::alloc::Global;
 use x25_station::{Cfg, Cmd, Role, Station, StationError, Step};
 
-// A station in a place of its own: a body that holds the box lets go of it by one call, and not of each part of the station.
+// A station in a place of its own: a body that holds the box lets go of it by one call, and not of each part of the
+// station.
 fn boxed(alloc: Global, station: Station) -> Result<Box<Station>, StationError> {
     match Box::new(alloc, station) {
         Ok(boxed) => Ok(boxed),

@@ -26,7 +26,8 @@ pub enum Act {
     Take(&'static str),
     /// An I frame with this N(S), this N(R) and this packet, in hexadecimal, comes.
     Hear(u8, u8, &'static str),
-    /// So many I frames come, numbered from this N(S) on, each with N(R) 0 and this packet. What is shown is the answer to the last.
+    /// So many I frames come, numbered from this N(S) on, each with N(R) 0 and this packet. What is shown is the answer
+    /// to the last.
     HearMany(u16, u8, &'static str),
     /// An RR response with this N(R) comes.
     HearRr(u8),
@@ -42,7 +43,8 @@ pub enum Act {
     Joined(u16),
 }
 
-/// What happens, and what it shows: the entries that it makes and the frames to send, or `!` and the number of the refusal.
+/// What happens, and what it shows: the entries that it makes and the frames to send, or `!` and the number of the
+/// refusal.
 pub type Row = (Act, &'static [&'static str]);
 
 /// The window 7 and N2 = 1.

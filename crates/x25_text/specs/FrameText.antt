@@ -3,7 +3,8 @@ use Rattle.std.specs.Prelude.{ℕ, Bool, true, false, List, ◌++◌, codes, dec
 use Rattle.x25_frame.specs.Frame.{PlainFrame, info, rr, rnr, rej, sabm, disc, ua, dm, frmr}
 use Rattle.x25_frame.specs.Spelling.{bit}
 use Rattle.x25_frame.specs.declared.error.FrameError.{FrameError}
-use Rattle.x25_frame.specs.declared.error.FrameError.TheVariants.{Short, BadFcs, BadAddress, Undefined, NoInfoAllowed, TooLong}
+use Rattle.x25_frame.specs.declared.error.FrameError.TheVariants.{Short, BadFcs, BadAddress, Undefined, NoInfoAllowed}
+use Rattle.x25_frame.specs.declared.error.FrameError.TheVariants.{TooLong}
 use Rattle.x25_text.specs.Text.{octet_text}
 use Rattle.x25_text.specs.PacketText.{information_text}
 
@@ -18,7 +19,8 @@ why_text why = octet_text (slice_index why 0) ++ octet_text (slice_index why 1) 
 
 -- a frame on one line, by whether the user data of a CALL may be long
 abbrev pub frame_text : Bool → PlainFrame → List ℕ
-frame_text long_data (info ns nr p octets) = codes "I cmd P=" ++ decimal (bit p) ++ codes " S=" ++ decimal ns ++ codes " R=" ++ decimal nr
+frame_text long_data (info ns nr p octets) = codes "I cmd P=" ++ decimal (bit p) ++ codes " S=" ++ decimal ns
+    ++ codes " R=" ++ decimal nr
     ++ codes " | " ++ information_text long_data octets
 frame_text long_data (rr command nr pf) = codes "RR " ++ supervisory_text command pf nr
 frame_text long_data (rnr command nr pf) = codes "RNR " ++ supervisory_text command pf nr

@@ -1,6 +1,7 @@
 -- The text that a trace shows of a packet and of its error (profile).
 use Rattle.std.specs.Prelude.{ℕ, ◌+◌, Bool, List, [], ◌∷◌, ◌++◌, map, codes, decimal, Result, Ok, Err}
-use Rattle.x25_packet.specs.Packet.{PlainPacket, call, accept, clear, clear_conf, user_data, rr, rnr, interrupt, interrupt_conf, reset, reset_conf, restart, restart_conf}
+use Rattle.x25_packet.specs.Packet.{PlainPacket, call, accept, clear, clear_conf, user_data, rr, rnr, interrupt}
+use Rattle.x25_packet.specs.Packet.{interrupt_conf, reset, reset_conf, restart, restart_conf}
 use Rattle.x25_packet.specs.Reading.{packet_of}
 use Rattle.x25_packet.specs.Spelling.{bit, longest_user}
 use Rattle.x25_packet.specs.Error.{number_of, diagnostic_of}
@@ -30,11 +31,14 @@ abbrev pub marks_text : Bool → Bool → List ℕ
 marks_text m q = codes " M=" ++ decimal (bit m) ++ codes " Q=" ++ decimal (bit q)
 
 abbrev pub packet_text : PlainPacket → List ℕ
-packet_text (call channel called calling facilities user) = codes "CALL ch=" ++ decimal channel ++ addresses_text called calling ++ fields_text facilities user
-packet_text (accept channel facilities) = codes "ACCEPT ch=" ++ decimal channel ++ (codes " fac=" ++ octets_text facilities)
+packet_text (call channel called calling facilities user) = codes "CALL ch=" ++ decimal channel
+    ++ addresses_text called calling ++ fields_text facilities user
+packet_text (accept channel facilities) = codes "ACCEPT ch=" ++ decimal channel
+    ++ (codes " fac=" ++ octets_text facilities)
 packet_text (clear channel cause diagnostic) = codes "CLEAR ch=" ++ decimal channel ++ reason_text cause diagnostic
 packet_text (clear_conf channel) = codes "CLEARCONF ch=" ++ decimal channel
-packet_text (user_data channel q m ps pr user) = codes "DATA ch=" ++ decimal channel ++ numbers_text ps pr ++ marks_text m q ++ (codes " data=" ++ octets_text user)
+packet_text (user_data channel q m ps pr user) = codes "DATA ch=" ++ decimal channel ++ numbers_text ps pr
+    ++ marks_text m q ++ (codes " data=" ++ octets_text user)
 packet_text (rr channel pr) = codes "RR ch=" ++ decimal channel ++ (codes " R=" ++ decimal pr)
 packet_text (rnr channel pr) = codes "RNR ch=" ++ decimal channel ++ (codes " R=" ++ decimal pr)
 packet_text (interrupt channel user) = codes "INT ch=" ++ decimal channel ++ (codes " data=" ++ octets_text user)
@@ -45,7 +49,8 @@ packet_text (restart cause diagnostic) = codes "RESTART" ++ reason_text cause di
 packet_text restart_conf = codes "RESTARTCONF"
 
 abbrev pub packet_fault_text : PacketError → List ℕ
-packet_fault_text error = codes "fault " ++ decimal (number_of error) ++ (codes " diag=" ++ decimal (diagnostic_of error))
+packet_fault_text error = codes "fault " ++ decimal (number_of error)
+    ++ (codes " diag=" ++ decimal (diagnostic_of error))
 
 abbrev pub packet_reading_text : Result PlainPacket PacketError → List ℕ
 packet_reading_text (Ok v) = packet_text v

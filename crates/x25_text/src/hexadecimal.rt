@@ -1,5 +1,6 @@
 //! Octets from hexadecimal digits, and as such.
-ghost use Rattle.std.specs.Prelude.{◌≡◌, ◌==◌, ◌&&◌, ◌+◌, ◌*◌, ◌≤◌, ◌<◌, ◌++◌, ℕ, nat_le, nat_lt, if◌then◌else◌, length, slice_index, take, drop, map, Some, None, IfSome, IsTrue};
+ghost use Rattle.std.specs.Prelude.{◌≡◌, ◌==◌, ◌&&◌, ◌+◌, ◌*◌, ◌≤◌, ◌<◌, ◌++◌, ℕ, nat_le, nat_lt, if◌then◌else◌};
+ghost use Rattle.std.specs.Prelude.{length, slice_index, take, drop, map, Some, None, IfSome, IsTrue};
 ghost use Rattle.std.specs.Char.{is_ascii_hexdigit};
 ghost use Rattle.std.specs.Int.{trailing_zeros, w64};
 ghost use Rattle.std.specs.List.{flat_map, list_all, prefix_len};
@@ -89,7 +90,8 @@ fn joined(values: u8x16) -> u8x8
 fn read_eight(digits: &[u8], octets: &mut [u8], place: usize) -> bool
     requires digits { length digits.now ≡ 2 * length octets.old }
     requires room { place + 8 ≤ length octets.old }
-    ensures octets { octets_of (take 16 (drop (2 * place) digits.now)) ≡ (if result then Some (take 8 (drop place octets.new)) else None) }
+    ensures octets { octets_of (take 16 (drop (2 * place) digits.now)) ≡ (if result
+        then Some (take 8 (drop place octets.new)) else None) }
     ensures before { take place octets.new ≡ take place octets.old }
 {
     let values = values(u8x16::from_slice(&digits[2 * place..]));
@@ -158,7 +160,8 @@ fn joined_words(values: u8x16) -> u16x8
 #[inline(always)]
 fn joined_sixteen(first: u8x16, second: u8x16) -> u8x16
     ensures size { length result ≡ 16 }
-    ensures octets { IsTrue (list_all (λ value. nat_lt value 16) first) → IsTrue (list_all (λ value. nat_lt value 16) second)
+    ensures octets { IsTrue (list_all (λ value. nat_lt value 16) first)
+        → IsTrue (list_all (λ value. nat_lt value 16) second)
         → result ≡ paired first ++ paired second }
 {
     let front: u8x16 = joined_words(first).to_le_bytes();
@@ -204,8 +207,8 @@ fn read_few_digits(digits: &[u8], octets: &mut [u8])
 
 /// Reads the octets that characters write that are known to be digits, two for each.
 ///
-/// Sixteen octets at a time, of which the last sixteen, behind the loop, may be read over some that were read before. Fewer are read by a
-/// call, so that this function is small enough for its callers' place.
+/// Sixteen octets at a time, of which the last sixteen, behind the loop, may be read over some that were read before.
+/// Fewer are read by a call, so that this function is small enough for its callers' place.
 pub fn read_digits(digits: &[u8], octets: &mut [u8])
     requires digits { IsTrue (list_all is_ascii_hexdigit digits.now) }
     requires length { length digits.now ≡ 2 * length octets.old }
@@ -242,8 +245,8 @@ fn leading(values: u8x16) -> usize
     lowest_set(values.simd_ge(u8x16::splat(16)).to_bitmask())
 }
 
-/// Reads eight octets from a place on, and answers how many of their sixteen characters stand before the first that is no
-/// digit: so far the octets are right.
+/// Reads eight octets from a place on, and answers how many of their sixteen characters stand before the first that is
+/// no digit: so far the octets are right.
 #[inline]
 fn read_leading(text: &[u8], octets: &mut [u8], place: usize) -> usize
     requires text { 2 * place + 16 ≤ length text.now }
@@ -271,7 +274,8 @@ fn octets_before(text: &[u8], before: usize, more: usize) -> Option<usize>
     Some(before + more / 2)
 }
 
-/// How many times eight octets can be read of so many characters into so much room, with sixteen characters looked at each time.
+/// How many times eight octets can be read of so many characters into so much room, with sixteen characters looked at
+/// each time.
 fn blocks(characters: usize, room: usize) -> usize
     ensures characters { 16 * result ≤ characters }
     ensures room { 8 * result ≤ room }
@@ -281,14 +285,16 @@ fn blocks(characters: usize, room: usize) -> usize
     if whole < most { whole } else { most }
 }
 
-/// Reads the octets that the digits write at the front of a text, up to its first line feed, and answers how many they are.
+/// Reads the octets that the digits write at the front of a text, up to its first line feed, and answers how many they
+/// are.
 ///
-/// Eight octets at a time, so that the line feed is found on the way. `None` says nothing of the text: it comes also where
-/// fewer than sixteen characters are left, or room for fewer than eight octets.
+/// Eight octets at a time, so that the line feed is found on the way. `None` says nothing of the text: it comes also
+/// where fewer than sixteen characters are left, or room for fewer than eight octets.
 pub fn read_line(text: &[u8], octets: &mut [u8]) -> Option<usize>
     ensures room { IfSome result (λ count. count ≤ length octets.new) }
     ensures end { IfSome result (λ count. (2 * count < length text.now) × (slice_index text.now (2 * count) ≡ 10)) }
-    ensures octets { IfSome result (λ count. result_ok (decode_of (take (2 * count) text.now)) ≡ Some (take count octets.new)) }
+    ensures octets { IfSome result (λ count. result_ok (decode_of (take (2 * count) text.now))
+        ≡ Some (take count octets.new)) }
 {
     for eight in 0..blocks(text.len(), octets.len()) {
         let more = read_leading(text, octets, 8 * eight);
@@ -332,7 +338,8 @@ fn digits_of(octets: u8x8) -> u8x16
 fn write_four(octets: &[u8], digits: &mut [u8], place: usize)
     requires digits { length digits.old ≡ 2 * length octets.now }
     requires room { place + 4 ≤ length octets.now }
-    ensures { take (2 * (place + 4)) digits.new ≡ take (2 * place) digits.old ++ flat_map octet_text (take 4 (drop place octets.now)) }
+    ensures { take (2 * (place + 4)) digits.new ≡ take (2 * place) digits.old
+        ++ flat_map octet_text (take 4 (drop place octets.now)) }
 {
     digits_of_four(u8x4::from_slice(&octets[place..])).copy_to_slice(&mut digits[2 * place..]);
 }
@@ -342,7 +349,8 @@ fn write_four(octets: &[u8], digits: &mut [u8], place: usize)
 fn write_eight(octets: &[u8], digits: &mut [u8], place: usize)
     requires digits { length digits.old ≡ 2 * length octets.now }
     requires room { place + 8 ≤ length octets.now }
-    ensures { take (2 * (place + 8)) digits.new ≡ take (2 * place) digits.old ++ flat_map octet_text (take 8 (drop place octets.now)) }
+    ensures { take (2 * (place + 8)) digits.new ≡ take (2 * place) digits.old
+        ++ flat_map octet_text (take 8 (drop place octets.now)) }
 {
     digits_of(u8x8::from_slice(&octets[place..])).copy_to_slice(&mut digits[2 * place..]);
 }
@@ -365,7 +373,8 @@ fn write_few(octets: &[u8], digits: &mut [u8])
 
 /// Writes the octets as hexadecimal digits in lower case, two for each.
 ///
-/// Eight octets at a time, of which the digits of the last eight, behind the loop, may be written over some that are there.
+/// Eight octets at a time, of which the digits of the last eight, behind the loop, may be written over some that are
+/// there.
 #[inline]
 pub fn write_hexadecimal(octets: &[u8], digits: &mut [u8])
     requires { length digits.old ≡ 2 * length octets.now }
@@ -429,7 +438,8 @@ fn are_of_digits(marks: u8x16) -> bool
 
 /// Whether all characters are hexadecimal digits, of either case.
 ///
-/// Sixteen at a time; the last sixteen may be tested over some that were tested before. The answer is taken of all marks at the end.
+/// Sixteen at a time; the last sixteen may be tested over some that were tested before. The answer is taken of all
+/// marks at the end.
 pub fn is_hexadecimal(text: &[u8]) -> bool
     ensures { result ≡ list_all is_ascii_hexdigit text.now }
 {

@@ -3,7 +3,8 @@ ghost use Rattle.std.specs.Prelude.{◌≡◌, ◌+◌, ◌*◌, ◌≤◌, ◌<
 ghost use Rattle.x25_packet.specs.Packet.{plain};
 ghost use Rattle.x25_packet.specs.Spelling.{IsInRange};
 ghost use Rattle.x25_text.specs.Text.{octets_text};
-ghost use Rattle.x25_text.specs.PacketText.{addresses_text, digits_text, fields_text, information_text, marks_text, numbers_text, packet_fault_text, packet_text, reason_text};
+ghost use Rattle.x25_text.specs.PacketText.{addresses_text, digits_text, fields_text, information_text, marks_text};
+ghost use Rattle.x25_text.specs.PacketText.{numbers_text, packet_fault_text, packet_text, reason_text};
 
 use crate::text::{MOST_OCTETS, ROOM, Text, bit_digit, seq_digit};
 use x25_frame::Seq;

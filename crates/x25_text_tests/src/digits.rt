@@ -19,8 +19,8 @@ fn reads_digits_as_hex_does(rt: HostRuntime) -> Result<(), Fail> {
 static MANY_DIGITS: [u8; 100] =
     *b"243f6a8885a308d313198A2E03707344A4093822299F31D0082EFA98ec4e6c89452821e638d01377be5466CF34E90C6CC0AC";
 
-/// For each number of octets, of characters that were tested before: with none, one and more blocks of sixteen, and with and
-/// without a block over the one before.
+/// For each number of octets, of characters that were tested before: with none, one and more blocks of sixteen, and
+/// with and without a block over the one before.
 #[test]
 fn reads_tested_digits_as_hex_does(rt: HostRuntime) -> Result<(), Fail> {
     for count in 0..51usize {

@@ -9,11 +9,14 @@ use Rattle.x25_link.specs.declared.phase.Reason.TheVariants.{Retries, Disc, Dm, 
 use Rattle.x25_circuit.specs.declared.message.Message.{Message}
 use Rattle.x25_circuit.specs.declared.params.Params.{Params}
 use Rattle.x25_circuit.specs.Params.{default_params}
-use Rattle.x25_circuit.specs.Notice.{PlainNotice, incoming, connected, collided, cleared, clear_done, was_reset, reset_done, delivered, interrupted, interrupt_done, fault}
-use Rattle.x25_circuit.specs.Calling.{Request, Calls, Accepts, Clears, Sends, Interrupts, Resets, SaysReady, SaysNotReady}
+use Rattle.x25_circuit.specs.Notice.{PlainNotice, incoming, connected, collided, cleared, clear_done, was_reset}
+use Rattle.x25_circuit.specs.Notice.{reset_done, delivered, interrupted, interrupt_done, fault}
+use Rattle.x25_circuit.specs.Calling.{Request, Calls, Accepts, Clears, Sends, Interrupts, Resets, SaysReady}
+use Rattle.x25_circuit.specs.Calling.{SaysNotReady}
 use Rattle.x25_handshakes.specs.laws.Names.{Name}
 use Rattle.x25_layer.specs.laws.Transcript.{Said, Asked, Told}
-use Rattle.x25_station.specs.Entry.{StationEntry, of_channel, restart_asked, connect_asked, disconnect_asked, link_up, link_down, was_restarted, restart_confirmed, at_fault}
+use Rattle.x25_station.specs.Entry.{StationEntry, of_channel, restart_asked, connect_asked, disconnect_asked, link_up}
+use Rattle.x25_station.specs.Entry.{link_down, was_restarted, restart_confirmed, at_fault}
 use Rattle.x25_text.specs.Text.{octets_text}
 use Rattle.x25_text.specs.PacketText.{reason_text}
 
@@ -47,7 +50,8 @@ abbrev pub message_text : Message → List ℕ
 message_text message = (codes " q=" ++ decimal (bit message.q)) ++ user_text message.user
 
 abbrev pub are_same : Params → Params → Bool
-are_same p q = p.size_called == q.size_called && (p.size_calling == q.size_calling && (p.win_called == q.win_called && p.win_calling == q.win_calling))
+are_same p q = p.size_called == q.size_called && (p.size_calling == q.size_calling
+    && (p.win_called == q.win_called && p.win_calling == q.win_calling))
 
 -- of the called end, then of the calling one
 abbrev pub pair_text : ℕ → ℕ → List ℕ
@@ -58,16 +62,19 @@ abbrev pub params_text : Params → List ℕ
 params_text p =
     if are_same p default_params
     then []
-    else (codes " size=" ++ pair_text p.size_called p.size_calling) ++ (codes " win=" ++ pair_text p.win_called p.win_calling)
+    else (codes " size=" ++ pair_text p.size_called p.size_calling)
+    ++ (codes " win=" ++ pair_text p.win_called p.win_calling)
 
 -- what its user asked
 abbrev pub request_text : ℕ → Name → Request → List ℕ
-request_text channel name (Calls called calling user params) = codes "call" ++ stretch_text channel name ++ (codes " called=" ++ address_text called)
+request_text channel name (Calls called calling user params) = codes "call" ++ stretch_text channel name
+    ++ (codes " called=" ++ address_text called)
     ++ (codes " calling=" ++ address_text calling) ++ user_text user ++ params_text params
 request_text channel name (Accepts None) = codes "accept" ++ channel_text channel
 request_text channel name (Accepts (Some params)) = codes "accept" ++ channel_text channel ++ params_text params
 request_text channel name Clears = codes "clear" ++ channel_text channel
-request_text channel name (Sends q user) = codes "send" ++ stretch_text channel name ++ (codes " q=" ++ decimal (bit q)) ++ user_text user
+request_text channel name (Sends q user) = codes "send" ++ stretch_text channel name ++ (codes " q=" ++ decimal (bit q))
+    ++ user_text user
 request_text channel name (Interrupts user) = codes "int" ++ stretch_text channel name ++ user_text user
 request_text channel name Resets = codes "reset" ++ channel_text channel
 request_text channel name SaysReady = codes "ready" ++ channel_text channel
@@ -75,18 +82,22 @@ request_text channel name SaysNotReady = codes "notready" ++ channel_text channe
 
 -- what its user was told
 abbrev pub notice_text : ℕ → Name → PlainNotice → List ℕ
-notice_text channel name (incoming request) = codes "incoming" ++ stretch_text channel name ++ (codes " called=" ++ digits_text request.called)
+notice_text channel name (incoming request) = codes "incoming" ++ stretch_text channel name
+    ++ (codes " called=" ++ digits_text request.called)
     ++ (codes " calling=" ++ digits_text request.calling) ++ user_text request.user ++ params_text request.params
 notice_text channel name (connected params) = codes "connected" ++ channel_text channel ++ params_text params
 notice_text channel name collided = codes "collided" ++ channel_text channel
-notice_text channel name (cleared cause diagnostic) = codes "cleared" ++ channel_text channel ++ reason_text cause diagnostic
+notice_text channel name (cleared cause diagnostic) = codes "cleared" ++ channel_text channel
+    ++ reason_text cause diagnostic
 notice_text channel name clear_done = codes "cleardone" ++ channel_text channel
-notice_text channel name (was_reset cause diagnostic) = codes "wasreset" ++ channel_text channel ++ reason_text cause diagnostic
+notice_text channel name (was_reset cause diagnostic) = codes "wasreset" ++ channel_text channel
+    ++ reason_text cause diagnostic
 notice_text channel name reset_done = codes "resetdone" ++ channel_text channel
 notice_text channel name (delivered message) = codes "message" ++ stretch_text channel name ++ message_text message
 notice_text channel name (interrupted user) = codes "interrupt" ++ stretch_text channel name ++ user_text user
 notice_text channel name interrupt_done = codes "intdone" ++ channel_text channel
-notice_text channel name (fault diagnostic) = codes "fault" ++ channel_text channel ++ (codes " diag=" ++ decimal diagnostic)
+notice_text channel name (fault diagnostic) = codes "fault" ++ channel_text channel
+    ++ (codes " diag=" ++ decimal diagnostic)
 
 abbrev pub said_text : ℕ → Name → Said → List ℕ
 said_text channel name (Asked request) = request_text channel name request

@@ -1,7 +1,9 @@
 //! Entries of a transcript as text.
 ghost use Rattle.std.specs.Prelude.{◌≡◌, ◌++◌, [], IfOk, OnOk, OnErr, codes, decimal, string_bytes};
-ghost use Rattle.x25_transcript.specs.EntryText.{address_text, channel_text, digits_text, end_text, name_text, params_text};
-ghost use Rattle.x25_transcript.specs.EntryText.{down_text, entry_line as line_of, entry_text, notice_text, request_text};
+ghost use Rattle.x25_transcript.specs.EntryText.{address_text, channel_text, digits_text, end_text, name_text};
+ghost use Rattle.x25_transcript.specs.EntryText.{params_text};
+ghost use Rattle.x25_transcript.specs.EntryText.{down_text, entry_line as line_of, entry_text, notice_text};
+ghost use Rattle.x25_transcript.specs.EntryText.{request_text};
 ghost use Rattle.x25_transcript.specs.EntryText.{said_text, stretch_text, user_text};
 ghost use Rattle.x25_station.specs.code.PlainEntry.{plain_asked, plain_entry, plain_name, plain_said, plain_told};
 ghost use Rattle.x25_packet.specs.Spelling.{bit};

@@ -3,8 +3,8 @@ use x25_wide::{Kind, WidePacket, decode};
 
 /// Octets in hexadecimal, and the number of their error, 0 where they spell a packet.
 static ROWS: [(&str, u8); 47] = [
-    // CALL: D; reverse charging; facilities of an OSI stack; no facility length; 17 octets of user data without and with
-    // fast select; a field of 110 octets; a facility whose octets are missing; a digit that is none
+    // CALL: D; reverse charging; facilities of an OSI stack; no facility length; 17 octets of user data without and
+    // with fast select; a field of 110 octets; a facility whose octets are missing; a digit that is none
     ("50010b111200", 0),
     ("10010b1112020101", 0),
     ("10010b111208000fc902123401ff", 0),

@@ -8,12 +8,17 @@ use Rattle.x25_world.specs.World.{Event, Damages}
 use Rattle.x25_world.specs.declared.error.WorldError.{WorldError}
 use Rattle.x25_world.specs.declared.error.WorldError.TheVariants.{NoSuchFrame, Unseen, NoMemory}
 
--- it is damage to the octets: the first content that is found between these flags comes in the place of the frame's, or no octets where none is found
+-- it is damage to the octets: the first content that is found between these flags comes in the place of the frame's, or
+-- no octets where none is found
 abbrev pub bit_damage : Direction → ℕ → List Bool → Event
-bit_damage direction place bits = record { at = end_of direction; act = Damages place (first_content (found_of (between_flags bits))) }
+bit_damage direction place bits = record {
+  at = end_of direction;
+  act = Damages place
+      (first_content (found_of (between_flags bits)));
+}
 
--- why it is refused, the first that applies: the line has no frame at that place, or the bits aren't harmless; or there is no memory for a frame that
--- is there
+-- why it is refused, the first that applies: the line has no frame at that place, or the bits aren't harmless; or there
+-- is no memory for a frame that is there
 abbrev pub RefusesBits : List (List ℕ) → ℕ → List Bool → WorldError → Type 0
 RefusesBits frames place bits NoSuchFrame = length frames ≤ place
 RefusesBits frames place bits Unseen = (place < length frames) × ¬ (IsHarmless bits)

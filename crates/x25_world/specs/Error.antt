@@ -3,7 +3,8 @@ use Rattle.std.specs.Prelude.{ℕ}
 use Rattle.x25_station.specs.declared.error.StationError.{StationError}
 use Rattle.x25_station.specs.declared.error.StationError.TheVariants as station
 use Rattle.x25_world.specs.declared.error.WorldError.{WorldError}
-use Rattle.x25_world.specs.declared.error.WorldError.TheVariants.{BadConfig, Empty, NoSuchFrame, Unseen, Station, OnLine, NoMemory}
+use Rattle.x25_world.specs.declared.error.WorldError.TheVariants.{BadConfig, Empty, NoSuchFrame, Unseen, Station}
+use Rattle.x25_world.specs.declared.error.WorldError.TheVariants.{OnLine, NoMemory}
 
 abbrev pub number_of : WorldError → ℕ
 number_of BadConfig = 14

@@ -1,7 +1,8 @@
--- Healing of two stations: once the line is good for a moment, what their links were handed down arrives. What is on the line arrives; timer T1
--- runs out once at each end where it runs; and then all that is on the line arrives, while nothing is lost. What still waits in circuits is pulled
--- then, and arrives too.
-use Rattle.std.specs.Prelude.{◌≡◌, ℕ, zero, suc, ◌+◌, ◌<◌, ◌≤◌, length, ◌⊎◌, true, false, List, [], ◌∷◌, ◌++◌, Option, Some, None}
+-- Healing of two stations: once the line is good for a moment, what their links were handed down arrives. What is on
+-- the line arrives; timer T1 runs out once at each end where it runs; and then all that is on the line arrives, while
+-- nothing is lost. What still waits in circuits is pulled then, and arrives too.
+use Rattle.std.specs.Prelude.{◌≡◌, ℕ, zero, suc, ◌+◌, ◌<◌, ◌≤◌, length, ◌⊎◌, true, false, List, [], ◌∷◌, ◌++◌, Option}
+use Rattle.std.specs.Prelude.{Some, None}
 use Rattle.x25_bits.specs.declared.role.Role.{Role}
 use Rattle.x25_bits.specs.declared.role.Role.TheVariants.{Dte, Dce}
 use Rattle.x25_link.specs.Hearing.{other}
@@ -23,7 +24,8 @@ use Rattle.x25_station.specs.Config.{Settings, settings_from, link_settings, lay
 use Rattle.x25_station.specs.Station.{Station, view_of}
 use Rattle.x25_station.specs.Step.{abandons, layer_at}
 use Rattle.x25_station.specs.Station.Told.{stretch}
-use Rattle.x25_world.specs.World.{World, WorldOutcome, Happened, Declined, Act, Commands, Receives, Fires, Event, happens, after, run, AreAccepted}
+use Rattle.x25_world.specs.World.{World, WorldOutcome, Happened, Declined, Act, Commands, Receives, Fires, Event}
+use Rattle.x25_world.specs.World.{happens, after, run, AreAccepted}
 use Rattle.x25_world.specs.laws.Claims.{AreInOctets, link_of, station_at}
 use Rattle.x25_world.specs.laws.SessionWindow.{IsRunOfSessions}
 use Rattle.x25_world.specs.laws.Sessions.{last_session, handed_in}
@@ -102,7 +104,8 @@ unless_empty rest w (Some at) = rest w
 -- round after round, as long as the pulls put frames on the line, at most so many of them
 unfoldable pub pull_rounds : Cfg → ℕ → World → List Event
 pull_rounds cfg zero w = []
-pull_rounds cfg (suc n) w = behind cfg (pull_round cfg) (λ v. unless_empty (pull_rounds cfg n) v (next_end v.out v.back)) w
+pull_rounds cfg (suc n) w = behind cfg (pull_round cfg)
+    (λ v. unless_empty (pull_rounds cfg n) v (next_end v.out v.back)) w
 
 -- timer T1 runs out at each end where it runs, and then come the rounds
 abbrev pub fire_and_pull : Cfg → World → List Event
@@ -133,17 +136,21 @@ AreLinksOf cfg w v = (s : Standing) × IsRunOfSessions cfg w v s
 abbrev pub StopsAtRest : Station → Type 0
 StopsAtRest s = is_up s.link.phase ≡ true → timer_runs s.link.phase s.link ≡ false → IsAtRest s.link
 
--- Then all that its link was handed down in its session was handed up at the other end, where that is up or met its session. So where no message waits
--- in a circuit either, all that was sent on a stretch that is open at both ends has arrived.
+-- Then all that its link was handed down in its session was handed up at the other end, where that is up or met its
+-- session. So where no message waits in a circuit either, all that was sent on a stretch that is open at both ends has
+-- arrived.
 pub record RestShows (cfg : Cfg) (w : World) : Type 0 where
   pub at_rest : (end : Role) → StopsAtRest (station_at end w)
   pub links : Sessions
   pub are : AreLinksOf cfg w links
   pub arrived : EachRestShows (link_of cfg Dte) (link_of cfg Dce) links
-  pub messages : (end : Role) (channel : ℕ) (name : Name) → is_up (station_at end w).link.phase ≡ true → timer_runs (station_at end w).link.phase (station_at end w).link ≡ false
-      → waits_up_to (station_at end w).layer.circuits cfg.channels ≡ 0 → stretch (settings_from end cfg) (station_at end w) channel ≡ Some name
+  pub messages : (end : Role) (channel : ℕ) (name : Name) → is_up (station_at end w).link.phase ≡ true
+      → timer_runs (station_at end w).link.phase (station_at end w).link ≡ false
+      → waits_up_to (station_at end w).layer.circuits cfg.channels ≡ 0
+      → stretch (settings_from end cfg) (station_at end w) channel ≡ Some name
       → stretch (settings_from (other end) cfg) (station_at (other end) w) channel ≡ Some name
-      → HasAllOf channel name (handed_in end (last_session end w) w) (handed_in (other end) (last_session (other end) w) w)
+      → HasAllOf channel name (handed_in end (last_session end w) w)
+      (handed_in (other end) (last_session (other end) w) w)
 
 -- ---- where the layers put nothing
 
@@ -152,7 +159,9 @@ abbrev pub PutsNothing : Settings → Station → List (List ℕ) → Type 0
 PutsNothing c s [] = Unit {0}
 PutsNothing c s (octets ∷ back) =
     let k = take_step (link_settings c) octets s.link in
-    (abandons c s ≡ false) × ((layer_at (view_of (link_settings c) k.side.near) (layer_settings c) s.layer k.packet k.notes.down k.notes.up).put ≡ [])
+    (abandons c s ≡ false)
+    × ((layer_at (view_of (link_settings c) k.side.near)
+    (layer_settings c) s.layer k.packet k.notes.down k.notes.up).put ≡ [])
 
 abbrev pub PutsNothingAt : Cfg → Role → World → Type 0
 PutsNothingAt cfg Dte w = PutsNothing (settings_from Dte cfg) w.near w.back
@@ -172,8 +181,8 @@ HasTries cfg s = timer_runs s.phase s ≡ true → s.tries < cfg.n2
 abbrev pub RestsOrIsOut : LinkStation → Type 0
 RestsOrIsOut s = IsAtRest s ⊎ (is_up s.phase ≡ false)
 
--- Both links are at rest, and all that they were handed down in their sessions has been handed up at the other end: two links behind the first world
--- have gone on to two behind the second.
+-- Both links are at rest, and all that they were handed down in their sessions has been handed up at the other end: two
+-- links behind the first world have gone on to two behind the second.
 pub record IsHealed (cfg : Cfg) (w u : World) : Type 0 where
   pub dte : IsAtRest u.near.link
   pub dce : IsAtRest u.far.link
@@ -183,11 +192,13 @@ pub record IsHealed (cfg : Cfg) (w u : World) : Type 0 where
   pub behind_are : AreLinksOf cfg u behind
   pub healed : SessionsAreHealed before behind
 
--- Each link is at rest, or not up. If both were up, and timer T1 had run out fewer than N2 times where it ran, both are at rest, and all has arrived.
+-- Each link is at rest, or not up. If both were up, and timer T1 had run out fewer than N2 times where it ran, both are
+-- at rest, and all has arrived.
 pub record Heals (cfg : Cfg) (w u : World) : Type 0 where
   pub dte : RestsOrIsOut u.near.link
   pub dce : RestsOrIsOut u.far.link
-  pub healed : is_up w.near.link.phase ≡ true → is_up w.far.link.phase ≡ true → HasTries cfg w.near.link → HasTries cfg w.far.link → IsHealed cfg w u
+  pub healed : is_up w.near.link.phase ≡ true → is_up w.far.link.phase ≡ true → HasTries cfg w.near.link
+      → HasTries cfg w.far.link → IsHealed cfg w u
 
 -- a moment in which nothing is on the line, no link is being set up, and not both ends are busy
 pub record MayHeal (w : World) : Type 0 where
@@ -196,12 +207,13 @@ pub record MayHeal (w : World) : Type 0 where
   pub far : awaits_ua w.far.link.phase ≡ false
   pub free : OneIsFree w.near.link w.far.link
 
--- From such a moment timer T1 runs out at each end where it runs, and then all that is on the line comes, in any order of the two directions, while the
--- layers put nothing.
+-- From such a moment timer T1 runs out at each end where it runs, and then all that is on the line comes, in any order
+-- of the two directions, while the layers put nothing.
 abbrev pub HealsWhereNonePut : Cfg → World → Type 0
 HealsWhereNonePut cfg w =
     MayHeal w → (ends : List Role)
-    → (let fired = run cfg (firing Dte ∷ firing Dce ∷ []) w in NonePut cfg ends fired → (let u = run cfg (all_received ends) fired in IsDrained u → Heals cfg w u))
+    → (let fired = run cfg (firing Dte ∷ firing Dce ∷ []) w in NonePut cfg ends fired
+    → (let u = run cfg (all_received ends) fired in IsDrained u → Heals cfg w u))
 
 -- ---- healing while the layers put packets
 
@@ -246,8 +258,8 @@ pub record BothMayHeal (cfg : Cfg) (w : World) : Type 0 where
   pub near : LinkMayHeal cfg w.near.link
   pub far : LinkMayHeal cfg w.far.link
 
--- Both links are at rest, in the same sessions as before, and all that they were handed down in these, then and since, has been handed up at the other
--- end: two links behind the first world have gone on to two behind the second.
+-- Both links are at rest, in the same sessions as before, and all that they were handed down in these, then and since,
+-- has been handed up at the other end: two links behind the first world have gone on to two behind the second.
 pub record HaveArrived (cfg : Cfg) (w u : World) : Type 0 where
   pub dte : IsAtRest u.near.link
   pub dce : IsAtRest u.far.link
@@ -257,24 +269,27 @@ pub record HaveArrived (cfg : Cfg) (w u : World) : Type 0 where
   pub behind_are : AreLinksOf cfg u behind
   pub asked : List line.Event
   pub are : AreDeliveriesAndPuts asked
-  pub goes : links.run (link_of cfg Dte) (link_of cfg Dce) (line.Near line.T1 ∷ line.Far line.T1 ∷ asked) before ≡ behind
+  pub goes : links.run (link_of cfg Dte) (link_of cfg Dce) (line.Near line.T1 ∷ line.Far line.T1 ∷ asked) before
+      ≡ behind
   pub arrived : SessionsHaveArrived before behind
 
--- From such a moment timer T1 runs out at each end where it runs. Then what is on the line comes, and users ask of the layers, in any order, until
--- nothing is on the line. What is refused changes nothing.
+-- From such a moment timer T1 runs out at each end where it runs. Then what is on the line comes, and users ask of the
+-- layers, in any order, until nothing is on the line. What is refused changes nothing.
 abbrev pub HealsWithPuts : Cfg → World → Type 0
 HealsWithPuts cfg w =
     BothMayHeal cfg w → (events : List Event) → AreReceiptsAndRequests events → AreInOctets events
-    → (let fired = run cfg (firing Dte ∷ firing Dce ∷ []) w in FreeThroughout cfg events fired → (let u = run cfg events fired in IsDrained u → HaveArrived cfg w u))
+    → (let fired = run cfg (firing Dte ∷ firing Dce ∷ []) w in FreeThroughout cfg events fired
+    → (let u = run cfg events fired in IsDrained u → HaveArrived cfg w u))
 
 -- ---- deliveries come to an end
 
 -- The world bounds how many deliveries follow one another, whatever their order, while the layers put nothing.
 abbrev pub DrainsWhereNonePut : Cfg → World → Type 0
-DrainsWhereNonePut cfg w = (most : ℕ) × ((ends : List Role) → NonePut cfg ends w → AreAccepted cfg (all_received ends) w → length ends ≤ most)
+DrainsWhereNonePut cfg w = (most : ℕ) × ((ends : List Role) → NonePut cfg ends w → AreAccepted cfg (all_received ends) w
+    → length ends ≤ most)
 
--- Of the schedule from a world: from the moment in which all that was on the line has come, it heals by the firings and what comes behind them, where the
--- layers put nothing there, and all has come.
+-- Of the schedule from a world: from the moment in which all that was on the line has come, it heals by the firings and
+-- what comes behind them, where the layers put nothing there, and all has come.
 abbrev pub HealsFrom : Cfg → World → Type 0
 HealsFrom cfg w =
     let v = run cfg (deliveries cfg w) w in
@@ -282,13 +297,14 @@ HealsFrom cfg w =
     let u = run cfg (deliveries cfg fired) fired in
     MayHeal v → NonePut cfg (arrivals cfg most_deliveries fired) fired → IsDrained u → Heals cfg v u
 
--- .. and to the one behind it: all that the links were handed down has arrived, and what still waits in circuits waits for users who aren't ready
+-- .. and to the one behind it: all that the links were handed down has arrived, and what still waits in circuits waits
+-- for users who aren't ready
 pub record AllArrives (cfg : Cfg) (w u : World) : Type 0 where
   pub links : HaveArrived cfg w u
   pub waits : AllWaitForUsers cfg u
 
--- .. where both links are up in that moment, neither is busy then nor as octets come behind the firings, no count is at its most there, and the rounds have
--- left nothing on the line
+-- .. where both links are up in that moment, neither is busy then nor as octets come behind the firings, no count is at
+-- its most there, and the rounds have left nothing on the line
 abbrev pub ArrivesByHealing : Cfg → World → World → Type 0
 ArrivesByHealing cfg w u =
     let v = run cfg (deliveries cfg w) w in

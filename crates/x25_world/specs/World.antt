@@ -1,6 +1,7 @@
--- Two stations joined by a line of octets that keeps order and may lose or visibly damage any frame (profile: the line).
--- Each act is of the near end, or of the line to it. The far end's acts are those of the two ends swapped.
-use Rattle.std.specs.Prelude.{◌≡◌, ℕ, nat_lt, ◌&&◌, ◌||◌, Bool, List, [], ◌∷◌, ◌++◌, length, map, remove, Option, Some, None, if◌then◌else◌}
+-- Two stations joined by a line of octets that keeps order and may lose or visibly damage any frame (profile: the
+-- line). Each act is of the near end, or of the line to it. The far end's acts are those of the two ends swapped.
+use Rattle.std.specs.Prelude.{◌≡◌, ℕ, nat_lt, ◌&&◌, ◌||◌, Bool, List, [], ◌∷◌, ◌++◌, length, map, remove, Option, Some}
+use Rattle.std.specs.Prelude.{None, if◌then◌else◌}
 use Rattle.x25_bits.specs.Role.{end_of, other}
 use Rattle.x25_bits.specs.declared.role.Role.{Role}
 use Rattle.x25_bits.specs.declared.role.Role.TheVariants.{Dte, Dce}
@@ -30,8 +31,8 @@ pub record AtEnd : Type 0 where
   pub at : Role
   pub entry : StationEntry
 
--- The ends; the octets on the line from the near end and on the line to it, front first; all that was ever put on the line, and the
--- transcript of both ends, in order.
+-- The ends; the octets on the line from the near end and on the line to it, front first; all that was ever put on the
+-- line, and the transcript of both ends, in order.
 pub record World : Type 0 where
   pub near : Station
   pub far : Station
@@ -91,11 +92,13 @@ pub data Act : Type 0 where
   Damages : (place : ℕ) → (octets : List ℕ) → Act
 
 abbrev pub lost : World → ℕ → WorldOutcome
-lost w place = if nat_lt place (length w.back) then Happened (on_line w (remove w.back place)) else Declined error.NoSuchFrame
+lost w place = if nat_lt place (length w.back) then Happened (on_line w (remove w.back place))
+    else Declined error.NoSuchFrame
 
 abbrev pub damaged : World → ℕ → List ℕ → WorldOutcome
 damaged w place octets =
-    if nat_lt place (length w.back) then (if is_visible octets then Happened (on_line w (replaced w.back place octets)) else Declined error.Unseen)
+    if nat_lt place (length w.back) then (if is_visible octets then Happened (on_line w (replaced w.back place octets))
+    else Declined error.Unseen)
     else Declined error.NoSuchFrame
 
 -- the SABM of the near end is on the line, or a UA to it
@@ -104,7 +107,8 @@ is_on_line c w = carries Sabm c.role w.out || carries Ua (other c.role) w.back
 
 -- timer T1 of an end that awaits UA doesn't run out while SABM or UA can still arrive
 abbrev pub fired : Settings → World → WorldOutcome
-fired c w = if awaits_ua w.near.link.phase && is_on_line c w then Declined error.OnLine else of_station c w (fires c w.near)
+fired c w = if awaits_ua w.near.link.phase && is_on_line c w then Declined error.OnLine
+    else of_station c w (fires c w.near)
 
 abbrev pub acts : Settings → World → Act → WorldOutcome
 acts c w (Commands command) = of_station c w (commands c w.near command)
@@ -158,7 +162,8 @@ run cfg (e ∷ events) w = run cfg events (after w (happens cfg w e))
 -- each event is accepted where it comes
 abbrev pub AreAccepted : Cfg → List Event → World → Type 0
 AreAccepted cfg [] w = Unit {0}
-AreAccepted cfg (e ∷ events) w = (refusal_of (happens cfg w e) ≡ None) × AreAccepted cfg events (after w (happens cfg w e))
+AreAccepted cfg (e ∷ events) w = (refusal_of (happens cfg w e) ≡ None)
+    × AreAccepted cfg events (after w (happens cfg w e))
 
 -- both links are down, and nothing is on the line
 abbrev pub start : World
@@ -170,4 +175,5 @@ connected cfg = after start (of_station (settings_from Dte cfg) start (connects 
 
 -- SABM and UA were delivered: both links are up, and both RESTARTs are on the line
 abbrev pub established : Cfg → World
-established cfg = run cfg (record { at = Dce; act = Receives } ∷ record { at = Dte; act = Receives } ∷ []) (connected cfg)
+established cfg = run cfg (record { at = Dce; act = Receives } ∷ record { at = Dte; act = Receives } ∷ [])
+    (connected cfg)

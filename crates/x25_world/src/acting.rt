@@ -52,8 +52,8 @@ pub fn act_at_end(
     }
 }
 
-// The event happens at the end, or on the line to it. Refused with the one ground that applies, 50, 51, 52, 53 or 54, or with 70; all is as
-// before then.
+// The event happens at the end, or on the line to it. Refused with the one ground that applies, 50, 51, 52, 53 or 54,
+// or with 70; all is as before then.
 #[inline(always)]
 fn act(
     at: Role,
@@ -235,7 +235,8 @@ fn make_room(line: &mut Line) -> Result<(), WorldError>
 
 /// Room for what an event tells, for which what is lost takes none.
 pub fn make_room_to_enter(transcript: &mut Vec<Entered>, event: Event) -> Result<(), WorldError>
-    ensures room { OnOk result (vec_len transcript.new + most_told (event_of event.entry).act ≤ vec_capacity transcript.new) }
+    ensures room { OnOk result (vec_len transcript.new + most_told
+        (event_of event.entry).act ≤ vec_capacity transcript.new) }
     ensures items { transcript.new.items ≡ transcript.old.items }
     ensures refused { IfErr result (λ e. e ≡ WorldError.NoMemory) }
     ensures memory { OnErr result (TakesMemory (event_of event.entry).act) }
@@ -252,7 +253,8 @@ pub fn make_room_to_enter(transcript: &mut Vec<Entered>, event: Event) -> Result
 /// What an end told comes into the transcript, in room that there is.
 pub fn enter(at: Role, told: &mut Vec<Entry>, transcript: &mut Vec<Entered>)
     requires room { vec_len transcript.old + vec_len told.old ≤ vec_capacity transcript.old }
-    ensures { map plain_entered transcript.new.items ≡ map plain_entered transcript.old.items ++ entered at (map plain_entry told.old.items) }
+    ensures { map plain_entered transcript.new.items ≡ map plain_entered transcript.old.items
+        ++ entered at (map plain_entry told.old.items) }
 {
     for entry in told.drain(..) {
         transcript.push_reserved(Entered { at, entry });
@@ -261,9 +263,11 @@ pub fn enter(at: Role, told: &mut Vec<Entry>, transcript: &mut Vec<Entered>)
 
 // The frame at this place on the line to the end is lost.
 fn lose(to: Role, line: &mut Line, place: usize) -> Result<(), WorldError>
-    ensures happened { (w : definition.World) → line_to line.old to ≡ w.back → OnOk result (lost w place ≡ Happened (on_line w (line_to line.new to))) }
+    ensures happened { (w : definition.World) → line_to line.old to ≡ w.back
+        → OnOk result (lost w place ≡ Happened (on_line w (line_to line.new to))) }
     ensures only { line.new ≡ with_line_to line.old to (line_to line.new to) }
-    ensures refused { (w : definition.World) → line_to line.old to ≡ w.back → IfErr result (λ e. lost w place ≡ Declined e) }
+    ensures refused { (w : definition.World) → line_to line.old to ≡ w.back
+        → IfErr result (λ e. lost w place ≡ Declined e) }
     ensures kinds { IfErr result (λ e. e ≡ WorldError.NoSuchFrame) }
     ensures unchanged { OnErr result (line.new ≡ line.old) }
 {
@@ -276,9 +280,11 @@ fn lose(to: Role, line: &mut Line, place: usize) -> Result<(), WorldError>
 
 // These octets come in the place of the frame at this place on the line to the end.
 fn damage(to: Role, line: &mut Line, place: usize, octets: &[u8]) -> Result<(), WorldError>
-    ensures happened { (w : definition.World) → line_to line.old to ≡ w.back → OnOk result (damaged w place octets.now ≡ Happened (on_line w (line_to line.new to))) }
+    ensures happened { (w : definition.World) → line_to line.old to ≡ w.back
+        → OnOk result (damaged w place octets.now ≡ Happened (on_line w (line_to line.new to))) }
     ensures only { line.new ≡ with_line_to line.old to (line_to line.new to) }
-    ensures refused { (w : definition.World) → line_to line.old to ≡ w.back → IfErr result (λ e. (damaged w place octets.now ≡ Declined e) ⊎ (e ≡ WorldError.NoMemory)) }
+    ensures refused { (w : definition.World) → line_to line.old to ≡ w.back
+        → IfErr result (λ e. (damaged w place octets.now ≡ Declined e) ⊎ (e ≡ WorldError.NoMemory)) }
     ensures unchanged { OnErr result (line.new ≡ line.old) }
 {
     if place >= line.len(to) {

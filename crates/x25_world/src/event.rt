@@ -13,7 +13,8 @@ pub enum Event<'a> {
     Deliver(Direction),
     /// The frame at this place is lost. Refused with 51.
     Lose(Direction, usize),
-    /// Other octets come in the place of the frame at this place, which the frame check sequence shows. Refused with 51, then 52.
+    /// Other octets come in the place of the frame at this place, which the frame check sequence shows. Refused with
+    /// 51, then 52.
     Damage(Direction, usize, &'a [u8]),
     /// Timer T1 of an end runs out. Refused with 54, then as the station refuses it.
     T1(Role),

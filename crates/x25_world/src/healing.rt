@@ -9,7 +9,10 @@ ghost use Rattle.x25_world.specs.code.FitsWorld.{FitsWorld};
 ghost use Rattle.x25_world.specs.code.FitsHealing.{Tells, telling, GoesBy, GoesPartly, HoldsHealed};
 ghost use Rattle.x25_world.specs.laws.SessionClaims.{Throughout, SessionsKeepOrder};
 ghost use Rattle.x25_world.specs.rows.WorldRows.{MoreArrives};
-ghost use Rattle.x25_world.specs.Healing.{RestShows, HealsWhereNonePut, HealsWithPuts, DrainsWhereNonePut, HealsFrom, ArrivesByHealing, HealingBringsAll, next_end, arrivals, most_deliveries, deliveries, if_accepted, both_tried, pull_round, most_rounds, pull_rounds, healing, received_in};
+ghost use Rattle.x25_world.specs.Healing.{RestShows, HealsWhereNonePut, HealsWithPuts, DrainsWhereNonePut, HealsFrom};
+ghost use Rattle.x25_world.specs.Healing.{ArrivesByHealing, HealingBringsAll, next_end, arrivals, most_deliveries};
+ghost use Rattle.x25_world.specs.Healing.{deliveries, if_accepted, both_tried, pull_round, most_rounds, pull_rounds};
+ghost use Rattle.x25_world.specs.Healing.{healing, received_in};
 
 use crate::error::WorldError;
 use crate::event::Event;
@@ -28,17 +31,22 @@ const MOST_ROUNDS: u32 = 4_294_967_295;
 
 /// Two stations over such a line, after each list of events, over set-up and re-set-up at any moment.
 ///
-/// - `rest`: an end whose link is up and whose timer T1 doesn't run is at rest, whatever is on the line, and all that its link was handed down in its
-///   session has been handed up at the other end. Where no message waits in a circuit of it, all that was sent on a stretch that is open at both ends has
-///   arrived.
-/// - `heals`: from a moment in which nothing is on the line, no link is being set up and not both ends are busy, timer T1 runs out at each end where it
-///   runs, and then all that is on the line comes, in any order of the two directions, while the layers put nothing. Each link is at rest then, or isn't up;
-///   and if both were up, with tries left where T1 ran, both are at rest, and all that they were handed down has been handed up.
-/// - `heals_with_puts`: from a moment in which nothing is on the line, both links are up, neither is busy, and tries are left where timer T1 runs, it runs
-///   out at each end where it runs. Then what is on the line comes, and users ask of the layers what they like, in any order, while the layers put what
-///   they put; where octets come neither link is busy and no count of that station is at its most, and neither is busy at the end. Once nothing is on the
-///   line both links are at rest, in the same sessions as before, and all that they were handed down in these, what was put since included, has been handed
-///   up. `worked` is such a moment: a message was lost, and one more is sent once T1 has run out.
+/// - `rest`: an end whose link is up and whose timer T1 doesn't run is at rest, whatever is on the line, and all that
+/// its link was handed down in its
+/// session has been handed up at the other end. Where no message waits in a circuit of it, all that was sent on a
+/// stretch that is open at both ends has arrived.
+/// - `heals`: from a moment in which nothing is on the line, no link is being set up and not both ends are busy, timer
+/// T1 runs out at each end where it
+/// runs, and then all that is on the line comes, in any order of the two directions, while the layers put nothing. Each
+/// link is at rest then, or isn't up; and if both were up, with tries left where T1 ran, both are at rest, and all that
+/// they were handed down has been handed up.
+/// - `heals_with_puts`: from a moment in which nothing is on the line, both links are up, neither is busy, and tries
+/// are left where timer T1 runs, it runs
+/// out at each end where it runs. Then what is on the line comes, and users ask of the layers what they like, in any
+/// order, while the layers put what they put; where octets come neither link is busy and no count of that station is at
+/// its most, and neither is busy at the end. Once nothing is on the line both links are at rest, in the same sessions
+/// as before, and all that they were handed down in these, what was put since included, has been handed up. `worked` is
+/// such a moment: a message was lost, and one more is sent once T1 has run out.
 /// - `drains`: the world bounds how many deliveries follow one another, while the layers put nothing.
 ///
 /// Premises: k is 1 to 7, N2 1 to 255, channels 1 to 16, and the users hand down octets.
@@ -57,11 +65,12 @@ pub fn stations_heal()
     drains_end();
 }
 
-/// Two stations over such a line, after each list of events, by the schedule of `World::heal`: where, once all that was on the line has come, both links
-/// are up, neither is busy, and tries are left where timer T1 runs; where neither is busy as octets come behind the firings, and no count of that station is
-/// at its most; and where the rounds leave nothing on the line: both links are at rest, all that they were handed down in their sessions has been handed
-/// up, and each stretch that is open at an end is open at the other one too, where either all of its messages and interrupts arrived, or the user isn't
-/// ready.
+/// Two stations over such a line, after each list of events, by the schedule of `World::heal`: where, once all that was
+/// on the line has come, both links are up, neither is busy, and tries are left where timer T1 runs; where neither is
+/// busy as octets come behind the firings, and no count of that station is at its most; and where the rounds leave
+/// nothing on the line: both links are at rest, all that they were handed down in their sessions has been handed up,
+/// and each stretch that is open at an end is open at the other one too, where either all of its messages and
+/// interrupts arrived, or the user isn't ready.
 ///
 /// Premises: k is 1 to 7, N2 1 to 255, channels 1 to 16, and the users hand down octets.
 pub fn healing_brings_all()
@@ -83,7 +92,8 @@ impl World {
             OnOk result (GoesBy cfg (healing cfg w) w (telling self.new told.new.items) w.transcript) }
         ensures counted { (cfg : Cfg) (w : definition.World) → FitsWorld cfg self.old w →
             IfOk result (λ count. count ≡ received_in (healing cfg w)) }
-        ensures drained { IfOk result (λ count. count + 1 < most_rounds → next_end self.new.to_dce self.new.to_dte ≡ None) }
+        ensures drained { IfOk result (λ count. count + 1 < most_rounds
+            → next_end self.new.to_dce self.new.to_dte ≡ None) }
         ensures stopped { (cfg : Cfg) (w : definition.World) → FitsWorld cfg self.old w →
             IfErr result (GoesPartly cfg (healing cfg w) w (telling self.new told.new.items) w.transcript) }
 
@@ -108,7 +118,8 @@ impl World {
         ensures counted { (cfg : Cfg) (w : definition.World) (before : List AtEnd) →
             Tells cfg (telling self.old told.old.items) w before →
             IfOk result (λ count. count ≡ received_in (healing cfg w)) }
-        ensures drained { IfOk result (λ count. count + 1 < most_rounds → next_end self.new.to_dce self.new.to_dte ≡ None) }
+        ensures drained { IfOk result (λ count. count + 1 < most_rounds
+            → next_end self.new.to_dce self.new.to_dte ≡ None) }
         ensures stopped { (cfg : Cfg) (w : definition.World) (before : List AtEnd) →
             Tells cfg (telling self.old told.old.items) w before →
             IfErr result (GoesPartly cfg (healing cfg w) w (telling self.new told.new.items) before) }
@@ -119,8 +130,8 @@ impl World {
         Ok(u64::from(before) + behind)
     }
 
-    // What is on the line arrives, and then each end pulls what waits in its circuits, as long as that puts frames on the line. It answers how many frames
-    // arrived.
+    // What is on the line arrives, and then each end pulls what waits in its circuits, as long as that puts frames on
+    // the line. It answers how many frames arrived.
     fn pull_all(&mut self, told: &mut Vec<Entered>) -> Result<u64, WorldError>
         ensures goes { (cfg : Cfg) (w : definition.World) (before : List AtEnd) →
             Tells cfg (telling self.old told.old.items) w before →
@@ -128,7 +139,8 @@ impl World {
         ensures counted { (cfg : Cfg) (w : definition.World) (before : List AtEnd) →
             Tells cfg (telling self.old told.old.items) w before →
             IfOk result (λ count. count ≡ received_in (pull_rounds cfg most_rounds w)) }
-        ensures drained { IfOk result (λ count. count + 1 < most_rounds → next_end self.new.to_dce self.new.to_dte ≡ None) }
+        ensures drained { IfOk result (λ count. count + 1 < most_rounds
+            → next_end self.new.to_dce self.new.to_dte ≡ None) }
         ensures stopped { (cfg : Cfg) (w : definition.World) (before : List AtEnd) →
             Tells cfg (telling self.old told.old.items) w before →
             IfErr result (GoesPartly cfg (pull_rounds cfg most_rounds w) w (telling self.new told.new.items) before) }
@@ -145,7 +157,8 @@ impl World {
         Ok(count)
     }
 
-    // What is on the line arrives, and then each end pulls what waits in its circuits. It answers how many frames arrived.
+    // What is on the line arrives, and then each end pulls what waits in its circuits. It answers how many frames
+    // arrived.
     fn pull_round(&mut self, told: &mut Vec<Entered>) -> Result<u32, WorldError>
         ensures goes { (cfg : Cfg) (w : definition.World) (before : List AtEnd) →
             Tells cfg (telling self.old told.old.items) w before →

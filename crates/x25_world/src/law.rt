@@ -1,11 +1,17 @@
 //! Two stations over a line, as laws about their definition. Each is the contract of a function that does nothing.
 ghost use Rattle.x25_station.specs.laws.ReadLaw.{AreOctets};
 ghost use Rattle.x25_world.specs.World.{event_of};
-ghost use Rattle.x25_world.specs.rows.WorldRows.{SetsUp, MessageArrives, LostArrives, DamagedArrives, DisconnectEndsBoth, ConnectSetsUp, ConnectGoesAgain, SecondMeetsFirst, SecondMeet, TimerWaits, IsRefused};
-ghost use Rattle.x25_world.specs.laws.SessionClaims.{Throughout, ThroughoutAlong, MeetInStep, AreLawfulWhereMet, AreNamedInSessions, AllArrive, UnmetAreToldNothing, OpenStretchesMeet};
-ghost use Rattle.x25_world.specs.laws.WaitClaims.{PullsLeaveNone, UnpulledWaitForUsers, ClosedKeepNone, MessagesWaitForUsers};
+ghost use Rattle.x25_world.specs.rows.WorldRows.{SetsUp, MessageArrives, LostArrives, DamagedArrives};
+ghost use Rattle.x25_world.specs.rows.WorldRows.{DisconnectEndsBoth, ConnectSetsUp, ConnectGoesAgain, SecondMeetsFirst};
+ghost use Rattle.x25_world.specs.rows.WorldRows.{SecondMeet, TimerWaits, IsRefused};
+ghost use Rattle.x25_world.specs.laws.SessionClaims.{Throughout, ThroughoutAlong, MeetInStep, AreLawfulWhereMet};
+ghost use Rattle.x25_world.specs.laws.SessionClaims.{AreNamedInSessions, AllArrive, UnmetAreToldNothing};
+ghost use Rattle.x25_world.specs.laws.SessionClaims.{OpenStretchesMeet};
+ghost use Rattle.x25_world.specs.laws.WaitClaims.{PullsLeaveNone, UnpulledWaitForUsers, ClosedKeepNone};
+ghost use Rattle.x25_world.specs.laws.WaitClaims.{MessagesWaitForUsers};
 ghost use Rattle.x25_world.specs.laws.LawsBelow.{SessionLaws};
-ghost use Rattle.x25_world.specs.laws.Claims.{ActsInOctets, Always, UntilSecondUp, IsSetUp, IsLawful, IsNamed, ArrivesAll, HasNoProcedureError, UpOnceUnlessConnected};
+ghost use Rattle.x25_world.specs.laws.Claims.{ActsInOctets, Always, UntilSecondUp, IsSetUp, IsLawful, IsNamed};
+ghost use Rattle.x25_world.specs.laws.Claims.{ArrivesAll, HasNoProcedureError, UpOnceUnlessConnected};
 ghost use Rattle.x25_world.specs.laws.WindowGoes.{StaysInWindow};
 ghost use Rattle.x25_world.specs.laws.SessionWindow.{SessionsStayInWindow};
 ghost use Rattle.x25_world.specs.laws.TapOctets.{IsTapOfOctets};
@@ -33,22 +39,28 @@ pub(crate) fn laws_below()
     reads_what_is_spelled();
 }
 
-/// Two stations joined by a line of octets that keeps order and may lose or visibly damage any frame, from both links down and nothing
-/// on the line, from the DTE's SABM on the line, or from a link just set up: what holds after each list of commands, deliveries, losses,
-/// damage and firings of timer T1, wherever an event is refused, up to the moment at which an end tells of LinkUp a second time.
-/// `window` is said from a link just set up alone. By `up_once` no end goes up again from there where no `connect` of the list is accepted,
-/// so that a list without `connect` has no other premise than those below.
+/// Two stations joined by a line of octets that keeps order and may lose or visibly damage any frame, from both links
+/// down and nothing on the line, from the DTE's SABM on the line, or from a link just set up: what holds after each
+/// list of commands, deliveries, losses, damage and firings of timer T1, wherever an event is refused, up to the moment
+/// at which an end tells of LinkUp a second time. `window` is said from a link just set up alone. By `up_once` no end
+/// goes up again from there where no `connect` of the list is accepted, so that a list without `connect` has no other
+/// premise than those below.
 ///
 /// - `set_up`: SABM is there to be delivered, and then UA.
-/// - `lawful`: on each channel and under each name of a stretch, the messages, interrupts and calls that an end hands up are a
+/// - `lawful`: on each channel and under each name of a stretch, the messages, interrupts and calls that an end hands
+/// up are a
 ///   beginning of those that the other handed down: each comes once, in order, whole, and none of another call.
-/// - `named`: the name of the stretch on a channel, where the link is up, is the restarts, clears and resets that the transcript tells of.
-/// - `arrives`: what is handed up is all of the messages and interrupts of a stretch, where the end that gives is idle and both ends have that stretch
+/// - `named`: the name of the stretch on a channel, where the link is up, is the restarts, clears and resets that the
+/// transcript tells of.
+/// - `arrives`: what is handed up is all of the messages and interrupts of a stretch, where the end that gives is idle
+/// and both ends have that stretch
 ///   open.
-/// - `quiet`: no FRMR, no CLEAR, RESET or RESTART with a cause of an error was ever put on the line, and no fault was reported to a user.
-/// - `window`: from a link just set up there are two links and one window machine behind them, which go on from event to event as the end of the event
-///   asks, and are behind each world of the run: an I frame and an N(R) on the line keep the unbounded numbers that they were given as they were put, and
-///   these are in the window.
+/// - `quiet`: no FRMR, no CLEAR, RESET or RESTART with a cause of an error was ever put on the line, and no fault was
+/// reported to a user.
+/// - `window`: from a link just set up there are two links and one window machine behind them, which go on from event
+/// to event as the end of the event
+/// asks, and are behind each world of the run: an I frame and an N(R) on the line keep the unbounded numbers that they
+/// were given as they were put, and these are in the window.
 /// - `up_once`: from a link just set up, where no `connect` is accepted, each end tells of LinkUp once, in set-up.
 ///
 /// Premises: k is 1 to 7, N2 1 to 255, channels 1 to 16, and the users hand down octets.
@@ -65,29 +77,36 @@ pub fn two_stations_keep_order()
     links_keep_order();
 }
 
-/// Two stations joined by such a line, over set-up and re-set-up at any moment: what holds after each list of commands, `connect` among
-/// them, deliveries, losses, damage and firings of timer T1, wherever an event is refused, from both links down and nothing on the
-/// line, from the DTE's SABM on the line, and from a link just set up.
+/// Two stations joined by such a line, over set-up and re-set-up at any moment: what holds after each list of commands,
+/// `connect` among them, deliveries, losses, damage and firings of timer T1, wherever an event is refused, from both
+/// links down and nothing on the line, from the DTE's SABM on the line, and from a link just set up.
 ///
-/// A session of an end lasts from a `linkup` to the next `linkup` or `linkdown` there. It meets the session that the other end began last
-/// before its own first `restarted`. Without one it meets none.
+/// A session of an end lasts from a `linkup` to the next `linkup` or `linkdown` there. It meets the session that the
+/// other end began last before its own first `restarted`. Without one it meets none.
 ///
-/// - `step`: sessions that meet were begun. Of two sessions of an end that each meet one, the later meets the later one, and where a session meets
+/// - `step`: sessions that meet were begun. Of two sessions of an end that each meet one, the later meets the later
+/// one, and where a session meets
 ///   one that meets any, that one meets it.
-/// - `lawful`: on each channel and under each name of a stretch, the messages, interrupts and calls that an end hands up in a session are
+/// - `lawful`: on each channel and under each name of a stretch, the messages, interrupts and calls that an end hands
+/// up in a session are
 ///   a beginning of those that the other handed down in the session that it meets.
-/// - `named`: the name of the stretch on a channel, where the link is up, is the restarts, clears and resets that the transcript of the session
+/// - `named`: the name of the stretch on a channel, where the link is up, is the restarts, clears and resets that the
+/// transcript of the session
 ///   that stands tells of.
-/// - `arrives`: what is handed up is all of the messages and interrupts of a stretch, from the one session that stands to the other, where the end
+/// - `arrives`: what is handed up is all of the messages and interrupts of a stretch, from the one session that stands
+/// to the other, where the end
 ///   that gives is idle and both ends have that stretch open.
 /// - `unmet`: in a session that meets none the layer tells its user nothing: no message, no interrupt and no call.
 /// - `stand`: where a stretch is open at both ends, on whichever channels, the two sessions that stand meet each other.
-/// - `quiet`: no FRMR, no CLEAR, RESET or RESTART with a cause of an error was ever put on the line, and no fault was reported to a user.
+/// - `quiet`: no FRMR, no CLEAR, RESET or RESTART with a cause of an error was ever put on the line, and no fault was
+/// reported to a user.
 /// - `octets`: all that was ever put on the line is octets, at most 4,103 at a time.
-/// - `window`: two links are behind the world where the run begins, with the window machine behind the sessions that stand. Whichever two are behind
-///   a world of the run go on from there at each event as its end asks, with their machine, and are behind the world after it: an end whose link is
-///   up has its session, and the one that it meets or is to meet, in the machine, with the unbounded numbers behind those on the line to it, and
-///   behind those on both lines where both links are up. A frame keeps the numbers that it was given as it was put.
+/// - `window`: two links are behind the world where the run begins, with the window machine behind the sessions that
+/// stand. Whichever two are behind
+/// a world of the run go on from there at each event as its end asks, with their machine, and are behind the world
+/// after it: an end whose link is up has its session, and the one that it meets or is to meet, in the machine, with the
+/// unbounded numbers behind those on the line to it, and behind those on both lines where both links are up. A frame
+/// keeps the numbers that it was given as it was put.
 ///
 /// Premises: k is 1 to 7, N2 1 to 255, channels 1 to 16, and the users hand down octets.
 pub fn stations_meet_in_sessions()
@@ -104,9 +123,10 @@ pub fn stations_meet_in_sessions()
     laws_below();
 }
 
-/// Two stations joined by such a line, over set-up and re-set-up at any moment, after each list of events as above: where both links are
-/// idle and a pull at an end changes nothing, each stretch that is open there is open at the other end too, and either no message of it waits
-/// and all of its messages and interrupts arrived, or the user at the other end isn't ready. A circuit that isn't open keeps none at any time.
+/// Two stations joined by such a line, over set-up and re-set-up at any moment, after each list of events as above:
+/// where both links are idle and a pull at an end changes nothing, each stretch that is open there is open at the other
+/// end too, and either no message of it waits and all of its messages and interrupts arrived, or the user at the other
+/// end isn't ready. A circuit that isn't open keeps none at any time.
 ///
 /// Premises: k is 1 to 7, N2 1 to 255, channels 1 to 16, and the users hand down octets.
 pub fn messages_wait_for_users()
@@ -119,10 +139,10 @@ pub fn messages_wait_for_users()
     x25_layer::messages_wait_for_users();
 }
 
-/// Worked rows: the octets of set-up; a message that arrives, also where its frame is lost or damaged and goes again; `disconnect`,
-/// by which both ends go down; `connect`, by which both come up, also where both ask, or UA is lost, so that the second session of the DCE
-/// meets the first of the DTE, and again after the DTE left, so that the second of both meet; timer T1, which waits for SABM and UA that are on
-/// the line; and refusals.
+/// Worked rows: the octets of set-up; a message that arrives, also where its frame is lost or damaged and goes again;
+/// `disconnect`, by which both ends go down; `connect`, by which both come up, also where both ask, or UA is lost, so
+/// that the second session of the DCE meets the first of the DTE, and again after the DTE left, so that the second of
+/// both meet; timer T1, which waits for SABM and UA that are on the line; and refusals.
 pub fn two_stations_move()
     ensures sets_up { SetsUp }
     ensures arrives { MessageArrives }

@@ -120,7 +120,8 @@ impl Line {
     /// A copy of these octets comes in the place of the frame at this place on the line to this end, 0 at the front.
     pub fn replace(&mut self, to: Role, place: usize, octets: &[u8]) -> Result<(), AllocError>
         requires { place < length (line_to self.old to) }
-        ensures ok { OnOk result (self.new ≡ with_line_to self.old to (replaced (line_to self.old to) place octets.now)) }
+        ensures ok { OnOk result (self.new
+            ≡ with_line_to self.old to (replaced (line_to self.old to) place octets.now)) }
         ensures err { OnErr result (self.new ≡ self.old) }
     {
         let own = Vec::from_slice(self.alloc, octets)?;

@@ -18,7 +18,8 @@ pub enum SetUpFrame {
 
 /// Whether the SABM of this end is on the line, or a UA to it.
 pub fn is_on_line(end: Role, line: &Line) -> bool
-    ensures { result ≡ (carries SetUpFrame.Sabm end (line_to line.now (other end)) || carries SetUpFrame.Ua (other end) (line_to line.now end)) }
+    ensures { result ≡ (carries SetUpFrame.Sabm end (line_to line.now (other end))
+        || carries SetUpFrame.Ua (other end) (line_to line.now end)) }
 {
     is_carried(SetUpFrame::Sabm, end.other(), line) || is_carried(SetUpFrame::Ua, end, line)
 }

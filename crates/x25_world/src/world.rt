@@ -65,8 +65,8 @@ impl World {
         World::down(alloc, cfg)
     }
 
-    // The world of `start`. What is refused here and below is let go of by one call: as its scope ends a body does it part by part, which the
-    // prover follows.
+    // The world of `start`. What is refused here and below is let go of by one call: as its scope ends a body does it
+    // part by part, which the prover follows.
     fn down(alloc: Global, cfg: Cfg) -> Result<World, WorldError>
         ensures fits { IfOk result (λ v. FitsWorld cfg v start) }
         ensures refused { RefusesConfig result (config_refusal cfg) }
@@ -86,7 +86,8 @@ impl World {
         }
     }
 
-    /// Two stations whose links are down, and the DTE has asked that the link be set up: its SABM is on the line. No transcript tells of it.
+    /// Two stations whose links are down, and the DTE has asked that the link be set up: its SABM is on the line. No
+    /// transcript tells of it.
     ///
     /// 14 where a setting is out of its range, and else 70 alone.
     pub fn connecting(alloc: Global, cfg: Cfg) -> Result<World, WorldError>
@@ -248,8 +249,8 @@ impl World {
     /// front (profile). It is the event `Damage` by the octets of the first content, of 4 to 4,103 octets, that is
     /// found between these flags, or by no octets where none is found, and tells nothing.
     ///
-    /// Refused with 51 where the line has no frame at that place, then with 52 where the bits aren't harmless, and else accepted; 70 where memory is refused
-    /// for a frame that is there. Then the world is as before.
+    /// Refused with 51 where the line has no frame at that place, then with 52 where the bits aren't harmless, and else
+    /// accepted; 70 where memory is refused for a frame that is there. Then the world is as before.
     pub fn damage_bits(
         &mut self,
         direction: Direction,
@@ -298,13 +299,14 @@ impl World {
         self.happen(Event::Damage(direction, place, octets.as_slice()), &mut out)
     }
 
-    /// Why a message of so many octets that an end sends on a channel would be refused now, if it would, so that one that is refused needn't be made. `None`
-    /// says nothing.
+    /// Why a message of so many octets that an end sends on a channel would be refused now, if it would, so that one
+    /// that is refused needn't be made. `None` says nothing.
     #[inline(always)]
     pub fn message_refusal(&self, at: Role, channel: u16, count: usize) -> Option<WorldError>
         ensures { (cfg : Cfg) (w : definition.World) (q : Bool) (user : List ℕ) → length user ≡ count →
             FitsWorld cfg self.now w →
-            IfSome result (λ e. refusal_of (happens cfg w (record { at = at; act = Commands (Requests (Asks channel (Sends q user))) })) ≡ Some e) }
+            IfSome result (λ e. refusal_of (happens cfg w
+            (record { at = at; act = Commands (Requests (Asks channel (Sends q user))) })) ≡ Some e) }
     {
         match self.station(at).message_refusal(channel, count) {
             Some(StationError::Layer(error)) => Some(WorldError::Station(StationError::Layer(

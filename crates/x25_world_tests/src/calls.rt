@@ -12,7 +12,8 @@ pub fn number_of(error: WorldError) -> u8 {
     }
 }
 
-// A world in a place of its own: a body that holds the box lets go of it by one call, and not of each part of the world.
+// A world in a place of its own: a body that holds the box lets go of it by one call, and not of each part of the
+// world.
 fn boxed(alloc: Global, world: World) -> Result<Box<World>, WorldError> {
     match Box::new(alloc, world) {
         Ok(boxed) => Ok(boxed),

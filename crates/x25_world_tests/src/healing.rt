@@ -63,7 +63,8 @@ const DCE_SENDS_B: Act = Send(Dce, 1, b"b");
 
 const IS_READY: Event = Command(Dte, Cmd::Ready { channel: 1 });
 
-/// Played behind the opening, which isn't shown. Once it has healed, nothing is on the line, and timer T1 runs at no end.
+/// Played behind the opening, which isn't shown. Once it has healed, nothing is on the line, and timer T1 runs at no
+/// end.
 static ROWS: [Row; 9] = [
     (
         "nothing is lost",
@@ -173,7 +174,8 @@ static ROWS: [Row; 9] = [
     ),
 ];
 
-/// Played behind the opening of five channels: the DTE's packets of RR wait before its message, as its REJ and what comes again cross.
+/// Played behind the opening of five channels: the DTE's packets of RR wait before its message, as its REJ and what
+/// comes again cross.
 static ROWS_OF_FIVE: [Row; 1] = [(
     "a message waits behind what acknowledges ten, and is pulled",
     FIVE_CHANNELS,

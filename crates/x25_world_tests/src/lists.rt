@@ -240,7 +240,8 @@ fn all_came(
     open
 }
 
-/// How often each kind of event was accepted, in how many stretches all came, and in how many lists the link was set up anew.
+/// How often each kind of event was accepted, in how many stretches all came, and in how many lists the link was set up
+/// anew.
 #[derive(Drop)]
 struct Tally {
     accepted: [usize; KINDS],

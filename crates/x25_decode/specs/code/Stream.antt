@@ -9,9 +9,10 @@ use Rattle.x25_decode.specs.Decoding.{output_of, has_refused}
 use Rattle.x25_decode.specs.declared.answer.Reading.{Reading}
 use Rattle.x25_decode.specs.declared.decoder.Decoder.{Decoder}
 
--- The writer held `old` at first and holds `now`, and `text` waits. `held` is what is held of the line that has begun. With `rest` to come
--- the writer gets `all` in the end; `any` then says whether a line was refused.
-pub record Leads (reading : Reading) (old now : Option (List ℕ)) (held : HeldLine) (text : List ℕ) (refused : Bool) (rest all : List ℕ) (any : Bool) : Type 0 where
+-- The writer held `old` at first and holds `now`, and `text` waits. `held` is what is held of the line that has begun.
+-- With `rest` to come the writer gets `all` in the end; `any` then says whether a line was refused.
+pub record Leads (reading : Reading) (old now : Option (List ℕ)) (held : HeldLine) (text : List ℕ) (refused : Bool)
+    (rest all : List ℕ) (any : Bool) : Type 0 where
   pub begun : List ℕ
   pub is_open : IsOpen begun
   pub holds : HoldsLine begun held
@@ -25,7 +26,8 @@ LeadsFrom old now d rest all any = Leads d.reading old now d.held d.output d.is_
 
 -- .. of an input, by how octets are read
 abbrev pub DecodesOn : Reading → Decoder → Option (List ℕ) → Option (List ℕ) → List ℕ → List ℕ → Type 0
-DecodesOn reading d old now rest input = (d.reading ≡ reading) × LeadsFrom old now d rest (output_of reading input) (has_refused input)
+DecodesOn reading d old now rest input = (d.reading ≡ reading)
+    × LeadsFrom old now d rest (output_of reading input) (has_refused input)
 
 -- Written is all of the text but the answers to the open line and to the rest.
 pub record WritesEnded (reading : Reading) (old now : Option (List ℕ)) (rest all : List ℕ) : Type 0 where

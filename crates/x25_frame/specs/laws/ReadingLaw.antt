@@ -9,7 +9,8 @@ use Rattle.x25_frame.specs.declared.error.FrameError.{FrameError}
 
 -- octets that spell a frame are read as that frame
 abbrev pub ReadsSpelled : Type 0
-ReadsSpelled = (from : Role) (n1 : ℕ) (v : PlainFrame) (octets : List ℕ) → Spells from n1 v octets → frame_of from n1 octets ≡ Ok v
+ReadsSpelled = (from : Role) (n1 : ℕ) (v : PlainFrame) (octets : List ℕ) → Spells from n1 v octets
+    → frame_of from n1 octets ≡ Ok v
 
 -- octets are read as a frame exactly where they spell it
 abbrev pub ReadsWhatIsSpelled : Type 0

@@ -39,7 +39,11 @@ abbrev pub unexpected : Phase → List CallRequest → List CallRequest → Call
 unexpected p m i = record { next = record { phase = p; made = m; indicated = i }; out = []; error = Some 0 }
 
 abbrev pub in_transfer : Terms → Terms → List CallRequest → List CallRequest → TransferStep → CallStep
-in_transfer t b m i s = record { next = record { phase = Talking t b s.next; made = m; indicated = i }; out = s.out; error = s.error }
+in_transfer t b m i s = record {
+  next = record { phase = Talking t b s.next; made = m; indicated = i };
+  out = s.out;
+  error = s.error;
+}
 
 abbrev pub call_crosses : Role → Params → List CallRequest → List CallRequest → CallRequest → CallStep
 call_crosses Dte mine m i n = goes (Crossed mine) m i []

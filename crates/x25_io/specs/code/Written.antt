@@ -13,6 +13,7 @@ pub record Tells (old now : Option (List ℕ)) (text told : List ℕ) : Type 0 w
   pub same : written ++ text ≡ told
 
 -- behind all that was told `more` is told as well; where that failed, a beginning of it all is written
-abbrev pub TellsMore : {T E : Type 0} → Result T E → Option (List ℕ) → Option (List ℕ) → List ℕ → List ℕ → List ℕ → Type 0
+abbrev pub TellsMore : {T E : Type 0} → Result T E → Option (List ℕ) → Option (List ℕ) → List ℕ → List ℕ → List ℕ
+    → Type 0
 TellsMore r was now waited waits more = (old : Option (List ℕ)) (told : List ℕ) → Tells old was waited told
     → MatchResult r (λ _. Tells old now waits (told ++ more)) (λ _. AppendsPrefix old now (told ++ more))

@@ -1,7 +1,8 @@
--- Two programs `x25 station`, one at each end, joined by a line that keeps order and may lose or visibly damage any frame (profile). What a
--- program writes is told by `piped`, of all that it read. Each act is of the near end, or of the line to it. The far end's acts are those of
--- the two ends swapped.
-use Rattle.std.specs.Prelude.{◌≡◌, ℕ, Bool, true, false, ◌&&◌, ◌||◌, nat_lt, List, [], ◌∷◌, ◌++◌, length, drop, remove, if◌then◌else◌, Option, Some, codes}
+-- Two programs `x25 station`, one at each end, joined by a line that keeps order and may lose or visibly damage any
+-- frame (profile). What a program writes is told by `piped`, of all that it read. Each act is of the near end, or of
+-- the line to it. The far end's acts are those of the two ends swapped.
+use Rattle.std.specs.Prelude.{◌≡◌, ℕ, Bool, true, false, ◌&&◌, ◌||◌, nat_lt, List, [], ◌∷◌, ◌++◌, length, drop, remove}
+use Rattle.std.specs.Prelude.{if◌then◌else◌, Option, Some, codes}
 use Rattle.x25_bits.specs.Role.{other}
 use Rattle.x25_bits.specs.declared.role.Role.{Role}
 use Rattle.x25_bits.specs.declared.role.Role.TheVariants.{Dte, Dce}
@@ -52,8 +53,8 @@ frames_in (marks mark is_idle ∷ sayings) = frames_in sayings
 
 -- ---- two of them, and the line
 
--- All that the program of the near end and that of the far end read; and the frames on the line from the near end and on the line to it,
--- front first.
+-- All that the program of the near end and that of the far end read; and the frames on the line from the near end and
+-- on the line to it, front first.
 pub record Joined : Type 0 where
   pub near : List ℕ
   pub far : List ℕ
@@ -67,9 +68,15 @@ swapped j = record { near = j.far; far = j.near; out = j.back; back = j.out }
 abbrev pub nothing_read : Joined
 nothing_read = record { near = []; far = []; out = []; back = [] }
 
--- The near end's program reads more, and the frames that it then writes go on the line; `back` is what is left on the line to it.
+-- The near end's program reads more, and the frames that it then writes go on the line; `back` is what is left on the
+-- line to it.
 abbrev pub reads : Settings → Joined → List (List ℕ) → List ℕ → Joined
-reads c j back more = record { near = j.near ++ more; far = j.far; out = j.out ++ frames_in (written_more c j.near more); back = back }
+reads c j back more = record {
+  near = j.near ++ more;
+  far = j.far;
+  out = j.out ++ frames_in (written_more c j.near more);
+  back = back;
+}
 
 -- it reads the front frame, as the other program wrote it
 abbrev pub takes : Settings → Joined → List (List ℕ) → Joined

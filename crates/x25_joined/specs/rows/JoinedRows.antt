@@ -7,7 +7,8 @@ use Rattle.x25_station.specs.declared.config.Cfg.{Cfg}
 use Rattle.x25_station.specs.Config.{settings_from}
 use Rattle.x25_station.specs.Station.Told.{is_idle, stretch}
 use Rattle.x25_pipe.specs.Pipe.{station_text}
-use Rattle.x25_joined.specs.laws.Joined.{Joined, Act, Reads, Takes, Loses, Damages, Happening, nothing_read, run, IsPossibleAt, ArePossible}
+use Rattle.x25_joined.specs.laws.Joined.{Joined, Act, Reads, Takes, Loses, Damages, Happening, nothing_read, run}
+use Rattle.x25_joined.specs.laws.Joined.{IsPossibleAt, ArePossible}
 use Rattle.x25_joined.specs.laws.JoinedClaims.{station_by, handed_by}
 
 abbrev pub usual : Cfg
@@ -43,8 +44,10 @@ LinkIsSetUp = Write sets_up
 -- ---- SABM is lost, or damaged; T1 runs out, and it goes again
 
 abbrev pub LostSabmGoesAgain : Type 0
-LostSabmGoesAgain = Write (dte (Reads (codes "dte connect")) ∷ dce (Loses 0) ∷ dte (Reads (codes "t1 dte")) ∷ dce (Damages 0 (1 ∷ 63 ∷ 0 ∷ 0 ∷ [])) ∷ dce Takes ∷ dte (Reads (codes "t1 dte")) ∷ dce (Loses 0) ∷ [])
-    (codes ". off busy\ndte connect\n> 013febdf\n. start busy\n> 013febdf\n. start busy\n> 013febdf\n. start busy\n") (codes ". off busy\n. off busy\n")
+LostSabmGoesAgain = Write (dte (Reads (codes "dte connect")) ∷ dce (Loses 0) ∷ dte (Reads (codes "t1 dte")) ∷ dce
+    (Damages 0 (1 ∷ 63 ∷ 0 ∷ 0 ∷ [])) ∷ dce Takes ∷ dte (Reads (codes "t1 dte")) ∷ dce (Loses 0) ∷ [])
+    (codes ". off busy\ndte connect\n> 013febdf\n. start busy\n> 013febdf\n. start busy\n> 013febdf\n. start busy\n")
+    (codes ". off busy\n. off busy\n")
 
 -- while SABM is on the line T1 doesn't run out
 abbrev pub FiringHasToWait : Type 0
@@ -53,14 +56,17 @@ FiringHasToWait = IsPossibleAt usual (after (dte (Reads (codes "dte connect")) �
 -- ---- what is refused, and what names the other end's user, does nothing
 
 abbrev pub OtherLinesDoNothing : Type 0
-OtherLinesDoNothing = Write (dte (Reads (codes "dce connect")) ∷ dte (Reads (codes "drain 1")) ∷ dte (Reads (codes "t1 dte")) ∷ dce (Reads (codes "dte connect")) ∷ dce Takes ∷ [])
-    (codes ". off busy\n? 60\n. off busy\n? 60\n. off busy\n! 11\n. off busy\n") (codes ". off busy\n? 60\n. off busy\n")
+OtherLinesDoNothing = Write (dte (Reads (codes "dce connect")) ∷ dte (Reads (codes "drain 1")) ∷ dte
+    (Reads (codes "t1 dte")) ∷ dce (Reads (codes "dte connect")) ∷ dce Takes ∷ [])
+    (codes ". off busy\n? 60\n. off busy\n? 60\n. off busy\n! 11\n. off busy\n")
+    (codes ". off busy\n? 60\n. off busy\n")
 
 -- ---- a call, its acceptance, and a message
 
 abbrev pub call_with_message : List Happening
 call_with_message =
-    sets_up ++ dte (Reads (codes "dte call 123 4567 41")) ∷ dce Takes ∷ dte Takes ∷ dce (Reads (codes "dce accept 1")) ∷ dte Takes ∷ dce Takes ∷ dte (Reads (codes "dte send 1 0 6869"))
+    sets_up ++ dte (Reads (codes "dte call 123 4567 41")) ∷ dce Takes ∷ dte Takes ∷ dce
+    (Reads (codes "dce accept 1")) ∷ dte Takes ∷ dce Takes ∷ dte (Reads (codes "dte send 1 0 6869"))
     ∷ dce Takes ∷ dte Takes ∷ dte Takes ∷ dce Takes ∷ []
 
 abbrev pub first_stretch : Name
@@ -69,7 +75,8 @@ first_stretch = record { restarts = 1; clears = 0; resets = 0 }
 -- the message was handed up at the DCE, once, and the DTE is idle in that stretch
 abbrev pub MessageArrives : Type 0
 MessageArrives =
-    ((messages_in (under 1 first_stretch (handed_by usual Dce (after call_with_message)))).up ≡ record { q = false; user = codes "hi" } ∷ [])
+    ((messages_in (under 1 first_stretch (handed_by usual Dce (after call_with_message)))).up
+    ≡ record { q = false; user = codes "hi" } ∷ [])
     × (is_idle (settings_from Dte usual) (station_by usual Dte (after call_with_message)) ≡ true)
     × (stretch (settings_from Dte usual) (station_by usual Dte (after call_with_message)) 1 ≡ Some first_stretch)
     × (stretch (settings_from Dce usual) (station_by usual Dce (after call_with_message)) 1 ≡ Some first_stretch)

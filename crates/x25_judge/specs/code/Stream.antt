@@ -9,7 +9,8 @@ use Rattle.x25_judge.specs.declared.answerer.Answerer.{Answerer}
 use Rattle.x25_judge.specs.declared.judge.Judge.{Judge}
 
 -- With `lines` to come the text of the input is told in the end, and a line was faulty where one of the input is.
-pub record JudgesOn (j : Judge) (a : Answerer) (old now : Option (List ℕ)) (lines : List (List ℕ)) (input : List ℕ) : Type 0 where
+pub record JudgesOn (j : Judge) (a : Answerer) (old now : Option (List ℕ)) (lines : List (List ℕ))
+    (input : List ℕ) : Type 0 where
   pub told : List ℕ
   pub tells : Tells old now a.output told
   pub same : told ++ text_of a.judge lines ≡ output_of j input

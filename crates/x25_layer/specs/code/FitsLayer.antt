@@ -1,5 +1,6 @@
 -- Which states of the definition a layer stands for, and what it tells of them.
-use Rattle.std.specs.Prelude.{◌≡◌, ℕ, zero, suc, ◌+◌, ◌^◌, ◌-◌, ◌==◌, ◌||◌, List, length, Option, Some, None, Bool, false, slice_get, if◌then◌else◌}
+use Rattle.std.specs.Prelude.{◌≡◌, ℕ, zero, suc, ◌+◌, ◌^◌, ◌-◌, ◌==◌, ◌||◌, List, length, Option, Some, None, Bool}
+use Rattle.std.specs.Prelude.{false, slice_get, if◌then◌else◌}
 use Rattle.x25_circuit.specs.declared.circuit.Circuit as circuit_code
 use Rattle.x25_circuit.specs.declared.params.Params.{Params}
 use Rattle.x25_circuit.specs.Circuit.{Circuit, is_open, waits}
@@ -12,7 +13,8 @@ use Rattle.x25_layer.specs.laws.Transcript.{name_of}
 
 -- each of these circuits fits the one of its channel; the first is on channel 1
 abbrev pub FitsCircuits : LayerSettings → List circuit_code.Circuit → (ℕ → Circuit) → Type 0
-FitsCircuits c circuits f = (k : ℕ) (v : circuit_code.Circuit) → slice_get circuits k ≡ Some v → FitsCircuit c.circuit v (f (suc k))
+FitsCircuits c circuits f = (k : ℕ) (v : circuit_code.Circuit) → slice_get circuits k ≡ Some v
+    → FitsCircuit c.circuit v (f (suc k))
 
 pub record FitsLayer (c : LayerSettings) (v : code.Layer) (l : Layer) : Type 0 where
   pub role : v.role ≡ c.circuit.role
@@ -52,7 +54,8 @@ is_most count = count == 2 ^ 64 - 1
 -- .. of one of the channels up to a number
 abbrev pub full_up_to : (ℕ → Circuit) → ℕ → Bool
 full_up_to circuits zero = false
-full_up_to circuits (suc n) = full_up_to circuits n || (is_most (circuits (suc n)).clears || is_most (circuits (suc n)).resets)
+full_up_to circuits (suc n) = full_up_to circuits n
+    || (is_most (circuits (suc n)).clears || is_most (circuits (suc n)).resets)
 
 abbrev pub is_full : LayerSettings → Layer → Bool
 is_full c l = is_most l.restarts || full_up_to l.circuits c.channels

@@ -1,5 +1,6 @@
 -- A layer over any link that keeps order: what it sees of the link, and the link after packets were put.
-use Rattle.std.specs.Prelude.{◌≡◌, ℕ, ◌<◌, ◌≤◌, ◌⊎◌, max, List, [], ◌∷◌, Bool, Result, Err, OnOk, OnErr, IsErrOf, MatchResult}
+use Rattle.std.specs.Prelude.{◌≡◌, ℕ, ◌<◌, ◌≤◌, ◌⊎◌, max, List, [], ◌∷◌, Bool, Result, Err, OnOk, OnErr, IsErrOf}
+use Rattle.std.specs.Prelude.{MatchResult}
 use Rattle.x25_packet.specs.Packet.{PlainPacket}
 use Rattle.x25_packet.specs.Spelling.{spelling_of}
 use Rattle.x25_layer.specs.declared.error.LayerError.{LayerError}
@@ -37,11 +38,15 @@ LinkGives fits after x result (Refuses e) = result ≡ Err e
 abbrev pub LacksMemory : ℕ → code.Layer → ℕ → Type 0
 LacksMemory count v spares = (v.memory < count) ⊎ (spares < count)
 
--- A call of the user does to a layer and to the link below it what the definition says of it, or it is refused and both are as before. 70 comes
--- only where memory for fewer packets than so many is set aside; and of what was set aside no more than for 16 packets is kept, or what there was.
-pub record Does {D T : Type 0} (g : Ghosts D) (old : code.Layer) (below : D) (new : code.Layer) (below₂ : D) (result : Result T LayerError) (count : ℕ) (said : LinkView → LayerSettings → Layer → Answered) : Type 0 where
-  pub layer : (c : LayerSettings) (l : Layer) (x : g.State) → FitsLayer c old l → g.fits below x → LayerGives c new result (said (view_of g.up_in g.waits_in g.after_put x) c l)
-  pub link : (c : LayerSettings) (l : Layer) (x : g.State) → FitsLayer c old l → g.fits below x → LinkGives (g.fits below₂) g.after_put x result (said (view_of g.up_in g.waits_in g.after_put x) c l)
+-- A call of the user does to a layer and to the link below it what the definition says of it, or it is refused and both
+-- are as before. 70 comes only where memory for fewer packets than so many is set aside; and of what was set aside no
+-- more than for 16 packets is kept, or what there was.
+pub record Does {D T : Type 0} (g : Ghosts D) (old : code.Layer) (below : D) (new : code.Layer) (below₂ : D)
+    (result : Result T LayerError) (count : ℕ) (said : LinkView → LayerSettings → Layer → Answered) : Type 0 where
+  pub layer : (c : LayerSettings) (l : Layer) (x : g.State) → FitsLayer c old l → g.fits below x
+      → LayerGives c new result (said (view_of g.up_in g.waits_in g.after_put x) c l)
+  pub link : (c : LayerSettings) (l : Layer) (x : g.State) → FitsLayer c old l → g.fits below x
+      → LinkGives (g.fits below₂) g.after_put x result (said (view_of g.up_in g.waits_in g.after_put x) c l)
   pub layer_stays : (c : LayerSettings) (l : Layer) → FitsLayer c old l → OnErr result (FitsLayer c new l)
   pub link_stays : (x : g.State) → g.fits below x → OnErr result (g.fits below₂ x)
   pub longest : g.longest below₂ ≡ g.longest below
@@ -52,5 +57,7 @@ pub record Does {D T : Type 0} (g : Ghosts D) (old : code.Layer) (below : D) (ne
   pub room_stays : (len : ℕ) → HasRoom len old (g.spares below) → OnErr result (HasRoom len new (g.spares below₂))
 
 -- .. what it says of this request
-abbrev pub Answers : {D T : Type 0} → Ghosts D → code.Layer → D → code.Layer → D → Result T LayerError → ℕ → LayerRequest → Type 0
-Answers g old below new below₂ result count request = Does g old below new below₂ result count (λ view c l. calls view c l request)
+abbrev pub Answers : {D T : Type 0} → Ghosts D → code.Layer → D → code.Layer → D → Result T LayerError → ℕ
+    → LayerRequest → Type 0
+Answers g old below new below₂ result count request = Does g old below new below₂ result count
+    (λ view c l. calls view c l request)

@@ -1,5 +1,5 @@
--- Two layers, each end by itself: an event names the packet that the end's link hands up, and nothing is kept of what is in flight.
--- Events are in order where each packet that an end takes is the next of those that the other end gave.
+-- Two layers, each end by itself: an event names the packet that the end's link hands up, and nothing is kept of what
+-- is in flight. Events are in order where each packet that an end takes is the next of those that the other end gave.
 use Rattle.std.specs.Prelude.{◌≡◌, ℕ, List, [], ◌∷◌, ◌++◌, length, drop, Bool, false, if◌then◌else◌}
 use Rattle.x25_bits.specs.declared.role.Role.TheVariants.{Dte, Dce}
 use Rattle.x25_packet.specs.Packet.{PlainPacket}
@@ -64,7 +64,8 @@ apart_happens long_data channels ends e =
 
 abbrev pub apart_run : Bool → ℕ → List ApartEvent → Ends → Ends
 apart_run long_data channels [] ends = ends
-apart_run long_data channels (e ∷ events) ends = apart_run long_data channels events (apart_happens long_data channels ends e)
+apart_run long_data channels (e ∷ events) ends = apart_run long_data channels events
+    (apart_happens long_data channels ends e)
 
 abbrev pub ends_of : TwoLayers → Ends
 ends_of w = record { near = w.near; far = w.far }
@@ -94,7 +95,8 @@ IsInOrder ends e = IsNext (if e.first then ends.near else ends.far) (if e.first 
 
 abbrev pub AreInOrder : Bool → ℕ → List ApartEvent → Ends → Type 0
 AreInOrder long_data channels [] ends = Unit {0}
-AreInOrder long_data channels (e ∷ events) ends = IsInOrder ends e × AreInOrder long_data channels events (apart_happens long_data channels ends e)
+AreInOrder long_data channels (e ∷ events) ends = IsInOrder ends e
+    × AreInOrder long_data channels events (apart_happens long_data channels ends e)
 
 -- ---- the same over links
 
@@ -118,4 +120,5 @@ as_world ends = record {
 -- whatever happened to two ends in order
 abbrev pub AlwaysApart : (TwoLayers → Type 0) → Bool → ℕ → Type 0
 AlwaysApart P long_data channels =
-    (events : List ApartEvent) → AreInOrder long_data channels events (apart_start long_data channels) → P (as_world (apart_run long_data channels events (apart_start long_data channels)))
+    (events : List ApartEvent) → AreInOrder long_data channels events (apart_start long_data channels)
+    → P (as_world (apart_run long_data channels events (apart_start long_data channels)))

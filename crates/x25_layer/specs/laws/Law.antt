@@ -23,7 +23,8 @@ pub record IsQuietWorld (channels : ℕ) (w : TwoLayers) : Type 0 where
 -- under each channel and name, what the one end handed up is a beginning of what the other handed down
 pub record HandsUpLawfully (e f : List Entry) : Type 0 where
   pub messages : (k : ℕ) (name : Name) → IsPrefix (messages_in (under k name e)).up (messages_in (under k name f)).down
-  pub interrupts : (k : ℕ) (name : Name) → IsPrefix (interrupts_in (under k name e)).up (interrupts_in (under k name f)).down
+  pub interrupts : (k : ℕ) (name : Name)
+      → IsPrefix (interrupts_in (under k name e)).up (interrupts_in (under k name f)).down
   pub calls : (k : ℕ) (name : Name) → IsPrefix (calls_in (under k name e)).up (calls_in (under k name f)).down
 
 pub record IsLawfulWorld (w : TwoLayers) : Type 0 where
@@ -35,8 +36,8 @@ pub record HasAllOf (k : ℕ) (name : Name) (giver taker : List Entry) : Type 0 
   pub messages : (messages_in (under k name taker)).up ≡ (messages_in (under k name giver)).down
   pub interrupts : (interrupts_in (under k name taker)).up ≡ (interrupts_in (under k name giver)).down
 
--- Where all that the giver handed down to its link is acknowledged, and what is acknowledged the taker's link handed up; where no
--- message waits in the giver's circuit; and where one stretch is open at both ends.
+-- Where all that the giver handed down to its link is acknowledged, and what is acknowledged the taker's link handed
+-- up; where no message waits in the giver's circuit; and where one stretch is open at both ends.
 pub record IsIdleTo (k : ℕ) (giver taker : End) (acked : ℕ) : Type 0 where
   pub all_acked : acked ≡ length giver.given
   pub acked_taken : acked ≤ length taker.taken
@@ -46,8 +47,10 @@ pub record IsIdleTo (k : ℕ) (giver taker : End) (acked : ℕ) : Type 0 where
   pub same_name : name_of giver.layer k ≡ name_of taker.layer k
 
 pub record ArrivesAll (w : TwoLayers) : Type 0 where
-  pub near : (k acked : ℕ) → IsIdleTo k w.near w.far acked → HasAllOf k (name_of w.near.layer k) w.near.entries w.far.entries
-  pub far : (k acked : ℕ) → IsIdleTo k w.far w.near acked → HasAllOf k (name_of w.far.layer k) w.far.entries w.near.entries
+  pub near : (k acked : ℕ) → IsIdleTo k w.near w.far acked
+      → HasAllOf k (name_of w.near.layer k) w.near.entries w.far.entries
+  pub far : (k acked : ℕ) → IsIdleTo k w.far w.near acked
+      → HasAllOf k (name_of w.far.layer k) w.far.entries w.near.entries
 
 -- what each link handed down is what the other handed up, and then what is in flight
 pub record KeepsOrder (w : TwoLayers) : Type 0 where

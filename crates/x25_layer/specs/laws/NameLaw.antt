@@ -1,5 +1,5 @@
--- The name of a stretch is what the user was told: the restarts, clears and resets that the notices tell of. And no CLEAR comes in p1,
--- which would count and tell nothing.
+-- The name of a stretch is what the user was told: the restarts, clears and resets that the notices tell of. And no
+-- CLEAR comes in p1, which would count and tell nothing.
 use Rattle.std.specs.Prelude.{◌≡◌, ℕ, suc, List, [], ◌∷◌, ◌==◌, false, if◌then◌else◌}
 use Rattle.x25_packet.specs.Packet.{PlainPacket, clear}
 use Rattle.x25_circuit.specs.Circuit.{is_free}
@@ -54,7 +54,8 @@ pub record NamesAreCounted (w : TwoLayers) : Type 0 where
 
 -- the packet is no CLEAR in p1, where the layer is ready
 abbrev pub IsNoClearInP1 : End → PlainPacket → Type 0
-IsNoClearInP1 e (clear channel cause diagnostic) = e.is_out ≡ false → e.layer.restarting ≡ false → is_free (e.layer.circuits channel) ≡ false
+IsNoClearInP1 e (clear channel cause diagnostic) = e.is_out ≡ false → e.layer.restarting ≡ false
+    → is_free (e.layer.circuits channel) ≡ false
 IsNoClearInP1 e packet = Unit {0}
 
 -- the one in front of those in flight to the end

@@ -6,8 +6,8 @@ use Rattle.x25_packet.specs.Facilities.{IsFacilityField}
 use Rattle.x25_circuit.specs.Notice.{PlainNotice, fault}
 use Rattle.x25_layer.specs.Layer.{is_channel, LayerNotice, on_channel, layer_fault}
 
--- A CLEAR or RESET has the cause 0 of the user, and a RESTART 0 or 7, network operational; the facilities of a CALL and of its
--- acceptance are packet sizes and windows that are allowed.
+-- A CLEAR or RESET has the cause 0 of the user, and a RESTART 0 or 7, network operational; the facilities of a CALL and
+-- of its acceptance are packet sizes and windows that are allowed.
 abbrev pub IsQuiet : PlainPacket → Type 0
 IsQuiet (call channel called calling facilities user) = IsFacilityField facilities
 IsQuiet (accept channel facilities) = IsFacilityField facilities

@@ -21,9 +21,10 @@ abbrev pub AreChannels : ℕ → List ℕ → Type 0
 AreChannels n [] = Unit {0}
 AreChannels n (h ∷ channels) = (is_channel n h ≡ true) × AreChannels n channels
 
--- after these moves, the near end has this layer and has put these packets more, and this is in flight to it; it has told its user nothing since
--- the world `first`, and the other end is as it was there
-pub record IsRun (c : LayerSettings) (w : TwoLayers) (moved : List Move) (first : TwoLayers) (s : Putting) (behind : List PlainPacket) : Type 0 where
+-- after these moves, the near end has this layer and has put these packets more, and this is in flight to it; it has
+-- told its user nothing since the world `first`, and the other end is as it was there
+pub record IsRun (c : LayerSettings) (w : TwoLayers) (moved : List Move) (first : TwoLayers) (s : Putting)
+    (behind : List PlainPacket) : Type 0 where
   pub layer : (moves_all c w moved).near.layer ≡ s.layer
   pub given : (moves_all c w moved).near.given ≡ w.near.given ++ s.put
   pub out : (moves_all c w moved).out ≡ w.out ++ s.put
@@ -36,19 +37,23 @@ pub record IsRun (c : LayerSettings) (w : TwoLayers) (moved : List Move) (first 
 
 -- an accepted call is the request and then pulls
 abbrev pub CallsRun : Type 0
-CallsRun = (link : LinkView) (c : LayerSettings) (w : TwoLayers) (request : LayerRequest) (s : Putting) → w.near.is_out ≡ false → calls link c w.near.layer request ≡ Went s →
+CallsRun = (link : LinkView) (c : LayerSettings) (w : TwoLayers) (request : LayerRequest) (s : Putting)
+    → w.near.is_out ≡ false → calls link c w.near.layer request ≡ Went s →
     let move : Move = Requests (link.waits [] == 256) request in
     (pulled : List ℕ) × AreChannels c.channels pulled × IsRun c w (move ∷ pulls_of pulled) (moves c w move) s w.back
 
 -- a packet handed up is taken, and then pulls
 abbrev pub HearsRun : Type 0
-HearsRun = (link : LinkView) (c : LayerSettings) (w : TwoLayers) (packet : PlainPacket) (back : List PlainPacket) (octets : List ℕ) → w.near.is_out ≡ false → w.back ≡ packet ∷ back →
+HearsRun = (link : LinkView) (c : LayerSettings) (w : TwoLayers) (packet : PlainPacket) (back : List PlainPacket)
+    (octets : List ℕ) → w.near.is_out ≡ false → w.back ≡ packet ∷ back →
     packet_of (longest_user c.circuit.long_data) octets ≡ Ok packet →
-    (pulled : List ℕ) × AreChannels c.channels pulled × IsRun c w (HandsUp ∷ pulls_of pulled) (moves c w HandsUp) (hears link c w.near.layer octets).step back
+    (pulled : List ℕ) × AreChannels c.channels pulled
+    × IsRun c w (HandsUp ∷ pulls_of pulled) (moves c w HandsUp) (hears link c w.near.layer octets).step back
 
 -- behind the rounds, one round more gives nothing
 abbrev pub RoundsSettle : Type 0
-RoundsSettle = (link : LinkView) (c : LayerSettings) (s : Putting) → round link c c.channels (rounds link c s) ≡ rounds link c s
+RoundsSettle = (link : LinkView) (c : LayerSettings) (s : Putting)
+    → round link c c.channels (rounds link c s) ≡ rounds link c s
 
 -- at LinkUp RESTART is put, and nothing else
 abbrev pub ComesUpAlone : Type 0

@@ -1,4 +1,5 @@
--- The transcript of a layer: what its users asked and were told on each channel, each entry under the name of its stretch.
+-- The transcript of a layer: what its users asked and were told on each channel, each entry under the name of its
+-- stretch.
 use Rattle.std.specs.Prelude.{ℕ, List, [], ◌∷◌, ◌++◌, ◌==◌, if◌then◌else◌}
 use Rattle.x25_circuit.specs.declared.message.Message.{Message}
 use Rattle.x25_circuit.specs.Notice.{CallRequest, PlainNotice, incoming, delivered, interrupted}
@@ -30,8 +31,22 @@ added a b = record {
 }
 
 abbrev pub told_by : PlainNotice → Handed
-told_by (incoming request) = record { made = []; indicated = request ∷ []; down = []; up = []; int_down = []; int_up = [] }
-told_by (delivered message) = record { made = []; indicated = []; down = []; up = message ∷ []; int_down = []; int_up = [] }
+told_by (incoming request) = record {
+  made = [];
+  indicated = request ∷ [];
+  down = [];
+  up = [];
+  int_down = [];
+  int_up = [];
+}
+told_by (delivered message) = record {
+  made = [];
+  indicated = [];
+  down = [];
+  up = message ∷ [];
+  int_down = [];
+  int_up = [];
+}
 told_by (interrupted user) = record { made = []; indicated = []; down = []; up = []; int_down = []; int_up = user ∷ [] }
 told_by notice = nothing_handed
 
@@ -40,8 +55,22 @@ told_by_all [] = nothing_handed
 told_by_all (notice ∷ notices) = added (told_by notice) (told_by_all notices)
 
 abbrev pub asked_by : Request → Handed
-asked_by (Calls called calling user params) = record { made = request_of called calling user params ∷ []; indicated = []; down = []; up = []; int_down = []; int_up = [] }
-asked_by (Sends q user) = record { made = []; indicated = []; down = record { q = q; user = user } ∷ []; up = []; int_down = []; int_up = [] }
+asked_by (Calls called calling user params) = record {
+  made = request_of called calling user params ∷ [];
+  indicated = [];
+  down = [];
+  up = [];
+  int_down = [];
+  int_up = [];
+}
+asked_by (Sends q user) = record {
+  made = [];
+  indicated = [];
+  down = record { q = q; user = user } ∷ [];
+  up = [];
+  int_down = [];
+  int_up = [];
+}
 asked_by (Interrupts user) = record { made = []; indicated = []; down = []; up = []; int_down = user ∷ []; int_up = [] }
 asked_by request = nothing_handed
 
@@ -62,7 +91,8 @@ says (Told notice) = told_by notice
 -- what stands in a transcript under a channel and a name
 abbrev pub under : ℕ → Name → List Entry → Handed
 under k name [] = nothing_handed
-under k name (e ∷ entries) = added (if both (k == e.channel) (same_name name e.name) then says e.said else nothing_handed) (under k name entries)
+under k name (e ∷ entries) = added (if both (k == e.channel) (same_name name e.name) then says e.said
+    else nothing_handed) (under k name entries)
 
 -- the three kinds, as lists handed down and up
 
@@ -75,7 +105,7 @@ messages_in h = record { down = h.down; up = h.up }
 abbrev pub interrupts_in : Handed → Lists (List ℕ)
 interrupts_in h = record { down = h.int_down; up = h.int_up }
 
--- the name of the stretch that stands on a channel: the restarts done since link set-up, the clears since the last of these, and
--- the resets since the last of all these (profile)
+-- the name of the stretch that stands on a channel: the restarts done since link set-up, the clears since the last of
+-- these, and the resets since the last of all these (profile)
 abbrev pub name_of : Layer → ℕ → Name
 name_of l h = record { restarts = l.restarts; clears = (l.circuits h).clears; resets = (l.circuits h).resets }

@@ -1,17 +1,21 @@
 -- Two layers over links that keep order: each end, the packets in flight between them, and what may happen.
--- What a link hands up is a beginning of what was handed down at the other end, since it is in front of what is in flight.
-use Rattle.std.specs.Prelude.{ℕ, List, [], ◌∷◌, ◌++◌, option_to_list, Option, Some, None, Bool, true, false, if◌then◌else◌}
+-- What a link hands up is a beginning of what was handed down at the other end, since it is in front of what is in
+-- flight.
+use Rattle.std.specs.Prelude.{ℕ, List, [], ◌∷◌, ◌++◌, option_to_list, Option, Some, None, Bool, true, false}
+use Rattle.std.specs.Prelude.{if◌then◌else◌}
 use Rattle.x25_bits.specs.declared.role.Role.{Role}
 use Rattle.x25_bits.specs.declared.role.Role.TheVariants.{Dte, Dce}
 use Rattle.x25_packet.specs.Packet.{PlainPacket}
 use Rattle.x25_circuit.specs.Circuit.{Circuit}
 use Rattle.x25_circuit.specs.Calling.{Request, Calls, Accepts}
-use Rattle.x25_layer.specs.Layer.{LayerSettings, Layer, LayerNotice, on_channel, LayerAnswer, is_channel, layer_answers, rested, goes_up}
-use Rattle.x25_layer.specs.Calls.{LayerRequest, Asks, Dials, Restarts, PullsAll, LayerOutcome, Accepted, Declined, free_channel, layer_outcome, LayerPulled, layer_pulled}
+use Rattle.x25_layer.specs.Layer.{LayerSettings, Layer, LayerNotice, on_channel, LayerAnswer, is_channel, layer_answers}
+use Rattle.x25_layer.specs.Layer.{rested, goes_up}
+use Rattle.x25_layer.specs.Calls.{LayerRequest, Asks, Dials, Restarts, PullsAll, LayerOutcome, Accepted, Declined}
+use Rattle.x25_layer.specs.Calls.{free_channel, layer_outcome, LayerPulled, layer_pulled}
 use Rattle.x25_layer.specs.laws.Transcript.{Entry, Asked, Told, name_of}
 
--- an end: its layer; whether its link went down, which is for good; the packets handed down to its link and those that it handed up;
--- what its user was told, and the entries of its transcript that name a channel
+-- an end: its layer; whether its link went down, which is for good; the packets handed down to its link and those that
+-- it handed up; what its user was told, and the entries of its transcript that name a channel
 pub record End : Type 0 where
   pub layer : Layer
   pub is_out : Bool
@@ -35,7 +39,12 @@ shown x (Accepts answer) = Accepts (Some x.params)
 shown x request = request
 
 abbrev pub entry_of_request : Layer → ℕ → Request → List Entry
-entry_of_request l h request = record { channel = h; name = name_of l h; said = Asked (shown (l.circuits h) request) } ∷ []
+entry_of_request l h request = record {
+  channel = h;
+  name = name_of l h;
+  said = Asked
+      (shown (l.circuits h) request);
+} ∷ []
 
 abbrev pub entry_of_dial : Layer → Option ℕ → Request → List Entry
 entry_of_dial l None request = []
@@ -44,13 +53,15 @@ entry_of_dial l (Some h) request = entry_of_request l h request
 -- of an accepted call, by the layer before and after it
 abbrev pub entries_asked : LayerSettings → Layer → Layer → LayerRequest → List Entry
 entries_asked c l next (Asks h request) = entry_of_request next h request
-entries_asked c l next (Dials called calling user params) = entry_of_dial next (free_channel c.circuit.role l.circuits c.channels) (Calls called calling user params)
+entries_asked c l next (Dials called calling user params) = entry_of_dial next
+    (free_channel c.circuit.role l.circuits c.channels) (Calls called calling user params)
 entries_asked c l next Restarts = []
 entries_asked c l next PullsAll = []
 
 abbrev pub entries_told : Layer → List LayerNotice → List Entry
 entries_told l [] = []
-entries_told l (on_channel h notice ∷ notices) = record { channel = h; name = name_of l h; said = Told notice } ∷ entries_told l notices
+entries_told l (on_channel h notice ∷ notices) = record { channel = h; name = name_of l h; said = Told notice }
+    ∷ entries_told l notices
 entries_told l (other ∷ notices) = entries_told l notices
 
 -- ---- events
@@ -72,14 +83,23 @@ pub record Event : Type 0 where
 -- the end that moves has gone to this layer, has put these packets, and has entered these
 abbrev pub puts : TwoLayers → Layer → List PlainPacket → List Entry → TwoLayers
 puts w l packets entries = record {
-  near = record { layer = l; is_out = false; given = w.near.given ++ packets; taken = w.near.taken; told = w.near.told; entries = w.near.entries ++ entries };
+  near = record {
+    layer = l;
+    is_out = false;
+    given = w.near.given
+        ++ packets;
+    taken = w.near.taken;
+    told = w.near.told;
+    entries = w.near.entries ++ entries;
+  };
   far = w.far;
   out = w.out ++ packets;
   back = w.back;
 }
 
 abbrev pub requested : LayerSettings → TwoLayers → LayerRequest → LayerOutcome → TwoLayers
-requested c w request (Accepted next packet) = puts w next (option_to_list packet) (entries_asked c w.near.layer next request)
+requested c w request (Accepted next packet) = puts w next (option_to_list packet)
+    (entries_asked c w.near.layer next request)
 requested c w request (Declined error) = w
 
 abbrev pub pulled_in : TwoLayers → LayerPulled → TwoLayers
@@ -108,7 +128,14 @@ handed_up c w (packet ∷ back) = answered w packet back (layer_answers c w.near
 -- everything is dropped but the counts
 abbrev pub goes_down : TwoLayers → TwoLayers
 goes_down w = record {
-  near = record { layer = rested w.near.layer; is_out = true; given = w.near.given; taken = w.near.taken; told = w.near.told; entries = w.near.entries };
+  near = record {
+    layer = rested w.near.layer;
+    is_out = true;
+    given = w.near.given;
+    taken = w.near.taken;
+    told = w.near.told;
+    entries = w.near.entries;
+  };
   far = w.far;
   out = w.out;
   back = w.back;
@@ -128,14 +155,19 @@ moves c w move = moves_in c w w.near.is_out move
 abbrev pub turned : TwoLayers → TwoLayers
 turned w = record { near = w.far; far = w.near; out = w.back; back = w.out }
 
--- The settings of an end, by its role. Whether the user data of a CALL may be long, and the channels, are the same at both ends.
+-- The settings of an end, by its role. Whether the user data of a CALL may be long, and the channels, are the same at
+-- both ends.
 abbrev pub settings_of : Role → Bool → ℕ → LayerSettings
-settings_of role long_data channels = record { channels = channels; circuit = record { role = role; long_data = long_data } }
+settings_of role long_data channels = record {
+  channels = channels;
+  circuit = record { role = role; long_data = long_data };
+}
 
 -- the first end is the DTE
 abbrev pub happens : Bool → ℕ → TwoLayers → Event → TwoLayers
 happens long_data channels w e =
-    if e.first then moves (settings_of Dte long_data channels) w e.what else turned (moves (settings_of Dce long_data channels) (turned w) e.what)
+    if e.first then moves (settings_of Dte long_data channels) w e.what
+    else turned (moves (settings_of Dce long_data channels) (turned w) e.what)
 
 abbrev pub run : Bool → ℕ → List Event → TwoLayers → TwoLayers
 run long_data channels [] w = w
@@ -143,7 +175,14 @@ run long_data channels (e ∷ events) w = run long_data channels events (happens
 
 -- both links have come up, and each end has sent its RESTART
 abbrev pub started : LayerAnswer → End
-started a = record { layer = a.next; is_out = false; given = option_to_list a.owed; taken = []; told = []; entries = [] }
+started a = record {
+  layer = a.next;
+  is_out = false;
+  given = option_to_list a.owed;
+  taken = [];
+  told = [];
+  entries = [];
+}
 
 abbrev pub start : Bool → ℕ → TwoLayers
 start long_data channels =

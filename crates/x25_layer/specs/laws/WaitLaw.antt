@@ -15,11 +15,13 @@ PullsNone c l = (k : ℕ) → is_channel c.channels k ≡ true → (layer_pulled
 
 -- behind the rounds, where the link has room
 abbrev pub RoundsLeaveNone : Type 0
-RoundsLeaveNone = (link : LinkView) (c : LayerSettings) (s : Putting) → link.waits (rounds link c s).put < 8 → PullsNone c (rounds link c s).layer
+RoundsLeaveNone = (link : LinkView) (c : LayerSettings) (s : Putting) → link.waits (rounds link c s).put < 8
+    → PullsNone c (rounds link c s).layer
 
 -- .. and where the pull of all leaves the layer as it was, in a link that has room
 abbrev pub StillPullsNone : Type 0
-StillPullsNone = (link : LinkView) (c : LayerSettings) (l : Layer) (s : Putting) → calls link c l PullsAll ≡ Went s → s.layer ≡ l → link.waits [] < 8 → PullsNone c l
+StillPullsNone = (link : LinkView) (c : LayerSettings) (l : Layer) (s : Putting) → calls link c l PullsAll ≡ Went s
+    → s.layer ≡ l → link.waits [] < 8 → PullsNone c l
 
 -- a circuit that isn't open keeps no message
 abbrev pub KeepsNoneClosed : End → Type 0
@@ -50,14 +52,17 @@ pub record IsOpenAtBoth (k : ℕ) (giver taker : End) : Type 0 where
   pub opened_there : is_open (taker.layer.circuits k) ≡ true
   pub same_name : name_of giver.layer k ≡ name_of taker.layer k
 
--- What waits at the giver on channel k: nothing, as its circuit isn't open; nothing, as all that was handed down in the stretch was handed up
--- at the other end; or messages for a user who isn't ready there (section 4.4.1.5).
+-- What waits at the giver on channel k: nothing, as its circuit isn't open; nothing, as all that was handed down in the
+-- stretch was handed up at the other end; or messages for a user who isn't ready there (section 4.4.1.5).
 pub data WaitsForUser (k : ℕ) (giver taker : End) : Type 0 where
   NotOpen : is_open (giver.layer.circuits k) ≡ false → waits (giver.layer.circuits k) ≡ 0 → WaitsForUser k giver taker
-  Arrived : IsOpenAtBoth k giver taker → waits (giver.layer.circuits k) ≡ 0 → HasAllOf k (name_of giver.layer k) giver.entries taker.entries → WaitsForUser k giver taker
+  Arrived : IsOpenAtBoth k giver taker → waits (giver.layer.circuits k) ≡ 0
+      → HasAllOf k (name_of giver.layer k) giver.entries taker.entries → WaitsForUser k giver taker
   NotReady : IsOpenAtBoth k giver taker → (taker.layer.circuits k).talk.own_ready ≡ false → WaitsForUser k giver taker
 
 -- of each end for which a pull gives nothing
 pub record WaitForUsersAlone (long_data : Bool) (channels : ℕ) (w : TwoLayers) : Type 0 where
-  pub near : IsDrained w → PullsNone (settings_of Dte long_data channels) w.near.layer → (k : ℕ) → is_channel channels k ≡ true → WaitsForUser k w.near w.far
-  pub far : IsDrained w → PullsNone (settings_of Dce long_data channels) w.far.layer → (k : ℕ) → is_channel channels k ≡ true → WaitsForUser k w.far w.near
+  pub near : IsDrained w → PullsNone (settings_of Dte long_data channels) w.near.layer → (k : ℕ)
+      → is_channel channels k ≡ true → WaitsForUser k w.near w.far
+  pub far : IsDrained w → PullsNone (settings_of Dce long_data channels) w.far.layer → (k : ℕ)
+      → is_channel channels k ≡ true → WaitsForUser k w.far w.near

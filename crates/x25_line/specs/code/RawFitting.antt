@@ -1,5 +1,6 @@
 -- The states of the window machine that a world of two bare ends fits.
-use Rattle.std.specs.Prelude.{◌≡◌, ℕ, ◌%◌, ◌<◌, ◌≤◌, List, [], ◌∷◌, length, take, slice_get, max, Option, Some, None, ◌⊎◌}
+use Rattle.std.specs.Prelude.{◌≡◌, ℕ, ◌%◌, ◌<◌, ◌≤◌, List, [], ◌∷◌, length, take, slice_get, max, Option, Some, None}
+use Rattle.std.specs.Prelude.{◌⊎◌}
 use Rattle.x25_window.specs.code.Modulo.{resolved}
 use Rattle.x25_window.specs.Sender.{Sending}
 use Rattle.x25_window.specs.code.Held.{Fits}
@@ -14,7 +15,8 @@ use Rattle.x25_bits.specs.declared.role.Role.TheVariants.{Dte, Dce}
 use Rattle.x25_line.specs.declared.raw_frame.RawFrame.{RawFrame}
 use Rattle.x25_line.specs.declared.raw_frame.RawCarried.{RawCarried}
 use Rattle.x25_line.specs.declared.raw_error.RawError.{RawError}
-use Rattle.x25_line.specs.declared.raw_error.RawError.TheVariants.{BadAck, Full, Empty, NoSuchFrame, NothingToSend, NoMemory}
+use Rattle.x25_line.specs.declared.raw_error.RawError.TheVariants.{BadAck, Full, Empty, NoSuchFrame, NothingToSend}
+use Rattle.x25_line.specs.declared.raw_error.RawError.TheVariants.{NoMemory}
 use Rattle.x25_line.specs.declared.raw_error.RawRefused.{RawRefused}
 use Rattle.x25_line.specs.declared.raw_event.RawAct.{RawAct}
 use Rattle.x25_line.specs.declared.raw_event.RawAct.TheVariants as act
@@ -52,7 +54,8 @@ pub record FitsEnd (v : ShownEnd) (e : End ℕ) (place : ℕ) : Type 0 where
 abbrev pub Delivered : ShownEnd → List RawFrame → End ℕ → ℕ → List (Frame ℕ) → Type 0
 Delivered v rs e place [] = ⊥
 Delivered v rs e place (f ∷ fs) =
-    FitsEnd v (arrived (is_wanted (length e.taken) f.carried) f e) (max place (resolved e.acked (f.ack % 8))) × FitsLine rs fs
+    FitsEnd v (arrived (is_wanted (length e.taken) f.carried) f e) (max place (resolved e.acked (f.ack % 8)))
+    × FitsLine rs fs
 
 -- the N(R) of the front frame stands for a number above all that were sent
 abbrev pub BringsBadAck : End ℕ → List (Frame ℕ) → Type 0

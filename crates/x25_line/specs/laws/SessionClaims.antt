@@ -1,4 +1,5 @@
--- What holds of two link stations and the line between them after each list of events, over set-up and re-set-up at any moment.
+-- What holds of two link stations and the line between them after each list of events, over set-up and re-set-up at any
+-- moment.
 use Rattle.std.specs.Prelude.{◌≡◌, ◌≤◌, ◌<◌, ◌⊎◌, ℕ, zero, suc, true, List, [], ◌∷◌, ◌++◌, None}
 use Rattle.std.specs.List.{Contains}
 use Rattle.x25_bits.specs.declared.role.Role.{Role}
@@ -9,13 +10,16 @@ use Rattle.x25_link.specs.Hearing.{other}
 use Rattle.x25_link.specs.Link.{is_idle}
 use Rattle.x25_line.specs.laws.InWindow.{IsPrefix}
 use Rattle.x25_line.specs.laws.Stations.{StationEnd, Stations, Event, start, run as run_alone}
-use Rattle.x25_line.specs.laws.StationClaims.{AreJoined, BothInOrder, BothHaveTheirLists, AreInWindow, NoFrmr, NoFrmrSent, AreWhole, AllSentAreWhole, number_in, numbered_on}
-use Rattle.x25_line.specs.laws.Sessions.{Entry, SessionEnd, Meeting, Sessions, run, from_nothing, from_set_up, AreTimely, swapped}
+use Rattle.x25_line.specs.laws.StationClaims.{AreJoined, BothInOrder, BothHaveTheirLists, AreInWindow, NoFrmr}
+use Rattle.x25_line.specs.laws.StationClaims.{NoFrmrSent, AreWhole, AllSentAreWhole, number_in, numbered_on}
+use Rattle.x25_line.specs.laws.Sessions.{Entry, SessionEnd, Meeting, Sessions, run, from_nothing, from_set_up}
+use Rattle.x25_line.specs.laws.Sessions.{AreTimely, swapped}
 
 -- what holds after each list of events, from nothing and from a link just set up, where timer T1 is timely
 abbrev pub Throughout : (Settings → Settings → Sessions → Type 0) → Type 0
 Throughout Holds =
-    (c d : Settings) → AreJoined c d → (begin : Sessions) → (begin ≡ from_nothing) ⊎ (begin ≡ from_set_up) → (events : List Event) → AreTimely c d events begin → Holds c d (run c d events begin)
+    (c d : Settings) → AreJoined c d → (begin : Sessions) → (begin ≡ from_nothing) ⊎ (begin ≡ from_set_up)
+    → (events : List Event) → AreTimely c d events begin → Holds c d (run c d events begin)
 
 abbrev pub AllMet : (Meeting → Type 0) → List Meeting → Type 0
 AllMet P [] = Unit {0}
@@ -39,7 +43,8 @@ abbrev pub InStep : List Meeting → Type 0
 InStep [] = Unit {0}
 InStep (m ∷ ms) = IsAbove m ms × InStep ms
 
--- Sessions meet one to one, and in order at both ends: an end hears one session of the other alone, while its own stands.
+-- Sessions meet one to one, and in order at both ends: an end hears one session of the other alone, while its own
+-- stands.
 abbrev pub MeetInStep : Settings → Settings → Sessions → Type 0
 MeetInStep c d w = InStep w.met
 
@@ -73,7 +78,8 @@ octets_of (e ∷ es) = e.octets ∷ octets_of es
 -- each frame with an N(R) was sent in this session
 abbrev pub AllOf : Role → ℕ → ℕ → List Entry → Type 0
 AllOf from n1 session [] = Unit {0}
-AllOf from n1 session (e ∷ es) = ((number_in (frame_of from n1 e.octets) ≡ None) ⊎ (e.session ≡ session)) × AllOf from n1 session es
+AllOf from n1 session (e ∷ es) = ((number_in (frame_of from n1 e.octets) ≡ None) ⊎ (e.session ≡ session))
+    × AllOf from n1 session es
 
 -- two stations of a link that was set up once
 pub record IsSession (c d : Settings) (v : Stations) : Type 0 where
@@ -90,9 +96,9 @@ pub record OtherEndStands (d : Settings) (w : Sessions) (alone : Stations) (othe
   pub line : numbered_on (other d.role) d.longest (octets_of w.out) ≡ numbered_on (other d.role) d.longest alone.out
   pub of_session : AllOf (other d.role) d.longest w.near.begun w.out
 
--- The session of an end that is Up, and the one of the other end that it meets or is to meet, by themselves: they are those
--- of a link that was set up once. All frames with an N(R) on the line to that end are theirs. Where the other end is Up too, these
--- are the sessions of both, with both stations and both lines.
+-- The session of an end that is Up, and the one of the other end that it meets or is to meet, by themselves: they are
+-- those of a link that was set up once. All frames with an N(R) on the line to that end are theirs. Where the other end
+-- is Up too, these are the sessions of both, with both stations and both lines.
 pub record Stands (c d : Settings) (w : Sessions) : Type 0 where
   pub alone : Stations
   pub session : IsSession c d alone
@@ -119,14 +125,18 @@ pub record EachHearsLatest (c d : Settings) (w : Sessions) : Type 0 where
 
 -- the session of an end that is Up meets no other than the latest of the other end
 pub record EachMeetsLatest (c d : Settings) (w : Sessions) : Type 0 where
-  pub near : is_up w.near.station.phase ≡ true → AllMet (λ (m : Meeting). m.near ≡ w.near.begun → m.far ≡ w.far.begun) w.met
-  pub far : is_up w.far.station.phase ≡ true → AllMet (λ (m : Meeting). m.far ≡ w.far.begun → m.near ≡ w.near.begun) w.met
+  pub near : is_up w.near.station.phase ≡ true
+      → AllMet (λ (m : Meeting). m.near ≡ w.near.begun → m.far ≡ w.far.begun) w.met
+  pub far : is_up w.far.station.phase ≡ true → AllMet (λ (m : Meeting). m.far ≡ w.far.begun
+      → m.near ≡ w.near.begun) w.met
 
--- Where an end is idle, and the other is Up too or met its session, all that was handed down in this session was handed up in
--- the latest session of the other.
+-- Where an end is idle, and the other is Up too or met its session, all that was handed down in this session was handed
+-- up in the latest session of the other.
 pub record IdleHasArrived (c d : Settings) (w : Sessions) : Type 0 where
-  pub near : is_idle w.near.station ≡ true → (is_up w.far.station.phase ≡ true) ⊎ SomeMet (λ (m : Meeting). m.near ≡ w.near.begun) w.met → w.far.up w.far.begun ≡ w.near.down w.near.begun
-  pub far : is_idle w.far.station ≡ true → (is_up w.near.station.phase ≡ true) ⊎ SomeMet (λ (m : Meeting). m.far ≡ w.far.begun) w.met → w.near.up w.near.begun ≡ w.far.down w.far.begun
+  pub near : is_idle w.near.station ≡ true → (is_up w.far.station.phase ≡ true)
+      ⊎ SomeMet (λ (m : Meeting). m.near ≡ w.near.begun) w.met → w.far.up w.far.begun ≡ w.near.down w.near.begun
+  pub far : is_idle w.far.station ≡ true → (is_up w.near.station.phase ≡ true)
+      ⊎ SomeMet (λ (m : Meeting). m.far ≡ w.far.begun) w.met → w.near.up w.near.begun ≡ w.far.down w.far.begun
 
 -- ---- no fault is ever found
 
@@ -138,7 +148,8 @@ NoSessionSendsFrmr c d w = NoFrmr w.sent
 -- each may be spelled, and the packet of an I frame is one that was handed down in a session of one of the ends
 pub record AreWholeIn (n1 : ℕ) (near far : SessionEnd) (frames : List PlainFrame) : Type 0 where
   pub given : List (List ℕ)
-  pub handed_down : (packet : List ℕ) → Contains given packet → ((n : ℕ) × Contains (near.down n) packet) ⊎ ((n : ℕ) × Contains (far.down n) packet)
+  pub handed_down : (packet : List ℕ) → Contains given packet → ((n : ℕ) × Contains (near.down n) packet)
+      ⊎ ((n : ℕ) × Contains (far.down n) packet)
   pub whole : AreWhole n1 given frames
 
 abbrev pub AllSessionsSendWhole : Settings → Settings → Sessions → Type 0
@@ -168,7 +179,8 @@ pub record AreStationsOf (w : Sessions) (v : Stations) : Type 0 where
 
 -- the same events of the two stations by themselves do the same
 abbrev pub SessionsAreStations : Type 0
-SessionsAreStations = (c d : Settings) (events : List Event) (w : Sessions) (v : Stations) → AreStationsOf w v → AreStationsOf (run c d events w) (run_alone c d events v)
+SessionsAreStations = (c d : Settings) (events : List Event) (w : Sessions) (v : Stations) → AreStationsOf w v
+    → AreStationsOf (run c d events w) (run_alone c d events v)
 
 -- a link that was just set up is the start of two stations
 abbrev pub SetUpIsTheStart : Type 0

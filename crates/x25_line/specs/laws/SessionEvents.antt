@@ -1,4 +1,5 @@
--- What one event does to the sessions of two link stations: which session begins, what is handed down and up in it, and which meet.
+-- What one event does to the sessions of two link stations: which session begins, what is handed down and up in it, and
+-- which meet.
 use Rattle.std.specs.Prelude.{◌≡◌, ◌⊎◌, ℕ, suc, Bool, if◌then◌else◌, List, [], ◌∷◌, ◌++◌, Option, option_to_list}
 use Rattle.x25_link.specs.Station.{Settings}
 use Rattle.x25_line.specs.laws.Stations.{Act, Put, Deliver, Event, Near, Far}
@@ -20,11 +21,12 @@ pub record GoesOn (more_down more_up : List (List ℕ)) (old new : SessionEnd) :
   pub other_down : (n : ℕ) → (n ≡ old.begun → ⊥) → new.down n ≡ old.down n
   pub other_up : (n : ℕ) → (n ≡ old.begun → ⊥) → new.up n ≡ old.up n
 
--- One packet at most is handed up, and only as octets come, by which alone a session begins. Only the packet that is put is
--- handed down, or it is refused.
+-- One packet at most is handed up, and only as octets come, by which alone a session begins. Only the packet that is
+-- put is handed down, or it is refused.
 abbrev pub HandsInSession : Act → SessionEnd → SessionEnd → Type 0
 HandsInSession (Put packet) old new = (accepted : Bool) × GoesOn (if accepted then packet ∷ [] else []) [] old new
-HandsInSession Deliver old new = NextBegins old new ⊎ ((packet : Option (List ℕ)) × GoesOn [] (option_to_list packet) old new)
+HandsInSession Deliver old new = NextBegins old new
+    ⊎ ((packet : Option (List ℕ)) × GoesOn [] (option_to_list packet) old new)
 HandsInSession act old new = GoesOn [] [] old new
 
 -- the other end stays as it was
@@ -33,7 +35,8 @@ HandsInSessionAt (Near act) w v = HandsInSession act w.near v.near × (v.far ≡
 HandsInSessionAt (Far act) w v = HandsInSession act w.far v.far × (v.near ≡ w.near)
 
 abbrev pub EachEventHandsInSession : Type 0
-EachEventHandsInSession = (c d : Settings) (event : Event) (w : Sessions) → HandsInSessionAt event w (happens c d event w)
+EachEventHandsInSession = (c d : Settings) (event : Event) (w : Sessions)
+    → HandsInSessionAt event w (happens c d event w)
 
 -- ---- which sessions meet
 
@@ -66,7 +69,7 @@ abbrev pub MeetsOneAt : Event → Sessions → Sessions → Type 0
 MeetsOneAt (Near act) w v = MeetsOne act (latest w) w.near v.near w.met v.met
 MeetsOneAt (Far act) w v = MeetsOne act (latest w) w.far v.far w.met v.met
 
--- One event brings one meeting at most, that of the latest sessions of both ends, and where it brings none, nothing is handed
--- up. As a session begins, none meet.
+-- One event brings one meeting at most, that of the latest sessions of both ends, and where it brings none, nothing is
+-- handed up. As a session begins, none meet.
 abbrev pub EachEventMeetsLatest : Settings → Settings → Sessions → Type 0
 EachEventMeetsLatest c d w = (event : Event) → MeetsOneAt event w (happens c d event w)

@@ -1,6 +1,8 @@
--- The window machine behind the two sessions that stand, as it goes on from event to event over set-up and re-set-up. A frame is given its
--- whole numbers as it is put on the line, and keeps them as long as it is there. ITU-T X.25 (10/96), sections 2.3.2, 2.4.4 and 2.4.5.
-use Rattle.std.specs.Prelude.{◌≡◌, ◌⊎◌, ℕ, zero, suc, Bool, true, false, if◌then◌else◌, List, [], ◌∷◌, ◌++◌, length, drop, Option, Some, None, Result, Ok, Err}
+-- The window machine behind the two sessions that stand, as it goes on from event to event over set-up and re-set-up. A
+-- frame is given its whole numbers as it is put on the line, and keeps them as long as it is there. ITU-T X.25 (10/96),
+-- sections 2.3.2, 2.4.4 and 2.4.5.
+use Rattle.std.specs.Prelude.{◌≡◌, ◌⊎◌, ℕ, zero, suc, Bool, true, false, if◌then◌else◌, List, [], ◌∷◌, ◌++◌, length}
+use Rattle.std.specs.Prelude.{drop, Option, Some, None, Result, Ok, Err}
 use Rattle.x25_bits.specs.declared.role.Role.{Role}
 use Rattle.x25_frame.specs.Frame.{PlainFrame, sabm}
 use Rattle.x25_frame.specs.Reading.{frame_of}
@@ -13,7 +15,8 @@ use Rattle.x25_line.specs.laws.Line.{Line, swapped as line_swapped}
 use Rattle.x25_line.specs.laws.Stations.{Act, Deliver, Event, Near, Far}
 use Rattle.x25_line.specs.laws.StationClaims.{AreJoined, numbered_on, IsBehind}
 use Rattle.x25_line.specs.laws.WholeNumbers.{given, place_of, taken_out, place_taken, counted, machine_at_start}
-use Rattle.x25_line.specs.laws.Sessions.{Entry, Sessions, ua_in, acts, happens, run, swapped, from_nothing, from_set_up, AreTimely}
+use Rattle.x25_line.specs.laws.Sessions.{Entry, Sessions, ua_in, acts, happens, run, swapped, from_nothing, from_set_up}
+use Rattle.x25_line.specs.laws.Sessions.{AreTimely}
 use Rattle.x25_line.specs.laws.SessionClaims.{octets_of, Stands}
 
 -- a session of each end, and the window machine behind the two
@@ -60,9 +63,11 @@ by_answers (suc n) before behind = behind
 abbrev pub place_behind_ua : Role → ℕ → List (List ℕ) → ℕ → Option ℕ
 place_behind_ua from n1 [] i = None
 place_behind_ua from n1 (octets ∷ line) zero = None
-place_behind_ua from n1 (octets ∷ line) (suc i) = by_answers (ua_in (frame_of from n1 octets)) (place_behind_ua from n1 line i) (place_of from n1 line i)
+place_behind_ua from n1 (octets ∷ line) (suc i) = by_answers (ua_in (frame_of from n1 octets))
+    (place_behind_ua from n1 line i) (place_of from n1 line i)
 
--- .. of those that are for the session that stands: all where the end is Up, and those behind the UA that it awaits; any other hears none
+-- .. of those that are for the session that stands: all where the end is Up, and those behind the UA that it awaits;
+-- any other hears none
 abbrev pub place_to_hear : Phase → Role → ℕ → List (List ℕ) → ℕ → Option ℕ
 place_to_hear Up from n1 line i = place_of from n1 line i
 place_to_hear Waiting from n1 line i = place_behind_ua from n1 line i
@@ -73,15 +78,25 @@ abbrev pub gone_at : Settings → Sessions → Option ℕ → Option ℕ
 gone_at c w None = None
 gone_at c w (Some i) = place_to_hear w.near.station.phase (other c.role) c.longest (octets_of w.back) i
 
--- The machine once its near end has acted: `station` is the station then, `put` are the octets that it has put on the line, and `gone` is
--- the place of the frame that was taken off the line to it.
+-- The machine once its near end has acted: `station` is the station then, `put` are the octets that it has put on the
+-- line, and `gone` is the place of the frame that was taken off the line to it.
 abbrev pub machine_after : Settings → LinkStation → List (List ℕ) → Option ℕ → Line (List ℕ) → Line (List ℕ)
 machine_after c station put gone l =
     let e = counted c.window station l.near in
-    record { near = e; far = l.far; out = l.out ++ given e.acked (length e.taken) l.near.sent (numbered_on c.role c.longest put); back = taken_out gone l.back }
+    record {
+      near = e;
+      far = l.far;
+      out = l.out
+          ++ given e.acked (length e.taken) l.near.sent (numbered_on c.role c.longest put);
+      back = taken_out gone l.back;
+    }
 
 abbrev pub standing_after : Settings → LinkStation → List (List ℕ) → Option ℕ → Standing → Standing
-standing_after c station put gone s = record { near = s.near; far = s.far; machine = machine_after c station put gone s.machine }
+standing_after c station put gone s = record {
+  near = s.near;
+  far = s.far;
+  machine = machine_after c station put gone s.machine;
+}
 
 -- .. where `v` are the sessions then
 abbrev pub same_two : Settings → Option ℕ → Sessions → Sessions → Standing → Standing
@@ -90,7 +105,8 @@ same_two c gone w v s = standing_after c v.near.station (octets_of (drop (length
 -- ---- from event to event
 
 abbrev pub standing_acts : Settings → Settings → Act → Sessions → Standing → Standing
-standing_acts c d act w s = if sets_up c act w then anew c d w else same_two c (gone_at c w (place_taken act)) w (acts c act w) s
+standing_acts c d act w s = if sets_up c act w then anew c d w
+    else same_two c (gone_at c w (place_taken act)) w (acts c act w) s
 
 abbrev pub standing_happens : Settings → Settings → Event → Sessions → Standing → Standing
 standing_happens c d (Near act) w s = standing_acts c d act w s
@@ -117,8 +133,10 @@ pub record EachUpStandsWith (c d : Settings) (w : Sessions) (s : Standing) : Typ
   pub near : is_up w.near.station.phase ≡ true → StandsWith c d w s
   pub far : is_up w.far.station.phase ≡ true → StandsWith d c (swapped w) (turned s)
 
--- Where an end is Up, the machine that goes on from event to event, and begins anew where two sessions do, is behind the two that stand.
+-- Where an end is Up, the machine that goes on from event to event, and begins anew where two sessions do, is behind
+-- the two that stand.
 abbrev pub StandingGoesAlong : Type 0
 StandingGoesAlong =
-    (c d : Settings) → AreJoined c d → (begin : Sessions) → (begin ≡ from_nothing) ⊎ (begin ≡ from_set_up) → (events : List Event) → AreTimely c d events begin
+    (c d : Settings) → AreJoined c d → (begin : Sessions) → (begin ≡ from_nothing) ⊎ (begin ≡ from_set_up)
+    → (events : List Event) → AreTimely c d events begin
     → EachUpStandsWith c d (run c d events begin) (standing_run c d events begin (standing_at c d begin))

@@ -1,6 +1,8 @@
--- Two link stations and the line between them, set up and set up again at any moment. A session of an end begins as it notes
--- LinkUp. Each act is of the near end, or of the line to it. The far end's acts are those of the two ends swapped.
-use Rattle.std.specs.Prelude.{◌≡◌, ℕ, zero, suc, ◌+◌, ◌==◌, nat_le, Bool, true, false, if◌then◌else◌, List, [], ◌∷◌, ◌++◌, length, map, remove, Option, Some, None, option_to_list, Result, Ok, Err}
+-- Two link stations and the line between them, set up and set up again at any moment. A session of an end begins as it
+-- notes LinkUp. Each act is of the near end, or of the line to it. The far end's acts are those of the two ends
+-- swapped.
+use Rattle.std.specs.Prelude.{◌≡◌, ℕ, zero, suc, ◌+◌, ◌==◌, nat_le, Bool, true, false, if◌then◌else◌, List, [], ◌∷◌}
+use Rattle.std.specs.Prelude.{◌++◌, length, map, remove, Option, Some, None, option_to_list, Result, Ok, Err}
 use Rattle.x25_bits.specs.declared.role.Role.{Role}
 use Rattle.x25_frame.specs.Frame.{PlainFrame, sabm, disc, ua}
 use Rattle.x25_frame.specs.Spelling.{spelling_of}
@@ -11,8 +13,10 @@ use Rattle.x25_link.specs.declared.phase.Phase.{Phase}
 use Rattle.x25_link.specs.declared.phase.Phase.TheVariants.{Down, Up, Waiting}
 use Rattle.x25_link.specs.Station.{Settings, LinkStation, is_up, with_nothing}
 use Rattle.x25_link.specs.Hearing.{Step, other}
-use Rattle.x25_link.specs.Link.{take_step, put_step, put_refusal, timer_step, timer_refusal, connect_step, connect_refusal, disconnect_step, disconnect_refusal, abandon_step}
-use Rattle.x25_line.specs.laws.Stations.{Act, Put, Deliver, T1, Connect, Disconnect, Abandon, Lose, Damage, Event, Near, Far, is_visible}
+use Rattle.x25_link.specs.Link.{take_step, put_step, put_refusal, timer_step, timer_refusal, connect_step}
+use Rattle.x25_link.specs.Link.{connect_refusal, disconnect_step, disconnect_refusal, abandon_step}
+use Rattle.x25_line.specs.laws.Stations.{Act, Put, Deliver, T1, Connect, Disconnect, Abandon, Lose, Damage, Event, Near}
+use Rattle.x25_line.specs.laws.Stations.{Far, is_visible}
 use Rattle.x25_line.specs.laws.StationClaims.{number_in}
 
 -- octets on the line, and the session in which they were sent
@@ -32,8 +36,8 @@ pub record Meeting : Type 0 where
   pub near : ℕ
   pub far : ℕ
 
--- The ends; the line from the near end and the line to it, front first; who heard whom, the latest first; and all frames ever
--- sent.
+-- The ends; the line from the near end and the line to it, front first; who heard whom, the latest first; and all
+-- frames ever sent.
 pub record Sessions : Type 0 where
   pub near : SessionEnd
   pub far : SessionEnd
@@ -52,7 +56,8 @@ swapped w = record { near = w.far; far = w.near; out = w.back; back = w.out; met
 
 abbrev pub sent_in : ℕ → Role → List PlainFrame → List Entry
 sent_in session from [] = []
-sent_in session from (frame ∷ frames) = record { session = session; octets = spelling_of from frame } ∷ sent_in session from frames
+sent_in session from (frame ∷ frames) = record { session = session; octets = spelling_of from frame }
+    ∷ sent_in session from frames
 
 -- more in one session
 abbrev pub extended : (ℕ → List (List ℕ)) → ℕ → List (List ℕ) → ℕ → List (List ℕ)
@@ -68,7 +73,12 @@ abbrev pub after_step : Settings → Sessions → List Entry → List Meeting �
 after_step c w back met down step =
     let session = begun_by step.notes.up w.near.begun in
     record {
-      near = record { station = step.side.near; begun = session; down = extended w.near.down session down; up = extended w.near.up session (option_to_list step.packet) };
+      near = record {
+        station = step.side.near;
+        begun = session;
+        down = extended w.near.down session down;
+        up = extended w.near.up session (option_to_list step.packet);
+      };
       far = w.far;
       out = w.out ++ sent_in session c.role step.side.out;
       back = back;
@@ -84,7 +94,9 @@ unless None w done = done
 -- a packet of at most N1 octets is handed down
 abbrev pub handed_down : Settings → List ℕ → Sessions → Sessions
 handed_down c packet w =
-    if nat_le (length packet) c.longest then unless (put_refusal w.near.station) w (after_step c w w.back w.met (packet ∷ []) (put_step c packet w.near.station)) else w
+    if nat_le (length packet) c.longest
+    then unless (put_refusal w.near.station) w
+    (after_step c w w.back w.met (packet ∷ []) (put_step c packet w.near.station)) else w
 
 -- an end that is Up hears a frame with an N(R)
 abbrev pub heard : Bool → Option PlainFrame → Meeting → List Meeting → List Meeting
@@ -96,7 +108,8 @@ heard false read m met = met
 abbrev pub delivered : Settings → List Entry → Sessions → Sessions
 delivered c [] w = w
 delivered c (e ∷ back) w =
-    after_step c w back (heard (is_up w.near.station.phase) (number_in (frame_of (other c.role) c.longest e.octets)) (record { near = w.near.begun; far = e.session }) w.met) []
+    after_step c w back (heard (is_up w.near.station.phase) (number_in (frame_of (other c.role) c.longest e.octets))
+    (record { near = w.near.begun; far = e.session }) w.met) []
     (take_step c e.octets w.near.station)
 
 abbrev pub replaced : List Entry → ℕ → List ℕ → List Entry
@@ -108,9 +121,12 @@ abbrev pub acts : Settings → Act → Sessions → Sessions
 acts c (Put packet) w = handed_down c packet w
 acts c Deliver w = delivered c w.back w
 acts c T1 w = unless (timer_refusal w.near.station) w (after_step c w w.back w.met [] (timer_step c w.near.station))
-acts c Connect w = unless (connect_refusal w.near.station.phase) w (after_step c w w.back w.met [] (connect_step c w.near.station))
-acts c Disconnect w = unless (disconnect_refusal w.near.station.phase) w (after_step c w w.back w.met [] (disconnect_step c w.near.station))
-acts c Abandon w = if is_up w.near.station.phase then after_step c w w.back w.met [] (abandon_step c w.near.station) else w
+acts c Connect w = unless (connect_refusal w.near.station.phase) w
+    (after_step c w w.back w.met [] (connect_step c w.near.station))
+acts c Disconnect w = unless (disconnect_refusal w.near.station.phase) w
+    (after_step c w w.back w.met [] (disconnect_step c w.near.station))
+acts c Abandon w = if is_up w.near.station.phase then after_step c w w.back w.met [] (abandon_step c w.near.station)
+    else w
 acts c (Lose i) w = record w { back = remove w.back i }
 acts c (Damage i octets) w = if is_visible octets then record w { back = replaced w.back i octets } else w
 

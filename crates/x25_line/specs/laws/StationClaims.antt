@@ -1,5 +1,7 @@
--- What holds of two link stations and the line between them after each list of events, as long as the link isn't set up anew.
-use Rattle.std.specs.Prelude.{◌≡◌, ℕ, ◌≤◌, Bool, true, false, ◌||◌, if◌then◌else◌, List, [], ◌∷◌, ◌++◌, length, take, replicate, Option, Some, None, option_to_list, Result, Ok, Err}
+-- What holds of two link stations and the line between them after each list of events, as long as the link isn't set up
+-- anew.
+use Rattle.std.specs.Prelude.{◌≡◌, ℕ, ◌≤◌, Bool, true, false, ◌||◌, if◌then◌else◌, List, [], ◌∷◌, ◌++◌, length, take}
+use Rattle.std.specs.Prelude.{replicate, Option, Some, None, option_to_list, Result, Ok, Err}
 use Rattle.std.specs.List.{Contains}
 use Rattle.x25_bits.specs.declared.role.Role.{Role}
 use Rattle.x25_frame.specs.Frame.{PlainFrame, info, rr, rnr, rej, frmr}
@@ -17,7 +19,8 @@ use Rattle.x25_link.specs.laws.WindowMachine.{ShowAll}
 use Rattle.x25_link.specs.laws.WindowLaw.{window_of}
 use Rattle.x25_line.specs.laws.InWindow.{InWindow, IsPrefix}
 use Rattle.x25_line.specs.laws.Line.{Line, Move, AllowsMove, moved, swapped as line_swapped}
-use Rattle.x25_line.specs.laws.Stations.{StationEnd, Stations, Act, Put, Deliver, Connect, Event, Near, Far, happens, run, start, swapped}
+use Rattle.x25_line.specs.laws.Stations.{StationEnd, Stations, Act, Put, Deliver, Connect, Event, Near, Far, happens}
+use Rattle.x25_line.specs.laws.Stations.{run, start, swapped}
 
 -- the two ends of one link: one is the DTE and one the DCE, both with the same N1 and k from 1 to 7
 pub record AreJoined (c d : Settings) : Type 0 where
@@ -29,15 +32,16 @@ pub record AreJoined (c d : Settings) : Type 0 where
   pub far_low : 1 ≤ d.window
   pub far_high : d.window ≤ 7
 
--- Neither end noted LinkUp, so that the link is the one that was just set up at the start. What an end noted stays, so it was so
--- all along.
+-- Neither end noted LinkUp, so that the link is the one that was just set up at the start. What an end noted stays, so
+-- it was so all along.
 pub record IsSetUpOnce (w : Stations) : Type 0 where
   pub near : w.near.came_up ≡ false
   pub far : w.far.came_up ≡ false
 
 -- what holds after each list of events, as long as the link isn't set up anew
 abbrev pub Always : (Settings → Settings → Stations → Type 0) → Type 0
-Always Holds = (c d : Settings) → AreJoined c d → (events : List Event) → IsSetUpOnce (run c d events start) → Holds c d (run c d events start)
+Always Holds = (c d : Settings) → AreJoined c d → (events : List Event) → IsSetUpOnce (run c d events start)
+    → Holds c d (run c d events start)
 
 -- ---- order
 
@@ -60,11 +64,12 @@ pub record HasItsLists (e : StationEnd) : Type 0 where
 abbrev pub BothHaveTheirLists : Settings → Settings → Stations → Type 0
 BothHaveTheirLists c d w = HasItsLists w.near × HasItsLists w.far
 
--- An end that is Up has noted nothing. Any other has noted the LinkDown by which it left Up, and then one for want of an answer,
--- each time that it asked for set-up in vain.
+-- An end that is Up has noted nothing. Any other has noted the LinkDown by which it left Up, and then one for want of
+-- an answer, each time that it asked for set-up in vain.
 pub record NotesItsEnd (e : StationEnd) : Type 0 where
   pub still_up : is_up e.station.phase ≡ true → e.reasons ≡ []
-  pub left : is_up e.station.phase ≡ false → (reason : Reason) × (again : ℕ) × (e.reasons ≡ reason ∷ replicate again Retries)
+  pub left : is_up e.station.phase ≡ false → (reason : Reason) × (again : ℕ)
+      × (e.reasons ≡ reason ∷ replicate again Retries)
 
 abbrev pub BothNoteTheirEnds : Settings → Settings → Stations → Type 0
 BothNoteTheirEnds c d w = NotesItsEnd w.near × NotesItsEnd w.far
@@ -92,7 +97,8 @@ pub record IsOneLink (w : Stations) : Type 0 where
 
 -- what holds after each list of events of which none is an accepted Connect
 abbrev pub OneLinkUnlessConnected : Type 0
-OneLinkUnlessConnected = (c d : Settings) → AreJoined c d → (events : List Event) → NoneConnects c d events start → IsOneLink (run c d events start)
+OneLinkUnlessConnected = (c d : Settings) → AreJoined c d → (events : List Event) → NoneConnects c d events start
+    → IsOneLink (run c d events start)
 
 -- ---- the window
 
@@ -113,8 +119,10 @@ numbered_on from n1 (octets ∷ line) = option_to_list (number_in (frame_of from
 -- what the window machine reaches from the link just set up, by moves of either end that it allows
 pub data IsReached (k j : ℕ) : Line (List ℕ) → Type 0 where
   at_start : IsReached k j (record { near = fresh_end k; far = fresh_end j; out = []; back = [] })
-  near_moves : (l : Line (List ℕ)) (move : Move (List ℕ)) → IsReached k j l → AllowsMove l move → IsReached k j (moved move l)
-  far_moves : (l : Line (List ℕ)) (move : Move (List ℕ)) → IsReached k j l → AllowsMove (line_swapped l) move → IsReached k j (line_swapped (moved move (line_swapped l)))
+  near_moves : (l : Line (List ℕ)) (move : Move (List ℕ)) → IsReached k j l → AllowsMove l move
+      → IsReached k j (moved move l)
+  far_moves : (l : Line (List ℕ)) (move : Move (List ℕ)) → IsReached k j l → AllowsMove (line_swapped l) move
+      → IsReached k j (line_swapped (moved move (line_swapped l)))
 
 -- an end of the window machine has the lists of a station, and its numbers where that is Up
 pub record IsEndOf (k : ℕ) (e : StationEnd) (machine : End (List ℕ)) : Type 0 where

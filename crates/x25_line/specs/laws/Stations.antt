@@ -1,6 +1,7 @@
--- Two link stations joined by a line of octets that keeps order and may lose or visibly damage any frame (profile: the line).
--- Each act is of the near end, or of the line to it. The far end's acts are those of the two ends swapped.
-use Rattle.std.specs.Prelude.{ℕ, zero, suc, nat_lt, nat_le, Bool, false, not, ◌||◌, if◌then◌else◌, List, [], ◌∷◌, ◌++◌, length, map, remove, Option, Some, None, option_to_list}
+-- Two link stations joined by a line of octets that keeps order and may lose or visibly damage any frame (profile: the
+-- line). Each act is of the near end, or of the line to it. The far end's acts are those of the two ends swapped.
+use Rattle.std.specs.Prelude.{ℕ, zero, suc, nat_lt, nat_le, Bool, false, not, ◌||◌, if◌then◌else◌, List, [], ◌∷◌, ◌++◌}
+use Rattle.std.specs.Prelude.{length, map, remove, Option, Some, None, option_to_list}
 use Rattle.x25_bits.specs.FrameCheck.Sealed.{is_sealed}
 use Rattle.x25_frame.specs.Frame.{PlainFrame}
 use Rattle.x25_frame.specs.Spelling.{spelling_of}
@@ -8,10 +9,11 @@ use Rattle.x25_link.specs.declared.error.LinkError.{LinkError}
 use Rattle.x25_link.specs.declared.phase.Reason.{Reason}
 use Rattle.x25_link.specs.Station.{Settings, LinkStation, is_up, fresh}
 use Rattle.x25_link.specs.Hearing.{Step}
-use Rattle.x25_link.specs.Link.{take_step, put_step, put_refusal, timer_step, timer_refusal, connect_step, connect_refusal, disconnect_step, disconnect_refusal, abandon_step}
+use Rattle.x25_link.specs.Link.{take_step, put_step, put_refusal, timer_step, timer_refusal, connect_step}
+use Rattle.x25_link.specs.Link.{connect_refusal, disconnect_step, disconnect_refusal, abandon_step}
 
--- A station, all packets that were handed down to it and that it handed up, the reasons of each LinkDown that it noted, and
--- whether it ever noted LinkUp, by which the link was set up anew.
+-- A station, all packets that were handed down to it and that it handed up, the reasons of each LinkDown that it noted,
+-- and whether it ever noted LinkUp, by which the link was set up anew.
 pub record StationEnd : Type 0 where
   pub station : LinkStation
   pub down : List (List ℕ)
@@ -55,7 +57,8 @@ unless None w done = done
 
 -- a packet of at most N1 octets is handed down
 abbrev pub handed_down : Settings → List ℕ → Stations → Stations
-handed_down c packet w = if nat_le (length packet) c.longest then unless (put_refusal w.near.station) w (after_step c w w.back (packet ∷ []) (put_step c packet w.near.station))
+handed_down c packet w = if nat_le (length packet) c.longest
+    then unless (put_refusal w.near.station) w (after_step c w w.back (packet ∷ []) (put_step c packet w.near.station))
     else w
 
 -- the front octets are taken off the line, and by the near end
@@ -91,8 +94,10 @@ abbrev pub acts : Settings → Act → Stations → Stations
 acts c (Put packet) w = handed_down c packet w
 acts c Deliver w = delivered c w.back w
 acts c T1 w = unless (timer_refusal w.near.station) w (after_step c w w.back [] (timer_step c w.near.station))
-acts c Connect w = unless (connect_refusal w.near.station.phase) w (after_step c w w.back [] (connect_step c w.near.station))
-acts c Disconnect w = unless (disconnect_refusal w.near.station.phase) w (after_step c w w.back [] (disconnect_step c w.near.station))
+acts c Connect w = unless (connect_refusal w.near.station.phase) w
+    (after_step c w w.back [] (connect_step c w.near.station))
+acts c Disconnect w = unless (disconnect_refusal w.near.station.phase) w
+    (after_step c w w.back [] (disconnect_step c w.near.station))
 acts c Abandon w = if is_up w.near.station.phase then after_step c w w.back [] (abandon_step c w.near.station) else w
 acts c (Lose i) w = record w { back = remove w.back i }
 acts c (Damage i octets) w = if is_visible octets then record w { back = replaced w.back i octets } else w

@@ -1,7 +1,8 @@
--- The window machine behind two link stations and their line, as it goes on from event to event. An end that is Up counts in whole numbers.
--- A frame is given its whole numbers as it is put on the line, and keeps them as long as it is there. ITU-T X.25 (10/96), sections 2.3.2
--- and 2.4.5.
-use Rattle.std.specs.Prelude.{ℕ, zero, suc, ◌+◌, max, if◌then◌else◌, List, [], ◌∷◌, ◌++◌, length, drop, remove, Option, Some, None}
+-- The window machine behind two link stations and their line, as it goes on from event to event. An end that is Up
+-- counts in whole numbers. A frame is given its whole numbers as it is put on the line, and keeps them as long as it is
+-- there. ITU-T X.25 (10/96), sections 2.3.2 and 2.4.5.
+use Rattle.std.specs.Prelude.{ℕ, zero, suc, ◌+◌, max, if◌then◌else◌, List, [], ◌∷◌, ◌++◌, length, drop, remove, Option}
+use Rattle.std.specs.Prelude.{Some, None}
 use Rattle.x25_bits.specs.declared.role.Role.{Role}
 use Rattle.x25_frame.specs.Frame.{PlainFrame, info}
 use Rattle.x25_frame.specs.Reading.{frame_of}
@@ -12,18 +13,21 @@ use Rattle.x25_link.specs.Hearing.{other}
 use Rattle.x25_link.specs.laws.WindowMachine.{Window}
 use Rattle.x25_link.specs.laws.WindowLaw.{window_of}
 use Rattle.x25_line.specs.laws.Line.{Line, swapped as line_swapped}
-use Rattle.x25_line.specs.laws.Stations.{Stations, Act, Deliver, Lose, Damage, Event, Near, Far, is_visible, acts, swapped, happens, run, start}
+use Rattle.x25_line.specs.laws.Stations.{Stations, Act, Deliver, Lose, Damage, Event, Near, Far, is_visible, acts}
+use Rattle.x25_line.specs.laws.Stations.{swapped, happens, run, start}
 use Rattle.x25_line.specs.laws.StationClaims.{AreJoined, IsSetUpOnce, number_in, numbered_on, IsBehind}
 
 -- ---- what is put on the line
 
--- The frames that an end puts, with their whole numbers: N(S) stands for the number from the first that isn't acknowledged on, and N(R) for
--- r, which is V(R); m, the highest number ever sent plus one, counts on from frame to frame.
+-- The frames that an end puts, with their whole numbers: N(S) stands for the number from the first that isn't
+-- acknowledged on, and N(R) for r, which is V(R); m, the highest number ever sent plus one, counts on from frame to
+-- frame.
 abbrev pub given : ℕ → ℕ → ℕ → List PlainFrame → List (Frame (List ℕ))
 given acked r m [] = []
 given acked r m (info ns nr p packet ∷ frames) =
     let n = resolved acked ns in
-    record { carried = Some (record { number = n; item = packet }); ack = r; top = max m (n + 1) } ∷ given acked r (max m (n + 1)) frames
+    record { carried = Some (record { number = n; item = packet }); ack = r; top = max m (n + 1) } ∷ given acked r
+    (max m (n + 1)) frames
 given acked r m (frame ∷ frames) = record { carried = None; ack = r; top = m } ∷ given acked r m frames
 
 -- ---- what is taken off the line
@@ -55,7 +59,8 @@ abbrev pub left_at : Role → ℕ → List (List ℕ) → Option ℕ → List (F
 left_at from n1 line None frames = frames
 left_at from n1 line (Some i) frames = taken_out (place_of from n1 line i) frames
 
--- where an act takes octets off the line to its end: the front comes, or one is lost, or damaged, by which it is no frame any more
+-- where an act takes octets off the line to its end: the front comes, or one is lost, or damaged, by which it is no
+-- frame any more
 abbrev pub place_taken : Act → Option ℕ
 place_taken Deliver = Some 0
 place_taken (Lose i) = Some i
@@ -68,16 +73,24 @@ place_taken act = None
 abbrev pub counted : ℕ → LinkStation → Window → Window
 counted k s e = if is_up s.phase then window_of k s else e
 
--- The machine once its near end has acted: `s` is the station then, `put` are the octets that it has put on the line, and `place` is where
--- octets were taken off the line to it, which was `back`.
+-- The machine once its near end has acted: `s` is the station then, `put` are the octets that it has put on the line,
+-- and `place` is where octets were taken off the line to it, which was `back`.
 abbrev pub went_on : Settings → LinkStation → List (List ℕ) → List (List ℕ) → Option ℕ → Line (List ℕ) → Line (List ℕ)
 went_on c s put back place l =
     let e = counted c.window s l.near in
-    record { near = e; far = l.far; out = l.out ++ given e.acked (length e.taken) l.near.sent (numbered_on c.role c.longest put); back = left_at (other c.role) c.longest back place l.back }
+    record {
+      near = e;
+      far = l.far;
+      out = l.out
+          ++ given e.acked (length e.taken) l.near.sent (numbered_on c.role c.longest put);
+      back = left_at
+          (other c.role) c.longest back place l.back;
+    }
 
 -- .. by this act, in this world
 abbrev pub machine_acts : Settings → Act → Stations → Line (List ℕ) → Line (List ℕ)
-machine_acts c act w l = went_on c (acts c act w).near.station (drop (length w.out) (acts c act w).out) w.back (place_taken act) l
+machine_acts c act w l = went_on c (acts c act w).near.station (drop (length w.out) (acts c act w).out) w.back
+    (place_taken act) l
 
 abbrev pub machine_happens : Settings → Settings → Event → Stations → Line (List ℕ) → Line (List ℕ)
 machine_happens c d (Near act) w l = machine_acts c act w l
@@ -93,11 +106,12 @@ machine_at_start c d = record { near = fresh_end c.window; far = fresh_end d.win
 
 -- ---- the claim
 
--- As long as the link isn't set up anew, the one machine that goes on from event to event is behind the stations and the line. So what stands
--- behind a frame on the line is what it was given as it was put.
+-- As long as the link isn't set up anew, the one machine that goes on from event to event is behind the stations and
+-- the line. So what stands behind a frame on the line is what it was given as it was put.
 abbrev pub MachineGoesAlong : Type 0
 MachineGoesAlong =
-    (c d : Settings) → AreJoined c d → (events : List Event) → IsSetUpOnce (run c d events start) → IsBehind c d (run c d events start) (machine_run c d events start (machine_at_start c d))
+    (c d : Settings) → AreJoined c d → (events : List Event) → IsSetUpOnce (run c d events start)
+    → IsBehind c d (run c d events start) (machine_run c d events start (machine_at_start c d))
 
 -- where the link isn't set up anew after a list of events, it wasn't before
 abbrev pub OnceStaysOnce : Type 0

@@ -1,10 +1,12 @@
--- What isn't so of healing, each with its shortest script, and of two busy ends by every one; and moments with one busy end.
+-- What isn't so of healing, each with its shortest script, and of two busy ends by every one; and moments with one busy
+-- end.
 use Rattle.std.specs.Prelude.{◌≡◌, ℕ, zero, suc, true, List, [], ◌∷◌, ◌++◌}
 use Rattle.x25_link.specs.declared.phase.Phase.{Phase}
 use Rattle.x25_link.specs.declared.phase.Phase.TheVariants.{Down, Waiting, Up, Closed}
 use Rattle.x25_link.specs.Station.{Settings, is_up, is_busy}
 use Rattle.x25_link.specs.Link.{timer_runs}
-use Rattle.x25_line.specs.laws.Stations.{StationEnd, Stations, Act, Put, Deliver, T1, Connect, Disconnect, Abandon, Lose, Event, Near, Far, run, start}
+use Rattle.x25_line.specs.laws.Stations.{StationEnd, Stations, Act, Put, Deliver, T1, Connect, Disconnect, Abandon}
+use Rattle.x25_line.specs.laws.Stations.{Lose, Event, Near, Far, run, start}
 use Rattle.x25_line.specs.laws.StationClaims.{AreJoined}
 use Rattle.x25_line.specs.Healing.{IsDrained, IsQuietMoment, MayHeal, IsAtRestOrOut, both_lost}
 use Rattle.x25_line.specs.laws.HealingPuts.{FreeThroughout}
@@ -19,14 +21,17 @@ NoFiringIsTooFew =
 -- The near end alone fires, and all that is on the line comes. Its packet has arrived, and that of the far end hasn't.
 abbrev pub OneFiringIsTooFew : Type 0
 OneFiringIsTooFew =
-    let w = run dte dce (Near T1 ∷ Far Deliver ∷ Near Deliver ∷ Far Deliver ∷ Near Deliver ∷ []) (run dte dce both_lost start) in
-    IsDrained w × (w.far.up ≡ (5 ∷ []) ∷ []) × (w.far.down ≡ (7 ∷ []) ∷ []) × (w.near.up ≡ []) × (timer_runs w.far.station.phase w.far.station ≡ true)
+    let w = run dte dce (Near T1 ∷ Far Deliver ∷ Near Deliver ∷ Far Deliver ∷ Near Deliver ∷ [])
+    (run dte dce both_lost start) in
+    IsDrained w × (w.far.up ≡ (5 ∷ []) ∷ []) × (w.far.down ≡ (7 ∷ []) ∷ []) × (w.near.up ≡ [])
+    × (timer_runs w.far.station.phase w.far.station ≡ true)
 
 -- an end that gives up after one try
 abbrev pub hasty : Settings
 hasty = record dte { retries = 1 }
 
--- Its packet is lost, and then its poll. The line is drained and its tries are N2: it stays Up, and the next firing ends the link.
+-- Its packet is lost, and then its poll. The line is drained and its tries are N2: it stays Up, and the next firing
+-- ends the link.
 abbrev pub last_try : Stations
 last_try = run hasty dce (Near (Put (5 ∷ [])) ∷ Far (Lose 0) ∷ Near T1 ∷ Far (Lose 0) ∷ []) start
 
@@ -48,8 +53,8 @@ fired_after gone = run dte dce (Near T1 ∷ Far T1 ∷ []) (run dte dce gone sta
 abbrev pub put_and_comes : List Event
 put_and_comes = Near (Put (5 ∷ [])) ∷ Far Deliver ∷ []
 
--- From a quiet moment both fire, and then a packet is put at the near end, which is Up with tries left, and comes to the other, which is gone. No end is
--- busy, nothing is on the line, and the near end is neither at rest nor out of Up.
+-- From a quiet moment both fire, and then a packet is put at the near end, which is Up with tries left, and comes to
+-- the other, which is gone. No end is busy, nothing is on the line, and the near end is neither at rest nor out of Up.
 pub record PutStays (gone : List Event) (phase : Phase) : Type 0 where
   pub quiet : IsQuietMoment dte dce gone
   pub near : MayHeal dte (run dte dce gone start).near
@@ -86,13 +91,15 @@ pub record HandNothingUp (w v : Stations) : Type 0 where
   pub near_busy : is_up v.near.station.phase ≡ true → is_busy v.near.station ≡ true
   pub far_busy : is_up v.far.station.phase ≡ true → is_busy v.far.station ≡ true
 
--- Nothing is on the line, and both ends are Up and busy: however often both fire and all comes, neither hands anything up.
+-- Nothing is on the line, and both ends are Up and busy: however often both fire and all comes, neither hands anything
+-- up.
 abbrev pub BothBusyStay : Type 0
 BothBusyStay =
     (c d : Settings) → AreJoined c d → (w : Stations) → IsDrained w → IsUpAndBusy w.near → IsUpAndBusy w.far
     → (events : List Event) → AreFiringsAndDeliveries events → HandNothingUp w (run c d events w)
 
--- There is such a moment: the window is one frame, 256 packets are handed down at each end, and the frame that each sends is lost.
+-- There is such a moment: the window is one frame, 256 packets are handed down at each end, and the frame that each
+-- sends is lost.
 abbrev pub narrow_dte : Settings
 narrow_dte = record dte { window = 1 }
 
@@ -114,7 +121,8 @@ BothBusyIsReached =
 abbrev pub busy_near : List Event
 busy_near = many Near 256 ++ Far (Lose 0) ∷ []
 
--- The other end has left Up; or has left and asks for set-up, and its SABM was lost; or it is Up, and the busy end has made its only try.
+-- The other end has left Up; or has left and asks for set-up, and its SABM was lost; or it is Up, and the busy end has
+-- made its only try.
 abbrev pub OneBusyIsReached : Type 0
 OneBusyIsReached =
     (let events = busy_near ++ Far Abandon ∷ [] in

@@ -17,7 +17,8 @@ OddPeerMoves =
 
 -- A tape of which nothing is told: that I frame comes, and is acknowledged.
 abbrev pub SilentTapeMoves : Type 0
-SilentTapeMoves = (w : Joined) × IsSilent dte w × (w.near.up ≡ (7 ∷ []) ∷ []) × (w.peer.acked ≡ 1) × (w.near.came_up ≡ false)
+SilentTapeMoves = (w : Joined) × IsSilent dte w × (w.near.up ≡ (7 ∷ []) ∷ []) × (w.peer.acked ≡ 1)
+    × (w.near.came_up ≡ false)
 
 -- the peer sent the packet of one octet, 7, and took and acknowledged that of one octet, 5
 abbrev pub both_went : Peer

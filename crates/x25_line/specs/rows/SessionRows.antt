@@ -1,5 +1,5 @@
--- Worked rows of two link stations over sessions: from nothing, set up again with a packet on the line, and what happens where
--- timer T1 isn't timely.
+-- Worked rows of two link stations over sessions: from nothing, set up again with a packet on the line, and what
+-- happens where timer T1 isn't timely.
 use Rattle.std.specs.Prelude.{◌≡◌, ℕ, List, [], ◌∷◌}
 use Rattle.x25_line.specs.laws.Stations.{Put, Deliver, T1, Connect, Abandon, Lose, Event, Near, Far}
 use Rattle.x25_line.specs.rows.StationRows.{dte, dce}
@@ -9,7 +9,8 @@ use Rattle.x25_line.specs.laws.SessionClaims.{MeetInStep}
 abbrev pub meeting : ℕ → ℕ → Meeting
 meeting near far = record { near = near; far = far }
 
--- The SABM is lost, and T1 sends another. It is answered by UA, and a packet is handed up, each end in its first session.
+-- The SABM is lost, and T1 sends another. It is answered by UA, and a packet is handed up, each end in its first
+-- session.
 abbrev pub setting_up : List Event
 setting_up = Near Connect ∷ Far (Lose 0) ∷ Near T1 ∷ Far Deliver ∷ Near Deliver ∷ Near (Put (5 ∷ [])) ∷ Far Deliver ∷ []
 
@@ -19,22 +20,27 @@ IsFirst w = (w.near.begun ≡ 1) × (w.far.begun ≡ 1) × (w.far.up 1 ≡ (5 �
 abbrev pub SetsUpFromNothing : Type 0
 SetsUpFromNothing = AreTimely dte dce setting_up from_nothing × IsFirst (run dte dce setting_up from_nothing)
 
--- The near end leaves and asks for set-up while its packet is on the line. That comes in the first session, and the acknowledgement
--- of it while UA is awaited. The next packet is one of the second sessions.
+-- The near end leaves and asks for set-up while its packet is on the line. That comes in the first session, and the
+-- acknowledgement of it while UA is awaited. The next packet is one of the second sessions.
 abbrev pub setting_up_again : List Event
-setting_up_again = Near (Put (5 ∷ [])) ∷ Near Abandon ∷ Near Connect ∷ Far Deliver ∷ Far Deliver ∷ Near Deliver ∷ Near Deliver ∷ Near (Put (7 ∷ [])) ∷ Far Deliver ∷ []
+setting_up_again = Near
+    (Put (5 ∷ [])) ∷ Near Abandon ∷ Near Connect ∷ Far Deliver ∷ Far Deliver ∷ Near Deliver ∷ Near Deliver ∷ Near
+    (Put (7 ∷ [])) ∷ Far Deliver ∷ []
 
 abbrev pub IsSecond : Sessions → Type 0
-IsSecond w = (w.near.begun ≡ 2) × (w.far.begun ≡ 2) × (w.far.up 1 ≡ (5 ∷ []) ∷ []) × (w.far.up 2 ≡ (7 ∷ []) ∷ []) × (w.met ≡ meeting 2 2 ∷ meeting 1 1 ∷ [])
+IsSecond w = (w.near.begun ≡ 2) × (w.far.begun ≡ 2) × (w.far.up 1 ≡ (5 ∷ []) ∷ []) × (w.far.up 2 ≡ (7 ∷ []) ∷ [])
+    × (w.met ≡ meeting 2 2 ∷ meeting 1 1 ∷ [])
 
 abbrev pub SetsUpAgain : Type 0
 SetsUpAgain = AreTimely dte dce setting_up_again from_set_up × IsSecond (run dte dce setting_up_again from_set_up)
 
--- T1 runs out while the SABM is on the line. The near end comes up by the first UA, hears the far end's first session, and then the
--- second, which began at the second SABM: its own is still the first, and the packet handed down in the second isn't taken.
+-- T1 runs out while the SABM is on the line. The near end comes up by the first UA, hears the far end's first session,
+-- and then the second, which began at the second SABM: its own is still the first, and the packet handed down in the
+-- second isn't taken.
 abbrev pub untimely : List Event
 untimely =
-    Near Connect ∷ Near T1 ∷ Far Deliver ∷ Near Deliver ∷ Far (Put (5 ∷ [])) ∷ Far Deliver ∷ Near Deliver ∷ Near Deliver ∷ Far (Put (7 ∷ [])) ∷ Near Deliver ∷ []
+    Near Connect ∷ Near T1 ∷ Far Deliver ∷ Near Deliver ∷ Far
+    (Put (5 ∷ [])) ∷ Far Deliver ∷ Near Deliver ∷ Near Deliver ∷ Far (Put (7 ∷ [])) ∷ Near Deliver ∷ []
 
 pub record IsOutOfStep (w : Sessions) : Type 0 where
   pub near : w.near.begun ≡ 1

@@ -1,11 +1,13 @@
--- Worked rows of two link stations over a line: packets move, frames are lost and damaged, and ends leave and ask for set-up.
+-- Worked rows of two link stations over a line: packets move, frames are lost and damaged, and ends leave and ask for
+-- set-up.
 use Rattle.std.specs.Prelude.{◌≡◌, true, false, [], ◌∷◌}
 use Rattle.x25_bits.specs.declared.role.Role.TheVariants.{Dte, Dce}
 use Rattle.x25_link.specs.declared.phase.Phase.TheVariants.{Down, Waiting, Closed}
 use Rattle.x25_link.specs.declared.phase.Reason.TheVariants.{Reset, Counts, Disc}
 use Rattle.x25_link.specs.Station.{Settings, fresh}
 use Rattle.x25_link.specs.Link.{is_idle}
-use Rattle.x25_line.specs.laws.Stations.{Stations, Put, Deliver, T1, Connect, Disconnect, Abandon, Lose, Damage, Near, Far, run, start}
+use Rattle.x25_line.specs.laws.Stations.{Stations, Put, Deliver, T1, Connect, Disconnect, Abandon, Lose, Damage, Near}
+use Rattle.x25_line.specs.laws.Stations.{Far, run, start}
 
 -- the DTE is the near end
 abbrev pub dte : Settings
@@ -25,16 +27,19 @@ PacketGoes = IsAcrossFive (run dte dce (Near (Put (5 ∷ [])) ∷ Far Deliver �
 -- the packets of one octet, 5 from the near end and 7 from the far end, go at once
 abbrev pub PacketsCross : Type 0
 PacketsCross =
-    let w = run dte dce (Near (Put (5 ∷ [])) ∷ Far (Put (7 ∷ [])) ∷ Far Deliver ∷ Near Deliver ∷ Near Deliver ∷ Far Deliver ∷ []) start in
-    (w.far.up ≡ (5 ∷ []) ∷ []) × (w.near.up ≡ (7 ∷ []) ∷ []) × (is_idle w.near.station ≡ true) × (is_idle w.far.station ≡ true)
+    let w = run dte dce (Near (Put (5 ∷ [])) ∷ Far
+    (Put (7 ∷ [])) ∷ Far Deliver ∷ Near Deliver ∷ Near Deliver ∷ Far Deliver ∷ []) start in
+    (w.far.up ≡ (5 ∷ []) ∷ []) × (w.near.up ≡ (7 ∷ []) ∷ []) × (is_idle w.near.station ≡ true)
+    × (is_idle w.far.station ≡ true)
 
--- Its frame is lost. Timer T1 runs out and the far end is polled. It answers, the frame goes again, is handed up, and is
--- acknowledged.
+-- Its frame is lost. Timer T1 runs out and the far end is polled. It answers, the frame goes again, is handed up, and
+-- is acknowledged.
 abbrev pub lost : Stations
 lost = run dte dce (Near (Put (5 ∷ [])) ∷ Far (Lose 0) ∷ []) start
 
 abbrev pub LostComesAgain : Type 0
-LostComesAgain = (lost.out ≡ []) × IsAcrossFive (run dte dce (Near T1 ∷ Far Deliver ∷ Near Deliver ∷ Far Deliver ∷ Near Deliver ∷ []) lost)
+LostComesAgain = (lost.out ≡ [])
+    × IsAcrossFive (run dte dce (Near T1 ∷ Far Deliver ∷ Near Deliver ∷ Far Deliver ∷ Near Deliver ∷ []) lost)
 
 -- It is damaged, which comes first and is passed over.
 abbrev pub damaged : Stations
@@ -42,7 +47,9 @@ damaged = run dte dce (Near (Put (5 ∷ [])) ∷ Far (Damage 0 (1 ∷ 2 ∷ []))
 
 abbrev pub DamagedComesAgain : Type 0
 DamagedComesAgain =
-    (damaged.out ≡ (1 ∷ 2 ∷ []) ∷ []) × IsAcrossFive (run dte dce (Near T1 ∷ Far Deliver ∷ Far Deliver ∷ Near Deliver ∷ Far Deliver ∷ Near Deliver ∷ []) damaged)
+    (damaged.out ≡ (1 ∷ 2 ∷ []) ∷ [])
+    × IsAcrossFive (run dte dce
+    (Near T1 ∷ Far Deliver ∷ Far Deliver ∷ Near Deliver ∷ Far Deliver ∷ Near Deliver ∷ []) damaged)
 
 -- `disconnect` sends DISC behind the packet, and the far end goes down
 abbrev pub DisconnectEnds : Type 0
@@ -60,10 +67,13 @@ AbandonEnds =
 abbrev pub ConnectSetsUp : Type 0
 ConnectSetsUp =
     let w = run dte dce (Near Abandon ∷ Near Connect ∷ Far Deliver ∷ Near Deliver ∷ []) start in
-    (w.far.station ≡ fresh) × (w.far.reasons ≡ Reset ∷ []) × (w.far.came_up ≡ true) × (w.near.station ≡ fresh) × (w.near.reasons ≡ Counts ∷ []) × (w.near.came_up ≡ true)
+    (w.far.station ≡ fresh) × (w.far.reasons ≡ Reset ∷ []) × (w.far.came_up ≡ true) × (w.near.station ≡ fresh)
+    × (w.near.reasons ≡ Counts ∷ []) × (w.near.came_up ≡ true)
 
 -- an end that disconnected declines, and the one that asks goes on waiting
 abbrev pub ConnectIsDeclined : Type 0
 ConnectIsDeclined =
-    let w = run dte dce (Far Disconnect ∷ Near Deliver ∷ Far Deliver ∷ Near Connect ∷ Far Deliver ∷ Near Deliver ∷ []) start in
-    (w.far.station.phase ≡ Closed) × (w.near.station.phase ≡ Waiting) × (w.near.reasons ≡ Disc ∷ []) × (w.near.came_up ≡ false) × (w.back ≡ [])
+    let w = run dte dce (Far Disconnect ∷ Near Deliver ∷ Far Deliver ∷ Near Connect ∷ Far Deliver ∷ Near Deliver
+    ∷ []) start in
+    (w.far.station.phase ≡ Closed) × (w.near.station.phase ≡ Waiting) × (w.near.reasons ≡ Disc ∷ [])
+    × (w.near.came_up ≡ false) × (w.back ≡ [])

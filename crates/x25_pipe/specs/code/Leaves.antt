@@ -7,7 +7,8 @@ use Rattle.x25_pipe.specs.code.Stands.{Stands}
 use Rattle.x25_pipe.specs.declared.pipe.Pipe.{Pipe}
 
 -- From where it stands, `rest` leads to where the whole turn leads that began behind `told`, with the same said in all.
-pub record Leaves (c : Settings) (old now : Option (List ℕ)) (p : Pipe) (rest : Station → Turn) (told : List ℕ) (refused : Bool) (whole : Turn) : Type 0 where
+pub record Leaves (c : Settings) (old now : Option (List ℕ)) (p : Pipe) (rest : Station
+    → Turn) (told : List ℕ) (refused : Bool) (whole : Turn) : Type 0 where
   pub at : Station
   pub text : List ℕ
   pub status : Bool

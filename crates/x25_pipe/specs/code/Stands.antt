@@ -14,21 +14,26 @@ use Rattle.x25_pipe.specs.Pipe.{Saying, enters, sends, Turn, sayings_text, has_r
 use Rattle.x25_pipe.specs.declared.pipe.Pipe.{Pipe}
 
 -- The writer held `old` at first and holds `now`.
-pub record Stands (c : Settings) (old now : Option (List ℕ)) (p : Pipe) (s : Station) (told : List ℕ) (refused : Bool) : Type 0 where
+pub record Stands (c : Settings) (old now : Option (List ℕ)) (p : Pipe) (s : Station) (told : List ℕ)
+    (refused : Bool) : Type 0 where
   pub fits : fits.FitsStation c p.station s
   pub role : p.end ≡ c.role
   pub tells : Tells old now p.output told
   pub status : p.is_refused ≡ refused
 
 -- of a turn: it is told, or at a fault a beginning is written
-abbrev pub Stood : Settings → Option (List ℕ) → Option (List ℕ) → Pipe → List ℕ → Bool → Result Unit Fault → Turn → Type 0
+abbrev pub Stood : Settings → Option (List ℕ) → Option (List ℕ) → Pipe → List ℕ → Bool → Result Unit Fault → Turn
+    → Type 0
 Stood c old now p told refused result t =
-    MatchResult result (λ _. Stands c old now p t.next (told ++ sayings_text c.role t.sayings) (refused || has_refusal t.sayings))
+    MatchResult result (λ _. Stands c old now p t.next (told ++ sayings_text c.role t.sayings) (refused
+    || has_refusal t.sayings))
     (λ _. AppendsPrefix old now (told ++ sayings_text c.role t.sayings))
 
 -- from each station that it stands for, the turn is made
-abbrev pub Turns : Settings → Option (List ℕ) → Option (List ℕ) → Option (List ℕ) → Pipe → Pipe → Result Unit Fault → (Station → Turn) → Type 0
-Turns c old now next p q result turn = (s : Station) (told : List ℕ) (refused : Bool) → Stands c old now p s told refused
+abbrev pub Turns : Settings → Option (List ℕ) → Option (List ℕ) → Option (List ℕ) → Pipe → Pipe → Result Unit Fault
+    → (Station → Turn) → Type 0
+Turns c old now next p q result turn = (s : Station) (told : List ℕ) (refused : Bool)
+    → Stands c old now p s told refused
     → Stood c old next q told refused result (turn s)
 
 -- ---- what a call of the station answered
@@ -46,4 +51,5 @@ IsError error o = fits.Refuses {T = Unit} (Err error) o
 
 -- what is said of a step that was answered
 abbrev pub answer_told : code_step.Step → List Saying
-answer_told step = map enters (map plain_entry step.entries.items) ++ map sends (map (λ frame. frame.items) step.frames.items)
+answer_told step = map enters (map plain_entry step.entries.items)
+    ++ map sends (map (λ frame. frame.items) step.frames.items)

@@ -17,8 +17,11 @@ MarkComesFirst = IsAnswered Dte [] (codes ". off busy\n") 0
 
 -- the link comes up, the other end restarts, and this one calls; T1 runs out
 abbrev pub CallGoesOut : Type 0
-CallGoesOut = IsAnswered Dte (codes "dte connect\n< 01738357\n< 03001000fb0700c478\n< 01211426\ndte call 123 4567 41\nt1 dte\n") (codes ". off busy\ndte connect\n> 013febdf\n. start busy\ndte linkup\n> 01001000fb00007702\n. start busy\ndte restarted cause=7 diag=0\n> 0321a415\n. on busy\n. off idle\ndte call ch=1 at 1.0.0 called=123 calling=4567 data=41\n> 012210010b431234567000417605\n. start busy\n> 01319536\n. start busy\n") 0
+CallGoesOut = IsAnswered Dte
+    (codes "dte connect\n< 01738357\n< 03001000fb0700c478\n< 01211426\ndte call 123 4567 41\nt1 dte\n")
+    (codes ". off busy\ndte connect\n> 013febdf\n. start busy\ndte linkup\n> 01001000fb00007702\n. start busy\ndte restarted cause=7 diag=0\n> 0321a415\n. on busy\n. off idle\ndte call ch=1 at 1.0.0 called=123 calling=4567 data=41\n> 012210010b431234567000417605\n. start busy\n> 01319536\n. start busy\n") 0
 
 -- the other end's lines, what a line alone can have happen, and a refusal
 abbrev pub OthersAreRefused : Type 0
-OthersAreRefused = IsAnswered Dce (codes "dte connect\n< 01738357\ndrain 1\nheal\nt1 dce\n") (codes ". off busy\n? 60\n. off busy\n? 60\n. off busy\n? 60\n. off busy\n? 60\n. off busy\n! 11\n. off busy\n") 1
+OthersAreRefused = IsAnswered Dce (codes "dte connect\n< 01738357\ndrain 1\nheal\nt1 dce\n")
+    (codes ". off busy\n? 60\n. off busy\n? 60\n. off busy\n? 60\n. off busy\n? 60\n. off busy\n! 11\n. off busy\n") 1

@@ -1,5 +1,6 @@
 -- Which states of the definition a station stands for, and what its calls answer.
-use Rattle.std.specs.Prelude.{◌≡◌, ◌+◌, ◌≤◌, ◌⊎◌, [], map, vec_len, vec_capacity, Option, Some, None, Result, Err, OnOk, OnErr, IfErr, IsErrAnd}
+use Rattle.std.specs.Prelude.{◌≡◌, ◌+◌, ◌≤◌, ◌⊎◌, [], map, vec_len, vec_capacity, Option, Some, None, Result, Err, OnOk}
+use Rattle.std.specs.Prelude.{OnErr, IfErr, IsErrAnd}
 use Rattle.x25_frame.specs.Spelling.{spelling_of}
 use Rattle.x25_link.specs.code.FitsLink.{ShownLink}
 use Rattle.x25_layer.specs.declared.layer.Layer as layer_code
@@ -19,7 +20,8 @@ FitsStation c v s = FitsParts c v.link v.layer s
 -- ---- what a call leaves and answers, by what the definition says of it
 
 -- an accepted call leaves the station of the step
-abbrev pub LeavesParts : {T : Type 0} → Settings → ShownLink → layer_code.Layer → Result T StationError → Outcome → Type 0
+abbrev pub LeavesParts : {T : Type 0} → Settings → ShownLink → layer_code.Layer → Result T StationError → Outcome
+    → Type 0
 LeavesParts c l y result (Did step) = OnOk result (FitsParts c l y step.near)
 LeavesParts c l y result (Refused e) = Unit {0}
 
@@ -56,9 +58,9 @@ pub record IsEmpty (out : code_step.Step) : Type 0 where
 pub record HasPlaces (out : code_step.Step) : Type 0 where
   pub entries : vec_len out.entries + 3 ≤ vec_capacity out.entries
 
--- A call does what the definition says of it: of each state that the station stood for it leaves that step's, and answers
--- its frames and entries; or it is refused, the station is as before, and nothing is answered. It answers at most so many
--- frames and entries, whatever they are.
+-- A call does what the definition says of it: of each state that the station stood for it leaves that step's, and
+-- answers its frames and entries; or it is refused, the station is as before, and nothing is answered. It answers at
+-- most so many frames and entries, whatever they are.
 pub record Does (old new : code.Station) (out : code_step.Step) (result : Result Unit StationError)
     (said : Settings → Station → Outcome) : Type 0 where
   pub state : (c : Settings) (s : Station) → FitsStation c old s → Leaves c new result (said c s)

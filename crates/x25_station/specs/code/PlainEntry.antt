@@ -1,7 +1,9 @@
 -- Which entry of the definition an entry of the code is.
 use Rattle.std.specs.Prelude.{string_bytes, Some}
-use Rattle.x25_circuit.specs.Notice.{PlainNotice, incoming, connected, collided, cleared, clear_done, was_reset, reset_done, delivered, interrupted, interrupt_done, fault}
-use Rattle.x25_circuit.specs.Calling.{Request, Calls, Accepts, Clears, Sends, Interrupts, Resets, SaysReady, SaysNotReady}
+use Rattle.x25_circuit.specs.Notice.{PlainNotice, incoming, connected, collided, cleared, clear_done, was_reset}
+use Rattle.x25_circuit.specs.Notice.{reset_done, delivered, interrupted, interrupt_done, fault}
+use Rattle.x25_circuit.specs.Calling.{Request, Calls, Accepts, Clears, Sends, Interrupts, Resets, SaysReady}
+use Rattle.x25_circuit.specs.Calling.{SaysNotReady}
 use Rattle.x25_handshakes.specs.laws.Names.{Name}
 use Rattle.x25_layer.specs.declared.stretch.Stretch.{Stretch}
 use Rattle.x25_layer.specs.laws.Transcript as layer
@@ -13,13 +15,15 @@ use Rattle.x25_station.specs.declared.entry.Asked.{Asked}
 use Rattle.x25_station.specs.declared.entry.Asked.TheVariants as asked
 use Rattle.x25_station.specs.declared.entry.Told.{Told}
 use Rattle.x25_station.specs.declared.entry.Told.TheVariants as told
-use Rattle.x25_station.specs.Entry.{StationEntry, of_channel, restart_asked, connect_asked, disconnect_asked, link_up, link_down, was_restarted, restart_confirmed, at_fault}
+use Rattle.x25_station.specs.Entry.{StationEntry, of_channel, restart_asked, connect_asked, disconnect_asked, link_up}
+use Rattle.x25_station.specs.Entry.{link_down, was_restarted, restart_confirmed, at_fault}
 
 abbrev pub plain_name : Stretch → Name
 plain_name s = record { restarts = s.restarts; clears = s.clears; resets = s.resets }
 
 abbrev pub plain_asked : Asked → Request
-plain_asked (asked.Call called calling user params) = Calls (string_bytes called) (string_bytes calling) user.items params
+plain_asked (asked.Call called calling user params) = Calls (string_bytes called)
+    (string_bytes calling) user.items params
 plain_asked (asked.Accept params) = Accepts (Some params)
 plain_asked asked.Clear = Clears
 plain_asked (asked.Send q user) = Sends q user.items
@@ -29,7 +33,8 @@ plain_asked asked.Ready = SaysReady
 plain_asked asked.NotReady = SaysNotReady
 
 abbrev pub plain_told : Told → PlainNotice
-plain_told (told.Incoming called calling user params) = incoming (record { called = called.items; calling = calling.items; user = user.items; params = params })
+plain_told (told.Incoming called calling user params) = incoming
+    (record { called = called.items; calling = calling.items; user = user.items; params = params })
 plain_told (told.Connected params) = connected params
 plain_told told.Collided = collided
 plain_told (told.Cleared cause diagnostic) = cleared cause diagnostic
@@ -46,7 +51,8 @@ plain_said (said.Asked what) = layer.Asked (plain_asked what)
 plain_said (said.Told what) = layer.Told (plain_told what)
 
 abbrev pub plain_entry : Entry → StationEntry
-plain_entry (code.OnChannel channel name what) = of_channel (record { channel = channel; name = plain_name name; said = plain_said what })
+plain_entry (code.OnChannel channel name what) = of_channel
+    (record { channel = channel; name = plain_name name; said = plain_said what })
 plain_entry code.RestartAsked = restart_asked
 plain_entry code.ConnectAsked = connect_asked
 plain_entry code.DisconnectAsked = disconnect_asked

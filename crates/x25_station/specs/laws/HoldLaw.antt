@@ -17,15 +17,18 @@ FewWait = (c : Settings) (v : code.Station) (s : Station) → FitsStation c v s 
 
 -- packets that were sent and aren't acknowledged
 abbrev pub FewStand : Type 0
-FewStand = (c : Settings) (v : code.Station) (s : Station) → FitsStation c v s → s.link.outgoing.sent ≤ s.link.outgoing.acked + 7
+FewStand = (c : Settings) (v : code.Station) (s : Station) → FitsStation c v s
+    → s.link.outgoing.sent ≤ s.link.outgoing.acked + 7
 
 -- messages that wait in the circuit of each channel
 abbrev pub FewMessages : Type 0
-FewMessages = (c : Settings) (v : code.Station) (s : Station) (h : ℕ) → FitsStation c v s → is_channel c.channels h ≡ true → circuit.waits (s.layer.circuits h) ≤ 8
+FewMessages = (c : Settings) (v : code.Station) (s : Station) (h : ℕ) → FitsStation c v s
+    → is_channel c.channels h ≡ true → circuit.waits (s.layer.circuits h) ≤ 8
 
 -- octets of the message of which some packets came, on each channel
 abbrev pub FewJoined : Type 0
-FewJoined = (c : Settings) (v : code.Station) (s : Station) (h : ℕ) → FitsStation c v s → joined_at (layer_settings c) s.layer h ≤ 65535
+FewJoined = (c : Settings) (v : code.Station) (s : Station) (h : ℕ) → FitsStation c v s
+    → joined_at (layer_settings c) s.layer h ≤ 65535
 
 -- memory that is set aside
 abbrev pub FewAside : Type 0
@@ -37,4 +40,5 @@ holds u = 1 + length u.transfer.queue.ring.items
 
 -- those that wait, and one whose last packet was pulled, which is held until the next is begun
 abbrev pub FewHeld : Type 0
-FewHeld = (v : code.Station) (k : ℕ) (u : circuit_code.Circuit) → slice_get v.layer.circuits.items k ≡ Some u → holds u ≤ 9
+FewHeld = (v : code.Station) (k : ℕ) (u : circuit_code.Circuit) → slice_get v.layer.circuits.items k ≡ Some u
+    → holds u ≤ 9

@@ -1,5 +1,5 @@
--- Each step of a station is a step of its link, and then packets that are handed down to the link, each accepted; and these packets are
--- those that the same moves of the packet layer put, alone over a link that keeps order.
+-- Each step of a station is a step of its link, and then packets that are handed down to the link, each accepted; and
+-- these packets are those that the same moves of the packet layer put, alone over a link that keeps order.
 use Rattle.std.specs.Prelude.{◌≡◌, ℕ, ◌≤◌, ◌==◌, true, false, List, [], ◌∷◌, ◌++◌, Some, None, Ok}
 use Rattle.x25_packet.specs.Packet.{PlainPacket, restart}
 use Rattle.x25_packet.specs.Reading.{packet_of}
@@ -34,8 +34,8 @@ pub record PutsBehind (c : Settings) (t : Side) (packets : List PlainPacket) (st
 
 -- ---- the layer's half
 
--- Between these worlds of two layers the near end moves as the layer of the station: it puts these packets, and enters and tells what the
--- entries of the step say.
+-- Between these worlds of two layers the near end moves as the layer of the station: it puts these packets, and enters
+-- and tells what the entries of the step say.
 pub record MovesAs (w v : TwoLayers) (packets : List PlainPacket) (step : Step) : Type 0 where
   pub layer : v.near.layer ≡ step.near.layer
   pub given : v.near.given ≡ w.near.given ++ packets
@@ -59,27 +59,39 @@ station_with link layer = record { link = link; layer = layer }
 
 -- an accepted command to the layer is its move, and then pulls; the link takes no step of its own
 abbrev pub RequestIsJoined : Type 0
-RequestIsJoined = (c : Settings) (link : LinkStation) (w : TwoLayers) (request : LayerRequest) (step : Step) → w.near.is_out ≡ false → waits link.outgoing ≤ 256
+RequestIsJoined = (c : Settings) (link : LinkStation) (w : TwoLayers) (request : LayerRequest) (step : Step)
+    → w.near.is_out ≡ false → waits link.outgoing ≤ 256
     → requests c (station_with link w.near.layer) request ≡ Did step →
     let move : Move = Requests (waits link.outgoing == 256) request in
-    (pulled : List ℕ) × AreChannels c.channels pulled × IsJoined c w (moves_all (layer_settings c) w (move ∷ pulls_of pulled)) (alone link) w.back step
+    (pulled : List ℕ) × AreChannels c.channels pulled
+    × IsJoined c w (moves_all (layer_settings c) w (move ∷ pulls_of pulled)) (alone link) w.back step
 
 -- octets that come, of which the link hands up a packet: the layer takes that packet, and then pulls
 abbrev pub ReceiveIsJoined : Type 0
-ReceiveIsJoined = (c : Settings) (link : LinkStation) (w : TwoLayers) (octets packet_octets : List ℕ) (packet : PlainPacket) (back : List PlainPacket) → w.near.is_out ≡ false
-    → w.back ≡ packet ∷ back → abandons c (station_with link w.near.layer) ≡ false → (take_step (link_settings c) octets link).packet ≡ Some packet_octets
+ReceiveIsJoined = (c : Settings) (link : LinkStation) (w : TwoLayers) (octets packet_octets : List ℕ)
+    (packet : PlainPacket) (back : List PlainPacket) → w.near.is_out ≡ false
+    → w.back ≡ packet ∷ back → abandons c (station_with link w.near.layer) ≡ false
+    → (take_step (link_settings c) octets link).packet ≡ Some packet_octets
     → packet_of (longest_user c.long_data) packet_octets ≡ Ok packet →
     (pulled : List ℕ) × AreChannels c.channels pulled
-    × IsJoined c w (moves_all (layer_settings c) w (HandsUp ∷ pulls_of pulled)) (take_step (link_settings c) octets link).side back (receives c (station_with link w.near.layer) octets)
+    × IsJoined c w (moves_all (layer_settings c) w (HandsUp ∷ pulls_of pulled))
+    (take_step (link_settings c) octets link).side back (receives c (station_with link w.near.layer) octets)
 
 -- a step of the link that hands nothing up and notes nothing asks nothing of the layer
 abbrev pub QuietIsJoined : Type 0
-QuietIsJoined = (c : Settings) (l : Layer) (k : LinkStep) → k.packet ≡ None → IsQuiet k → follows c l k ≡ record { near = station_with k.side.near l; out = k.side.out; entries = [] }
+QuietIsJoined = (c : Settings) (l : Layer) (k : LinkStep) → k.packet ≡ None → IsQuiet k
+    → follows c l k ≡ record { near = station_with k.side.near l; out = k.side.out; entries = [] }
 
 -- LinkDown alone: the layer drops everything but its counts, and nothing is put
 abbrev pub DownIsJoined : Type 0
-DownIsJoined = (c : Settings) (l : Layer) (k : LinkStep) (reason : Reason) → k.notes ≡ record { down = Some reason; up = false } →
-    follows c l k ≡ record { near = station_with k.side.near (rested l); out = k.side.out; entries = link_down reason ∷ [] }
+DownIsJoined = (c : Settings) (l : Layer) (k : LinkStep) (reason : Reason)
+    → k.notes ≡ record { down = Some reason; up = false } →
+    follows c l k ≡ record {
+      near = station_with k.side.near
+          (rested l);
+      out = k.side.out;
+      entries = link_down reason ∷ [];
+    }
 
 -- LinkUp: RESTART alone is put, and the link accepts it
 pub record ComesUp (c : Settings) (k : LinkStep) (step : Step) : Type 0 where
@@ -88,4 +100,5 @@ pub record ComesUp (c : Settings) (k : LinkStep) (step : Step) : Type 0 where
   pub entries : step.entries ≡ entries_noted k.notes
 
 abbrev pub UpIsJoined : Type 0
-UpIsJoined = (c : Settings) (l : Layer) (k : LinkStep) → k.notes.up ≡ true → k.side.near ≡ fresh → ComesUp c k (follows c l k)
+UpIsJoined = (c : Settings) (l : Layer) (k : LinkStep) → k.notes.up ≡ true → k.side.near ≡ fresh
+    → ComesUp c k (follows c l k)

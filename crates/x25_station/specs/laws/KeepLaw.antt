@@ -1,5 +1,5 @@
--- What every step of a station keeps, whatever comes: at most 256 packets wait in the link, and where the link isn't up the layer is as
--- LinkDown leaves it.
+-- What every step of a station keeps, whatever comes: at most 256 packets wait in the link, and where the link isn't up
+-- the layer is as LinkDown leaves it.
 use Rattle.std.specs.Prelude.{◌≡◌, ℕ, ◌≤◌, false, List}
 use Rattle.x25_link.specs.Outgoing.{waits}
 use Rattle.x25_link.specs.Station.{is_up}

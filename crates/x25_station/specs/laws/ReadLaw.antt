@@ -1,5 +1,5 @@
--- What the layers put the other end reads again: each packet's octets are octets, fit in an I frame, and read as the packet, with as much
--- user data of a CALL as both ends may send.
+-- What the layers put the other end reads again: each packet's octets are octets, fit in an I frame, and read as the
+-- packet, with as much user data of a CALL as both ends may send.
 use Rattle.std.specs.Prelude.{◌≡◌, Bool, ℕ, ◌<◌, ◌≤◌, List, [], ◌∷◌, length, All, Ok}
 use Rattle.x25_packet.specs.Packet.{PlainPacket}
 use Rattle.x25_packet.specs.Spelling.{spelling_of, longest_user}
@@ -7,6 +7,8 @@ use Rattle.x25_packet.specs.Reading.{packet_of}
 use Rattle.x25_circuit.specs.Calling.{Request, Calls, Sends, Interrupts}
 use Rattle.x25_layer.specs.Calls.{LayerRequest, Asks, Dials, Restarts, PullsAll}
 use Rattle.x25_layer.specs.laws.TwoLayers.{TwoLayers, Move, Requests, Event, run, start}
+use Rattle.x25_bits.specs.declared.role.Role.{Role}
+use Rattle.x25_layer.specs.laws.PeerJoined.{Joined, Happens, Ours, start as joined_start}
 use Rattle.x25_station.specs.Config.{longest_packet}
 
 abbrev pub AreOctets : List ℕ → Type 0
@@ -46,4 +48,23 @@ BringOctets (e ∷ events) = MovesOctets e.what × BringOctets events
 -- whatever happens to two layers of at most 16 channels
 abbrev pub PutsAreReadable : Type 0
 PutsAreReadable = (long_data : Bool) (channels : ℕ) → channels ≤ 16 → (events : List Event) → BringOctets events →
-    let w : TwoLayers = run long_data channels events (start long_data channels) in AreReadable long_data w.near.given × AreReadable long_data w.far.given
+    let w : TwoLayers = run long_data channels events (start long_data channels) in AreReadable long_data w.near.given
+    × AreReadable long_data w.far.given
+
+-- ---- a layer beside any peer
+
+abbrev pub BringsOctets : {r : Role} {long_data : Bool} {channels : ℕ} {w v : Joined} → Happens r long_data channels w v
+    → Type 0
+BringsOctets (Ours move stays) = MovesOctets move
+BringsOctets other = Unit {0}
+
+-- what is reached where the user hands down octets
+pub data IsReachedByOctets (r : Role) (long_data : Bool) (channels : ℕ) : Joined → Type 0 where
+  at_start : IsReachedByOctets r long_data channels (joined_start r long_data channels)
+  goes_on : (w v : Joined) → IsReachedByOctets r long_data channels w → (h : Happens r long_data channels w v)
+      → BringsOctets h → IsReachedByOctets r long_data channels v
+
+abbrev pub PutsBesidePeersAreReadable : Type 0
+PutsBesidePeersAreReadable =
+    (r : Role) (long_data : Bool) (channels : ℕ) → channels ≤ 16 → (w : Joined)
+    → IsReachedByOctets r long_data channels w → AreReadable long_data w.near.given

@@ -65,7 +65,8 @@ DeadlineIsTrue = (c : Settings) (events : List Event) → let w = watched c even
 
 -- so one who fires where it stands is never refused
 abbrev pub FiringIsTaken : Type 0
-FiringIsTaken = (c : Settings) (events : List Event) → let w = watched c events in w.stands ≡ true → (step : Step) × (fires c w.station ≡ Did step)
+FiringIsTaken = (c : Settings) (events : List Event) → let w = watched c events in w.stands ≡ true → (step : Step)
+    × (fires c w.station ≡ Did step)
 
 -- and one who fires where T1 is off is
 abbrev pub OffIsRefused : Type 0

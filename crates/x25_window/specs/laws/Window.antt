@@ -58,8 +58,20 @@ after e (Send n) = record {
   taken = e.taken;
 }
 after e Tell = e
-after e (Hear ack) = record { window = e.window; given = e.given; acked = resolved e.acked ack; sent = e.sent; taken = e.taken }
-after e (Take number item) = record { window = e.window; given = e.given; acked = e.acked; sent = e.sent; taken = e.taken ++ item ∷ [] }
+after e (Hear ack) = record {
+  window = e.window;
+  given = e.given;
+  acked = resolved e.acked ack;
+  sent = e.sent;
+  taken = e.taken;
+}
+after e (Take number item) = record {
+  window = e.window;
+  given = e.given;
+  acked = e.acked;
+  sent = e.sent;
+  taken = e.taken ++ item ∷ [];
+}
 
 -- an item with its number
 pub record Numbered (T : Type 0) : Type 0 where

@@ -39,7 +39,8 @@ pub record GoesPartly (cfg : Cfg) (events : List Event) (w : World) (v : Telling
   pub goes : GoesBy cfg done w v before
 
 -- Where events led to the world before, and it healed, this holds of the world before and of the one that is left.
-abbrev pub HoldsHealed : (Cfg → World → World → Type 0) → {T : Type 0} → ShownWorld → ShownWorld → Result T WorldError → Type 0
+abbrev pub HoldsHealed : (Cfg → World → World → Type 0) → {T : Type 0} → ShownWorld → ShownWorld → Result T WorldError
+    → Type 0
 HoldsHealed Holds old new result =
     (cfg : Cfg) (from : World) (past : List Event) → IsBeginning cfg from → FitsRun cfg from old past
     → (let w = run cfg past from in OnOk result (Leaves (λ (c : Cfg) (u : World). Holds c w u) cfg from new

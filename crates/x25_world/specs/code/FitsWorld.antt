@@ -73,7 +73,8 @@ HoldsAfter Holds old new more =
     → IsUpAtMostOnce cfg (run cfg (more past) from) → Leaves Holds cfg from new (more past)
 
 -- .. from a link just set up, which isn't set up anew: this holds of the whole run, and of what is here
-abbrev pub HoldsAfterSetUp : (Cfg → List Event → World → Type 0) → ShownWorld → ShownWorld → (List Event → List Event) → Type 0
+abbrev pub HoldsAfterSetUp : (Cfg → List Event → World → Type 0) → ShownWorld → ShownWorld → (List Event → List Event)
+    → Type 0
 HoldsAfterSetUp Holds old new more =
     (cfg : Cfg) (past : List Event) → FitsRun cfg (established cfg) old past → SetsUpOnce cfg (more past)
     → Leaves (λ (c : Cfg) (w : World). Holds c (more past) w) cfg (established cfg) new (more past)
@@ -85,7 +86,8 @@ HoldsThroughout Holds old new more =
     → Leaves Holds cfg from new (more past)
 
 -- .. of the whole of each of these runs, and of what is here
-abbrev pub GoesOnThroughout : (Cfg → World → List Event → World → Type 0) → ShownWorld → ShownWorld → (List Event → List Event) → Type 0
+abbrev pub GoesOnThroughout : (Cfg → World → List Event → World → Type 0) → ShownWorld → ShownWorld
+    → (List Event → List Event) → Type 0
 GoesOnThroughout Holds old new more =
     (cfg : Cfg) (from : World) (past : List Event) → IsBeginning cfg from → FitsRun cfg from old past
     → Leaves (λ (c : Cfg) (w : World). Holds c from (more past) w) cfg from new (more past)

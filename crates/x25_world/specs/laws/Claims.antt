@@ -1,5 +1,7 @@
--- What holds of two stations and the line between them after every list of events, up to the moment at which an end goes up a second time.
-use Rattle.std.specs.Prelude.{◌≡◌, ◌≤◌, ◌⊎◌, Bool, ℕ, suc, true, List, [], ◌∷◌, ◌++◌, Option, Some, None, Result, Ok, Err}
+-- What holds of two stations and the line between them after every list of events, up to the moment at which an end
+-- goes up a second time.
+use Rattle.std.specs.Prelude.{◌≡◌, ◌≤◌, ◌⊎◌, Bool, ℕ, suc, true, List, [], ◌∷◌, ◌++◌, Option, Some, None, Result, Ok}
+use Rattle.std.specs.Prelude.{Err}
 use Rattle.x25_bits.specs.declared.role.Role.{Role}
 use Rattle.x25_bits.specs.declared.role.Role.TheVariants.{Dte, Dce}
 use Rattle.x25_packet.specs.Packet.{PlainPacket}
@@ -24,7 +26,8 @@ use Rattle.x25_station.specs.laws.ReadLaw.{RequestsOctets}
 use Rattle.x25_station.specs.Station.{Station}
 use Rattle.x25_station.specs.Station.Told.{is_idle, stretch}
 use Rattle.x25_world.specs.declared.error.WorldError.{WorldError}
-use Rattle.x25_world.specs.World.{OnTap, AtEnd, World, Act, Commands, Receives, Event, happens, refusal_of, after, run, AreAccepted, start, connected, established}
+use Rattle.x25_world.specs.World.{OnTap, AtEnd, World, Act, Commands, Receives, Event, happens, refusal_of, after, run}
+use Rattle.x25_world.specs.World.{AreAccepted, start, connected, established}
 
 -- ---- an end and its transcript
 
@@ -72,15 +75,16 @@ abbrev pub AreInOctets : List Event → Type 0
 AreInOctets [] = Unit {0}
 AreInOctets (e ∷ events) = ActsInOctets e.act × AreInOctets events
 
--- The link, just set up, isn't set up anew: neither end tells of LinkUp again. What is told stays, so that this is so of the beginnings of the
--- list too.
+-- The link, just set up, isn't set up anew: neither end tells of LinkUp again. What is told stays, so that this is so
+-- of the beginnings of the list too.
 abbrev pub SetsUpOnce : Cfg → List Event → Type 0
 SetsUpOnce cfg events = IsUpOnce cfg (run cfg events (established cfg))
 
--- what holds of each list of events, of commands, deliveries, losses, damage and timer T1, from a link just set up, which isn't set up anew, and
--- of the world that they lead to
+-- what holds of each list of events, of commands, deliveries, losses, damage and timer T1, from a link just set up,
+-- which isn't set up anew, and of the world that they lead to
 abbrev pub Always : (Cfg → List Event → World → Type 0) → Type 0
-Always Holds = (cfg : Cfg) → config_refusal cfg ≡ None → (events : List Event) → AreInOctets events → SetsUpOnce cfg events → Holds cfg events (run cfg events (established cfg))
+Always Holds = (cfg : Cfg) → config_refusal cfg ≡ None → (events : List Event) → AreInOctets events
+    → SetsUpOnce cfg events → Holds cfg events (run cfg events (established cfg))
 
 -- from where a run begins: both links are down, the DTE has asked that the link be set up, or it was just set up
 abbrev pub IsBeginning : Cfg → World → Type 0
@@ -88,7 +92,9 @@ IsBeginning cfg begin = (begin ≡ start) ⊎ ((begin ≡ connected cfg) ⊎ (be
 
 -- what holds after each list of events from there, up to the moment at which an end goes up a second time
 abbrev pub UntilSecondUp : (Cfg → World → Type 0) → Type 0
-UntilSecondUp Holds = (cfg : Cfg) → config_refusal cfg ≡ None → (begin : World) → IsBeginning cfg begin → (events : List Event) → AreInOctets events → IsUpAtMostOnce cfg (run cfg events begin) → Holds cfg (run cfg events begin)
+UntilSecondUp Holds = (cfg : Cfg) → config_refusal cfg ≡ None → (begin : World) → IsBeginning cfg begin
+    → (events : List Event) → AreInOctets events → IsUpAtMostOnce cfg (run cfg events begin)
+    → Holds cfg (run cfg events begin)
 
 -- not a `connect` that is accepted
 abbrev pub IsNoConnect : Act → Option WorldError → Type 0
@@ -98,16 +104,19 @@ IsNoConnect act refusal = Unit {0}
 -- no `connect` of the events is accepted
 abbrev pub NoneConnects : Cfg → List Event → World → Type 0
 NoneConnects cfg [] w = Unit {0}
-NoneConnects cfg (e ∷ events) w = IsNoConnect e.act (refusal_of (happens cfg w e)) × NoneConnects cfg events (after w (happens cfg w e))
+NoneConnects cfg (e ∷ events) w = IsNoConnect e.act (refusal_of (happens cfg w e))
+    × NoneConnects cfg events (after w (happens cfg w e))
 
 -- by such a list the link isn't set up anew
 abbrev pub UpOnceUnlessConnected : Type 0
 UpOnceUnlessConnected =
-    (cfg : Cfg) → config_refusal cfg ≡ None → (events : List Event) → AreInOctets events → NoneConnects cfg events (established cfg) → SetsUpOnce cfg events
+    (cfg : Cfg) → config_refusal cfg ≡ None → (events : List Event) → AreInOctets events
+    → NoneConnects cfg events (established cfg) → SetsUpOnce cfg events
 
 -- SABM is there to be delivered to the DCE, and then UA to the DTE
 abbrev pub IsSetUp : Type 0
-IsSetUp = (cfg : Cfg) → AreAccepted cfg (record { at = Dce; act = Receives } ∷ record { at = Dte; act = Receives } ∷ []) (connected cfg)
+IsSetUp = (cfg : Cfg)
+    → AreAccepted cfg (record { at = Dce; act = Receives } ∷ record { at = Dte; act = Receives } ∷ []) (connected cfg)
 
 -- what the users of its channels asked and were told
 abbrev pub handed_at : Role → World → List Entry
@@ -115,24 +124,27 @@ handed_at end w = layer_entries (entries_at end w.transcript)
 
 -- ---- a beginning, in order, whole
 
--- On each channel and under each name of a stretch, the messages, the interrupts and the calls that an end hands up are a beginning of
--- those that the other end handed down.
+-- On each channel and under each name of a stretch, the messages, the interrupts and the calls that an end hands up are
+-- a beginning of those that the other end handed down.
 abbrev pub IsLawful : Cfg → World → Type 0
 IsLawful cfg w = (end : Role) → HandsUpLawfully (handed_at end w) (handed_at (other end) w)
 
--- The name of the stretch on a channel of an end whose link is up is the restarts, clears and resets that the transcript tells of. (So no
--- CLEAR ever comes in p1, which would count and tell nothing.)
+-- The name of the stretch on a channel of an end whose link is up is the restarts, clears and resets that the
+-- transcript tells of. (So no CLEAR ever comes in p1, which would count and tell nothing.)
 abbrev pub IsNamed : Cfg → World → Type 0
 IsNamed cfg w = (end : Role) (channel : ℕ) → is_up (station_at end w).link.phase ≡ true →
     name_of (station_at end w).layer channel ≡ counted channel first_name (layer_notices (entries_at end w.transcript))
 
 -- ---- .. and all of them
 
--- Where an end is idle, and the same stretch of a channel is open at both ends, all messages and interrupts of that stretch arrived.
+-- Where an end is idle, and the same stretch of a channel is open at both ends, all messages and interrupts of that
+-- stretch arrived.
 abbrev pub ArrivesAll : Cfg → World → Type 0
 ArrivesAll cfg w =
-    (end : Role) (channel : ℕ) (name : Name) → is_idle (settings_from end cfg) (station_at end w) ≡ true → stretch (settings_from end cfg) (station_at end w) channel ≡ Some name
-    → stretch (settings_from (other end) cfg) (station_at (other end) w) channel ≡ Some name → HasAllOf channel name (handed_at end w) (handed_at (other end) w)
+    (end : Role) (channel : ℕ) (name : Name) → is_idle (settings_from end cfg) (station_at end w) ≡ true
+    → stretch (settings_from end cfg) (station_at end w) channel ≡ Some name
+    → stretch (settings_from (other end) cfg) (station_at (other end) w) channel ≡ Some name
+    → HasAllOf channel name (handed_at end w) (handed_at (other end) w)
 
 -- ---- no error of procedure
 
@@ -144,16 +156,18 @@ IsQuietRead channels (Err e) = ⊥
 -- octets on the line are a frame, and no FRMR
 abbrev pub IsQuietFrame : Bool → ℕ → Result PlainFrame FrameError → Type 0
 IsQuietFrame long_data channels (Ok (frmr f why)) = ⊥
-IsQuietFrame long_data channels (Ok (info ns nr p octets)) = IsQuietRead channels (packet_of (longest_user long_data) octets)
+IsQuietFrame long_data channels (Ok (info ns nr p octets)) = IsQuietRead channels
+    (packet_of (longest_user long_data) octets)
 IsQuietFrame long_data channels (Ok frame) = Unit {0}
 IsQuietFrame long_data channels (Err e) = ⊥
 
 abbrev pub IsQuietTap : Bool → ℕ → List OnTap → Type 0
 IsQuietTap long_data channels [] = Unit {0}
-IsQuietTap long_data channels (t ∷ tap) = IsQuietFrame long_data channels (frame_of t.from longest_packet t.octets) × IsQuietTap long_data channels tap
+IsQuietTap long_data channels (t ∷ tap) = IsQuietFrame long_data channels (frame_of t.from longest_packet t.octets)
+    × IsQuietTap long_data channels tap
 
--- All that was ever put on the line is frames, and no FRMR; and of their packets no CLEAR and no RESET has another cause than the
--- user's, and no RESTART one that tells of an error. No user was told of a fault.
+-- All that was ever put on the line is frames, and no FRMR; and of their packets no CLEAR and no RESET has another
+-- cause than the user's, and no RESTART one that tells of an error. No user was told of a fault.
 pub record HasNoProcedureError (cfg : Cfg) (w : World) : Type 0 where
   pub tap : IsQuietTap cfg.long_data cfg.channels w.tap
   pub told : (end : Role) → AreNoFaults (layer_notices (entries_at end w.transcript))

@@ -1,10 +1,12 @@
 -- What the laws of the links, the layers and the stations below say, which the laws of a world rest on.
 use Rattle.std.specs.Prelude.{ℕ, Bool}
 use Rattle.x25_frame.specs.laws.ReadingLaw.{ReadsSpelled}
-use Rattle.x25_link.specs.laws.NoteLaw.{TakeTells, TakeHandsUp, TimerTells, PutTells, ConnectTells, DisconnectTells, AbandonTells}
+use Rattle.x25_link.specs.laws.NoteLaw.{TakeTells, TakeHandsUp, TimerTells, PutTells, ConnectTells, DisconnectTells}
+use Rattle.x25_link.specs.laws.NoteLaw.{AbandonTells}
 use Rattle.x25_link.specs.laws.SetUp.{TakeWaits, TakeSetsUp}
 use Rattle.x25_line.specs.laws.SessionClaims as line
-use Rattle.x25_line.specs.laws.SessionClaims.{MetAreInOrder, UnmetHandNothingUp, OnlyBegunHaveLists, EachMeetsLatest, IdleHasArrived, NoSessionSendsFrmr, AllSessionsSendWhole}
+use Rattle.x25_line.specs.laws.SessionClaims.{MetAreInOrder, UnmetHandNothingUp, OnlyBegunHaveLists, EachMeetsLatest}
+use Rattle.x25_line.specs.laws.SessionClaims.{IdleHasArrived, NoSessionSendsFrmr, AllSessionsSendWhole}
 use Rattle.x25_line.specs.laws.SessionEvents.{EachEventHandsInSession, EachEventMeetsLatest}
 use Rattle.x25_line.specs.laws.SessionNumbers.{StandingGoesAlong}
 use Rattle.x25_layer.specs.laws.Law.{KeepsOrder, IsQuietWorld, IsLawfulWorld, ArrivesAll}

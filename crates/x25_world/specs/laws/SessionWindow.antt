@@ -1,5 +1,5 @@
--- The window of the links over set-up and re-set-up, along a run: one window machine behind the two sessions that stand, which goes on from
--- event to event.
+-- The window of the links over set-up and re-set-up, along a run: one window machine behind the two sessions that
+-- stand, which goes on from event to event.
 use Rattle.std.specs.Prelude.{◌≡◌, List, [], ◌∷◌, ◌++◌}
 use Rattle.x25_bits.specs.declared.role.Role.TheVariants.{Dte, Dce}
 use Rattle.x25_line.specs.laws.Stations as line
@@ -12,39 +12,45 @@ use Rattle.x25_world.specs.World.{World, Event, happens, after, run}
 use Rattle.x25_world.specs.laws.Claims.{IsBeginning, link_of}
 use Rattle.x25_world.specs.laws.WindowGoes.{AsksAll, all_at}
 
--- A run of two links from both down, with the links and lines of this world, and the sessions that stand by it, with their window machine.
+-- A run of two links from both down, with the links and lines of this world, and the sessions that stand by it, with
+-- their window machine.
 pub record IsRunOfSessions (cfg : Cfg) (w : World) (v : Sessions) (s : Standing) : Type 0 where
   pub events : List line.Event
   pub timely : AreTimely (link_of cfg Dte) (link_of cfg Dce) events from_nothing
   pub run : links.run (link_of cfg Dte) (link_of cfg Dce) events from_nothing ≡ v
-  pub standing : standing_run (link_of cfg Dte) (link_of cfg Dce) events from_nothing (standing_at (link_of cfg Dte) (link_of cfg Dce) from_nothing) ≡ s
+  pub standing : standing_run (link_of cfg Dte) (link_of cfg Dce) events from_nothing
+      (standing_at (link_of cfg Dte) (link_of cfg Dce) from_nothing) ≡ s
   pub near : v.near.station ≡ w.near.link
   pub far : v.far.station ≡ w.far.link
   pub out : octets_of v.out ≡ w.out
   pub back : octets_of v.back ≡ w.back
 
--- At an end whose link is up, the session that stands, and the one of the other end that it meets or is to meet, are two stations of a link
--- that was set up once, and the machine is behind them: the unbounded numbers behind the N(S)s and N(R)s on the line to that end, and the
--- window. Where both ends are up they are those on both lines.
+-- At an end whose link is up, the session that stands, and the one of the other end that it meets or is to meet, are
+-- two stations of a link that was set up once, and the machine is behind them: the unbounded numbers behind the N(S)s
+-- and N(R)s on the line to that end, and the window. Where both ends are up they are those on both lines.
 abbrev pub StandsInWindow : Cfg → World → Sessions → Standing → Type 0
 StandsInWindow cfg w v s = IsRunOfSessions cfg w v s × EachUpStandsWith (link_of cfg Dte) (link_of cfg Dce) v s
 
--- These two links and what stands have the links and lines of a world, with the window. At each event they go on as its end asks, so that a
--- frame keeps the whole numbers that it was given as it was put, and they have those of the world after it, to the last, which is `here`.
+-- These two links and what stands have the links and lines of a world, with the window. At each event they go on as its
+-- end asks, so that a frame keeps the whole numbers that it was given as it was put, and they have those of the world
+-- after it, to the last, which is `here`.
 abbrev pub SessionsGoAlong : Cfg → World → List Event → World → Sessions → Standing → Type 0
 SessionsGoAlong cfg here [] w v s = StandsInWindow cfg here v s
 SessionsGoAlong cfg here (e ∷ events) w v s =
     StandsInWindow cfg w v s × (asked : List line.Act) × AsksAll e.act asked
-    × SessionsGoAlong cfg here events (after w (happens cfg w e)) (links.run (link_of cfg Dte) (link_of cfg Dce) (all_at e.at asked) v)
+    × SessionsGoAlong cfg here events (after w (happens cfg w e))
+    (links.run (link_of cfg Dte) (link_of cfg Dce) (all_at e.at asked) v)
     (standing_run (link_of cfg Dte) (link_of cfg Dce) (all_at e.at asked) v s)
 
--- Along these events from there, to here: two links are behind the world where it begins. Whichever are behind a world of the run, with their
--- machine, go on from there to here.
+-- Along these events from there, to here: two links are behind the world where it begins. Whichever are behind a world
+-- of the run, with their machine, go on from there to here.
 pub record SessionsStayInWindow (cfg : Cfg) (begin : World) (events : List Event) (here : World) : Type 0 where
   pub begins : (v : Sessions) × (s : Standing) × StandsInWindow cfg begin v s
-  pub goes_on : (past more : List Event) → past ++ more ≡ events → (v : Sessions) (s : Standing) → StandsInWindow cfg (run cfg past begin) v s
+  pub goes_on : (past more : List Event) → past ++ more ≡ events → (v : Sessions) (s : Standing)
+      → StandsInWindow cfg (run cfg past begin) v s
       → SessionsGoAlong cfg here more (run cfg past begin) v s
 
 -- .. along some events that lead here, from where a run begins
 abbrev pub UpIsInWindow : Cfg → World → Type 0
-UpIsInWindow cfg w = (begin : World) × IsBeginning cfg begin × (events : List Event) × (run cfg events begin ≡ w) × SessionsStayInWindow cfg begin events w
+UpIsInWindow cfg w = (begin : World) × IsBeginning cfg begin × (events : List Event) × (run cfg events begin ≡ w)
+    × SessionsStayInWindow cfg begin events w

@@ -1,6 +1,7 @@
--- The sessions of an end, by the transcript: each lasts from a `linkup` to the next `linkup` or `linkdown` there (profile). They count
--- from 1.
-use Rattle.std.specs.Prelude.{ℕ, suc, ◌==◌, ◌&&◌, Bool, true, false, if◌then◌else◌, List, [], ◌∷◌, ◌++◌, Option, Some, None}
+-- The sessions of an end, by the transcript: each lasts from a `linkup` to the next `linkup` or `linkdown` there
+-- (profile). They count from 1.
+use Rattle.std.specs.Prelude.{ℕ, suc, ◌==◌, ◌&&◌, Bool, true, false, if◌then◌else◌, List, [], ◌∷◌, ◌++◌, Option, Some}
+use Rattle.std.specs.Prelude.{None}
 use Rattle.x25_link.specs.Hearing.{other}
 use Rattle.x25_bits.specs.declared.role.Role.{Role}
 use Rattle.x25_layer.specs.laws.Transcript.{Entry}
@@ -37,7 +38,8 @@ entry_if b entry = if b then entry ∷ [] else []
 -- of session n, behind an end's progress
 abbrev pub session_from : ℕ → Progress → List StationEntry → List StationEntry
 session_from n p [] = []
-session_from n p (entry ∷ entries) = entry_if (is_in n (after_entry p entry)) entry ++ session_from n (after_entry p entry) entries
+session_from n p (entry ∷ entries) = entry_if (is_in n (after_entry p entry)) entry
+    ++ session_from n (after_entry p entry) entries
 
 abbrev pub progress_at : Role → List AtEnd → Progress
 progress_at end transcript = after_entries none_begun (entries_at end transcript)
@@ -66,15 +68,17 @@ met_at n here there entry = None
 
 abbrev pub met_by : ℕ → Progress → Progress → List StationEntry → Option ℕ
 met_by n here there [] = None
-met_by n here there (entry ∷ entries) = first_of (met_at n here there entry) (met_by n (after_entry here entry) there entries)
+met_by n here there (entry ∷ entries) = first_of (met_at n here there entry)
+    (met_by n (after_entry here entry) there entries)
 
 abbrev pub meets_from : Role → ℕ → Progress → Progress → List AtEnd → Option ℕ
 meets_from end n here there [] = None
 meets_from end n here there (e ∷ transcript) =
     let own = entry_of_end end e.at e.entry in
-    first_of (met_by n here there own) (meets_from end n (after_entries here own) (after_entries there (entry_of_end (other end) e.at e.entry)) transcript)
+    first_of (met_by n here there own) (meets_from end n (after_entries here own)
+    (after_entries there (entry_of_end (other end) e.at e.entry)) transcript)
 
--- The session of the other end that session n of an end meets: the latest that began there before the first `restarted` of session n. By
--- what always holds (`MeetInStep`) one had begun by then.
+-- The session of the other end that session n of an end meets: the latest that began there before the first `restarted`
+-- of session n. By what always holds (`MeetInStep`) one had begun by then.
 abbrev pub meets : Role → ℕ → List AtEnd → Option ℕ
 meets end n transcript = meets_from end n none_begun none_begun transcript

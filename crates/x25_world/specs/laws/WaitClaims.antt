@@ -23,8 +23,8 @@ use Rattle.x25_world.specs.laws.Claims.{station_at}
 abbrev pub pull_at : Role → Event
 pull_at end = record { at = end; act = Commands (Requests PullsAll) }
 
--- Of a stretch of channel k that is open at both ends: no message of it waits and all messages and interrupts that the giver was handed down in
--- it were handed up, or the user at the other end isn't ready (section 4.4.1.5).
+-- Of a stretch of channel k that is open at both ends: no message of it waits and all messages and interrupts that the
+-- giver was handed down in it were handed up, or the user at the other end isn't ready (section 4.4.1.5).
 pub data WaitsForUser (k : ℕ) (name : Name) (giver taker : Station) (down up : List Entry) : Type 0 where
   Arrived : waits (giver.layer.circuits k) ≡ 0 → HasAllOf k name down up → WaitsForUser k name giver taker down up
   NotReady : (taker.layer.circuits k).talk.own_ready ≡ false → WaitsForUser k name giver taker down up
@@ -33,31 +33,39 @@ pub data WaitsForUser (k : ℕ) (name : Name) (giver taker : Station) (down up :
 abbrev pub WaitsAlone : Cfg → World → Role → ℕ → Name → Type 0
 WaitsAlone cfg w end channel name =
     (stretch (settings_from (other end) cfg) (station_at (other end) w) channel ≡ Some name)
-    × WaitsForUser channel name (station_at end w) (station_at (other end) w) (handed_in end (last_session end w) w) (handed_in (other end) (last_session (other end) w) w)
+    × WaitsForUser channel name (station_at end w) (station_at (other end) w) (handed_in end (last_session end w) w)
+    (handed_in (other end) (last_session (other end) w) w)
 
 -- .. each that is open
 abbrev pub AllWaitForUsers : Cfg → World → Type 0
-AllWaitForUsers cfg w = (end : Role) (channel : ℕ) (name : Name) → stretch (settings_from end cfg) (station_at end w) channel ≡ Some name → WaitsAlone cfg w end channel name
+AllWaitForUsers cfg w = (end : Role) (channel : ℕ) (name : Name)
+    → stretch (settings_from end cfg) (station_at end w) channel ≡ Some name → WaitsAlone cfg w end channel name
 
 -- Where both links are idle and a pull at an end changes nothing, each stretch that is open there is so.
 abbrev pub MessagesWaitForUsers : Cfg → World → Type 0
 MessagesWaitForUsers cfg w =
-    (end : Role) (channel : ℕ) (name : Name) → link.is_idle (station_at end w).link ≡ true → link.is_idle (station_at (other end) w).link ≡ true → happens cfg w (pull_at end) ≡ Happened w
+    (end : Role) (channel : ℕ) (name : Name) → link.is_idle (station_at end w).link ≡ true
+    → link.is_idle (station_at (other end) w).link ≡ true → happens cfg w (pull_at end) ≡ Happened w
     → stretch (settings_from end cfg) (station_at end w) channel ≡ Some name → WaitsAlone cfg w end channel name
 
 -- a pull of any channel of an end gives no packet, where no restart is under way there
 abbrev pub HasNoneToPull : Cfg → World → Role → Type 0
-HasNoneToPull cfg w end = (station_at end w).layer.restarting ≡ false → PullsNone (layer_settings (settings_from end cfg)) (station_at end w).layer
+HasNoneToPull cfg w end = (station_at end w).layer.restarting ≡ false
+    → PullsNone (layer_settings (settings_from end cfg)) (station_at end w).layer
 
 -- Behind a pull at an end, accepted or not, that is so where its link is idle.
 abbrev pub PullsLeaveNone : Type 0
-PullsLeaveNone = (cfg : Cfg) (w : World) (end : Role) → (let v = after w (happens cfg w (pull_at end)) in link.is_idle (station_at end v).link ≡ true → HasNoneToPull cfg v end)
+PullsLeaveNone = (cfg : Cfg) (w : World) (end : Role)
+    → (let v = after w (happens cfg w (pull_at end)) in link.is_idle (station_at end v).link ≡ true
+    → HasNoneToPull cfg v end)
 
 -- Where both links are idle and that is so of both ends, what waits in any stretch waits for a user.
 abbrev pub UnpulledWaitForUsers : Cfg → World → Type 0
 UnpulledWaitForUsers cfg w =
-    link.is_idle (station_at Dte w).link ≡ true → link.is_idle (station_at Dce w).link ≡ true → HasNoneToPull cfg w Dte → HasNoneToPull cfg w Dce → AllWaitForUsers cfg w
+    link.is_idle (station_at Dte w).link ≡ true → link.is_idle (station_at Dce w).link ≡ true → HasNoneToPull cfg w Dte
+    → HasNoneToPull cfg w Dce → AllWaitForUsers cfg w
 
 -- a circuit that isn't open keeps no message
 abbrev pub ClosedKeepNone : Cfg → World → Type 0
-ClosedKeepNone cfg w = (end : Role) (channel : ℕ) → is_open ((station_at end w).layer.circuits channel) ≡ false → waits ((station_at end w).layer.circuits channel) ≡ 0
+ClosedKeepNone cfg w = (end : Role) (channel : ℕ) → is_open ((station_at end w).layer.circuits channel) ≡ false
+    → waits ((station_at end w).layer.circuits channel) ≡ 0

@@ -11,13 +11,15 @@ use Rattle.x25_line.specs.laws.WholeNumbers.{machine_run, machine_at_start}
 use Rattle.x25_layer.specs.Layer.{restart_cause}
 use Rattle.x25_station.specs.declared.config.Cfg.{Cfg}
 use Rattle.x25_station.specs.Command.{Requests, Connects, Disconnects}
-use Rattle.x25_world.specs.World.{World, Act, Commands, Receives, Fires, Loses, Damages, Event, happens, after, run, established}
+use Rattle.x25_world.specs.World.{World, Act, Commands, Receives, Fires, Loses, Damages, Event, happens, after, run}
+use Rattle.x25_world.specs.World.{established}
 use Rattle.x25_world.specs.laws.Claims.{link_of}
 
 -- ---- what an event does to the two links
 
--- What the links may be asked for in an act of their end: what comes is taken off the line, and packets are put as the layer answers; where a
--- count of the layer is full, the link is abandoned, and what comes is lost. A request may put packets. All else is asked for as it is.
+-- What the links may be asked for in an act of their end: what comes is taken off the line, and packets are put as the
+-- layer answers; where a count of the layer is full, the link is abandoned, and what comes is lost. A request may put
+-- packets. All else is asked for as it is.
 abbrev pub Asks : Act → line.Act → Type 0
 Asks Receives line.Deliver = Unit {0}
 Asks Receives (line.Put octets) = Unit {0}
@@ -54,13 +56,14 @@ pub record IsBehindWorld (cfg : Cfg) (w : World) (links : line.Stations) (machin
   pub back : links.back ≡ w.back
   pub behind : IsBehind (link_of cfg Dte) (link_of cfg Dce) links machine
 
--- Two links and their machine are behind a world. At each event they go on as the end asks, so that a frame keeps the whole numbers that it was
--- given as it was put, and they are behind the world after it, to the last, which is `here`.
+-- Two links and their machine are behind a world. At each event they go on as the end asks, so that a frame keeps the
+-- whole numbers that it was given as it was put, and they are behind the world after it, to the last, which is `here`.
 abbrev pub GoesAlong : Cfg → World → List Event → World → line.Stations → Line (List ℕ) → Type 0
 GoesAlong cfg here [] w links machine = IsBehindWorld cfg here links machine
 GoesAlong cfg here (e ∷ events) w links machine =
     IsBehindWorld cfg w links machine × (asked : List line.Act) × AsksAll e.act asked
-    × GoesAlong cfg here events (after w (happens cfg w e)) (line.run (link_of cfg Dte) (link_of cfg Dce) (all_at e.at asked) links)
+    × GoesAlong cfg here events (after w (happens cfg w e))
+    (line.run (link_of cfg Dte) (link_of cfg Dce) (all_at e.at asked) links)
     (machine_run (link_of cfg Dte) (link_of cfg Dce) (all_at e.at asked) links machine)
 
 -- as the link comes up, each end is handed down RESTART, which is its I frame 0
@@ -74,9 +77,11 @@ abbrev pub two_links : Cfg → line.Stations
 two_links cfg = line.run (link_of cfg Dte) (link_of cfg Dce) both_put line.start
 
 abbrev pub first_machine : Cfg → Line (List ℕ)
-first_machine cfg = machine_run (link_of cfg Dte) (link_of cfg Dce) both_put line.start (machine_at_start (link_of cfg Dte) (link_of cfg Dce))
+first_machine cfg = machine_run (link_of cfg Dte) (link_of cfg Dce) both_put line.start
+    (machine_at_start (link_of cfg Dte) (link_of cfg Dce))
 
--- Along these events from a link just set up, to here: the unbounded numbers behind the N(S)s and N(R)s on the line, and the window.
+-- Along these events from a link just set up, to here: the unbounded numbers behind the N(S)s and N(R)s on the line,
+-- and the window.
 abbrev pub StaysInWindow : Cfg → List Event → World → Type 0
 StaysInWindow cfg events here = GoesAlong cfg here events (established cfg) (two_links cfg) (first_machine cfg)
 

@@ -16,7 +16,8 @@ use Rattle.x25_station.specs.Entry.{restart_asked, connect_asked, disconnect_ask
 use Rattle.x25_station.specs.Config.{settings_from}
 use Rattle.x25_station.specs.Station.Told.{is_idle, stretch}
 use Rattle.x25_world.specs.declared.error.WorldError.TheVariants as error
-use Rattle.x25_world.specs.World.{AtEnd, World, Act, Commands, Receives, Fires, Loses, Damages, Event, happens, refusal_of, run, start, established}
+use Rattle.x25_world.specs.World.{AtEnd, World, Act, Commands, Receives, Fires, Loses, Damages, Event, happens}
+use Rattle.x25_world.specs.World.{refusal_of, run, start, established}
 use Rattle.x25_world.specs.laws.Claims.{handed_at}
 use Rattle.x25_world.specs.Healing.{IsDrained, firing, AreReceiptsAndRequests, FreeThroughout, BothMayHeal}
 use Rattle.x25_world.specs.laws.Sessions.{session_at, meets}
@@ -39,13 +40,18 @@ delivers (suc n) = event Dce Receives ∷ event Dte Receives ∷ delivers n
 
 abbrev pub SetsUp : Type 0
 SetsUp =
-    (established two_channels).tap ≡ record { from = Dte; octets = 1 ∷ 63 ∷ 235 ∷ 223 ∷ [] } ∷ record { from = Dce; octets = 1 ∷ 115 ∷ 131 ∷ 87 ∷ [] }
-    ∷ record { from = Dce; octets = 3 ∷ 0 ∷ 16 ∷ 0 ∷ 251 ∷ 7 ∷ 0 ∷ 196 ∷ 120 ∷ [] } ∷ record { from = Dte; octets = 1 ∷ 0 ∷ 16 ∷ 0 ∷ 251 ∷ 0 ∷ 0 ∷ 119 ∷ 2 ∷ [] } ∷ []
+    (established two_channels).tap
+    ≡ record { from = Dte; octets = 1 ∷ 63 ∷ 235 ∷ 223 ∷ [] }
+    ∷ record { from = Dce; octets = 1 ∷ 115 ∷ 131 ∷ 87 ∷ [] }
+    ∷ record { from = Dce; octets = 3 ∷ 0 ∷ 16 ∷ 0 ∷ 251 ∷ 7 ∷ 0 ∷ 196 ∷ 120 ∷ [] }
+    ∷ record { from = Dte; octets = 1 ∷ 0 ∷ 16 ∷ 0 ∷ 251 ∷ 0 ∷ 0 ∷ 119 ∷ 2 ∷ [] } ∷ []
 
 -- ---- a call of the DTE, on the highest channel, and a message
 
 abbrev pub called : World
-called = run two_channels (delivers 3 ++ asks Dte (Dials (codes "123") (codes "4567") (65 ∷ []) default_params) ∷ delivers 2 ++ asks Dce (Asks 2 (Accepts None)) ∷ delivers 2) (established two_channels)
+called = run two_channels (delivers 3
+    ++ asks Dte (Dials (codes "123") (codes "4567") (65 ∷ []) default_params) ∷ delivers 2
+    ++ asks Dce (Asks 2 (Accepts None)) ∷ delivers 2) (established two_channels)
 
 abbrev pub sends_hi : Event
 sends_hi = asks Dte (Asks 2 (Sends false (codes "hi")))
@@ -57,8 +63,10 @@ first_stretch = record { restarts = 1; clears = 0; resets = 0 }
 -- the message was handed up at the DCE, once, and the DTE is idle in that stretch
 abbrev pub HasArrived : World → Type 0
 HasArrived w =
-    ((messages_in (under 2 first_stretch (handed_at Dce w))).up ≡ record { q = false; user = codes "hi" } ∷ []) × (is_idle (settings_from Dte two_channels) w.near ≡ true)
-    × (stretch (settings_from Dte two_channels) w.near 2 ≡ Some first_stretch) × (stretch (settings_from Dce two_channels) w.far 2 ≡ Some first_stretch)
+    ((messages_in (under 2 first_stretch (handed_at Dce w))).up ≡ record { q = false; user = codes "hi" } ∷ [])
+    × (is_idle (settings_from Dte two_channels) w.near ≡ true)
+    × (stretch (settings_from Dte two_channels) w.near 2 ≡ Some first_stretch)
+    × (stretch (settings_from Dce two_channels) w.far 2 ≡ Some first_stretch)
 
 abbrev pub MessageArrives : Type 0
 MessageArrives = HasArrived (run two_channels (sends_hi ∷ delivers 2) called)
@@ -68,10 +76,11 @@ abbrev pub LostArrives : Type 0
 LostArrives = HasArrived (run two_channels (sends_hi ∷ event Dce (Loses 0) ∷ event Dte Fires ∷ delivers 4) called)
 
 abbrev pub DamagedArrives : Type 0
-DamagedArrives = HasArrived (run two_channels (sends_hi ∷ event Dce (Damages 0 (1 ∷ 2 ∷ 3 ∷ 4 ∷ [])) ∷ event Dte Fires ∷ delivers 4) called)
+DamagedArrives = HasArrived (run two_channels (sends_hi ∷ event Dce
+    (Damages 0 (1 ∷ 2 ∷ 3 ∷ 4 ∷ [])) ∷ event Dte Fires ∷ delivers 4) called)
 
--- Its frame is lost, and timer T1 runs out. One more is sent, which waits; then the poll comes, its answer, and both messages, behind each of which the
--- layer of the DCE puts a packet.
+-- Its frame is lost, and timer T1 runs out. One more is sent, which waits; then the poll comes, its answer, and both
+-- messages, behind each of which the layer of the DCE puts a packet.
 abbrev pub hi_lost : World
 hi_lost = run two_channels (sends_hi ∷ event Dce (Loses 0) ∷ []) called
 
@@ -82,15 +91,20 @@ sends_more = asks Dte (Asks 2 (Sends false (codes "ho"))) ∷ delivers 4 ++ even
 abbrev pub MoreArrives : Type 0
 MoreArrives =
     BothMayHeal two_channels hi_lost × AreReceiptsAndRequests sends_more
-    × (let fired = run two_channels (firing Dte ∷ firing Dce ∷ []) hi_lost in FreeThroughout two_channels sends_more fired
-    × (let u = run two_channels sends_more fired in IsDrained u × ((messages_in (under 2 first_stretch (handed_at Dce u))).up ≡ record { q = false; user = codes "hi" } ∷ record { q = false; user = codes "ho" } ∷ [])))
+    × (let fired = run two_channels
+    (firing Dte ∷ firing Dce ∷ []) hi_lost in FreeThroughout two_channels sends_more fired
+    × (let u = run two_channels sends_more fired in IsDrained u
+    × ((messages_in (under 2 first_stretch (handed_at Dce u))).up
+    ≡ record { q = false; user = codes "hi" } ∷ record { q = false; user = codes "ho" } ∷ [])))
 
 -- ---- `disconnect`: the link goes down at both ends, at the DCE behind the RESTART that came before
 
 abbrev pub DisconnectEndsBoth : Type 0
 DisconnectEndsBoth =
-    (run two_channels (event Dte (Commands Disconnects) ∷ delivers 2) (established two_channels)).transcript ≡ record { at = Dce; entry = link_up } ∷ record { at = Dte; entry = link_up }
-    ∷ record { at = Dte; entry = disconnect_asked } ∷ record { at = Dte; entry = link_down Local } ∷ record { at = Dce; entry = was_restarted 0 0 }
+    (run two_channels (event Dte (Commands Disconnects) ∷ delivers 2) (established two_channels)).transcript
+    ≡ record { at = Dce; entry = link_up } ∷ record { at = Dte; entry = link_up }
+    ∷ record { at = Dte; entry = disconnect_asked } ∷ record { at = Dte; entry = link_down Local }
+    ∷ record { at = Dce; entry = was_restarted 0 0 }
     ∷ record { at = Dce; entry = link_down Disc } ∷ []
 
 -- ---- `connect`, from two links that are down
@@ -101,26 +115,32 @@ connects at = event at (Commands Connects)
 -- what both ends tell of a set-up
 abbrev pub told_of_set_up : List AtEnd
 told_of_set_up =
-    record { at = Dce; entry = link_up } ∷ record { at = Dte; entry = link_up } ∷ record { at = Dce; entry = was_restarted 0 0 } ∷ record { at = Dte; entry = was_restarted 7 0 } ∷ []
+    record { at = Dce; entry = link_up } ∷ record { at = Dte; entry = link_up }
+    ∷ record { at = Dce; entry = was_restarted 0 0 } ∷ record { at = Dte; entry = was_restarted 7 0 } ∷ []
 
 -- one end asks, or both do
 abbrev pub ConnectSetsUp : Type 0
 ConnectSetsUp =
-    ((run two_channels (connects Dte ∷ delivers 2) start).transcript ≡ record { at = Dte; entry = connect_asked } ∷ told_of_set_up)
-    × ((run two_channels (connects Dte ∷ connects Dce ∷ delivers 3) start).transcript ≡ record { at = Dte; entry = connect_asked } ∷ record { at = Dce; entry = connect_asked } ∷ told_of_set_up)
+    ((run two_channels (connects Dte ∷ delivers 2) start).transcript
+    ≡ record { at = Dte; entry = connect_asked } ∷ told_of_set_up)
+    × ((run two_channels (connects Dte ∷ connects Dce ∷ delivers 3) start).transcript
+    ≡ record { at = Dte; entry = connect_asked } ∷ record { at = Dce; entry = connect_asked } ∷ told_of_set_up)
 
 -- UA is lost; timer T1 runs out, SABM goes again, and the DCE, which was up, is set up anew
 abbrev pub told_of_two_set_ups : List AtEnd
-told_of_two_set_ups = record { at = Dte; entry = connect_asked } ∷ record { at = Dce; entry = link_up } ∷ record { at = Dce; entry = link_down Reset } ∷ told_of_set_up
+told_of_two_set_ups = record { at = Dte; entry = connect_asked } ∷ record { at = Dce; entry = link_up }
+    ∷ record { at = Dce; entry = link_down Reset } ∷ told_of_set_up
 
 abbrev pub ConnectGoesAgain : Type 0
 ConnectGoesAgain =
-    (run two_channels (connects Dte ∷ event Dce Receives ∷ event Dte (Loses 0) ∷ event Dte Fires ∷ delivers 4) start).transcript ≡ told_of_two_set_ups
+    (run two_channels (connects Dte ∷ event Dce Receives ∷ event Dte
+    (Loses 0) ∷ event Dte Fires ∷ delivers 4) start).transcript ≡ told_of_two_set_ups
 
 -- .. so its first session meets none, and its second is the one that meets the first of the DTE
 abbrev pub SecondMeetsFirst : Type 0
 SecondMeetsFirst =
-    (meets Dte 1 told_of_two_set_ups ≡ Some 2) × (meets Dce 1 told_of_two_set_ups ≡ None) × (meets Dce 2 told_of_two_set_ups ≡ Some 1) × (session_at Dce 1 told_of_two_set_ups ≡ link_up ∷ [])
+    (meets Dte 1 told_of_two_set_ups ≡ Some 2) × (meets Dce 1 told_of_two_set_ups ≡ None)
+    × (meets Dce 2 told_of_two_set_ups ≡ Some 1) × (session_at Dce 1 told_of_two_set_ups ≡ link_up ∷ [])
     × (session_at Dce 2 told_of_two_set_ups ≡ link_up ∷ was_restarted 0 0 ∷ [])
 
 -- where an end sends once more and then leaves
@@ -133,27 +153,39 @@ loses_one = event Dce (Loses 0)
 -- after a set-up the DTE asks for a restart, which is lost twice, so that it leaves; and asks for set-up
 abbrev pub told_twice : List AtEnd
 told_twice =
-    told_of_set_up ++ record { at = Dte; entry = restart_asked } ∷ record { at = Dte; entry = link_down Retries } ∷ record { at = Dte; entry = connect_asked }
+    told_of_set_up ++ record { at = Dte; entry = restart_asked } ∷ record { at = Dte; entry = link_down Retries }
+    ∷ record { at = Dte; entry = connect_asked }
     ∷ record { at = Dce; entry = link_down Reset } ∷ told_of_set_up
 
 -- the first sessions meet each other, and so do the second
 abbrev pub SecondMeet : Type 0
 SecondMeet =
-    ((run one_try (delivers 2 ++ asks Dte Restarts ∷ loses_one ∷ event Dte Fires ∷ loses_one ∷ event Dte Fires ∷ connects Dte ∷ delivers 2) (established one_try)).transcript ≡ told_twice)
-    × (meets Dte 1 told_twice ≡ Some 1) × (meets Dce 1 told_twice ≡ Some 1) × (meets Dte 2 told_twice ≡ Some 2) × (meets Dce 2 told_twice ≡ Some 2)
+    ((run one_try (delivers 2
+    ++ asks Dte Restarts ∷ loses_one ∷ event Dte Fires ∷ loses_one ∷ event Dte Fires ∷ connects Dte ∷ delivers 2)
+    (established one_try)).transcript ≡ told_twice)
+    × (meets Dte 1 told_twice ≡ Some 1) × (meets Dce 1 told_twice ≡ Some 1) × (meets Dte 2 told_twice ≡ Some 2)
+    × (meets Dce 2 told_twice ≡ Some 2)
 
 -- while its SABM is on the line, or a UA to it, timer T1 of an end doesn't run out; once SABM is damaged it does
 abbrev pub TimerWaits : Type 0
 TimerWaits =
-    (refusal_of (happens two_channels (run two_channels (connects Dte ∷ []) start) (event Dte Fires)) ≡ Some error.OnLine)
-    × (refusal_of (happens two_channels (run two_channels (connects Dte ∷ event Dce Receives ∷ []) start) (event Dte Fires)) ≡ Some error.OnLine)
-    × (refusal_of (happens two_channels (run two_channels (connects Dte ∷ event Dce (Damages 0 []) ∷ []) start) (event Dte Fires)) ≡ None)
+    (refusal_of (happens two_channels (run two_channels (connects Dte ∷ []) start) (event Dte Fires))
+    ≡ Some error.OnLine)
+    × (refusal_of (happens two_channels (run two_channels (connects Dte ∷ event Dce Receives ∷ []) start)
+    (event Dte Fires)) ≡ Some error.OnLine)
+    × (refusal_of (happens two_channels (run two_channels (connects Dte ∷ event Dce (Damages 0 []) ∷ []) start)
+    (event Dte Fires)) ≡ None)
 
--- ---- refusals: an empty line, no such frame, damage that can't be seen, and those of the station, as a `connect` of a link that is up
+-- ---- refusals: an empty line, no such frame, damage that can't be seen, and those of the station, as a `connect` of a
+-- link that is up
 
 abbrev pub IsRefused : Type 0
 IsRefused =
-    (refusal_of (happens two_channels called (event Dce Receives)) ≡ Some error.Empty) × (refusal_of (happens two_channels called (event Dce (Loses 0))) ≡ Some error.NoSuchFrame)
-    × (refusal_of (happens two_channels (established two_channels) (event Dce (Damages 0 (1 ∷ 63 ∷ 235 ∷ 223 ∷ [])))) ≡ Some error.Unseen)
-    × (refusal_of (happens two_channels called (event Dte Fires)) ≡ Some (error.Station (station_error.Link link_error.NotRunning)))
-    × (refusal_of (happens two_channels called (connects Dte)) ≡ Some (error.Station (station_error.Link link_error.AlreadyUp)))
+    (refusal_of (happens two_channels called (event Dce Receives)) ≡ Some error.Empty)
+    × (refusal_of (happens two_channels called (event Dce (Loses 0))) ≡ Some error.NoSuchFrame)
+    × (refusal_of (happens two_channels (established two_channels) (event Dce (Damages 0 (1 ∷ 63 ∷ 235 ∷ 223 ∷ []))))
+    ≡ Some error.Unseen)
+    × (refusal_of (happens two_channels called (event Dte Fires))
+    ≡ Some (error.Station (station_error.Link link_error.NotRunning)))
+    × (refusal_of (happens two_channels called (connects Dte))
+    ≡ Some (error.Station (station_error.Link link_error.AlreadyUp)))

@@ -1,0 +1,74 @@
+-- The layer's half of a station beside a peer: moves of the layer, one after another.
+use Rattle.std.proofs.Common.{◌≡◌, ℕ, List, [], ◌∷◌, Bool, true, false, if◌then◌else◌, refl, subst}
+use Rattle.x25_bits.specs.declared.role.Role.{Role}
+use Rattle.x25_packet.specs.Packet.{PlainPacket}
+use Rattle.x25_handshakes.specs.laws.Handshake.{At}
+use Rattle.x25_handshakes.specs.laws.PeerLayer.{PeerChannels}
+use Rattle.x25_layer.specs.Layer.{LayerSettings, Layer, LayerNotice, is_channel}
+use Rattle.x25_layer.specs.Calls.{LayerRequest, LayerOutcome, Accepted, Declined, layer_outcome, layer_pulled}
+use Rattle.x25_layer.specs.laws.Transcript.{Entry}
+use Rattle.x25_layer.specs.laws.TwoLayers.{End, TwoLayers, Move, Requests, Pulls, HandsUp, GoesDown, requested, pulled_in, handed_up, moves_in, moves, settings_of}
+use Rattle.x25_layer.specs.laws.RoundLaw.{moves_all, pulls_of}
+use Rattle.x25_layer.specs.laws.PeerJoined.{Joined, our_end, with_peer, StaysUp, Ours}
+use Rattle.x25_station.specs.laws.ReadLaw.{MovesOctets, IsReachedByOctets, goes_on}
+
+-- what stands at the far end decides nothing of a move
+abbrev with_far : End → TwoLayers → TwoLayers
+with_far f w = record w { far = f }
+
+requested_far : (c : LayerSettings) (f : End) (w : TwoLayers) (request : LayerRequest) (o : LayerOutcome) → requested c (with_far f w) request o ≡ with_far f (requested c w request o)
+requested_far c f w request (Accepted next packet) = refl
+requested_far c f w request (Declined e) = refl
+
+handed_far : (c : LayerSettings) (f : End) (w : TwoLayers) (back : List PlainPacket) → handed_up c (with_far f w) back ≡ with_far f (handed_up c w back)
+handed_far c f w [] = refl
+handed_far c f w (p ∷ back) = refl
+
+pulled_far : (c : LayerSettings) (f : End) (w : TwoLayers) (h : ℕ) (b : Bool) → (if b then pulled_in (with_far f w) (layer_pulled c w.near.layer h) else with_far f w) ≡ with_far f (if b then pulled_in w (layer_pulled c w.near.layer h) else w)
+pulled_far c f w h true = refl
+pulled_far c f w h false = refl
+
+moves_far : (c : LayerSettings) (f : End) (w : TwoLayers) (b : Bool) (m : Move) → moves_in c (with_far f w) b m ≡ with_far f (moves_in c w b m)
+moves_far c f w true m = refl
+moves_far c f w false (Requests full request) = requested_far c f w request (layer_outcome c full w.near.layer request)
+moves_far c f w false (Pulls h) = pulled_far c f w h (is_channel c.channels h)
+moves_far c f w false HandsUp = handed_far c f w w.back
+moves_far c f w false GoesDown = refl
+
+abbrev pub AllStay : List Move → Type 0
+AllStay [] = Unit {0}
+AllStay (m ∷ ms) = StaysUp m × MovesOctets m × AllStay ms
+
+pub pulls_stay : (pulled : List ℕ) → AllStay (pulls_of pulled)
+pulls_stay [] = tt
+pulls_stay (h ∷ pulled) = (tt, tt, pulls_stay pulled)
+
+pub moves_reached : (r : Role) (long_data : Bool) (n : ℕ) (y : At PeerChannels) (v : TwoLayers) (ms : List Move) → AllStay ms → IsReachedByOctets r long_data n (with_peer y v)
+    → IsReachedByOctets r long_data n (with_peer y (moves_all (settings_of r long_data n) v ms))
+moves_reached r long_data n y v [] stay h = h
+moves_reached r long_data n y v (m ∷ ms) stay h =
+    let c : LayerSettings = settings_of r long_data n in
+    let w : Joined = with_peer y v in
+    let one : IsReachedByOctets r long_data n (with_peer y (moves c (our_end w) m)) = goes_on w (with_peer y (moves c (our_end w) m)) h (Ours m stay.0) stay.1 in
+    moves_reached r long_data n y (moves c v m) ms stay.2
+    (subst (λ (x : TwoLayers). IsReachedByOctets r long_data n (with_peer y x)) (moves_far c v.near v v.near.is_out m) one)
+
+pub record LayerReached (r : Role) (long_data : Bool) (n : ℕ) (l : Layer) (given : List PlainPacket) (entries : List Entry) (told : List LayerNotice) (y : At PeerChannels) (out back : List PlainPacket) : Type 0 where
+  pub taken : List PlainPacket
+  pub reached : IsReachedByOctets r long_data n (record { near = record { layer = l; is_out = false; given = given; taken = taken; told = told; entries = entries }; peer = y; out = out; back = back })
+
+-- by other names
+pub as_reached : (r : Role) (long_data : Bool) (n : ℕ) (y : At PeerChannels) (e : End) (u b : List PlainPacket) (l : Layer) (given : List PlainPacket) (entries : List Entry) (told : List LayerNotice) (u₂ b₂ : List PlainPacket)
+    → e.layer ≡ l → e.is_out ≡ false → e.given ≡ given → e.entries ≡ entries → e.told ≡ told → u ≡ u₂ → b ≡ b₂ → IsReachedByOctets r long_data n (record { near = e; peer = y; out = u; back = b })
+    → LayerReached r long_data n l given entries told y u₂ b₂
+as_reached r long_data n y e u b l given entries told u₂ b₂ is_l is_out is_given is_entries is_told is_u is_b h = record {
+  taken = e.taken;
+  reached =
+      subst (λ (x : Layer). IsReachedByOctets r long_data n (record { near = record { layer = x; is_out = false; given = given; taken = e.taken; told = told; entries = entries }; peer = y; out = u₂; back = b₂ })) is_l
+      (subst (λ (x : Bool). IsReachedByOctets r long_data n (record { near = record { layer = e.layer; is_out = x; given = given; taken = e.taken; told = told; entries = entries }; peer = y; out = u₂; back = b₂ })) is_out
+      (subst (λ (x : List PlainPacket). IsReachedByOctets r long_data n (record { near = record { layer = e.layer; is_out = e.is_out; given = x; taken = e.taken; told = told; entries = entries }; peer = y; out = u₂; back = b₂ })) is_given
+      (subst (λ (x : List Entry). IsReachedByOctets r long_data n (record { near = record { layer = e.layer; is_out = e.is_out; given = e.given; taken = e.taken; told = told; entries = x }; peer = y; out = u₂; back = b₂ })) is_entries
+      (subst (λ (x : List LayerNotice). IsReachedByOctets r long_data n (record { near = record { layer = e.layer; is_out = e.is_out; given = e.given; taken = e.taken; told = x; entries = e.entries }; peer = y; out = u₂; back = b₂ })) is_told
+      (subst (λ (x : List PlainPacket). IsReachedByOctets r long_data n (record { near = e; peer = y; out = x; back = b₂ })) is_u
+      (subst (λ (x : List PlainPacket). IsReachedByOctets r long_data n (record { near = e; peer = y; out = u; back = x })) is_b h))))));
+}

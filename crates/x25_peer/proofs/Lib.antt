@@ -1,0 +1,3 @@
+pub mod LinkPart
+pub mod LayerPart
+pub mod BesideRuns
