@@ -34,6 +34,14 @@ typedef struct {
     bool is_open;
 } x25_station;
 
+/* The name of a stretch of a channel, as an entry has it behind "at": the restarts done since link set-up, the clears done since
+   the last of these, and the resets done since the last of all these. */
+typedef struct {
+    uint64_t restarts;
+    uint64_t clears;
+    uint64_t resets;
+} x25_stretch_name;
+
 enum {
     X25_DTE = 0,
     X25_DCE = 1
@@ -102,6 +110,12 @@ uint32_t x25_timer(x25_station *station);
 bool x25_waits(x25_station *station);
 /* Whether the link is up, and all that was asked was sent and acknowledged. */
 bool x25_idle(x25_station *station);
+/* Whether a stretch is open on a channel: a call is up there, and no reset is under way. Then its name is written, which else is
+   as it was. */
+bool x25_stretch(x25_station *station, uint16_t channel, x25_stretch_name *name);
+/* What the number of a refusal says, copied as x25_frame copies, into memory of the program: at most 64 octets, without a zero
+   behind them; none where no call answers that number. */
+size_t x25_refusal_text(uint32_t number, uint8_t *room, size_t size);
 
 #ifdef __cplusplus
 }

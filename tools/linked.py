@@ -62,5 +62,5 @@ class Station:
             return self._station.command(event[len(self._end) + 1 :])
         frame = x25lines.frame_line(event.encode("latin-1"))
         if not frame or frame.direction == ENDS[self._end][1]:
-            raise x25.Refused(60)
+            raise x25.Refused(60, "no command")
         return self._station.receive(frame.octets)

@@ -11,8 +11,8 @@
 >>> talk(dte.command("call 123 4567 41"), dte, dce)
 >>> talk(dce.command("accept 1"), dce, dte)
 >>> talk(dte.send(1, b"hello"), dte, dce)
->>> dte.is_idle, dte.timer
-(True, <Timer.OFF: 0>)
+>>> dte.is_idle, dte.timer, dte.stretch(1)
+(True, <Timer.OFF: 0>, (1, 0, 0))
 >>> dce.receive(bytes(4)).entries  # octets that are no frame
 []
 >>> dte.connect()
@@ -41,35 +41,12 @@ class Timer(enum.IntEnum):
     GOES_ON = 2
 
 
-REASONS = {
-    9: "the link isn't up",
-    10: "256 packets wait",
-    11: "timer T1 isn't running",
-    12: "the link is being set up",
-    13: "the link was ended",
-    14: "a setting is out of its range",
-    15: "the link is up",
-    16: "no station is held",
-    17: "a station is held",
-    30: "not in this state of the channel",
-    31: "8 messages wait",
-    32: "a message of more than 65,535 octets",
-    33: "an interrupt isn't confirmed yet",
-    34: "a parameter is out of range",
-    40: "a restart is under way",
-    41: "no channel is free",
-    42: "no such channel",
-    60: "no command",
-    70: "no memory",
-}
-
-
 class Refused(Exception):
-    """A call was refused, and the station is as before; `number` says why."""
+    """A call was refused, and the station is as before; `number` and `text` say why."""
 
-    def __init__(self, number: int) -> None:
-        super().__init__(f"{number}: {REASONS.get(number, 'refused')}")
-        self.number = number
+    def __init__(self, number: int, text: str) -> None:
+        super().__init__(f"{number}: {text}")
+        self.number, self.text = number, text
 
 
 class Entry(NamedTuple):
@@ -122,22 +99,29 @@ class _Slot(ctypes.Structure):
     _fields_ = [("at", ctypes.c_void_p), ("is_open", ctypes.c_bool)]
 
 
-# The functions of x25.h but for their first parameter, the station: parameters and result.
+class _StretchName(ctypes.Structure):
+    _fields_ = [("restarts", ctypes.c_uint64), ("clears", ctypes.c_uint64), ("resets", ctypes.c_uint64)]
+
+
+_STATION = ctypes.POINTER(_Slot)
+# The functions of x25.h: parameters and result.
 _FUNCTIONS = {
-    "new": ([ctypes.c_uint8] * 4 + [ctypes.c_bool], ctypes.c_uint32),
-    "free": ([], None),
-    "connect": ([], ctypes.c_uint32),
-    "t1": ([], ctypes.c_uint32),
-    "receive": ([ctypes.c_char_p, ctypes.c_size_t], ctypes.c_uint32),
-    "send": ([ctypes.c_uint16, ctypes.c_bool, ctypes.c_char_p, ctypes.c_size_t], ctypes.c_uint32),
-    "command": ([ctypes.c_char_p, ctypes.c_size_t], ctypes.c_uint32),
-    "frames": ([], ctypes.c_size_t),
-    "frame": ([ctypes.c_size_t, ctypes.c_void_p, ctypes.c_size_t], ctypes.c_size_t),
-    "entries": ([], ctypes.c_size_t),
-    "entry": ([ctypes.c_size_t, ctypes.c_void_p, ctypes.c_size_t, ctypes.POINTER(ctypes.c_size_t)], ctypes.c_uint32),
-    "timer": ([], ctypes.c_uint32),
-    "waits": ([], ctypes.c_bool),
-    "idle": ([], ctypes.c_bool),
+    "new": ([_STATION, *[ctypes.c_uint8] * 4, ctypes.c_bool], ctypes.c_uint32),
+    "free": ([_STATION], None),
+    "connect": ([_STATION], ctypes.c_uint32),
+    "t1": ([_STATION], ctypes.c_uint32),
+    "receive": ([_STATION, ctypes.c_char_p, ctypes.c_size_t], ctypes.c_uint32),
+    "send": ([_STATION, ctypes.c_uint16, ctypes.c_bool, ctypes.c_char_p, ctypes.c_size_t], ctypes.c_uint32),
+    "command": ([_STATION, ctypes.c_char_p, ctypes.c_size_t], ctypes.c_uint32),
+    "frames": ([_STATION], ctypes.c_size_t),
+    "frame": ([_STATION, ctypes.c_size_t, ctypes.c_void_p, ctypes.c_size_t], ctypes.c_size_t),
+    "entries": ([_STATION], ctypes.c_size_t),
+    "entry": ([_STATION, ctypes.c_size_t, ctypes.c_void_p, ctypes.c_size_t, ctypes.POINTER(ctypes.c_size_t)], ctypes.c_uint32),
+    "timer": ([_STATION], ctypes.c_uint32),
+    "waits": ([_STATION], ctypes.c_bool),
+    "idle": ([_STATION], ctypes.c_bool),
+    "stretch": ([_STATION, ctypes.c_uint16, ctypes.POINTER(_StretchName)], ctypes.c_bool),
+    "refusal_text": ([ctypes.c_uint32, ctypes.c_void_p, ctypes.c_size_t], ctypes.c_size_t),
 }
 
 _loaded: dict[str, ctypes.PyDLL] = {}
@@ -158,7 +142,7 @@ def load(path: str | None = None) -> ctypes.PyDLL:
         library = ctypes.PyDLL(path)
         for name, (parameters, result) in _FUNCTIONS.items():
             function = getattr(library, f"x25_{name}")
-            function.argtypes, function.restype = [ctypes.POINTER(_Slot), *parameters], result
+            function.argtypes, function.restype = parameters, result
         _loaded[path] = library
     return _loaded[path]
 
@@ -171,9 +155,7 @@ class Station:
     ) -> None:
         self._library, self._slot = load(library), _Slot()
         self._room = ctypes.create_string_buffer(1 << 18)
-        for setting in (end, k, n2, channels):
-            if not 0 <= setting < 256:
-                raise Refused(14)
+        self._check(0 if all(0 <= setting < 256 for setting in (end, k, n2, channels)) else 14)
         self._check(self._library.x25_new(self._slot, end, k, n2, channels, long_data))
 
     def __enter__(self) -> Station:
@@ -210,8 +192,7 @@ class Station:
 
     def send(self, channel: int, user: bytes, q: bool = False) -> Answer:
         """Sends a message on a channel."""
-        if not 0 <= channel < 65536:
-            raise Refused(42)
+        self._check(0 if 0 <= channel < 65536 else 42)
         return self._answer(self._library.x25_send(self._slot, channel, q, user, len(user)))
 
     def command(self, text: str) -> Answer:
@@ -234,10 +215,17 @@ class Station:
         """Whether the link is up, and all that was asked was sent and acknowledged."""
         return self._library.x25_idle(self._slot)
 
-    @staticmethod
-    def _check(number: int) -> None:
+    def stretch(self, channel: int) -> tuple[int, int, int] | None:
+        """The stretch that is open on a channel, as `Entry.stretch` has it; None where none is."""
+        name = _StretchName()
+        if not (0 <= channel < 65536 and self._library.x25_stretch(self._slot, channel, name)):
+            return None
+        return name.restarts, name.clears, name.resets
+
+    def _check(self, number: int) -> None:
         if number:
-            raise Refused(number)
+            count = self._library.x25_refusal_text(number, self._room, len(self._room))
+            raise Refused(number, ctypes.string_at(self._room, count).decode())
 
     def _answer(self, number: int) -> Answer:
         self._check(number)

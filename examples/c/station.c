@@ -5,8 +5,8 @@
  *     ./station dte localhost 7000         commands on standard input, as `connect` or `call 123 4567 41`
  *
  * The line has a frame as a line of a trace: a mark, a blank, and its octets in hexadecimal. What happens is written as lines of
- * the transcript, and a command that is refused as `! ` and its number. It ends with the line, or once the commands have ended
- * and all was sent.
+ * the transcript, and a command that is refused as `! `, its number and what that says. It ends with the line, or once the
+ * commands have ended and all was sent.
  */
 #include "x25.h"
 #include <netdb.h>
@@ -17,7 +17,7 @@
 #include <time.h>
 #include <unistd.h>
 
-enum { MOST_OCTETS = 4103, MOST_LINE = 2 * MOST_OCTETS + 3, MOST_ENTRY = 1 << 18, T1 = 3000 };
+enum { MOST_OCTETS = 4103, MOST_LINE = 2 * MOST_OCTETS + 3, MOST_ENTRY = 1 << 18, MOST_REFUSAL = 64, T1 = 3000 };
 
 static x25_station station;
 static int line = -1;
@@ -101,11 +101,13 @@ static void hear(const char *text, size_t count)
 /* A line of standard input: a command. */
 static void ask(const char *text, size_t count)
 {
+    static uint8_t why[MOST_REFUSAL];
     uint32_t number = x25_command(&station, (const uint8_t *)text, count);
     if (number == 0) {
         hand_on();
     } else {
-        printf("! %u\n", (unsigned)number);
+        int length = (int)x25_refusal_text(number, why, sizeof why);
+        printf("! %u: %.*s\n", (unsigned)number, length, (const char *)why);
         fflush(stdout);
     }
 }

@@ -29,7 +29,7 @@ def main(end, host, port):
         try:
             answer = call(*words)
         except x25.Refused as refusal:
-            print(f"! {refusal.number}", flush=True)
+            print(f"! {refusal}", flush=True)
             return
         line.sendall(b"".join(mark + octets.hex().encode() + b"\n" for octets in answer.frames))
         for entry in answer.entries:

@@ -64,6 +64,7 @@ static void try_refusals(void)
     expect("timer of none", x25_timer(station), X25_TIMER_OFF);
     expect("none is idle", x25_idle(station), false);
     expect("none waits", x25_waits(station), false);
+    expect("stretch of none", x25_stretch(station, 1, &(x25_stretch_name){0}), false);
     expect("a bad end", x25_new(station, 2, 7, 10, 1, false), X25_BAD_SETTING);
     expect("a bad window", x25_new(station, X25_DTE, 8, 10, 1, false), X25_BAD_SETTING);
     expect("no channel", x25_new(station, X25_DTE, 7, 10, 0, false), X25_BAD_SETTING);
@@ -88,8 +89,32 @@ static void try_rooms(void)
     expect("a frame that isn't there", (uint32_t)x25_frame(&dte.station, 1, room, 8), 0);
 }
 
+static void try_texts(void)
+{
+    uint8_t room[8] = {9, 9, 9, 9, 9, 9, 9, 9};
+    expect("a text into little room", (uint32_t)x25_refusal_text(X25_NO_MEMORY, room, 8), 9);
+    expect("what is there then", room[0], 9);
+    expect("a text", (uint32_t)x25_refusal_text(X25_NO_MEMORY, (uint8_t *)dte.told, TEXT), 9);
+    expect("its octets", memcmp(dte.told, "no memory", 9) != 0, 0);
+    for (uint32_t number = 0; number < 100; number++)
+        if (x25_refusal_text(number, (uint8_t *)dte.told, TEXT) > 64)
+            fail("a long text", number);
+    expect("a number that is none", (uint32_t)x25_refusal_text(0, room, 8), 0);
+}
+
+/* The stretch of a channel, and what it was asked with where none is open. */
+static void try_stretch(uint16_t channel, bool is_open)
+{
+    x25_stretch_name name = {7, 8, 9};
+    expect("a stretch is open", x25_stretch(&dte.station, channel, &name), is_open);
+    expect("its restarts", (uint32_t)name.restarts, is_open ? 1 : 7);
+    expect("its clears", (uint32_t)name.clears, is_open ? 0 : 8);
+    expect("its resets", (uint32_t)name.resets, is_open ? 0 : 9);
+}
+
 int main(void)
 {
+    try_texts();
     try_refusals();
     expect("new", x25_new(&dce.station, X25_DCE, 7, 10, 1, false), 0);
     expect("connect", x25_connect(&dte.station), 0);
@@ -103,8 +128,11 @@ int main(void)
     expect("t1", x25_t1(&dte.station), 0);
     take(&dte);
     deliver_all();
+    try_stretch(1, false);
     ask(&dce, "accept 1");
     deliver_all();
+    try_stretch(1, true);
+    try_stretch(2, false);
     send_message(&dte, "hello");
     send_message(&dce, "hello yourself");
     deliver_all();

@@ -68,6 +68,7 @@ int main(int argc, char **argv)
         }
         x25_idle(&end->station);
         x25_waits(&end->station);
+        x25_stretch(&end->station, (uint16_t)draw(4), &(x25_stretch_name){0});
     }
     x25_free(&dte.station);
     x25_free(&dce.station);

@@ -12,6 +12,7 @@ from program import find_library
 
 LIBRARY = find_library("a")
 NUMBERS = {"u8": "uint8_t", "u16": "uint16_t", "u32": "uint32_t", "usize": "size_t", "bool": "bool"}
+COUNTS = ("restarts", "clears", "resets")
 EXPORT = re.compile(r'pub extern "C" fn (\w+)\(([^)]*)\)(?: -> (\w+))?')
 PROTOTYPE = re.compile(r"^(?:void|bool|\w+_t) x25_\w+\([^)]*\);", re.MULTILINE)
 
@@ -27,6 +28,8 @@ def parameter(text):
         return f"const uint8_t *{name}, size_t count"
     if kind == "&mut [u8]":
         return f"uint8_t *{name}, size_t size"
+    if kind == "&mut StretchName":
+        return f"x25_stretch_name *{name}"
     if kind.startswith("&mut "):
         return f"{NUMBERS[kind[5:]]} *{name}"
     return f"{NUMBERS[kind]} {name}"
@@ -54,18 +57,25 @@ class Header(unittest.TestCase):
         self.assertEqual(found, exported())
         self.assertIn("uint32_t x25_new(x25_station *station, uint8_t end, uint8_t k, uint8_t n2, uint8_t channels, bool long_data);", found)
 
-    def test_what_c_holds_is_a_pointer_and_a_flag(self):
+    def test_its_structures_are_those_of_the_crate(self):
         handle, slot = (support.read(f"crates/x25_c/src/{name}.rt").decode() for name in ("handle", "slot"))
         self.assertRegex(handle, r"pub struct Handle \{\n    at: \*mut u8,\n    alloc: Global,\n    pub ghost held:")
         self.assertRegex(slot, r"pub struct Slot \{\n    pub\(crate\) handle: Handle,\n    pub\(crate\) is_open: bool,\n    pub\(crate\) ghost")
         self.assertIn("typedef struct {\n    void *at;\n    bool is_open;\n} x25_station;", self.HEADER)
 
-    def test_its_numbers_are_those_of_the_formats(self):
+        name = support.read("crates/x25_c/src/stretch_name.rt").decode()
+        self.assertIn("#[repr(C)]\n#[derive(Clone, Copy)]\npub struct StretchName {\n" + "".join(f"    pub {count}: u64,\n" for count in COUNTS) + "}", name)
+        self.assertIn("typedef struct {\n" + "".join(f"    uint64_t {count};\n" for count in COUNTS) + "} x25_stretch_name;", self.HEADER)
+
+    def test_its_numbers_and_their_texts_are_those_of_the_formats(self):
         formats = support.read("docs/FORMATS.md").decode()
-        table = formats[formats.index("| 9 | the link isn't up |") :]
-        known = {int(number) for row in re.findall(r"^\| ([\d, ]+) \|", table, re.MULTILINE) for number in row.split(", ")}
+        rows = re.findall(r"^\| ([\d, ]+) \| (.+) \|$", formats[formats.index("| 9 | the link isn't up |") :], re.MULTILINE)
+        known = {int(number): why for row, whys in rows for number, why in zip(row.split(", "), whys.split("; "))}
+        texts = re.findall(r"^        (\d+) => b\"(.*)\",$", support.read("crates/x25_c/src/refusal_text.rt").decode(), re.MULTILINE)
+        for number, text in texts:
+            self.assertEqual(known.get(int(number), "no command"), text)
         numbers = {name: number for name, number in numbers_of(self.HEADER).items() if number > 2}
-        self.assertLessEqual(set(numbers.values()), known | {60})
+        self.assertEqual(sorted(numbers.values()), [int(number) for number, _ in texts])
         source = support.read("crates/x25_c/src/lib.rt").decode()
         for name, number in re.findall(r"^const (\w+): u32 = (\d+);", source, re.MULTILINE):
             self.assertEqual(numbers[name], int(number))

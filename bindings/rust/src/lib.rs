@@ -35,6 +35,8 @@ extern "C" {
     fn x25_timer(slot: *mut Slot) -> u32;
     fn x25_waits(slot: *mut Slot) -> bool;
     fn x25_idle(slot: *mut Slot) -> bool;
+    fn x25_stretch(slot: *mut Slot, channel: u16, name: *mut Stretch) -> bool;
+    fn x25_refusal_text(number: u32, room: *mut u8, size: usize) -> usize;
 }
 
 /// Which end a station is.
@@ -81,13 +83,32 @@ pub struct Answer {
     pub timer: Timer,
 }
 
+/// The name of a stretch of a channel: the restarts done since link set-up, the clears done since the last of these, and the
+/// resets done since the last of all these.
+#[repr(C)]
+#[derive(Clone, Copy, Debug, Default, PartialEq, Eq)]
+pub struct Stretch {
+    pub restarts: u64,
+    pub clears: u64,
+    pub resets: u64,
+}
+
 /// A call was refused, by a number of `x25.h`; the station is as before.
 #[derive(Clone, Copy, Debug, PartialEq, Eq)]
 pub struct Refused(pub u32);
 
+impl Refused {
+    /// What the number says.
+    pub fn text(self) -> String {
+        let mut room = [0; 64];
+        let count = unsafe { x25_refusal_text(self.0, room.as_mut_ptr(), room.len()) };
+        String::from_utf8_lossy(&room[..count]).into_owned()
+    }
+}
+
 impl fmt::Display for Refused {
     fn fmt(&self, out: &mut fmt::Formatter<'_>) -> fmt::Result {
-        write!(out, "the station refused the call: {}", self.0)
+        write!(out, "{}: {}", self.0, self.text())
     }
 }
 
@@ -190,6 +211,12 @@ impl Station {
         unsafe { x25_idle(&mut self.slot) }
     }
 
+    /// The stretch that is open on a channel, where one is.
+    pub fn stretch(&mut self, channel: u16) -> Option<Stretch> {
+        let mut name = Stretch::default();
+        unsafe { x25_stretch(&mut self.slot, channel, &mut name) }.then_some(name)
+    }
+
     fn answer(&mut self, number: u32) -> Result<Answer, Refused> {
         checked(number)?;
         let frames = (0..unsafe { x25_frames(&mut self.slot) })
@@ -269,6 +296,13 @@ mod tests {
         );
         assert!(dte.is_idle() && dce.is_idle() && !dte.waits());
         assert_eq!(dte.timer(), Timer::Off);
+        let stretch = Stretch {
+            restarts: 1,
+            clears: 0,
+            resets: 0,
+        };
+        assert_eq!(dce.stretch(1), Some(stretch));
+        assert_eq!(dce.stretch(2), None);
     }
 
     #[test]
@@ -282,6 +316,8 @@ mod tests {
         assert_eq!(dte.t1(), Err(Refused(11)));
         assert_eq!(dte.command("sing"), Err(Refused(60)));
         assert_eq!(dte.send(1, false, b""), Err(Refused(9)));
+        assert_eq!(Refused(9).to_string(), "9: the link isn't up");
+        assert_eq!(Refused(8).text(), "");
     }
 
     #[test]

@@ -3,5 +3,7 @@ pub mod Handle
 pub mod Happening
 pub mod Held
 pub mod Making
+pub mod RefusalText
 pub mod Slot
+pub mod StretchName
 pub mod code

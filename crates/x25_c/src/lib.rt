@@ -8,7 +8,9 @@ mod handle;
 mod happening;
 mod held;
 mod making;
+mod refusal_text;
 mod slot;
+mod stretch_name;
 mod unboxed;
 
 ghost use Rattle.std.specs.Prelude.{◌≡◌, ◌≢◌, false, None, IfSome, IfNone, length};
@@ -18,17 +20,21 @@ ghost use Rattle.x25_script.specs.Reading.{command_in};
 ghost use Rattle.x25_station.specs.Command.{Connects, Requests};
 ghost use Rattle.x25_station.specs.Config.{Settings};
 ghost use Rattle.x25_station.specs.Station.{Station as State};
-ghost use Rattle.x25_station.specs.Station.Told.{is_idle};
+ghost use Rattle.x25_station.specs.Station.Told.{is_idle, stretch};
 ghost use Rattle.x25_station.specs.laws.TimerLaw.{Asks, Comes, Fires};
 ghost use Rattle.x25_station.specs.code.FitsStation.{FitsStation};
 ghost use Rattle.x25_c.specs.Copying.{Copies};
 ghost use Rattle.x25_c.specs.Held.{AreSame, frames_of, in_place, lines_of};
+ghost use Rattle.x25_c.specs.RefusalText.{text_of};
 ghost use Rattle.x25_c.specs.Slot.{Answers, Commands, Makes, number_in, number_of_timer};
+ghost use Rattle.x25_c.specs.StretchName.{Names};
 
 use crate::copying::copy;
 use crate::happening::Happening;
 use crate::making::make;
+use crate::refusal_text::refusal_text;
 use crate::slot::Slot;
+use crate::stretch_name::{StretchName, tell_name};
 use std::alloc::Global;
 use x25_station::{Cfg, Cmd, StationError, Timer};
 
@@ -317,4 +323,34 @@ pub extern "C" fn x25_idle(alloc: Global, slot: &mut Slot) -> bool
     let is_idle = held.station.idle();
     slot.put(held);
     is_idle
+}
+
+/// Whether a stretch is open on a channel; then its name is written to `name`, which else is as before.
+#[unsafe(no_mangle)]
+pub extern "C" fn x25_stretch(
+    alloc: Global,
+    slot: &mut Slot,
+    channel: u16,
+    name: &mut StretchName,
+) -> bool
+    ensures kept { slot.new.handle.held ≡ slot.old.handle.held }
+    ensures named { (c : Settings) (s : State) → IfSome slot.old.handle.held
+        (λ h. FitsStation c h.station s → Names (stretch c s channel) result name.old name.new) }
+    ensures none { IfNone slot.old.handle.held (Names None result name.old name.new) }
+{
+    let Some(held) = slot.take(alloc) else {
+        return false;
+    };
+    let is_open = tell_name(held.station.stretch(channel), name);
+    slot.put(held);
+    is_open
+}
+
+/// Copies what the number of a refusal says, as `x25_frame` does; 0 where there is no such number.
+#[unsafe(no_mangle)]
+pub extern "C" fn x25_refusal_text(number: u32, room: &mut [u8]) -> usize
+    ensures copied { Copies (text_of number) room.old room.new }
+    ensures count { result ≡ length (text_of number) }
+{
+    copy(refusal_text(number), room)
 }

@@ -1,0 +1,31 @@
+//! What the number of a refusal says.
+ghost use Rattle.std.specs.Prelude.{◌≡◌};
+ghost use Rattle.x25_c.specs.RefusalText.{text_of};
+
+/// Why a call is refused that answers this number; nothing where none does.
+pub(crate) fn refusal_text(number: u32) -> &'static [u8]
+    ensures { result.now ≡ text_of number }
+{
+    match number {
+        9 => b"the link isn't up",
+        10 => b"256 packets wait",
+        11 => b"timer T1 isn't running",
+        12 => b"the link is being set up",
+        13 => b"the link was ended",
+        14 => b"a setting is out of its range",
+        15 => b"the link is up",
+        16 => b"no station is held",
+        17 => b"a station is held where one was to be made",
+        30 => b"not in this state of the channel",
+        31 => b"8 messages wait",
+        32 => b"a message of more than 65,535 octets",
+        33 => b"an interrupt isn't confirmed yet",
+        34 => b"a parameter is out of range",
+        40 => b"a restart is under way",
+        41 => b"no channel is free",
+        42 => b"no such channel",
+        60 => b"no command",
+        70 => b"no memory",
+        _ => b"",
+    }
+}
