@@ -7,7 +7,7 @@
     chart.py --svg examples/exchange.trace > exchange.svg
 
 Reads the lines of `x25 decode`, the lines of a trace, also with a time and a tab before them, and the lines of
-`x25 sim --tap`. Frames in hexadecimal digits are given to `x25 decode`. A run alone doesn't say which of its frames was lost:
+`x25 sim --tap`. Frames in hexadecimal digits are given to `x25 decode --wide`. A run alone doesn't say which of its frames was lost:
 with --script the run is made here from its script, by `x25 sim --tap`, and what the script loses or damages is marked.
 
 The program is the one that --x25 or the variable X25 names, or `x25` of the PATH, or else the one that was built or

@@ -14,8 +14,10 @@ FOLDER = os.path.dirname(os.path.realpath(__file__))
 PLACES = [os.path.normpath(os.path.join(FOLDER, place)) for place in ("../build/x25", "../../bin/x25")]
 MISSING = "frames in hexadecimal digits need the program x25: build it (make x25) or name it (--x25)"
 MISSING_STATION = "a station needs the program x25: build it (make x25) or name it (--x25)"
+# The kinds of frames, in the order of a statistic: those of LAPB modulo 8, and those that `decode --wide` names.
+FRAMES = ("I", "RR", "RNR", "REJ", "SABM", "DISC", "UA", "DM", "FRMR", "SREJ", "SABME", "SARM", "XID", "TEST", "UI", "fault")
 # A line of `decode`, with a time and a tab before it where there is one.
-TEXT_LINE = re.compile(rb"(?:([0-9.]{1,30})\t)?([<>] (?:I|RR|RNR|REJ|SABM|DISC|UA|DM|FRMR|fault) [ -~]*)")
+TEXT_LINE = re.compile(rb"(?:([0-9.]{1,30})\t)?([<>] (?:%b) [ -~]*)" % "|".join(FRAMES).encode())
 
 
 def find_program():
@@ -70,7 +72,7 @@ class Decoder:
     """Gives frames to a task of the program, which answers each by a line: those that are there at once together, so that what comes live is
     answered before the next is there."""
 
-    def __init__(self, program, words=(), task="decode"):
+    def __init__(self, program, words=("--wide",), task="decode"):
         self._program = program
         self._words = words
         self._task = task

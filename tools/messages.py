@@ -4,9 +4,11 @@ import re
 from typing import NamedTuple, Optional
 
 OTHER = {">": "<", "<": ">"}
-I_FRAME = re.compile(r"I cmd P=[01] S=([0-7]) R=([0-7]) \| (.*)")
+# What `decode --wide` puts behind the text of a frame or a packet in another form than a station writes.
+WIDE = " ~ wide"
+I_FRAME = re.compile(rf"I cmd P=[01] S=([0-7]) R=([0-7]) \| (.*?)(?:{WIDE})?")
 S_FRAME = re.compile(r"(?:RR|RNR|REJ) (?:cmd|rsp) [PF]=[01] R=([0-7])")
-DATA = re.compile(r"DATA ch=(\d+) S=[0-7] R=[0-7] M=([01]) Q=([01]) data=(\S+)")
+DATA = re.compile(r"DATA ch=(\d+) S=[0-7] R=[0-7] M=([01]) Q=([01])(?: D=1)? data=(\S+)")
 INTERRUPT = re.compile(r"INT ch=(\d+) data=(\S+)")
 # What an end sends of these ends what it had begun; where the other end asks for it, the answer does.
 ENDED = re.compile(r"((?:RESTART|CLEAR|RESET)(?:CONF)?|CALL|ACCEPT)\b(?: ch=(\d+))?")
@@ -104,7 +106,7 @@ class Messages:
                 yield from self._packet(direction, packet)
         elif found := S_FRAME.fullmatch(text):
             yield from self._acknowledged(direction, int(found[1]))
-        elif text.startswith(("SABM", "UA")):
+        elif text.startswith(("SABM ", "UA ")):
             self._ways = {way: Way(0) for way in OTHER}
             for way in OTHER:
                 yield from self._broken(way, None, "link set up")

@@ -1,5 +1,5 @@
 #!/usr/bin/env python3
-"""Shows a capture or a trace line by line, as it comes: time, direction, the text of `x25 decode`, and its numbers in words.
+"""Shows a capture or a trace line by line, as it comes: time, direction, the text of `x25 decode --wide`, and its numbers in words.
 
     x25dump.py FILE
     tcpdump -U -w - port 1998 | x25dump.py
@@ -20,6 +20,7 @@ aren't shown, their packets are.
               end it says how many frames and packets there were, and how many of them were judged; with --strict the status is 1 too where
               one wasn't
   --channel   shows the packets of a channel alone; 0 is that of RESTART. With --stats it counts them
+  --no-wide   reads as `x25 decode` does, which has `fault` for packets in another form than a station writes; --judge always reads so
 
 The program is the one that --x25 or the variable X25 names, or `x25` of the PATH, or else the one that was built or
 installed with this script. Colours are for a terminal alone, and not where the variable NO_COLOR is set.
@@ -41,7 +42,7 @@ import pcap2x25
 import x25lines
 import x25names
 from ahead import ahead
-from messages import I_FRAME, Messages, octets_of
+from messages import I_FRAME, WIDE, Messages, octets_of
 from x25lines import BadInput
 
 # What a capture of either format begins with; no line does.
@@ -49,20 +50,17 @@ CAPTURE = (b"\xa1", b"\xd4", b"\x4d", b"\x0a")
 RED, BLUE, GREEN, GREY, PLAIN = "\x1b[31m", "\x1b[34m", "\x1b[32m", "\x1b[90m", "\x1b[0m"
 COLOURS = {">": BLUE, "<": GREEN}
 CHANNEL = re.compile(r" ch=(\d+)")
-RESTARTS = re.compile(r"\| RESTART|^(?:dte|dce) restart")
+OF_NO_CHANNEL = re.compile(r"\| (?:RESTART|DIAG|REG)|^(?:dte|dce) restart")
 A_ROW = 16
 # What stands before the end and the rule that it breaks, and before what is noted.
 RULE, NOTE = " ! ", " ~ "
-# Without any of these a text is shown as it is: of refusals, rules and notes, and of what x25names has words for, `diag=` and `why=`.
-SIGNS = ("!", "?", "~", "g=", "y=")
-# The kinds of frames and packets in the order of a statistic.
-FRAMES = ("I", "RR", "RNR", "REJ", "SABM", "DISC", "UA", "DM", "FRMR", "fault")
-
+# Without any of these a text is shown as it is: of refusals, rules and notes, and of what x25names has words for, `diag=`, `why=` and `fac=`.
+SIGNS = ("!", "?", "~", "g=", "y=", "c=")
 
 def channel_of(text):
     """The channel of a frame's packet, or of an entry; None where it has none."""
     found = CHANNEL.search(text)
-    return int(found[1]) if found else 0 if RESTARTS.search(text) else None
+    return int(found[1]) if found else 0 if OF_NO_CHANNEL.search(text) else None
 
 
 def dumped(octets):
@@ -244,7 +242,7 @@ class Statistic:
             frame, _, packet = text[2:].partition(" | ")
             for kind in self._kinds(connection, direction, frame, packet):
                 counts = self._counts.setdefault((connection.number, kind), Counter())
-                counts[direction] += len(octets_of(packet.rpartition("data=")[2])) if kind == "octets of data" else 1
+                counts[direction] += len(octets_of(packet.removesuffix(WIDE).rpartition("data=")[2])) if kind == "octets of data" else 1
 
     def _kinds(self, connection, direction, frame, packet):
         """The rows in which a frame counts."""
@@ -252,7 +250,7 @@ class Statistic:
         kinds += [f"| {packet.split(' ')[0]}"] if packet else []
         found = I_FRAME.fullmatch(f"{frame} | {packet}")
         way = connection.number, direction
-        if frame.startswith(("SABM", "UA")):
+        if frame.startswith(("SABM ", "UA ")):
             self._due = {key: due for key, due in self._due.items() if key[0] != connection.number}
         if found:
             number = int(found[1])
@@ -275,7 +273,7 @@ class Statistic:
 
 def _place(kind):
     """Frames come first, then packets, then what was counted of them."""
-    return (0, FRAMES.index(kind), "") if kind in FRAMES else (1 if kind[0] == "|" else 2, 0, kind)
+    return (0, decoding.FRAMES.index(kind), "") if kind in decoding.FRAMES else (1 if kind[0] == "|" else 2, 0, kind)
 
 
 def painted(colour, text):
@@ -304,6 +302,7 @@ def words():
     which.add_argument("--judge", action="store_true", help="say which end broke which rule of the link or the packet layer")
     parser.add_argument("--k", type=int, choices=range(1, 8), default=7, help="the window that --judge goes by (7)")
     parser.add_argument("--long", action="store_true", help="a CALL may have 128 octets of user data, as with `decode --long`")
+    parser.add_argument("--no-wide", dest="wide", action="store_false", help="read as `decode` does without `--wide`")
     pcap2x25.add_capture_words(parser)
     parser.add_argument("--strict", action="store_true", help="with --judge: status 1 too where a frame or a packet wasn't judged")
     decoding.add_program(parser)
@@ -312,8 +311,8 @@ def words():
 
 def asked(options):
     """What is asked for the text of a frame."""
-    long = ["--long"] if options.long else []
-    return decoding.Judge(options.x25, options.k, long) if options.judge else decoding.Decoder(options.x25, long)
+    long, wide = ["--long"] if options.long else [], ["--wide"] if options.wide else []
+    return decoding.Judge(options.x25, options.k, long) if options.judge else decoding.Decoder(options.x25, [*long, *wide])
 
 
 def show(view, blocks, out):

@@ -1,6 +1,8 @@
-"""Names of causes, diagnostics, refusals and of what a FRMR says. docs/FORMATS.md has the refusals, and says of the others whose they are."""
+"""Names of causes, diagnostics, facilities, refusals and of what a FRMR says. docs/FORMATS.md has the refusals, and says of the others whose they are."""
 
 import re
+
+import facilities
 
 ORIGINATED = "DTE originated"
 CLEARING = {
@@ -81,8 +83,9 @@ REFUSALS = {
 # The grounds of a FRMR, from the lowest bit of its third octet.
 GROUNDS = ("undefined control", "information that mustn't be there", "information too long", "invalid N(R)")
 
-CAUSED = re.compile(r"(CLEAR|RESET|RESTART|cleared|wasreset|restarted)\b.* cause=(\d+) diag=(\d+)$")
-DIAGNOSED = re.compile(r"fault \S+ diag=(\d+)$")
+CAUSED = re.compile(r"(CLEAR|RESET|RESTART|cleared|wasreset|restarted)\b.* cause=(\d+)(?: diag=(\d+))?(?: |$)")
+DIAGNOSED = re.compile(r"(?:fault \S+|DIAG) diag=(\d+)(?: |$)")
+EQUIPPED = re.compile(r" fac=((?:[0-9a-f]{2})+)(?: |$)")
 FRAME_REFUSED = re.compile(r"(?:[<>] )?FRMR .*why=([0-9a-f]{6})$")
 CAUSES = {"CLEAR": CLEARING, "cleared": CLEARING, "RESET": RESETTING, "wasreset": RESETTING, "RESTART": RESTARTING, "restarted": RESTARTING}
 
@@ -103,15 +106,17 @@ def _grounds(octets):
 
 def words(text):
     """What the numbers of a text of `x25 decode`, or of an entry, say in words; nothing where it has no such numbers."""
-    if "diag=" in text:
-        if found := CAUSED.search(text):
-            cause, diagnostic = _cause(CAUSES[found[1]], int(found[2])), int(found[3])
-            return f"{cause}; {_diagnostic(diagnostic)}" if diagnostic else cause
-        if found := DIAGNOSED.search(text):
-            return _diagnostic(int(found[1]))
+    said = []
+    if "cause=" in text and (found := CAUSED.search(text)):
+        said.append(_cause(CAUSES[found[1]], int(found[2])))
+        said += [_diagnostic(int(found[3]))] if int(found[3] or 0) else []
+    elif "diag=" in text and (found := DIAGNOSED.search(text)):
+        said.append(_diagnostic(int(found[1])))
     elif "why=" in text and (found := FRAME_REFUSED.match(text)):
-        return _grounds(bytes.fromhex(found[1]))
-    return ""
+        said.append(_grounds(bytes.fromhex(found[1])))
+    if "fac=" in text and (found := EQUIPPED.search(text)):
+        said.append(facilities.words(bytes.fromhex(found[1])))
+    return "; ".join(said)
 
 
 def refusal(line):

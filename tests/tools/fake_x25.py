@@ -55,7 +55,7 @@ def sim(lines):
 
 
 def main():
-    if sys.argv[1:] == ["decode"]:
+    if sys.argv[1:] == ["decode", "--wide"]:
         for line in sys.stdin:
             print(TEXTS[line.rstrip("\n")], flush=True)
         return

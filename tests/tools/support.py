@@ -62,9 +62,9 @@ class Live:
         return self._child.returncode, out, said
 
 
-def decode(trace):
+def decode(trace, *words):
     """What `x25 decode` answers to a trace, as lines of text."""
-    done = subprocess.run([PROGRAM, "decode"], input=trace, capture_output=True, timeout=60, check=True)
+    done = subprocess.run([PROGRAM, "decode", *words], input=trace, capture_output=True, timeout=60, check=True)
     return done.stdout.decode().splitlines()
 
 

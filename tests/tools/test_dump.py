@@ -14,6 +14,7 @@ from support import ToolCase
 
 import messages
 import x25names
+from x25lines import fcs
 
 CALL, DATA = bytes.fromhex("10010b43123456700041"), bytes.fromhex("1001006869")
 DECODED = b"""0.5\t> SABM cmd P=1
@@ -88,8 +89,38 @@ class Names(unittest.TestCase):
         self.assertEqual(x25names.words("I cmd P=0 S=0 R=0 | fault 21 diag=40"), "invalid general format identifier")
         self.assertEqual(x25names.words("SABM cmd P=1"), "")
 
+    def test_numbers_in_other_forms(self):
+        self.assertEqual(x25names.words("I cmd P=0 S=0 R=0 | RESET ch=1 cause=5"), "local procedure error")
+        self.assertEqual(x25names.words("I cmd P=0 S=0 R=0 | DIAG diag=33 expl=10010b"), "unidentifiable packet")
+        cleared = "CLEAR ch=1 cause=0 diag=0 called=- calling=- fac=c10400010203 data=c0ffee"
+        self.assertEqual(x25names.words(cleared), "DTE originated; call duration 00010203")
+
+    def test_facilities(self):
+        for octets, said in (
+            ("0101", "reverse charging"),
+            ("0181", "reverse charging and fast select without restriction"),
+            ("01c0", "fast select with restriction"),
+            ("0100", "no reverse charging"),
+            ("420707430203", "packet size 128/128, window size 2/3"),
+            ("02ab0312", "throughput class negotiation 9600/19200, closed user group selection 12"),
+            ("000fc90508123456ff", "DTE complementary services, called address extension 123456ff"),
+            ("0401490100", "charging information requested, transit delay selection and indication 256 ms"),
+            ("3f078000010203", "facility 3f 07, facility 80 000102, closed user group selection cut off"),
+            ("c900", "called address extension"),
+            ("c906", "called address extension cut off"),
+        ):
+            self.assertEqual(x25names.words(f"CALL ch=1 called=1 calling=2 fac={octets} data=-"), said)
+
 
 class Joining(unittest.TestCase):
+    def test_data_with_d_is_joined(self):
+        frames = (">", data(0, "a", 1)), (">", data(1, "b").replace(" Q=0", " Q=0 D=1") + messages.WIDE)
+        self.assertEqual(joined(frames, 0), [("message", "ab")])
+
+    def test_a_link_modulo_128_is_none_that_is_set_up(self):
+        frames = (">", data(0, "a", 1)), (">", "SABME cmd P=1 ~ wide"), ("<", "DM rsp F=1"), (">", data(1, "b"))
+        self.assertEqual(joined(frames, 0), [("message", "ab")])
+
     def test_data_is_joined_by_m_in_its_channel_and_way(self):
         frames = (">", data(0, "a", 1)), (">", data(1, "x", 0, 2)), ("<", data(0, "y", 0)), (">", data(2, "b"))
         self.assertEqual(joined(frames, 0), [("message", "x"), ("message", "y"), ("message", "ab")])
@@ -163,6 +194,22 @@ class Dump(ToolCase):
         self.assertEqual(rows[4:], [["I", "frames", "out", "of", "order,", "or", "again", "1", "0"], ["octets", "of", "data", "4", "0"], ["from", "1.5", "to", "3"]])
 
     @support.needs_program
+    def test_packets_in_other_forms(self):
+        packets = ("50010b1112020101c0", "10010f11120000", "50010041", "10011305", "1000f12110010b")
+        given = b"".join(b"> " + (it + fcs(it)).hex().encode() + b"\n" for it in (b"\x01\x00" + bytes.fromhex(packet) for packet in packets))
+        self.assertEqual(self.dump(given, "--x25", support.PROGRAM).splitlines(), [
+            "> I cmd P=0 S=0 R=0 | CALL ch=1 D=1 called=1 calling=2 fac=0101 data=c0  (reverse charging) ~ wide",
+            "> I cmd P=0 S=0 R=0 | ACCEPT ch=1 called=1 calling=2 fac=- data=00 ~ wide",
+            "> I cmd P=0 S=0 R=0 | DATA ch=1 S=0 R=0 M=0 Q=0 D=1 data=41 ~ wide",
+            "> I cmd P=0 S=0 R=0 | CLEAR ch=1 cause=5  (network congestion) ~ wide",
+            "> I cmd P=0 S=0 R=0 | DIAG diag=33 expl=10010b  (unidentifiable packet) ~ wide",
+        ])
+        self.assertEqual(self.dump(given, "--no-wide", "--x25", support.PROGRAM).count("fault"), 5)
+        self.assertEqual(self.dump(given, "--channel", "1", "--x25", support.PROGRAM).count("\n"), 4)
+        self.assertEqual(self.dump(given, "--channel", "0", "--x25", support.PROGRAM).count("\n"), 1)
+        self.assertIn("octets of data", self.dump(given, "--stats", "--x25", support.PROGRAM))
+
+    @support.needs_program
     def test_a_trace_by_the_program(self):
         trace = support.read("examples/exchange.trace")
         text = [re.sub(r"  \(.*\)$", "", line) for line in self.dump(trace, "--x25", support.PROGRAM).splitlines()]
@@ -174,7 +221,7 @@ class Dump(ToolCase):
         """More than the pipes hold, of short frames whose answers are longer, and of the longest."""
         trace = b"> 013febdf\n< 01738357\n> 0\n" * 30_000 + (b"> " + b"00" * 4103 + b"\n") * 100
         text = self.dump(trace, "--x25", support.PROGRAM, status=1).replace("? 60 no such line", "? 60")
-        done = subprocess.run([support.PROGRAM, "decode"], input=trace, capture_output=True, timeout=60)
+        done = subprocess.run([support.PROGRAM, "decode", "--wide"], input=trace, capture_output=True, timeout=60)
         self.assertEqual(text, done.stdout.decode())
         judged = self.dump(trace[:60_000], "--judge", "--x25", support.PROGRAM, status=1).replace("? 60 no such line", "? 60")
         self.assertEqual(judged, subprocess.run([support.PROGRAM, "judge"], input=trace[:60_000], capture_output=True, timeout=60).stdout.decode())

@@ -7,10 +7,11 @@ import random
 import subprocess
 import unittest
 
+import corpus
 import support
 from x25lines import fcs
 
-# Packets in other forms, and one of each in the form that a station writes.
+# Packets of which each cut is tried, and each with more behind it: in other forms, and one of each in the form that a station writes.
 PACKETS = """
 10010b431234567000 50010b43123456700041 10010b1112 10010b11120201014142 10010b111208000fc902123401ff 10010b0000
 10010b111206420707430202 10010b11120143 10010b11120201804e4e4e4e4e4e4e4e4e4e4e4e4e4e4e4e4e4e 10010b1112034302024142
@@ -19,9 +20,6 @@ PACKETS = """
 1001024142 9001b4 5001024142 d001f20102 100121 1fff25 100149 1fff89 100123c0 100127
 10011b00 10011b0541 10011f 1000fb07 1000fb0741 1000ff 1000f121 1000f12110010b 1000f3 1000f30001020304 1000f70500
 """.split()
-
-# Frames that LAPB modulo 8 lacks: address, control and information.
-FRAMES = "016f 017f 010f 01af82 03bf 01e3aabb 03f3 0103c0 0313 012d 036d 030d".split()
 
 CODES = {"CALL": 0x0B, "ACCEPT": 0x0F, "CLEAR": 0x13, "CLEARCONF": 0x17, "INT": 0x23, "INTCONF": 0x27, "RESET": 0x1B, "RESETCONF": 0x1F,
          "RESTART": 0xFB, "RESTARTCONF": 0xFF, "DIAG": 0xF1, "REG": 0xF3, "REGCONF": 0xF7, "RR": 0x01, "RNR": 0x05, "REJ": 0x09}
@@ -103,6 +101,10 @@ class Wide(unittest.TestCase):
         texts = self.compare([bytes.fromhex(it) for it in PACKETS])
         self.assertEqual([given for given, text in zip(PACKETS, texts) if text.startswith("fault ")], ["10010b11120143"])
 
+    def test_each_form_of_a_packet_is_told_whole(self):
+        texts = self.compare(list(corpus.packets()))
+        self.assertEqual([text for text in texts if text.startswith("fault ")], [])
+
     def test_each_cut_of_each_packet(self):
         self.compare([bytes.fromhex(it)[:count] for it in PACKETS for count in range(len(it) // 2)])
 
@@ -129,7 +131,7 @@ class Wide(unittest.TestCase):
         self.compare(few + changed + [drawn.randbytes(drawn.randrange(20)) for _ in range(2000)])
 
     def test_frames_that_modulo_8_lacks(self):
-        frames = [bytes.fromhex(it) for it in FRAMES]
+        frames = [bytes.fromhex(it) for it in corpus.FRAMES]
         for given, text in zip(frames, decoded(frames)):
             with self.subTest(text):
                 self.assertTrue(text.endswith(" ~ wide"), text)
