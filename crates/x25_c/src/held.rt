@@ -53,6 +53,7 @@ impl Held {
     }
 
     /// Lets something happen to the station, and pulls behind it.
+    #[inline(always)]
     pub(crate) fn happen(&mut self, event: Happening<'_>) -> Result<(), StationError>
         ensures { Happens self.old self.new result (event_of event.entry) }
     {
