@@ -52,10 +52,13 @@ COLOURS = {">": BLUE, "<": GREEN}
 CHANNEL = re.compile(r" ch=(\d+)")
 OF_NO_CHANNEL = re.compile(r"\| (?:RESTART|DIAG|REG)|^(?:dte|dce) restart")
 A_ROW = 16
+# Where the packet begins in the text of a frame that was made up.
+PACKET_AT = len("> I cmd P=0 S=0 R=0 | ")
 # What stands before the end and the rule that it breaks, and before what is noted.
 RULE, NOTE = " ! ", " ~ "
-# Without any of these a text is shown as it is: of refusals, rules and notes, and of what x25names has words for, `diag=`, `why=` and `fac=`.
-SIGNS = ("!", "?", "~", "g=", "y=", "c=")
+# Texts without any of these letters are shown as they are. Others may be refusals, or have rules, notes, or numbers that x25names has words for: `diag=`,
+# `why=`, and `fac=`, which stands behind `calling=` or in an ACCEPT.
+SIGNS = "!?~gyE"
 
 def channel_of(text):
     """The channel of a frame's packet, or of an entry; None where it has none."""
@@ -137,18 +140,20 @@ class Lines:
         """Answers the lines of the things of a block."""
         texts = "".join([text for _, _, text in block])
         has_plain_texts = self._paint is unpainted and not any(sign in texts for sign in SIGNS)
-        lines, last, front = [], None, ""
+        lines, last, front, is_made_up = [], None, "", False
         for time, connection, text in block:
             if connection is not last:
-                last, front = connection, f" #{connection.number} " if connection.number > 1 else " "
+                last, is_made_up = connection, connection.is_made_up
+                front = f" #{connection.number} " if connection.number > 1 else " "
                 if connection.number not in self._named:
                     self._named.add(connection.number)
                     if connection.name is not None:
                         lines.append(self._paint(GREY, f"connection {connection.number}: {connection.name}"))
-            if connection.is_made_up:
-                text = text[:2] + text.partition(" | ")[2]
-            shown = text if has_plain_texts else self._text(text)
-            lines.append(f"{time}{front}{shown}" if time else f"{front[1:]}{shown}")
+            if is_made_up:
+                text = text[:2] + text[PACKET_AT:]
+            if not has_plain_texts:
+                text = self._text(text)
+            lines.append(f"{time}{front}{text}" if time else f"{front[1:]}{text}")
         return lines
 
     def _text(self, text):
