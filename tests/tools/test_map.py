@@ -134,7 +134,7 @@ class Lemmas(unittest.TestCase):
         for folder, ending in (("src", "rt"), ("specs", "antt"), ("proofs", "antt")):
             for path in glob(os.path.join(CRATES, "*", folder, "**", f"*.{ending}"), recursive=True):
                 crate = os.path.relpath(path, CRATES).split(os.sep)[0]
-                found = re.findall(r"\bRattle\.(x25\w*)\.proofs\.(\w+)", support.read(path).decode())
+                found = re.findall(r"\bRattle\.(x25\w*)\.proofs\.(?:[a-z]\w*\.)*(\w+)", support.read(path).decode())
                 cited |= {(low, lemmas) for low, lemmas in found if low != crate}
         self.assertEqual({lemmas for _, lemmas in cited}, {name for name in re.findall(r"`([A-Z]\w+)`", item)})
         self.assertEqual({low for low, _ in cited} - set(re.findall(r"`(x25\w*)`", item)), set())

@@ -1,0 +1,9 @@
+pub mod PeerLines
+pub mod PeerHeld
+pub mod PeerFacts
+pub mod PeerNear
+pub mod PeerBegins
+pub mod PeerActs
+pub mod PeerMoves
+pub mod PeerSetUp
+pub mod PeerSessionRuns

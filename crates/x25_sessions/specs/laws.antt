@@ -1,0 +1,3 @@
+-- What the laws of this crate say (src/law.rt), and the world that they are about.
+pub mod PeerSessions
+pub mod PeerSessionClaims

@@ -1,0 +1,23 @@
+-- What holds of a station and any peer over set-up and re-set-up at any moment.
+use Rattle.std.specs.Prelude.{◌≡◌, ◌≤◌, ◌⊎◌, true}
+use Rattle.x25_link.specs.Station.{Settings}
+use Rattle.x25_link.specs.Link.{is_idle}
+use Rattle.x25_line.specs.laws.Sessions.{Meeting, Sessions}
+use Rattle.x25_line.specs.laws.SessionClaims.{SomeMet}
+use Rattle.x25_sessions.specs.laws.PeerSessions.{PeerSessions, IsReached, In, now, both_ends}
+
+-- whatever happens, with any peer that keeps the rules of `Peer` and of set-up
+abbrev pub WithAnyPeer : (Settings → PeerSessions → Type 0) → Type 0
+WithAnyPeer Holds =
+    (c : Settings) → 1 ≤ c.window → c.window ≤ 7 → (w : PeerSessions) → IsReached c w → Holds c w
+
+-- the same of both ends, as the claims on two stations say it
+abbrev pub OfBothEnds : (Settings → Settings → Sessions → Type 0) → Settings → PeerSessions → Type 0
+OfBothEnds Holds c w = Holds c c (both_ends w)
+
+-- Where the station is idle, and the peer is in a session or met the station's, all that was handed down in this
+-- session was taken in the peer's latest.
+abbrev pub IdleHasArrived : Settings → PeerSessions → Type 0
+IdleHasArrived c w = is_idle w.near.station ≡ true
+    → (w.peer.stand ≡ In) ⊎ SomeMet (λ (m : Meeting). m.near ≡ w.near.begun) w.met
+    → (now w.peer).taken ≡ w.near.down w.near.begun

@@ -1,0 +1,31 @@
+ghost use Rattle.x25_line.specs.laws.SessionClaims.{MeetInStep, MetAreInOrder, UnmetHandNothingUp};
+ghost use Rattle.x25_sessions.specs.laws.PeerSessionClaims.{WithAnyPeer, OfBothEnds, IdleHasArrived};
+
+use x25_frame::reads_what_is_spelled;
+use x25_line::any_peer_keeps_order;
+use x25_link::{follows_the_window, notes_what_changes, sets_up_by_rows};
+
+/// A link station, by the definition that a link meets call by call, and any peer that keeps the rules of
+/// docs/PEER.md, from nothing or from a link just set up: what holds after all that happens at either end and on the
+/// line, over set-up and re-set-up by either end at any moment, where timer T1 of the station, as it awaits UA,
+/// doesn't run out while its SABM, a UA to it or a SABM that crossed it is on the line. A session of the station
+/// begins as it notes LinkUp, and one of the peer as its rules say; two sessions meet where one hears a frame with an
+/// N(R) that was sent in the other.
+///
+/// Sessions meet one to one, and in order at both ends. What the station handed up in a session is a beginning of what
+/// the peer was handed down in the one that it meets, and what the peer took there is a beginning of what the station
+/// was handed down. In a session that meets none the station hands nothing up, and the peer takes nothing. Where the
+/// station is idle, and the peer is in a session or met the station's, all that the station was handed down in this
+/// session was taken in the peer's latest.
+pub fn any_peer_keeps_sessions()
+    ensures step { WithAnyPeer (OfBothEnds MeetInStep) }
+    ensures order { WithAnyPeer (OfBothEnds MetAreInOrder) }
+    ensures unmet { WithAnyPeer (OfBothEnds UnmetHandNothingUp) }
+    ensures idle { WithAnyPeer IdleHasArrived }
+{
+    any_peer_keeps_order();
+    follows_the_window();
+    sets_up_by_rows();
+    notes_what_changes();
+    reads_what_is_spelled();
+}
