@@ -3,10 +3,12 @@
     order_runs.py [--program PROGRAM] [--from SEED] [RUNS]
 
 Each run is a random script of two stations (losses.py), of which `sim --tap` makes a trace without damage. In ten copies of it one frame is
-changed: other octets in an I frame that goes again, another N(S), another N(R), an I frame that goes once more later,
-or one that is left out. Of each copy the rules of docs/PEER.md that a trace can show are told here, by whole numbers from each set-up on that
-it shows, SABM and UA, to the next unnumbered frame. They are rules 1 to 3 and 5, and that numbers go one by one when they go for the first
-time (2.4.5.1). An end is told of where no run of an end that keeps them explains its frames, whatever came or was lost.
+changed: other octets in an I frame that goes again, another N(S), another N(R), another P(S) or P(R), an N(R) that stays, an I frame that
+goes once more later, or one that is left out. Of each copy the rules of order of docs/PEER.md that a trace can show are told here, by whole
+numbers. Of the link they are rules 1 to 3 and 5, and that numbers go one by one when they go for the first time (2.4.5.1), from each set-up
+on to the next unnumbered frame: SABM and UA, but for a SABM whose sender has got UA already and has sent no frame with a number since. Of
+packets they are rules 15 and 17, from each CALL and its CALL ACCEPTED on to the next packet of the channel that is neither DATA, RR nor
+RNR, nor RESTART. An end is told of where no run of an end that keeps them explains its frames, whatever came or was lost.
 
 A break is missed where `judge` tells nothing up to that frame. An end is accused where `judge` tells one of these rules of it, and it broke none
 up to there, whatever the other end broke.
@@ -32,10 +34,12 @@ from x25lines import fcs  # noqa: E402
 COPIES = 10
 LINES = 120
 SABM, UA = 0x2F, 0x63
+CALL, ACCEPTED, READY = 0x0B, 0x0F, (0x01, 0x05)
+RESTARTS = (0xFB, 0xFF)
 
 # What `judge` says of an end that breaks a rule of order.
 OF_ORDER = re.compile(
-    r"N\(R\) acknowledges what was never sent|N\(R\) falls|other octets|more I frames are unacknowledged"
+    r"[NP]\(R\) acknowledges what was never sent|[NP]\(R\) falls|other octets|more I frames are unacknowledged|P\(S\) isn't the next one"
 )
 
 
@@ -63,11 +67,27 @@ class Frame(NamedTuple):
     def packet(self):
         return self.octets[2:] if self.is_info() else b""
 
+    def kind(self):
+        """The third octet of its packet, if it has one."""
+        return self.packet()[2] if len(self.packet()) > 2 else None
+
+    def channel(self):
+        return (self.packet()[0] & 15) << 8 | self.packet()[1]
+
+    def is_data(self):
+        return self.kind() is not None and not self.kind() & 1
+
+    def has_pr(self):
+        return self.is_data() or (self.kind() is not None and self.kind() & 0x1F in READY)
+
     def line(self):
         return f"{self.end} {(self.octets + fcs(self.octets)).hex()}\n"
 
     def with_octet(self, place, octet):
         return Frame(self.end, self.octets[:place] + bytes((octet,)) + self.octets[place + 1 :])
+
+
+OTHERS = {">": "<", "<": ">"}
 
 
 def resolved(low, number):
@@ -112,27 +132,90 @@ class Sender:
             self.taken += 1
 
 
+class Call:
+    """Data packets of both ends of a call: how many each sent, and what its last P(R) stood for."""
+
+    def __init__(self):
+        self.sent = {end: 0 for end in "><"}
+        self.told = {end: 0 for end in "><"}
+
+    def passes(self, frame):
+        """A packet goes: the rule that is broken, if any."""
+        end, other, kind = frame.end, OTHERS[frame.end], frame.kind()
+        if frame.is_data():
+            if kind >> 1 & 7 != self.sent[end] % 8:
+                return "P(S) isn't the next one"
+            self.sent[end] += 1
+        told = resolved(self.told[end], kind >> 5)
+        if told > self.sent[other]:
+            return "P(R) isn't acknowledged so"
+        self.told[end] = told
+        return None
+
+
+class Calls:
+    """The channels: the CALL that went last, or the call that is up."""
+
+    def __init__(self):
+        self.asked, self.calls = {}, {}
+
+    def passes(self, frame):
+        """A packet goes for the first time: the rule that is broken, if any, and whether it is told of here."""
+        kind = frame.kind()
+        if kind is None or kind in RESTARTS:
+            self.__init__()
+            return None, False
+        channel = frame.channel()
+        if frame.has_pr() and channel in self.calls:
+            rule = self.calls[channel].passes(frame)
+            if rule:
+                del self.calls[channel]
+            return rule, True
+        self.calls.pop(channel, None)
+        asked = self.asked.pop(channel, None)
+        if kind == CALL:
+            self.asked[channel] = frame.end
+        elif kind == ACCEPTED and asked == OTHERS[frame.end]:
+            self.calls[channel] = Call()
+        return None, False
+
+
+class Found(NamedTuple):
+    """For each end the place of the first frame that breaks a rule of order, and the rule; and the places that are told of here."""
+
+    first: dict
+    links: set
+    calls: set
+
+
 def breaks(frames):
-    """For each end the place of the first frame that breaks a rule of order of the link, and the rule; and the places that are told of here."""
-    found, places, ends, asked = {}, set(), None, None
+    found, ends, asked, answered, calls = Found({}, set(), set()), None, None, set(), Calls()
     for place, frame in enumerate(frames):
         if frame.is_unnumbered():
             kind = frame.control() & 0xEF
             ends = {end: Sender() for end in "><"} if kind == UA and asked not in (None, frame.end) else None
-            asked = frame.end if kind == SABM else None
+            asked, calls = (frame.end if kind == SABM and frame.end not in answered else None), Calls()
+            answered |= {OTHERS[frame.end]} if kind == UA else set()
             continue
+        answered.discard(frame.end)
         if ends is None:
             continue
-        places.add(place)
-        own, other = ends[frame.end], ends["<" if frame.end == ">" else ">"]
+        found.links.add(place)
+        own, other = ends[frame.end], ends[OTHERS[frame.end]]
+        count = len(own.given)
         rule = own.numbers(frame.ns(), frame.packet()) if frame.is_info() else None
         rule = rule or own.acknowledges(frame.nr())
         if rule:
-            found.setdefault(frame.end, (place, rule))
+            calls = Calls()
+        elif len(own.given) > count:
+            rule, is_told_of = calls.passes(frame)
+            found.calls.update({place} if is_told_of else ())
+        if rule:
+            found.first.setdefault(frame.end, (place, rule))
         other.hears(frame.nr())
         if frame.is_info():
             other.takes(frame.ns())
-    return found, places
+    return found
 
 
 # ---- copies with one frame changed
@@ -167,6 +250,16 @@ def other_nr(dice, frames):
     return changed(frames, place, frames[place].with_octet(1, frames[place].control() ^ 1 + dice.below(7) << 5))
 
 
+def other_packet_number(dice, frames):
+    """Another P(S) or P(R) in a packet, each time that its I frame goes."""
+    packets = [frame for frame in frames if frame.has_pr()]
+    if not packets:
+        return frames
+    frame = dice.one_of(packets)
+    bits = 1 + dice.below(7) << dice.one_of((1, 5) if frame.is_data() else (5,))
+    return [other.with_octet(4, other.octets[4] ^ bits) if other.octets[2:] == frame.octets[2:] and other.end == frame.end else other for other in frames]
+
+
 def once_more(dice, frames):
     """An I frame goes once more later, with the N(R) that its end sent last."""
     place = dice.one_of(infos(frames))
@@ -174,6 +267,16 @@ def once_more(dice, frames):
     last = [frame for frame in frames[:later] if frame.end == frames[place].end and not frame.is_unnumbered()][-1]
     again = frames[place].with_octet(1, frames[place].control() & 0x1F | last.control() & 0xE0)
     return frames[:later] + [again] + frames[later:]
+
+
+def unacknowledged(dice, frames):
+    """An end's N(R) stays where it is, from a frame on."""
+    place = dice.one_of(numbered(frames))
+    bits = frames[place].control() & 0xE0
+    return frames[:place] + [
+        other.with_octet(1, other.control() & 0x1F | bits) if other.end == frames[place].end and not other.is_unnumbered() else other
+        for other in frames[place:]
+    ]
 
 
 def left_out(dice, frames):
@@ -185,7 +288,7 @@ def changed(frames, place, frame):
     return frames[:place] + [frame] + frames[place + 1 :]
 
 
-CHANGES = (other_octets, other_ns, other_nr, once_more, left_out)
+CHANGES = (other_octets, other_ns, other_nr, other_packet_number, once_more, unacknowledged, left_out)
 
 
 # ---- runs
@@ -214,13 +317,14 @@ def told(program, frames):
     return [(place, line[0], line.split(" ! ")[1]) for place, line in enumerate(lines) if " ! " in line]
 
 
-def faults(rules, found, places):
-    """What is wrong with these rules, where these are the first breaks of each end, and these places are told of here."""
-    breaks = [place for place, _ in found.values()]
-    if breaks and min(breaks) < min([place for place, _, _ in rules] or [len(places) + max(places) + 1]):
+def faults(rules, found):
+    """What is wrong with these rules of a trace in which this is found."""
+    breaks = [place for place, _ in found.first.values()]
+    if breaks and min(breaks) < min([place for place, _, _ in rules] or [max(breaks) + 1]):
         return "missed"
     for place, end, rule in rules:
-        if place in places and OF_ORDER.search(rule) and found.get(end, (place + 1, ""))[0] > place:
+        places = found.calls if rule[5] == "P" else found.links
+        if place in places and OF_ORDER.search(rule) and found.first.get(end, (place + 1, ""))[0] > place:
             return f"accused at {place}, {rule}"
     return None
 
@@ -239,11 +343,10 @@ def play(program, seed):
     traces = [frames] + [dice.one_of(CHANGES)(dice, frames) for _ in range(COPIES if infos(frames) else 0)]
     broken, wrong = 0, []
     for copy in traces:
-        found, places = breaks(copy)
-        rules = told(program, copy)
-        fault = faults(rules, found, places)
-        broken += bool(found)
-        wrong += [f"seed {seed}: {fault}: broken {found}, told {rules[:3]}"] if fault else []
+        found, rules = breaks(copy), told(program, copy)
+        fault = faults(rules, found)
+        broken += bool(found.first)
+        wrong += [f"seed {seed}: {fault}: broken {found.first}, told {rules[:3]}"] if fault else []
     return Played(len(traces), broken, wrong)
 
 

@@ -10,11 +10,12 @@ from support import PROGRAM
 
 import golden
 import judge_runs
+import odd_runs
 import order_runs
 
-# In the gate; `make judge-runs` plays 10,000.
+# In the gate; `make judge-runs` plays 10,000, 5,000 and 3,000.
 RUNS = 300
-# `order_runs.py` plays 3,000.
+ODD_RUNS = 100
 ORDER_RUNS = 20
 
 
@@ -58,6 +59,13 @@ class Runs(support.ToolCase):
             self.assertEqual(judge_runs.told(PROGRAM, seed)[0], [], f"seed {seed}")
 
 
+@support.needs_station
+class Odd(support.ToolCase):
+    def test_nothing_is_told_of_a_station_beside_an_odd_end(self):
+        for seed in range(ODD_RUNS):
+            self.assertEqual(odd_runs.play(PROGRAM, seed)[1], [], f"seed {seed}")
+
+
 @support.needs_program
 class Order(support.ToolCase):
     """The rules of order, told apart from `judge`."""
@@ -69,10 +77,11 @@ class Order(support.ToolCase):
 
     def test_a_judge_that_is_silent_or_accuses_is_seen(self):
         rule = "dte: N(R) falls (2.3.4.9): at least 2"
-        self.assertEqual(order_runs.faults([], {">": (3, "window")}, {2, 3}), "missed")
-        self.assertEqual(order_runs.faults([(2, ">", rule)], {}, {2, 3}), f"accused at 2, {rule}")
-        self.assertEqual(order_runs.faults([(2, ">", rule)], {"<": (2, "window")}, {2, 3}), f"accused at 2, {rule}")
-        self.assertIsNone(order_runs.faults([(3, ">", rule)], {">": (3, "window")}, {2, 3}))
+        none, own, other = ({}, {">": (3, "window")}, {"<": (2, "window")})
+        self.assertEqual(order_runs.faults([], order_runs.Found(own, {2, 3}, set())), "missed")
+        for first in (none, own, other):
+            self.assertEqual(order_runs.faults([(2, ">", rule)], order_runs.Found(first, {2, 3}, set())), f"accused at 2, {rule}")
+        self.assertIsNone(order_runs.faults([(3, ">", rule)], order_runs.Found(own, {2, 3}, set())))
 
 
 @support.needs_program
