@@ -10,9 +10,13 @@ from support import PROGRAM
 
 import golden
 import judge_runs
+import odd_runs
+import order_runs
 
-# In the gate; `make judge-runs` plays 10,000.
+# In the gate; `make judge-runs` plays 10,000, 5,000 and 3,000.
 RUNS = 300
+ODD_RUNS = 100
+ORDER_RUNS = 20
 
 
 def remarks(mark, output):
@@ -53,6 +57,31 @@ class Runs(support.ToolCase):
     def test_nothing_is_told(self):
         for seed in range(RUNS):
             self.assertEqual(judge_runs.told(PROGRAM, seed)[0], [], f"seed {seed}")
+
+
+@support.needs_station
+class Odd(support.ToolCase):
+    def test_nothing_is_told_of_a_station_beside_an_odd_end(self):
+        for seed in range(ODD_RUNS):
+            self.assertEqual(odd_runs.play(PROGRAM, seed)[1], [], f"seed {seed}")
+
+
+@support.needs_program
+class Order(support.ToolCase):
+    """The rules of order, told apart from `judge`."""
+
+    def test_no_break_is_missed_and_no_innocent_accused(self):
+        played = [order_runs.play(PROGRAM, seed) for seed in range(ORDER_RUNS)]
+        self.assertEqual([line for run in played for line in run.wrong], [])
+        self.assertGreater(sum(run.broken for run in played), 5 * ORDER_RUNS)
+
+    def test_a_judge_that_is_silent_or_accuses_is_seen(self):
+        rule = "dte: N(R) falls (2.3.4.9): at least 2"
+        none, own, other = ({}, {">": (3, "window")}, {"<": (2, "window")})
+        self.assertEqual(order_runs.faults([], order_runs.Found(own, {2, 3}, set())), "missed")
+        for first in (none, own, other):
+            self.assertEqual(order_runs.faults([(2, ">", rule)], order_runs.Found(first, {2, 3}, set())), f"accused at 2, {rule}")
+        self.assertIsNone(order_runs.faults([(3, ">", rule)], order_runs.Found(own, {2, 3}, set())))
 
 
 @support.needs_program

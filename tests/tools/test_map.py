@@ -15,7 +15,7 @@ import support
 CRATES = os.path.join(support.ROOT, "crates")
 LABELS = ("code", "definition", "proof", "wrong bodies")
 WRONG_BODIES = LABELS.index("wrong bodies") + 1
-FOLDERS_OF_PROOFS = ("rows", "sessions", "sessions/acts", "sessions/claims")
+FOLDERS_OF_PROOFS = ("rows", "verdicts", "sessions", "sessions/acts", "sessions/claims")
 FOLDERS_OF_SPECS = {"laws", "rows", "code"}
 
 

@@ -1,3 +1,4 @@
 pub mod LineLemmas
 pub mod StreamLemmas
 pub mod CountLemmas
+pub mod verdicts

@@ -75,7 +75,7 @@ module _ (j : Judge) (old now next : Option (List ℕ)) (input : List ℕ) where
     part_written a lines h (told_prefix old next output h.told tells),
   )
 
-  -- .. and no line is to come
+  -- all is told where no line is to come
   all_told : (a : Answerer) (h : JudgesOn j a old now [] input) → h.told ++ counts_text a.judge ≡ output_of j input
   all_told a h = ap (λ t. h.told ++ t) (sym (no_text a.judge)) ∙ h.same
 

@@ -6,3 +6,4 @@ pub mod Way
 pub mod Sides
 pub mod Judge
 pub mod code
+pub mod laws

@@ -126,7 +126,7 @@ with_other other t = record t { other = other }
 abbrev pub tells : Option Rule → Sides → Sides
 tells rule t = record t { rule = first t.rule rule }
 
--- .. and the first note
+-- so is the first note
 abbrev pub notes : Option Note → Sides → Sides
 notes note t = record t { note = first_note t.note note }
 
@@ -239,7 +239,7 @@ accepting_way Waiting w = fresh true
 accepting_way Answered w = answering_again w
 accepting_way Up w = answering_again w
 
--- .. and those of the other end, from whose SABM on the N(R)s begin anew
+-- the I frames of the end that UA answers, from whose SABM on the N(R)s begin anew
 abbrev pub accepted_way : Phase → Way → Way
 accepted_way Unseen w = lost w
 accepted_way Out w = lost w
@@ -282,7 +282,7 @@ sees window is_same (frmr f why) t = leaves (answers_if f t)
 abbrev pub judges_hearing : Sides → Bool
 judges_hearing t = not (is_unseen t.own.phase) && (way.is_sure t.other.way && not t.other.way.is_missed)
 
--- .. and its N(S)s
+-- N(S)s of the first end: its numbers are known, and no frame of it was missed
 abbrev pub judges_sending : Sides → Bool
 judges_sending t = not (way.is_unseen t.own.way) && not t.own.way.is_missed
 

@@ -44,7 +44,7 @@ begun sight = record {
   is_missed = false;
 }
 
--- .. known where the other end's N(R)s begin from there too
+-- these are known where the other end's N(R)s begin from there too
 abbrev pub fresh : Bool → Way
 fresh is_known = begun (if is_known then Sure else Unseen)
 
@@ -90,6 +90,10 @@ missed w = record w { is_missed = true; is_rejected = false }
 abbrev pub astray : Way → Way
 astray w = record w { sight = Astray }
 
+-- from here on the two ends may count differently
+abbrev pub deaf : Way → Way
+deaf w = record w { sight = Deaf }
+
 -- a damaged frame of the other end may have had an N(R): the window isn't judged until one comes
 abbrev pub unheard : Way → Way
 unheard w = if is_sure w then astray w else w
@@ -98,7 +102,8 @@ unheard w = if is_sure w then astray w else w
 abbrev pub answered : Way → Way
 answered w = if is_fresh w then fresh true else lost w
 
--- .. again, to a SABM that was sent again before the first answer came, and may have been the damaged frame
+-- the other end answers again, a SABM that was sent again before the first answer came, and may have been the damaged
+-- frame
 abbrev pub answered_again : Way → Way
 answered_again w = if w.is_missed then lost w else w
 
@@ -126,12 +131,13 @@ invalid ahead w = if nat_le (8 - ahead) (w.ever - w.pending) && nat_lt (8 - ahea
 abbrev pub acknowledged : ℕ → Way → Way
 acknowledged ahead w = record w { sight = Sure; pending = w.pending - ahead; is_rejected = w.is_rejected && ahead == 0 }
 
--- no further one is judged until one is valid; a frame that was missed may explain it
+-- No further one is judged: until one is valid where a frame that was missed may explain it, else until the next
+-- set-up, since the end may have heard it or not.
 abbrev pub strayed : ℕ → Way → Told
 strayed ahead w =
     if not (is_sure w) then quiet (astray w)
     else if w.is_missed then notes HeardBehindDamage (astray w)
-    else breaks (invalid ahead w) (astray w)
+    else breaks (invalid ahead w) (deaf w)
 
 abbrev pub heard_ahead : ℕ → Way → Told
 heard_ahead ahead w = if nat_le ahead w.pending then quiet (acknowledged ahead w) else strayed ahead w
@@ -164,7 +170,7 @@ sent_back number w = record w {
 
 abbrev pub grown_to : ℕ → ℕ → ℕ → Way → Way
 grown_to count reach pending w = record {
-  sight = if nat_lt 7 pending then Astray else w.sight;
+  sight = if nat_lt 7 pending then Deaf else w.sight;
   next = min (w.next + count) 255 % 8;
   ever = min (w.ever + count) 255;
   kept = if count == 1 then min (w.kept + 1) 255 else 1;
@@ -177,7 +183,8 @@ grown_to count reach pending w = record {
   is_missed = false;
 }
 
--- so many numbers more; V(S) can't be set back to one that is eight behind
+-- So many numbers more. With eight unacknowledged an N(R) stands for two of them. V(S) can't be set back to one that is
+-- eight behind.
 abbrev pub grown : ℕ → Way → Way
 grown count w = grown_to count (min (w.reach + count) 255) (min (w.pending + count) 255) w
 
@@ -198,14 +205,14 @@ told way rule w = if w.is_missed then notes SentBehindDamage way else breaks rul
 -- the next new one: at most k are unacknowledged (section 2.4.8.6)
 abbrev pub sent_new : ℕ → Way → Told
 sent_new window w = if is_sure w && nat_le window w.pending
-    then breaks (OverWindow window) (astray (grown 1 w))
+    then breaks (OverWindow window) (unheard (grown 1 w))
     else quiet (grown 1 w)
 
 -- one of the numbers that were sent one by one, and with these octets
 abbrev pub is_repeated : Bool → ℕ → Way → Bool
 is_repeated is_same back w = is_same && nat_le back w.kept
 
--- .. or, as it is near, one of the numbers that were sent
+-- one of these, or as it is near one of the numbers that were sent
 abbrev pub was_sent : Bool → ℕ → Way → Bool
 was_sent is_same back w = nat_le back w.ever && (is_repeated is_same back w || (nat_le back w.pending || nat_le back 4))
 

@@ -195,7 +195,7 @@ fn tell_channel<W: Sink>(
     Ok(())
 }
 
-/// .. and on each.
+/// How many packets on each channel there were, and how many were judged.
 fn tell_packets<W: Sink>(
     from: Role,
     counts: &[Count],

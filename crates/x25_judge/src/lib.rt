@@ -9,6 +9,7 @@ mod counts;
 mod held;
 mod judge;
 mod judging;
+mod law;
 mod note;
 mod rule;
 mod rule_text;
@@ -16,3 +17,4 @@ mod sides;
 mod way;
 
 pub use judging::judge_lines;
+pub use law::{innocents_stay_untold, set_ups_begin, silence_means_order};

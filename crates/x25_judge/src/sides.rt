@@ -140,7 +140,7 @@ impl Phase {
         }
     }
 
-    /// .. and those of this one.
+    /// The I frames of an end behind a UA that was sent to it.
     fn accepted_way(self, way: Way) -> Way
         ensures { result ≡ definition.accepted_way self way }
     {

@@ -6,8 +6,9 @@ use crate::note::Note;
 use crate::rule::Rule;
 use x25_packet_judge::apart;
 
-/// What may be said of a way: nothing, since its numbers aren't known; not of its N(R)s, since the other end goes on
-/// with those of before; not of its N(R)s until one is valid, since one of them was at fault; or all.
+/// What may be said of a way: nothing, since its numbers aren't known; nothing of its N(R)s and its window, since the
+/// other end may count differently; nothing of these until an N(R) is valid, since a damaged frame may have had one; or
+/// all.
 #[derive(Clone, Copy)]
 pub(crate) enum Sight {
     Unseen,
@@ -115,7 +116,7 @@ impl Way {
         }
     }
 
-    /// .. where they are known.
+    /// Numbers from 0 on, with what answers them where that is known.
     pub(crate) fn fresh(is_known: bool) -> Way
         ensures { result ≡ definition.fresh is_known }
     {
@@ -179,6 +180,16 @@ impl Way {
         }
     }
 
+    /// The two ends may count differently.
+    fn deaf(self) -> Way
+        ensures { result ≡ definition.deaf self }
+    {
+        Way {
+            sight: Sight::Deaf,
+            ..self
+        }
+    }
+
     /// A frame of the other end that may have had an N(R) was damaged.
     pub(crate) fn unheard(self) -> Way
         ensures { result ≡ definition.unheard self }
@@ -197,7 +208,7 @@ impl Way {
         }
     }
 
-    /// .. again, to a SABM that was sent again before the first answer came.
+    /// The other end answers again, a SABM that was sent again before the first answer came.
     pub(crate) fn answered_again(self) -> Way
         ensures { result ≡ definition.answered_again self }
     {
@@ -268,7 +279,7 @@ impl Way {
         } else if self.is_missed {
             notes(Note::HeardBehindDamage, self.astray())
         } else {
-            breaks(self.invalid(ahead), self.astray())
+            breaks(self.invalid(ahead), self.deaf())
         }
     }
 
@@ -337,11 +348,7 @@ impl Way {
         let reach = self.reach.saturating_add(count);
         let pending = self.pending.saturating_add(count);
         Way {
-            sight: if 7 < pending {
-                Sight::Astray
-            } else {
-                self.sight
-            },
+            sight: if 7 < pending { Sight::Deaf } else { self.sight },
             next: self.next.saturating_add(count) % 8,
             ever: self.ever.saturating_add(count),
             kept: if count == 1 {
@@ -403,7 +410,7 @@ impl Way {
     {
         let way = self.grown(1);
         if self.is_sure() && window <= self.pending {
-            breaks(Rule::OverWindow { window }, way.astray())
+            breaks(Rule::OverWindow { window }, way.unheard())
         } else {
             quiet(way)
         }
@@ -453,7 +460,7 @@ impl Way {
                 && (back <= self.ever && (is_poll || (0 < self.causes && back <= self.farthest))))
     }
 
-    /// .. and is.
+    /// V(S) is set back to it.
     fn gone_back(self, is_poll: bool, back: u8) -> Way
         ensures { result ≡ definition.gone_back is_poll back self }
     {

@@ -23,6 +23,6 @@ pub record WritesLines (old now : Option (List ℕ)) (lines : List (List ℕ)) (
   pub appends : Appends old now part
   pub same : part ++ text_of at lines ≡ all
 
--- .. and to the line that has begun
+-- written is all of the text but the answers to the lines to come and to the line that has begun
 abbrev pub WritesEnded : Option (List ℕ) → Option (List ℕ) → List ℕ → List ℕ → Type 0
 WritesEnded old now rest all = LinesEnded (λ lines. WritesLines old now lines all) rest

@@ -1,0 +1,5 @@
+use Rattle.x25_judge.proofs.verdicts.SetUps.{set_ups_begin}
+use Rattle.x25_judge.proofs.law.set_ups_begin.Goals as goal
+
+pub returns : goal.returns
+returns c = set_ups_begin

@@ -1,0 +1,10 @@
+-- Why the laws hold (src/law.rt).
+pub mod Ways
+pub mod Fair
+pub mod Silent
+pub mod Frames
+pub mod Lines
+pub mod Octets
+pub mod Innocents
+pub mod Silences
+pub mod SetUps

@@ -1,0 +1,200 @@
+-- What an end sends that keeps the rules breaks none of order.
+use Rattle.std.proofs.Common.{◌≡◌, ◌==◌, ℕ, ◌+◌, ◌-◌, ◌%◌, ◌<◌, ◌≤◌, arith, min, Bool, true, false, if◌then◌else◌, Some, None, refl, sym, ap, ◌∙◌, subst}
+use Rattle.std.specs.Prelude.{nat_le, nat_lt, ◌&&◌, ◌||◌, not}
+use Rattle.std.proofs.lemmas.Bool.{eqb-true, leb-true, leb-false, ltb-false, le-leb, and_parts, and_from, or_left, both_ways, cond_both}
+use Rattle.x25_judge.specs.Way as way
+use Rattle.x25_judge.specs.declared.note.Note.TheVariants.{SentBehindDamage, HeardBehindDamage}
+use Rattle.x25_judge.specs.declared.rule.Rule.{Rule}
+use Rattle.x25_judge.specs.declared.rule.Rule.TheVariants.{OverWindow, Skips, Repeats}
+use Rattle.x25_judge.specs.declared.way.Sight.{Sight}
+use Rattle.x25_judge.specs.declared.way.Sight.TheVariants.{Deaf}
+use Rattle.x25_judge.specs.declared.way.Told.{Told}
+use Rattle.x25_judge.specs.declared.way.Way.{Way}
+use Rattle.x25_packet_judge.specs.Numbers.{apart}
+use Rattle.x25_window.specs.code.Modulo.{resolved}
+use Rattle.x25_judge.specs.laws.Session.{is_of_order}
+use Rattle.x25_judge.proofs.verdicts.Ways.{Counts, Numbered, apart_is, same_numbered, heard_numbered, grown_numbered}
+
+-- ---- I frames
+
+-- the way counts m frames, and if it says anything of what answers them, that u are acknowledged at least
+pub record Own (w : Way) (m u : ℕ) : Type 0 where
+  pub seen : way.is_unseen w ≡ false
+  pub next : w.next ≡ m % 8
+  pub ever : w.ever ≡ min m 255
+  pub kept : w.kept ≡ min m 255
+  pub numbered : Numbered w (λ x y. (x ≡ m) × (u ≤ y))
+
+pub record Fair (t : Told) (m u : ℕ) : Type 0 where
+  pub quiet : is_of_order t.rule ≡ false
+  pub own : Own t.way m u
+
+told_fair : (v w : Way) (rule : Rule) (m u : ℕ) → is_of_order (Some rule) ≡ false → Own v m u → Fair (way.told v rule w) m u
+told_fair v w rule m u quiet own = cond_both w.is_missed (way.notes SentBehindDamage v) (way.breaks rule v) (λ (t : Told). Fair t m u) (λ _. record { quiet = refl; own = own }) (λ _. record { quiet = quiet; own = own })
+
+unseen_if : (b : Bool) (s : Sight) → way.is_unseen_sight s ≡ false → way.is_unseen_sight (if b then Deaf else s) ≡ false
+unseen_if true s h = refl
+unseen_if false s h = h
+
+grown_own : (w : Way) (m u : ℕ) → Own w m u → Own (way.grown 1 w) (m + 1) u
+grown_own w m u h = record {
+  seen = unseen_if (nat_lt 7 (min (w.pending + 1) 255)) w.sight h.seen;
+  next = next_grown w.next m h.next;
+  ever = ever_grown w.ever m h.ever;
+  kept = ever_grown w.kept m h.kept;
+  numbered = grown_numbered w (λ x y. (x ≡ m) × (u ≤ y)) (λ x y. (x ≡ m + 1) × (u ≤ y)) 1 (omega arith) (λ x y next fit. (ap (λ z. z + 1) fit.0, fit.1)) h.numbered;
+}
+  where
+    next_grown : (x m : ℕ) → x ≡ m % 8 → min (x + 1) 255 % 8 ≡ (m + 1) % 8
+    next_grown x m is = omega arith
+
+    ever_grown : (x m : ℕ) → x ≡ min m 255 → min (x + 1) 255 ≡ min (m + 1) 255
+    ever_grown x m is = omega arith
+
+repeated_own : (w : Way) (m u back : ℕ) → Own w m u → Own (way.repeated back w) m u
+repeated_own w m u back h = record { seen = h.seen; next = h.next; ever = h.ever; kept = h.kept; numbered = same_numbered w (way.repeated back w) _ _ refl refl refl refl (λ x y next fit. fit) h.numbered }
+
+gone_back_own : (is_poll : Bool) (w : Way) (m u back : ℕ) → Own w m u → Own (way.gone_back is_poll back w) m u
+gone_back_own true w m u back h = repeated_own w m u back h
+gone_back_own false w m u back h = record { seen = h.seen; next = h.next; ever = h.ever; kept = h.kept; numbered = same_numbered w (way.went_back back w) _ _ refl refl refl refl (λ x y next fit. fit) h.numbered }
+
+-- the next new number, in the window
+new_at : (w : Way) (window m u : ℕ) (is_poll is_same : Bool) → 7 ≤ window → m < u + 7 → Own w m u → Fair (way.sent_number window is_poll is_same 0 w) (m + 1) u
+new_at w window m u is_poll is_same large near h =
+    cond_both (w.behind == 0 || way.known_pending w == 0) (way.sent_new window w) (way.unexplained is_same 0 w) (λ (t : Told). Fair t (m + 1) u)
+    (λ _. cond_both (way.is_sure w && nat_le window w.pending) (way.breaks (OverWindow window) (way.unheard (way.grown 1 w))) (way.quiet (way.grown 1 w)) (λ (t : Told). Fair t (m + 1) u)
+    (λ test. let parts = and_parts (way.is_sure w) (nat_le window w.pending) test in absurd (never (leb-true window w.pending parts.1) (h.numbered.counts parts.0)))
+    (λ _. record { quiet = refl; own = grown_own w m u h }))
+    (λ _. told_fair (way.grown 1 w) w (Skips (way.place w)) (m + 1) u refl (grown_own w m u h))
+  where
+    never : window ≤ w.pending → ((x : ℕ) × (y : ℕ) × ((x ≡ m) × (u ≤ y)) × Counts w x y) → ⊥
+    never full (x, y, fit, c) = over w.pending x y full c.pending fit.0 fit.1
+      where
+        over : (p x y : ℕ) → window ≤ p → p + y ≡ x → x ≡ m → u ≤ y → ⊥
+        over p x y full is same le = omega (arith, large, near)
+
+-- one of the seven before the next new number, with the same octets
+old_at : (w : Way) (window m u back : ℕ) (is_poll : Bool) → 0 < back → back ≤ 7 → back ≤ m → Own w m u → Fair (way.sent_number window is_poll true back w) m u
+old_at w window m u back is_poll some few there h =
+    cond_both (nat_lt 0 back) (way.sent_again is_poll true back w) _ (λ (t : Told). Fair t m u)
+    (λ _. cond_both (back == w.behind || (nat_le (way.known_pending w) back && nat_lt back w.behind)) (way.again true back (way.repeated back w) w) _ (λ (t : Told). Fair t m u)
+    (λ _. record { quiet = refl; own = repeated_own w m u back h })
+    (λ _. cond_both (way.may_go_back is_poll back w) (way.again true back (way.gone_back is_poll back w) w) (way.unexplained true back w) (λ (t : Told). Fair t m u)
+    (λ _. record { quiet = refl; own = gone_back_own is_poll w m u back h })
+    (λ _. unexplained)))
+    (λ test. absurd (none back some (ltb-false 0 back test)))
+  where
+    none : (b : ℕ) → 0 < b → b ≤ 0 → ⊥
+    none b lt le = omega arith
+
+    counted : (x : ℕ) → x ≡ min m 255 → back ≤ x
+    counted x is = omega (arith, few, there)
+
+    was : way.was_sent true back w ≡ true
+    was = and_from (nat_le back w.ever) (way.is_repeated true back w || (nat_le back w.pending || nat_le back 4)) (le-leb back w.ever (counted w.ever h.ever))
+        (or_left (way.is_repeated true back w) (nat_le back w.pending || nat_le back 4) (le-leb back w.kept (counted w.kept h.kept)))
+
+    zero : (b : ℕ) → 0 < b → b ≡ 0 → ⊥
+    zero b lt is = omega arith
+
+    unexplained : Fair (way.unexplained true back w) m u
+    unexplained =
+        cond_both (back == 0) (way.told (way.grown 1 w) (Skips (way.place w)) w) _ (λ (t : Told). Fair t m u)
+        (λ test. absurd (zero back some (eqb-true back 0 test)))
+        (λ _. cond_both (nat_lt back w.behind) (way.told (way.repeated back w) (Skips (way.place w)) w) _ (λ (t : Told). Fair t m u)
+        (λ _. told_fair (way.repeated back w) w (Skips (way.place w)) m u refl (repeated_own w m u back h))
+        (λ _. cond_both (way.was_sent true back w) (way.told (way.repeated back w) (Repeats (way.place w)) w) (way.told (way.grown (9 - back) w) (Skips (way.place w)) w) (λ (t : Told). Fair t m u)
+        (λ _. told_fair (way.repeated back w) w (Repeats (way.place w)) m u refl (repeated_own w m u back h))
+        (λ test. absurd (both_ways (way.was_sent true back w) test was))))
+
+pub new_fair : (w : Way) (window m u : ℕ) (is_poll is_same : Bool) → 7 ≤ window → m < u + 7 → Own w m u → Fair (way.sent window (m % 8) is_poll is_same w) (m + 1) u
+new_fair w window m u is_poll is_same large near h =
+    cond_both (way.is_unseen w) (way.quiet (way.counted w)) (way.sent_number window is_poll is_same (apart w.next (m % 8)) w) (λ (t : Told). Fair t (m + 1) u)
+    (λ test. absurd (both_ways (way.is_unseen w) h.seen test))
+    (λ _. subst (λ b. Fair (way.sent_number window is_poll is_same b w) (m + 1) u) (sym (ap (λ x. apart x (m % 8)) h.next ∙ same m)) (new_at w window m u is_poll is_same large near h))
+  where
+    same : (m : ℕ) → apart (m % 8) (m % 8) ≡ 0
+    same m = omega arith
+
+pub old_fair : (w : Way) (window m u n : ℕ) (is_poll is_same : Bool) → n < m → m ≤ n + 7 → is_same ≡ true → Own w m u → Fair (way.sent window (n % 8) is_poll is_same w) m u
+old_fair w window m u n is_poll is_same before near same h =
+    cond_both (way.is_unseen w) (way.quiet (way.counted w)) (way.sent_number window is_poll is_same (apart w.next (n % 8)) w) (λ (t : Told). Fair t m u)
+    (λ test. absurd (both_ways (way.is_unseen w) h.seen test))
+    (λ _. subst (λ b. Fair (way.sent_number window is_poll is_same b w) m u) (sym (ap (λ x. apart x (n % 8)) h.next ∙ apart_is m n (below m n before) near))
+    (subst (λ s. Fair (way.sent_number window is_poll s (m - n) w) m u) (sym same) (old_at w window m u (m - n) is_poll (some m n before) (few m n near) (there m n) h)))
+  where
+    below : (m n : ℕ) → n < m → n ≤ m
+    below m n lt = omega arith
+
+    some : (m n : ℕ) → n < m → 0 < m - n
+    some m n lt = omega arith
+
+    few : (m n : ℕ) → m ≤ n + 7 → m - n ≤ 7
+    few m n near = omega arith
+
+    there : (m n : ℕ) → m - n ≤ m
+    there m n = omega arith
+
+-- ---- N(R)
+
+abbrev Keeps : Way → ℕ → Way → Type 0
+Keeps w m v = (way.is_unseen v ≡ false) × (v.next ≡ m % 8) × (v.ever ≡ min m 255) × (v.kept ≡ min m 255)
+
+-- an N(R) changes the sight and what is unacknowledged
+heard_any : (w : Way) (nr : ℕ) (P : Way → Type 0) → P w → P (way.astray w) → P (way.deaf w) → ((a : ℕ) → P (way.acknowledged a w)) → P (way.heard nr w).way
+heard_any w nr P same astray deaf acknowledged =
+    cond_both (way.may_hear w) (way.heard_ahead ahead w) (way.quiet w) (λ (t : Told). P t.way)
+    (λ _. cond_both (nat_le ahead w.pending) (way.quiet (way.acknowledged ahead w)) (way.strayed ahead w) (λ (t : Told). P t.way)
+    (λ _. acknowledged ahead)
+    (λ _. cond_both (not (way.is_sure w)) (way.quiet (way.astray w)) (if w.is_missed then way.notes HeardBehindDamage (way.astray w) else way.breaks (way.invalid ahead w) (way.deaf w)) (λ (t : Told). P t.way)
+    (λ _. astray)
+    (λ _. cond_both w.is_missed (way.notes HeardBehindDamage (way.astray w)) (way.breaks (way.invalid ahead w) (way.deaf w)) (λ (t : Told). P t.way) (λ _. astray) (λ _. deaf))))
+    (λ _. same)
+  where
+    ahead : ℕ
+    ahead = apart nr (way.awaited w)
+
+pub heard_own : (w : Way) (m u nr : ℕ) → Own w m u → Own (way.heard nr w).way m (resolved u nr)
+heard_own w m u nr h =
+    let keeps = heard_any w nr (Keeps w m) (h.seen, h.next, h.ever, h.kept) (refl, h.next, h.ever, h.kept) (refl, h.next, h.ever, h.kept) (λ a. (refl, h.next, h.ever, h.kept)) in
+    record {
+      seen = keeps.0;
+      next = keeps.1;
+      ever = keeps.2;
+      kept = keeps.3;
+      numbered = heard_numbered w _ (λ x y. (x ≡ m) × (resolved u nr ≤ y)) nr (λ x y near fit. (fit.0, rises u y fit.1)) h.numbered;
+    }
+  where
+    rises : (u y : ℕ) → u ≤ y → resolved u nr ≤ resolved y nr
+    rises u y le = omega arith
+
+-- the N(R) that stands for t, of an end that took g at most, and said that it took u
+pub record Answers (t : Told) (g u : ℕ) : Type 0 where
+  pub quiet : t.rule ≡ None
+  pub numbered : Numbered t.way (λ x y. (g ≤ x) × (y ≡ u))
+
+pub heard_fair : (w : Way) (g u t : ℕ) → u ≤ t → t ≤ g → Numbered w (λ x y. (g ≤ x) × (y ≡ u)) → Answers (way.heard (t % 8) w) g t
+heard_fair w g u t rising taken h = record {
+  quiet =
+      cond_both (way.may_hear w) (way.heard_ahead ahead w) (way.quiet w) (λ (x : Told). x.rule ≡ None)
+      (λ test. cond_both (nat_le ahead w.pending) (way.quiet (way.acknowledged ahead w)) (way.strayed ahead w) (λ (x : Told). x.rule ≡ None)
+      (λ _. refl)
+      (λ far. absurd (never (leb-false ahead w.pending far) (h.counts (sym h.hears ∙ test)))))
+      (λ _. refl);
+  numbered = heard_numbered w _ (λ x y. (g ≤ x) × (y ≡ t)) (t % 8) lands h;
+}
+  where
+    ahead : ℕ
+    ahead = apart (t % 8) (way.awaited w)
+
+    never : w.pending < ahead → ((x : ℕ) × (y : ℕ) × ((g ≤ x) × (y ≡ u)) × Counts w x y) → ⊥
+    never far (x, y, fit, c) = subst (λ a. w.pending < apart (t % 8) a → ⊥) (sym (ap (λ z. apart z w.pending) c.next)) (near w.pending x y c.pending c.few fit.0 fit.1) far
+      where
+        near : (p x y : ℕ) → p + y ≡ x → p ≤ 7 → g ≤ x → y ≡ u → p < apart (t % 8) (apart (x % 8) p) → ⊥
+        near p x y is few le same far = omega (arith, rising, taken)
+
+    lands : (x y : ℕ) → x ≤ y + 7 → ((g ≤ x) × (y ≡ u)) → ((g ≤ x) × (resolved y (t % 8) ≡ t))
+    lands x y near fit = (fit.0, is x y near fit.0 fit.1)
+      where
+        is : (x y : ℕ) → x ≤ y + 7 → g ≤ x → y ≡ u → resolved y (t % 8) ≡ t
+        is x y near le same = omega (arith, rising, taken)

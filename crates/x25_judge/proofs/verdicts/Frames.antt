@@ -1,0 +1,184 @@
+-- What a frame with a number changes of both ends, once the link is up.
+use Rattle.std.proofs.Common.{◌≡◌, ℕ, Bool, true, false, Option, Some, None, refl, sym, ap, ◌∙◌, subst}
+use Rattle.std.specs.Prelude.{◌==◌, ◌&&◌, not}
+use Rattle.std.proofs.lemmas.Bool.{both_ways, cond_both}
+use Rattle.x25_judge.specs.Sides as sides
+use Rattle.x25_judge.specs.Way as way
+use Rattle.x25_judge.specs.declared.note.Note.{Note}
+use Rattle.x25_judge.specs.declared.note.Note.TheVariants.{PollAgain, PollUnseen}
+use Rattle.x25_judge.specs.declared.rule.Rule.{Rule}
+use Rattle.x25_judge.specs.declared.rule.Rule.TheVariants.{NoPoll}
+use Rattle.x25_judge.specs.declared.sides.Phase.{Phase}
+use Rattle.x25_judge.specs.declared.sides.Phase.TheVariants.{Unseen, Out, Waiting, Answered, Up}
+use Rattle.x25_judge.specs.declared.sides.Sides.{Sides}
+use Rattle.x25_judge.specs.declared.way.Told.{Told}
+use Rattle.x25_judge.specs.declared.way.Way.{Way}
+use Rattle.x25_judge.specs.laws.Session.{is_of_order}
+
+-- ---- the link is up
+
+pub record AreUp (t : Sides) : Type 0 where
+  pub own : sides.may_run t.own.phase ≡ true
+  pub other : sides.may_run t.other.phase ≡ true
+
+-- the ways are as they were, and no rule of order is told
+record Bare (t v : Sides) : Type 0 where
+  pub up : AreUp v
+  pub own : v.own.way ≡ t.own.way
+  pub other : v.other.way ≡ t.other.way
+  pub plain : is_of_order v.rule ≡ false
+
+runs_on : (p : Phase) → sides.may_run p ≡ true → sides.may_run (sides.running p) ≡ true
+runs_on Unseen h = refl
+runs_on Out h = absurd (both_ways false refl h)
+runs_on Waiting h = absurd (both_ways false refl h)
+runs_on Answered h = refl
+runs_on Up h = refl
+
+runs_bare : (t : Sides) → AreUp t → t.rule ≡ None → Bare t (sides.runs t)
+runs_bare t up none = cond_both (sides.may_run t.own.phase) (sides.with_own (sides.with_phase (sides.running t.own.phase) t.own) t) _ (λ v. Bare t v)
+    (λ _. record { up = record { own = runs_on t.own.phase up.own; other = up.other }; own = refl; other = refl; plain = ap is_of_order none })
+    (λ test. absurd (both_ways (sides.may_run t.own.phase) test up.own))
+
+polls_bare : (t v : Sides) → Bare t v → Bare t (sides.polls v)
+polls_bare t v h = cond_both v.own.is_polling (sides.notes (Some PollAgain) (sides.asks_on true v)) (sides.asks_on true v) (λ x. Bare t x) (λ _. asked) (λ _. asked)
+  where
+    asked : {note : Option Note} → Bare t (record (sides.asks_on true v) { note = note })
+    asked = record { up = record { own = h.up.own; other = h.up.other }; own = h.own; other = h.other; plain = h.plain }
+
+first_plain : (r : Option Rule) → is_of_order r ≡ false → is_of_order (sides.first r (Some NoPoll)) ≡ false
+first_plain None h = refl
+first_plain (Some rule) h = h
+
+answers_bare : (t v : Sides) → Bare t v → Bare t (sides.answers_poll true v)
+answers_bare t v h =
+    cond_both (not (v.other.polls == 0)) (sides.poll_answered v) _ (λ x. Bare t x)
+    (λ _. record { up = record { own = h.up.own; other = h.up.other }; own = h.own; other = h.other; plain = h.plain })
+    (λ _. cond_both (true && not (sides.is_unseen v.own.phase)) (sides.tells (Some NoPoll) (sides.poll_answered v)) (sides.notes (Some PollUnseen) (sides.poll_answered v)) (λ x. Bare t x)
+    (λ _. record { up = record { own = h.up.own; other = h.up.other }; own = h.own; other = h.other; plain = first_plain v.rule h.plain })
+    (λ _. record { up = record { own = h.up.own; other = h.up.other }; own = h.own; other = h.other; plain = h.plain }))
+
+bits_bare : (command pf : Bool) (t v : Sides) → Bare t v → Bare t (sides.bits command pf v)
+bits_bare command false t v h = h
+bits_bare true true t v h = polls_bare t v h
+bits_bare false true t v h = answers_bare t v h
+
+begun_bare : (command pf : Bool) (t : Sides) → AreUp t → t.rule ≡ None → Bare t (sides.bits command pf (sides.runs t))
+begun_bare command pf t up none = bits_bare command pf t (sides.runs t) (runs_bare t up none)
+
+-- ---- what a frame makes of the ways
+
+-- but for what sends V(S) back
+pub record AreAlike (w v : Way) : Type 0 where
+  pub sight : v.sight ≡ w.sight
+  pub next : v.next ≡ w.next
+  pub ever : v.ever ≡ w.ever
+  pub kept : v.kept ≡ w.kept
+  pub behind : v.behind ≡ w.behind
+  pub pending : v.pending ≡ w.pending
+  pub whole : v.is_missed ≡ w.is_missed
+
+alike : (w : Way) → AreAlike w w
+alike w = record { sight = refl; next = refl; ever = refl; kept = refl; behind = refl; pending = refl; whole = refl }
+
+-- a frame with this N(R) makes this of its sender's way, and tells this rule last
+pub record Sees (t v : Sides) (nr : ℕ) (mine : Way) (last : Option Rule) : Type 0 where
+  pub up : AreUp v
+  pub own : v.own.way ≡ mine
+  pub other : AreAlike (way.heard nr t.other.way).way v.other.way
+  pub before : Option Rule
+  pub plain : is_of_order before ≡ false
+  pub rule : v.rule ≡ sides.first (sides.first before (way.heard nr t.other.way).rule) last
+
+no_more : (r : Option Rule) → r ≡ sides.first r None
+no_more None = refl
+no_more (Some rule) = refl
+
+heard_sees : (t v : Sides) (nr : ℕ) → Bare t v → Sees t (sides.hears nr v) nr t.own.way None
+heard_sees t v nr h = record {
+  up = record { own = h.up.own; other = h.up.other };
+  own = h.own;
+  other = subst (λ w. AreAlike (way.heard nr t.other.way).way (way.heard nr w).way) (sym h.other) (alike (way.heard nr t.other.way).way);
+  before = v.rule;
+  plain = h.plain;
+  rule = subst (λ w. sides.first v.rule (way.heard nr w).rule ≡ sides.first (sides.first v.rule (way.heard nr t.other.way).rule) None) (sym h.other) (no_more (sides.first v.rule (way.heard nr t.other.way).rule));
+}
+
+-- ---- frames
+
+pub info_sees : (window ns nr : ℕ) (p is_same : Bool) (t : Sides) → AreUp t → t.rule ≡ None
+    → Sees t (sides.sends_info window ns nr p is_same t) nr (way.sent window ns p is_same t.own.way).way (way.sent window ns p is_same t.own.way).rule
+unfolding sides.sends_info
+info_sees window ns nr p is_same t up none =
+    let h = heard_sees t (sides.bits true p (sides.runs t)) nr (begun_bare true p t up none) in
+    let v = sides.hears nr (sides.bits true p (sides.runs t)) in
+    record {
+      up = record { own = h.up.own; other = h.up.other };
+      own = ap (λ w. (way.sent window ns p is_same w).way) h.own;
+      other = h.other;
+      before = h.before;
+      plain = h.plain;
+      rule = ap (λ w. sides.first v.rule (way.sent window ns p is_same w).rule) h.own
+          ∙ ap (λ r. sides.first r (way.sent window ns p is_same t.own.way).rule) (h.rule ∙ sym (no_more (sides.first h.before (way.heard nr t.other.way).rule)));
+    }
+
+back_sees : (nr back : ℕ) (t v : Sides) (own : Way) (last : Option Rule) → Sees t v nr own last → Sees t (sides.sends_back back v) nr own last
+back_sees nr back t v own last h = record {
+  up = record { own = h.up.own; other = h.up.other };
+  own = h.own;
+  other = record { sight = h.other.sight; next = h.other.next; ever = h.other.ever; kept = h.other.kept; behind = h.other.behind; pending = h.other.pending; whole = h.other.whole };
+  before = h.before;
+  plain = h.plain;
+  rule = h.rule;
+}
+
+answer_sees : (command pf : Bool) (nr : ℕ) (t v : Sides) (own : Way) (last : Option Rule) → Sees t v nr own last → Sees t (sides.if_answer command pf nr v) nr own last
+answer_sees command pf nr t v own last h = cond_both (pf && not command) (sides.sends_back nr v) v (λ x. Sees t x nr own last) (λ _. back_sees nr nr t v own last h) (λ _. h)
+
+pub ready_sees : (command : Bool) (nr : ℕ) (pf : Bool) (t : Sides) → AreUp t → t.rule ≡ None → Sees t (sides.sends_ready command nr pf t) nr t.own.way None
+unfolding sides.sends_ready
+ready_sees command nr pf t up none =
+    answer_sees command pf nr t (sides.hears nr (sides.bits command pf (sides.runs t))) t.own.way None (heard_sees t (sides.bits command pf (sides.runs t)) nr (begun_bare command pf t up none))
+
+rejected_plain : (w : Way) → (is_of_order (way.rejected w).rule ≡ false) × AreAlike w (way.rejected w).way
+rejected_plain w =
+    cond_both (way.is_sure w && w.is_rejected) (way.breaks _ _) (way.quiet _) (λ (x : Told). (is_of_order x.rule ≡ false) × AreAlike w x.way)
+    (λ _. (refl, record { sight = refl; next = refl; ever = refl; kept = refl; behind = refl; pending = refl; whole = refl }))
+    (λ _. (refl, record { sight = refl; next = refl; ever = refl; kept = refl; behind = refl; pending = refl; whole = refl }))
+
+pub record Rejects (t v : Sides) (nr : ℕ) : Type 0 where
+  pub last : Option Rule
+  pub plain : is_of_order last ≡ false
+  pub sees : Sees t v nr t.own.way last
+
+pub reject_sees : (command : Bool) (nr : ℕ) (pf : Bool) (t : Sides) → AreUp t → t.rule ≡ None → Rejects t (sides.sends_reject command nr pf t) nr
+unfolding sides.sends_reject
+reject_sees command nr pf t up none =
+    let v = sides.hears nr (sides.bits command pf (sides.runs t)) in
+    let h = heard_sees t (sides.bits command pf (sides.runs t)) nr (begun_bare command pf t up none) in
+    let r = rejected_plain v.other.way in
+    record {
+      last = (way.rejected v.other.way).rule;
+      plain = r.0;
+      sees = back_sees nr nr t (sides.rejects v) t.own.way (way.rejected v.other.way).rule (record {
+        up = record { own = h.up.own; other = h.up.other };
+        own = h.own;
+        other = record { sight = r.1.sight ∙ h.other.sight; next = r.1.next ∙ h.other.next; ever = r.1.ever ∙ h.other.ever; kept = r.1.kept ∙ h.other.kept; behind = r.1.behind ∙ h.other.behind; pending = r.1.pending ∙ h.other.pending; whole = r.1.whole ∙ h.other.whole };
+        before = h.before;
+        plain = h.plain;
+        rule = ap (λ x. sides.first x (way.rejected v.other.way).rule) (h.rule ∙ sym (no_more (sides.first h.before (way.heard nr t.other.way).rule)));
+      });
+    }
+
+-- ---- the first rule
+
+pub first_of_order : (r last : Option Rule) → is_of_order r ≡ false → is_of_order last ≡ false → is_of_order (sides.first r last) ≡ false
+first_of_order None last h k = k
+first_of_order (Some rule) last h k = h
+
+pub first_none : (r last : Option Rule) → sides.first r last ≡ None → (r ≡ None) × (last ≡ None)
+first_none None last h = (refl, h)
+first_none (Some rule) last h = absurd (never h)
+  where
+    never : Some rule ≡ None → ⊥
+    never e = cc

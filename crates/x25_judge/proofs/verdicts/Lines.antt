@@ -1,0 +1,98 @@
+-- What a line makes of the judge, where it is a frame.
+use Rattle.std.proofs.Common.{◌≡◌, ℕ, Bool, true, false, List, Option, Some, None, refl, sym, ap, ◌∙◌, subst}
+use Rattle.std.specs.Prelude.{is_some, not, ◌&&◌}
+use Rattle.std.proofs.lemmas.Bool.{both_ways, or_parts}
+use Rattle.x25_bits.specs.declared.role.Role.{Role}
+use Rattle.x25_bits.specs.declared.role.Role.TheVariants.{Dte, Dce}
+use Rattle.x25_frame.specs.Frame.{PlainFrame, info, rr, rnr, rej, sabm, disc, ua, dm, frmr}
+use Rattle.x25_link.specs.Hearing.{other}
+use Rattle.x25_packet.specs.Reading.{channel_in}
+use Rattle.x25_packet_judge.specs.Book as book
+use Rattle.x25_packet_judge.specs.declared.packet_rule.PacketRule.{PacketRule}
+use Rattle.x25_judge.specs.Held.{keeps}
+use Rattle.x25_judge.specs.Judge.{Answer, sides_of, held_of, counts_packet, counts_on, counts_carried, all_told, told_frame, remark_of, next_by, seen_by, read_of, sent_of, answer_to}
+use Rattle.x25_judge.specs.declared.judge.Judge.{Judge}
+use Rattle.x25_judge.specs.declared.rule.Rule.{Rule}
+use Rattle.x25_judge.specs.declared.sides.Sides.{Sides}
+use Rattle.x25_judge.specs.laws.Session.{end_of, Shows, is_of_order}
+
+pub other_twice : (from : Role) → other (other from) ≡ from
+other_twice Dte = refl
+other_twice Dce = refl
+
+-- ---- the answer to a line
+
+pub answered : (j : Judge) (line : List ℕ) (from : Role) (octets : List ℕ) (frame : PlainFrame) → Shows line from octets frame → answer_to j line ≡ told_frame j from frame (seen_by j from frame)
+unfolding answer_to
+answered j line from octets frame shows = ap (λ (s : Option (Role × List ℕ)). sent_of j s) shows.spells ∙ ap (λ r. read_of j from r) shows.reads
+
+-- ---- the judge behind it
+
+-- its ends are those that the sides show, and the octets of the I frame are kept
+pub record Goes (j k : Judge) (from : Role) (t : Sides) (frame : PlainFrame) : Type 0 where
+  pub own : end_of from k ≡ t.own
+  pub opposite : end_of (other from) k ≡ t.other
+  pub window : k.window ≡ j.window
+  pub held : held_of from k ≡ keeps (held_of from j) frame
+  pub other_held : held_of (other from) k ≡ held_of (other from) j
+
+on_any : (from : Role) (channel : Option ℕ) (is_judged : Bool) (j : Judge) (P : Judge → Type 0) → ((c : ℕ) → P (counts_packet from c is_judged j)) → P (counts_on from channel is_judged j)
+on_any from (Some channel) is_judged j P h = h channel
+on_any from None is_judged j P h = h 0
+
+carried_any : (from : Role) (frame : PlainFrame) (is_again is_judged : Bool) (j : Judge) (P : Judge → Type 0) → P j → ((c : ℕ) → P (counts_packet from c is_judged j)) → P (counts_carried from frame is_again is_judged j)
+unfolding counts_carried
+carried_any from (info ns nr p octets) true is_judged j P h g = h
+carried_any from (info ns nr p octets) false is_judged j P h g = on_any from (channel_in octets) is_judged j P g
+carried_any from (rr command nr pf) is_again is_judged j P h g = h
+carried_any from (rnr command nr pf) is_again is_judged j P h g = h
+carried_any from (rej command nr pf) is_again is_judged j P h g = h
+carried_any from (sabm p) is_again is_judged j P h g = h
+carried_any from (disc p) is_again is_judged j P h g = h
+carried_any from (ua f) is_again is_judged j P h g = h
+carried_any from (dm f) is_again is_judged j P h g = h
+carried_any from (frmr f why) is_again is_judged j P h g = h
+
+pub next_goes : (from : Role) (j : Judge) (frame : PlainFrame) (t : Sides) (s : book.Seen) → Goes j (next_by j from frame t s) from t frame
+next_goes Dte j frame t s = carried_any Dte frame t.is_again s.verdict.is_judged _ (λ k. Goes j k Dte t frame)
+    (record { own = refl; opposite = refl; window = refl; held = refl; other_held = refl })
+    (λ c. record { own = refl; opposite = refl; window = refl; held = refl; other_held = refl })
+next_goes Dce j frame t s = carried_any Dce frame t.is_again s.verdict.is_judged _ (λ k. Goes j k Dce t frame)
+    (record { own = refl; opposite = refl; window = refl; held = refl; other_held = refl })
+    (λ c. record { own = refl; opposite = refl; window = refl; held = refl; other_held = refl })
+
+pub goes : (j : Judge) (line : List ℕ) (from : Role) (octets : List ℕ) (frame : PlainFrame) → Shows line from octets frame → Goes j (answer_to j line).next from (seen_by j from frame) frame
+goes j line from octets frame shows =
+    let t = seen_by j from frame in
+    subst (λ (a : Answer). Goes j a.next from t frame) (sym (answered j line from octets frame shows)) (next_goes from j frame t (book.sees from j.long_data frame (is_some t.rule) j.book))
+
+-- ---- both ends before it
+
+pub record Stands (j : Judge) (from : Role) : Type 0 where
+  pub own : (sides_of from j).own ≡ end_of from j
+  pub opposite : (sides_of from j).other ≡ end_of (other from) j
+  pub none : (sides_of from j).rule ≡ None
+
+pub stands : (j : Judge) (from : Role) → Stands j from
+stands j Dte = record { own = refl; opposite = refl; none = refl }
+stands j Dce = record { own = refl; opposite = refl; none = refl }
+
+-- ---- what is told
+
+pub told_of_order : (r : Option Rule) (packet : Option PacketRule) → is_of_order r ≡ false → is_of_order (all_told r packet) ≡ false
+told_of_order (Some rule) packet h = h
+told_of_order None None h = refl
+told_of_order None (Some packet) h = refl
+
+told_none : (r : Option Rule) (packet : Option PacketRule) → is_some (all_told r packet) ≡ false → r ≡ None
+told_none (Some rule) packet h = absurd (both_ways true h refl)
+told_none None packet h = refl
+
+-- no fault: no rule of the link layer is told
+pub none_told : (j : Judge) (line : List ℕ) (from : Role) (octets : List ℕ) (frame : PlainFrame) → Shows line from octets frame → (answer_to j line).is_faulty ≡ false → (seen_by j from frame).rule ≡ None
+none_told j line from octets frame shows quiet =
+    let t = seen_by j from frame in
+    let v = (book.sees from j.long_data frame (is_some t.rule) j.book).verdict in
+    let r = remark_of j from frame t in
+    let here = sym (ap (λ (a : Answer). a.is_faulty) (answered j line from octets frame shows)) ∙ quiet in
+    told_none t.rule v.rule (or_parts (is_some r.rule) (j.is_strict && not r.is_judged) here).0

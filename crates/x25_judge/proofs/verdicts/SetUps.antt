@@ -1,0 +1,198 @@
+-- SABM and UA begin the numbers of both ends.
+use Rattle.std.proofs.Common.{◌≡◌, ◌==◌, ℕ, ◌+◌, ◌%◌, min, arith, Bool, true, false, List, [], ◌∷◌, length, Option, Some, None, Result, Ok, Err, refl, sym, ap, ◌∙◌, subst}
+use Rattle.std.specs.Prelude.{is_some, not, ◌&&◌}
+use Rattle.std.proofs.lemmas.Bool.{cond_both, ne_eqb, and_right, cond-false}
+use Rattle.std.proofs.lemmas.List.{length-set}
+use Rattle.x25_bits.specs.declared.role.Role.{Role}
+use Rattle.x25_bits.specs.declared.role.Role.TheVariants.{Dte, Dce}
+use Rattle.x25_bits.specs.Role.{other}
+use Rattle.x25_decode.specs.Decoding.{n1, sent_in}
+use Rattle.x25_frame.specs.Frame.{PlainFrame, info, rr, rnr, rej, sabm, disc, ua, dm, frmr}
+use Rattle.x25_frame.specs.Reading.{frame_of}
+use Rattle.x25_frame.specs.declared.error.FrameError.{FrameError}
+use Rattle.x25_packet_judge.specs.Book as book
+use Rattle.x25_judge.specs.Held.{keeps, kept, none_held}
+use Rattle.x25_judge.specs.Judge.{begins, held_of, sides_of, seen_by, next_missed, read_of, sent_of, answer_to}
+use Rattle.x25_judge.specs.Sides as sides
+use Rattle.x25_judge.specs.Way as way
+use Rattle.x25_judge.specs.declared.judge.Judge.{Judge}
+use Rattle.x25_judge.specs.declared.note.Note.TheVariants.{PollAgain, PollUnseen}
+use Rattle.x25_judge.specs.declared.rule.Rule.TheVariants.{NoPoll, UaUnasked}
+use Rattle.x25_judge.specs.declared.sides.End.{End}
+use Rattle.x25_judge.specs.declared.sides.Phase.{Phase}
+use Rattle.x25_judge.specs.declared.sides.Phase.TheVariants.{Unseen, Out, Waiting, Answered, Up}
+use Rattle.x25_judge.specs.declared.sides.Sides.{Sides}
+use Rattle.x25_judge.specs.laws.Session.{end_of, IsSetUp}
+use Rattle.x25_judge.specs.laws.VerdictClaims.{after, IsAnswered, SetUpsBegin}
+use Rattle.x25_judge.proofs.verdicts.Lines.{other_twice, Goes, next_goes, goes, stands}
+
+-- ---- what no line changes
+
+record Stays (window : ℕ) (j : Judge) : Type 0 where
+  pub rooms : (r : Role) → length (held_of r j) ≡ 8
+  pub counts : j.window ≡ window
+
+keeps_room : (hs : List (List ℕ)) (frame : PlainFrame) → length (keeps hs frame) ≡ length hs
+unfolding keeps
+keeps_room hs (info ns nr p octets) = length-set hs (ns % 8) (kept octets)
+keeps_room hs (rr command nr pf) = refl
+keeps_room hs (rnr command nr pf) = refl
+keeps_room hs (rej command nr pf) = refl
+keeps_room hs (sabm p) = refl
+keeps_room hs (disc p) = refl
+keeps_room hs (ua f) = refl
+keeps_room hs (dm f) = refl
+keeps_room hs (frmr f why) = refl
+
+goes_stays : (window : ℕ) (j k : Judge) (from : Role) (t : Sides) (frame : PlainFrame) → Goes j k from t frame → Stays window j → Stays window k
+goes_stays window j k from t frame g h = record { rooms = rooms from g; counts = g.window ∙ h.counts }
+  where
+    own : (f : Role) → Goes j k f t frame → length (held_of f k) ≡ 8
+    own f g = ap length g.held ∙ keeps_room (held_of f j) frame ∙ h.rooms f
+
+    opposite : (f : Role) → Goes j k f t frame → length (held_of (other f) k) ≡ 8
+    opposite f g = ap length g.other_held ∙ h.rooms (other f)
+
+    rooms : (f : Role) → Goes j k f t frame → (r : Role) → length (held_of r k) ≡ 8
+    rooms Dte g Dte = own Dte g
+    rooms Dte g Dce = opposite Dte g
+    rooms Dce g Dte = opposite Dce g
+    rooms Dce g Dce = own Dce g
+
+missed_stays : (window : ℕ) (j : Judge) (from : Role) (e : FrameError) → Stays window j → Stays window (next_missed from e j)
+missed_stays window j Dte e h = record { rooms = rooms; counts = h.counts }
+  where
+    rooms : (r : Role) → length (held_of r (next_missed Dte e j)) ≡ 8
+    rooms Dte = h.rooms Dte
+    rooms Dce = h.rooms Dce
+missed_stays window j Dce e h = record { rooms = rooms; counts = h.counts }
+  where
+    rooms : (r : Role) → length (held_of r (next_missed Dce e j)) ≡ 8
+    rooms Dte = h.rooms Dte
+    rooms Dce = h.rooms Dce
+
+read_stays : (window : ℕ) (j : Judge) (from : Role) (r : Result PlainFrame FrameError) → Stays window j → Stays window (read_of j from r).next
+read_stays window j from (Ok frame) h =
+    let t = seen_by j from frame in
+    goes_stays window j _ from t frame (next_goes from j frame t (book.sees from j.long_data frame (is_some t.rule) j.book)) h
+read_stays window j from (Err e) h = missed_stays window j from e h
+
+sent_stays : (window : ℕ) (j : Judge) (s : Option (Role × List ℕ)) → Stays window j → Stays window (sent_of j s).next
+sent_stays window j None h = h
+sent_stays window j (Some (from, octets)) h = read_stays window j from (frame_of from n1 octets) h
+
+line_stays : (window : ℕ) (j : Judge) (line : List ℕ) → Stays window j → Stays window (answer_to j line).next
+unfolding answer_to
+line_stays window j line h = sent_stays window j (sent_in line) h
+
+lines_stay : (window : ℕ) (j : Judge) (lines : List (List ℕ)) → Stays window j → Stays window (after j lines)
+lines_stay window j [] h = h
+lines_stay window j (line ∷ lines) h = lines_stay window (answer_to j line).next lines (line_stays window j line h)
+
+begins_so : (window : ℕ) (long_data is_strict : Bool) → Stays window (begins window long_data is_strict)
+unfolding none_held
+begins_so window long_data is_strict = record { rooms = rooms; counts = refl }
+  where
+    rooms : (r : Role) → length (held_of r (begins window long_data is_strict)) ≡ 8
+    rooms Dte = refl
+    rooms Dce = refl
+
+-- ---- SABM
+
+record Asks (e : End) : Type 0 where
+  pub phase : e.phase ≡ Waiting
+  pub knows : Bool
+  pub way : e.way ≡ way.fresh knows
+  pub asked : (e.asked == 0) ≡ false
+
+waits : (p : Phase) → (IsAnswered p → ⊥) → sides.asking p ≡ Waiting
+waits Unseen h = refl
+waits Out h = refl
+waits Waiting h = refl
+waits Answered h = absurd (h tt)
+waits Up h = refl
+
+some_asked : (x : ℕ) → (min (x + 1) 255 == 0) ≡ false
+some_asked x = ne_eqb (min (x + 1) 255) 0 (λ e. never e)
+  where
+    never : min (x + 1) 255 ≡ 0 → ⊥
+    never e = omega arith
+
+sabm_asks : (window : ℕ) (s p : Bool) (t : Sides) → (IsAnswered t.own.phase → ⊥) → Asks (sides.sees window s (sabm p) t).own
+unfolding sides.sees
+sabm_asks window s false t h = record { phase = waits t.own.phase h; knows = sides.awaits_ua t.other.phase; way = refl; asked = some_asked t.own.asked }
+sabm_asks window s true t h =
+    cond_both t.own.is_polling (sides.notes (Some PollAgain) (sides.asks_on true t)) (sides.asks_on true t) (λ (v : Sides). Asks (sides.asks (sides.asks_more v)).own)
+    (λ _. record { phase = waits t.own.phase h; knows = sides.awaits_ua t.other.phase; way = refl; asked = some_asked t.own.asked })
+    (λ _. record { phase = waits t.own.phase h; knows = sides.awaits_ua t.other.phase; way = refl; asked = some_asked t.own.asked })
+
+-- ---- UA
+
+record AreBegun (t : Sides) : Type 0 where
+  pub own_up : sides.may_run t.own.phase ≡ true
+  pub own : t.own.way ≡ way.fresh true
+  pub other_up : sides.may_run t.other.phase ≡ true
+  pub opposite : t.other.way ≡ way.fresh true
+
+is_up : (p : Phase) → sides.may_run (sides.accepting p) ≡ true
+is_up Unseen = refl
+is_up Out = refl
+is_up Waiting = refl
+is_up Answered = refl
+is_up Up = refl
+
+answered_fresh : (knows : Bool) → way.answered (way.fresh knows) ≡ way.fresh true
+answered_fresh true = refl
+answered_fresh false = refl
+
+record Kept (e : End) (v : Sides) : Type 0 where
+  pub phase : v.other.phase ≡ e.phase
+  pub way : v.other.way ≡ e.way
+
+accepts_begin : (e : End) (v : Sides) → Asks e → Kept e v → AreBegun (sides.accepts v)
+accepts_begin e v a k =
+    let waiting = k.phase ∙ a.phase in
+    record {
+      own_up = is_up v.own.phase;
+      own = ap (λ p. sides.accepting_way p v.own.way) waiting;
+      other_up = ap (λ p. sides.may_run (sides.accepted p)) waiting;
+      opposite = ap (λ p. sides.accepted_way p v.other.way) waiting ∙ ap way.answered (k.way ∙ a.way) ∙ answered_fresh a.knows;
+    }
+
+answered_kept : (f : Bool) (t : Sides) → Kept t.other (sides.answers (sides.answers_if f t))
+answered_kept false t = record { phase = refl; way = refl }
+answered_kept true t =
+    cond_both (not (t.other.polls == 0)) (sides.poll_answered t) _ (λ (v : Sides). Kept t.other (sides.answers v))
+    (λ _. record { phase = refl; way = refl })
+    (λ _. cond_both (t.other.is_followed && not (sides.is_unseen t.own.phase)) (sides.tells (Some NoPoll) (sides.poll_answered t)) (sides.notes (Some PollUnseen) (sides.poll_answered t)) (λ (v : Sides). Kept t.other (sides.answers v))
+    (λ _. record { phase = refl; way = refl })
+    (λ _. record { phase = refl; way = refl }))
+
+ua_begins : (window : ℕ) (s f : Bool) (t : Sides) → Asks t.other → AreBegun (sides.sees window s (ua f) t)
+unfolding sides.sees
+ua_begins window s f t a =
+    subst (λ v. AreBegun v) (sym (cond-false (sides.is_unasked t) (sides.tells (Some UaUnasked) t) (sides.accepts (sides.answers (sides.answers_if f t))) (and_right t.other.is_followed (t.other.asked == 0) a.asked)))
+    (accepts_begin t.other (sides.answers (sides.answers_if f t)) a (answered_kept f t))
+
+-- ---- both
+
+begun : (o : Role) (j k : Judge) (t : Sides) (f : Bool) → Goes j k o t (ua f) → AreBegun t → ((r : Role) → length (held_of r k) ≡ 8) → IsSetUp k
+begun Dte j k t f g b rooms Dte = record { up = ap (λ (e : End). sides.may_run e.phase) g.own ∙ b.own_up; way = ap (λ (e : End). e.way) g.own ∙ b.own; room = rooms Dte }
+begun Dte j k t f g b rooms Dce = record { up = ap (λ (e : End). sides.may_run e.phase) g.opposite ∙ b.other_up; way = ap (λ (e : End). e.way) g.opposite ∙ b.opposite; room = rooms Dce }
+begun Dce j k t f g b rooms Dce = record { up = ap (λ (e : End). sides.may_run e.phase) g.own ∙ b.own_up; way = ap (λ (e : End). e.way) g.own ∙ b.own; room = rooms Dce }
+begun Dce j k t f g b rooms Dte = record { up = ap (λ (e : End). sides.may_run e.phase) g.opposite ∙ b.other_up; way = ap (λ (e : End). e.way) g.opposite ∙ b.opposite; room = rooms Dte }
+
+pub set_ups_begin : SetUpsBegin
+set_ups_begin window long_data is_strict lines from asks accepts asked accepted p f shows_asks shows_accepts unanswered =
+    let j = after (begins window long_data is_strict) lines in
+    let k = (answer_to j asks).next in
+    let g = goes j asks from asked (sabm p) shows_asks in
+    let asking : Asks (end_of from k) =
+    subst (λ (e : End). Asks e) (sym g.own) (sabm_asks j.window _ p (sides_of from j) (λ (a : IsAnswered (sides_of from j).own.phase). unanswered (subst (λ (e : End). IsAnswered e.phase) (stands j from).own a))) in
+    let at_other : Asks (sides_of (other from) k).other = subst (λ (e : End). Asks e) (sym ((stands k (other from)).opposite ∙ ap (λ r. end_of r k) (other_twice from))) asking in
+    let l = (answer_to k accepts).next in
+    let stays = line_stays window k accepts (line_stays window j asks (lines_stay window (begins window long_data is_strict) lines (begins_so window long_data is_strict))) in
+    record {
+      up = begun (other from) k l (seen_by k (other from) (ua f)) f (goes k accepts (other from) accepted (ua f) shows_accepts) (ua_begins k.window _ f (sides_of (other from) k) at_other) stays.rooms;
+      counts = stays.counts;
+    }

@@ -1,0 +1,248 @@
+-- What `Way` counts, beside the whole numbers of the end that sends and of the one that answers.
+use Rattle.std.proofs.Common.{◌≡◌, ◌==◌, ℕ, ◌+◌, ◌-◌, ◌%◌, ◌<◌, ◌≤◌, arith, min, Bool, true, false, if◌then◌else◌, refl, sym, ap, ◌∙◌}
+use Rattle.std.specs.Prelude.{nat_le, nat_lt, ◌&&◌, ◌||◌, not}
+use Rattle.std.proofs.lemmas.Bool.{eqb-false, leb-true, ltb-true, ltb-false, and_parts, both_ways, not-true, cond_both}
+use Rattle.x25_judge.specs.Way as way
+use Rattle.x25_judge.specs.declared.note.Note.TheVariants.{SentAgain, SentBehindDamage, HeardBehindDamage}
+use Rattle.x25_judge.specs.declared.rule.Rule.{Rule}
+use Rattle.x25_judge.specs.declared.rule.Rule.TheVariants.{OverWindow, Skips, Repeats, Differs}
+use Rattle.x25_judge.specs.declared.way.Sight.{Sight}
+use Rattle.x25_judge.specs.declared.way.Sight.TheVariants.{Unseen, Deaf, Astray, Sure}
+use Rattle.x25_judge.specs.declared.way.Told.{Told}
+use Rattle.x25_judge.specs.declared.way.Way.{Way}
+use Rattle.x25_packet_judge.specs.Numbers.{apart}
+use Rattle.x25_window.specs.code.Modulo.{resolved}
+
+-- ---- numbers modulo 8
+
+pub apart_is : (m n : ℕ) → n ≤ m → m ≤ n + 7 → apart (m % 8) (n % 8) ≡ m - n
+apart_is m n low high = omega arith
+
+pub resolved_rises : (a b x : ℕ) → a ≤ b → resolved a x ≤ resolved b x
+resolved_rises a b x le = omega arith
+
+awaited_is : (m u p : ℕ) → p + u ≡ m → p ≤ 7 → apart (m % 8) p ≡ u % 8
+awaited_is m u p e le = omega arith
+
+ahead_is : (u x : ℕ) → u + apart x (u % 8) ≡ resolved u x
+ahead_is u x = omega arith
+
+apart_low : (x y : ℕ) → apart x y ≤ 7
+apart_low x y = omega arith
+
+apart_none : (m x : ℕ) → x % 8 ≡ m % 8 → apart (m % 8) x ≡ 0
+apart_none m x e = omega arith
+
+-- ---- what is sure
+
+-- the way counts m frames, of which u are acknowledged
+pub record Counts (w : Way) (m u : ℕ) : Type 0 where
+  pub next : w.next ≡ m % 8
+  pub pending : w.pending + u ≡ m
+  pub few : w.pending ≤ 7
+
+-- nothing is said of what answers it, or it counts numbers that fit
+pub record Numbered (w : Way) (Fit : ℕ → ℕ → Type 0) : Type 0 where
+  pub whole : w.is_missed ≡ false
+  pub hears : way.may_hear w ≡ way.is_sure w
+  pub counts : way.is_sure w ≡ true → (m : ℕ) × (u : ℕ) × Fit m u × Counts w m u
+
+pub unsure_numbered : (w : Way) (Fit : ℕ → ℕ → Type 0) → w.is_missed ≡ false → way.may_hear w ≡ way.is_sure w → way.is_sure w ≡ false → Numbered w Fit
+unsure_numbered w Fit whole hears unsure = record { whole = whole; hears = hears; counts = λ sure. absurd (both_ways (way.is_sure w) unsure sure) }
+
+-- what isn't about numbers changes, or the numbers fit otherwise
+pub same_numbered : (w v : Way) (Fit Fits : ℕ → ℕ → Type 0) → v.is_missed ≡ w.is_missed → v.sight ≡ w.sight → v.next ≡ w.next → v.pending ≡ w.pending
+    → ((m u : ℕ) → w.next ≡ m % 8 → Fit m u → Fits m u) → Numbered w Fit → Numbered v Fits
+same_numbered w v Fit Fits missed sight next pending fits h = record {
+  whole = missed ∙ h.whole;
+  hears = ap way.may_hear_sight sight ∙ h.hears ∙ sym (ap way.is_sure_sight sight);
+  counts = λ sure. go (h.counts (sym (ap way.is_sure_sight sight) ∙ sure));
+}
+  where
+    go : ((m : ℕ) × (u : ℕ) × Fit m u × Counts w m u) → (m : ℕ) × (u : ℕ) × Fits m u × Counts v m u
+    go (m, u, fit, c) = (m, u, fits m u c.next fit, record { next = next ∙ c.next; pending = ap (λ x. x + u) pending ∙ c.pending; few = rw pending c.few })
+
+-- ---- any N(R)
+
+heard_sure : (w : Way) (Fit Fits : ℕ → ℕ → Type 0) (m u nr : ℕ) → w.is_missed ≡ false → way.is_sure w ≡ true → Fits m (resolved u nr) → Counts w m u
+    → Numbered (way.heard_ahead (apart nr (way.awaited w)) w).way Fits
+heard_sure w Fit Fits m u nr whole sure fits c =
+    cond_both (nat_le ahead w.pending) (way.quiet (way.acknowledged ahead w)) (way.strayed ahead w) (λ (t : Told). Numbered t.way Fits)
+    (λ test. fine (leb-true ahead w.pending test))
+    (λ test. strays)
+  where
+    ahead : ℕ
+    ahead = apart nr (way.awaited w)
+
+    lands : u + ahead ≡ resolved u nr
+    lands = ap (λ x. u + apart nr x) (ap (λ x. apart x w.pending) c.next ∙ awaited_is m u w.pending c.pending c.few) ∙ ahead_is u nr
+
+    left : (a p r : ℕ) → a ≤ p → u + a ≡ r → p + u ≡ m → (p - a) + r ≡ m
+    left a p r few is pending = omega arith
+
+    less : (a p : ℕ) → p ≤ 7 → p - a ≤ 7
+    less a p few = omega arith
+
+    fine : ahead ≤ w.pending → Numbered (way.acknowledged ahead w) Fits
+    fine few = record {
+      whole = whole;
+      hears = refl;
+      counts = λ sure. (m, resolved u nr, fits, record { next = c.next; pending = left ahead w.pending (resolved u nr) few lands c.pending; few = less ahead w.pending c.few });
+    }
+
+    strays : Numbered (way.strayed ahead w).way Fits
+    strays =
+        cond_both (not (way.is_sure w)) (way.quiet (way.astray w)) (if w.is_missed then way.notes HeardBehindDamage (way.astray w) else way.breaks (way.invalid ahead w) (way.deaf w)) (λ (t : Told). Numbered t.way Fits)
+        (λ test. absurd (both_ways (way.is_sure w) (not-true (way.is_sure w) test) sure))
+        (λ test.
+        cond_both w.is_missed (way.notes HeardBehindDamage (way.astray w)) (way.breaks (way.invalid ahead w) (way.deaf w)) (λ (t : Told). Numbered t.way Fits)
+        (λ missed. absurd (both_ways w.is_missed whole missed))
+        (λ missed. unsure_numbered (way.deaf w) Fits whole refl refl))
+
+pub heard_numbered : (w : Way) (Fit Fits : ℕ → ℕ → Type 0) (nr : ℕ) → ((m u : ℕ) → m ≤ u + 7 → Fit m u → Fits m (resolved u nr)) → Numbered w Fit → Numbered (way.heard nr w).way Fits
+heard_numbered w Fit Fits nr fits h =
+    cond_both (way.may_hear w) (way.heard_ahead (apart nr (way.awaited w)) w) (way.quiet w) (λ (t : Told). Numbered t.way Fits)
+    (λ test. let (m, u, fit, c) = h.counts (sym h.hears ∙ test) in heard_sure w Fit Fits m u nr h.whole (sym h.hears ∙ test) (fits m u (near w.pending m u c.pending c.few) fit) c)
+    (λ test. unsure_numbered w Fits h.whole h.hears (sym h.hears ∙ test))
+  where
+    near : (p m u : ℕ) → p + u ≡ m → p ≤ 7 → m ≤ u + 7
+    near p m u is few = omega arith
+
+-- ---- so many numbers more
+
+sight_if : (b : Bool) (s : Sight) → way.is_sure_sight (if b then Deaf else s) ≡ true → (b ≡ false) × (way.is_sure_sight s ≡ true)
+sight_if true s h = absurd (both_ways false refl h)
+sight_if false s h = (refl, h)
+
+hears_if : (b : Bool) (s : Sight) → way.may_hear_sight s ≡ way.is_sure_sight s → way.may_hear_sight (if b then Deaf else s) ≡ way.is_sure_sight (if b then Deaf else s)
+hears_if true s h = refl
+hears_if false s h = h
+
+pending_if : (b : Bool) (p : ℕ) → b ≡ false → (if b then 7 else p) ≡ p
+pending_if true p h = absurd (both_ways true h refl)
+pending_if false p h = refl
+
+pub grown_numbered : (w : Way) (Fit Fits : ℕ → ℕ → Type 0) (c : ℕ) → c ≤ 8 → ((m u : ℕ) → w.next ≡ m % 8 → Fit m u → Fits (m + c) u) → Numbered w Fit → Numbered (way.grown c w) Fits
+grown_numbered w Fit Fits c small fits h = record {
+  whole = refl;
+  hears = hears_if (nat_lt 7 p) w.sight h.hears;
+  counts = λ sure. go (sight_if (nat_lt 7 p) w.sight sure);
+}
+  where
+    p : ℕ
+    p = min (w.pending + c) 255
+
+    next_grown : (x m : ℕ) → x ≡ m % 8 → min (x + c) 255 % 8 ≡ (m + c) % 8
+    next_grown x m is = omega (arith, small)
+
+    pending_grown : (x m u : ℕ) → x + u ≡ m → x ≤ 7 → min (x + c) 255 + u ≡ m + c
+    pending_grown x m u is few = omega (arith, small)
+
+    go : ((nat_lt 7 p ≡ false) × (way.is_sure w ≡ true)) → (m : ℕ) × (u : ℕ) × Fits m u × Counts (way.grown c w) m u
+    go (near, sure) =
+        let (m, u, fit, k) = h.counts sure in (
+          m + c,
+          u,
+          fits m u k.next fit,
+          record {
+            next = next_grown w.next m k.next;
+            pending = ap (λ x. x + u) (pending_if (nat_lt 7 p) p near) ∙ pending_grown w.pending m u k.pending k.few;
+            few = rw (pending_if (nat_lt 7 p) p near) (ltb-false 7 p near);
+          },
+        )
+
+-- ---- any N(S)
+
+told_way : (v w : Way) (rule : Rule) (P : Way → Type 0) → P v → P (way.told v rule w).way
+told_way v w rule P h = cond_both w.is_missed (way.notes SentBehindDamage v) (way.breaks rule v) (λ (t : Told). P t.way) (λ _. h) (λ _. h)
+
+again_way : (is_same : Bool) (back : ℕ) (v w : Way) (P : Way → Type 0) → P v → P (way.again is_same back v w).way
+again_way is_same back v w P h =
+    cond_both (not is_same && (nat_le back w.kept && not w.is_missed)) (way.sent_before (way.breaks Differs v)) (way.sent_before (way.notes SentAgain v)) (λ (t : Told). P t.way) (λ _. h) (λ _. h)
+
+module _ (w : Way) (Fit Fits : ℕ → ℕ → Type 0) (h : Numbered w Fit) (more : (m u c : ℕ) → 1 ≤ c → w.next ≡ m % 8 → Fit m u → Fits (m + c) u) where
+  -- in place of the numbers at a place that isn't the next one
+  module _ (ns : ℕ) (still : (m u : ℕ) → (ns % 8 ≡ m % 8 → ⊥) → Fit m u → Fits m u) where
+    abbrev P : Told → Type 0
+    P t = Numbered t.way Fits
+
+    abbrev back : ℕ
+    back = apart w.next ns
+
+    other_number : 0 < back → (m u : ℕ) → w.next ≡ m % 8 → Fit m u → Fits m u
+    other_number gone m u next fit = still m u (λ same. absurd (never (ap (λ x. apart x ns) next ∙ apart_none m ns same) gone)) fit
+      where
+        never : back ≡ 0 → 0 < back → ⊥
+        never e lt = omega arith
+
+    repeated_numbered : 0 < back → Numbered (way.repeated back w) Fits
+    repeated_numbered gone = same_numbered w (way.repeated back w) Fit Fits refl refl refl refl (other_number gone) h
+
+    gone_back_numbered : (is_poll : Bool) → 0 < back → Numbered (way.gone_back is_poll back w) Fits
+    gone_back_numbered true gone = repeated_numbered gone
+    gone_back_numbered false gone = same_numbered w (way.went_back back w) Fit Fits refl refl refl refl (other_number gone) h
+
+    grown_by : (c : ℕ) → 1 ≤ c → c ≤ 8 → Numbered (way.grown c w) Fits
+    grown_by c one few = grown_numbered w Fit Fits c few (λ m u next fit. more m u c one next fit) h
+
+    some_back : back ≤ 7 → (back == 0) ≡ false → 0 < back
+    some_back low test = positive back (eqb-false back 0 test)
+      where
+        positive : (b : ℕ) → (b ≡ 0 → ⊥) → 0 < b
+        positive b ne = omega (arith, ne)
+
+    unexplained_numbered : (is_same : Bool) → P (way.unexplained is_same back w)
+    unexplained_numbered is_same =
+        cond_both (back == 0) (way.told (way.grown 1 w) (Skips (way.place w)) w) _ P
+        (λ test. told_way (way.grown 1 w) w (Skips (way.place w)) (λ v. Numbered v Fits) (grown_by 1 (omega arith) (omega arith)))
+        (λ test. let gone = some_back (apart_low w.next ns) test in
+        cond_both (nat_lt back w.behind) (way.told (way.repeated back w) (Skips (way.place w)) w) _ P
+        (λ _. told_way (way.repeated back w) w (Skips (way.place w)) (λ v. Numbered v Fits) (repeated_numbered gone))
+        (λ _. cond_both (way.was_sent is_same back w) (way.told (way.repeated back w) (Repeats (way.place w)) w) (way.told (way.grown (9 - back) w) (Skips (way.place w)) w) P
+        (λ _. told_way (way.repeated back w) w (Repeats (way.place w)) (λ v. Numbered v Fits) (repeated_numbered gone))
+        (λ _. told_way (way.grown (9 - back) w) w (Skips (way.place w)) (λ v. Numbered v Fits) (grown_by (9 - back) (one back (apart_low w.next ns)) (eight back gone)))))
+      where
+        one : (b : ℕ) → b ≤ 7 → 1 ≤ 9 - b
+        one b low = omega arith
+
+        eight : (b : ℕ) → 0 < b → 9 - b ≤ 8
+        eight b gone = omega arith
+
+    sent_again_numbered : (is_poll is_same : Bool) → 0 < back → P (way.sent_again is_poll is_same back w)
+    sent_again_numbered is_poll is_same gone =
+        cond_both (back == w.behind || (nat_le (way.known_pending w) back && nat_lt back w.behind)) (way.again is_same back (way.repeated back w) w) _ P
+        (λ _. again_way is_same back (way.repeated back w) w (λ v. Numbered v Fits) (repeated_numbered gone))
+        (λ _. cond_both (way.may_go_back is_poll back w) (way.again is_same back (way.gone_back is_poll back w) w) (way.unexplained is_same back w) P
+        (λ _. again_way is_same back (way.gone_back is_poll back w) w (λ v. Numbered v Fits) (gone_back_numbered is_poll gone))
+        (λ _. unexplained_numbered is_same))
+
+    -- a window that is full counts seven at least
+    sent_new_numbered : (window : ℕ) → 7 ≤ window → P (way.sent_new window w)
+    sent_new_numbered window large =
+        cond_both (way.is_sure w && nat_le window w.pending) (way.breaks (OverWindow window) (way.unheard (way.grown 1 w))) (way.quiet (way.grown 1 w)) P
+        (λ test. let parts = and_parts (way.is_sure w) (nat_le window w.pending) test in over (leb-true window w.pending parts.1))
+        (λ _. grown_by 1 (omega arith) (omega arith))
+      where
+        over : window ≤ w.pending → Numbered (way.unheard (way.grown 1 w)) Fits
+        over full = cond_both (way.is_sure (way.grown 1 w)) (way.astray (way.grown 1 w)) (way.grown 1 w) (λ v. Numbered v Fits)
+            (λ sure. absurd (never w.pending (ltb-false 7 (min (w.pending + 1) 255) (sight_if (nat_lt 7 (min (w.pending + 1) 255)) w.sight sure).0) full))
+            (λ _. grown_by 1 (omega arith) (omega arith))
+          where
+            never : (p : ℕ) → min (p + 1) 255 ≤ 7 → window ≤ p → ⊥
+            never p few full = omega (arith, large)
+
+    pub sent_numbered : (window : ℕ) (is_poll is_same : Bool) → 7 ≤ window → P (way.sent window ns is_poll is_same w)
+    sent_numbered window is_poll is_same large =
+        cond_both (way.is_unseen w) (way.quiet (way.counted w)) (way.sent_number window is_poll is_same back w) P
+        (λ test. unsure_numbered (way.counted w) Fits h.whole h.hears (unseen w.sight test))
+        (λ _. cond_both (nat_lt 0 back) (way.sent_again is_poll is_same back w) _ P
+        (λ test. sent_again_numbered is_poll is_same (ltb-true 0 back test))
+        (λ _. cond_both (w.behind == 0 || way.known_pending w == 0) (way.sent_new window w) (way.unexplained is_same back w) P
+        (λ _. sent_new_numbered window large)
+        (λ _. unexplained_numbered is_same)))
+      where
+        unseen : (s : Sight) → way.is_unseen_sight s ≡ true → way.is_sure_sight s ≡ false
+        unseen Unseen e = refl
+        unseen Deaf e = refl
+        unseen Astray e = refl
+        unseen Sure e = absurd (both_ways false refl e)

@@ -1,0 +1,58 @@
+-- One session of a link, as a trace shows it: SABM and UA, and then frames with numbers.
+use Rattle.std.specs.Prelude.{◌≡◌, ℕ, ◌<◌, All, length, Bool, true, false, List, Option, Some, None, Ok}
+use Rattle.x25_bits.specs.declared.role.Role.{Role}
+use Rattle.x25_bits.specs.declared.role.Role.TheVariants.{Dte, Dce}
+use Rattle.x25_decode.specs.Decoding.{n1, sent_in}
+use Rattle.x25_frame.specs.Frame.{PlainFrame, info, rr, rnr, rej}
+use Rattle.x25_frame.specs.Reading.{frame_of}
+use Rattle.x25_judge.specs.Judge.{held_of, remark_of, seen_by}
+use Rattle.x25_judge.specs.Sides.{may_run}
+use Rattle.x25_judge.specs.Way.{fresh}
+use Rattle.x25_judge.specs.declared.judge.Judge.{Judge}
+use Rattle.x25_judge.specs.declared.rule.Rule.{Rule}
+use Rattle.x25_judge.specs.declared.rule.Rule.TheVariants.{Unsent, Falls, OverWindow, Differs}
+use Rattle.x25_judge.specs.declared.sides.End.{End}
+
+abbrev pub end_of : Role → Judge → End
+end_of Dte j = j.dte
+end_of Dce j = j.dce
+
+-- an end may send, and its numbers begin
+pub record IsBegun (j : Judge) (from : Role) : Type 0 where
+  pub up : may_run (end_of from j).phase ≡ true
+  pub way : (end_of from j).way ≡ fresh true
+  pub room : length (held_of from j) ≡ 8
+
+-- the trace has shown a set-up, and nothing behind it
+abbrev pub IsSetUp : Judge → Type 0
+IsSetUp j = (from : Role) → IsBegun j from
+
+-- ---- lines
+
+-- a line of the trace, what it spells and the frame that this is
+pub record Shows (line : List ℕ) (from : Role) (octets : List ℕ) (frame : PlainFrame) : Type 0 where
+  pub low : All (λ octet. octet < 256) octets
+  pub spells : sent_in line ≡ Some (from, octets)
+  pub reads : frame_of from n1 octets ≡ Ok frame
+
+abbrev pub IsNumbered : PlainFrame → Type 0
+IsNumbered (info ns nr pf octets) = Unit {0}
+IsNumbered (rr command nr pf) = Unit {0}
+IsNumbered (rnr command nr pf) = Unit {0}
+IsNumbered (rej command nr pf) = Unit {0}
+IsNumbered frame = ⊥
+
+-- ---- rules
+
+-- the rule that is told of a frame
+abbrev pub rule_of : Judge → Role → PlainFrame → Option Rule
+rule_of j from frame = (remark_of j from frame (seen_by j from frame)).rule
+
+-- those without which order isn't kept
+abbrev pub is_of_order : Option Rule → Bool
+is_of_order (Some (Unsent most)) = true
+is_of_order (Some (Falls least)) = true
+is_of_order (Some (OverWindow window)) = true
+is_of_order (Some Differs) = true
+is_of_order (Some rule) = false
+is_of_order None = false

@@ -1,0 +1,52 @@
+-- What the laws say of `judge`.
+use Rattle.std.specs.Prelude.{◌≡◌, ℕ, ◌≤◌, Bool, false, List, [], ◌∷◌}
+use Rattle.x25_bits.specs.declared.role.Role.{Role}
+use Rattle.x25_decode.specs.Decoding.{n1}
+use Rattle.x25_frame.specs.Frame.{PlainFrame, sabm, ua}
+use Rattle.x25_judge.specs.Judge.{begins, answer_to}
+use Rattle.x25_judge.specs.declared.judge.Judge.{Judge}
+use Rattle.x25_judge.specs.declared.sides.Phase.{Phase}
+use Rattle.x25_judge.specs.declared.sides.Phase.TheVariants.{Answered}
+use Rattle.x25_line.specs.laws.InWindow.{IsPrefix}
+use Rattle.x25_line.specs.laws.Peer.{Peer}
+use Rattle.x25_link.specs.Hearing.{other}
+use Rattle.x25_link.specs.Station.{Settings}
+use Rattle.x25_judge.specs.laws.Keeping.{MaySend, MayBe}
+use Rattle.x25_judge.specs.laws.Session.{end_of, IsSetUp, Shows, rule_of, is_of_order}
+use Rattle.x25_judge.specs.laws.Silence.{Watched, IsSilent}
+
+-- no rule of order is told of what an end sends that keeps the rules
+abbrev pub NoInnocentIsAccused : Type 0
+NoInnocentIsAccused =
+    (from : Role) (j : Judge) (p q : Peer) (way : List PlainFrame) (line octets : List ℕ) (frame : PlainFrame)
+    → MayBe from j p way → Shows line from octets frame → MaySend p frame q
+    → is_of_order (rule_of j from frame) ≡ false
+
+-- where nothing is told, what the station handed up is a beginning of what the trace shows
+abbrev pub SilenceMeansOrder : Type 0
+SilenceMeansOrder =
+    (c : Settings) → 1 ≤ c.window → c.window ≤ 7 → c.longest ≡ n1 → (w : Watched) → IsSilent c w
+    → w.near.came_up ≡ false → IsPrefix w.near.up w.shown
+
+-- what the judge is behind these lines
+abbrev pub after : Judge → List (List ℕ) → Judge
+after j [] = j
+after j (line ∷ lines) = after (answer_to j line).next lines
+
+-- UA answered its SABM, and it has sent no frame with a number since
+abbrev pub IsAnswered : Phase → Type 0
+IsAnswered Answered = Unit {0}
+IsAnswered phase = ⊥
+
+pub record SetsUp (j : Judge) (window : ℕ) : Type 0 where
+  pub up : IsSetUp j
+  pub counts : j.window ≡ window
+
+-- wherever a trace shows SABM of an end and then UA of the other
+abbrev pub SetUpsBegin : Type 0
+SetUpsBegin =
+    (window : ℕ) (long_data is_strict : Bool) (lines : List (List ℕ)) (from : Role)
+    (asks accepts asked accepted : List ℕ) (p f : Bool)
+    → Shows asks from asked (sabm p) → Shows accepts (other from) accepted (ua f)
+    → (IsAnswered (end_of from (after (begins window long_data is_strict) lines)).phase → ⊥)
+    → SetsUp (after (after (begins window long_data is_strict) lines) (asks ∷ accepts ∷ [])) window

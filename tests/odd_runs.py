@@ -1,0 +1,273 @@
+"""Random runs of a station beside an end whose packets break rules, judged: nothing may be told of the station.
+
+    odd_runs.py [--program PROGRAM] [--from SEED] [RUNS]
+
+The station is `x25 station`, of either end, with a user who calls, accepts, sends, clears, resets and restarts at random. The other end keeps
+the rules of the link; its packets have wrong P(S)s and P(R)s at times, are confirmations of nothing, calls where a call is, data of any
+length, and octets that are no packet, and it confirms late, in another order or never. What both send goes through `judge`, whole, and again
+from a frame in its midst on.
+
+Exit status: 0; 1 where a rule was told of the station, with the seed of that run; 2 for bad words, or where there is no program.
+"""
+
+import argparse
+import os
+import subprocess
+import sys
+
+ROOT = os.path.dirname(os.path.dirname(os.path.abspath(__file__)))
+sys.path[:0] = [os.path.dirname(os.path.abspath(__file__)), os.path.join(ROOT, "tools")]
+
+import losses  # noqa: E402
+from program import find_program  # noqa: E402
+from x25lines import fcs  # noqa: E402
+
+STEPS, MOST_OUT = 80, 6
+MARKS = {"dte": ">", "dce": "<"}
+OTHERS = {"dte": "dce", "dce": "dte"}
+SABM, RR = 0x3F, 0x01
+RESTART, RESTART_CONFIRMATION = 0xFB, 0xFF
+CALL, ACCEPTED, CLEAR, CLEAR_CONFIRMATION, RESET, RESET_CONFIRMATION = 0x0B, 0x0F, 0x13, 0x17, 0x1B, 0x1F
+INTERRUPT, INTERRUPT_CONFIRMATION = 0x23, 0x27
+PACKET_RR, PACKET_RNR = 0x01, 0x05
+# What a request is answered by.
+ANSWERS = {CALL: ACCEPTED, CLEAR: CLEAR_CONFIRMATION, RESET: RESET_CONFIRMATION, INTERRUPT: INTERRUPT_CONFIRMATION, RESTART: RESTART_CONFIRMATION}
+
+
+class Station:
+    """The program, asked a line at a time."""
+
+    def __init__(self, program, end, channels):
+        words = [program, "station", end, "--channels", str(channels), "--n2", "255"]
+        self.run = subprocess.Popen(words, stdin=subprocess.PIPE, stdout=subprocess.PIPE, text=True)
+        self.answer()
+
+    def answer(self):
+        """What it writes up to its mark."""
+        lines = []
+        for line in self.run.stdout:
+            if line.startswith(". "):
+                return lines
+            lines.append(line)
+        raise RuntimeError("the station ended")
+
+    def ask(self, line):
+        self.run.stdin.write(line)
+        self.run.stdin.flush()
+        return self.answer()
+
+    def end(self):
+        self.run.stdin.close()
+        self.run.stdout.close()
+        self.run.wait()
+
+
+class Channel:
+    """A channel as the odd end has it: whether its call is up, and its next P(S) and P(R)."""
+
+    def __init__(self):
+        self.is_up = False
+        self.next = self.wanted = 0
+
+    def begin(self, is_up):
+        self.is_up = is_up
+        self.next = self.wanted = 0
+
+
+class Packets:
+    """The packets of the odd end."""
+
+    def __init__(self, dice, channels):
+        self.dice, self.numbers = dice, range(1, channels + 1)
+        self.channels = {number: Channel() for number in range(4096)}
+        self.owed = []
+        self.polite = dice.one_of((0.2, 0.5, 0.8, 0.95))
+
+    def take(self, packet):
+        """What a packet of the station asks for is owed."""
+        if len(packet) < 3:
+            return
+        number, kind = (packet[0] & 15) << 8 | packet[1], packet[2]
+        channel = self.channels[number]
+        if kind in ANSWERS:
+            self.owed.append((number, ANSWERS[kind]))
+        if not kind & 1:
+            channel.wanted = (channel.wanted + 1) % 8
+        elif kind in (CLEAR, ACCEPTED):
+            channel.begin(kind == ACCEPTED)
+        elif kind == RESET:
+            channel.begin(channel.is_up)
+        elif kind == RESTART:
+            self.restart()
+
+    def restart(self):
+        for number in self.numbers:
+            self.channels[number].begin(False)
+
+    def right(self, number):
+        """A number, or at times any."""
+        return number if self.dice.chance(0.95) else self.dice.below(8)
+
+    def data(self, channel):
+        number = self.right(channel.next)
+        channel.next = (number + 1) % 8
+        length = self.dice.one_of((0, 1, 3, 128, 129)) if self.dice.chance(0.1) else 1 + self.dice.below(2)
+        more = 0x10 if self.dice.chance(0.05) else 0
+        return [self.right(channel.wanted) << 5 | number << 1 | more] + [0x41] * length
+
+    def next(self):
+        """A packet: one that is owed, or any."""
+        if self.owed and self.dice.chance(self.polite):
+            number, kind = self.owed.pop(self.dice.below(len(self.owed)) if self.dice.chance(0.1) else 0)
+            if kind == ACCEPTED:
+                self.channels[number].begin(True)
+            return [0x10, number, kind]
+        number = 1 + self.dice.below(len(self.numbers) + self.dice.chance(0.05))
+        channel, chance = self.channels[number], self.dice.fraction()
+        if (not channel.is_up and self.dice.chance(0.5)) or 0.5 <= chance < 0.6:
+            channel.begin(False)
+            return [0x10, number, CALL, 0x11, 0x21, 0]
+        if chance < 0.35:
+            return [0x90 if self.dice.chance(0.03) else 0x10, number] + self.data(channel)
+        if chance < 0.5:
+            return [0x10, number, self.right(channel.wanted) << 5 | self.dice.one_of((PACKET_RR, PACKET_RR, PACKET_RNR))]
+        return self.any_of(chance, number, channel)
+
+    def any_of(self, chance, number, channel):
+        """A request, a confirmation that nobody waits for, or octets that are no packet."""
+        if chance < 0.66:
+            return [0x10, number, ACCEPTED]
+        if chance < 0.74:
+            channel.begin(False)
+            return [0x10, number, CLEAR, self.dice.one_of((0, 1, 128)), self.dice.below(100)]
+        if chance < 0.80:
+            return [0x10, number, CLEAR_CONFIRMATION]
+        if chance < 0.85:
+            channel.begin(channel.is_up)
+            return [0x10, number, RESET, 0, 0]
+        if chance < 0.89:
+            return [0x10, number, RESET_CONFIRMATION]
+        if chance < 0.93:
+            return [0x10, number, INTERRUPT, 1]
+        if chance < 0.95:
+            return [0x10, number, INTERRUPT_CONFIRMATION]
+        if chance < 0.97:
+            self.restart()
+            return [0x10, 0, RESTART, self.dice.one_of((0, 7)), 0]
+        if chance < 0.98:
+            return [0x10, 0, RESTART_CONFIRMATION]
+        return [self.dice.below(256), number, self.dice.below(256)] + [self.dice.below(256)] * self.dice.below(4)
+
+
+class Run:
+    """A station, the odd end, the frames on the way between them, and all of them as a trace."""
+
+    def __init__(self, program, seed):
+        self.dice = losses.Dice(seed)
+        self.end = "dce" if seed % 2 else "dte"
+        self.other = OTHERS[self.end]
+        channels = self.dice.one_of((1, 2, 3))
+        self.numbers = range(1, channels + 1)
+        self.station = Station(program, self.end, channels)
+        self.packets = Packets(self.dice, channels)
+        self.command, self.response = (1, 3) if self.other == "dte" else (3, 1)
+        self.trace, self.there, self.back = [], [], []
+        self.sent = self.acked = self.taken = 0
+
+    def put(self, octets):
+        octets = bytes(octets)
+        self.trace.append(f"{MARKS[self.other]} {(octets + fcs(octets)).hex()}\n")
+        self.there.append(self.trace[-1])
+
+    def put_packet(self, packet):
+        self.put([self.command, self.taken % 8 << 5 | self.sent % 8 << 1] + packet)
+        self.sent += 1
+
+    def says(self, line):
+        """The station is asked something, and sends frames."""
+        frames = [line for line in self.station.ask(line) if line[0] == MARKS[self.end]]
+        self.trace += frames
+        self.back += frames
+
+    def deliver(self):
+        if self.there:
+            self.says(self.there.pop(0))
+
+    def take(self):
+        """The next frame comes to the odd end."""
+        if not self.back:
+            return
+        octets = bytes.fromhex(self.back.pop(0)[2:])
+        if octets[1] & 3 != 3:
+            self.acked += ((octets[1] >> 5) - self.acked) % 8
+        if not octets[1] & 1 and octets[1] >> 1 & 7 == self.taken % 8:
+            self.taken += 1
+            self.packets.take(octets[2:-2])
+
+    def asks(self):
+        """What the user of the station asks for."""
+        channel = 1 + self.dice.below(len(self.numbers))
+        kinds = ("call 1 2 -", f"accept {channel}", f"accept {channel}", f"clear {channel}", f"send {channel} 0 {'ab' * self.dice.one_of((1, 5, 200))}")
+        more = (f"send {channel} 0 aa", f"int {channel} 01", f"reset {channel}", "restart" if self.dice.chance(0.2) else "pull")
+        return f"{self.end} {self.dice.one_of(kinds + more)}\n"
+
+    def step(self):
+        chance = self.dice.fraction()
+        if chance < 0.35 and self.sent - self.acked < MOST_OUT:
+            self.put_packet(self.packets.next())
+        elif chance < 0.6:
+            self.deliver()
+        elif chance < 0.8:
+            self.take()
+        elif chance < 0.85:
+            self.put([self.response, self.taken % 8 << 5 | RR])
+        else:
+            self.says(self.asks())
+
+    def play(self):
+        self.put([self.command, SABM])
+        self.deliver()
+        self.take()
+        if self.dice.chance(0.9):
+            self.put_packet([0x10, 0, RESTART, 0, 0])
+        for _ in range(STEPS):
+            self.step()
+        self.station.end()
+
+
+def told(program, frames, end):
+    """The lines that tell a rule of an end."""
+    done = subprocess.run([program, "judge"], input="".join(frames), stdout=subprocess.PIPE, text=True)
+    return [line for line in done.stdout.splitlines() if f" ! {end}: " in line]
+
+
+def play(program, seed):
+    """How many frames a run has, and the lines that tell of its station: of the whole trace, and of it from a frame in its midst on."""
+    run = Run(program, seed)
+    run.play()
+    midst = losses.Dice(seed).below(len(run.trace))
+    cut = [f"from frame {midst} on: {line}" for line in told(program, run.trace[midst:], run.end)]
+    return len(run.trace), told(program, run.trace, run.end) + cut
+
+
+def main():
+    parser = argparse.ArgumentParser(description=__doc__, formatter_class=argparse.RawDescriptionHelpFormatter)
+    parser.add_argument("runs", metavar="RUNS", type=int, nargs="?", default=5_000, help="how many runs (5,000)")
+    parser.add_argument("--from", dest="first", metavar="SEED", type=int, default=0, help="the seed of the first run (0)")
+    parser.add_argument("--program", default=find_program(), help="the program")
+    options = parser.parse_args()
+    if options.program is None:
+        parser.error("there is no program: make x25")
+    frames = faults = 0
+    for seed in range(options.first, options.first + options.runs):
+        count, lines = play(options.program, seed)
+        frames += count
+        for line in lines[:1]:
+            faults += 1
+            print(f"seed {seed}: {line}")
+    print(f"{options.runs} runs, {frames} frames, {faults} told of")
+    return 1 if faults else 0
+
+
+if __name__ == "__main__":
+    sys.exit(main())

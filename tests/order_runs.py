@@ -1,0 +1,372 @@
+"""The rules of order, told apart from `x25 judge`: what it misses, and whom it accuses.
+
+    order_runs.py [--program PROGRAM] [--from SEED] [RUNS]
+
+Each run is a random script of two stations (losses.py), of which `sim --tap` makes a trace without damage. In ten copies of it one frame is
+changed: other octets in an I frame that goes again, another N(S), another N(R), another P(S) or P(R), an N(R) that stays, an I frame that
+goes once more later, or one that is left out. Of each copy the rules of order of docs/PEER.md that a trace can show are told here, by whole
+numbers. Of the link they are rules 1 to 3 and 5, and that numbers go one by one when they go for the first time (2.4.5.1), from each set-up
+on to the next unnumbered frame: SABM and UA, but for a SABM whose sender has got UA already and has sent no frame with a number since. Of
+packets they are rules 15 and 17, from each CALL and its CALL ACCEPTED on to the next packet of the channel that is neither DATA, RR nor
+RNR, nor RESTART. An end is told of where no run of an end that keeps them explains its frames, whatever came or was lost.
+
+A break is missed where `judge` tells nothing up to that frame. An end is accused where `judge` tells one of these rules of it, and it broke none
+up to there, whatever the other end broke.
+
+Exit status: 0; 1 where one was missed or accused, with the seed; 2 for bad words, or where there is no program.
+"""
+
+import argparse
+import os
+import re
+import subprocess
+import sys
+from typing import NamedTuple
+
+ROOT = os.path.dirname(os.path.dirname(os.path.abspath(__file__)))
+sys.path[:0] = [os.path.dirname(os.path.abspath(__file__)), os.path.join(ROOT, "tools")]
+
+import judge_runs  # noqa: E402
+import losses  # noqa: E402
+from program import find_program  # noqa: E402
+from x25lines import fcs  # noqa: E402
+
+COPIES = 10
+LINES = 120
+SABM, UA = 0x2F, 0x63
+CALL, ACCEPTED, READY = 0x0B, 0x0F, (0x01, 0x05)
+RESTARTS = (0xFB, 0xFF)
+
+# What `judge` says of an end that breaks a rule of order.
+OF_ORDER = re.compile(
+    r"[NP]\(R\) acknowledges what was never sent|[NP]\(R\) falls|other octets|more I frames are unacknowledged|P\(S\) isn't the next one"
+)
+
+
+class Frame(NamedTuple):
+    """A frame without its frame check sequence: its end, `>` or `<`, and its octets."""
+
+    end: str
+    octets: bytes
+
+    def control(self):
+        return self.octets[1]
+
+    def is_info(self):
+        return not self.control() & 1
+
+    def is_unnumbered(self):
+        return self.control() & 3 == 3
+
+    def ns(self):
+        return self.control() >> 1 & 7
+
+    def nr(self):
+        return self.control() >> 5
+
+    def packet(self):
+        return self.octets[2:] if self.is_info() else b""
+
+    def kind(self):
+        """The third octet of its packet, if it has one."""
+        return self.packet()[2] if len(self.packet()) > 2 else None
+
+    def channel(self):
+        return (self.packet()[0] & 15) << 8 | self.packet()[1]
+
+    def is_data(self):
+        return self.kind() is not None and not self.kind() & 1
+
+    def has_pr(self):
+        return self.is_data() or (self.kind() is not None and self.kind() & 0x1F in READY)
+
+    def line(self):
+        return f"{self.end} {(self.octets + fcs(self.octets)).hex()}\n"
+
+    def with_octet(self, place, octet):
+        return Frame(self.end, self.octets[:place] + bytes((octet,)) + self.octets[place + 1 :])
+
+
+OTHERS = {">": "<", "<": ">"}
+
+
+def resolved(low, number):
+    """The first whole number from `low` on that is this one modulo 8."""
+    return low + (number - low) % 8
+
+
+class Sender:
+    """What an end that keeps the rules may have come to, at most: it heard and took all that was sent to it, as it might."""
+
+    def __init__(self):
+        self.given = []  # what went under each number
+        self.acked = 0  # how many of these are acknowledged to it, at most
+        self.told = 0  # what its last N(R) stood for, at least
+        self.taken = 0  # how many it took, at most
+
+    def numbers(self, ns, octets):
+        """An I frame goes: the rule that is broken, if any."""
+        number = resolved(max(0, len(self.given) - 7), ns)
+        if number > len(self.given):
+            return "not the next one"
+        if number >= self.acked + 7:
+            return "window"
+        if number == len(self.given):
+            self.given.append(octets)
+        elif self.given[number] != octets:
+            return "other octets"
+        return None
+
+    def acknowledges(self, nr):
+        told = resolved(self.told, nr)
+        if told > self.taken:
+            return "not acknowledged so"
+        self.told = told
+        return None
+
+    def hears(self, nr):
+        self.acked = resolved(self.acked, nr)
+
+    def takes(self, ns):
+        if ns == self.taken % 8:
+            self.taken += 1
+
+
+class Call:
+    """Data packets of both ends of a call: how many each sent, and what its last P(R) stood for."""
+
+    def __init__(self):
+        self.sent = {end: 0 for end in "><"}
+        self.told = {end: 0 for end in "><"}
+
+    def passes(self, frame):
+        """A packet goes: the rule that is broken, if any."""
+        end, other, kind = frame.end, OTHERS[frame.end], frame.kind()
+        if frame.is_data():
+            if kind >> 1 & 7 != self.sent[end] % 8:
+                return "P(S) isn't the next one"
+            self.sent[end] += 1
+        told = resolved(self.told[end], kind >> 5)
+        if told > self.sent[other]:
+            return "P(R) isn't acknowledged so"
+        self.told[end] = told
+        return None
+
+
+class Calls:
+    """The channels: the CALL that went last, or the call that is up."""
+
+    def __init__(self):
+        self.asked, self.calls = {}, {}
+
+    def passes(self, frame):
+        """A packet goes for the first time: the rule that is broken, if any, and whether it is told of here."""
+        kind = frame.kind()
+        if kind is None or kind in RESTARTS:
+            self.__init__()
+            return None, False
+        channel = frame.channel()
+        if frame.has_pr() and channel in self.calls:
+            rule = self.calls[channel].passes(frame)
+            if rule:
+                del self.calls[channel]
+            return rule, True
+        self.calls.pop(channel, None)
+        asked = self.asked.pop(channel, None)
+        if kind == CALL:
+            self.asked[channel] = frame.end
+        elif kind == ACCEPTED and asked == OTHERS[frame.end]:
+            self.calls[channel] = Call()
+        return None, False
+
+
+class Found(NamedTuple):
+    """For each end the place of the first frame that breaks a rule of order, and the rule; and the places that are told of here."""
+
+    first: dict
+    links: set
+    calls: set
+
+
+def breaks(frames):
+    found, ends, asked, answered, calls = Found({}, set(), set()), None, None, set(), Calls()
+    for place, frame in enumerate(frames):
+        if frame.is_unnumbered():
+            kind = frame.control() & 0xEF
+            ends = {end: Sender() for end in "><"} if kind == UA and asked not in (None, frame.end) else None
+            asked, calls = (frame.end if kind == SABM and frame.end not in answered else None), Calls()
+            answered |= {OTHERS[frame.end]} if kind == UA else set()
+            continue
+        answered.discard(frame.end)
+        if ends is None:
+            continue
+        found.links.add(place)
+        own, other = ends[frame.end], ends[OTHERS[frame.end]]
+        count = len(own.given)
+        rule = own.numbers(frame.ns(), frame.packet()) if frame.is_info() else None
+        rule = rule or own.acknowledges(frame.nr())
+        if rule:
+            calls = Calls()
+        elif len(own.given) > count:
+            rule, is_told_of = calls.passes(frame)
+            found.calls.update({place} if is_told_of else ())
+        if rule:
+            found.first.setdefault(frame.end, (place, rule))
+        other.hears(frame.nr())
+        if frame.is_info():
+            other.takes(frame.ns())
+    return found
+
+
+# ---- copies with one frame changed
+
+
+def numbered(frames):
+    return [place for place, frame in enumerate(frames) if not frame.is_unnumbered()]
+
+
+def infos(frames):
+    return [place for place, frame in enumerate(frames) if frame.is_info()]
+
+
+def other_octets(dice, frames):
+    """Another octet in an I frame, of those that go again where there are any."""
+    went, again = set(), []
+    for place in infos(frames):
+        again += [place] if frames[place] in went else []
+        went.add(frames[place])
+    place = dice.one_of(again or infos(frames))
+    at = 2 + dice.below(len(frames[place].octets) - 2)
+    return changed(frames, place, frames[place].with_octet(at, frames[place].octets[at] ^ 1 + dice.below(255)))
+
+
+def other_ns(dice, frames):
+    place = dice.one_of(infos(frames))
+    return changed(frames, place, frames[place].with_octet(1, frames[place].control() ^ 1 + dice.below(7) << 1))
+
+
+def other_nr(dice, frames):
+    place = dice.one_of(numbered(frames))
+    return changed(frames, place, frames[place].with_octet(1, frames[place].control() ^ 1 + dice.below(7) << 5))
+
+
+def other_packet_number(dice, frames):
+    """Another P(S) or P(R) in a packet, each time that its I frame goes."""
+    packets = [frame for frame in frames if frame.has_pr()]
+    if not packets:
+        return frames
+    frame = dice.one_of(packets)
+    bits = 1 + dice.below(7) << dice.one_of((1, 5) if frame.is_data() else (5,))
+    return [other.with_octet(4, other.octets[4] ^ bits) if other.octets[2:] == frame.octets[2:] and other.end == frame.end else other for other in frames]
+
+
+def once_more(dice, frames):
+    """An I frame goes once more later, with the N(R) that its end sent last."""
+    place = dice.one_of(infos(frames))
+    later = place + 1 + dice.below(min(40, len(frames) - place))
+    last = [frame for frame in frames[:later] if frame.end == frames[place].end and not frame.is_unnumbered()][-1]
+    again = frames[place].with_octet(1, frames[place].control() & 0x1F | last.control() & 0xE0)
+    return frames[:later] + [again] + frames[later:]
+
+
+def unacknowledged(dice, frames):
+    """An end's N(R) stays where it is, from a frame on."""
+    place = dice.one_of(numbered(frames))
+    bits = frames[place].control() & 0xE0
+    return frames[:place] + [
+        other.with_octet(1, other.control() & 0x1F | bits) if other.end == frames[place].end and not other.is_unnumbered() else other
+        for other in frames[place:]
+    ]
+
+
+def left_out(dice, frames):
+    place = dice.one_of(infos(frames))
+    return frames[:place] + frames[place + 1 :]
+
+
+def changed(frames, place, frame):
+    return frames[:place] + [frame] + frames[place + 1 :]
+
+
+CHANGES = (other_octets, other_ns, other_nr, other_packet_number, once_more, unacknowledged, left_out)
+
+
+# ---- runs
+
+
+def trace(program, seed):
+    """The frames of a random run."""
+    dice = losses.Dice(seed)
+    channels = dice.one_of((1, 1, 2, 4))
+    script = losses.Script(dice, channels, 0.2 * dice.fraction(), 0, 0.4 * dice.fraction())
+    lines = list(script.lines(LINES))
+    if dice.chance(0.5):
+        lines = list(judge_runs.with_calls(dice, lines, channels))
+    if dice.chance(0.2):
+        lines = list(judge_runs.with_set_ups(dice, lines))
+    words = ["sim", "--tap", "--k", str(dice.one_of((7, 7, 7, 2, 4))), "--channels", str(channels)]
+    text = "".join(line + "\n" for line in lines)
+    tap = subprocess.run([program, *words], input=text, stdout=subprocess.PIPE, text=True).stdout
+    return [Frame(line[0], bytes.fromhex(line[2:])[:-2]) for line in tap.splitlines() if line[:2] in ("> ", "< ")]
+
+
+def told(program, frames):
+    """Of each frame of which `judge` tells a rule its place, its end and the rule."""
+    text = "".join(frame.line() for frame in frames)
+    lines = subprocess.run([program, "judge"], input=text, stdout=subprocess.PIPE, text=True).stdout.splitlines()
+    return [(place, line[0], line.split(" ! ")[1]) for place, line in enumerate(lines) if " ! " in line]
+
+
+def faults(rules, found):
+    """What is wrong with these rules of a trace in which this is found."""
+    breaks = [place for place, _ in found.first.values()]
+    if breaks and min(breaks) < min([place for place, _, _ in rules] or [max(breaks) + 1]):
+        return "missed"
+    for place, end, rule in rules:
+        places = found.calls if rule[5] == "P" else found.links
+        if place in places and OF_ORDER.search(rule) and found.first.get(end, (place + 1, ""))[0] > place:
+            return f"accused at {place}, {rule}"
+    return None
+
+
+class Played(NamedTuple):
+    """What came of the traces of a run: how many they are, in how many a rule of order is broken, and what is wrong with what was told."""
+
+    traces: int
+    broken: int
+    wrong: list
+
+
+def play(program, seed):
+    """A run, and copies of it with one frame changed."""
+    frames, dice = trace(program, seed), losses.Dice(seed)
+    traces = [frames] + [dice.one_of(CHANGES)(dice, frames) for _ in range(COPIES if infos(frames) else 0)]
+    broken, wrong = 0, []
+    for copy in traces:
+        found, rules = breaks(copy), told(program, copy)
+        fault = faults(rules, found)
+        broken += bool(found.first)
+        wrong += [f"seed {seed}: {fault}: broken {found.first}, told {rules[:3]}"] if fault else []
+    return Played(len(traces), broken, wrong)
+
+
+def main():
+    parser = argparse.ArgumentParser(description=__doc__, formatter_class=argparse.RawDescriptionHelpFormatter)
+    parser.add_argument("runs", metavar="RUNS", type=int, nargs="?", default=3_000, help="how many runs (3,000)")
+    parser.add_argument("--from", dest="first", metavar="SEED", type=int, default=0, help="the seed of the first run (0)")
+    parser.add_argument("--program", default=find_program(), help="the program")
+    options = parser.parse_args()
+    if options.program is None:
+        parser.error("there is no program: make x25")
+    played = []
+    for seed in range(options.first, options.first + options.runs):
+        played.append(play(options.program, seed))
+        for line in played[-1].wrong:
+            print(line)
+    wrong = sum(len(run.wrong) for run in played)
+    print(f"{options.runs} runs, {sum(run.traces for run in played)} traces, {sum(run.broken for run in played)} with a broken rule of order, {wrong} wrong")
+    return 1 if wrong else 0
+
+
+if __name__ == "__main__":
+    sys.exit(main())
