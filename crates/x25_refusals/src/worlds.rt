@@ -5,7 +5,7 @@ use crate::ends::{Ends, Outcome, Seen, Trouble, answers_of};
 use crate::lines::Lines;
 use std::alloc::{AllocError, Global};
 use x25_station::{Cfg, Role, Step};
-use x25_world::{Direction, Entered, Event, World, WorldError};
+use x25_world::{Direction, Entered, Event, Healed, World, WorldError};
 
 /// A world, what an event or healing tells, and the lines of the frames that were on its line behind the last event.
 #[derive(Drop)]
@@ -31,7 +31,7 @@ fn step(world: &mut World, event: Event<'static>, out: &mut Step) -> Result<(), 
     world.step(event, out)
 }
 
-fn heal(world: &mut World, told: &mut Vec<Entered>) -> Result<u64, WorldError> {
+fn heal(world: &mut World, told: &mut Vec<Entered>) -> Result<Healed, WorldError> {
     world.heal(told)
 }
 

@@ -1,5 +1,5 @@
 -- The line `heal` of a script does what the schedule of healing says.
-use Rattle.std.proofs.Common.{◌≡◌, ◌∙◌, ℕ, zero, suc, Bool, List, [], ◌∷◌, ◌++◌, Option, Some, None, ap, sym, subst, refl}
+use Rattle.std.proofs.Common.{◌≡◌, ◌∙◌, ℕ, zero, suc, Bool, List, [], ◌∷◌, ◌++◌, Option, Some, None, ap, sym, subst, arith, refl}
 use Rattle.x25_bits.specs.declared.role.Role.{Role}
 use Rattle.x25_bits.specs.declared.role.Role.TheVariants.{Dte, Dce}
 use Rattle.x25_station.specs.declared.config.Cfg.{Cfg}
@@ -7,11 +7,11 @@ use Rattle.x25_script.specs.ScriptLine.{pull}
 use Rattle.x25_console.specs.Commands.{command_asked}
 use Rattle.x25_world.specs.World.{World, Act, Commands, Fires, Event, WorldOutcome, Happened, Declined, happens, after, run}
 use Rattle.x25_world.specs.Healing as schedule
-use Rattle.x25_world.specs.Healing.{next_end, receipt, all_received, arrivals_from, arrivals, deliveries, one_if, if_accepted, firing, pull_round, pull_rounds, most_rounds, fire_and_pull, healing, ArrivesByHealing, HealingBringsAll}
+use Rattle.x25_world.specs.Healing.{next_end, receipt, all_received, arrivals_from, arrivals, deliveries, one_if, if_accepted, firing, pull_round, pull_rounds, fire_and_pull, healing, ArrivesByHealing, HealingBringsAll, RestShowsAll, HealingRestShowsAll}
 use Rattle.x25_world.specs.laws.SessionClaims.{Throughout}
 use Rattle.x25_world.specs.laws.WaitClaims.{pull_at}
 use Rattle.x25_sim.specs.Stage.{Turn, and_then, turn_of, event_turn, delivered_to, drained, tried_of, tried, both_tried, most_times, fired, pulled, unless_empty, emptied, healed, line_turn}
-use Rattle.x25_sim.specs.laws.RunLaw.{HealIsTheSchedule, HealBringsAll}
+use Rattle.x25_sim.specs.laws.RunLaw.{HealIsTheSchedule, HealRestShowsAll, HealBringsAll}
 
 module _ (cfg : Cfg) (tap : Bool) where
   run_append : (xs ys : List Event) (w : World) → run cfg (xs ++ ys) w ≡ run cfg ys (run cfg xs w)
@@ -56,10 +56,10 @@ module _ (cfg : Cfg) (tap : Bool) where
       let f : Event = record { at = Dce; act = act } in
       behind_next w (tried cfg tap e w) (tried cfg tap f) (if_accepted cfg e w) (if_accepted cfg f) (tried_next e w) (tried_next f)
 
-  pulled_next : (w : World) → (pulled cfg tap w).next ≡ run cfg (pull_round cfg w) w
+  pulled_next : (w : World) → (pulled cfg tap w).next ≡ run cfg (pull_round cfg most_times w) w
   unfolding pulled
   pulled_next w =
-      behind_next w (drained cfg tap most_times w) (both_tried cfg tap (Commands (command_asked pull))) (deliveries cfg w) (schedule.both_tried cfg (pull_at Dte) (pull_at Dce)) (drained_next most_times w)
+      behind_next w (drained cfg tap most_times w) (both_tried cfg tap (Commands (command_asked pull))) (deliveries cfg most_times w) (schedule.both_tried cfg (pull_at Dte) (pull_at Dce)) (drained_next most_times w)
       (both_next (Commands (command_asked pull)))
 
   unless_next : (rest : World → Turn) (more : World → List Event) → ((v : World) → (rest v).next ≡ run cfg (more v) v) → (w : World) (at : Option Role)
@@ -67,21 +67,21 @@ module _ (cfg : Cfg) (tap : Bool) where
   unless_next rest more there w None = refl
   unless_next rest more there w (Some at) = there w
 
-  emptied_next : (n : ℕ) (w : World) → (emptied cfg tap n w).next ≡ run cfg (pull_rounds cfg n w) w
+  emptied_next : (n : ℕ) (w : World) → (emptied cfg tap n w).next ≡ run cfg (pull_rounds cfg most_times n w) w
   unfolding emptied pull_rounds
   emptied_next zero w = refl
   emptied_next (suc n) w =
-      behind_next w (pulled cfg tap w) (λ v. unless_empty (emptied cfg tap n) v (next_end v.out v.back)) (pull_round cfg w) (λ v. schedule.unless_empty (pull_rounds cfg n) v (next_end v.out v.back)) (pulled_next w)
-      (λ v. unless_next (emptied cfg tap n) (pull_rounds cfg n) (emptied_next n) v (next_end v.out v.back))
+      behind_next w (pulled cfg tap w) (λ v. unless_empty (emptied cfg tap n) v (next_end v.out v.back)) (pull_round cfg most_times w) (λ v. schedule.unless_empty (pull_rounds cfg most_times n) v (next_end v.out v.back)) (pulled_next w)
+      (λ v. unless_next (emptied cfg tap n) (pull_rounds cfg most_times n) (emptied_next n) v (next_end v.out v.back))
 
-  healed_next : (w : World) → (healed cfg tap w).next ≡ run cfg (healing cfg w) w
+  healed_next : (w : World) → (healed cfg tap w).next ≡ run cfg (healing cfg most_times w) w
   unfolding healed fired
   healed_next w =
-      let v = run cfg (deliveries cfg w) w in
+      let v = run cfg (deliveries cfg most_times w) w in
       let both = schedule.both_tried cfg (firing Dte) (firing Dce) v in
       ap (λ (x : World). (emptied cfg tap most_times (both_tried cfg tap Fires x).next).next) (drained_next most_times w)
-      ∙ behind_next v (both_tried cfg tap Fires v) (emptied cfg tap most_times) both (pull_rounds cfg most_rounds) (both_next Fires v) (emptied_next most_times)
-      ∙ sym (run_append (deliveries cfg w) (fire_and_pull cfg v) w)
+      ∙ behind_next v (both_tried cfg tap Fires v) (emptied cfg tap most_times) both (pull_rounds cfg most_times most_times) (both_next Fires v) (emptied_next most_times)
+      ∙ sym (run_append (deliveries cfg most_times w) (fire_and_pull cfg most_times v) w)
 
 pub heal_is_the_schedule : HealIsTheSchedule
 unfolding line_turn
@@ -90,4 +90,8 @@ heal_is_the_schedule cfg tap w = healed_next cfg tap w
 pub heals_throughout : Throughout HealingBringsAll → Throughout HealBringsAll
 heals_throughout brings cfg fine begin which events octets tap =
     let w = run cfg events begin in
-    subst (ArrivesByHealing cfg w) (sym (heal_is_the_schedule cfg tap w)) (brings cfg fine begin which events octets)
+    subst (ArrivesByHealing cfg most_times w) (sym (heal_is_the_schedule cfg tap w)) (brings cfg fine begin which events octets most_times (omega arith))
+
+pub shows_throughout : Throughout HealingRestShowsAll → Throughout HealRestShowsAll
+shows_throughout shows cfg fine begin which events octets tap =
+    subst (RestShowsAll cfg) (sym (heal_is_the_schedule cfg tap (run cfg events begin))) (shows cfg fine begin which events octets most_times (omega arith))

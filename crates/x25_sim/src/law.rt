@@ -5,7 +5,8 @@ ghost use Rattle.x25_world.specs.laws.WindowGoes.{IsInWindow};
 ghost use Rattle.x25_world.specs.laws.SessionClaims.{AllArrive, AreLawfulWhereMet, AreNamedInSessions, MeetInStep};
 ghost use Rattle.x25_world.specs.laws.SessionClaims.{OpenStretchesMeet, UnmetAreToldNothing};
 ghost use Rattle.x25_world.specs.laws.SessionWindow.{UpIsInWindow};
-ghost use Rattle.x25_sim.specs.laws.RunLaw.{HealBringsAll, HealIsTheSchedule, OfAllScripts, OfScripts, OfScriptsSetUp};
+ghost use Rattle.x25_sim.specs.laws.RunLaw.{HealBringsAll, HealRestShowsAll, HealIsTheSchedule, OfAllScripts};
+ghost use Rattle.x25_sim.specs.laws.RunLaw.{OfScripts, OfScriptsSetUp};
 ghost use Rattle.x25_sim.specs.laws.RunLaw.{ScriptsAreRuns, ScriptsAreTapped, ScriptsAreTold, UpOnceUnlessAsked};
 ghost use Rattle.x25_sim.specs.rows.ScriptRows.{BothEndsGoDown, BothEndsHeal, CallsCollide, DamageIsSeen};
 ghost use Rattle.x25_sim.specs.rows.ScriptRows.{FramesAreWritten, LinkGoesDown, LinkIsSetUp, LinkIsSetUpAgain};
@@ -65,11 +66,12 @@ pub fn scripts_meet_in_sessions()
 }
 
 /// A line `heal`, wherever it stands, leads to where the schedule of `World::heal` leads; so behind every script, with
-/// `down` or without, it brings about what `healing_brings_all` says.
+/// `down` or without, rest shows and it brings about what `healing_brings_all` says.
 ///
 /// Premises: k is 1 to 7, N2 1 to 255, channels 1 to 16.
 pub fn heal_is_the_schedule()
     ensures schedule { HealIsTheSchedule }
+    ensures shows { OfAllScripts HealRestShowsAll }
     ensures arrives { OfAllScripts HealBringsAll }
 {
     scripts_are_runs();

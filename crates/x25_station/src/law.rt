@@ -5,8 +5,8 @@ ghost use Rattle.x25_station.specs.laws.JoinLaw.{UpIsJoined};
 ghost use Rattle.x25_station.specs.laws.KeepLaw.{ConnectKeeps, TimerKeeps, CommandKeeps, ReceiveKeeps};
 ghost use Rattle.x25_station.specs.laws.ReadLaw.{PutsAreReadable, PutsBesidePeersAreReadable};
 ghost use Rattle.x25_station.specs.laws.HoldLaw.{FewWait, FewStand, FewMessages, FewJoined, FewHeld, FewAside};
-ghost use Rattle.x25_station.specs.laws.TimerLaw.{BeginsWhereDue, DeadlineIsTrue, FiringIsTaken, OffIsRefused};
-ghost use Rattle.x25_station.specs.laws.TimerLaw.{PullIsHeeded};
+ghost use Rattle.x25_station.specs.laws.TimerLaw.{BeginsWhereDue, BeginsBehindPull, DeadlineIsTrue, FiringIsTaken};
+ghost use Rattle.x25_station.specs.laws.TimerLaw.{OffIsRefused, PullIsHeeded};
 
 use x25_circuit::values_are_agreed;
 use x25_layer::calls_are_runs;
@@ -74,12 +74,13 @@ pub fn stations_hold_few()
 /// T1 and one who has a clock, over any events from a new station on. He drops his deadline at a step behind which T1
 /// is off, sets it at one that begins T1 anew, and leaves it at any other and at a refusal: then it stands exactly
 /// while T1 runs, so that a firing when it passes is never refused with 11. So it does for one who sets it once, by
-/// what became of T1 at a step and a pull behind it. T1 begins anew at each step behind which it runs and that was its
-/// firing, told LinkUp or acknowledged a frame.
+/// what became of T1 at a step and a pull behind it. T1 begins anew, where it runs behind the step, or behind the pull
+/// too, at each that was its firing, told LinkUp, or behind which more frames are acknowledged.
 pub fn deadlines_are_true()
     ensures deadline { DeadlineIsTrue }
     ensures taken { FiringIsTaken }
     ensures off { OffIsRefused }
     ensures pulled { PullIsHeeded }
     ensures due { BeginsWhereDue }
+    ensures due_pulled { BeginsBehindPull }
 {}

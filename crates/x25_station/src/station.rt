@@ -29,7 +29,7 @@ impl Station {
     ghost use Rattle.x25_station.specs.code.FitsStation.{FitsStation, RefusesWith};
     ghost use Rattle.x25_station.specs.Config.{Settings, layer_settings, settings_from, config_refusal};
     ghost use Rattle.x25_station.specs.Station.{Station as State, new_station};
-    ghost use Rattle.x25_station.specs.Station.Told.{is_idle, stretch};
+    ghost use Rattle.x25_station.specs.Station.Told.{is_idle, is_at_rest, stretch};
     ghost use Rattle.x25_layer.specs.code.FitsLayer.{plain_stretch};
     ghost use Rattle.x25_layer.specs.Layer.InPart.{joined_at};
     ghost use Rattle.x25_link.specs.Station.{awaits_ua};
@@ -67,6 +67,14 @@ impl Station {
         ensures { (c : Settings) (s : State) → FitsStation c self.now s → result ≡ is_idle c s }
     {
         self.link.idle() && self.layer.waits() == 0
+    }
+
+    /// Whether the link is at rest: it is up, no packet waits in it, all that was sent is acknowledged, and timer T1
+    /// doesn't run. Messages may wait in circuits.
+    pub fn is_at_rest(&self) -> bool
+        ensures { (c : Settings) (s : State) → FitsStation c self.now s → result ≡ is_at_rest s }
+    {
+        self.link.idle() && !self.link.timer_runs()
     }
 
     /// Whether the link is being set up: a SABM was sent, and its UA is awaited.

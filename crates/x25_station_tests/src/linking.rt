@@ -3,7 +3,7 @@
 use crate::calls::station;
 use crate::peer::{Act, Row, Table, play};
 use crate::rows::{CALL, READY_DTE, SEND, UA};
-use Act::{Ask, Connect, HearRr, Idle, Pull, Stretch, T1, Take, Timer};
+use Act::{Ask, Connect, HearRr, Idle, Pull, Rest, Stretch, T1, Take, Timer};
 use std::alloc::Global;
 use std::test::Fail;
 use x25_station::{Cfg, Cmd, Role, StationError};
@@ -82,19 +82,22 @@ fn links_that_are_down(rt: HostRuntime) -> Result<(), Fail> {
     play(&rt, rt.alloc(), (Role::Dte, 1), &[], DOWN.as_slice())
 }
 
-const CLOSED: [Row; 9] = [
+const CLOSED: [Row; 12] = [
     (Connect, &["! 15"]),
     (Timer, &["T1 runs", "goes on"]),
+    (Rest, &["not at rest"]),
     (HearRr(1), &[]),
     (Timer, &["T1 is off", "off"]),
     (T1, &["! 11"]),
     (Idle, &["idle"]),
+    (Rest, &["at rest"]),
     (
         Ask(Cmd::Disconnect),
         &["dte disconnect", "dte linkdown local", "DISC cmd P=1"],
     ),
     (Ask(CALL), &["! 9"]),
     (Idle, &["not idle"]),
+    (Rest, &["not at rest"]),
 ];
 
 const ANSWER_TO_A_POLL: [Row; 4] = [

@@ -33,6 +33,8 @@ pub enum Act {
     HearRr(u8),
     /// Nothing happens. It is shown whether the station is idle, and whether it awaits UA.
     Idle,
+    /// Nothing happens. It is shown whether the link is at rest.
+    Rest,
     /// What waits is pulled behind what happened last. Both are shown.
     Pull,
     /// Nothing happens. It is shown whether T1 runs, and what became of it at what happened last.
@@ -117,6 +119,13 @@ impl End {
                     (true, _) => "idle",
                     (false, true) => "UA is awaited",
                     (false, false) => "not idle",
+                };
+                Ok(lines(self.alloc, &[shown])?)
+            }
+            Act::Rest => {
+                let shown = match self.station.is_at_rest() {
+                    true => "at rest",
+                    false => "not at rest",
                 };
                 Ok(lines(self.alloc, &[shown])?)
             }

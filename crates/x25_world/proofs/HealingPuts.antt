@@ -49,7 +49,7 @@ asked_of false packets = puts_of packets
 free_turned : (s t : LinkStation) → AreFree s t → AreFree t s
 free_turned s t h = (h.1, h.0)
 
--- .. of the near end, so that the links have those of the world behind it; as octets are taken neither is busy
+-- what the near end asks of its link, so that the links have those of the world behind it; as octets are taken neither is busy
 record Asked (cfg : Cfg) (end : Role) (w u : World) (v : Sessions) : Type 0 where
   pub comes : Bool
   pub packets : List PlainPacket

@@ -1,33 +1,35 @@
 -- Healing as a whole: firings, and rounds of pulls; all arrives.
-use Rattle.std.proofs.Common.{◌≡◌, ℕ, zero, suc, ◌+◌, ◌-◌, ◌*◌, ◌≤◌, ◌<◌, Bool, true, false, List, [], ◌∷◌, ◌++◌, length, Option, Some, None, Result, Ok, Err, OnOk, refl, sym, ap, ◌∙◌, subst, arith}
+use Rattle.std.proofs.Common.{◌≡◌, ℕ, zero, suc, ◌+◌, ◌-◌, ◌*◌, ◌≤◌, ◌<◌, Bool, true, false, List, [], ◌∷◌, ◌++◌, length, ◌&&◌, inl, Option, Some, None, refl, sym, ap, ◌∙◌, subst, arith}
+use Rattle.std.proofs.lemmas.Bool.{and_parts, not-true}
 use Rattle.std.specs.Prelude.{is_none, is_some, not, option_map}
 use Rattle.x25_bits.specs.declared.role.Role.{Role}
 use Rattle.x25_bits.specs.declared.role.Role.TheVariants.{Dte, Dce}
 use Rattle.x25_station.specs.declared.config.Cfg.{Cfg}
-use Rattle.x25_link.specs.Link.{is_idle}
+use Rattle.x25_link.specs.Station.{LinkStation, is_up}
+use Rattle.x25_link.specs.Link.{is_idle, timer_runs}
 use Rattle.x25_link.specs.laws.RestLaw.{IsAtRest}
 use Rattle.x25_layer.specs.Calls.{PullsAll}
 use Rattle.x25_layer.specs.laws.WaitLaw.{PullsNone}
 use Rattle.x25_station.specs.Config.{settings_from, layer_settings, config_refusal}
 use Rattle.x25_station.specs.Command.{Requests}
 use Rattle.x25_station.specs.Station.{Station}
+use Rattle.x25_station.specs.Station.Told.{is_at_rest}
 use Rattle.x25_station.specs.Step.{Outcome, Did, Refused, commands}
 use Rattle.x25_world.specs.World.{World, AtEnd, swapped, WorldOutcome, Happened, Declined, of_station, swapped_back, Event, happens, after, run}
-use Rattle.x25_world.specs.declared.error.WorldError.{WorldError}
 use Rattle.x25_world.specs.laws.Claims.{ActsInOctets, AreInOctets, IsBeginning}
 use Rattle.x25_world.specs.laws.SessionClaims.{Throughout}
 use Rattle.x25_world.specs.laws.WaitClaims.{pull_at, AllWaitForUsers, HasNoneToPull, PullsLeaveNone, UnpulledWaitForUsers}
-use Rattle.x25_world.specs.Healing.{all_received, firing, next_end, arrivals, most_deliveries, deliveries, one_if, if_accepted, behind, both_tried, pull_round, most_rounds, unless_empty, pull_rounds, fire_and_pull, healing, received_by, received_in, IsDrained, HealsWhereNonePut, HealsFrom, AreReceiptsAndRequests, FreeThroughout, BothMayHeal, HaveArrived, HealsWithPuts, AllArrives, HealingBringsAll}
+use Rattle.x25_world.specs.Healing.{all_received, firing, next_end, arrivals, deliveries, one_if, if_accepted, behind, both_tried, pull_round, unless_empty, pull_rounds, fire_and_pull, healing, received_by, received_in, IsDrained, AreReceiptsAndRequests, FreeThroughout, BothMayHeal, HaveArrived, HealsWithPuts, RestShows, ArrivesByHealing, AllArrives, RestShowsAll}
 use Rattle.x25_world.specs.code.ShownWorld.{ShownWorld}
 use Rattle.x25_world.specs.code.FitsWorld.{FitsWorld, FitsRun, Leaves}
-use Rattle.x25_world.specs.code.FitsHealing.{TellingWorld, GoesBy}
+use Rattle.x25_world.specs.code.FitsHealing.{most_times, TellingWorld, GoesBy}
 use Rattle.x25_world.proofs.HealingSchedule.{run_append, accepted_append, count_append, tried_is, Begun, goes_on, rest_is}
 
 -- ---- rounds
 
 -- what is left behind a round
-abbrev pub left_behind : Cfg → ℕ → World → List Event
-left_behind cfg n w = unless_empty (pull_rounds cfg n) w (next_end w.out w.back)
+abbrev pub left_behind : Cfg → ℕ → ℕ → World → List Event
+left_behind cfg most n w = unless_empty (pull_rounds cfg most n) w (next_end w.out w.back)
 
 -- whether there is none, by whether there is some
 pub none_by_some : {A B : Type 0} (f : A → B) (o : Option A) (b : Bool) → is_some o ≡ not b → b ≡ is_none (option_map f o)
@@ -40,38 +42,38 @@ pub is_none_true : {A : Type 0} (o : Option A) → is_none o ≡ true → o ≡ 
 is_none_true None e = refl
 is_none_true (Some x) e = absurd (cc)
 
-module _ (cfg : Cfg) where
-  pub no_rounds : (n : ℕ) (w : World) → n ≡ 0 → pull_rounds cfg n w ≡ []
+module _ (cfg : Cfg) (most : ℕ) where
+  pub no_rounds : (n : ℕ) (w : World) → n ≡ 0 → pull_rounds cfg most n w ≡ []
   unfolding pull_rounds
-  no_rounds n w e = ap (λ (m : ℕ). pull_rounds cfg m w) e
+  no_rounds n w e = ap (λ (m : ℕ). pull_rounds cfg most m w) e
 
-  pub round_more : (n m : ℕ) (w : World) → n ≡ suc m → pull_rounds cfg n w ≡ pull_round cfg w ++ left_behind cfg m (run cfg (pull_round cfg w) w)
+  pub round_more : (n m : ℕ) (w : World) → n ≡ suc m → pull_rounds cfg most n w ≡ pull_round cfg most w ++ left_behind cfg most m (run cfg (pull_round cfg most w) w)
   unfolding pull_rounds
-  round_more n m w e = ap (λ (k : ℕ). pull_rounds cfg k w) e
+  round_more n m w e = ap (λ (k : ℕ). pull_rounds cfg most k w) e
 
   by_line : (rest : World → List Event) (w : World) (at : Option Role) → at ≡ None → unless_empty rest w at ≡ []
   by_line rest w None e = refl
   by_line rest w (Some at) e = absurd (cc)
 
-  pub line_empty : (n : ℕ) (w : World) → next_end w.out w.back ≡ None → left_behind cfg n w ≡ []
-  line_empty n w e = by_line (pull_rounds cfg n) w (next_end w.out w.back) e
+  pub line_empty : (n : ℕ) (w : World) → next_end w.out w.back ≡ None → left_behind cfg most n w ≡ []
+  line_empty n w e = by_line (pull_rounds cfg most n) w (next_end w.out w.back) e
 
   by_frames : (rest : World → List Event) (w : World) (at : Option Role) → is_none at ≡ false → unless_empty rest w at ≡ rest w
   by_frames rest w None e = absurd (cc)
   by_frames rest w (Some at) e = refl
 
-  pub line_filled : (n : ℕ) (w : World) → is_none (next_end w.out w.back) ≡ false → left_behind cfg n w ≡ pull_rounds cfg n w
-  line_filled n w e = by_frames (pull_rounds cfg n) w (next_end w.out w.back) e
+  pub line_filled : (n : ℕ) (w : World) → is_none (next_end w.out w.back) ≡ false → left_behind cfg most n w ≡ pull_rounds cfg most n w
+  line_filled n w e = by_frames (pull_rounds cfg most n) w (next_end w.out w.back) e
 
-module _ (cfg : Cfg) (events : List Event) (w : World) (before : List AtEnd) (all done count : ℕ) where
-  abbrev pub next_round : (v : TellingWorld) → done < all → Begun cfg events w v before (pull_rounds cfg (all - done)) count → Begun cfg events w v before (behind cfg (pull_round cfg) (left_behind cfg (all - (done + 1)))) count
+module _ (cfg : Cfg) (most : ℕ) (events : List Event) (w : World) (before : List AtEnd) (all done count : ℕ) where
+  abbrev pub next_round : (v : TellingWorld) → done < all → Begun cfg events w v before (pull_rounds cfg most (all - done)) count → Begun cfg events w v before (behind cfg (pull_round cfg most) (left_behind cfg most (all - (done + 1)))) count
   next_round v low h =
-      rest_is cfg events w v before (pull_rounds cfg (all - done)) count h (behind cfg (pull_round cfg) (left_behind cfg (all - (done + 1))))
-      (round_more cfg (all - done) (all - (done + 1)) (run cfg h.done w) (omega (arith, low)))
+      rest_is cfg events w v before (pull_rounds cfg most (all - done)) count h (behind cfg (pull_round cfg most) (left_behind cfg most (all - (done + 1))))
+      (round_more cfg most (all - done) (all - (done + 1)) (run cfg h.done w) (omega (arith, low)))
 
-  pub round_done : (u v : TellingWorld) (more : ℕ) (low : done < all) (h : Begun cfg events w u before (pull_rounds cfg (all - done)) count)
-      → (let x = run cfg h.done w in GoesBy cfg (pull_round cfg x) x v before → more ≡ received_in (pull_round cfg x) → Begun cfg events w v before (left_behind cfg (all - (done + 1))) (count + more))
-  round_done u v more low h goes counted = goes_on cfg events w u v before (pull_round cfg) (left_behind cfg (all - (done + 1))) count (next_round u low h) more goes counted
+  pub round_done : (u v : TellingWorld) (more : ℕ) (low : done < all) (h : Begun cfg events w u before (pull_rounds cfg most (all - done)) count)
+      → (let x = run cfg h.done w in GoesBy cfg (pull_round cfg most x) x v before → more ≡ received_in (pull_round cfg most x) → Begun cfg events w v before (left_behind cfg most (all - (done + 1))) (count + more))
+  round_done u v more low h goes counted = goes_on cfg events w u v before (pull_round cfg most) (left_behind cfg most (all - (done + 1))) count (next_round u low h) more goes counted
 
 -- ---- how many arrive
 
@@ -94,11 +96,11 @@ count_both cfg first second w none none_there =
     let two = count_tried cfg second x none_there in
     omega (arith, both, one, two)
 
-pub count_round : (cfg : Cfg) (w : World) (count : ℕ) → count ≡ length (arrivals cfg most_deliveries w) → count ≡ received_in (pull_round cfg w)
-count_round cfg w count counted =
-    let x = run cfg (deliveries cfg w) w in
-    let both = count_append (deliveries cfg w) (both_tried cfg (pull_at Dte) (pull_at Dce) x) in
-    let one = count_received (arrivals cfg most_deliveries w) in
+pub count_round : (cfg : Cfg) (most : ℕ) (w : World) (count : ℕ) → count ≡ length (arrivals cfg most w) → count ≡ received_in (pull_round cfg most w)
+count_round cfg most w count counted =
+    let x = run cfg (deliveries cfg most w) w in
+    let both = count_append (deliveries cfg most w) (both_tried cfg (pull_at Dte) (pull_at Dce) x) in
+    let one = count_received (arrivals cfg most w) in
     let two = count_both cfg (pull_at Dte) (pull_at Dce) x refl refl in
     omega (arith, counted, both, one, two)
 
@@ -106,23 +108,23 @@ count_round cfg w count counted =
 abbrev pub fired_at : Cfg → World → World
 fired_at cfg v = run cfg (both_tried cfg (firing Dte) (firing Dce) v) v
 
-pub counts_both : (cfg : Cfg) (w : World) (before behind same : ℕ) → before ≡ length (arrivals cfg most_deliveries w)
-    → behind ≡ received_in (pull_rounds cfg most_rounds (fired_at cfg (run cfg (deliveries cfg w) w))) → same ≡ before → same + behind ≡ received_in (healing cfg w)
-counts_both cfg w before behind same first second kept =
-    let v = run cfg (deliveries cfg w) w in
+pub counts_both : (cfg : Cfg) (most : ℕ) (w : World) (before behind same : ℕ) → before ≡ length (arrivals cfg most w)
+    → behind ≡ received_in (pull_rounds cfg most most (fired_at cfg (run cfg (deliveries cfg most w) w))) → same ≡ before → same + behind ≡ received_in (healing cfg most w)
+counts_both cfg most w before behind same first second kept =
+    let v = run cfg (deliveries cfg most w) w in
     let fired = both_tried cfg (firing Dte) (firing Dce) v in
     let x = fired_at cfg v in
-    let whole = count_append (deliveries cfg w) (fire_and_pull cfg v) in
-    let one = count_received (arrivals cfg most_deliveries w) in
-    let rest = count_append fired (pull_rounds cfg most_rounds x) in
+    let whole = count_append (deliveries cfg most w) (fire_and_pull cfg most v) in
+    let one = count_received (arrivals cfg most w) in
+    let rest = count_append fired (pull_rounds cfg most most x) in
     let two = count_both cfg (firing Dte) (firing Dce) v refl refl in
     omega (arith, first, second, kept, whole, one, rest, two)
 
 -- a round more has brought at most so many more
-pub few_more : (count rounds more : ℕ) → more ≤ most_deliveries → count ≤ rounds * most_deliveries → count + more ≤ (rounds + 1) * most_deliveries
+pub few_more : (count rounds more : ℕ) → more ≤ most_times → count ≤ rounds * most_times → count + more ≤ (rounds + 1) * most_times
 few_more count rounds more few h = omega (arith, few, h)
 
--- .. and at least one, where a frame was on the line
+-- and at least one, where a frame was on the line
 pub rounds_more : (at : Option Role) (count rounds more : ℕ) → rounds ≤ count + 1 → (1 ≤ rounds → is_none at ≡ false) → (more ≡ 0 → at ≡ None) → rounds + 1 ≤ count + more + 1
 rounds_more at count zero more low filled none = omega arith
 rounds_more at count (suc n) zero low filled none = absurd (some at (filled (omega arith)) (none refl))
@@ -154,58 +156,47 @@ both_octets cfg first second w octets octets_there =
     let x = run cfg (if_accepted cfg first w) w in
     octets_append (if_accepted cfg first w) (if_accepted cfg second x) (tried_octets cfg first w octets) (tried_octets cfg second x octets_there)
 
-round_octets : (cfg : Cfg) (w : World) → AreInOctets (pull_round cfg w)
-round_octets cfg w =
-    let x = run cfg (deliveries cfg w) w in
-    octets_append (deliveries cfg w) (both_tried cfg (pull_at Dte) (pull_at Dce) x) (received_octets (arrivals cfg most_deliveries w)) (both_octets cfg (pull_at Dte) (pull_at Dce) x tt tt)
+round_octets : (cfg : Cfg) (most : ℕ) (w : World) → AreInOctets (pull_round cfg most w)
+round_octets cfg most w =
+    let x = run cfg (deliveries cfg most w) w in
+    octets_append (deliveries cfg most w) (both_tried cfg (pull_at Dte) (pull_at Dce) x) (received_octets (arrivals cfg most w)) (both_octets cfg (pull_at Dte) (pull_at Dce) x tt tt)
 
 unless_octets : (rest : World → List Event) → ((w : World) → AreInOctets (rest w)) → (w : World) (at : Option Role) → AreInOctets (unless_empty rest w at)
 unless_octets rest octets w None = tt
 unless_octets rest octets w (Some at) = octets w
 
-rounds_octets : (cfg : Cfg) (n : ℕ) (w : World) → AreInOctets (pull_rounds cfg n w)
+rounds_octets : (cfg : Cfg) (most : ℕ) (n : ℕ) (w : World) → AreInOctets (pull_rounds cfg most n w)
 unfolding pull_rounds
-rounds_octets cfg zero w = tt
-rounds_octets cfg (suc n) w =
-    let x = run cfg (pull_round cfg w) w in
-    octets_append (pull_round cfg w) (left_behind cfg n x) (round_octets cfg w) (unless_octets (pull_rounds cfg n) (rounds_octets cfg n) x (next_end x.out x.back))
+rounds_octets cfg most zero w = tt
+rounds_octets cfg most (suc n) w =
+    let x = run cfg (pull_round cfg most w) w in
+    octets_append (pull_round cfg most w) (left_behind cfg most n x) (round_octets cfg most w) (unless_octets (pull_rounds cfg most n) (rounds_octets cfg most n) x (next_end x.out x.back))
 
-healing_octets : (cfg : Cfg) (w : World) → AreInOctets (healing cfg w)
-healing_octets cfg w =
-    let v = run cfg (deliveries cfg w) w in
+healing_octets : (cfg : Cfg) (most : ℕ) (w : World) → AreInOctets (healing cfg most w)
+healing_octets cfg most w =
+    let v = run cfg (deliveries cfg most w) w in
     let fired = both_tried cfg (firing Dte) (firing Dce) v in
     let x = run cfg fired v in
-    octets_append (deliveries cfg w) (fire_and_pull cfg v) (received_octets (arrivals cfg most_deliveries w))
-    (octets_append fired (pull_rounds cfg most_rounds x) (both_octets cfg (firing Dte) (firing Dce) v tt tt) (rounds_octets cfg most_rounds x))
+    octets_append (deliveries cfg most w) (fire_and_pull cfg most v) (received_octets (arrivals cfg most w))
+    (octets_append fired (pull_rounds cfg most most x) (both_octets cfg (firing Dte) (firing Dce) v tt tt) (rounds_octets cfg most most x))
 
-pub holds_healed : (Holds : Cfg → World → World → Type 0) {T : Type 0} (r : Result T WorldError) (old : ShownWorld) (new : TellingWorld) (cfg : Cfg) (from : World) (past : List Event) (before : List AtEnd)
+pub holds_healed : (Holds : Cfg → World → World → Type 0) (old : ShownWorld) (new : TellingWorld) (cfg : Cfg) (most : ℕ) (from : World) (past : List Event) (before : List AtEnd)
     → FitsRun cfg from old past
-    → (let w = run cfg past from in OnOk r (GoesBy cfg (healing cfg w) w new before)
-    → (AreInOctets (past ++ healing cfg w) → Holds cfg w (run cfg (past ++ healing cfg w) from))
-    → OnOk r (Leaves (λ (c : Cfg) (u : World). Holds c w u) cfg from new.world (past ++ healing cfg w)))
-holds_healed Holds (Err e) old new cfg from past before h goes law = tt
-holds_healed Holds (Ok x) old new cfg from past before h goes law =
+    → (let w = run cfg past from in GoesBy cfg (healing cfg most w) w new before
+    → (AreInOctets (past ++ healing cfg most w) → Holds cfg w (run cfg (past ++ healing cfg most w) from))
+    → Leaves (λ (c : Cfg) (u : World). Holds c w u) cfg from new.world (past ++ healing cfg most w))
+holds_healed Holds old new cfg most from past before h goes law =
     let w = run cfg past from in
-    let octets = octets_append past (healing cfg w) h.octets (healing_octets cfg w) in
+    let octets = octets_append past (healing cfg most w) h.octets (healing_octets cfg most w) in
     record {
       fits = record {
         settings = h.settings;
         octets = octets;
-        accepted = accepted_append cfg past (healing cfg w) from h.accepted goes.accepted;
-        fits = subst (λ (z : World). FitsWorld cfg new.world z) (sym (run_append cfg past (healing cfg w) from)) goes.fits.fits;
+        accepted = accepted_append cfg past (healing cfg most w) from h.accepted goes.accepted;
+        fits = subst (λ (z : World). FitsWorld cfg new.world z) (sym (run_append cfg past (healing cfg most w) from)) goes.fits.fits;
       };
       holds = law octets;
     }
-
-pub heals_from : Throughout HealsWhereNonePut → (cfg : Cfg) → config_refusal cfg ≡ None → (from : World) → IsBeginning cfg from → (past : List Event) → AreInOctets past → HealsFrom cfg (run cfg past from)
-heals_from law cfg fine from begins past octets may none after_all =
-    let w = run cfg past from in
-    let v = run cfg (deliveries cfg w) w in
-    let fired = run cfg (firing Dte ∷ firing Dce ∷ []) v in
-    let here : HealsWhereNonePut cfg v =
-    subst (HealsWhereNonePut cfg) (run_append cfg past (deliveries cfg w) from)
-    (law cfg fine from begins (past ++ deliveries cfg w) (octets_append past (deliveries cfg w) octets (received_octets (arrivals cfg most_deliveries w)))) in
-    here may (arrivals cfg most_deliveries fired) none after_all
 
 -- ---- all arrives
 
@@ -225,23 +216,23 @@ pulled_requests cfg end w = by (happens cfg w (pull_at end))
     by (Happened next) = (tt, tt)
     by (Declined x) = tt
 
-round_requests : (cfg : Cfg) (w : World) → AreReceiptsAndRequests (pull_round cfg w)
-round_requests cfg w =
-    let x = run cfg (deliveries cfg w) w in
+round_requests : (cfg : Cfg) (most : ℕ) (w : World) → AreReceiptsAndRequests (pull_round cfg most w)
+round_requests cfg most w =
+    let x = run cfg (deliveries cfg most w) w in
     let y = run cfg (if_accepted cfg (pull_at Dte) x) x in
-    requests_append (deliveries cfg w) (both_tried cfg (pull_at Dte) (pull_at Dce) x) (received_requests (arrivals cfg most_deliveries w))
+    requests_append (deliveries cfg most w) (both_tried cfg (pull_at Dte) (pull_at Dce) x) (received_requests (arrivals cfg most w))
     (requests_append (if_accepted cfg (pull_at Dte) x) (if_accepted cfg (pull_at Dce) y) (pulled_requests cfg Dte x) (pulled_requests cfg Dce y))
 
 unless_requests : (rest : World → List Event) → ((w : World) → AreReceiptsAndRequests (rest w)) → (w : World) (at : Option Role) → AreReceiptsAndRequests (unless_empty rest w at)
 unless_requests rest are w None = tt
 unless_requests rest are w (Some at) = are w
 
-rounds_requests : (cfg : Cfg) (n : ℕ) (w : World) → AreReceiptsAndRequests (pull_rounds cfg n w)
+rounds_requests : (cfg : Cfg) (most : ℕ) (n : ℕ) (w : World) → AreReceiptsAndRequests (pull_rounds cfg most n w)
 unfolding pull_rounds
-rounds_requests cfg zero w = tt
-rounds_requests cfg (suc n) w =
-    let x = run cfg (pull_round cfg w) w in
-    requests_append (pull_round cfg w) (left_behind cfg n x) (round_requests cfg w) (unless_requests (pull_rounds cfg n) (rounds_requests cfg n) x (next_end x.out x.back))
+rounds_requests cfg most zero w = tt
+rounds_requests cfg most (suc n) w =
+    let x = run cfg (pull_round cfg most w) w in
+    requests_append (pull_round cfg most w) (left_behind cfg most n x) (round_requests cfg most w) (unless_requests (pull_rounds cfg most n) (rounds_requests cfg most n) x (next_end x.out x.back))
 
 -- both pulls, accepted or not
 abbrev pulled_both : Cfg → World → World
@@ -259,27 +250,27 @@ record ArePulled (cfg : Cfg) (u : World) : Type 0 where
   from : World
   is : u ≡ pulled_both cfg from
 
-round_pulls : (cfg : Cfg) (w : World) → ArePulled cfg (run cfg (pull_round cfg w) w)
-round_pulls cfg w =
-    let x = run cfg (deliveries cfg w) w in
-    record { from = x; is = run_append cfg (deliveries cfg w) (both_tried cfg (pull_at Dte) (pull_at Dce) x) w ∙ both_are cfg (pull_at Dte) (pull_at Dce) x }
+round_pulls : (cfg : Cfg) (most : ℕ) (w : World) → ArePulled cfg (run cfg (pull_round cfg most w) w)
+round_pulls cfg most w =
+    let x = run cfg (deliveries cfg most w) w in
+    record { from = x; is = run_append cfg (deliveries cfg most w) (both_tried cfg (pull_at Dte) (pull_at Dce) x) w ∙ both_are cfg (pull_at Dte) (pull_at Dce) x }
 
 unless_pulls : (cfg : Cfg) (rest : World → List Event) → ((w : World) → ArePulled cfg w → ArePulled cfg (run cfg (rest w) w)) → (w : World) (at : Option Role) → ArePulled cfg w → ArePulled cfg (run cfg (unless_empty rest w at) w)
 unless_pulls cfg rest pulls w None are = are
 unless_pulls cfg rest pulls w (Some at) are = pulls w are
 
-rounds_pull : (cfg : Cfg) (n : ℕ) (w : World) → ArePulled cfg w → ArePulled cfg (run cfg (pull_rounds cfg n w) w)
+rounds_pull : (cfg : Cfg) (most : ℕ) (n : ℕ) (w : World) → ArePulled cfg w → ArePulled cfg (run cfg (pull_rounds cfg most n w) w)
 unfolding pull_rounds
-rounds_pull cfg zero w are = are
-rounds_pull cfg (suc n) w are =
-    let x = run cfg (pull_round cfg w) w in
-    subst (ArePulled cfg) (sym (run_append cfg (pull_round cfg w) (left_behind cfg n x) w)) (unless_pulls cfg (pull_rounds cfg n) (rounds_pull cfg n) x (next_end x.out x.back) (round_pulls cfg w))
+rounds_pull cfg most zero w are = are
+rounds_pull cfg most (suc n) w are =
+    let x = run cfg (pull_round cfg most w) w in
+    subst (ArePulled cfg) (sym (run_append cfg (pull_round cfg most w) (left_behind cfg most n x) w)) (unless_pulls cfg (pull_rounds cfg most n) (rounds_pull cfg most n) x (next_end x.out x.back) (round_pulls cfg most w))
 
-all_pull : (cfg : Cfg) (n m : ℕ) (w : World) → n ≡ suc m → ArePulled cfg (run cfg (pull_rounds cfg n w) w)
-all_pull cfg n m w is =
-    let x = run cfg (pull_round cfg w) w in
-    subst (λ (es : List Event). ArePulled cfg (run cfg es w)) (sym (round_more cfg n m w is))
-    (subst (ArePulled cfg) (sym (run_append cfg (pull_round cfg w) (left_behind cfg m x) w)) (unless_pulls cfg (pull_rounds cfg m) (rounds_pull cfg m) x (next_end x.out x.back) (round_pulls cfg w)))
+all_pull : (cfg : Cfg) (most : ℕ) (n m : ℕ) (w : World) → n ≡ suc m → ArePulled cfg (run cfg (pull_rounds cfg most n w) w)
+all_pull cfg most n m w is =
+    let x = run cfg (pull_round cfg most w) w in
+    subst (λ (es : List Event). ArePulled cfg (run cfg es w)) (sym (round_more cfg most n m w is))
+    (subst (ArePulled cfg) (sym (run_append cfg (pull_round cfg most w) (left_behind cfg most m x) w)) (unless_pulls cfg (pull_rounds cfg most m) (rounds_pull cfg most m) x (next_end x.out x.back) (round_pulls cfg most w)))
 
 -- the pull of the DCE leaves the DTE as it was
 keeps_dte : (cfg : Cfg) (w : World) → (after w (happens cfg w (pull_at Dce))).near ≡ w.near
@@ -288,6 +279,21 @@ keeps_dte cfg w = by (commands (settings_from Dce cfg) w.far (Requests PullsAll)
     by : (o : Outcome) → (after w (swapped_back (of_station (settings_from Dce cfg) (swapped w) o))).near ≡ w.near
     by (Did step) = refl
     by (Refused e) = refl
+
+-- a link that is at rest is up, and its timer T1 doesn't run
+up_of : {s t : LinkStation} → s ≡ t → IsAtRest t → is_up s.phase ≡ true
+up_of {s} {t} is rest = ap (λ (x : LinkStation). is_up x.phase) is ∙ (and_parts (is_up t.phase) _ rest.idle).0
+
+off_of : {s t : LinkStation} → s ≡ t → IsAtRest t → timer_runs s.phase s ≡ false
+off_of is rest = ap (λ (x : LinkStation). timer_runs x.phase x) is ∙ rest.no_timer
+
+rest_of : (s : Station) → is_at_rest s ≡ true → IsAtRest s.link
+rest_of s rest =
+    let both = and_parts (is_idle s.link) _ rest in
+    record { idle = both.0; no_timer = not-true _ both.1 }
+
+both_rest : (s t : Station) → IsAtRest s.link → IsAtRest t.link → (is_at_rest s && is_at_rest t) ≡ true
+both_rest s t here there = rw (here.idle, here.no_timer, there.idle, there.no_timer) refl
 
 -- behind both pulls, where both links are idle, a pull gives none at either end
 both_left : PullsLeaveNone → (cfg : Cfg) (w : World) → (let u = pulled_both cfg w in is_idle u.near.link ≡ true → is_idle u.far.link ≡ true → HasNoneToPull cfg u Dte × HasNoneToPull cfg u Dce)
@@ -302,41 +308,64 @@ pulled_left : PullsLeaveNone → (cfg : Cfg) (u : World) → ArePulled cfg u →
 pulled_left law cfg u are =
     subst (λ (v : World). is_idle v.near.link ≡ true → is_idle v.far.link ≡ true → HasNoneToPull cfg v Dte × HasNoneToPull cfg v Dce) (sym are.is) (both_left law cfg are.from)
 
-module _ (law : Throughout HealsWithPuts) (left : PullsLeaveNone) (unpulled : Throughout UnpulledWaitForUsers) (cfg : Cfg) (fine : config_refusal cfg ≡ None) (from : World) (begins : IsBeginning cfg from) (past : List Event) (octets : AreInOctets past) where
+module _ (left : PullsLeaveNone) (unpulled : Throughout UnpulledWaitForUsers) (cfg : Cfg) (fine : config_refusal cfg ≡ None) (from : World) (begins : IsBeginning cfg from) (past : List Event) (octets : AreInOctets past) (most : ℕ) (some : 0 < most) where
   abbrev w : World
   w = run cfg past from
 
   abbrev v : World
-  v = run cfg (deliveries cfg w) w
+  v = run cfg (deliveries cfg most w) w
 
   abbrev fired : World
   fired = run cfg (firing Dte ∷ firing Dce ∷ []) v
 
   abbrev u : World
-  u = run cfg (pull_rounds cfg most_rounds fired) fired
+  u = run cfg (pull_rounds cfg most most fired) fired
 
-  ends_so : run cfg (healing cfg w) w ≡ u
+  ends_so : run cfg (healing cfg most w) w ≡ u
   ends_so =
       let tried = both_tried cfg (firing Dte) (firing Dce) v in
-      run_append cfg (deliveries cfg w) (fire_and_pull cfg v) w ∙ run_append cfg tried (pull_rounds cfg most_rounds (run cfg tried v)) v
-      ∙ ap (λ (x : World). run cfg (pull_rounds cfg most_rounds x) x) (both_are cfg (firing Dte) (firing Dce) v)
+      run_append cfg (deliveries cfg most w) (fire_and_pull cfg most v) w ∙ run_append cfg tried (pull_rounds cfg most most (run cfg tried v)) v
+      ∙ ap (λ (x : World). run cfg (pull_rounds cfg most most x) x) (both_are cfg (firing Dte) (firing Dce) v)
 
-  have_arrived : BothMayHeal cfg v → FreeThroughout cfg (pull_rounds cfg most_rounds fired) fired → IsDrained u → HaveArrived cfg v u
-  have_arrived may free drained =
+  -- what holds throughout holds behind healing
+  behind_it : (Holds : Cfg → World → Type 0) → Throughout Holds → Holds cfg u
+  behind_it Holds law =
+      subst (Holds cfg) (run_append cfg past (healing cfg most w) from ∙ ends_so)
+      (law cfg fine from begins (past ++ healing cfg most w) (octets_append past (healing cfg most w) octets (healing_octets cfg most w)))
+
+  have_arrived : Throughout HealsWithPuts → BothMayHeal cfg v → FreeThroughout cfg (pull_rounds cfg most most fired) fired → IsDrained u → HaveArrived cfg v u
+  have_arrived law may free drained =
       let here : HealsWithPuts cfg v =
-      subst (HealsWithPuts cfg) (run_append cfg past (deliveries cfg w) from)
-      (law cfg fine from begins (past ++ deliveries cfg w) (octets_append past (deliveries cfg w) octets (received_octets (arrivals cfg most_deliveries w)))) in
-      here may (pull_rounds cfg most_rounds fired) (rounds_requests cfg most_rounds fired) (rounds_octets cfg most_rounds fired) free drained
+      subst (HealsWithPuts cfg) (run_append cfg past (deliveries cfg most w) from)
+      (law cfg fine from begins (past ++ deliveries cfg most w) (octets_append past (deliveries cfg most w) octets (received_octets (arrivals cfg most w)))) in
+      here may (pull_rounds cfg most most fired) (rounds_requests cfg most most fired) (rounds_octets cfg most most fired) free drained
 
   wait_alone : IsAtRest u.near.link → IsAtRest u.far.link → AllWaitForUsers cfg u
   wait_alone dte dce =
-      let none = pulled_left left cfg u (all_pull cfg most_rounds (most_rounds - 1) fired (omega arith)) dte.idle dce.idle in
-      let here : UnpulledWaitForUsers cfg u =
-      subst (UnpulledWaitForUsers cfg) (run_append cfg past (healing cfg w) from ∙ ends_so)
-      (unpulled cfg fine from begins (past ++ healing cfg w) (octets_append past (healing cfg w) octets (healing_octets cfg w))) in
-      here dte.idle dce.idle none.0 none.1
+      let none = pulled_left left cfg u (all_pull cfg most most (most - 1) fired (omega (arith, some))) dte.idle dce.idle in
+      behind_it UnpulledWaitForUsers unpulled dte.idle dce.idle none.0 none.1
 
-  pub brings_all : HealingBringsAll cfg (run cfg past from)
-  brings_all may free drained =
-      let links = have_arrived may free (subst IsDrained ends_so drained) in
-      subst (AllArrives cfg v) (sym ends_so) (record { links = links; waits = wait_alone links.dte links.dce })
+  pub brings_all : Throughout HealsWithPuts → ArrivesByHealing cfg most w (run cfg (healing cfg most w) w)
+  brings_all law may free drained =
+      let links = have_arrived law may free (subst IsDrained ends_so drained) in
+      subst (AllArrives cfg v) (sym ends_so) (record { at_rest = both_rest u.near u.far links.dte links.dce; links = links; waits = wait_alone links.dte links.dce })
+
+  all_has_come : Throughout RestShows → RestShowsAll cfg u
+  all_has_come law rest =
+      let both = and_parts (is_at_rest u.near) (is_at_rest u.far) rest in
+      let dte = rest_of u.near both.0 in
+      let dce = rest_of u.far both.1 in
+      let shows : RestShows cfg u = behind_it RestShows law in
+      let are = shows.are.1 in
+      let near = shows.arrived.near (up_of are.near dte) (off_of are.near dte) in
+      let far = shows.arrived.far (up_of are.far dce) (off_of are.far dce) in
+      record {
+        links = shows.links;
+        are = shows.are;
+        there = near.1 (inl (up_of are.far dce));
+        back = far.1 (inl (up_of are.near dte));
+        waits = wait_alone dte dce;
+      }
+
+  pub rest_shows_all : Throughout RestShows → RestShowsAll cfg (run cfg (healing cfg most w) w)
+  rest_shows_all law = subst (RestShowsAll cfg) (sym ends_so) (all_has_come law)

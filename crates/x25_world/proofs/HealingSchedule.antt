@@ -7,7 +7,7 @@ use Rattle.x25_station.specs.Config.{settings_from}
 use Rattle.x25_world.specs.World.{World, AtEnd, swapped, WorldOutcome, Happened, Declined, swapped_back, delivered, Event, happens, refusal_of, after, run, AreAccepted}
 use Rattle.x25_world.specs.declared.error.WorldError.{WorldError}
 use Rattle.x25_world.specs.declared.error.WorldError.TheVariants as error
-use Rattle.x25_world.specs.Healing.{receipt, all_received, next_end, arrivals_from, arrivals, most_deliveries, deliveries, one_if, if_accepted, behind, received_in}
+use Rattle.x25_world.specs.Healing.{receipt, all_received, next_end, arrivals_from, arrivals, deliveries, one_if, if_accepted, behind, received_in}
 use Rattle.x25_world.specs.declared.told.Entered.{Entered}
 use Rattle.x25_world.specs.code.PlainTold.{plain_entered}
 use Rattle.x25_world.specs.code.ShownWorld.{ShownWorld}
@@ -175,23 +175,23 @@ received_append [] ys = refl
 received_append (x ∷ xs) ys = ap (λ (es : List Event). receipt x ∷ es) (received_append xs ys)
 
 -- so many of the deliveries have happened, and the others are those from here
-pub record Delivered (cfg : Cfg) (w : World) (v : TellingWorld) (before : List AtEnd) (count : ℕ) : Type 0 where
+pub record Delivered (cfg : Cfg) (most : ℕ) (w : World) (v : TellingWorld) (before : List AtEnd) (count : ℕ) : Type 0 where
   pub done : List Role
   pub goes : GoesBy cfg (all_received done) w v before
   pub counted : length done ≡ count
-  pub all : arrivals cfg most_deliveries w ≡ done ++ arrivals cfg (most_deliveries - count) (run cfg (all_received done) w)
+  pub all : arrivals cfg most w ≡ done ++ arrivals cfg (most - count) (run cfg (all_received done) w)
 
-pub none_delivered : (cfg : Cfg) (w : World) (v : TellingWorld) (before : List AtEnd) → Tells cfg v w before → Delivered cfg w v before 0
-none_delivered cfg w v before fits = record { done = []; goes = record { accepted = tt; fits = fits }; counted = refl; all = refl }
+pub none_delivered : (cfg : Cfg) (most : ℕ) (w : World) (v : TellingWorld) (before : List AtEnd) → Tells cfg v w before → Delivered cfg most w v before 0
+none_delivered cfg most w v before fits = record { done = []; goes = record { accepted = tt; fits = fits }; counted = refl; all = ap (λ (n : ℕ). arrivals cfg n w) (omega arith) }
 
-pub one_delivered : (cfg : Cfg) (w : World) (u v : TellingWorld) (before : List AtEnd) (count : ℕ) (at : Role) → count < most_deliveries → (h : Delivered cfg w u before count) → next_end u.world.to_dce u.world.to_dte ≡ Some at
-    → (let x = run cfg (all_received h.done) w in Tells cfg v (after x (happens cfg x (receipt at))) before) → Delivered cfg w v before (count + 1)
-one_delivered cfg w u v before count at low h is fits =
+pub one_delivered : (cfg : Cfg) (most : ℕ) (w : World) (u v : TellingWorld) (before : List AtEnd) (count : ℕ) (at : Role) → count < most → (h : Delivered cfg most w u before count) → next_end u.world.to_dce u.world.to_dte ≡ Some at
+    → (let x = run cfg (all_received h.done) w in Tells cfg v (after x (happens cfg x (receipt at))) before) → Delivered cfg most w v before (count + 1)
+one_delivered cfg most w u v before count at low h is fits =
     let x = run cfg (all_received h.done) w in
     let here : next_end x.out x.back ≡ Some at = sym (line_is cfg u.world x h.goes.fits.fits) ∙ is in
     let events : all_received (h.done ++ at ∷ []) ≡ all_received h.done ++ receipt at ∷ [] = received_append h.done (at ∷ []) in
     let next : run cfg (all_received (h.done ++ at ∷ [])) w ≡ after x (happens cfg x (receipt at)) = ap (λ (es : List Event). run cfg es w) events ∙ run-push cfg (all_received h.done) (receipt at) w in
-    let fewer : most_deliveries - count ≡ suc (most_deliveries - (count + 1)) = omega (arith, low) in
+    let fewer : most - count ≡ suc (most - (count + 1)) = omega (arith, low) in
     record {
       done = h.done ++ at ∷ [];
       goes = record {
@@ -201,43 +201,43 @@ one_delivered cfg w u v before count at low h is fits =
       counted = length-append h.done (at ∷ []) ∙ ap (λ (n : ℕ). n + 1) h.counted;
       all = h.all
           ∙ ap (λ (n : ℕ). h.done ++ arrivals cfg n x) fewer
-          ∙ ap (λ (l : List Role). h.done ++ l) (one_more cfg (most_deliveries - (count + 1)) x at here)
-          ∙ sym (append_assoc h.done (at ∷ []) (arrivals cfg (most_deliveries - (count + 1)) (after x (happens cfg x (receipt at)))))
-          ∙ ap (λ (z : World). (h.done ++ at ∷ []) ++ arrivals cfg (most_deliveries - (count + 1)) z) (sym next);
+          ∙ ap (λ (l : List Role). h.done ++ l) (one_more cfg (most - (count + 1)) x at here)
+          ∙ sym (append_assoc h.done (at ∷ []) (arrivals cfg (most - (count + 1)) (after x (happens cfg x (receipt at)))))
+          ∙ ap (λ (z : World). (h.done ++ at ∷ []) ++ arrivals cfg (most - (count + 1)) z) (sym next);
     }
 
 -- all of them have happened
-ended : (cfg : Cfg) (w : World) (v : TellingWorld) (before : List AtEnd) (count : ℕ) (h : Delivered cfg w v before count) → arrivals cfg (most_deliveries - count) (run cfg (all_received h.done) w) ≡ []
-    → arrivals cfg most_deliveries w ≡ h.done
-ended cfg w v before count h none = h.all ∙ ap (λ (l : List Role). h.done ++ l) none ∙ append-nil h.done
+ended : (cfg : Cfg) (most : ℕ) (w : World) (v : TellingWorld) (before : List AtEnd) (count : ℕ) (h : Delivered cfg most w v before count) → arrivals cfg (most - count) (run cfg (all_received h.done) w) ≡ []
+    → arrivals cfg most w ≡ h.done
+ended cfg most w v before count h none = h.all ∙ ap (λ (l : List Role). h.done ++ l) none ∙ append-nil h.done
 
-pub record AllDelivered (cfg : Cfg) (w : World) (v : TellingWorld) (before : List AtEnd) (count : ℕ) : Type 0 where
-  pub goes : GoesBy cfg (deliveries cfg w) w v before
-  pub counted : count ≡ length (arrivals cfg most_deliveries w)
+pub record AllDelivered (cfg : Cfg) (most : ℕ) (w : World) (v : TellingWorld) (before : List AtEnd) (count : ℕ) : Type 0 where
+  pub goes : GoesBy cfg (deliveries cfg most w) w v before
+  pub counted : count ≡ length (arrivals cfg most w)
 
-all_of_them : (cfg : Cfg) (w : World) (v : TellingWorld) (before : List AtEnd) (count : ℕ) (h : Delivered cfg w v before count) → arrivals cfg most_deliveries w ≡ h.done → AllDelivered cfg w v before count
-all_of_them cfg w v before count h is = record {
+all_of_them : (cfg : Cfg) (most : ℕ) (w : World) (v : TellingWorld) (before : List AtEnd) (count : ℕ) (h : Delivered cfg most w v before count) → arrivals cfg most w ≡ h.done → AllDelivered cfg most w v before count
+all_of_them cfg most w v before count h is = record {
   goes = subst (λ (l : List Role). GoesBy cfg (all_received l) w v before) (sym is) h.goes;
   counted = sym h.counted ∙ ap length (sym is);
 }
 
-pub ends_drained : (cfg : Cfg) (w : World) (v : TellingWorld) (before : List AtEnd) (count : ℕ) → Delivered cfg w v before count → next_end v.world.to_dce v.world.to_dte ≡ None → AllDelivered cfg w v before count
-ends_drained cfg w v before count h is =
+pub ends_drained : (cfg : Cfg) (most : ℕ) (w : World) (v : TellingWorld) (before : List AtEnd) (count : ℕ) → Delivered cfg most w v before count → next_end v.world.to_dce v.world.to_dte ≡ None → AllDelivered cfg most w v before count
+ends_drained cfg most w v before count h is =
     let x = run cfg (all_received h.done) w in
-    all_of_them cfg w v before count h (ended cfg w v before count h (none_left cfg (most_deliveries - count) x (sym (line_is cfg v.world x h.goes.fits.fits) ∙ is)))
+    all_of_them cfg most w v before count h (ended cfg most w v before count h (none_left cfg (most - count) x (sym (line_is cfg v.world x h.goes.fits.fits) ∙ is)))
 
-pub ends_counted : (cfg : Cfg) (w : World) (v : TellingWorld) (before : List AtEnd) (count : ℕ) → Delivered cfg w v before count → most_deliveries ≤ count → AllDelivered cfg w v before count
-ends_counted cfg w v before count h most =
+pub ends_counted : (cfg : Cfg) (most : ℕ) (w : World) (v : TellingWorld) (before : List AtEnd) (count : ℕ) → Delivered cfg most w v before count → most ≤ count → AllDelivered cfg most w v before count
+ends_counted cfg most w v before count h all =
     let x = run cfg (all_received h.done) w in
-    all_of_them cfg w v before count h (ended cfg w v before count h (no_more cfg (most_deliveries - count) x (omega (arith, most))))
+    all_of_them cfg most w v before count h (ended cfg most w v before count h (no_more cfg (most - count) x (omega (arith, all))))
 
--- .. or memory was refused at the next
-pub stops_there : (cfg : Cfg) (w : World) (u v : TellingWorld) (before : List AtEnd) (count : ℕ) (at : Role) (e : WorldError) (h : Delivered cfg w u before count) → next_end u.world.to_dce u.world.to_dte ≡ Some at
-    → (let x = run cfg (all_received h.done) w in Tells cfg v x before × IsRefusal cfg x (receipt at) e) → GoesPartly cfg (deliveries cfg w) w v before e
-stops_there cfg w u v before count at e h is f =
+-- memory was refused at the next
+pub stops_there : (cfg : Cfg) (most : ℕ) (w : World) (u v : TellingWorld) (before : List AtEnd) (count : ℕ) (at : Role) (e : WorldError) (h : Delivered cfg most w u before count) → next_end u.world.to_dce u.world.to_dte ≡ Some at
+    → (let x = run cfg (all_received h.done) w in Tells cfg v x before × IsRefusal cfg x (receipt at) e) → GoesPartly cfg (deliveries cfg most w) w v before e
+stops_there cfg most w u v before count at e h is f =
     let x = run cfg (all_received h.done) w in
     let here : next_end x.out x.back ≡ Some at = sym (line_is cfg u.world x h.goes.fits.fits) ∙ is in
-    let left = arrivals cfg (most_deliveries - count) x in
+    let left = arrivals cfg (most - count) x in
     record {
       memory = by (happens cfg x (receipt at)) (found cfg x at here) f.1;
       done = all_received h.done;

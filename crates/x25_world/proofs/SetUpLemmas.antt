@@ -8,7 +8,7 @@ use Rattle.std.proofs.lemmas.List.Folds.{list_any_at, list_any_more}
 pub found_at : {X : Type 0} (p : X → Bool) (xs : List X) (i : ℕ) (x : X) → i < length xs → Some x ≡ slice_get xs i → p x ≡ true → list_any p xs ≡ true
 found_at p xs i x within at passes = list_any_at p xs i x within (ap p (get_or_from_slice_get xs i x x (sym at)) ∙ passes)
 
--- .. or it doesn't, as nothing before it does
+-- it doesn't pass, as nothing before it does
 pub not_found_yet : {X : Type 0} (p : X → Bool) (xs : List X) (i : ℕ) (x : X) → i < length xs → Some x ≡ slice_get xs i → list_any p (take i xs) ≡ false → p x ≡ false
     → list_any p (take (i + 1) xs) ≡ false
 not_found_yet p xs i x within at before fails =

@@ -44,7 +44,7 @@ pub shared_of : (cfg : Cfg) (at : Role) (near : code.Station) (line : ShownLine)
 shared_of cfg Dte near line w room side = record { out = side.out; back = side.back }
 shared_of cfg Dce near line w room side = record { out = side.out; back = side.back }
 
--- .. and nor does memory that serves again
+-- memory that serves again shows nowhere
 pub reused : (cfg : Cfg) (at : Role) (near new : code.Station) (line : ShownLine) (w : World) → FitsSide cfg at near line w → FitsStation (settings_from at cfg) new w.near → FitsSide cfg at new line w
 reused cfg at near new line w side fits = record { near = fits; out = side.out; back = side.back }
 

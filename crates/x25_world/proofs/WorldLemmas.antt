@@ -54,7 +54,7 @@ acts_keep_far c w (Damages place octets) = keeps_if w (nat_lt place (length w.ba
 
 -- ---- what an end put on the line is the last there
 
--- .. of the near end
+-- what the near end put
 abbrev PutsLast : Role → World → World → Type 0
 PutsLast at w next = next.tap ≡ w.tap ++ tapped at (drop (length w.out) next.out)
 
@@ -84,7 +84,7 @@ acts_put c w (Loses place) = puts_if c.role w (nat_lt place (length w.back)) _ _
 acts_put c w (Damages place octets) =
     puts_if c.role w (nat_lt place (length w.back)) _ _ (puts_if c.role w (is_visible octets) _ _ (puts_none c.role w (on_line w (replaced w.back place octets)) refl refl) (puts_none c.role w w refl refl)) (puts_none c.role w w refl refl)
 
--- .. of both ends
+-- what either end put
 abbrev out_from : World → Role → List (List ℕ)
 out_from w Dte = w.out
 out_from w Dce = w.back
@@ -102,7 +102,7 @@ shown_from : (cfg : Cfg) (v : ShownWorld) (w : World) (at : Role) → FitsWorld 
 shown_from cfg v w Dte f = f.to_dce
 shown_from cfg v w Dce f = f.to_dte
 
--- .. where it was accepted
+-- what an accepted event put
 pub put_last : (cfg : Cfg) (old new : ShownWorld) (w : World) (e : Event) (r : Result (Unit {0}) WorldError) → FitsWorld cfg old w → OnOk r (FitsWorld cfg new (after w (happens cfg w e)))
     → OnOk r ((after w (happens cfg w e)).tap ≡ w.tap ++ tapped e.at (drop (length (line_from old e.at)) (line_from new e.at)))
 put_last cfg old new w e (Ok x) f g = rw (shown_from cfg old w e.at f, shown_from cfg new (after w (happens cfg w e)) e.at g) (event_puts cfg w e.at e.act)
@@ -153,7 +153,7 @@ dte_acted cfg near dce line w e (Ok x) told at fits h =
 dte_acted cfg near dce line w e (Err x) told at fits h =
     record { happened = tt; tells = tt; accepted = tt; refused = rw at h.refused; stays = record { dte = h.stays.near; dce = fits; to_dce = h.stays.out; to_dte = h.stays.back } }
 
--- .. and of its DCE
+-- an act of its DCE
 pub dce_acted : (cfg : Cfg) (near dte : code.Station) (line : ShownLine) (w : World) (e : Event) (r : Result (Unit {0}) WorldError) (told : List StationEntry) → e.at ≡ Dce
     → FitsStation (settings_from Dte cfg) dte w.near → HasActed cfg Dce near line (entered Dce told) r (swapped w) (acts (settings_from Dce cfg) (swapped w) e.act)
     → HasActedAt cfg (shown_with dte near line) (entered e.at told) r w e
@@ -267,7 +267,7 @@ module _ (lawful : UntilSecondUp IsLawful) (named : UntilSecondUp IsNamed) (arri
     links = λ cfg from past begins h. let r = runs cfg from past h in record { fits = r; holds = links cfg r.settings from begins (more past) r.octets };
   }
 
-  -- .. and of a world that was just made
+  -- they hold of a world that was just made
   pub claims_of_new : (cfg : Cfg) (from : World) (v : ShownWorld) → IsBeginning cfg from → IsUpAtMostOnce cfg from → FitsRun cfg from v [] → ClaimsOfNew cfg from v
   claims_of_new cfg from v begins once h = record {
     run = h;
@@ -279,7 +279,7 @@ module _ (lawful : UntilSecondUp IsLawful) (named : UntilSecondUp IsNamed) (arri
     links = links cfg h.settings from begins [] tt;
   }
 
-  -- .. whose link was just set up
+  -- they hold of one whose link was just set up
   pub claims_of_set_up : (cfg : Cfg) → config_refusal cfg ≡ None → ClaimsOfSetUp cfg
   claims_of_set_up cfg fine = let once = up_once cfg fine [] tt tt in record { window = window cfg fine [] tt once; up_once = once }
 
@@ -290,7 +290,7 @@ module _ (lawful : UntilSecondUp IsLawful) (named : UntilSecondUp IsNamed) (arri
 new_run : (cfg : Cfg) (from : World) (v : ShownWorld) → config_refusal cfg ≡ None → FitsWorld cfg v from → FitsRun cfg from v []
 new_run cfg from v fine fits = record { settings = fine; octets = tt; accepted = tt; fits = fits }
 
--- .. where one was made
+-- what holds of it, where one was made
 pub made_world : (cfg : Cfg) (from : World) (P : ShownWorld → Type 0) (made : Result ShownWorld WorldError) → RefusesConfig made (config_refusal cfg) → IfOk made (λ v. FitsWorld cfg v from)
     → ((v : ShownWorld) → FitsRun cfg from v [] → P v) → IfOk made P
 made_world cfg from P (Ok v) refused fits holds = holds v (new_run cfg from v (in_range (config_refusal cfg) v refused) fits)

@@ -1,8 +1,8 @@
 -- Healing of two stations: once the line is good for a moment, what their links were handed down arrives. What is on
 -- the line arrives; timer T1 runs out once at each end where it runs; and then all that is on the line arrives, while
 -- nothing is lost. What still waits in circuits is pulled then, and arrives too.
-use Rattle.std.specs.Prelude.{◌≡◌, ℕ, zero, suc, ◌+◌, ◌<◌, ◌≤◌, length, ◌⊎◌, true, false, List, [], ◌∷◌, ◌++◌, Option}
-use Rattle.std.specs.Prelude.{Some, None}
+use Rattle.std.specs.Prelude.{◌≡◌, ℕ, zero, suc, ◌+◌, ◌<◌, ◌≤◌, length, ◌⊎◌, Bool, true, false, ◌&&◌, List, [], ◌∷◌}
+use Rattle.std.specs.Prelude.{◌++◌, Option, Some, None}
 use Rattle.x25_bits.specs.declared.role.Role.{Role}
 use Rattle.x25_bits.specs.declared.role.Role.TheVariants.{Dte, Dce}
 use Rattle.x25_link.specs.Hearing.{other}
@@ -23,7 +23,7 @@ use Rattle.x25_station.specs.Command.{Requests}
 use Rattle.x25_station.specs.Config.{Settings, settings_from, link_settings, layer_settings}
 use Rattle.x25_station.specs.Station.{Station, view_of}
 use Rattle.x25_station.specs.Step.{abandons, layer_at}
-use Rattle.x25_station.specs.Station.Told.{stretch}
+use Rattle.x25_station.specs.Station.Told.{is_at_rest, stretch}
 use Rattle.x25_world.specs.World.{World, WorldOutcome, Happened, Declined, Act, Commands, Receives, Fires, Event}
 use Rattle.x25_world.specs.World.{happens, after, run, AreAccepted}
 use Rattle.x25_world.specs.laws.Claims.{AreInOctets, link_of, station_at}
@@ -36,7 +36,7 @@ pub record IsDrained (w : World) : Type 0 where
   pub out : w.out ≡ []
   pub back : w.back ≡ []
 
--- ---- the schedule
+-- ---- the schedule, with a bound on how many deliveries follow one another, and on how many rounds
 
 -- the front octets come to an end
 abbrev pub receipt : Role → Event
@@ -65,12 +65,8 @@ unfoldable pub arrivals : Cfg → ℕ → World → List Role
 arrivals cfg zero w = []
 arrivals cfg (suc n) w = arrivals_from cfg (arrivals cfg n) w (next_end w.out w.back)
 
--- how many deliveries follow one another at most
-abbrev pub most_deliveries : ℕ
-most_deliveries = 4294967295
-
-abbrev pub deliveries : Cfg → World → List Event
-deliveries cfg w = all_received (arrivals cfg most_deliveries w)
+abbrev pub deliveries : Cfg → ℕ → World → List Event
+deliveries cfg most w = all_received (arrivals cfg most w)
 
 -- an event that is accepted
 abbrev pub one_if : Event → WorldOutcome → List Event
@@ -89,12 +85,8 @@ abbrev pub both_tried : Cfg → Event → Event → World → List Event
 both_tried cfg first second w = behind cfg (if_accepted cfg first) (if_accepted cfg second) w
 
 -- what is on the line comes, and then each end pulls what waits in its circuits
-abbrev pub pull_round : Cfg → World → List Event
-pull_round cfg w = behind cfg (deliveries cfg) (both_tried cfg (pull_at Dte) (pull_at Dce)) w
-
--- how many rounds follow one another at most
-abbrev pub most_rounds : ℕ
-most_rounds = 4294967295
+abbrev pub pull_round : Cfg → ℕ → World → List Event
+pull_round cfg most w = behind cfg (deliveries cfg most) (both_tried cfg (pull_at Dte) (pull_at Dce)) w
 
 -- the rest, where frames are on the line
 abbrev pub unless_empty : (World → List Event) → World → Option Role → List Event
@@ -102,18 +94,18 @@ unless_empty rest w None = []
 unless_empty rest w (Some at) = rest w
 
 -- round after round, as long as the pulls put frames on the line, at most so many of them
-unfoldable pub pull_rounds : Cfg → ℕ → World → List Event
-pull_rounds cfg zero w = []
-pull_rounds cfg (suc n) w = behind cfg (pull_round cfg)
-    (λ v. unless_empty (pull_rounds cfg n) v (next_end v.out v.back)) w
+unfoldable pub pull_rounds : Cfg → ℕ → ℕ → World → List Event
+pull_rounds cfg most zero w = []
+pull_rounds cfg most (suc n) w = behind cfg (pull_round cfg most)
+    (λ v. unless_empty (pull_rounds cfg most n) v (next_end v.out v.back)) w
 
 -- timer T1 runs out at each end where it runs, and then come the rounds
-abbrev pub fire_and_pull : Cfg → World → List Event
-fire_and_pull cfg w = behind cfg (both_tried cfg (firing Dte) (firing Dce)) (pull_rounds cfg most_rounds) w
+abbrev pub fire_and_pull : Cfg → ℕ → World → List Event
+fire_and_pull cfg most w = behind cfg (both_tried cfg (firing Dte) (firing Dce)) (pull_rounds cfg most most) w
 
 -- deliver, fire, and then deliver and pull in rounds
-abbrev pub healing : Cfg → World → List Event
-healing cfg w = behind cfg (deliveries cfg) (fire_and_pull cfg) w
+abbrev pub healing : Cfg → ℕ → World → List Event
+healing cfg most w = behind cfg (deliveries cfg most) (fire_and_pull cfg most) w
 
 -- how many deliveries are among events
 abbrev pub received_by : Act → ℕ
@@ -167,7 +159,7 @@ abbrev pub PutsNothingAt : Cfg → Role → World → Type 0
 PutsNothingAt cfg Dte w = PutsNothing (settings_from Dte cfg) w.near w.back
 PutsNothingAt cfg Dce w = PutsNothing (settings_from Dce cfg) w.far w.out
 
--- .. at each of these deliveries
+-- it puts nothing at each of these deliveries
 abbrev pub NonePut : Cfg → List Role → World → Type 0
 NonePut cfg [] w = Unit {0}
 NonePut cfg (at ∷ ends) w = PutsNothingAt cfg at w × NonePut cfg ends (after w (happens cfg w (receipt at)))
@@ -223,7 +215,7 @@ IsReceiptOrRequest Receives = Unit {0}
 IsReceiptOrRequest (Commands (Requests request)) = Unit {0}
 IsReceiptOrRequest act = ⊥
 
--- .. at either end, in any order
+-- each of them is so, at either end, in any order
 abbrev pub AreReceiptsAndRequests : List Event → Type 0
 AreReceiptsAndRequests [] = Unit {0}
 AreReceiptsAndRequests (e ∷ events) = IsReceiptOrRequest e.act × AreReceiptsAndRequests events
@@ -288,28 +280,43 @@ abbrev pub DrainsWhereNonePut : Cfg → World → Type 0
 DrainsWhereNonePut cfg w = (most : ℕ) × ((ends : List Role) → NonePut cfg ends w → AreAccepted cfg (all_received ends) w
     → length ends ≤ most)
 
--- Of the schedule from a world: from the moment in which all that was on the line has come, it heals by the firings and
--- what comes behind them, where the layers put nothing there, and all has come.
-abbrev pub HealsFrom : Cfg → World → Type 0
-HealsFrom cfg w =
-    let v = run cfg (deliveries cfg w) w in
-    let fired = run cfg (firing Dte ∷ firing Dce ∷ []) v in
-    let u = run cfg (deliveries cfg fired) fired in
-    MayHeal v → NonePut cfg (arrivals cfg most_deliveries fired) fired → IsDrained u → Heals cfg v u
+-- ---- what healing brings
 
--- .. and to the one behind it: all that the links were handed down has arrived, and what still waits in circuits waits
--- for users who aren't ready
+-- both links are at rest
+abbrev pub are_at_rest : World → Bool
+are_at_rest w = is_at_rest w.near && is_at_rest w.far
+
+-- Behind the schedule from a world both links are at rest: from the moment in which all that was on the line has come,
+-- all that the links were handed down has arrived, and what still waits in circuits waits for users who aren't ready.
 pub record AllArrives (cfg : Cfg) (w u : World) : Type 0 where
+  pub at_rest : are_at_rest u ≡ true
   pub links : HaveArrived cfg w u
   pub waits : AllWaitForUsers cfg u
 
--- .. where both links are up in that moment, neither is busy then nor as octets come behind the firings, no count is at
--- its most there, and the rounds have left nothing on the line
-abbrev pub ArrivesByHealing : Cfg → World → World → Type 0
-ArrivesByHealing cfg w u =
-    let v = run cfg (deliveries cfg w) w in
+-- It is so where both links are up in that moment, neither is busy then nor as octets come behind the firings, no count
+-- is at its most there, and the rounds have left nothing on the line.
+abbrev pub ArrivesByHealing : Cfg → ℕ → World → World → Type 0
+ArrivesByHealing cfg most w u =
+    let v = run cfg (deliveries cfg most w) w in
     let fired = run cfg (firing Dte ∷ firing Dce ∷ []) v in
-    BothMayHeal cfg v → FreeThroughout cfg (pull_rounds cfg most_rounds fired) fired → IsDrained u → AllArrives cfg v u
+    BothMayHeal cfg v → FreeThroughout cfg (pull_rounds cfg most most fired) fired → IsDrained u → AllArrives cfg v u
 
+-- by the schedule with any bound that lets a round be
 abbrev pub HealingBringsAll : Cfg → World → Type 0
-HealingBringsAll cfg w = ArrivesByHealing cfg w (run cfg (healing cfg w) w)
+HealingBringsAll cfg w = (most : ℕ) → 0 < most → ArrivesByHealing cfg most w (run cfg (healing cfg most w) w)
+
+-- Two links that are behind the world have handed up all that they were handed down in their sessions, and what still
+-- waits in circuits waits for users who aren't ready.
+pub record AllHasCome (cfg : Cfg) (w : World) : Type 0 where
+  pub links : Sessions
+  pub are : AreLinksOf cfg w links
+  pub there : links.far.up links.far.begun ≡ links.near.down links.near.begun
+  pub back : links.near.up links.near.begun ≡ links.far.down links.far.begun
+  pub waits : AllWaitForUsers cfg w
+
+-- Whatever happened on the line, it is so where both links are at rest behind the schedule.
+abbrev pub RestShowsAll : Cfg → World → Type 0
+RestShowsAll cfg w = are_at_rest w ≡ true → AllHasCome cfg w
+
+abbrev pub HealingRestShowsAll : Cfg → World → Type 0
+HealingRestShowsAll cfg w = (most : ℕ) → 0 < most → RestShowsAll cfg (run cfg (healing cfg most w) w)

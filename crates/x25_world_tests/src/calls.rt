@@ -2,7 +2,7 @@
 
 use std::alloc::Global;
 use x25_station::{Cfg, Step};
-use x25_world::{Bits, Direction, Entered, Event, Role, World, WorldError};
+use x25_world::{Bits, Direction, Entered, Event, Healed, Role, World, WorldError};
 
 /// The number of a refusal, that of the station where it refuses.
 pub fn number_of(error: WorldError) -> u8 {
@@ -55,8 +55,8 @@ pub fn damage_bits(
     world.damage_bits(direction, place, bits)
 }
 
-/// How many frames arrived. What is told comes into the list.
-pub fn heal(world: &mut World, told: &mut Vec<Entered>) -> Result<u64, WorldError> {
+/// What healing brought. What is told comes into the list.
+pub fn heal(world: &mut World, told: &mut Vec<Entered>) -> Result<Healed, WorldError> {
     world.heal(told)
 }
 

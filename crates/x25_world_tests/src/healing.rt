@@ -1,6 +1,6 @@
 //! Frames are lost, and then the line is good for a moment.
 
-use crate::calls::{establish, heal};
+use crate::calls::{establish, heal, start};
 use crate::play::Act::{Do, Drain, Heal, Repeat, Send};
 use crate::play::{Act, ONE_TRY, Play, Row, USUAL};
 use std::alloc::Global;
@@ -10,7 +10,7 @@ use x25_station::{Cfg, Cmd};
 use x25_world::Direction::{ToDce, ToDte};
 use x25_world::Event::{Command, Deliver, Lose, T1};
 use x25_world::Role::{Dce, Dte};
-use x25_world::{Entered, Event, World, WorldError};
+use x25_world::{Entered, Event, Healed, World, WorldError};
 
 const WINDOW_OF_ONE: Cfg = Cfg {
     k: 1,
@@ -241,18 +241,29 @@ fn what_was_lost_arrives(rt: HostRuntime) -> Result<(), Fail> {
     Ok(())
 }
 
-// Of a world just set up two RESTART arrive, and what acknowledges them; then nothing is left.
-fn counts(rt: &impl Abort, world: &mut World, told: &mut Vec<Entered>) -> Result<(), WorldError> {
-    for count in [4, 0] {
-        assert_eq!(rt; heal(world, told)?, count);
+// So many frames arrive each time, and nothing is told. It is answered each time whether both links are at rest.
+fn brings(
+    rt: &impl Abort,
+    world: &mut World,
+    told: &mut Vec<Entered>,
+    counts: [u64; 2],
+    at_rest: bool,
+) -> Result<(), WorldError> {
+    for arrived in counts {
+        assert_eq!(rt; heal(world, told)?, Healed { arrived, at_rest });
     }
     assert_eq!(rt; told.len(), 0);
     Ok(())
 }
 
+// Of a world just set up two RESTART arrive, and what acknowledges them; then nothing is left. Links that are down are
+// never at rest.
 #[test]
-fn arrivals_are_counted(rt: HostRuntime) -> Result<(), Fail> {
-    let mut world = establish(rt.alloc(), USUAL)?;
-    counts(&rt, &mut world, &mut Vec::new(rt.alloc()))?;
+fn answers_what_it_brought(rt: HostRuntime) -> Result<(), Fail> {
+    let mut told = Vec::new(rt.alloc());
+    let mut up = establish(rt.alloc(), USUAL)?;
+    brings(&rt, &mut up, &mut told, [4, 0], true)?;
+    let mut down = start(rt.alloc(), USUAL)?;
+    brings(&rt, &mut down, &mut told, [0, 0], false)?;
     Ok(())
 }

@@ -3,7 +3,7 @@
 use crate::calls::{heal, step};
 use std::alloc::Global;
 use x25_station::Step;
-use x25_world::{Entered, Event, World, WorldError};
+use x25_world::{Entered, Event, Healed, World, WorldError};
 
 /// A world, and what it told.
 #[derive(Drop)]
@@ -38,13 +38,13 @@ impl Kept {
     }
 
     /// The line is good for a moment. What is told comes behind the transcript.
-    pub fn heal(&mut self) -> Result<u64, WorldError> {
-        let count = heal(&mut self.world, &mut self.healed)?;
+    pub fn heal(&mut self) -> Result<Healed, WorldError> {
+        let brought = heal(&mut self.world, &mut self.healed)?;
         for entered in self.healed.drain(..) {
             if self.transcript.push(entered).is_err() {
                 return Err(WorldError::NoMemory);
             }
         }
-        Ok(count)
+        Ok(brought)
     }
 }

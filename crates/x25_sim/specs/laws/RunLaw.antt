@@ -5,10 +5,10 @@ use Rattle.x25_station.specs.Config.{config_refusal}
 use Rattle.x25_script.specs.ScriptLine.{connect, PlainLine, command, heal}
 use Rattle.x25_io.specs.Lines.{lines_of}
 use Rattle.x25_world.specs.World.{World, OnTap, AtEnd, Event, AreAccepted, run, start, established}
-use Rattle.x25_world.specs.Healing.{healing, ArrivesByHealing}
+use Rattle.x25_world.specs.Healing.{healing, ArrivesByHealing, RestShowsAll}
 use Rattle.x25_world.specs.laws.Claims.{AreInOctets, IsUpOnce, IsUpAtMostOnce, NoneConnects}
 use Rattle.x25_sim.specs.Telling.{Saying, enters, taps, reads_nothing, refuses}
-use Rattle.x25_sim.specs.Stage.{asked_in, line_turn, simulated}
+use Rattle.x25_sim.specs.Stage.{most_times, asked_in, line_turn, simulated}
 
 -- the entries among what is said
 abbrev pub entries_in : List Saying → List AtEnd
@@ -89,8 +89,13 @@ OfAllScripts Holds = (cfg : Cfg) → config_refusal cfg ≡ None → (down tap :
 
 -- a line `heal` leads to where the schedule of healing leads
 abbrev pub HealIsTheSchedule : Type 0
-HealIsTheSchedule = (cfg : Cfg) (tap : Bool) (w : World) → (line_turn cfg tap heal w).next ≡ run cfg (healing cfg w) w
+HealIsTheSchedule = (cfg : Cfg) (tap : Bool) (w : World)
+    → (line_turn cfg tap heal w).next ≡ run cfg (healing cfg most_times w) w
+
+-- rest behind it shows what it does behind that schedule
+abbrev pub HealRestShowsAll : Cfg → World → Type 0
+HealRestShowsAll cfg w = (tap : Bool) → RestShowsAll cfg (line_turn cfg tap heal w).next
 
 -- it brings about what that schedule does
 abbrev pub HealBringsAll : Cfg → World → Type 0
-HealBringsAll cfg w = (tap : Bool) → ArrivesByHealing cfg w (line_turn cfg tap heal w).next
+HealBringsAll cfg w = (tap : Bool) → ArrivesByHealing cfg most_times w (line_turn cfg tap heal w).next

@@ -1,5 +1,5 @@
 -- What a station tells of itself (profile).
-use Rattle.std.specs.Prelude.{ℕ, ◌==◌, Bool, ◌&&◌, if◌then◌else◌, Option, Some, None}
+use Rattle.std.specs.Prelude.{ℕ, ◌==◌, Bool, ◌&&◌, not, if◌then◌else◌, Option, Some, None}
 use Rattle.x25_link.specs.Link as link
 use Rattle.x25_handshakes.specs.laws.Names.{Name}
 use Rattle.x25_layer.specs.laws.Transcript.{name_of}
@@ -10,6 +10,10 @@ use Rattle.x25_station.specs.Station.{Station}
 -- the link is up, no packet waits in it, all that was sent is acknowledged, and no message waits in a circuit
 abbrev pub is_idle : Settings → Station → Bool
 is_idle c s = link.is_idle s.link && waits_up_to s.layer.circuits c.channels == 0
+
+-- the link is so, whatever waits in circuits, and timer T1 doesn't run
+abbrev pub is_at_rest : Station → Bool
+is_at_rest s = link.is_idle s.link && not (link.timer_runs s.link.phase s.link)
 
 -- the name of the stretch that is open on a channel, in p4 with d1
 abbrev pub stretch : Settings → Station → ℕ → Option Name

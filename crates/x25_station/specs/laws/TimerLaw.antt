@@ -1,16 +1,17 @@
 -- Timer T1 and one who has a clock (profile). Behind each step T1 is off, goes on, or begins anew, and he holds one
 -- deadline by that: it is dropped, left as it is, or set. When it passes he fires T1.
-use Rattle.std.specs.Prelude.{◌≡◌, ℕ, Bool, true, false, ◌||◌, List, [], ◌∷◌}
+use Rattle.std.specs.Prelude.{◌≡◌, ℕ, ◌<◌, ◌⊎◌, Bool, true, false, List, [], ◌∷◌}
 use Rattle.x25_link.specs.declared.error.LinkError.TheVariants as link_error
 use Rattle.x25_station.specs.declared.error.StationError.TheVariants as error
 use Rattle.x25_station.specs.declared.timer.Timer.{Timer}
 use Rattle.x25_station.specs.declared.timer.Timer.TheVariants.{Off, Begins, GoesOn}
 use Rattle.x25_station.specs.Config.{Settings}
 use Rattle.x25_station.specs.Command.{Command}
+use Rattle.x25_station.specs.Entry.{StationEntry, link_up}
 use Rattle.x25_station.specs.Pulling.{pulled}
 use Rattle.x25_station.specs.Station.{Station, new_station}
 use Rattle.x25_station.specs.Step.{Step, Outcome, Did, Refused, receives, commands, fires}
-use Rattle.x25_station.specs.Timer.{runs, tells_up, is_acknowledged, timer_at, timer_pulled}
+use Rattle.x25_station.specs.Timer.{runs, timer_at, timer_pulled}
 
 -- octets come, the user commands, or T1 fires
 pub data Event : Type 0 where
@@ -77,8 +78,30 @@ abbrev pub PullIsHeeded : Type 0
 PullIsHeeded = (c : Settings) (s : Station) (first : Timer) (stands : Bool) → heeds first stands ≡ runs s →
     let next = (pulled c s).near in heeds (timer_pulled first s next) stands ≡ runs next
 
--- T1 begins anew, where it runs, at its firing, at LinkUp, and where a frame was acknowledged
+-- ---- where T1 is due to begin anew
+
+abbrev pub IsFiring : Event → Type 0
+IsFiring Fires = Unit {0}
+IsFiring event = ⊥
+
+-- LinkUp is among the entries
+abbrev pub TellsLinkUp : List StationEntry → Type 0
+TellsLinkUp [] = ⊥
+TellsLinkUp (link_up ∷ entries) = Unit {0}
+TellsLinkUp (entry ∷ entries) = TellsLinkUp entries
+
+-- the step was a firing, told LinkUp, or more of the frames sent are acknowledged behind it
+abbrev pub IsDue : Station → Event → Step → Type 0
+IsDue s event step = IsFiring event
+    ⊎ (TellsLinkUp step.entries ⊎ (s.link.outgoing.acked < step.near.link.outgoing.acked))
+
+-- T1 begins anew, where it runs, at an accepted event at which it is due to,
 abbrev pub BeginsWhereDue : Type 0
-BeginsWhereDue = (s : Station) (event : Event) (step : Step) → runs step.near ≡ true
-    → (is_firing event || (tells_up step.entries || is_acknowledged s.link step.near.link)) ≡ true
-    → timer s event (Did step) ≡ Begins
+BeginsWhereDue = (c : Settings) (s : Station) (event : Event) (step : Step) → outcome c s event ≡ Did step
+    → IsDue s event step → runs step.near ≡ true → timer s event (Did step) ≡ Begins
+
+-- and at such an event and a pull behind it.
+abbrev pub BeginsBehindPull : Type 0
+BeginsBehindPull = (c : Settings) (s : Station) (event : Event) (step : Step) → outcome c s event ≡ Did step
+    → IsDue s event step → let next = (pulled c step.near).near in runs next ≡ true
+    → timer_pulled (timer s event (Did step)) step.near next ≡ Begins

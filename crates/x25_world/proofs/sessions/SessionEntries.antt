@@ -73,7 +73,7 @@ meets_more end n transcript entries =
     met_append end n none_begun none_begun transcript (entered end entries)
     ∙ ap (λ (o : Option ℕ). first_of (meets end n transcript) o) (met_entered end n (after_entries none_begun (entries_at end transcript)) (after_entries none_begun (entries_at (other end) transcript)) entries)
 
--- .. and of the other one
+-- entries of the other end
 pub meets_other : (end : Role) (n : ℕ) (transcript : List AtEnd) (entries : List StationEntry) → meets (other end) n (transcript ++ entered end entries) ≡ meets (other end) n transcript
 meets_other end n transcript entries =
     met_append (other end) n none_begun none_begun transcript (entered end entries)

@@ -121,7 +121,7 @@ module _ (laws : SessionLaws) (cfg : Cfg) (fine : IsConfigured cfg) where
   established_joined keeps =
       run_joined (record { at = Dce; act = Receives } ∷ record { at = Dte; act = Receives } ∷ []) (connected cfg) down_at_none (tt, (tt, tt)) (λ off. not_set_up false off) (connected_joined keeps)
 
-  -- .. as which two stations begin
+  -- two stations begin alike
   pub set_up_alike : (keeps : ConnectKeeps) → AreAlike (established_joined keeps).links (two_links cfg)
   set_up_alike keeps =
       let h = established_joined keeps in
@@ -134,7 +134,7 @@ module _ (laws : SessionLaws) (cfg : Cfg) (fine : IsConfigured cfg) where
         back = up.back ∙ sym h.back;
       }
 
-  -- .. from which two stations run too
+  -- two stations run from a link just set up too
   set_up_joined : (asks : Bool) → ConnectKeeps → SessionsJoined (set_up asks) cfg Dte (established cfg)
   set_up_joined asks keeps =
       let h = established_joined keeps in
@@ -178,7 +178,7 @@ pub throughout_joined : (laws : SessionLaws) → ConnectKeeps → Throughout (λ
 throughout_joined laws keeps cfg fine begin is events octets =
     run_joined laws cfg (is_configured cfg fine) events begin down_at_none octets (λ off. not_set_up false off) (begin_joined laws keeps cfg (is_configured cfg fine) begin is)
 
--- .. and of one from a link just set up, after which, where `asks` is false, no `connect` is accepted
+-- at each world of a run from a link just set up, after which, where `asks` is false, no `connect` is accepted
 pub set_up_throughout : (laws : SessionLaws) → ConnectKeeps → (asks : Bool) (cfg : Cfg) → config_refusal cfg ≡ None → (events : List Event) → AreInOctets events
     → (set_up asks ≡ set_up false → NoneConnects cfg events (established cfg)) → SessionsJoined (set_up asks) cfg Dte (run cfg events (established cfg))
 set_up_throughout laws keeps asks cfg fine events octets none =

@@ -1,5 +1,5 @@
 -- What a world of the code has gone through where it heals, and what was told then.
-use Rattle.std.specs.Prelude.{◌≡◌, List, ◌++◌, map, OnOk, Result}
+use Rattle.std.specs.Prelude.{◌≡◌, ℕ, List, ◌++◌, map, OnOk, Result}
 use Rattle.x25_station.specs.declared.config.Cfg.{Cfg}
 use Rattle.x25_world.specs.World.{World, AtEnd, Event, run, AreAccepted}
 use Rattle.x25_world.specs.laws.Claims.{IsBeginning}
@@ -10,6 +10,10 @@ use Rattle.x25_world.specs.code.FitsWorld.{FitsWorld, FitsRun, Leaves}
 use Rattle.x25_world.specs.declared.told.Entered.{Entered}
 use Rattle.x25_world.specs.declared.error.WorldError.{WorldError}
 use Rattle.x25_world.specs.declared.error.WorldError.TheVariants.{NoMemory}
+
+-- how many deliveries the code lets follow one another at most, and how many rounds of them
+abbrev pub most_times : ℕ
+most_times = 4294967295
 
 -- a world, and what it told
 pub record TellingWorld : Type 0 where
@@ -44,4 +48,4 @@ abbrev pub HoldsHealed : (Cfg → World → World → Type 0) → {T : Type 0} �
 HoldsHealed Holds old new result =
     (cfg : Cfg) (from : World) (past : List Event) → IsBeginning cfg from → FitsRun cfg from old past
     → (let w = run cfg past from in OnOk result (Leaves (λ (c : Cfg) (u : World). Holds c w u) cfg from new
-    (past ++ healing cfg w)))
+    (past ++ healing cfg most_times w)))

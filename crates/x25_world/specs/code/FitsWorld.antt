@@ -72,20 +72,20 @@ HoldsAfter Holds old new more =
     (cfg : Cfg) (from : World) (past : List Event) → IsBeginning cfg from → FitsRun cfg from old past
     → IsUpAtMostOnce cfg (run cfg (more past) from) → Leaves Holds cfg from new (more past)
 
--- .. from a link just set up, which isn't set up anew: this holds of the whole run, and of what is here
+-- after each run from a link just set up, which isn't set up anew: this holds of the whole run, and of what is here
 abbrev pub HoldsAfterSetUp : (Cfg → List Event → World → Type 0) → ShownWorld → ShownWorld → (List Event → List Event)
     → Type 0
 HoldsAfterSetUp Holds old new more =
     (cfg : Cfg) (past : List Event) → FitsRun cfg (established cfg) old past → SetsUpOnce cfg (more past)
     → Leaves (λ (c : Cfg) (w : World). Holds c (more past) w) cfg (established cfg) new (more past)
 
--- .. of each of these runs, also where the link is set up anew
+-- after each of these runs, also where the link is set up anew
 abbrev pub HoldsThroughout : (Cfg → World → Type 0) → ShownWorld → ShownWorld → (List Event → List Event) → Type 0
 HoldsThroughout Holds old new more =
     (cfg : Cfg) (from : World) (past : List Event) → IsBeginning cfg from → FitsRun cfg from old past
     → Leaves Holds cfg from new (more past)
 
--- .. of the whole of each of these runs, and of what is here
+-- after each of these runs, of the whole of it and of what is here
 abbrev pub GoesOnThroughout : (Cfg → World → List Event → World → Type 0) → ShownWorld → ShownWorld
     → (List Event → List Event) → Type 0
 GoesOnThroughout Holds old new more =
@@ -124,7 +124,7 @@ pub record ClaimsOfNew (cfg : Cfg) (from : World) (v : ShownWorld) : Type 0 wher
   pub sessions : SessionsKeepOrder cfg from
   pub links : SessionsStayInWindow cfg from [] from
 
--- .. and of one whose link was just set up
+-- the claims of a world whose link was just set up
 pub record ClaimsOfSetUp (cfg : Cfg) : Type 0 where
   pub window : StaysInWindow cfg [] (established cfg)
   pub up_once : IsUpOnce cfg (established cfg)

@@ -40,7 +40,7 @@ pub record Laws : Type 0 where
   pub take_sets_up : TakeSetsUp
   pub reads : ReadsSpelled
 
--- .. and those of two links over set-up and re-set-up, and of two layers of which each end is by itself
+-- those of one station, of two links over set-up and re-set-up, and of two layers of which each end is by itself
 pub record SessionLaws : Type 0 where
   pub stations : Laws
   pub step : line.Throughout line.MeetInStep

@@ -24,7 +24,7 @@ Throughout Holds =
     (cfg : Cfg) → config_refusal cfg ≡ None → (begin : World) → IsBeginning cfg begin → (events : List Event)
     → AreInOctets events → Holds cfg (run cfg events begin)
 
--- .. and of the list itself, with where it begins
+-- after each such list, of that list too and of where it begins
 abbrev pub ThroughoutAlong : (Cfg → World → List Event → World → Type 0) → Type 0
 ThroughoutAlong Holds =
     (cfg : Cfg) → config_refusal cfg ≡ None → (begin : World) → IsBeginning cfg begin → (events : List Event)

@@ -50,7 +50,7 @@ pub record SessionsStayInWindow (cfg : Cfg) (begin : World) (events : List Event
       → StandsInWindow cfg (run cfg past begin) v s
       → SessionsGoAlong cfg here more (run cfg past begin) v s
 
--- .. along some events that lead here, from where a run begins
+-- it is so along some events that lead here, from where a run begins
 abbrev pub UpIsInWindow : Cfg → World → Type 0
 UpIsInWindow cfg w = (begin : World) × IsBeginning cfg begin × (events : List Event) × (run cfg events begin ≡ w)
     × SessionsStayInWindow cfg begin events w

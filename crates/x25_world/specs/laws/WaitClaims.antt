@@ -36,7 +36,7 @@ WaitsAlone cfg w end channel name =
     × WaitsForUser channel name (station_at end w) (station_at (other end) w) (handed_in end (last_session end w) w)
     (handed_in (other end) (last_session (other end) w) w)
 
--- .. each that is open
+-- each stretch that is open is so
 abbrev pub AllWaitForUsers : Cfg → World → Type 0
 AllWaitForUsers cfg w = (end : Role) (channel : ℕ) (name : Name)
     → stretch (settings_from end cfg) (station_at end w) channel ≡ Some name → WaitsAlone cfg w end channel name

@@ -85,6 +85,6 @@ first_machine cfg = machine_run (link_of cfg Dte) (link_of cfg Dce) both_put lin
 abbrev pub StaysInWindow : Cfg → List Event → World → Type 0
 StaysInWindow cfg events here = GoesAlong cfg here events (established cfg) (two_links cfg) (first_machine cfg)
 
--- .. along some events that lead here
+-- it is so along some events that lead here
 abbrev pub IsInWindow : Cfg → World → Type 0
 IsInWindow cfg w = (events : List Event) × (run cfg events (established cfg) ≡ w) × StaysInWindow cfg events w

@@ -136,7 +136,7 @@ ConnectGoesAgain =
     (run two_channels (connects Dte ∷ event Dce Receives ∷ event Dte
     (Loses 0) ∷ event Dte Fires ∷ delivers 4) start).transcript ≡ told_of_two_set_ups
 
--- .. so its first session meets none, and its second is the one that meets the first of the DTE
+-- the first session of the DCE meets none, and its second is the one that meets the first of the DTE
 abbrev pub SecondMeetsFirst : Type 0
 SecondMeetsFirst =
     (meets Dte 1 told_of_two_set_ups ≡ Some 2) × (meets Dce 1 told_of_two_set_ups ≡ None)

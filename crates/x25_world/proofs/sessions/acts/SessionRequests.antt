@@ -86,7 +86,7 @@ module _ (laws : SessionLaws) (cfg : Cfg) (end : Role) (trace : List Done) (sess
   abbrev trace_on : List Done
   trace_on = trace ++ moved end session moves
 
-  -- .. which are in order
+  -- two sessions that are in order stay so
   pub pair_goes : (m : ℕ) → PairIsInOrder cfg end trace session m → AreInOrder cfg.long_data cfg.channels (events_of end moves) (pair_ends cfg end session m trace) → PairIsInOrder cfg end trace_on session m
   pair_goes m order next =
       subst (λ (es : List apart.ApartEvent). AreInOrder cfg.long_data cfg.channels es (apart_start cfg.long_data cfg.channels)) (sym (pair_more end session m trace moves))

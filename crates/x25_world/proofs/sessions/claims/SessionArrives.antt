@@ -80,7 +80,7 @@ none_waits circuits (suc n) k none low high =
 link_idle : (cfg : Cfg) (end : Role) (s : Station) → is_idle (settings_from end cfg) s ≡ true → link.is_idle s.link ≡ true
 link_idle cfg end s idle = (both_true (link.is_idle s.link) (waits_up_to s.layer.circuits cfg.channels == 0) idle).0
 
--- .. to the other one, where all that its link was handed down arrived, and the same stretch is open at both
+-- between an idle end and the other one, where all that its link was handed down arrived, and the same stretch is open at both
 idle_between : (cfg : Cfg) (end : Role) (s t : Station) (giver taker : layer.End) (k : ℕ) (name : Name) → giver.layer ≡ s.layer → taker.layer ≡ t.layer → is_idle (settings_from end cfg) s ≡ true
     → stretch (settings_from end cfg) s k ≡ Some name → stretch (settings_from (other end) cfg) t k ≡ Some name → spelled taker.taken ≡ spelled giver.given → IsIdleTo k giver taker (length giver.given)
 idle_between cfg end s t giver taker k name of_giver of_taker idle here there all =

@@ -65,7 +65,7 @@ abbrev pub HasMetAt : Role → ℕ → ℕ → List Meeting → Type 0
 HasMetAt Dte n m met = HasMet n m met
 HasMetAt Dce n m met = HasMet m n met
 
--- .. and were begun
+-- these two were begun
 pub record MetBegun (Met : Type 0) (n m : ℕ) : Type 0 where
   pub has_met : Met
   pub begun : (1 ≤ n) × (1 ≤ m)

@@ -2,8 +2,8 @@ use Rattle.std.proofs.Common.{◌≡◌, ◌-◌, ◌+◌, ◌∙◌, sym, ap, f
 use Rattle.std.specs.Prelude.{is_none}
 use Rattle.std.proofs.lemmas.Result.{err_from_is_err_and}
 use Rattle.x25_world.specs.World.{run}
-use Rattle.x25_world.specs.Healing.{next_end, most_rounds, pull_round, pull_rounds}
-use Rattle.x25_world.specs.code.FitsHealing.{telling}
+use Rattle.x25_world.specs.Healing.{next_end, pull_round, pull_rounds}
+use Rattle.x25_world.specs.code.FitsHealing.{most_times, telling}
 use Rattle.x25_world.proofs.HealingSchedule.{line_is, rest_is, stops_in, went_all, counted_all}
 use Rattle.x25_world.proofs.HealingRounds.{left_behind, is_none_true, no_rounds, line_empty, line_filled, next_round, round_done, few_more, rounds_more}
 use Rattle.x25_world.proofs.world.World.pull_all.Goals as goal
@@ -11,34 +11,34 @@ use Rattle.x25_world.proofs.world.World.pull_all.Goals as goal
 pub returns-in_err-more-clause-stopped : goal.returns-in_err-more-clause-stopped
 returns-in_err-more-clause-stopped c = λ cfg w before fits.
     let p = err_from_is_err_and c.from_residual.result c.from_residual.ensures.1 in
-    let all = pull_rounds cfg most_rounds w in
-    let n = next_round cfg all w before most_rounds c.loop.counter c.loop.count (telling c.loop.self c.loop.told.items) c.loop-test.true (c.loop.invariant.3 cfg w before fits) in
-    rw (p.1, p.2) (stops_in cfg all w (telling c.loop.self c.loop.told.items) (telling c.pull_round.new.self c.pull_round.new.told.items) before (pull_round cfg) (left_behind cfg (most_rounds - (c.loop.counter + 1))) c.loop.count n c.in_err-more.field-0.0
+    let all = pull_rounds cfg most_times most_times w in
+    let n = next_round cfg most_times all w before most_times c.loop.counter c.loop.count (telling c.loop.self c.loop.told.items) c.loop-test.true (c.loop.invariant.3 cfg w before fits) in
+    rw (p.1, p.2) (stops_in cfg all w (telling c.loop.self c.loop.told.items) (telling c.pull_round.new.self c.pull_round.new.told.items) before (pull_round cfg most_times) (left_behind cfg most_times (most_times - (c.loop.counter + 1))) c.loop.count n c.in_err-more.field-0.0
     (c.in_err-more.ensures.stopped cfg (run cfg n.done w) before n.goes.fits))
 
 pub returns-then-is_line_empty-clause-goes : goal.returns-then-is_line_empty-clause-goes
 returns-then-is_line_empty-clause-goes c = λ cfg w before fits.
-    let all = pull_rounds cfg most_rounds w in
+    let all = pull_rounds cfg most_times most_times w in
     let l = c.loop.invariant.3 cfg w before fits in
     let x = run cfg l.done w in
-    let left = most_rounds - (c.loop.counter + 1) in
-    let m = round_done cfg all w before most_rounds c.loop.counter c.loop.count (telling c.loop.self c.loop.told.items) (telling c.pull_round.new.self c.pull_round.new.told.items) c.from-count.result c.loop-test.true l
+    let left = most_times - (c.loop.counter + 1) in
+    let m = round_done cfg most_times all w before most_times c.loop.counter c.loop.count (telling c.loop.self c.loop.told.items) (telling c.pull_round.new.self c.pull_round.new.told.items) c.from-count.result c.loop-test.true l
     (c.in_ok-more.ensures.goes cfg x before l.goes.fits) (c.from-count.ensures ∙ c.in_ok-more.ensures.counted cfg x before l.goes.fits) in
     let y = run cfg m.done w in
-    went_all cfg all w (telling c.pull_round.new.self c.pull_round.new.told.items) before (left_behind cfg left) _ m
-    (line_empty cfg left y (sym (line_is cfg c.pull_round.new.self y m.goes.fits.fits) ∙ is_none_true _ (sym c.is_line_empty.ensures ∙ c.if-is_line_empty.true)))
+    went_all cfg all w (telling c.pull_round.new.self c.pull_round.new.told.items) before (left_behind cfg most_times left) _ m
+    (line_empty cfg most_times left y (sym (line_is cfg c.pull_round.new.self y m.goes.fits.fits) ∙ is_none_true _ (sym c.is_line_empty.ensures ∙ c.if-is_line_empty.true)))
 
 pub returns-then-is_line_empty-clause-counted : goal.returns-then-is_line_empty-clause-counted
 returns-then-is_line_empty-clause-counted c = λ cfg w before fits.
-    let all = pull_rounds cfg most_rounds w in
+    let all = pull_rounds cfg most_times most_times w in
     let l = c.loop.invariant.3 cfg w before fits in
     let x = run cfg l.done w in
-    let left = most_rounds - (c.loop.counter + 1) in
-    let m = round_done cfg all w before most_rounds c.loop.counter c.loop.count (telling c.loop.self c.loop.told.items) (telling c.pull_round.new.self c.pull_round.new.told.items) c.from-count.result c.loop-test.true l
+    let left = most_times - (c.loop.counter + 1) in
+    let m = round_done cfg most_times all w before most_times c.loop.counter c.loop.count (telling c.loop.self c.loop.told.items) (telling c.pull_round.new.self c.pull_round.new.told.items) c.from-count.result c.loop-test.true l
     (c.in_ok-more.ensures.goes cfg x before l.goes.fits) (c.from-count.ensures ∙ c.in_ok-more.ensures.counted cfg x before l.goes.fits) in
     let y = run cfg m.done w in
-    counted_all cfg all w (telling c.pull_round.new.self c.pull_round.new.told.items) before (left_behind cfg left) _ m
-    (line_empty cfg left y (sym (line_is cfg c.pull_round.new.self y m.goes.fits.fits) ∙ is_none_true _ (sym c.is_line_empty.ensures ∙ c.if-is_line_empty.true)))
+    counted_all cfg all w (telling c.pull_round.new.self c.pull_round.new.told.items) before (left_behind cfg most_times left) _ m
+    (line_empty cfg most_times left y (sym (line_is cfg c.pull_round.new.self y m.goes.fits.fits) ∙ is_none_true _ (sym c.is_line_empty.ensures ∙ c.if-is_line_empty.true)))
 
 pub loop-preserved : goal.loop-preserved
 loop-preserved c =
@@ -47,22 +47,22 @@ loop-preserved c =
       rounds_more (next_end c.loop.self.to_dce c.loop.self.to_dte) c.loop.count c.loop.counter c.from-count.result c.loop.invariant.1 c.loop.invariant.2 (λ none. c.in_ok-more.ensures.none (sym c.from-count.ensures ∙ none)),
       λ some. filled,
       λ cfg w before fits.
-          let all = pull_rounds cfg most_rounds w in
+          let all = pull_rounds cfg most_times most_times w in
           let l = c.loop.invariant.3 cfg w before fits in
           let x = run cfg l.done w in
-          let left = most_rounds - (c.loop.counter + 1) in
-          let m = round_done cfg all w before most_rounds c.loop.counter c.loop.count (telling c.loop.self c.loop.told.items) (telling c.pull_round.new.self c.pull_round.new.told.items) c.from-count.result c.loop-test.true l
+          let left = most_times - (c.loop.counter + 1) in
+          let m = round_done cfg most_times all w before most_times c.loop.counter c.loop.count (telling c.loop.self c.loop.told.items) (telling c.pull_round.new.self c.pull_round.new.told.items) c.from-count.result c.loop-test.true l
           (c.in_ok-more.ensures.goes cfg x before l.goes.fits) (c.from-count.ensures ∙ c.in_ok-more.ensures.counted cfg x before l.goes.fits) in
           let y = run cfg m.done w in
-          rest_is cfg all w (telling c.pull_round.new.self c.pull_round.new.told.items) before (left_behind cfg left) _ m (pull_rounds cfg left) (line_filled cfg left y (ap is_none (sym (line_is cfg c.pull_round.new.self y m.goes.fits.fits)) ∙ filled)),
+          rest_is cfg all w (telling c.pull_round.new.self c.pull_round.new.told.items) before (left_behind cfg most_times left) _ m (pull_rounds cfg most_times left) (line_filled cfg most_times left y (ap is_none (sym (line_is cfg c.pull_round.new.self y m.goes.fits.fits)) ∙ filled)),
     )
 
 pub returns-clause-goes : goal.returns-clause-goes
 returns-clause-goes c = λ cfg w before fits.
     let l = c.loop.invariant.3 cfg w before fits in
-    went_all cfg (pull_rounds cfg most_rounds w) w (telling c.loop.self c.loop.told.items) before (pull_rounds cfg (most_rounds - c.loop.counter)) c.loop.count l (no_rounds cfg (most_rounds - c.loop.counter) (run cfg l.done w) (omega (arith, c.loop-test.false)))
+    went_all cfg (pull_rounds cfg most_times most_times w) w (telling c.loop.self c.loop.told.items) before (pull_rounds cfg most_times (most_times - c.loop.counter)) c.loop.count l (no_rounds cfg most_times (most_times - c.loop.counter) (run cfg l.done w) (omega (arith, c.loop-test.false)))
 
 pub returns-clause-counted : goal.returns-clause-counted
 returns-clause-counted c = λ cfg w before fits.
     let l = c.loop.invariant.3 cfg w before fits in
-    counted_all cfg (pull_rounds cfg most_rounds w) w (telling c.loop.self c.loop.told.items) before (pull_rounds cfg (most_rounds - c.loop.counter)) c.loop.count l (no_rounds cfg (most_rounds - c.loop.counter) (run cfg l.done w) (omega (arith, c.loop-test.false)))
+    counted_all cfg (pull_rounds cfg most_times most_times w) w (telling c.loop.self c.loop.told.items) before (pull_rounds cfg most_times (most_times - c.loop.counter)) c.loop.count l (no_rounds cfg most_times (most_times - c.loop.counter) (run cfg l.done w) (omega (arith, c.loop-test.false)))
