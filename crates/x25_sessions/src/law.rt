@@ -1,9 +1,23 @@
-ghost use Rattle.x25_line.specs.laws.SessionClaims.{MeetInStep, MetAreInOrder, UnmetHandNothingUp};
+ghost use Rattle.x25_frame.specs.laws.ReadingLaw.{ReadsSpelled};
+ghost use Rattle.x25_line.specs.laws.LawsBelow.{SessionLaws};
+ghost use Rattle.x25_line.specs.laws.SessionClaims.{Throughout, MeetInStep, MetAreInOrder, UnmetHandNothingUp};
 ghost use Rattle.x25_sessions.specs.laws.PeerSessionClaims.{WithAnyPeer, OfBothEnds, IdleHasArrived};
+ghost use Rattle.x25_sessions.specs.laws.SessionPeers.{AreBothPeers};
 
 use x25_frame::reads_what_is_spelled;
 use x25_line::any_peer_keeps_order;
 use x25_link::{follows_the_window, notes_what_changes, sets_up_by_rows};
+
+/// What the laws of frames and of one link say, which those of this crate rest on.
+pub(crate) fn laws_below()
+    ensures reads { ReadsSpelled }
+    ensures link { SessionLaws }
+{
+    follows_the_window();
+    sets_up_by_rows();
+    notes_what_changes();
+    reads_what_is_spelled();
+}
 
 /// A link station, by the definition that a link meets call by call, and any peer that keeps the rules of
 /// docs/PEER.md, from nothing or from a link just set up: what holds after all that happens at either end and on the
@@ -24,8 +38,14 @@ pub fn any_peer_keeps_sessions()
     ensures idle { WithAnyPeer IdleHasArrived }
 {
     any_peer_keeps_order();
-    follows_the_window();
-    sets_up_by_rows();
-    notes_what_changes();
-    reads_what_is_spelled();
+    laws_below();
+}
+
+/// Our own station keeps the rules of a peer over set-up and re-set-up. Of two link stations, as `sessions_keep_order`
+/// of `x25_line` has them, after each list of events each is a peer of the other, which began the sessions that the
+/// station began, and in each was handed down what that was, and took what that handed up.
+pub fn stations_are_peers_over_sessions()
+    ensures { Throughout AreBothPeers }
+{
+    laws_below();
 }

@@ -6,4 +6,4 @@
 
 mod law;
 
-pub use law::any_peer_keeps_sessions;
+pub use law::{any_peer_keeps_sessions, stations_are_peers_over_sessions};
