@@ -11,3 +11,4 @@ pub mod SessionSays
 pub mod SessionSeen
 pub mod SessionSeenActs
 pub mod SessionSeenRuns
+pub mod rows

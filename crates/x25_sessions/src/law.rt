@@ -1,8 +1,9 @@
 ghost use Rattle.x25_frame.specs.laws.ReadingLaw.{ReadsSpelled};
 ghost use Rattle.x25_line.specs.laws.LawsBelow.{SessionLaws};
 ghost use Rattle.x25_line.specs.laws.SessionClaims.{Throughout, MeetInStep, MetAreInOrder, UnmetHandNothingUp};
-ghost use Rattle.x25_sessions.specs.laws.PeerSessionClaims.{WithAnyPeer, OfBothEnds, IdleHasArrived};
+ghost use Rattle.x25_sessions.specs.laws.PeerSessionClaims.{WithAnyPeer, OfBothEnds, EachMeetsLatest, IdleHasArrived};
 ghost use Rattle.x25_sessions.specs.laws.SessionPeers.{AreBothPeers};
+ghost use Rattle.x25_sessions.specs.rows.PeerSessionRows.{CrossingPeerMoves};
 
 use x25_frame::reads_what_is_spelled;
 use x25_line::any_peer_keeps_order;
@@ -26,15 +27,17 @@ pub(crate) fn laws_below()
 /// begins as it notes LinkUp, and one of the peer as its rules say; two sessions meet where one hears a frame with an
 /// N(R) that was sent in the other.
 ///
-/// Sessions meet one to one, and in order at both ends. What the station handed up in a session is a beginning of what
-/// the peer was handed down in the one that it meets, and what the peer took there is a beginning of what the station
-/// was handed down. In a session that meets none the station hands nothing up, and the peer takes nothing. Where the
-/// station is idle, and the peer is in a session or met the station's, all that the station was handed down in this
-/// session was taken in the peer's latest.
+/// Sessions meet one to one, and in order at both ends. What the station handed up in a session is a beginning of
+/// what the peer was handed down in the one that it meets, and what the peer took there is a beginning of what the
+/// station was handed down. In a session that meets none the station hands nothing up, and the peer takes nothing.
+/// The session of an end that is in one meets no other than the latest of the other end. Where the station is idle,
+/// and the peer is in a session or met the station's, all that the station was handed down in this session was taken
+/// in the peer's latest.
 pub fn any_peer_keeps_sessions()
     ensures step { WithAnyPeer (OfBothEnds MeetInStep) }
     ensures order { WithAnyPeer (OfBothEnds MetAreInOrder) }
     ensures unmet { WithAnyPeer (OfBothEnds UnmetHandNothingUp) }
+    ensures agree { WithAnyPeer EachMeetsLatest }
     ensures idle { WithAnyPeer IdleHasArrived }
 {
     any_peer_keeps_order();
@@ -48,4 +51,12 @@ pub fn stations_are_peers_over_sessions()
     ensures { Throughout AreBothPeers }
 {
     laws_below();
+}
+
+/// A worked row: SABM of a station and SABM of a peer cross, and the peer begins its session as it answers, where our
+/// own station would wait on. Each end is then in its first session, and a packet is handed up.
+pub fn peers_move_over_sessions()
+    ensures crosses { CrossingPeerMoves }
+{
+    reads_what_is_spelled();
 }
