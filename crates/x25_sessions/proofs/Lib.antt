@@ -7,3 +7,8 @@ pub mod PeerActs
 pub mod PeerMoves
 pub mod PeerSetUp
 pub mod PeerSessionRuns
+pub mod SessionSays
+pub mod SessionSeen
+pub mod SessionSeenActs
+pub mod SessionSeenRuns
+pub mod rows

@@ -42,7 +42,7 @@ use Rattle.x25_sessions.proofs.PeerBegins.{sabm_begins, ua_begins, sabm_crosses}
 
 -- ---- what comes
 
-sabm_or_not : (r : Read) → ((p : Bool) × (r ≡ Ok (sabm p))) ⊎ (sabm_in r ≡ 0)
+pub sabm_or_not : (r : Read) → ((p : Bool) × (r ≡ Ok (sabm p))) ⊎ (sabm_in r ≡ 0)
 sabm_or_not (Ok (info ns nr p x)) = inr refl
 sabm_or_not (Ok (rr command nr pf)) = inr refl
 sabm_or_not (Ok (rnr command nr pf)) = inr refl
@@ -54,7 +54,7 @@ sabm_or_not (Ok (dm f)) = inr refl
 sabm_or_not (Ok (frmr f why)) = inr refl
 sabm_or_not (Err e) = inr refl
 
-answer_or_not : (r : Read) → (r ≡ Ok (ua true)) ⊎ (waiting_up r ≡ false)
+pub answer_or_not : (r : Read) → (r ≡ Ok (ua true)) ⊎ (waiting_up r ≡ false)
 answer_or_not (Ok (info ns nr p x)) = inr refl
 answer_or_not (Ok (rr command nr pf)) = inr refl
 answer_or_not (Ok (rnr command nr pf)) = inr refl
@@ -67,7 +67,7 @@ answer_or_not (Ok (dm f)) = inr refl
 answer_or_not (Ok (frmr f why)) = inr refl
 answer_or_not (Err e) = inr refl
 
-sets_none_up : (r : Read) → sabm_in r ≡ 0 → sets_up r ≡ false
+pub sets_none_up : (r : Read) → sabm_in r ≡ 0 → sets_up r ≡ false
 sets_none_up (Ok (info ns nr p x)) h = refl
 sets_none_up (Ok (rr command nr pf)) h = refl
 sets_none_up (Ok (rnr command nr pf)) h = refl
@@ -117,7 +117,7 @@ not_heard true read m met off = not_both true refl off
 not_heard false read m met off = refl
 
 -- LinkUp is noted only where it is up then
-down_quiet : (s : LinkStation) (step : Step) → Tells s step → is_up step.side.near.phase ≡ false → step.notes.up ≡ false
+pub down_quiet : (s : LinkStation) (step : Step) → Tells s step → is_up step.side.near.phase ≡ false → step.notes.up ≡ false
 down_quiet s step tells off = go step.notes.up refl
   where
     go : (b : Bool) → step.notes.up ≡ b → step.notes.up ≡ false
@@ -125,7 +125,7 @@ down_quiet s step tells off = go step.notes.up refl
     go false up = up
 
 -- a packet is accepted in Up alone
-put_accepted : (s : LinkStation) → put_refusal s ≡ None → is_up s.phase ≡ true
+pub put_accepted : (s : LinkStation) → put_refusal s ≡ None → is_up s.phase ≡ true
 put_accepted s accepted = go (is_up s.phase) _ accepted
   where
     go : (b : Bool) (o : Option LinkError) → (let z : Option LinkError = if not b then Some error.NotUp else o in z) ≡ None → b ≡ true
@@ -135,7 +135,7 @@ put_accepted s accepted = go (is_up s.phase) _ accepted
         never : Some error.NotUp ≡ None → ⊥
         never k = cc
 
-ends_away : (reason : Reason) → (reason ≡ Reset → ⊥) → (p : Phase) → p ≡ ends_in reason → is_up p ≡ false
+pub ends_away : (reason : Reason) → (reason ≡ Reset → ⊥) → (p : Phase) → p ≡ ends_in reason → is_up p ≡ false
 ends_away Retries never p is = ap is_up is
 ends_away Disc never p is = ap is_up is
 ends_away Dm never p is = ap is_up is

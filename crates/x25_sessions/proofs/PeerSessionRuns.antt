@@ -12,9 +12,9 @@ use Rattle.x25_line.specs.laws.PeerJoined as joined
 use Rattle.x25_line.specs.laws.PeerClaims.{KeepsOrder, WithAnyPeer as WithAnyPeerOnce}
 use Rattle.x25_line.proofs.sessions.SessionHeld.{Live, Gone, IsPaired, IsBegun}
 use Rattle.x25_sessions.specs.laws.PeerSessions.{PeerSessions, Out, In, begin_with, IsReached, at_start, set_up, goes_on}
-use Rattle.x25_sessions.specs.laws.PeerSessionClaims.{WithAnyPeer, OfBothEnds, IdleHasArrived}
+use Rattle.x25_sessions.specs.laws.PeerSessionClaims.{WithAnyPeer, OfBothEnds, IdleHasArrived, EachMeetsLatest}
 use Rattle.x25_sessions.proofs.PeerLines.{none}
-use Rattle.x25_sessions.proofs.PeerHeld.{Held, in_session, peer_high}
+use Rattle.x25_sessions.proofs.PeerHeld.{Held, in_session, near_high, peer_high}
 use Rattle.x25_sessions.proofs.PeerMoves.{peer_in}
 use Rattle.x25_sessions.proofs.PeerSetUp.{happens_held}
 
@@ -76,6 +76,19 @@ some_meets p q near far [] is high begun paired some = absurd some
 some_meets p q near far (m ∷ ms) is high begun paired some =
     elim some [ inl here ↦ meets p q near far m is high begun.0 paired.0 here | inr there ↦ some_meets p q near far ms is high begun.1 paired.1 there ]
 
+-- who meets a session that stands is the latest of the other end
+meets_far : (p q near far : ℕ) (m : Meeting) → near ≡ p → far ≤ q → IsBegun near far m → IsPaired p q m → m.near ≡ near → m.far ≡ far
+meets_far p q near far m is high begun (inl same) here = omega (arith, same.1, begun.1, high, meets p q near far m is high begun (inl same) here)
+meets_far p q near far m is high begun (inr less) here = absurd (omega (arith, less.0, is, here))
+
+meets_near : (p q near far : ℕ) (m : Meeting) → far ≡ q → near ≤ p → IsBegun near far m → IsPaired p q m → m.far ≡ far → m.near ≡ near
+meets_near p q near far m is high begun (inl same) here = omega (arith, same.0, begun.0, high)
+meets_near p q near far m is high begun (inr less) here = absurd (omega (arith, less.1, is, here))
+
+all_meet : (P : Meeting → Type 0) (p q near far : ℕ) → ((m : Meeting) → IsBegun near far m → IsPaired p q m → P m) → (met : List Meeting) → AllMet (IsBegun near far) met → AllMet (IsPaired p q) met → AllMet P met
+all_meet P p q near far f [] begun paired = tt
+all_meet P p q near far f (m ∷ ms) begun paired = (f m begun.0 paired.0, all_meet P p q near far f ms begun.1 paired.1)
+
 module _ (reads : ReadsSpelled) (rests : SessionLaws) (once : WithAnyPeerOnce KeepsOrder) where
   reached_held : (c : Settings) → 1 ≤ c.window → c.window ≤ 7 → (w : PeerSessions) → IsReached c w → Held c w
   reached_held c low high w at_start = nothing_held c
@@ -103,3 +116,15 @@ module _ (reads : ReadsSpelled) (rests : SessionLaws) (once : WithAnyPeerOnce Ke
         | inr some ↦ sym (some_meets h.p h.q w.near.begun w.peer.begun w.met i.begun (peer_high c w h) h.meetings.begun h.meetings.paired some)
       ] in
       ap (λ (z : Peer). z.taken) (ap w.peer.of_session latest ∙ h.peer_lists.at) ∙ k.idle (ap is_idle i.station ∙ idle) ∙ sym h.near_lists.down ∙ ap w.near.down (sym i.begun)
+
+  pub meets_latest : WithAnyPeer EachMeetsLatest
+  meets_latest c low high w reached =
+      let h = reached_held c low high w reached in
+      record {
+        near = λ up. (let i = in_session c w h up in
+            all_meet (λ (m : Meeting). m.near ≡ w.near.begun → m.far ≡ w.peer.begun) h.p h.q w.near.begun w.peer.begun
+            (λ m begun paired. meets_far h.p h.q w.near.begun w.peer.begun m i.begun (peer_high c w h) begun paired) w.met h.meetings.begun h.meetings.paired);
+        peer = λ is. (let i = peer_in c w h is in
+            all_meet (λ (m : Meeting). m.far ≡ w.peer.begun → m.near ≡ w.near.begun) h.p h.q w.near.begun w.peer.begun
+            (λ m begun paired. meets_near h.p h.q w.near.begun w.peer.begun m i.begun (near_high c w h) begun paired) w.met h.meetings.begun h.meetings.paired);
+      }

@@ -1,3 +1,4 @@
 -- What the laws of this crate say (src/law.rt), and the world that they are about.
 pub mod PeerSessions
 pub mod PeerSessionClaims
+pub mod SessionPeers

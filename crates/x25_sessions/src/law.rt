@@ -1,9 +1,24 @@
-ghost use Rattle.x25_line.specs.laws.SessionClaims.{MeetInStep, MetAreInOrder, UnmetHandNothingUp};
-ghost use Rattle.x25_sessions.specs.laws.PeerSessionClaims.{WithAnyPeer, OfBothEnds, IdleHasArrived};
+ghost use Rattle.x25_frame.specs.laws.ReadingLaw.{ReadsSpelled};
+ghost use Rattle.x25_line.specs.laws.LawsBelow.{SessionLaws};
+ghost use Rattle.x25_line.specs.laws.SessionClaims.{Throughout, MeetInStep, MetAreInOrder, UnmetHandNothingUp};
+ghost use Rattle.x25_sessions.specs.laws.PeerSessionClaims.{WithAnyPeer, OfBothEnds, EachMeetsLatest, IdleHasArrived};
+ghost use Rattle.x25_sessions.specs.laws.SessionPeers.{AreBothPeers};
+ghost use Rattle.x25_sessions.specs.rows.PeerSessionRows.{CrossingPeerMoves};
 
 use x25_frame::reads_what_is_spelled;
 use x25_line::any_peer_keeps_order;
 use x25_link::{follows_the_window, notes_what_changes, sets_up_by_rows};
+
+/// What the laws of frames and of one link say, which those of this crate rest on.
+pub(crate) fn laws_below()
+    ensures reads { ReadsSpelled }
+    ensures link { SessionLaws }
+{
+    follows_the_window();
+    sets_up_by_rows();
+    notes_what_changes();
+    reads_what_is_spelled();
+}
 
 /// A link station, by the definition that a link meets call by call, and any peer that keeps the rules of
 /// docs/PEER.md, from nothing or from a link just set up: what holds after all that happens at either end and on the
@@ -12,20 +27,36 @@ use x25_link::{follows_the_window, notes_what_changes, sets_up_by_rows};
 /// begins as it notes LinkUp, and one of the peer as its rules say; two sessions meet where one hears a frame with an
 /// N(R) that was sent in the other.
 ///
-/// Sessions meet one to one, and in order at both ends. What the station handed up in a session is a beginning of what
-/// the peer was handed down in the one that it meets, and what the peer took there is a beginning of what the station
-/// was handed down. In a session that meets none the station hands nothing up, and the peer takes nothing. Where the
-/// station is idle, and the peer is in a session or met the station's, all that the station was handed down in this
-/// session was taken in the peer's latest.
+/// Sessions meet one to one, and in order at both ends. What the station handed up in a session is a beginning of
+/// what the peer was handed down in the one that it meets, and what the peer took there is a beginning of what the
+/// station was handed down. In a session that meets none the station hands nothing up, and the peer takes nothing.
+/// The session of an end that is in one meets no other than the latest of the other end. Where the station is idle,
+/// and the peer is in a session or met the station's, all that the station was handed down in this session was taken
+/// in the peer's latest.
 pub fn any_peer_keeps_sessions()
     ensures step { WithAnyPeer (OfBothEnds MeetInStep) }
     ensures order { WithAnyPeer (OfBothEnds MetAreInOrder) }
     ensures unmet { WithAnyPeer (OfBothEnds UnmetHandNothingUp) }
+    ensures agree { WithAnyPeer EachMeetsLatest }
     ensures idle { WithAnyPeer IdleHasArrived }
 {
     any_peer_keeps_order();
-    follows_the_window();
-    sets_up_by_rows();
-    notes_what_changes();
+    laws_below();
+}
+
+/// Our own station keeps the rules of a peer over set-up and re-set-up. Of two link stations, as `sessions_keep_order`
+/// of `x25_line` has them, after each list of events each is a peer of the other, which began the sessions that the
+/// station began, and in each was handed down what that was, and took what that handed up.
+pub fn stations_are_peers_over_sessions()
+    ensures { Throughout AreBothPeers }
+{
+    laws_below();
+}
+
+/// A worked row: SABM of a station and SABM of a peer cross, and the peer begins its session as it answers, where our
+/// own station would wait on. Each end is then in its first session, and a packet is handed up.
+pub fn peers_move_over_sessions()
+    ensures crosses { CrossingPeerMoves }
+{
     reads_what_is_spelled();
 }

@@ -6,4 +6,6 @@
 
 mod law;
 
-pub use law::any_peer_keeps_sessions;
+pub use law::{
+    any_peer_keeps_sessions, peers_move_over_sessions, stations_are_peers_over_sessions,
+};

@@ -1,9 +1,9 @@
 -- What holds of a station and any peer over set-up and re-set-up at any moment.
 use Rattle.std.specs.Prelude.{◌≡◌, ◌≤◌, ◌⊎◌, true}
-use Rattle.x25_link.specs.Station.{Settings}
+use Rattle.x25_link.specs.Station.{Settings, is_up}
 use Rattle.x25_link.specs.Link.{is_idle}
 use Rattle.x25_line.specs.laws.Sessions.{Meeting, Sessions}
-use Rattle.x25_line.specs.laws.SessionClaims.{SomeMet}
+use Rattle.x25_line.specs.laws.SessionClaims.{AllMet, SomeMet}
 use Rattle.x25_sessions.specs.laws.PeerSessions.{PeerSessions, IsReached, In, now, both_ends}
 
 -- whatever happens, with any peer that keeps the rules of `Peer` and of set-up
@@ -21,3 +21,9 @@ abbrev pub IdleHasArrived : Settings → PeerSessions → Type 0
 IdleHasArrived c w = is_idle w.near.station ≡ true
     → (w.peer.stand ≡ In) ⊎ SomeMet (λ (m : Meeting). m.near ≡ w.near.begun) w.met
     → (now w.peer).taken ≡ w.near.down w.near.begun
+
+-- the session of an end that is in one meets no other than the latest of the other end
+pub record EachMeetsLatest (c : Settings) (w : PeerSessions) : Type 0 where
+  pub near : is_up w.near.station.phase ≡ true
+      → AllMet (λ (m : Meeting). m.near ≡ w.near.begun → m.far ≡ w.peer.begun) w.met
+  pub peer : w.peer.stand ≡ In → AllMet (λ (m : Meeting). m.far ≡ w.peer.begun → m.near ≡ w.near.begun) w.met

@@ -1,0 +1,2 @@
+-- Worked rows of a peer over sessions.
+pub mod PeerSessionRows
