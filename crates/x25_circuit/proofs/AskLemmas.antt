@@ -1,8 +1,9 @@
 -- What is asked for in one call.
-use Rattle.std.proofs.Common.{Result, Ok, Err, sym, ap}
+use Rattle.std.proofs.Common.{◌≡◌, ◌≢◌, Result, Ok, Err, IfErr, sym, ap}
 use Rattle.x25_packet.specs.declared.packet.Packet.{Packet}
 use Rattle.x25_circuit.specs.declared.circuit.Circuit as code
 use Rattle.x25_circuit.specs.declared.error.CircuitError.{CircuitError}
+use Rattle.x25_circuit.specs.declared.error.CircuitError.TheVariants.{NoMemory}
 use Rattle.x25_circuit.specs.Circuit.{Settings}
 use Rattle.x25_circuit.specs.Calling.{Outcome, Done, Refused}
 use Rattle.x25_circuit.specs.code.FitsCircuit.{Sends}
@@ -14,3 +15,11 @@ asked c v (Ok p) (Done next packet) h = (h.0, sym h.1)
 asked c v (Err e) (Done next packet) h = absurd h
 asked c v (Ok p) (Refused e) h = absurd (cc)
 asked c v (Err f) (Refused e) h = ap with_packet h
+
+err_is : {T : Type 0} (e f : CircuitError) → ◌≡◌ {A = Result T CircuitError} (Err e) (Err f) → e ≡ f
+err_is e f same = cc
+
+-- a call that takes no memory isn't refused any
+pub not_memory : (r : Result Packet CircuitError) → IfErr r (λ e. e ≢ NoMemory) → with_packet r ≡ Err NoMemory → ⊥
+not_memory (Ok p) other is = cc
+not_memory (Err e) other is = other (err_is e NoMemory is)

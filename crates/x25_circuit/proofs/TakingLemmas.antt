@@ -22,7 +22,7 @@ passed c x ground good is = ap (λ (g : Option ℕ). unless c x g good) is
 pub reset_closes : (c : Settings) (x : Circuit) (ground : Option ℕ) (good : Answer) (n : ℕ) → ground ≡ Some n → is_open (unless c x ground good).next ≡ false
 reset_closes c x ground good n is = ap (λ (g : Option ℕ). is_open (unless c x g good).next) is
 
--- .. by what was taken
+-- the same, by what was taken
 pub passed_next : (r : Option Taken) (P : Answer → Type 0) (c : Settings) (x : Circuit) (ground known : Option ℕ) (good : Answer) → ground ≡ known → OnSome r (known ≡ None) → OnSome r (P good) → OnSome r (P (unless c x ground good))
 passed_next None P c x ground known good same none p = tt
 passed_next (Some taken) P c x ground known good same none p = subst P (sym (passed c x ground good (same ∙ none))) p

@@ -6,13 +6,14 @@ use Rattle.x25_window.specs.declared.receiver.Receiver.{Receiver}
 use Rattle.x25_packet.specs.Facilities.{IsFacilityField}
 use Rattle.x25_circuit.specs.declared.circuit.Circuit as code
 use Rattle.x25_circuit.specs.declared.transfer.Transfer.{Transfer}
-use Rattle.x25_circuit.specs.Message.{Piece, piece_of, piece_ground, ground_of, Partial, no_part, joining, wholes}
+use Rattle.x25_circuit.specs.declared.queue.Queue.{Queue}
+use Rattle.x25_circuit.specs.Message.{Piece, piece_of, piece_ground, ground_of, Partial, no_part, joining, wholes, cut_all}
 use Rattle.x25_circuit.specs.code.PartialMessage.{ShownPartial}
 use Rattle.x25_circuit.specs.Queue.{waiting}
 use Rattle.x25_circuit.specs.Hearing.{data_ground, number_ground}
 use Rattle.x25_circuit.proofs.MessageLemmas.{wholes_all}
 use Rattle.x25_circuit.specs.Circuit.{Settings, Talk, Circuit, outgoing}
-use Rattle.x25_circuit.specs.code.Changes.{with_interrupt, with_peer, with_own}
+use Rattle.x25_circuit.specs.code.Changes.{with_rest, with_interrupt, with_peer, with_own}
 use Rattle.x25_circuit.specs.code.Fits.{FitsTalk, first_ground}
 use Rattle.x25_circuit.specs.code.FitsCircuit.{FitsCircuit}
 
@@ -49,6 +50,9 @@ taken_more r false n m h fits e = absurd (cc)
 pub piece_ground_of : (size : ℕ) (j : Partial) (q m : Bool) (user : List ℕ) → piece_ground size j (piece_of q m user) ≡ ground_of size j (length user) q
 piece_ground_of size j q true user = refl
 piece_ground_of size j q false user = refl
+
+pub queue_fits : (size : ℕ) (v : Transfer) (t : Talk) (queue : Queue) (rest : List Piece) → FitsTalk size v t → rest ≡ cut_all size (waiting queue) → FitsTalk size (record v { queue = queue }) (with_rest rest t)
+queue_fits size v t queue rest fits cut = record { numbers = fits.numbers; taken = fits.taken; rest = cut; part = fits.part; short = fits.short; int_out = fits.int_out; peer_ready = fits.peer_ready; own_ready = fits.own_ready }
 
 -- memory that is set aside is no part of what is stood for
 pub partial_fits : (size : ℕ) (v : Transfer) (t : Talk) (p : ShownPartial) → FitsTalk size v t → p.part ≡ v.partial.part → FitsTalk size (record v { partial = p }) t

@@ -1,15 +1,16 @@
 -- What the user asks, as a value alone, and what the circuit answers.
-use Rattle.std.specs.Prelude.{◌≡◌, Option, Some, None, Result, Ok, Err, IsOkAnd}
+use Rattle.std.specs.Prelude.{◌≡◌, Bool, true, false, Option, Some, None, Result, Ok, Err, MatchResult}
 use denote.Ref.{Bor}
 use Rattle.x25_packet.specs.declared.packet.Packet.{Packet}
 use Rattle.x25_circuit.specs.declared.circuit.Circuit as circuit_code
 use Rattle.x25_circuit.specs.declared.error.CircuitError.{CircuitError}
+use Rattle.x25_circuit.specs.declared.error.CircuitError.TheVariants as error
 use Rattle.x25_circuit.specs.declared.params.Params.{Params}
 use Rattle.x25_circuit.specs.declared.request.Request as declared
 use Rattle.x25_circuit.specs.declared.request.Request.TheVariants as code
-use Rattle.x25_circuit.specs.Circuit.{Settings}
+use Rattle.x25_circuit.specs.Circuit.{Settings, Circuit}
 use Rattle.x25_circuit.specs.Calling.{Outcome, Done, Refused, Request, Calls, Accepts, Clears, Sends, Interrupts}
-use Rattle.x25_circuit.specs.Calling.{Resets, SaysReady, SaysNotReady}
+use Rattle.x25_circuit.specs.Calling.{Resets, SaysReady, SaysNotReady, outcome}
 use Rattle.x25_circuit.specs.code.FitsCircuit.{FitsCircuit}
 use Rattle.x25_circuit.specs.code.Replies.{plain_sent}
 
@@ -22,7 +23,7 @@ abbrev pub plain_request : declared.Request → Request
 plain_request (code.Call called calling user proposal) = Calls called.now calling.now user.now proposal.now
 plain_request (code.Accept answer) = Accepts (plain_answer answer)
 plain_request code.Clear = Clears
-plain_request (code.Send q user) = Sends q user.items
+plain_request (code.Send q user) = Sends q user.now
 plain_request (code.Interrupt user) = Interrupts user.now
 plain_request code.Reset = Resets
 plain_request code.Ready = SaysReady
@@ -38,12 +39,23 @@ abbrev pub with_packet : Result Packet CircuitError → Result (Option Packet) C
 with_packet (Ok packet) = Ok (Some packet)
 with_packet (Err e) = Err e
 
--- a call that may have a packet to send
+-- a call that may have a packet to send, or for which memory is missing
 abbrev pub AnswersRequest : Settings → circuit_code.Circuit → Result (Option Packet) CircuitError → Outcome → Type 0
-AnswersRequest c v result (Done next packet) = IsOkAnd result (λ p. FitsCircuit c v next × (plain_sent p ≡ packet))
+AnswersRequest c v result (Done next packet) =
+    MatchResult result (λ p. FitsCircuit c v next × (plain_sent p ≡ packet)) (λ e. e ≡ error.NoMemory)
 AnswersRequest c v result (Refused e) = result ≡ Err e
 
 -- a message waits, and there is no packet at once
 abbrev pub MayPut : Request → Option Packet → Type 0
 MayPut (Sends q user) packet = packet ≡ None
 MayPut request packet = Unit {0}
+
+-- of which a circuit takes a copy
+abbrev pub is_message : Request → Bool
+is_message (Sends q user) = true
+is_message request = false
+
+-- where 70 may be answered: for a message, in place of its acceptance
+pub record MayLack (v : circuit_code.Circuit) (request : Request) : Type 0 where
+  pub message : is_message request ≡ true
+  pub accepted : (c : Settings) (x : Circuit) → FitsCircuit c v x → refusal_of (outcome c x request) ≡ None

@@ -1,5 +1,5 @@
 //! The user's calls that set up and clear. ITU-T X.25 (10/96), sections 4.1.2, 4.1.4 and 4.1.7.
-ghost use Rattle.std.specs.Prelude.{◌≡◌, ◌≤◌, OnErr, IfSome, IfNone, Some, None, true, false, IfOk, IfErr, length};
+ghost use Rattle.std.specs.Prelude.{◌≡◌, ◌≢◌, ◌≤◌, OnErr, IfSome, IfNone, true, false, IfOk, IfErr, length};
 ghost use Rattle.std.specs.Prelude.{unwrap_or};
 ghost use Rattle.std.specs.Result.{result_err};
 ghost use Rattle.x25_packet.specs.Packet.{plain};
@@ -8,7 +8,7 @@ ghost use Rattle.x25_packet.specs.Digits.{IsAddress, digits_of_text};
 ghost use Rattle.x25_circuit.specs.declared.state.State.{State};
 ghost use Rattle.x25_circuit.specs.Circuit.{Settings};
 ghost use Rattle.x25_circuit.specs.Circuit.{Circuit as Channel};
-ghost use Rattle.x25_circuit.specs.Params.{default_params, field_for, may_answer};
+ghost use Rattle.x25_circuit.specs.Params.{may_answer};
 ghost use Rattle.x25_circuit.specs.Calling.{outcome, Refused, Calls, Accepts, Clears, may_call, call_in, accept_in};
 ghost use Rattle.x25_circuit.specs.Calling.{is_address_text};
 ghost use Rattle.x25_circuit.specs.Request.{plain_answer, refusal_of};
@@ -72,32 +72,12 @@ fn fields_of<'a>(
 
 impl Circuit {
     /// Calls the other end, with addresses of 0 to 15 digits and at most 16 octets of user data (128 where it may be
-    /// long), and proposes the default packet sizes and windows. It answers CALL.
-    ///
-    /// 30 WrongState outside of p1, then 34 BadParameter where an address or the user data is none of these.
-    pub fn call<'a>(
-        &mut self,
-        called: &'a str,
-        calling: &'a str,
-        user: &'a [u8],
-    ) -> Result<Packet<'a>, CircuitError>
-        ensures outcome { (c : Settings) (x : Channel) → FitsCircuit c self.old x
-            → Sends c self.new result (outcome c x (Calls called.now calling.now user.now default_params)) }
-        ensures range { IfOk result (λ packet. IsInRange 128 (plain packet)) }
-        ensures room { room_of self.old ≤ room_of self.new }
-        ensures clears { clears_of self.new ≡ clears_of self.old }
-        ensures resets { resets_of self.new ≡ resets_of self.old }
-        ensures unchanged { OnErr result (self.new ≡ self.old) }
-    {
-        self.call_out(called, calling, user, Params::default(), &[])
-    }
-
-    /// Calls as `call`, and proposes these packet sizes and windows: sizes of 4 to 12, and windows of 1 to 7. What
-    /// isn't the default stands in the CALL. ITU-T X.25 (10/96), section 6.12.
+    /// long), and proposes these packet sizes and windows: sizes of 4 to 12, and windows of 1 to 7. It answers CALL, in
+    /// which what isn't the default stands. ITU-T X.25 (10/96), section 6.12.
     ///
     /// 30 WrongState outside of p1, then 34 BadParameter where an address, the user data, a size or a window is none of
     /// these.
-    pub fn call_with<'a>(
+    pub(crate) fn call<'a>(
         &mut self,
         called: &'a str,
         calling: &'a str,
@@ -111,41 +91,15 @@ impl Circuit {
         ensures clears { clears_of self.new ≡ clears_of self.old }
         ensures resets { resets_of self.new ≡ resets_of self.old }
         ensures unchanged { OnErr result (self.new ≡ self.old) }
+        ensures kinds { IfErr result (λ e. e ≢ CircuitError.NoMemory) }
     {
-        self.call_out(
-            called,
-            calling,
-            user,
-            proposal.params(),
-            proposal.field_for(Params::default()),
-        )
-    }
-
-    // Calls, with the facility field that says what is proposed.
-    fn call_out<'a>(
-        &mut self,
-        called: &'a str,
-        calling: &'a str,
-        user: &'a [u8],
-        params: Params,
-        facilities: &'a [u8],
-    ) -> Result<Packet<'a>, CircuitError>
-        requires { facilities.now ≡ field_for default_params params }
-        ensures outcome { (c : Settings) (x : Channel) → FitsCircuit c self.old x
-            → Sends c self.new result (call_in c x x.state called.now calling.now user.now params) }
-        ensures range { IfOk result (λ packet. IsInRange 128 (plain packet)) }
-        ensures room { room_of self.old ≤ room_of self.new }
-        ensures clears { clears_of self.new ≡ clears_of self.old }
-        ensures resets { resets_of self.new ≡ resets_of self.old }
-        ensures unchanged { OnErr result (self.new ≡ self.old) }
-    {
-        let fields = self.call_fields(called, calling, user, params)?;
+        let fields = self.call_fields(called, calling, user, proposal.params())?;
         self.enter(State::Calling, fields.flow, true);
         Ok(Packet::Call {
             channel: 1,
             called: fields.called,
             calling: fields.calling,
-            facilities,
+            facilities: proposal.field_for(Params::default()),
             user,
         })
     }
@@ -171,6 +125,7 @@ impl Circuit {
             → IfErr result (λ e. call_in c x x.state called.now calling.now user.now params ≡ Refused e) }
         ensures refusal { (c : Settings) (x : Channel) → FitsCircuit c self.now x
             → result_err result ≡ refusal_of (call_in c x x.state called.now calling.now user.now params) }
+        ensures kinds { IfErr result (λ e. e ≢ CircuitError.NoMemory) }
     {
         if self.state != State::Free {
             return Err(CircuitError::WrongState);
@@ -181,46 +136,37 @@ impl Circuit {
         Ok(fields)
     }
 
-    /// Accepts the call of the other end, with the packet sizes and windows that it proposes. It answers CALL ACCEPTED.
-    ///
-    /// 30 WrongState where no call came.
-    pub fn accept<'a>(&mut self) -> Result<Packet<'a>, CircuitError>
-        ensures outcome { (c : Settings) (x : Channel) → FitsCircuit c self.old x
-            → Sends c self.new result (outcome c x (Accepts None)) }
-        ensures range { IfOk result (λ packet. IsInRange 128 (plain packet)) }
-        ensures room { room_of self.old ≤ room_of self.new }
-        ensures clears { clears_of self.new ≡ clears_of self.old }
-        ensures resets { resets_of self.new ≡ resets_of self.old }
-        ensures unchanged { OnErr result (self.new ≡ self.old) }
-    {
-        let proposed = self.accepted(None)?;
-        self.enter(State::Open, proposed, false);
-        Ok(Packet::Accept {
-            channel: 1,
-            facilities: &[],
-        })
-    }
-
     /// Accepts the call of the other end, with these packet sizes and windows, each from the proposed value to the
-    /// default. What isn't as proposed stands in the CALL ACCEPTED that it answers. ITU-T X.25 (10/96), section 6.12.
+    /// default, or else with those that it proposes. It answers CALL ACCEPTED, in which what isn't as proposed stands.
+    /// ITU-T X.25 (10/96), section 6.12.
     ///
     /// 30 WrongState where no call came, then 34 BadParameter where a value is out of this range.
-    pub fn accept_with<'a>(&mut self, answer: &'a Proposal) -> Result<Packet<'a>, CircuitError>
+    pub(crate) fn accept<'a>(
+        &mut self,
+        answer: Option<&'a Proposal>,
+    ) -> Result<Packet<'a>, CircuitError>
         ensures outcome { (c : Settings) (x : Channel) → FitsCircuit c self.old x
-            → Sends c self.new result (outcome c x (Accepts (Some answer.now))) }
+            → Sends c self.new result (outcome c x (Accepts (plain_answer answer.entry))) }
         ensures range { IfOk result (λ packet. IsInRange 128 (plain packet)) }
         ensures room { room_of self.old ≤ room_of self.new }
         ensures clears { clears_of self.new ≡ clears_of self.old }
         ensures resets { resets_of self.new ≡ resets_of self.old }
         ensures unchanged { OnErr result (self.new ≡ self.old) }
+        ensures kinds { IfErr result (λ e. e ≢ CircuitError.NoMemory) }
     {
         let proposed = self.flow.params;
-        let flow = self.accepted(Some(answer))?;
+        let flow = self.accepted(answer)?;
         self.enter(State::Open, flow, false);
-        Ok(Packet::Accept {
-            channel: 1,
-            facilities: answer.field_for(proposed),
-        })
+        match answer {
+            Some(answer) => Ok(Packet::Accept {
+                channel: 1,
+                facilities: answer.field_for(proposed),
+            }),
+            None => Ok(Packet::Accept {
+                channel: 1,
+                facilities: &[],
+            }),
+        }
     }
 
     // Packet sizes and windows in force once the call is accepted with this answer, where it may be now.
@@ -233,6 +179,7 @@ impl Circuit {
             → IfErr result (λ e. accept_in x x.state (plain_answer answer.entry) ≡ Refused e) }
         ensures refusal { (c : Settings) (x : Channel) → FitsCircuit c self.now x
             → result_err result ≡ refusal_of (accept_in x x.state (plain_answer answer.entry)) }
+        ensures kinds { IfErr result (λ e. e ≢ CircuitError.NoMemory) }
     {
         if self.state != State::Arriving {
             return Err(CircuitError::WrongState);
@@ -251,7 +198,7 @@ impl Circuit {
     /// Clears the call, and drops everything. It answers CLEAR with cause and diagnostic 0.
     ///
     /// 30 WrongState in p1 and where this end's CLEAR isn't confirmed yet.
-    pub fn clear<'a>(&mut self) -> Result<Packet<'a>, CircuitError>
+    pub(crate) fn clear<'a>(&mut self) -> Result<Packet<'a>, CircuitError>
         ensures outcome { (c : Settings) (x : Channel) → FitsCircuit c self.old x
             → Sends c self.new result (outcome c x Clears) }
         ensures range { IfOk result (λ packet. IsInRange 128 (plain packet)) }
@@ -259,6 +206,7 @@ impl Circuit {
         ensures clears { clears_of self.new ≡ clears_of self.old }
         ensures resets { resets_of self.new ≡ resets_of self.old }
         ensures unchanged { OnErr result (self.new ≡ self.old) }
+        ensures kinds { IfErr result (λ e. e ≢ CircuitError.NoMemory) }
     {
         if let Some(error) = self.clear_refusal() {
             return Err(error);

@@ -1,5 +1,4 @@
-ghost use Rattle.std.specs.Prelude.{◌≡◌, ℕ, ◌+◌, ◌<◌, ◌≤◌, false, length, min, max, IfOk, IfErr, IfSome, OnOk, OnErr};
-ghost use Rattle.std.specs.Prelude.{[], vec_capacity};
+ghost use Rattle.std.specs.Prelude.{◌≡◌, ℕ, ◌+◌, ◌<◌, ◌≤◌, false, length, min, max, IfOk, IfErr, OnOk, OnErr};
 ghost use Rattle.x25_circuit.specs.declared.state.State.{State};
 ghost use Rattle.x25_circuit.specs.Message.{no_part, joining};
 ghost use Rattle.x25_circuit.specs.Params.{default_params};
@@ -36,16 +35,6 @@ pub struct Circuit {
 
 impl Circuit {
     ghost use Rattle.x25_circuit.specs.code.FitsCircuit.{FitsCircuit, room_of, clears_of, resets_of, waits_of};
-
-    /// A channel that was never used: p1. A call has at most 16 octets of user data.
-    ///
-    /// 70 alone.
-    pub fn new(alloc: Global, role: Role) -> Result<Circuit, CircuitError>
-        ensures fits { IfOk result (λ v. FitsCircuit (record { role = role; long_data = false }) v begun) }
-        ensures err { IfErr result (λ e. e ≡ CircuitError.NoMemory) }
-    {
-        Circuit::with(alloc, role, false)
-    }
 
     /// A channel that was never used: p1. With `long_data` a call has at most 128 octets of user data (profile), else
     /// at most 16.
@@ -189,24 +178,6 @@ impl Circuit {
     {
         self.transfer.partial.reserve(count)?;
         Ok(())
-    }
-
-    /// Memory of a message that is needed no more, for one of so many octets, where there is some: of one whose packets
-    /// were all cut off, or that was given back, and for at most 4,096. What is too small is let go of. The circuit is
-    /// as before.
-    pub fn spent_memory(&mut self, length: usize) -> Option<Vec<u8>>
-        ensures fits { (c : Settings) (x : Channel) → FitsCircuit c self.old x → FitsCircuit c self.new x }
-        ensures aside { room_of self.new ≡ room_of self.old }
-        ensures clears { clears_of self.new ≡ clears_of self.old }
-        ensures resets { resets_of self.new ≡ resets_of self.old }
-        ensures waits { waits_of self.new ≡ waits_of self.old }
-        ensures empty { IfSome result (λ memory. memory.items ≡ []) }
-        ensures room { IfSome result (λ memory. length ≤ vec_capacity memory) }
-    {
-        if let Some(memory) = self.transfer.queue.spent_memory(length) {
-            return Some(memory);
-        }
-        self.transfer.partial.again(length)
     }
 
     /// Takes the memory of a message back, for one that comes or is sent later. It is let go of where it is for more

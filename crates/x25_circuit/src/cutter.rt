@@ -1,13 +1,12 @@
-ghost use Rattle.std.specs.Prelude.{◌≡◌, ◌<◌, ◌≤◌, [], ◌∷◌, length, true, false, vec_capacity, IfSome};
+ghost use Rattle.std.specs.Prelude.{◌≡◌, ◌<◌, ◌≤◌, [], ◌∷◌, length, true, false, vec_capacity, IfSome, IfNone};
 
 use crate::message::Message;
-use crate::octets::Octets;
 use std::alloc::Global;
 use std::marker::Model;
 use std::mem;
 
-/// The most octets of memory that serves for another message.
-const MOST_AGAIN: usize = 4096;
+/// The most octets of memory that serves another message.
+const MOST_KEPT: usize = 4096;
 
 /// The marks of a data packet: the qualifier, and the more data mark.
 #[derive(Clone, Copy)]
@@ -19,7 +18,8 @@ pub struct Marks {
 /// A message while it is cut into data packets: what is left of it, and the packet cut last, which is lent from it.
 #[derive(Drop)]
 pub struct Cutter {
-    message: Message,
+    q: bool,
+    user: Vec<u8>,
     /// Where the packet cut last begins, and where it ends.
     lent: usize,
     start: usize,
@@ -48,10 +48,8 @@ impl Cutter {
         ensures { result.left ≡ [] }
     {
         Cutter {
-            message: Message {
-                q: false,
-                user: Octets::of(Vec::new(alloc)),
-            },
+            q: false,
+            user: Vec::new(alloc),
             lent: 0,
             start: 0,
             is_cut: true,
@@ -72,7 +70,8 @@ impl Cutter {
         ensures { self.new.left ≡ message ∷ [] }
     {
         *self = Cutter {
-            message,
+            q: message.q,
+            user: message.user.into_vec(),
             lent: 0,
             start: 0,
             is_cut: false,
@@ -94,42 +93,37 @@ impl Cutter {
         ensures short { length self.new.lent ≤ size }
         ensures packet { marked result.q result.m self.new.lent ≡ first_cut size self.old.left }
     {
-        let left = self.message.user.as_slice().len() - self.start;
+        let left = self.user.len() - self.start;
         self.lent = self.start;
         if left <= size {
             self.start += left;
             self.is_cut = true;
             Marks {
-                q: self.message.q,
+                q: self.q,
                 m: false,
             }
         } else {
             self.start += size;
-            Marks {
-                q: self.message.q,
-                m: true,
-            }
+            Marks { q: self.q, m: true }
         }
     }
 
-    /// Memory of a message that was cut to its end, for one of so many octets, where there is some. What is too small
-    /// for them, or for more than
-    /// 4,096, is let go of. The packet cut last isn't lent any more.
-    pub fn spent_memory(&mut self, length: usize) -> Option<Vec<u8>>
+    /// Memory of a message that was cut to its end, for one of so many octets and for 4,096 at most, where it is. The
+    /// packet cut last isn't lent any more then.
+    pub fn spent_memory(&mut self, count: usize) -> Option<Vec<u8>>
         ensures left { self.new.left ≡ self.old.left }
+        ensures none { IfNone result (self.new ≡ self.old) }
         ensures empty { IfSome result (λ memory. memory.items ≡ []) }
-        ensures room { IfSome result (λ memory. length ≤ vec_capacity memory) }
+        ensures room { IfSome result (λ memory. count ≤ vec_capacity memory) }
+        ensures few { IfSome result (λ memory. vec_capacity memory ≤ 4096) }
     {
-        if !self.is_cut {
+        let room = self.user.capacity();
+        if !self.is_cut || room < count || room > MOST_KEPT {
             return None;
         }
         self.lent = 0;
         self.start = 0;
-        let spent = mem::replace(&mut self.message.user, Octets::of(Vec::new(self.alloc)));
-        let mut memory = spent.into_vec();
-        if memory.capacity() < length || memory.capacity() > MOST_AGAIN {
-            return None;
-        }
+        let mut memory = mem::replace(&mut self.user, Vec::new(self.alloc));
         memory.clear();
         Some(memory)
     }
@@ -138,6 +132,6 @@ impl Cutter {
     pub fn lent(&self) -> &[u8]
         ensures { result.now ≡ self.now.lent }
     {
-        &self.message.user.as_slice()[self.lent..self.start]
+        &self.user[self.lent..self.start]
     }
 }

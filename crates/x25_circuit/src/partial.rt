@@ -1,5 +1,5 @@
 ghost use Rattle.std.specs.Prelude.{◌≡◌, ◌+◌, ◌<◌, ◌≤◌, ◌++◌, [], length, min, max, nat_le, replicate, vec_len};
-ghost use Rattle.std.specs.Prelude.{vec_capacity, IfNone, IfSome, Option, OnOk, OnErr, option_to_list};
+ghost use Rattle.std.specs.Prelude.{vec_capacity, IfNone, IfSome, Option, IfOk, OnOk, OnErr, option_to_list};
 
 use crate::codes::{MIXED_QUALIFIERS, PACKET_TOO_LONG};
 use crate::message::Message;
@@ -12,8 +12,7 @@ use x25_bits::Blanks;
 /// The most octets of user data in a data packet.
 const LONGEST_DATA: usize = 4096;
 
-/// The most buffers that were given back and stay: for the message that comes next, and for one that is sent or told
-/// beside it.
+/// The most buffers that were given back and stay: for the message that comes next, and for one that is sent beside it.
 const MOST_SPARE: usize = 2;
 
 /// The message of which some packets were taken: its qualifier, where it has begun, and its octets so far.
@@ -128,7 +127,7 @@ impl PartialMessage {
         self.grow(count)
     }
 
-    // .. for so many octets, for which there are too few places.
+    // Sets memory aside for so many octets, for which there are too few places.
     fn grow(&mut self, count: usize) -> Result<(), AllocError>
         requires few { count ≤ 4096 }
         requires missing { self.old.room < count }
@@ -186,7 +185,7 @@ impl PartialMessage {
         Message { q, user }
     }
 
-    // .. the octets that have come, and what is left of them isn't said.
+    // The octets that have come. What is left of them isn't said.
     fn taken_out(&mut self) -> Octets
         ensures { result ≡ self.old.part.user }
     {
@@ -206,16 +205,13 @@ impl PartialMessage {
         if self.places.len() > LONGEST_DATA {
             return None;
         }
-        if let Some(mut octets) = self.spare.again(self.filled) {
-            octets
-                .extend_from_slice(&self.places[..self.filled])
-                .unwrap();
-            return Some(octets);
-        }
-        match Vec::from_slice(self.alloc, &self.places[..self.filled]) {
-            Ok(octets) => Some(octets),
-            Err(AllocError) => None,
-        }
+        let Ok(mut octets) = self.memory(self.filled) else {
+            return None;
+        };
+        octets
+            .extend_from_slice(&self.places[..self.filled])
+            .unwrap();
+        Some(octets)
     }
 
     /// Takes memory of a message back, for a later one. It is let go of where it is for more than 4,096 octets, and
@@ -226,20 +222,24 @@ impl PartialMessage {
         self.spare.give_back(memory);
     }
 
-    /// Memory that was given back, for a message of so many octets, where there is some. What is too small for them is
-    /// let go of.
-    pub fn again(&mut self, count: usize) -> Option<Vec<u8>>
+    /// Memory for a message of so many octets: some that was given back, or else new. Err: no memory.
+    pub fn memory(&mut self, count: usize) -> Result<Vec<u8>, AllocError>
         ensures same { self.new ≡ self.old }
-        ensures empty { IfSome result (λ memory. memory.items ≡ []) }
-        ensures room { IfSome result (λ memory. count ≤ vec_capacity memory) }
+        ensures empty { IfOk result (λ memory. memory.items ≡ []) }
+        ensures room { IfOk result (λ memory. count ≤ vec_capacity memory) }
+        ensures most { IfOk result (λ memory. vec_capacity memory ≤ max count 4096) }
     {
-        self.spare.again(count)
+        match self.spare.again(count) {
+            Some(memory) => Ok(memory),
+            None => Vec::with_capacity(self.alloc, count),
+        }
     }
 
     // The octets that have come, with all memory that is kept.
     fn handed_over(&mut self) -> Vec<u8>
         ensures octets { result.items ≡ self.old.part.user }
         ensures short { vec_len result ≤ 65535 }
+        ensures most { vec_capacity result ≤ 69631 }
     {
         let mut octets = mem::replace(&mut self.places, Vec::new(self.alloc));
         octets.truncate(self.filled);

@@ -31,7 +31,7 @@ impl Model for Proposal {
 }
 
 impl Proposal {
-    /// These values, whatever they are: `call_with` and `accept_with` judge them. It takes no memory.
+    /// These values, whatever they are: the circuit judges them. It takes no memory.
     pub fn new(params: Params) -> Proposal
         ensures { result ≡ params }
     {

@@ -92,14 +92,16 @@ impl Queue {
         Some(self.cutter.cut(size))
     }
 
-    /// Memory of a message that was cut to its end, for one of so many octets, where there is some, as
-    /// `Cutter::spent_memory`.
-    pub fn spent_memory(&mut self, length: usize) -> Option<Vec<u8>>
+    /// Memory of a message that was cut to its end, for one of so many octets and for 4,096 at most, where it is. The
+    /// packet cut last isn't lent any more then.
+    pub fn spent_memory(&mut self, count: usize) -> Option<Vec<u8>>
         ensures same { waiting self.new ≡ waiting self.old }
+        ensures none { IfNone result (self.new ≡ self.old) }
         ensures empty { IfSome result (λ memory. memory.items ≡ []) }
-        ensures room { IfSome result (λ memory. length ≤ vec_capacity memory) }
+        ensures room { IfSome result (λ memory. count ≤ vec_capacity memory) }
+        ensures few { IfSome result (λ memory. vec_capacity memory ≤ 4096) }
     {
-        self.cutter.spent_memory(length)
+        self.cutter.spent_memory(count)
     }
 
     /// The user data of the packet cut last.

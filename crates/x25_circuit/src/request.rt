@@ -1,5 +1,5 @@
 //! What the user of a circuit asks for, as one type.
-ghost use Rattle.std.specs.Prelude.{◌≡◌, ◌≢◌, ◌≤◌, ◌<◌, Bool, ℕ, List, false, OnErr, IfOk, IfSome, IfNone, Some, None};
+ghost use Rattle.std.specs.Prelude.{◌≡◌, ◌≢◌, ◌≤◌, ◌<◌, Bool, ℕ, List, false, OnErr, IfOk, IfSome, IfNone, Some, None, IsErrOf};
 ghost use Rattle.std.specs.Prelude.{length};
 ghost use Rattle.x25_packet.specs.Packet.{plain};
 ghost use Rattle.x25_packet.specs.Spelling.{IsInRange};
@@ -10,7 +10,7 @@ ghost use Rattle.x25_circuit.specs.Calling.{ready_in};
 ghost use Rattle.x25_circuit.specs.code.FitsCircuit.{FitsCircuit, Sends, room_of, clears_of, resets_of};
 ghost use Rattle.x25_circuit.specs.Queue.{waiting};
 ghost use Rattle.x25_circuit.specs.Request.{plain_answer, plain_request, refusal_of, with_packet, AnswersRequest};
-ghost use Rattle.x25_circuit.specs.Request.{MayPut};
+ghost use Rattle.x25_circuit.specs.Request.{MayPut, MayLack};
 ghost use Rattle.x25_circuit.specs.code.Replies.{IsSendable, plain_sent};
 
 use crate::circuit::Circuit;
@@ -22,8 +22,8 @@ use crate::state::State;
 use crate::talking::INTERRUPT_OCTETS;
 use x25_packet::Packet;
 
-/// A call of the user of a circuit. Addresses and user data are borrowed; the octets of a message are handed over.
-#[derive(Debug, Drop)]
+/// A call of the user of a circuit. What it says is borrowed.
+#[derive(Clone, Copy, Debug)]
 pub enum Request<'a> {
     Call {
         called: &'a str,
@@ -38,7 +38,7 @@ pub enum Request<'a> {
     Clear,
     Send {
         q: bool,
-        user: Vec<u8>,
+        user: &'a [u8],
     },
     Interrupt {
         user: &'a [u8],
@@ -58,10 +58,15 @@ fn with_packet<'a>(
 }
 
 impl Circuit {
-    /// Does what is asked, as the call of that name. It answers the packet to send, where there is one.
+    /// Does what is asked. It answers the packet to send, where there is one.
     ///
-    /// Refused as that call, by 30, 31, 32, 33 or 34, and then the circuit is as before. None of these calls changes a
-    /// count.
+    /// 30 WrongState where the state doesn't allow it: a call outside of p1, an acceptance where no call came, a clear in
+    /// p1 and where this end's CLEAR isn't confirmed yet, and all others outside of p4 with d1. Then of a message 32
+    /// TooLong where it has more than 65,535 octets and 31 Full where 8 wait, of an interrupt 34 BadParameter where it
+    /// hasn't 1 to 32 octets and 33 InterruptOutstanding, of a call 34 BadParameter where an address isn't 0 to 15
+    /// digits, the user data is more than 16 octets (128 where it may be long), a packet size isn't 4 to 12 or a window
+    /// isn't 1 to 7, and of an acceptance 34 where a value isn't from the proposed one to the default. Else 70 alone,
+    /// and that for a message, which is copied. The circuit is as before then. No request changes a count.
     #[inline(always)]
     pub fn ask<'a>(&mut self, request: Request<'a>) -> Result<Option<Packet<'a>>, CircuitError>
         ensures outcome { (c : Settings) (x : Channel) → FitsCircuit c self.old x
@@ -72,6 +77,7 @@ impl Circuit {
         ensures clears { clears_of self.new ≡ clears_of self.old }
         ensures resets { resets_of self.new ≡ resets_of self.old }
         ensures unchanged { OnErr result (self.new ≡ self.old) }
+        ensures memory { IsErrOf result CircuitError.NoMemory → MayLack self.old (plain_request request.entry) }
     {
         match request {
             Request::Call {
@@ -79,8 +85,8 @@ impl Circuit {
                 calling,
                 user,
                 proposal,
-            } => with_packet(self.call_with(called, calling, user, proposal)),
-            Request::Accept { answer } => with_packet(self.accept_as(answer)),
+            } => with_packet(self.call(called, calling, user, proposal)),
+            Request::Accept { answer } => with_packet(self.accept(answer)),
             Request::Clear => with_packet(self.clear()),
             Request::Send { q, user } => {
                 self.send(q, user)?;
@@ -88,24 +94,8 @@ impl Circuit {
             }
             Request::Interrupt { user } => with_packet(self.interrupt(user)),
             Request::Reset => with_packet(self.reset()),
-            Request::Ready => with_packet(self.ready()),
-            Request::NotReady => with_packet(self.not_ready()),
-        }
-    }
-
-    // Accepts with this answer, where there is one.
-    fn accept_as<'a>(&mut self, answer: Option<&'a Proposal>) -> Result<Packet<'a>, CircuitError>
-        ensures outcome { (c : Settings) (x : Channel) → FitsCircuit c self.old x
-            → Sends c self.new result (outcome c x (Accepts (plain_answer answer.entry))) }
-        ensures range { IfOk result (λ packet. IsInRange 128 (plain packet)) }
-        ensures room { room_of self.old ≤ room_of self.new }
-        ensures clears { clears_of self.new ≡ clears_of self.old }
-        ensures resets { resets_of self.new ≡ resets_of self.old }
-        ensures unchanged { OnErr result (self.new ≡ self.old) }
-    {
-        match answer {
-            Some(answer) => self.accept_with(answer),
-            None => self.accept(),
+            Request::Ready => with_packet(self.say(true)),
+            Request::NotReady => with_packet(self.say(false)),
         }
     }
 
@@ -138,6 +128,7 @@ impl Circuit {
             → IfSome result (λ e. clear_in x x.state ≡ Refused e) }
         ensures not_free { IfNone result (self.now.state ≢ State.Free) }
         ensures not_clearing { IfNone result (self.now.state ≢ State.Clearing) }
+        ensures kinds { IfSome result (λ e. e ≢ CircuitError.NoMemory) }
     {
         match self.state {
             State::Free | State::Clearing => Some(CircuitError::WrongState),
@@ -145,9 +136,7 @@ impl Circuit {
         }
     }
 
-    /// Why `send` would refuse a message of so many octets now, if it would: 30 WrongState outside of p4 with d1, then
-    /// 32 TooLong, then 31 Full exactly where 8 messages wait.
-    pub fn send_refusal(&self, count: usize) -> Option<CircuitError>
+    pub(crate) fn send_refusal(&self, count: usize) -> Option<CircuitError>
         ensures refusal { (c : Settings) (x : Channel) (q : Bool) (user : List ℕ) → length user ≡ count
             → FitsCircuit c self.now x → result ≡ refusal_of (send_in c x x.state q user) }
         ensures refused { (c : Settings) (x : Channel) (q : Bool) (user : List ℕ) → length user ≡ count
@@ -155,6 +144,7 @@ impl Circuit {
         ensures open { IfNone result (self.now.state ≡ State.Open) }
         ensures short { IfNone result (count ≤ 65535) }
         ensures few { IfNone result (length (waiting self.now.transfer.queue) < 8) }
+        ensures kinds { IfSome result (λ e. e ≢ CircuitError.NoMemory) }
     {
         match self.state {
             State::Open if count > LONGEST_MESSAGE => Some(CircuitError::TooLong),
@@ -173,6 +163,7 @@ impl Circuit {
         ensures none_out { IfNone result (self.now.transfer.interrupt_out ≡ false) }
         ensures some { IfNone result (1 ≤ length user.now) }
         ensures short { IfNone result (length user.now ≤ 32) }
+        ensures kinds { IfSome result (λ e. e ≢ CircuitError.NoMemory) }
     {
         if self.state != State::Open {
             return Some(CircuitError::WrongState);
@@ -197,6 +188,7 @@ impl Circuit {
             → result ≡ refusal_of (reset_in x x.state) }
         ensures ready { (c : Settings) (x : Channel) (is_ready : Bool) → FitsCircuit c self.now x
             → result ≡ refusal_of (ready_in x x.state is_ready) }
+        ensures kinds { IfSome result (λ e. e ≢ CircuitError.NoMemory) }
     {
         match self.state {
             State::Open => None,

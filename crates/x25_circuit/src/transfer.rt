@@ -1,6 +1,6 @@
 ghost use Rattle.std.specs.Prelude.{◌≡◌, ℕ, ◌+◌, ◌%◌, ◌<◌, ◌≤◌, ◌==◌, nat_le, nat_lt, length, ◌∷◌, [], ◌++◌, true};
 ghost use Rattle.std.specs.Prelude.{false, IfOk, IfErr, OnOk, OnErr, OnSome, IfSome, IfNone, Bool, option_to_list};
-ghost use Rattle.std.specs.Prelude.{Some, None, if◌then◌else◌};
+ghost use Rattle.std.specs.Prelude.{Some, None, if◌then◌else◌, max, vec_capacity};
 ghost use Rattle.x25_window.specs.code.Modulo.{resolved};
 ghost use Rattle.x25_circuit.specs.code.FitsNumbers.{FitsNumbers};
 ghost use Rattle.x25_circuit.specs.Message.{piece_of, no_part, joining, completed, piece_ground, ground_of, cut};
@@ -12,10 +12,11 @@ ghost use Rattle.x25_circuit.specs.code.Changes.{with_own, with_sent};
 use crate::codes::INVALID_PS;
 use crate::error::CircuitError;
 use crate::message::Message;
+use crate::octets::Octets;
 use crate::partial::PartialMessage;
 use crate::queue::Queue;
 use crate::terms::Terms;
-use std::alloc::Global;
+use std::alloc::{AllocError, Global};
 use x25_bits::Seq;
 use x25_window::{Receiver, Sender};
 
@@ -139,14 +140,35 @@ impl Transfer {
         self.partial.join(q, m, user)
     }
 
-    /// Lets a message wait.
-    pub fn push(&mut self, message: Message)
-        requires { length (waiting self.old.queue) < 8 }
+    /// Lets a copy of a message wait. Err: no memory; all is as it was then.
+    pub fn push(&mut self, q: bool, user: &[u8]) -> Result<(), AllocError>
+        requires few { length (waiting self.old.queue) < 8 }
+        requires short { length user.now ≤ 65535 }
         ensures fits { (size : ℕ) (t : Talk) → FitsTalk size self.old t
-            → FitsTalk size self.new (with_rest (t.rest ++ cut size message.q message.user) t) }
+            → OnOk result (FitsTalk size self.new (with_rest (t.rest ++ cut size q user.now) t)) }
         ensures room { self.old.partial.room ≤ self.new.partial.room }
+        ensures unchanged { OnErr result (self.new ≡ self.old) }
     {
-        self.queue.push(message);
+        let mut copy = self.memory(user.len())?;
+        copy.extend_from_slice(user).unwrap();
+        let user = Octets::of(copy);
+        self.queue.push(Message { q, user });
+        Ok(())
+    }
+
+    // Memory for a message of so many octets: that of one that was cut to its end or given back, or else new.
+    fn memory(&mut self, count: usize) -> Result<Vec<u8>, AllocError>
+        ensures others { self.new ≡ record self.old { queue = self.new.queue } }
+        ensures waiting { waiting self.new.queue ≡ waiting self.old.queue }
+        ensures unchanged { OnErr result (self.new ≡ self.old) }
+        ensures empty { IfOk result (λ memory. memory.items ≡ []) }
+        ensures room { IfOk result (λ memory. count ≤ vec_capacity memory) }
+        ensures most { IfOk result (λ memory. vec_capacity memory ≤ max count 4096) }
+    {
+        match self.queue.spent_memory(count) {
+            Some(memory) => Ok(memory),
+            None => self.partial.memory(count),
+        }
     }
 
     /// Sends the next data packet, where the other end is ready, the window is open and a message waits. Its user data

@@ -8,6 +8,5 @@ mod play;
 #[cfg(test)]
 mod requests;
 #[cfg(test)]
-mod spent;
 #[cfg(test)]
 mod tests;

@@ -7,7 +7,8 @@ use std::alloc::{AllocError, Global};
 use std::process::Abort;
 use std::test::Fail;
 use x25_circuit::{
-    Circuit, CircuitError, DataPacket, Flow, Message, Notice, Params, Proposal, Reply, Role, Taken,
+    Circuit, CircuitError, DataPacket, Flow, Message, Notice, Params, Proposal, Reply, Request,
+    Role, Taken,
 };
 use x25_packet::{Digits, Packet, PacketError, Seq, decode};
 
@@ -213,9 +214,13 @@ fn taken_text(alloc: Global, taken: &Taken) -> Result<String, AllocError> {
     Ok(text)
 }
 
-fn sent_text(alloc: Global, sent: Result<Packet, CircuitError>) -> Result<String, AllocError> {
+fn sent_text(
+    alloc: Global,
+    sent: Result<Option<Packet>, CircuitError>,
+) -> Result<String, AllocError> {
     match sent {
-        Ok(packet) => packet_text(alloc, &packet),
+        Ok(Some(packet)) => packet_text(alloc, &packet),
+        Ok(None) => Ok(String::new(alloc)),
         Err(error) => refusal_text(alloc, error),
     }
 }
@@ -307,11 +312,17 @@ impl Player {
         Ok(text)
     }
 
+    // The user asks for this.
+    fn asks(&mut self, request: Request) -> Result<String, Fail> {
+        Ok(sent_text(self.alloc, self.circuit.ask(request))?)
+    }
+
     fn send(&mut self, q: bool, count: usize) -> Result<String, Fail> {
-        match self.circuit.send(q, vec![in self.alloc; 0u8; count]?) {
-            Ok(()) => Ok(String::new(self.alloc)),
-            Err(error) => Ok(refusal_text(self.alloc, error)?),
-        }
+        let user = vec![in self.alloc; 0u8; count]?;
+        self.asks(Request::Send {
+            q,
+            user: user.as_slice(),
+        })
     }
 
     fn pull(&mut self) -> Result<String, Fail> {
@@ -337,39 +348,47 @@ impl Player {
 
     fn interrupt(&mut self, count: usize) -> Result<String, Fail> {
         let user = vec![in self.alloc; 0u8; count]?;
-        Ok(sent_text(self.alloc, self.circuit.interrupt(user.as_slice()))?)
+        self.asks(Request::Interrupt {
+            user: user.as_slice(),
+        })
     }
 
-    fn call(&mut self, called: &str, calling: &str, count: usize) -> Result<String, Fail> {
+    fn call(
+        &mut self,
+        called: &str,
+        calling: &str,
+        count: usize,
+        values: [u8; 4],
+    ) -> Result<String, Fail> {
         let user = vec![in self.alloc; 0u8; count]?;
-        Ok(sent_text(
-            self.alloc,
-            self.circuit.call(called, calling, user.as_slice()),
-        )?)
-    }
-
-    fn call_with(&mut self, values: [u8; 4]) -> Result<String, Fail> {
         let proposal = proposal(values);
-        Ok(sent_text(self.alloc, self.circuit.call_with("1", "2", &[], &proposal))?)
+        self.asks(Request::Call {
+            called,
+            calling,
+            user: user.as_slice(),
+            proposal: &proposal,
+        })
     }
 
     fn accept_with(&mut self, values: [u8; 4]) -> Result<String, Fail> {
         let answer = proposal(values);
-        Ok(sent_text(self.alloc, self.circuit.accept_with(&answer))?)
+        self.asks(Request::Accept {
+            answer: Some(&answer),
+        })
     }
 
     fn happens(&mut self, event: Event) -> Result<String, Fail> {
         match event {
-            Call(called, calling, count) => self.call(called, calling, count),
-            CallWith(values) => self.call_with(values),
+            Call(called, calling, count) => self.call(called, calling, count, [7, 7, 2, 2]),
+            CallWith(values) => self.call("1", "2", 0, values),
             AcceptWith(values) => self.accept_with(values),
-            Accept => Ok(sent_text(self.alloc, self.circuit.accept())?),
-            Clear => Ok(sent_text(self.alloc, self.circuit.clear())?),
+            Accept => self.asks(Request::Accept { answer: None }),
+            Clear => self.asks(Request::Clear),
             Send(q, count) => self.send(q, count),
             Interrupt(count) => self.interrupt(count),
-            Reset => Ok(sent_text(self.alloc, self.circuit.reset())?),
-            Ready => Ok(sent_text(self.alloc, self.circuit.ready())?),
-            NotReady => Ok(sent_text(self.alloc, self.circuit.not_ready())?),
+            Reset => self.asks(Request::Reset),
+            Ready => self.asks(Request::Ready),
+            NotReady => self.asks(Request::NotReady),
             Pull => self.pull(),
             Take(text) => self.take(text),
             Data(s, r, m, q, count) => self.data(s, r, m, q, count),
@@ -422,6 +441,6 @@ pub fn play(
     before: &[Row],
     rows: &[Row],
 ) -> Result<(), Fail> {
-    let circuit = Circuit::new(alloc, role)?;
+    let circuit = Circuit::with(alloc, role, false)?;
     play_both(rt, &mut Player::new(alloc, circuit), before, rows)
 }

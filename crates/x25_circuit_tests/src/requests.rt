@@ -47,7 +47,7 @@ impl Proposals {
         }
     }
 
-    fn request(&self, alloc: Global, index: usize) -> Request<'_> {
+    fn request(&self, index: usize) -> Request<'_> {
         match index {
             0 => self.call("2", &self.usual),
             1 => self.call("a", &self.usual),
@@ -59,7 +59,7 @@ impl Proposals {
             5 => Request::Clear,
             6 => Request::Send {
                 q: false,
-                user: Vec::new(alloc),
+                user: &[],
             },
             7 => Request::Interrupt { user: b"1" },
             8 => Request::Interrupt { user: &[] },
@@ -79,9 +79,14 @@ impl Proposals {
     }
 }
 
+fn free(alloc: Global) -> Result<Circuit, CircuitError> {
+    Circuit::with(alloc, Role::Dte, false)
+}
+
 fn called(alloc: Global) -> Result<Circuit, CircuitError> {
-    let mut circuit = Circuit::new(alloc, Role::Dte)?;
-    circuit.call("1", "2", &[])?;
+    let mut circuit = free(alloc)?;
+    let proposals = Proposals::new();
+    circuit.ask(proposals.request(0))?;
     Ok(circuit)
 }
 
@@ -107,18 +112,13 @@ fn opened(alloc: Global) -> Result<Circuit, Fail> {
 // Why the request would be refused is told, and why it is refused is the same.
 fn is_refused(
     rt: &impl Abort,
-    alloc: Global,
     mut circuit: Circuit,
     (index, place): (usize, &str),
     wanted: Option<CircuitError>,
 ) {
     let proposals = Proposals::new();
-    let request = proposals.request(alloc, index);
+    let request = proposals.request(index);
     let told = circuit.refusal(&request);
-    if let Request::Send { user, .. } = &request {
-        let foreseen = circuit.send_refusal(user.len());
-        assert_eq!(rt; foreseen, wanted, "message {index} {place}, by its length");
-    }
     let refused = circuit.ask(request).err();
     assert_eq!(rt;
         (told, refused),
@@ -130,33 +130,26 @@ fn is_refused(
 #[test]
 fn a_request_is_refused_as_was_told(rt: HostRuntime) -> Result<(), Fail> {
     let alloc = rt.alloc();
-    for (index, &(free, calling, open)) in REFUSALS.iter().enumerate() {
-        let circuit = Circuit::new(alloc, Role::Dte)?;
-        is_refused(&rt, alloc, circuit, (index, "in p1"), free);
-        is_refused(
-            &rt,
-            alloc,
-            called(alloc)?,
-            (index, "of one that called"),
-            calling,
-        );
-        is_refused(&rt, alloc, opened(alloc)?, (index, "in p4"), open);
+    for (index, &(in_p1, calling, open)) in REFUSALS.iter().enumerate() {
+        is_refused(&rt, free(alloc)?, (index, "in p1"), in_p1);
+        is_refused(&rt, called(alloc)?, (index, "of one that called"), calling);
+        is_refused(&rt, opened(alloc)?, (index, "in p4"), open);
     }
     Ok(())
 }
 
 // A call that is asked for is answered by CALL.
-fn answers_call(rt: &impl Abort, alloc: Global, circuit: &mut Circuit) -> Result<(), CircuitError> {
+fn answers_call(rt: &impl Abort, circuit: &mut Circuit) -> Result<(), CircuitError> {
     let proposals = Proposals::new();
-    let packet = circuit.ask(proposals.request(alloc, 0))?;
+    let packet = circuit.ask(proposals.request(0))?;
     assert!(rt; matches!(&packet, Some(Packet::Call { channel: 1, .. })));
     Ok(())
 }
 
 // A message that is asked for waits.
-fn lets_wait(rt: &impl Abort, alloc: Global, circuit: &mut Circuit) -> Result<(), CircuitError> {
+fn lets_wait(rt: &impl Abort, circuit: &mut Circuit) -> Result<(), CircuitError> {
     let proposals = Proposals::new();
-    let packet = circuit.ask(proposals.request(alloc, 6))?;
+    let packet = circuit.ask(proposals.request(6))?;
     assert!(rt; packet.is_none());
     assert_eq!(rt; circuit.waits(), 1);
     Ok(())
@@ -164,7 +157,7 @@ fn lets_wait(rt: &impl Abort, alloc: Global, circuit: &mut Circuit) -> Result<()
 
 #[test]
 fn an_asked_call_answers_call(rt: HostRuntime) -> Result<(), Fail> {
-    answers_call(&rt, rt.alloc(), &mut Circuit::new(rt.alloc(), Role::Dte)?)?;
-    lets_wait(&rt, rt.alloc(), &mut opened(rt.alloc())?)?;
+    answers_call(&rt, &mut free(rt.alloc())?)?;
+    lets_wait(&rt, &mut opened(rt.alloc())?)?;
     Ok(())
 }

@@ -68,34 +68,17 @@ pub fn station_command<'a>(command: &Command<'a>, user: &'a [u8]) -> Cmd<'a>
         Command::Call {
             called,
             calling,
-            params: None,
+            params,
             ..
         } => Cmd::Call {
             called,
             calling,
             user,
+            params: *params,
         },
-        Command::Call {
-            called,
-            calling,
-            params: Some(proposed),
-            ..
-        } => Cmd::CallWith {
-            called,
-            calling,
-            user,
-            params: *proposed,
-        },
-        Command::Accept {
-            channel,
-            params: None,
-        } => Cmd::Accept { channel: *channel },
-        Command::Accept {
-            channel,
-            params: Some(answer),
-        } => Cmd::AcceptWith {
+        Command::Accept { channel, params } => Cmd::Accept {
             channel: *channel,
-            params: *answer,
+            params: *params,
         },
         Command::Clear { channel } => Cmd::Clear { channel: *channel },
         Command::Send { channel, q, .. } => Cmd::Send {

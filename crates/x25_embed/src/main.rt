@@ -110,11 +110,15 @@ fn call(dte: &mut End, dce: &mut End) -> Result<(), Trouble> {
         called: "123",
         calling: "4567",
         user: b"A",
+        params: None,
     })?;
     dte.out.next();
     dte.fire()?;
     deliver_all(dte, dce)?;
-    dce.ask(Cmd::Accept { channel: 1 })?;
+    dce.ask(Cmd::Accept {
+        channel: 1,
+        params: None,
+    })?;
     deliver_all(dte, dce)
 }
 

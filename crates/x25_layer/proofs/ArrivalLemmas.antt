@@ -61,7 +61,7 @@ open_circuit a x is = side x.epoch x.side is
     side e (Live c) opened = phase e c c.phase opened
     side e (Left c) opened = absurd (false_true opened)
 
--- .. of an end
+-- a channel of an end that is open
 pub record OpenEnd (e : End) (s : Side (At Channels)) (k : ℕ) : Type 0 where
   pub stretch : Stretch
   pub opened : open_at s k ≡ Some stretch

@@ -1,11 +1,12 @@
 -- The calls of the user: the circuit of a channel is asked, and its packet goes on that channel.
-use Rattle.std.proofs.Common.{◌≡◌, ℕ, suc, ◌-◌, ◌<◌, ◌≤◌, List, [], length, Option, Some, None, Bool, true, false, nat_le, ◌==◌, if◌then◌else◌, get_or, set, refl, sym, ap, subst, ◌∙◌, arith, Result, Ok, Err, IsErrAnd}
+use Rattle.std.proofs.Common.{◌≡◌, ◌≢◌, ℕ, suc, ◌-◌, ◌<◌, ◌≤◌, List, [], length, Option, Some, None, Bool, true, false, nat_le, ◌==◌, if◌then◌else◌, get_or, set, refl, sym, ap, subst, ◌∙◌, arith, Result, Ok, Err, IsErrAnd}
 use Rattle.std.proofs.Math.ListN.{length-set}
 use Rattle.std.proofs.lemmas.Bool.{leb-true, and_parts}
 use Rattle.x25_packet.specs.declared.packet.Packet.{Packet}
 use Rattle.x25_packet.specs.Packet.{PlainPacket}
 use Rattle.x25_circuit.specs.declared.circuit.Circuit as circuit_code
 use Rattle.x25_circuit.specs.declared.error.CircuitError.{CircuitError}
+use Rattle.x25_circuit.specs.declared.error.CircuitError.TheVariants as circuit_error
 use Rattle.x25_circuit.specs.Circuit.{Settings, Circuit, waits}
 use Rattle.x25_circuit.specs.declared.params.Params.{Params}
 use Rattle.x25_circuit.specs.Calling.{Outcome, Done, Refused, Request, Calls, outcome}
@@ -15,12 +16,14 @@ use Rattle.x25_circuit.specs.code.FitsCircuit.{FitsCircuit}
 use Rattle.x25_layer.specs.declared.layer.Layer as code
 use Rattle.x25_layer.specs.declared.error.LayerError.{LayerError}
 use Rattle.x25_layer.specs.declared.error.LayerError.TheVariants as error
+use Rattle.x25_layer.specs.Error.{of_circuit}
 use Rattle.x25_layer.specs.Layer.{LayerSettings, Layer, is_channel, put_at, packet_on, is_ready}
 use Rattle.x25_layer.specs.Calls.{Asks, Dials, LayerOutcome, Accepted, Declined, free_channel, puts_at_once, where_room, if_at_once, dialled, outcome_in, layer_outcome, outcome_on}
 use Rattle.x25_layer.specs.Rounds.{LinkView, Answered, Went, Refuses, went, calls}
 use Rattle.x25_layer.specs.code.FitsLayer.{FitsCircuits, FitsLayer}
-use Rattle.x25_layer.specs.code.OverLink.{LayerGives, LinkGives}
-use Rattle.x25_layer.specs.Asking.{with_circuit, AsksCircuit, error_without_memory, call_refusal}
+use Rattle.x25_link.specs.declared.ordered_link.OrderedLink.{Ghosts}
+use Rattle.x25_layer.specs.code.OverLink.{LayerGives, LinkGives, LacksMemory, MayLack, Does, view_of}
+use Rattle.x25_layer.specs.Asking.{with_circuit, AsksCircuit, error_without_memory}
 use Rattle.x25_layer.proofs.FitLemmas.{read_at}
 use Rattle.x25_layer.proofs.PullLemmas.{fits_put, fits_same}
 use Rattle.x25_layer.proofs.SettleLemmas.{not_same}
@@ -77,9 +80,35 @@ pub asks_ok : (c : LayerSettings) (v v₂ : code.Layer) (l : Layer) (h i : ℕ) 
 asks_ok c v v₂ l h i y packet (Done next p) fits at like items a = (layer_put c v v₂ l h i y next fits at like items a.0, a.1)
 asks_ok c v v₂ l h i y packet (Refused e) fits at like items a = cc
 
-pub asks_err : (c : LayerSettings) (v : code.Layer) (l : Layer) (h : ℕ) (y : circuit_code.Circuit) (e : CircuitError) (o : Outcome) → AnswersRequest c.circuit y (Err e) o → AsksCircuit c v (Err (error.Circuit e)) l h o
-asks_err c v l h y e (Done next p) a = absurd a
-asks_err c v l h y e (Refused f) a = cc
+named : (e : CircuitError) → (e ≡ circuit_error.NoMemory → ⊥) → of_circuit e ≡ error.Circuit e
+named circuit_error.WrongState other = refl
+named circuit_error.Full other = refl
+named circuit_error.TooLong other = refl
+named circuit_error.InterruptOutstanding other = refl
+named circuit_error.BadParameter other = refl
+named circuit_error.NoMemory other = absurd (other refl)
+
+circuit_err_is : (e f : CircuitError) → ◌≡◌ {A = Result (Option Packet) CircuitError} (Err e) (Err f) → e ≡ f
+circuit_err_is e f same = cc
+
+some_is_none : (e : CircuitError) → refusal_of (Refused e) ≡ None → ⊥
+some_is_none e is = cc
+
+-- want of memory of the layer is that of its circuit
+pub memory_is : (e : CircuitError) → of_circuit e ≡ error.NoMemory → e ≡ circuit_error.NoMemory
+memory_is circuit_error.WrongState is = absurd (cc)
+memory_is circuit_error.Full is = absurd (cc)
+memory_is circuit_error.TooLong is = absurd (cc)
+memory_is circuit_error.InterruptOutstanding is = absurd (cc)
+memory_is circuit_error.BadParameter is = absurd (cc)
+memory_is circuit_error.NoMemory is = refl
+
+pub asks_err : (c : LayerSettings) (v : code.Layer) (l : Layer) (h : ℕ) (y : circuit_code.Circuit) (e : CircuitError) (o : Outcome) → AnswersRequest c.circuit y (Err e) o → (e ≡ circuit_error.NoMemory → refusal_of o ≡ None)
+    → AsksCircuit c v (Err (of_circuit e)) l h o
+asks_err c v l h y e (Done next p) a accepted = ap of_circuit a
+asks_err c v l h y e (Refused f) a accepted =
+    let same : e ≡ f = circuit_err_is e f a in
+    ap (λ (x : LayerError). Err x) (ap of_circuit same ∙ named f (λ none. some_is_none f (accepted (same ∙ none))))
 
 -- the layer after an accepted call, before the pulls
 pub record IsAccepted (c : LayerSettings) (v : code.Layer) (l : Layer) (h : ℕ) (packet : Option Packet) (o : Outcome) : Type 0 where
@@ -99,13 +128,13 @@ is_accepted c v l h packet (Refused e) ready a = cc
 pub declined_layer : {T : Type 0} (r : Result T LayerError) (c : LayerSettings) (view : LinkView) (v v₂ : code.Layer) (l : Layer) (h : ℕ) (e : LayerError) (o : Outcome) → AsksCircuit c v (Err e) l h o → IsErrAnd r (λ f. f ≡ e)
     → LayerGives c v₂ r (went view c (outcome_on l.restarts l.circuits h o))
 declined_layer (Ok x) c view v v₂ l h e o a is = absurd is
-declined_layer (Err f) c view v v₂ l h e (Done next p) a is = absurd a
+declined_layer (Err f) c view v v₂ l h e (Done next p) a is = is ∙ a
 declined_layer (Err f) c view v v₂ l h e (Refused d) a is = cc
 
 pub declined_link : {T X : Type 0} (r : Result T LayerError) (fits : X → Type 0) (after : X → List ℕ → X) (x : X) (c : LayerSettings) (view : LinkView) (v : code.Layer) (l : Layer) (h : ℕ) (e : LayerError) (o : Outcome) → AsksCircuit c v (Err e) l h o
     → IsErrAnd r (λ f. f ≡ e) → LinkGives fits after x r (went view c (outcome_on l.restarts l.circuits h o))
 declined_link (Ok y) fits after x c view v l h e o a is = absurd is
-declined_link (Err f) fits after x c view v l h e (Done next p) a is = absurd a
+declined_link (Err f) fits after x c view v l h e (Done next p) a is = tt
 declined_link (Err f) fits after x c view v l h e (Refused d) a is = cc
 
 -- where memory is missing
@@ -147,16 +176,6 @@ asked_goes view c l h request up ready is free =
     at_once true puts = ap (λ (b : Bool). went view c (where_room b good)) (not_same (view.waits []) 256 (free puts))
     at_once false puts = refl
 
--- .. which refuses it
-pub declined_on : (o : Outcome) (restarts : ℕ) (circuits : ℕ → Circuit) (h : ℕ) (e : CircuitError) → Some e ≡ refusal_of o → outcome_on restarts circuits h o ≡ Declined (error.Circuit e)
-declined_on (Done next p) restarts circuits h e is = absurd (cc)
-declined_on (Refused f) restarts circuits h e is = cc
-
--- .. or doesn't
-pub goes_on : (view : LinkView) (c : LayerSettings) (o : Outcome) (restarts : ℕ) (circuits : ℕ → Circuit) (h : ℕ) → None ≡ refusal_of o → None ≡ call_refusal (went view c (outcome_on restarts circuits h o))
-goes_on view c (Done next p) restarts circuits h is = refl
-goes_on view c (Refused f) restarts circuits h is = cc
-
 -- ---- a new call
 
 -- where nothing of the link or layer refuses it, the circuit of the free channel is asked
@@ -169,7 +188,7 @@ dial_goes view c l called calling user params h up ready is free =
     ∙ ap (λ (o : Option ℕ). went view c (dialled c f l.restarts l.circuits o called calling user params)) is
     ∙ ap (λ (b : Bool). went view c (where_room b (outcome_on l.restarts l.circuits h (outcome c.circuit (l.circuits h) (Calls called calling user params))))) (not_same (view.waits []) 256 free)
 
-err_is : {T : Type 0} (e f : LayerError) → ◌≡◌ {A = Result T LayerError} (Err e) (Err f) → e ≡ f
+pub err_is : {T : Type 0} (e f : LayerError) → ◌≡◌ {A = Result T LayerError} (Err e) (Err f) → e ≡ f
 err_is e f same = cc
 
 -- a refusal answers no channel either
@@ -180,3 +199,35 @@ dial_err_layer c v e (Refuses f) g = ap (λ (x : LayerError). Err x) (err_is e f
 pub dial_err_link : {X : Type 0} (fits : X → Type 0) (after : X → List ℕ → X) (x : X) (e : LayerError) (a : Answered) → LinkGives {T = Unit {0}} fits after x (Err e) a → LinkGives {T = ℕ} fits after x (Err e) a
 dial_err_link fits after x e (Went s) g = g
 dial_err_link fits after x e (Refuses f) g = ap (λ (x : LayerError). Err x) (err_is e f g)
+
+-- an error that is handed on
+pub same_err : {T : Type 0} (r : Result T LayerError) (e f : LayerError) → IsErrAnd r (λ x. x ≡ e) → r ≡ Err f → e ≡ f
+same_err (Ok x) e f is same = absurd is
+same_err (Err g) e f is same = sym is ∙ err_is g f same
+
+-- ---- where memory may be missing
+
+pub may_lack : (b : Bool) (count : ℕ) (v : code.Layer) (n : ℕ) → LacksMemory count v n → MayLack b count v n
+may_lack true count v n lacks = tt
+may_lack false count v n lacks = lacks
+
+pub may_copy : (b : Bool) (count : ℕ) (v : code.Layer) (n : ℕ) → b ≡ true → MayLack b count v n
+may_copy true count v n copies = tt
+may_copy false count v n copies = absurd (cc)
+
+-- ---- a refusal that is known before anything is done
+
+pub refuses_all : {D : Type 0} (T : Type 0) (g : Ghosts D) (v : code.Layer) (below : D) (e : LayerError) (count : ℕ) (copied : Bool) (said : LinkView → LayerSettings → Layer → Answered) → e ≢ error.NoMemory
+    → ((c : LayerSettings) (l : Layer) (x : g.State) → FitsLayer c v l → g.fits below x → said (view_of g.up_in g.waits_in g.after_put x) c l ≡ Refuses e) → Does {T = T} g v below v below (Err e) count copied said
+refuses_all T g v below e count copied said named is = record {
+  layer = λ c l x fits link. subst (λ (a : Answered). LayerGives {T = T} c v (Err e) a) (sym (is c l x fits link)) refl;
+  link = λ c l x fits link. subst (λ (a : Answered). LinkGives {T = T} (g.fits below) g.after_put x (Err e) a) (sym (is c l x fits link)) refl;
+  layer_stays = λ c l fits. fits;
+  link_stays = λ x fits. fits;
+  longest = refl;
+  missing = λ none. absurd (named (err_is e error.NoMemory none));
+  most_memory = omega arith;
+  most_spares = omega arith;
+  room = λ len has still. has;
+  room_stays = λ len has. has;
+}

@@ -167,7 +167,7 @@ run_more : (long_data : Bool) (channels : ℕ) (es : List Event) (e : Event) (w 
 run_more long_data channels [] e w = refl
 run_more long_data channels (x ∷ es) e w = run_more long_data channels es e (happens long_data channels w x)
 
--- .. behind those that came before
+-- the names are counted behind these events, where they were behind those before
 run_counted : (long_data : Bool) (channels : ℕ) → Always NoClearComesInP1 long_data channels → (done es : List Event) → NamesAreCounted (run long_data channels done (start long_data channels))
     → NamesAreCounted (run long_data channels (done ++ es) (start long_data channels))
 run_counted long_data channels front done [] h = subst (λ (l : List Event). NamesAreCounted (run long_data channels l (start long_data channels))) (sym (append-nil done)) h

@@ -29,7 +29,7 @@ get_push (x ∷ xs) y v (suc k) is = next (get_push xs y v k is)
     next (inl e) = inl e
     next (inr p) = inr (ap suc p.0, p.1)
 
--- .. with one changed
+-- what is read of a list with one changed
 pub get_changed : {X : Type 0} (xs : List X) (y v : X) (i k : ℕ) → slice_get (set xs i y) k ≡ Some v → ((k ≡ i) × (y ≡ v)) ⊎ ((k ≡ i → ⊥) × (slice_get xs k ≡ Some v))
 get_changed [] y v i k is = absurd (none-some v is)
 get_changed (x ∷ xs) y v zero zero is = inl (refl, same_Some y v is)
@@ -121,7 +121,7 @@ changed_more c n vs f g y b fit = record {
     over k v least (inl p) = let same : k ≡ n = p.0 in absurd (omega (arith, least, same))
     over k v least (inr p) = b.above k v (let e : n ≤ k = omega (arith, least) in e) p.1
 
--- .. where that is all of them
+-- all are changed where those below are all of them
 pub changed_all : (c : LayerSettings) (n : ℕ) (vs : List circuit_code.Circuit) (f g : ℕ → Circuit) → ChangedBelow c n vs f g → length vs ≤ n → FitsCircuits c vs g
 changed_all c n vs f g b high k v is = let low : k < length vs = slice_get_within vs k v is in b.below k v (let e : k < n = omega (arith, low, high) in e) is
 
@@ -137,7 +137,7 @@ fits_found c v l h x fits low is =
     let same : suc (h - 1) ≡ h = omega (arith, low) in
     subst (λ (k : ℕ). FitsCircuit c.circuit x (l.circuits k)) same (fits.circuits (h - 1) x is)
 
--- .. by a look-up in the vector
+-- the same, by a look-up in the vector
 pub looked_up : (c : LayerSettings) (v : code.Layer) (l : Layer) (h : ℕ) (xs : List circuit_code.Circuit) (o : Option (Bor circuit_code.Circuit)) (Y : Bor circuit_code.Circuit → Type 0) → FitsLayer c v l → 1 ≤ h → xs ≡ v.circuits.items
     → IfSome o (λ x. x.now ≡ get_or xs (h - 1) x.now) → MatchOption o (length xs ≤ h - 1) (λ x. (h - 1 < length xs) × Y x) → IfSome o (λ x. FitsCircuit c.circuit x.now (l.circuits h))
 looked_up c v l h xs None Y fits low same read within = tt
@@ -179,7 +179,7 @@ below_next {X} P xs i y at below here k v low is = by (k == i) refl
         subst P (same_Some y v (sym at ∙ ap (λ (n : ℕ). slice_get xs n) (sym same) ∙ is)) here
     by false e = below k v (let differs : k ≡ i → ⊥ = λ same. absurd (not_false (sym (eq-eqb k i same) ∙ e)) in let less : k < i = grind (arith, low, differs) in less) is
 
--- .. with that one changed
+-- one more below, where that one is changed
 pub below_changed : {X : Type 0} (P : X → Type 0) (xs : List X) (i : ℕ) (y : X) → ((k : ℕ) (v : X) → k < i → slice_get xs k ≡ Some v → P v) → P y → (k : ℕ) (v : X) → k < i + 1 → slice_get (set xs i y) k ≡ Some v → P v
 below_changed P xs i y below here k v low is = by (get_changed xs y v i k is)
   where

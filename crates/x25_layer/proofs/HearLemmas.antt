@@ -155,7 +155,7 @@ pub of_channel : (most : ℕ) (octets : List ℕ) (read : Result Packet PacketEr
 of_channel most octets (Ok packet) has fault = has
 of_channel most octets (Err e) has fault = error_reads most octets e fault
 
--- .. by what was read
+-- what a channel hears, by what was read
 pub hears_read : (most : ℕ) (c : LayerSettings) (l : Layer) (octets : List ℕ) (h : ℕ) (read : Result Packet PacketError) → IsOfChannel (plain_read read) → channel_in octets ≡ Some h → Gives read (packet_of most octets)
     → IfOk read (λ v. Spells most (plain v) octets) → answer_to c l octets (packet_of most octets) ≡ hears_on c l l.restarting h (plain_read read)
 hears_read most c l octets h (Ok packet) has at exact found = hears_packet most c l octets h (plain packet) has found at exact

@@ -35,7 +35,7 @@ pub data TurnOf (k : ℕ) (x y : At Channels) (h : Handed) : Type 0 where
   Here : y.epoch ≡ x.epoch → Notes (circuit_at x k) (circuit_at y k) h → TurnOf k x y h
   Afresh : x.epoch < y.epoch → held_of (circuit_at y k) ≡ nothing_handed → h ≡ nothing_handed → TurnOf k x y h
 
--- .. and all of it stands under the name after the step
+-- the same on each channel, and all of it stands under the name after the step
 abbrev pub StepOf : At Channels → At Channels → List Entry → Type 0
 StepOf x y es = (k : ℕ) → (h : Handed) × TurnOf k x y h × ((m : Name) → under k m es ≡ (if same_name m (present y k) then h else nothing_handed))
 

@@ -182,7 +182,7 @@ begun_backlog (suc n) = let e : backlog (λ k. begun) n ≡ 0 = begun_backlog n 
 pub comes_up_alone : ComesUpAlone
 comes_up_alone link c = ap (λ (n : ℕ). rounds_of n link c (begin (goes_up c).next (goes_up c).owed)) (begun_backlog c.channels)
 
--- .. and neither have those that forget
+-- those that forget have none to send either
 forgotten_backlog : (f : ℕ → Circuit) (n : ℕ) → backlog (λ k. forgotten (f k)) n ≡ 0
 forgotten_backlog f zero = refl
 forgotten_backlog f (suc n) = let e : backlog (λ k. forgotten (f k)) n ≡ 0 = forgotten_backlog f n in omega (arith, e)

@@ -81,7 +81,7 @@ put_sees channels w j l o es s error sees next owed quiet = record {
   order = record { near = ap (λ l. l ++ o) sees.order.near ∙ append_assoc w.far.taken w.out o; far = sees.order.far };
 }
 
--- .. after a packet was handed up
+-- after a packet was handed up
 answered_sees : (channels : ℕ) (w : TwoLayers) (j : Pair) (p : PlainPacket) (K : List PlainPacket) (a : LayerAnswer) (s : LayerStep) (error : Option ℕ) → Sees channels w j → w.back ≡ p ∷ K
     → (z : At Channels) → FollowsLayer channels a z s
     → Sees channels (answered w p K a) (record { near = Live s.next; far = j.far; out = j.out ++ s.out; back = bare_layers K; error = error })

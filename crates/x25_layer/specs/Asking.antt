@@ -1,5 +1,5 @@
 -- What the circuit of a channel answers to the user of its layer.
-use Rattle.std.specs.Prelude.{◌≡◌, ℕ, Option, Some, None, Result, Err, IsOkAnd, if◌then◌else◌}
+use Rattle.std.specs.Prelude.{◌≡◌, ℕ, Option, Result, Err, MatchResult, if◌then◌else◌}
 use Rattle.x25_packet.specs.declared.packet.Packet.{Packet}
 use Rattle.x25_circuit.specs.Circuit.{Circuit}
 use Rattle.x25_circuit.specs.Calling.{Outcome, Done, Refused}
@@ -15,18 +15,13 @@ use Rattle.x25_layer.specs.code.FitsLayer.{FitsLayer}
 abbrev pub with_circuit : Layer → ℕ → Circuit → Layer
 with_circuit l h x = record { restarting = l.restarting; restarts = l.restarts; circuits = put_at l.circuits h x }
 
--- the circuit has done what was asked and answers this packet, or it refused
+-- the circuit has done what was asked and answers this packet, or memory is missing; or it refused
 abbrev pub AsksCircuit : LayerSettings → code.Layer → Result (Option Packet) LayerError → Layer → ℕ → Outcome → Type 0
-AsksCircuit c v result l h (Done next packet) = IsOkAnd result (λ p. FitsLayer c v (with_circuit l h next)
-    × (plain_sent p ≡ packet))
+AsksCircuit c v result l h (Done next packet) =
+    MatchResult result (λ p. FitsLayer c v (with_circuit l h next) × (plain_sent p ≡ packet)) (λ e. e ≡ error.NoMemory)
 AsksCircuit c v result l h (Refused e) = result ≡ Err (error.Circuit e)
 
 -- where memory is missing: a refusal of the circuit goes before 70
 abbrev pub error_without_memory : Outcome → LayerError
 error_without_memory (Done next packet) = error.NoMemory
 error_without_memory (Refused e) = error.Circuit e
-
--- why a call is refused, if it is
-abbrev pub call_refusal : Answered → Option LayerError
-call_refusal (Went s) = None
-call_refusal (Refuses e) = Some e

@@ -6,6 +6,7 @@ use Rattle.x25_packet.specs.Packet.{PlainPacket, restart}
 use Rattle.x25_circuit.specs.declared.params.Params.{Params}
 use Rattle.x25_circuit.specs.Circuit.{Circuit, is_free}
 use Rattle.x25_circuit.specs.Calling.{Outcome, Done, Refused, Request, Calls, Sends, outcome, Pulled, pulled}
+use Rattle.x25_circuit.specs.Request.{is_message}
 use Rattle.x25_layer.specs.declared.error.LayerError.{LayerError}
 use Rattle.x25_layer.specs.declared.error.LayerError.TheVariants as error
 use Rattle.x25_layer.specs.Layer.{LayerSettings, Layer, is_channel, put_at, packet_on, is_ready, restarting_from}
@@ -32,7 +33,7 @@ abbrev pub lowest_free : (ℕ → Circuit) → ℕ → Option ℕ
 lowest_free circuits zero = None
 lowest_free circuits (suc n) = first_of (lowest_free circuits n) (is_free (circuits (suc n))) (suc n)
 
--- .. and the highest
+-- the highest of them
 abbrev pub highest_free : (ℕ → Circuit) → ℕ → Option ℕ
 highest_free circuits zero = None
 highest_free circuits (suc n) = if is_free (circuits (suc n)) then Some (suc n) else highest_free circuits n
@@ -47,6 +48,11 @@ free_channel Dce circuits channels = lowest_free circuits channels
 abbrev pub puts_at_once : Request → Bool
 puts_at_once (Sends q user) = false
 puts_at_once request = true
+
+-- a message is copied
+abbrev pub copies : LayerRequest → Bool
+copies (Asks h request) = is_message request
+copies request = false
 
 abbrev pub where_room : Bool → LayerOutcome → LayerOutcome
 where_room true good = Declined error.QueueFull

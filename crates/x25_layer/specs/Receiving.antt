@@ -32,7 +32,7 @@ circuit_hears c x (Err e) = undecoded c x e
 abbrev pub channel_hears : LayerSettings → Layer → ℕ → Result PlainPacket PacketError → LayerAnswer
 channel_hears c l h read = answers_on l.restarts l.circuits h (circuit_hears c.circuit (l.circuits h) read)
 
--- .. and where the layer isn't, or has no such channel, they are dropped
+-- where the layer isn't ready, or has no such channel, they are dropped
 abbrev pub hears_on : LayerSettings → Layer → Bool → ℕ → Result PlainPacket PacketError → LayerAnswer
 hears_on c l true h read = drops true l.restarts l.circuits
 hears_on c l false h read = if is_channel c.channels h then channel_hears c l h read

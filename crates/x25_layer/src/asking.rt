@@ -1,17 +1,16 @@
-//! What the user asks of the circuit of a channel: the steps that all calls with a channel share.
-ghost use Rattle.std.specs.Prelude.{◌≡◌, ◌≢◌, ℕ, Bool, ◌<◌, ◌≤◌, ◌&&◌, ◌==◌, length, List, [], true, false};
-ghost use Rattle.std.specs.Prelude.{vec_capacity, IfErr, IfOk, IfSome, OnErr};
-ghost use Rattle.x25_circuit.specs.Calling.{outcome, Sends};
+//! What the user asks of the circuit of a channel: the steps that the calls with a channel share.
+ghost use Rattle.std.specs.Prelude.{◌≡◌, ◌≢◌, ℕ, ◌<◌, ◌≤◌, length, true, false, IfOk, IfSome, IfNone};
+ghost use Rattle.std.specs.Prelude.{OnErr, IsErrOf};
+ghost use Rattle.x25_circuit.specs.Calling.{outcome};
 ghost use Rattle.x25_circuit.specs.code.Replies.{IsSendable, plain_sent};
-ghost use Rattle.x25_circuit.specs.Request.{plain_request, MayPut};
-ghost use Rattle.x25_circuit.specs.declared.params.Params.{Params};
+ghost use Rattle.x25_circuit.specs.Request.{plain_request, is_message, MayPut};
 ghost use Rattle.x25_layer.specs.Layer.{LayerSettings, is_channel};
 ghost use Rattle.x25_layer.specs.Layer.{Layer as State};
-ghost use Rattle.x25_layer.specs.Calls.{Asks, Dials, puts_at_once, outcome_on};
+ghost use Rattle.x25_layer.specs.Calls.{LayerRequest, puts_at_once, outcome_on};
 ghost use Rattle.x25_layer.specs.Rounds.{Refuses, calls, went};
 ghost use Rattle.x25_layer.specs.code.FitsLayer.{FitsLayer};
-ghost use Rattle.x25_layer.specs.code.OverLink.{Answers, Does, view_of};
-ghost use Rattle.x25_layer.specs.Asking.{AsksCircuit, error_without_memory, call_refusal};
+ghost use Rattle.x25_layer.specs.code.OverLink.{Does, view_of};
+ghost use Rattle.x25_layer.specs.Asking.{AsksCircuit, error_without_memory};
 ghost use Rattle.x25_layer.specs.Room.{HaveRoom};
 
 use crate::error::LayerError;
@@ -21,14 +20,33 @@ use x25_circuit::Request;
 use x25_link::OrderedLink;
 use x25_packet::Packet;
 
-// All but a message put a packet at once.
-fn puts_at_once(request: &Request<'_>) -> bool
+/// All but a message put a packet at once.
+pub(crate) fn puts_at_once(request: &Request<'_>) -> bool
     ensures { result ≡ puts_at_once (plain_request request.now) }
 {
     !matches!(request, Request::Send { .. })
 }
 
 impl Layer {
+    /// Why no call of the user is accepted now, whatever it asks: 9 NotUp, then 40 Restarting.
+    #[inline(always)]
+    pub(crate) fn unready<L: OrderedLink>(&self, link: &L) -> Option<LayerError>
+        ensures refused { (c : LayerSettings) (l : State) (x : L.State) (request : LayerRequest)
+            → FitsLayer c self.now l → L.fits link.now x
+            → IfSome result (λ e. calls (view_of L.up_in L.waits_in L.after_put x) c l request ≡ Refuses e) }
+        ensures kinds { IfSome result (λ e. e ≢ LayerError.NoMemory) }
+        ensures up { IfNone result (L.up link.now ≡ true) }
+        ensures ready { IfNone result (self.now.restarting ≡ false) }
+    {
+        if !link.is_up() {
+            return Some(LayerError::NotUp);
+        }
+        if self.restarting {
+            return Some(LayerError::Restarting);
+        }
+        None
+    }
+
     // The circuit of a channel does what is asked.
     #[inline(always)]
     fn ask_circuit<'a>(
@@ -46,13 +64,13 @@ impl Layer {
         ensures room { (len : ℕ) → HaveRoom len self.old.circuits.items → HaveRoom len self.new.circuits.items }
         ensures fits { (c : LayerSettings) (l : State) → FitsLayer c self.old l
             → OnErr result (FitsLayer c self.new l) }
-        ensures kinds { IfErr result (λ e. e ≢ LayerError.NoMemory) }
+        ensures missing { IsErrOf result LayerError.NoMemory → is_message (plain_request request.entry) ≡ true }
     {
         self.quiet = false;
         let place = usize::from(channel) - 1;
         match self.circuits[place].ask(request) {
             Ok(packet) => Ok(packet),
-            Err(error) => Err(LayerError::Circuit(error)),
+            Err(error) => Err(LayerError::of_circuit(error)),
         }
     }
 
@@ -85,7 +103,7 @@ impl Layer {
         requires free { puts_at_once (plain_request request) ≡ true → L.waits link.old < 256 }
         requires longest { 4099 ≤ L.longest link.old }
         ensures { Does L.OrderedLink self.old link.old self.new link.new result 16
-            (λ view c l. went view c (outcome_on l.restarts l.circuits channel
+            (is_message (plain_request request.entry)) (λ view c l. went view c (outcome_on l.restarts l.circuits channel
             (outcome c.circuit (l.circuits channel) (plain_request request.entry)))) }
     {
         if self.set_aside(link, MOST_PUT).is_err() {
@@ -95,33 +113,6 @@ impl Layer {
         self.put_sent(link, channel, packet);
         self.pull_all(link);
         Ok(())
-    }
-
-    /// Memory of a message of a channel that is needed no more, for one of so many octets, where there is some: of one
-    /// whose packets were all handed down, or that was given back, and for at most 4,096. What is too small is let go
-    /// of. The layer is as before.
-    pub fn spent_memory(&mut self, channel: u16, count: usize) -> Option<Vec<u8>>
-        ensures layer { (c : LayerSettings) (l : State) → FitsLayer c self.old l → FitsLayer c self.new l }
-        ensures aside { self.new.memory ≡ self.old.memory }
-        ensures empty { IfSome result (λ memory. memory.items ≡ []) }
-        ensures room { IfSome result (λ memory. count ≤ vec_capacity memory) }
-    {
-        if self.circuit(channel).is_some() {
-            return self.spent_memory_on(channel, count);
-        }
-        None
-    }
-
-    // .. of a configured channel.
-    fn spent_memory_on(&mut self, channel: u16, count: usize) -> Option<Vec<u8>>
-        requires { is_channel (length self.old.circuits.items) channel ≡ true }
-        ensures layer { (c : LayerSettings) (l : State) → FitsLayer c self.old l → FitsLayer c self.new l }
-        ensures aside { self.new.memory ≡ self.old.memory }
-        ensures empty { IfSome result (λ memory. memory.items ≡ []) }
-        ensures room { IfSome result (λ memory. count ≤ vec_capacity memory) }
-    {
-        let place = usize::from(channel) - 1;
-        self.circuits[place].spent_memory(count)
     }
 
     /// Takes the memory of a message back, for one of this channel that comes or is sent later. It is let go of where
@@ -136,7 +127,7 @@ impl Layer {
         }
     }
 
-    // .. of a configured channel.
+    // Takes it back for a configured channel.
     fn give_back_on(&mut self, channel: u16, memory: Vec<u8>)
         requires { is_channel (length self.old.circuits.items) channel ≡ true }
         ensures layer { (c : LayerSettings) (l : State) → FitsLayer c self.old l → FitsLayer c self.new l }
@@ -144,124 +135,5 @@ impl Layer {
     {
         let place = usize::from(channel) - 1;
         self.circuits[place].give_back(memory);
-    }
-
-    /// Why `ask` would refuse this now, if it would.
-    #[inline(always)]
-    pub fn refusal<L: OrderedLink>(
-        &self,
-        link: &L,
-        channel: u16,
-        request: &Request<'_>,
-    ) -> Option<LayerError>
-        ensures value { (c : LayerSettings) (l : State) (x : L.State) → FitsLayer c self.now l → L.fits link.now x
-            → result ≡ call_refusal (calls (view_of L.up_in L.waits_in L.after_put x) c l
-            (Asks channel (plain_request request.now))) }
-        ensures refused { (c : LayerSettings) (l : State) (x : L.State) → FitsLayer c self.now l → L.fits link.now x
-            → IfSome result (λ e. calls (view_of L.up_in L.waits_in L.after_put x) c l
-            (Asks channel (plain_request request.now)) ≡ Refuses e) }
-    {
-        if !link.is_up() {
-            return Some(LayerError::NotUp);
-        }
-        if self.restarting {
-            return Some(LayerError::Restarting);
-        }
-        let Some(circuit) = self.circuit(channel) else {
-            return Some(LayerError::NoSuchChannel);
-        };
-        if puts_at_once(request) && link.waiting() == 256 {
-            return Some(LayerError::QueueFull);
-        }
-        match circuit.refusal(request) {
-            Some(error) => Some(LayerError::Circuit(error)),
-            None => None,
-        }
-    }
-
-    /// Why `ask` would refuse a message of so many octets on a channel now, if it would, as `refusal`: what they are
-    /// isn't looked at.
-    #[inline(always)]
-    pub fn message_refusal<L: OrderedLink>(
-        &self,
-        link: &L,
-        channel: u16,
-        count: usize,
-    ) -> Option<LayerError>
-        ensures value { (c : LayerSettings) (l : State) (x : L.State) (q : Bool) (user : List ℕ) → length user ≡ count
-            → FitsLayer c self.now l → L.fits link.now x
-            → result ≡ call_refusal (calls (view_of L.up_in L.waits_in L.after_put x) c l
-            (Asks channel (Sends q user))) }
-        ensures refused { (c : LayerSettings) (l : State) (x : L.State) (q : Bool) (user : List ℕ) → length user ≡ count
-            → FitsLayer c self.now l → L.fits link.now x
-            → IfSome result (λ e. calls (view_of L.up_in L.waits_in L.after_put x) c l (Asks channel (Sends q user))
-            ≡ Refuses e) }
-    {
-        if !link.is_up() {
-            return Some(LayerError::NotUp);
-        }
-        if self.restarting {
-            return Some(LayerError::Restarting);
-        }
-        let Some(circuit) = self.circuit(channel) else {
-            return Some(LayerError::NoSuchChannel);
-        };
-        match circuit.send_refusal(count) {
-            Some(error) => Some(LayerError::Circuit(error)),
-            None => None,
-        }
-    }
-
-    /// Why `call` and `call_with` would refuse any call now, if they would: 9 NotUp, 40 Restarting or 41 NoFreeChannel.
-    /// `None` says nothing: a call may be refused on the other grounds.
-    #[inline(always)]
-    pub fn dial_refusal<L: OrderedLink>(&self, link: &L) -> Option<LayerError>
-        ensures { (c : LayerSettings) (l : State) (x : L.State) (called calling user : List ℕ) (params : Params)
-            → FitsLayer c self.now l → L.fits link.now x
-            → IfSome result (λ e. calls (view_of L.up_in L.waits_in L.after_put x) c l
-            (Dials called calling user params) ≡ Refuses e) }
-    {
-        if !link.is_up() {
-            return Some(LayerError::NotUp);
-        }
-        if self.restarting {
-            return Some(LayerError::Restarting);
-        }
-        match self.free_channel() {
-            Some(_) => None,
-            None => Some(LayerError::NoFreeChannel),
-        }
-    }
-
-    /// Asks the circuit of a channel, puts its packet, where there is one, and pulls: all calls with a channel in one.
-    ///
-    /// 9 NotUp, 40 Restarting, 42 NoSuchChannel, 10 QueueFull but for a message, then as the circuit refuses it, and
-    /// else 70 alone.
-    // It and what it calls stand in their callers' place, where the kind of the request is known and it needn't be
-    // copied whole.
-    #[inline(always)]
-    pub fn ask<L: OrderedLink>(
-        &mut self,
-        link: &mut L,
-        channel: u16,
-        request: Request<'_>,
-    ) -> Result<(), LayerError>
-        requires { 4099 ≤ L.longest link.old }
-        ensures { Answers L.OrderedLink self.old link.old self.new link.new result 16
-            (Asks channel (plain_request request.entry)) }
-    {
-        if !link.is_up() {
-            return Err(LayerError::NotUp);
-        }
-        if self.restarting {
-            return Err(LayerError::Restarting);
-        }
-        if self.circuit(channel).is_none() {
-            return Err(LayerError::NoSuchChannel);
-        }
-        if puts_at_once(&request) && link.waiting() == 256 {
-            return Err(LayerError::QueueFull);
-        }
-        self.ask_ready(link, channel, request)
     }
 }

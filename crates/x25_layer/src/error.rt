@@ -1,5 +1,5 @@
 ghost use Rattle.std.specs.Prelude.{◌≡◌};
-ghost use Rattle.x25_layer.specs.Error.{number_of};
+ghost use Rattle.x25_layer.specs.Error.{number_of, of_circuit};
 
 use thiserror::Error;
 use x25_circuit::CircuitError;
@@ -47,6 +47,16 @@ impl LayerError {
             LayerError::NoSuchChannel => 42,
             LayerError::Circuit(error) => error.number(),
             LayerError::NoMemory => 70,
+        }
+    }
+
+    /// The error of a layer whose circuit refuses the call.
+    pub(crate) fn of_circuit(error: CircuitError) -> LayerError
+        ensures { result ≡ of_circuit error }
+    {
+        match error {
+            CircuitError::NoMemory => LayerError::NoMemory,
+            _ => LayerError::Circuit(error),
         }
     }
 }

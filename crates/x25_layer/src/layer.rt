@@ -49,22 +49,8 @@ impl Layer {
     ghost use Rattle.x25_layer.specs.code.FitsLayer.{waits_up_to, is_full};
     ghost use Rattle.x25_layer.specs.Layer.InPart.{joined_at};
 
-    /// The layer of an end whose link isn't up, with so many channels, 1 to 16. A call has at most 16 octets of user
-    /// data.
-    ///
-    /// 14 BadConfig for another number of channels, and else 70 alone.
-    pub fn new(alloc: Global, role: Role, channels: usize) -> Result<Layer, LayerError>
-        ensures fits { IfOk result (λ v. FitsLayer
-            (record { channels = channels; circuit = record { role = role; long_data = false } }) v at_rest) }
-        ensures none_aside { IfOk result (λ v. v.memory ≡ 0) }
-        ensures config { IsErrOf result LayerError.BadConfig ↔ (is_channel 16 channels ≡ false) }
-        ensures memory { is_channel 16 channels ≡ true → IfErr result (λ e. e ≡ LayerError.NoMemory) }
-    {
-        Layer::with(alloc, role, channels, false)
-    }
-
-    /// As `new`, but with `long_data` a call has at most 128 octets of user data (profile). It is the same at both
-    /// ends.
+    /// The layer of an end whose link isn't up, with so many channels, 1 to 16. With `long_data` a call has at most 128
+    /// octets of user data (profile), else at most 16. It is the same at both ends.
     ///
     /// 14 BadConfig for another number of channels, and else 70 alone.
     pub fn with(

@@ -96,11 +96,8 @@ impl Layer {
         requires { 4099 ≤ L.longest link.old }
         ensures { Answers L.OrderedLink self.old link.old self.new link.new result 1 Restarts }
     {
-        if !link.is_up() {
-            return Err(LayerError::NotUp);
-        }
-        if self.restarting {
-            return Err(LayerError::Restarting);
+        if let Some(error) = self.unready(link) {
+            return Err(error);
         }
         if link.waiting() == 256 {
             return Err(LayerError::QueueFull);

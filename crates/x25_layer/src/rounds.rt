@@ -84,7 +84,7 @@ fn pull_one<L: OrderedLink>(
     is_put
 }
 
-// .. in which a message waits.
+// Puts it where a message waits in the circuit.
 #[inline(never)]
 fn pull_waiting<L: OrderedLink>(
     circuit: &mut Circuit,
@@ -172,7 +172,7 @@ fn round<L: OrderedLink>(
     go_round(circuits, link, memory, quiet)
 }
 
-// .. of all circuits: then it is known whether a message waits in one.
+// A round of all circuits: behind it it is known whether a message waits in one.
 #[inline(always)]
 fn go_round<L: OrderedLink>(
     circuits: &mut Vec<Circuit>,
@@ -221,11 +221,8 @@ impl Layer {
         requires { 4099 ≤ L.longest link.old }
         ensures { Answers L.OrderedLink self.old link.old self.new link.new result 16 PullsAll }
     {
-        if !link.is_up() {
-            return Err(LayerError::NotUp);
-        }
-        if self.restarting {
-            return Err(LayerError::Restarting);
+        if let Some(error) = self.unready(link) {
+            return Err(error);
         }
         self.set_aside(link, MOST_PUT)?;
         self.pull_all(link);

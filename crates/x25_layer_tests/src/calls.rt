@@ -1,8 +1,8 @@
 //! The user's calls with a channel, over a plain link.
 
 use crate::play::Event::{
-    Accept, AskToAccept, Call, Clear, Fill, Interrupt, NotReady, Ready, Reset, Restart, Send,
-    State, Take, Waiting, Waits,
+    Accept, Call, Clear, Fill, Interrupt, NotReady, Ready, Reset, Restart, Send, State, Take,
+    Waiting, Waits,
 };
 use crate::play::{Row, STAY, play};
 use std::test::Fail;
@@ -157,7 +157,7 @@ fn each_call_puts_its_packet_on_its_channel(rt: HostRuntime) -> Result<(), Fail>
 
 static ACCEPTED: [Row; 4] = [
     (Take("10020b111200"), "2: incoming", ""),
-    (AskToAccept(2), "ok", "10020f"),
+    (Accept(2), "ok", "10020f"),
     (Accept(2), "refused 30", ""),
     (State(2), "0.0.0, open", ""),
 ];

@@ -32,7 +32,7 @@ use Joined::{AtDce, AtDte, ToDce, ToDte};
 
 fn new_end(alloc: Global, role: Role) -> Result<End, Fail> {
     Ok(End {
-        layer: Layer::new(alloc, role, 1)?,
+        layer: Layer::with(alloc, role, 1, false)?,
         link: PlainLink::new(alloc)?,
     })
 }

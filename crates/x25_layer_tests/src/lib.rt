@@ -22,7 +22,6 @@ mod restart;
 #[cfg(test)]
 mod rounds;
 #[cfg(test)]
-mod spent;
 #[cfg(test)]
 mod station;
 #[cfg(test)]

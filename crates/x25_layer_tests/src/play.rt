@@ -5,7 +5,7 @@ use crate::texts::{agreed_text, channel_text, done_text, put_text, state_text, t
 use std::alloc::{AllocError, Global};
 use std::process::Abort;
 use std::test::Fail;
-use x25_circuit::Request;
+use x25_circuit::{Proposal, Request};
 use x25_layer::{Delivery, Layer, LayerError, Params, Role};
 use x25_link::{OrderedLink, PlainLink};
 
@@ -29,8 +29,6 @@ pub enum Event<'a> {
     Accept(u16),
     /// The user accepts a call, and answers these.
     AcceptWith(u16, Values),
-    /// The user accepts a call, by the call of the layer that takes any request.
-    AskToAccept(u16),
     Clear(u16),
     /// A message with this qualifier and so many octets, all 0.
     Send(u16, bool, usize),
@@ -62,9 +60,8 @@ pub enum Event<'a> {
 }
 
 use Event::{
-    Accept, AcceptWith, Agreed, AskToAccept, Call, CallWith, Clear, Down, Fill, Full, Interrupt,
-    Joined, NotReady, Pull, Ready, Reset, Restart, Room, Send, State, Take, Transfer, Up, Waiting,
-    Waits,
+    Accept, AcceptWith, Agreed, Call, CallWith, Clear, Down, Fill, Full, Interrupt, Joined,
+    NotReady, Pull, Ready, Reset, Restart, Room, Send, State, Take, Transfer, Up, Waiting, Waits,
 };
 
 /// What happens, and what it shows.
@@ -164,51 +161,23 @@ fn room<L: OrderedLink>(alloc: Global, layer: &mut Layer, link: &mut L) -> Resul
     Ok(format!(in alloc; "{enough}")?)
 }
 
-// Accepts by `ask`, where `refusal` foresees no refusal; else that is the answer.
-fn ask_to_accept<L: OrderedLink>(
+// Accepts with these packet sizes and windows.
+fn accept_with<L: OrderedLink>(
     layer: &mut Layer,
     link: &mut L,
     channel: u16,
+    values: Values,
 ) -> Result<(), LayerError>
     requires { 4099 ≤ L.longest link.old }
 {
-    let request = Request::Accept { answer: None };
-    if let Some(error) = layer.refusal(link, channel, &request) {
-        return Err(error);
-    }
-    layer.ask(link, channel, request)
-}
-
-// Calls, where `dial_refusal` foresees no refusal; else that is the answer.
-fn call<L: OrderedLink>(
-    layer: &mut Layer,
-    link: &mut L,
-    called: &str,
-    calling: &str,
-    user: &[u8],
-) -> Result<u16, LayerError>
-    requires { 4099 ≤ L.longest link.old }
-{
-    if let Some(error) = layer.dial_refusal(link) {
-        return Err(error);
-    }
-    layer.call(link, called, calling, user)
-}
-
-// Sends a message, where `message_refusal` foresees no refusal; else that is the answer.
-fn send<L: OrderedLink>(
-    layer: &mut Layer,
-    link: &mut L,
-    channel: u16,
-    q: bool,
-    user: Vec<u8>,
-) -> Result<(), LayerError>
-    requires { 4099 ≤ L.longest link.old }
-{
-    if let Some(error) = layer.message_refusal(link, channel, user.len()) {
-        return Err(error);
-    }
-    layer.send(link, channel, q, user)
+    let answer = Proposal::new(params_of(values));
+    layer.ask(
+        link,
+        channel,
+        Request::Accept {
+            answer: Some(&answer),
+        },
+    )
 }
 
 // The user asks this, which answers no value. Of other events nothing happens.
@@ -219,14 +188,13 @@ fn asks<L: OrderedLink>(layer: &mut Layer, link: &mut L, event: Event) -> Result
         Up => came_up(layer, link),
         Restart => layer.restart(link),
         Pull => layer.pull(link),
-        Accept(channel) => layer.accept(link, channel),
-        AcceptWith(channel, values) => layer.accept_with(link, channel, params_of(values)),
-        AskToAccept(channel) => ask_to_accept(layer, link, channel),
-        Clear(channel) => layer.clear(link, channel),
-        Interrupt(channel, user) => layer.interrupt(link, channel, user),
-        Reset(channel) => layer.reset(link, channel),
-        Ready(channel) => layer.ready(link, channel),
-        NotReady(channel) => layer.not_ready(link, channel),
+        Accept(channel) => layer.ask(link, channel, Request::Accept { answer: None }),
+        AcceptWith(channel, values) => accept_with(layer, link, channel, values),
+        Clear(channel) => layer.ask(link, channel, Request::Clear),
+        Interrupt(channel, user) => layer.ask(link, channel, Request::Interrupt { user }),
+        Reset(channel) => layer.ask(link, channel, Request::Reset),
+        Ready(channel) => layer.ask(link, channel, Request::Ready),
+        NotReady(channel) => layer.ask(link, channel, Request::NotReady),
         _ => Ok(()),
     }
 }
@@ -271,15 +239,19 @@ pub fn happens<L: OrderedLink>(
             alloc, layer, link, event,
         ),
         Call(called, calling, user) => {
-            channel_text(alloc, call(layer, link, called, calling, user))
+            channel_text(
+                alloc,
+                layer.call(link, called, calling, user, Params::default()),
+            )
         }
         CallWith(values) => {
             let params = params_of(values);
-            channel_text(alloc, layer.call_with(link, "1", "2", &[], params))
+            channel_text(alloc, layer.call(link, "1", "2", &[], params))
         }
         Send(channel, q, count) => {
             let user = vec![in alloc; 0u8; count]?;
-            done_text(alloc, send(layer, link, channel, q, user))
+            let user = user.as_slice();
+            done_text(alloc, layer.ask(link, channel, Request::Send { q, user }))
         }
         _ => done_text(alloc, asks(layer, link, event)),
     };
@@ -347,5 +319,10 @@ pub fn play(
     channels: usize,
     tables: &[&[Row]],
 ) -> Result<(), Fail> {
-    play_at(rt, alloc, Layer::new(alloc, role, channels)?, tables)
+    play_at(
+        rt,
+        alloc,
+        Layer::with(alloc, role, channels, false)?,
+        tables,
+    )
 }

@@ -64,7 +64,7 @@ static AT_REST: [Row; 5] = [
 #[test]
 fn a_layer_has_1_to_16_channels(rt: HostRuntime) -> Result<(), Fail> {
     for channels in [0, 17] {
-        let refused = Layer::new(rt.alloc(), Role::Dte, channels).err();
+        let refused = Layer::with(rt.alloc(), Role::Dte, channels, false).err();
         assert_eq!(rt; refused, Some(LayerError::BadConfig));
     }
     play(&rt, rt.alloc(), Role::Dte, 16, &[AT_REST.as_slice()])

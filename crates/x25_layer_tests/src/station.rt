@@ -56,7 +56,7 @@ static REFUSED_RESTART: [Shown; 1] = [(Restart, "refused 9")];
 
 #[test]
 fn a_link_that_is_down_takes_no_restart(rt: HostRuntime) -> Result<(), Fail> {
-    let mut layer = Layer::new(rt.alloc(), Role::Dte, 1)?;
+    let mut layer = Layer::with(rt.alloc(), Role::Dte, 1, false)?;
     let rows = REFUSED_RESTART.as_slice();
     plays_over_station(&rt, rt.alloc(), &mut layer, false, rows, "")
 }
@@ -74,7 +74,7 @@ static REFUSED: [Shown; 8] = [
 
 #[test]
 fn a_link_that_is_down_refuses_all(rt: HostRuntime) -> Result<(), Fail> {
-    let mut layer = Layer::new(rt.alloc(), Role::Dte, 3)?;
+    let mut layer = Layer::with(rt.alloc(), Role::Dte, 3, false)?;
     layer.restart(&mut PlainLink::new(rt.alloc())?)?;
     let rows = REFUSED.as_slice();
     plays_over_station(&rt, rt.alloc(), &mut layer, false, rows, "")
@@ -87,7 +87,7 @@ const CALL_FRAME: &str = "010010010b0000f892";
 
 #[test]
 fn a_call_goes_over_a_station(rt: HostRuntime) -> Result<(), Fail> {
-    let mut layer = Layer::new(rt.alloc(), Role::Dte, 1)?;
+    let mut layer = Layer::with(rt.alloc(), Role::Dte, 1, false)?;
     let rows = CALLED.as_slice();
     plays_over_station(&rt, rt.alloc(), &mut layer, true, rows, CALL_FRAME)
 }
@@ -105,7 +105,7 @@ const RESTART_AND_CLEAR: &str = "01001000fb00007702 01021001138021be65";
 
 #[test]
 fn a_layer_over_a_link(rt: HostRuntime) -> Result<(), Fail> {
-    let mut layer = Layer::new(rt.alloc(), Role::Dte, 1)?;
+    let mut layer = Layer::with(rt.alloc(), Role::Dte, 1, false)?;
     let rows = HEARD.as_slice();
     plays_over_station(&rt, rt.alloc(), &mut layer, true, rows, RESTART_AND_CLEAR)
 }

@@ -47,10 +47,10 @@ impl Kind {
 
     fn of_command(command: Cmd<'_>) -> Kind {
         match command {
-            Cmd::Call { .. } => Kind::Call,
-            Cmd::CallWith { .. } => Kind::CallWith,
-            Cmd::Accept { .. } => Kind::Accept,
-            Cmd::AcceptWith { .. } => Kind::AcceptWith,
+            Cmd::Call { params: None, .. } => Kind::Call,
+            Cmd::Call { .. } => Kind::CallWith,
+            Cmd::Accept { params: None, .. } => Kind::Accept,
+            Cmd::Accept { .. } => Kind::AcceptWith,
             Cmd::Clear { .. } => Kind::Clear,
             Cmd::Send { .. } => Kind::Send,
             Cmd::Interrupt { .. } => Kind::Interrupt,

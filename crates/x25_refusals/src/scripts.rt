@@ -56,6 +56,7 @@ const CALLS: Act = Do(Command(
         called: "123",
         calling: "4567",
         user: b"A",
+        params: None,
     },
 ));
 
@@ -65,6 +66,7 @@ const CALLS_12: Act = Do(Command(
         called: "1",
         calling: "2",
         user: b"",
+        params: None,
     },
 ));
 
@@ -74,36 +76,43 @@ const DCE_CALLS_34: Act = Do(Command(
         called: "3",
         calling: "4",
         user: b"",
+        params: None,
     },
 ));
 
 const PROPOSES: Act = Do(Command(
     Dte,
-    Cmd::CallWith {
+    Cmd::Call {
         called: "1",
         calling: "2",
         user: b"",
-        params: Params {
+        params: Some(Params {
             size_called: 8,
             size_calling: 8,
             win_called: 3,
             win_calling: 3,
-        },
+        }),
     },
 ));
 
-const ACCEPTS: Act = Do(Command(Dce, Cmd::Accept { channel: 1 }));
+const ACCEPTS: Act = Do(Command(
+    Dce,
+    Cmd::Accept {
+        channel: 1,
+        params: None,
+    },
+));
 
 const ANSWERS: Act = Do(Command(
     Dce,
-    Cmd::AcceptWith {
+    Cmd::Accept {
         channel: 1,
-        params: Params {
+        params: Some(Params {
             size_called: 7,
             size_calling: 8,
             win_called: 3,
             win_calling: 2,
-        },
+        }),
     },
 ));
 

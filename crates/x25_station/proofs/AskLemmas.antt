@@ -79,7 +79,7 @@ pub refused_did : (T U : Type 0) (e : LayerError) (found : StationError) (c : Se
 refused_did T U e found c s z entries (Went p) named is layer = is ∙ ap of_layer layer
 refused_did T U e found c s z entries (Refuses x) named is layer = inl (is ∙ ap of_layer (err_is T LayerError e x layer) ∙ named)
 
--- .. with nothing else in its place
+-- the same, with nothing else in its place
 pub refused_exactly_did : (T U : Type 0) (e : LayerError) (found : StationError) (c : Settings) (s : LinkStation) (z : layer_code.Layer) (entries : List StationEntry) (a : Answered) → IsNamed a → found ≡ of_layer e
     → (let x : Result T LayerError = Err e in LayerGives (layer_settings c) z x a) → (let x : Result U StationError = Err found in station.RefusesExactly x (did c (alone s) entries a))
 refused_exactly_did T U e found c s z entries (Went p) named is layer = is ∙ ap of_layer layer
@@ -160,17 +160,6 @@ pub link_gives : {T : Type 0} (result : Result T LayerError) (c : Settings) (l m
 link_gives result c l m y s request fits clause =
     subst (λ (view : LinkView). LinkGives (FitsWhole m) after_put_to (kept_of (link_settings c) (alone s.link)) result (calls view (layer_settings c) s.layer request)) (same_view (link_settings c) (alone s.link))
     (clause (layer_settings c) s.layer (kept_of (link_settings c) (alone s.link)) fits.layer (whole c l y s fits))
-
--- what the layer says before it is asked
-pub refuses_before : (o : Option LayerError) (c : Settings) (l : ShownLink) (y : layer_code.Layer) (s : Station) (request : LayerRequest) → FitsParts c l y s
-    → ((d : LayerSettings) (k : Layer) (x : LinkState) → FitsLayer d y k → FitsWhole l x → IfSome o (λ e. calls (over.view_of up_at waits_of after_put_to x) d k request ≡ Refuses e))
-    → IfSome o (λ e. requests c s request ≡ Refused (error.Layer e))
-refuses_before None c l y s request fits clause = tt
-refuses_before (Some e) c l y s request fits clause =
-    let lc : LayerSettings = layer_settings c in
-    let entries : List StationEntry = entries_of_outcome lc s.layer request (layer_outcome lc (waiting_after (link_settings c) s.link [] == 256) s.layer request) in
-    ap (λ (a : Answered). did c (alone s.link) entries a)
-    (subst (λ (view : LinkView). calls view lc s.layer request ≡ Refuses e) (same_view (link_settings c) (alone s.link)) (clause lc s.layer (kept_of (link_settings c) (alone s.link)) fits.layer (whole c l y s fits)))
 
 pub record Answers (c : Settings) (n : ShownLink) (z : layer_code.Layer) (r : code_step.Step) (outcome : Outcome) : Type 0 where
   pub state : station.LeavesParts {T = Unit} c n z (Ok tt) outcome

@@ -1,5 +1,5 @@
 -- A call does what the definition says of it, by what the calls of its link or of its layer did.
-use Rattle.std.proofs.Common.{◌≡◌, ◌≤◌, [], length, map, vec_len, Result, Ok, Err, OnErr, inl, inr, refl, ap, sym, subst, arith}
+use Rattle.std.proofs.Common.{◌≡◌, ◌≤◌, [], length, map, vec_len, Result, Ok, Err, OnErr, IsErrAnd, ◌∙◌, inl, inr, refl, ap, sym, subst, arith}
 use Rattle.std.proofs.lemmas.List.{length-map}
 use Rattle.x25_link.specs.Station.{LinkStation}
 use Rattle.x25_link.specs.Link.{alone}
@@ -68,13 +68,15 @@ wants_memory (Refused e) = inr refl
 pub lacks_memory : (v : code.Station) (out : code_step.Step) (said : Settings → Station → Outcome) → IsEmpty out → Does v v out (Err error.NoMemory) said
 lacks_memory v out said empty = declines v v out error.NoMemory said (λ c s fits. wants_memory (said c s)) (λ c s fits. fits) empty
 
--- on a ground that the layer tells before
-foreseen : (e : LayerError) (o : Outcome) → o ≡ Refused (error.Layer e) → (let r : Result Unit StationError = Err (error.Layer e) in Refuses r o)
-foreseen e o is = subst (λ (x : Outcome). (let r : Result Unit StationError = Err (error.Layer e) in Refuses r x)) (sym is) (inl refl)
+-- the same, where the station has other memory
+pub wants_copy : (old new : code.Station) (out : code_step.Step) (said : Settings → Station → Outcome) → IsEmpty out → ((c : Settings) (s : Station) → FitsStation c old s → FitsStation c new s) → Does old new out (Err error.NoMemory) said
+wants_copy old new out said empty same = declines old new out error.NoMemory said (λ c s fits. wants_memory (said c s)) same empty
 
-pub foresees : (v : code.Station) (out : code_step.Step) (e : LayerError) (said : Settings → Station → Outcome) → IsEmpty out
-    → ((c : Settings) (s : Station) → FitsStation c v s → said c s ≡ Refused (error.Layer e)) → Does v v out (Err (error.Layer e)) said
-foresees v out e said empty is = declines v v out (error.Layer e) said (λ c s fits. foreseen e (said c s) (is c s fits)) (λ c s fits. fits) empty
+-- the error of a step that was refused memory is handed on
+pub hands_on : (old new : code.Station) (out : code_step.Step) (r : Result Unit StationError) (e : StationError) (said : Settings → Station → Outcome) → IsErrAnd r (λ f. f ≡ e) → e ≡ error.NoMemory → IsEmpty out
+    → ((c : Settings) (s : Station) → FitsStation c old s → FitsStation c new s) → Does old new out r said
+hands_on old new out (Ok u) e said is none empty same = absurd is
+hands_on old new out (Err f) e said is none empty same = subst (λ (x : StationError). Does old new out (Err x) said) (sym (is ∙ none)) (wants_copy old new out said empty same)
 
 -- ---- a call that is made once memory was given back, which changes no state that the station stands for
 

@@ -76,7 +76,7 @@ row_informs c octets (Err (Undefined control)) t p is = absurd (none-some p is)
 row_informs c octets (Err (NoInfoAllowed control)) t p is = absurd (none-some p is)
 row_informs c octets (Err TooLong) t p is = absurd (none-some p is)
 
--- .. beside address, control and frame check sequence
+-- the packet beside address, control and frame check sequence
 pub handed_short : ReadsWhatIsSpelled → TakeHandsUp → (c : LinkSettings) (octets : List ℕ) (s : LinkStation) (p : List ℕ) → All (λ octet. octet < 256) octets → (take_step c octets s).packet ≡ Some p → length p + 4 ≤ length octets
 handed_short reads hands c octets s p bytes is =
     let read : Result PlainFrame FrameError = frame_of (other c.role) c.longest octets in
@@ -160,3 +160,7 @@ own_few frames octets_of before made none few taken =
 pub if_some : {X : Type 0} (o : Option X) (P : X → Type 0) → ((x : X) → o ≡ Some x → P x) → IfSome o P
 if_some None P f = tt
 if_some (Some x) P f = f x refl
+
+-- the link takes the longest packet
+pub takes_longest : (l : ShownLink) (y : layer_code.Layer) → AreMeant l y → 4099 ≤ limit_of l
+takes_longest l y h = least_by_meaning l y 4099 (limit_of l) h (λ c s fits. let n : limit_of l ≡ 4099 = fits.link.near.longest in omega (arith, n))

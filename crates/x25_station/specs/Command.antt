@@ -1,5 +1,5 @@
 -- What the user of a station asks for (profile: the commands).
-use Rattle.std.specs.Prelude.{Some, None}
+use Rattle.std.specs.Prelude.{unwrap_or}
 use Rattle.x25_circuit.specs.Params.{default_params}
 use Rattle.x25_circuit.specs.Calling.{Accepts, Clears, Sends, Interrupts, Resets, SaysReady, SaysNotReady}
 use Rattle.x25_layer.specs.Calls.{LayerRequest, Asks, Dials, Restarts, PullsAll}
@@ -15,10 +15,9 @@ pub data Command : Type 0 where
 -- A call takes a free channel; the others name theirs. Where no packet sizes and windows are named, a call proposes the
 -- defaults, and an acceptance takes what is proposed.
 abbrev pub command_of : Cmd → Command
-command_of (code.Call called calling user) = Requests (Dials called.now calling.now user.now default_params)
-command_of (code.CallWith called calling user params) = Requests (Dials called.now calling.now user.now params)
-command_of (code.Accept channel) = Requests (Asks channel (Accepts None))
-command_of (code.AcceptWith channel params) = Requests (Asks channel (Accepts (Some params)))
+command_of (code.Call called calling user params) =
+    Requests (Dials called.now calling.now user.now (unwrap_or params default_params))
+command_of (code.Accept channel params) = Requests (Asks channel (Accepts params))
 command_of (code.Clear channel) = Requests (Asks channel Clears)
 command_of (code.Send channel q user) = Requests (Asks channel (Sends q user.now))
 command_of (code.Interrupt channel user) = Requests (Asks channel (Interrupts user.now))

@@ -22,7 +22,7 @@ IsShort (incoming request) = length request.user ≤ 128
 IsShort (interrupted user) = length user ≤ 128
 IsShort notice = Unit {0}
 
--- .. and its channel is configured
+-- a notice is short, and its channel is configured
 abbrev pub IsTellable : LayerSettings → LayerNotice → Type 0
 IsTellable c (on_channel h notice) = (is_channel c.channels h ≡ true) × IsShort notice
 IsTellable c notice = Unit {0}

@@ -1,9 +1,8 @@
 //! What the user asks of the packet layer: the layer's call, and its entry.
-ghost use Rattle.std.specs.Prelude.{ℕ, List, length, Bool, ◌≡◌, Some, true, false, string_bytes, IfOk, IfErr, IfSome};
+ghost use Rattle.std.specs.Prelude.{◌≡◌, Some, true, false, string_bytes, IfOk, IfErr};
 ghost use Rattle.x25_circuit.specs.Circuit.{Circuit};
-ghost use Rattle.x25_circuit.specs.Calling.{Calls, Accepts, Sends as CircuitSends};
+ghost use Rattle.x25_circuit.specs.Calling.{Calls, Accepts};
 ghost use Rattle.x25_circuit.specs.Request.{plain_request};
-ghost use Rattle.x25_circuit.specs.declared.params.Params.{Params};
 ghost use Rattle.x25_layer.specs.Layer.{Layer as LayerState, LayerSettings, is_channel};
 ghost use Rattle.x25_layer.specs.Calls.{Asks, Dials, Restarts, PullsAll};
 ghost use Rattle.x25_layer.specs.code.FitsLayer.{FitsLayer};
@@ -16,7 +15,7 @@ ghost use Rattle.x25_station.specs.code.FitsStation.{FitsStation, Does, IsEmpty}
 ghost use Rattle.x25_station.specs.code.PlainEntry.{plain_entry, plain_asked, plain_said};
 ghost use Rattle.x25_station.specs.Config.{Settings};
 ghost use Rattle.x25_station.specs.Station.{Station as State};
-ghost use Rattle.x25_station.specs.Step.{Refused, commands, requests};
+ghost use Rattle.x25_station.specs.Step.{commands, requests};
 
 use crate::command::Cmd;
 use crate::entering::enter;
@@ -26,11 +25,18 @@ use crate::law::steps_keep_bounds;
 use crate::station::Station;
 use crate::step::Step;
 use std::alloc::Global;
+use x25_bits::Blanks;
 use x25_circuit::{Proposal, Request};
-use x25_layer::{Layer, LayerError, Params};
+use x25_layer::{Layer, Params};
 use x25_link::holds_few;
 
-// A copy of octets, for an entry or a message.
+/// The most octets of a message whose memory serves the entry of another.
+const LONGEST_KEPT: usize = 4096;
+
+/// Memory for the message of an entry: that of one that was read.
+pub(crate) type MessageMemory = Blanks<LONGEST_KEPT, 1>;
+
+// A copy of octets, for an entry.
 #[inline(always)]
 fn copied(alloc: Global, octets: &[u8]) -> Result<Vec<u8>, StationError>
     ensures ok { IfOk result (λ copy. copy.items ≡ octets.now) }
@@ -53,10 +59,41 @@ fn copied_text(alloc: Global, text: &str) -> Result<String, StationError>
     }
 }
 
+// A copy of a message, for an entry, in memory of one that was read where that has room.
+fn copied_message(
+    alloc: Global,
+    messages: &mut MessageMemory,
+    user: &[u8],
+) -> Result<Vec<u8>, StationError>
+    ensures same { messages.new ≡ messages.old }
+    ensures ok { IfOk result (λ copy. copy.items ≡ user.now) }
+    ensures err { IfErr result (λ e. e ≡ StationError.NoMemory) }
+{
+    let Some(mut copy) = messages.again(user.len()) else {
+        return copied(alloc, user);
+    };
+    copy.extend_from_slice(user).unwrap();
+    Ok(copy)
+}
+
+// The memory of a message that is refused serves the entry of another.
+fn take_back(messages: &mut MessageMemory, asked: Asked)
+    ensures { messages.new ≡ messages.old }
+{
+    if let Asked::Send { user, .. } = asked {
+        messages.give_back(user);
+    }
+}
+
 // What is asked of a channel, for an entry. Which packet sizes and windows an acceptance shows is known once it is
 // done.
 #[inline(always)]
-fn asked_of(alloc: Global, request: &Request<'_>) -> Result<Asked, StationError>
+fn asked_of(
+    alloc: Global,
+    messages: &mut MessageMemory,
+    request: &Request<'_>,
+) -> Result<Asked, StationError>
+    ensures same { messages.new ≡ messages.old }
     ensures ok { IfOk result (λ asked. (x : Circuit)
         → shown x (plain_asked asked) ≡ shown x (plain_request request.now)) }
     ensures err { IfErr result (λ e. e ≡ StationError.NoMemory) }
@@ -74,7 +111,7 @@ fn asked_of(alloc: Global, request: &Request<'_>) -> Result<Asked, StationError>
         Request::Clear => Ok(Asked::Clear),
         Request::Send { q, user } => Ok(Asked::Send {
             q: *q,
-            user: copied(alloc, user)?,
+            user: copied_message(alloc, messages, user)?,
         }),
         Request::Interrupt { user } => Ok(Asked::Interrupt {
             user: copied(alloc, user)?,
@@ -139,99 +176,25 @@ impl Station {
     {
         self.reuse(out);
         let before = self.clock();
-        let answer = self.obey(&command, out);
+        let answer = self.carry_out(&command, out);
         out.timer = self.timer_behind(before, false, out.entries.as_slice());
         answer
     }
 
-    // Does what the user asks, into a step that is empty, where no refusal is known before.
-    #[inline(always)]
-    fn obey(&mut self, command: &Cmd<'_>, out: &mut Step) -> Result<(), StationError>
-        requires { IsEmpty out.old }
-        ensures { Does self.old self.new out.new result (λ c s. commands c s (command_of command.now)) }
-    {
-        match self.refusal(command) {
-            Some(error) => Err(StationError::Layer(error)),
-            None => self.carry_out(command, out),
-        }
-    }
-
-    // Why what is asked of a channel would be refused now, if it would; of other commands nothing is said. Nothing is
-    // made or copied for it.
-    #[inline(never)]
-    fn refusal(&self, command: &Cmd<'_>) -> Option<LayerError>
-        ensures { (c : Settings) (s : State) → FitsStation c self.now s
-            → IfSome result (λ e. commands c s (command_of command.now) ≡ Refused (StationError.Layer e)) }
-    {
-        match command {
-            Cmd::Accept { channel } => self.refuses(*channel, &Request::Accept { answer: None }),
-            Cmd::Clear { channel } => self.refuses(*channel, &Request::Clear),
-            Cmd::Send { channel, user, .. } => self.refuses_message(*channel, user.len()),
-            Cmd::Interrupt { channel, user } => self.refuses(
-                *channel,
-                &Request::Interrupt { user },
-            ),
-            Cmd::Reset { channel } => self.refuses(*channel, &Request::Reset),
-            Cmd::Ready { channel } => self.refuses(*channel, &Request::Ready),
-            Cmd::NotReady { channel } => self.refuses(*channel, &Request::NotReady),
-            Cmd::Call { .. } => self.refuses_calls(),
-            Cmd::CallWith { .. } => self.refuses_calls(),
-            _ => None,
-        }
-    }
-
-    // Why this would be refused on a channel now, if it would.
-    #[inline(always)]
-    fn refuses(&self, channel: u16, request: &Request<'_>) -> Option<LayerError>
-        ensures { (c : Settings) (s : State) → FitsStation c self.now s
-            → IfSome result (λ e. requests c s (Asks channel (plain_request request.now))
-            ≡ Refused (StationError.Layer e)) }
-    {
-        self.layer.refusal(&self.link, channel, request)
-    }
-
-    // Why a message of so many octets would be refused on a channel now, if it would.
-    #[inline(always)]
-    fn refuses_message(&self, channel: u16, count: usize) -> Option<LayerError>
-        ensures { (c : Settings) (s : State) (q : Bool) (user : List ℕ) → length user ≡ count → FitsStation c self.now s
-            → IfSome result (λ e. requests c s (Asks channel (CircuitSends q user)) ≡ Refused (StationError.Layer e)) }
-    {
-        self.layer.message_refusal(&self.link, channel, count)
-    }
-
-    // Why any call would be refused now, if it would.
-    #[inline(always)]
-    fn refuses_calls(&self) -> Option<LayerError>
-        ensures { (c : Settings) (s : State) (called calling user : List ℕ) (params : Params) → FitsStation c self.now s
-            → IfSome result (λ e. requests c s (Dials called calling user params) ≡ Refused (StationError.Layer e)) }
-    {
-        self.layer.dial_refusal(&self.link)
-    }
-
-    /// Why a message of so many octets would be refused on a channel now, if it would, so that one that is refused
-    /// needn't be made. `None` says nothing.
-    #[inline(always)]
-    pub fn message_refusal(&self, channel: u16, count: usize) -> Option<StationError>
-        ensures { (c : Settings) (s : State) (q : Bool) (user : List ℕ) → length user ≡ count → FitsStation c self.now s
-            → IfSome result (λ e. requests c s (Asks channel (CircuitSends q user)) ≡ Refused e) }
-    {
-        match self.refuses_message(channel, count) {
-            Some(error) => Some(StationError::Layer(error)),
-            None => None,
-        }
-    }
-
-    // Does what the user asks.
+    // Does what the user asks, into a step that is empty.
     #[inline(never)]
     fn carry_out(&mut self, command: &Cmd<'_>, out: &mut Step) -> Result<(), StationError>
         requires { IsEmpty out.old }
         ensures { Does self.old self.new out.new result (λ c s. commands c s (command_of command.now)) }
     {
         match command {
-            Cmd::Accept { channel } => self.ask(*channel, Request::Accept { answer: None }, out),
-            Cmd::AcceptWith { channel, params } => { self.accept_with(*channel, *params, out) }
+            Cmd::Accept { channel, params } => self.accept(*channel, *params, out),
             Cmd::Clear { channel } => self.ask(*channel, Request::Clear, out),
-            Cmd::Send { channel, q, user } => self.send(*channel, *q, user, out),
+            Cmd::Send { channel, q, user } => self.ask(
+                *channel,
+                Request::Send { q: *q, user },
+                out,
+            ),
             Cmd::Interrupt { channel, user } => self.ask(
                 *channel,
                 Request::Interrupt { user },
@@ -244,13 +207,11 @@ impl Station {
                 called,
                 calling,
                 user,
-            } => self.call(called, calling, user, Params::default(), out),
-            Cmd::CallWith {
-                called,
-                calling,
-                user,
                 params,
-            } => self.call(called, calling, user, *params, out),
+            } => {
+                let params = params.unwrap_or(Params::default());
+                self.call(called, calling, user, params, out)
+            }
             Cmd::Restart => self.restart(out),
             Cmd::Pull => self.pull_asked(out),
             Cmd::Connect => self.connect_asked(out),
@@ -276,16 +237,19 @@ impl Station {
         }
     }
 
-    // An acceptance, with packet sizes and windows of its own.
-    fn accept_with(
+    // An acceptance, with packet sizes and windows of its own where there are some.
+    fn accept(
         &mut self,
         channel: u16,
-        params: Params,
+        params: Option<Params>,
         out: &mut Step,
     ) -> Result<(), StationError>
         requires { IsEmpty out.old }
-        ensures { Does self.old self.new out.new result (λ c s. requests c s (Asks channel (Accepts (Some params)))) }
+        ensures { Does self.old self.new out.new result (λ c s. requests c s (Asks channel (Accepts params))) }
     {
+        let Some(params) = params else {
+            return self.ask(channel, Request::Accept { answer: None }, out);
+        };
         let answer = Proposal::new(params);
         self.ask(
             channel,
@@ -315,7 +279,7 @@ impl Station {
         out.make_room()?;
         match self
             .layer
-            .call_with(&mut self.link, called, calling, user, params)
+            .call(&mut self.link, called, calling, user, params)
         {
             Ok(channel) => {
                 enter(&self.layer, &mut out.entries, channel, Said::Asked(asked));
@@ -324,39 +288,6 @@ impl Station {
             }
             Err(error) => Err(StationError::of_layer(error)),
         }
-    }
-
-    // A message, which is handed to the layer as a copy.
-    #[inline(always)]
-    fn send(
-        &mut self,
-        channel: u16,
-        q: bool,
-        user: &[u8],
-        out: &mut Step,
-    ) -> Result<(), StationError>
-        requires { IsEmpty out.old }
-        ensures { Does self.old self.new out.new result (λ c s. requests c s (Asks channel (CircuitSends q user.now))) }
-    {
-        let shown = self.copied_for(channel, user)?;
-        let user = self.copied_for(channel, user)?;
-        let asked = Asked::Send { q, user: shown };
-        self.ask_as(channel, Request::Send { q, user }, asked, out)
-    }
-
-    // A copy of the user data of a message, in the memory of an earlier one of the channel where that has room. The
-    // station is as before.
-    #[inline(always)]
-    fn copied_for(&mut self, channel: u16, user: &[u8]) -> Result<Vec<u8>, StationError>
-        ensures fits { (c : Settings) (s : State) → FitsStation c self.old s → FitsStation c self.new s }
-        ensures ok { IfOk result (λ copy. copy.items ≡ user.now) }
-        ensures err { IfErr result (λ e. e ≡ StationError.NoMemory) }
-    {
-        let Some(mut copy) = self.layer.spent_memory(channel, user.len()) else {
-            return copied(self.alloc, user);
-        };
-        copy.extend_from_slice(user).unwrap();
-        Ok(copy)
     }
 
     // What is asked of the circuit of a channel.
@@ -371,27 +302,10 @@ impl Station {
         ensures { Does self.old self.new out.new result
             (λ c s. requests c s (Asks channel (plain_request request.entry))) }
     {
-        let asked = asked_of(self.alloc, &request)?;
-        self.ask_as(channel, request, asked, out)
-    }
-
-    // What is asked of the circuit of a channel, which the entry shows so.
-    #[inline(always)]
-    fn ask_as(
-        &mut self,
-        channel: u16,
-        request: Request<'_>,
-        asked: Asked,
-        out: &mut Step,
-    ) -> Result<(), StationError>
-        requires shown { (x : Circuit) → shown x (plain_asked asked) ≡ shown x (plain_request request) }
-        requires empty { IsEmpty out.old }
-        ensures { Does self.old self.new out.new result
-            (λ c s. requests c s (Asks channel (plain_request request.entry))) }
-    {
         steps_keep_bounds();
         holds_few();
         out.make_room()?;
+        let asked = asked_of(self.alloc, &mut self.messages, &request)?;
         match self.layer.ask(&mut self.link, channel, request) {
             Ok(()) => {
                 let asked = as_shown(&self.layer, channel, asked);
@@ -399,7 +313,10 @@ impl Station {
                 self.link.swap_frames(&mut out.frames);
                 Ok(())
             }
-            Err(error) => Err(StationError::of_layer(error)),
+            Err(error) => {
+                take_back(&mut self.messages, asked);
+                Err(StationError::of_layer(error))
+            }
         }
     }
 

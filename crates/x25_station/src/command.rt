@@ -5,27 +5,18 @@ use x25_layer::Params;
 #[derive(Clone, Copy, Debug)]
 pub enum Cmd<'a> {
     /// Calls the other end on a free channel, with addresses of 0 to 15 digits and at most 16 octets of user data, or
-    /// 128 where `Cfg::long_data` is set.
+    /// 128 where `Cfg::long_data` is set, and proposes packet sizes and windows, without `params` the defaults.
     Call {
         called: &'a str,
         calling: &'a str,
         user: &'a [u8],
+        params: Option<Params>,
     },
-    /// Calls, and proposes packet sizes and windows.
-    CallWith {
-        called: &'a str,
-        calling: &'a str,
-        user: &'a [u8],
-        params: Params,
-    },
-    /// Accepts an incoming call, with the packet sizes and windows that it proposes.
+    /// Accepts an incoming call with these packet sizes and windows, each from the one proposed to the default, or
+    /// without `params` with those that it proposes.
     Accept {
         channel: u16,
-    },
-    /// Accepts an incoming call with these packet sizes and windows, each from the one proposed to the default.
-    AcceptWith {
-        channel: u16,
-        params: Params,
+        params: Option<Params>,
     },
     /// Clears a call.
     Clear {

@@ -23,11 +23,11 @@ fn take_frames_back(link: &mut Link, frames: &mut Vec<Vec<u8>>)
 impl Station {
     /// Takes a step back that was read, of this station or of another, and leaves it empty: the memory of its frames
     /// serves frames that are sent later, and that of a message that was sent or delivered, which is that of the last
-    /// entry, a later message of its channel. Timer T1 goes on in it, or is off. The station is as before. Each call
-    /// does so at first with the step that it is given.
+    /// entry, the entry of a message that is sent later, or else a later message of its channel. Timer T1 goes on in
+    /// it, or is off. The station is as before. Each call does so at first with the step that it is given.
     ///
     /// Memory for more than 4,103 octets of a frame or 4,096 of a message is let go of, and so is what is left over
-    /// where 32 frames, or two messages of the channel, are kept.
+    /// where 32 frames are kept, or one message for an entry and two of the channel.
     #[inline(always)]
     pub fn reuse(&mut self, out: &mut Step)
         ensures fits { (c : Settings) (s : State) → FitsStation c self.old s → FitsStation c self.new s }
@@ -80,10 +80,14 @@ impl Station {
         }
     }
 
-    // Memory of a channel.
+    // Memory of a message serves the entry of another, where none is kept for that, or else its channel.
     fn keep(&mut self, channel: u16, memory: Vec<u8>)
         ensures { (c : Settings) (s : State) → FitsStation c self.old s → FitsStation c self.new s }
     {
-        self.layer.give_back(channel, memory);
+        if self.messages.returned() == 0 {
+            self.messages.give_back(memory);
+        } else {
+            self.layer.give_back(channel, memory);
+        }
     }
 }

@@ -1,6 +1,7 @@
 ghost use Rattle.x25_station.specs.code.Aside.{IsFewAside};
 ghost use Rattle.x25_station.specs.code.FitsParts.{AreMeant};
 
+use crate::asking::MessageMemory;
 use crate::config::Cfg;
 use crate::entering::TextMemory;
 use crate::error::StationError;
@@ -17,8 +18,9 @@ use x25_link::{Link, LinkError};
 pub struct Station {
     pub(crate) link: Link,
     pub(crate) layer: Layer,
-    /// Memory for texts of entries.
+    /// Memory for texts of entries, and for the message of one.
     pub(crate) texts: TextMemory,
+    pub(crate) messages: MessageMemory,
     pub(crate) alloc: Global,
     ghost meant: { AreMeant link layer },
     ghost aside: { IsFewAside link layer texts },
@@ -57,6 +59,7 @@ impl Station {
             link,
             layer,
             texts: Blanks::new(alloc),
+            messages: Blanks::new(alloc),
             alloc,
         })
     }

@@ -38,28 +38,28 @@ const TOO_SMALL: Params = Params {
     win_calling: 2,
 };
 
-const CALL_TOO_SMALL: Cmd<'static> = Cmd::CallWith {
+const CALL_TOO_SMALL: Cmd<'static> = Cmd::Call {
     called: "1",
     calling: "2",
     user: &[],
-    params: TOO_SMALL,
+    params: Some(TOO_SMALL),
 };
 
-const CALL: Cmd<'static> = Cmd::CallWith {
+const CALL: Cmd<'static> = Cmd::Call {
     called: "1",
     calling: "2",
     user: &[],
-    params: PROPOSED,
+    params: Some(PROPOSED),
 };
 
-const ACCEPT_LARGER: Cmd<'static> = Cmd::AcceptWith {
+const ACCEPT_LARGER: Cmd<'static> = Cmd::Accept {
     channel: 1,
-    params: LARGER,
+    params: Some(LARGER),
 };
 
-const ACCEPT: Cmd<'static> = Cmd::AcceptWith {
+const ACCEPT: Cmd<'static> = Cmd::Accept {
     channel: 1,
-    params: ANSWERED,
+    params: Some(ANSWERED),
 };
 
 static PROPOSES: [Row; 2] = [
@@ -118,7 +118,10 @@ const ANSWERS: [Row; 1] = [(
 )];
 
 const TAKES: [Row; 1] = [(
-    Ask(Cmd::Accept { channel: 1 }),
+    Ask(Cmd::Accept {
+        channel: 1,
+        params: None,
+    }),
     &[
         "dce accept ch=1 size=8,8 win=3,3",
         "I cmd P=0 S=1 R=2 | ACCEPT ch=1 fac=-",

@@ -40,11 +40,6 @@ pub fn pull(station: &mut Station, out: &mut Step) -> Result<(), StationError> {
     station.pull(out)
 }
 
-/// Why a message of so many octets would be refused, as far as that is known before.
-pub fn message_refusal(station: &Station, channel: u16, count: usize) -> Option<StationError> {
-    station.message_refusal(channel, count)
-}
-
 /// The station takes a step back that was read.
 pub fn reuse(station: &mut Station, out: &mut Step) {
     station.reuse(out);

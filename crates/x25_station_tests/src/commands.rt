@@ -25,9 +25,13 @@ const BAD_CALL: Cmd<'static> = Cmd::Call {
     called: "1",
     calling: "x",
     user: &[],
+    params: None,
 };
 
-const ON_CHANNEL_2: Cmd<'static> = Cmd::Accept { channel: 2 };
+const ON_CHANNEL_2: Cmd<'static> = Cmd::Accept {
+    channel: 2,
+    params: None,
+};
 
 const DATA: [Row; 10] = [
     (
@@ -66,7 +70,13 @@ const DATA: [Row; 10] = [
 const RESET_CLEAR_AND_RESTART: [Row; 16] = [
     (Ask(ON_CHANNEL_2), &["! 42"]),
     (Ask(Cmd::Clear { channel: 0 }), &["! 42"]),
-    (Ask(Cmd::Accept { channel: 1 }), &["! 30"]),
+    (
+        Ask(Cmd::Accept {
+            channel: 1,
+            params: None,
+        }),
+        &["! 30"],
+    ),
     (Stretch(1), &["1.0.0"]),
     (
         Ask(Cmd::Reset { channel: 1 }),

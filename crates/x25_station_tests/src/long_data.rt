@@ -10,18 +10,21 @@ const CALL_OF_17: Cmd<'static> = Cmd::Call {
     called: "1",
     calling: "2",
     user: &[0; 17],
+    params: None,
 };
 
 const CALL_OF_128: Cmd<'static> = Cmd::Call {
     called: "1",
     calling: "2",
     user: &[0; 128],
+    params: None,
 };
 
 const CALL_OF_129: Cmd<'static> = Cmd::Call {
     called: "1",
     calling: "2",
     user: &[0; 129],
+    params: None,
 };
 
 const SENT: [Row; 2] = [

@@ -147,7 +147,10 @@ impl Peer {
     }
 
     fn accepts(&mut self) {
-        let command = Cmd::Accept { channel: 1 };
+        let command = Cmd::Accept {
+            channel: 1,
+            params: None,
+        };
         if ask(&mut self.station, command, &mut self.out).is_ok() {
             self.seen.step(&self.out);
         }

@@ -8,6 +8,7 @@ pub const CALL: Cmd<'static> = Cmd::Call {
     called: "123",
     calling: "4567",
     user: &[0x41],
+    params: None,
 };
 
 pub const SEND: Cmd<'static> = Cmd::Send {
@@ -59,7 +60,10 @@ pub static CALLED_DCE: [Row; 2] = [
         ],
     ),
     (
-        Ask(Cmd::Accept { channel: 1 }),
+        Ask(Cmd::Accept {
+            channel: 1,
+            params: None,
+        }),
         &["dce accept ch=1", "I cmd P=0 S=1 R=2 | ACCEPT ch=1 fac=-"],
     ),
 ];

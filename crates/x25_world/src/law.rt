@@ -163,7 +163,6 @@ pub fn hands_down_octets(event: Event)
 {
     match event {
         Event::Command(_, Cmd::Call { user, .. }) => are_octets(user),
-        Event::Command(_, Cmd::CallWith { user, .. }) => are_octets(user),
         Event::Command(_, Cmd::Send { user, .. }) => are_octets(user),
         Event::Command(_, Cmd::Interrupt { user, .. }) => are_octets(user),
         _ => {}

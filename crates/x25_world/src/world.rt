@@ -299,23 +299,6 @@ impl World {
         self.happen(Event::Damage(direction, place, octets.as_slice()), &mut out)
     }
 
-    /// Why a message of so many octets that an end sends on a channel would be refused now, if it would, so that one
-    /// that is refused needn't be made. `None` says nothing.
-    #[inline(always)]
-    pub fn message_refusal(&self, at: Role, channel: u16, count: usize) -> Option<WorldError>
-        ensures { (cfg : Cfg) (w : definition.World) (q : Bool) (user : List ℕ) → length user ≡ count →
-            FitsWorld cfg self.now w →
-            IfSome result (λ e. refusal_of (happens cfg w
-            (record { at = at; act = Commands (Requests (Asks channel (Sends q user))) })) ≡ Some e) }
-    {
-        match self.station(at).message_refusal(channel, count) {
-            Some(StationError::Layer(error)) => Some(WorldError::Station(StationError::Layer(
-                error,
-            ))),
-            _ => None,
-        }
-    }
-
     /// The station of this end.
     pub fn station(&self, role: Role) -> &Station
         ensures { result.now ≡ station_of self.now role }

@@ -36,11 +36,6 @@ pub fn establish(alloc: Global, cfg: Cfg) -> Result<Box<World>, WorldError> {
     boxed(alloc, World::establish(alloc, cfg)?)
 }
 
-/// Why a message of so many octets would be refused, as far as that is known before.
-pub fn message_refusal(world: &World, at: Role, channel: u16, count: usize) -> Option<WorldError> {
-    world.message_refusal(at, channel, count)
-}
-
 /// The event happens, and its entries come into the step.
 pub fn step(world: &mut World, event: Event, out: &mut Step) -> Result<(), WorldError> {
     world.step(event, out)

@@ -32,6 +32,7 @@ const CALLS: Event = Command(
         called: "1",
         calling: "2",
         user: b"",
+        params: None,
     },
 );
 
@@ -40,7 +41,13 @@ static OPENING: [Act; 5] = [
     Drain,
     Do(CALLS),
     Drain,
-    Do(Command(Dce, Cmd::Accept { channel: 1 })),
+    Do(Command(
+        Dce,
+        Cmd::Accept {
+            channel: 1,
+            params: None,
+        },
+    )),
     Drain,
 ];
 
@@ -49,11 +56,41 @@ static OPENING_FIVE: [Act; 9] = [
     Drain,
     Repeat(5, CALLS),
     Drain,
-    Do(Command(Dce, Cmd::Accept { channel: 1 })),
-    Do(Command(Dce, Cmd::Accept { channel: 2 })),
-    Do(Command(Dce, Cmd::Accept { channel: 3 })),
-    Do(Command(Dce, Cmd::Accept { channel: 4 })),
-    Do(Command(Dce, Cmd::Accept { channel: 5 })),
+    Do(Command(
+        Dce,
+        Cmd::Accept {
+            channel: 1,
+            params: None,
+        },
+    )),
+    Do(Command(
+        Dce,
+        Cmd::Accept {
+            channel: 2,
+            params: None,
+        },
+    )),
+    Do(Command(
+        Dce,
+        Cmd::Accept {
+            channel: 3,
+            params: None,
+        },
+    )),
+    Do(Command(
+        Dce,
+        Cmd::Accept {
+            channel: 4,
+            params: None,
+        },
+    )),
+    Do(Command(
+        Dce,
+        Cmd::Accept {
+            channel: 5,
+            params: None,
+        },
+    )),
     Drain,
 ];
 

@@ -116,8 +116,12 @@ fn command(numbers: &mut Numbers, kind: usize, channels: u8) -> Cmd<'static> {
             called: address(numbers),
             calling: address(numbers),
             user: octets(numbers, 17),
+            params: None,
         },
-        1 => Cmd::Accept { channel },
+        1 => Cmd::Accept {
+            channel,
+            params: None,
+        },
         2 => Cmd::Clear { channel },
         3 => Cmd::Send {
             channel,
@@ -131,15 +135,15 @@ fn command(numbers: &mut Numbers, kind: usize, channels: u8) -> Cmd<'static> {
         5 => Cmd::Reset { channel },
         6 => Cmd::Ready { channel },
         7 => Cmd::NotReady { channel },
-        8 => Cmd::CallWith {
+        8 => Cmd::Call {
             called: address(numbers),
             calling: address(numbers),
             user: octets(numbers, 17),
-            params: params(numbers),
+            params: Some(params(numbers)),
         },
-        9 => Cmd::AcceptWith {
+        9 => Cmd::Accept {
             channel,
-            params: params(numbers),
+            params: Some(params(numbers)),
         },
         10 => Cmd::Restart,
         11 => Cmd::Connect,

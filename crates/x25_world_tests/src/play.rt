@@ -1,6 +1,6 @@
 //! Events that are played at a world, and the text of its transcript.
 
-use crate::calls::{heal, message_refusal, number_of, on_line, step, timer_runs};
+use crate::calls::{heal, number_of, on_line, step, timer_runs};
 use std::alloc::Global;
 use std::process::Abort;
 use std::str;
@@ -103,14 +103,6 @@ impl Play {
         self.write(event.at())
     }
 
-    // A message of which it is known before that it is refused isn't handed down.
-    fn send(&mut self, end: Role, channel: u16, user: &'static [u8]) -> Result<(), Fail> {
-        match message_refusal(&self.world, end, channel, user.len()) {
-            Some(error) => self.refuse(number_of(error)),
-            None => self.apply(message(end, channel, user)),
-        }
-    }
-
     fn repeat(&mut self, count: u16, event: Event<'static>) -> Result<(), Fail> {
         for _ in 0..count {
             self.happen(event)?;
@@ -146,7 +138,7 @@ impl Play {
         for act in acts {
             match *act {
                 Act::Do(event) => self.apply(event)?,
-                Act::Send(end, channel, user) => self.send(end, channel, user)?,
+                Act::Send(end, channel, user) => self.apply(message(end, channel, user))?,
                 Act::Repeat(count, event) => self.repeat(count, event)?,
                 Act::Drain => self.drain()?,
                 Act::Heal => self.heal()?,

@@ -25,6 +25,7 @@ const CALLS: Act = Do(Command(
         called: "123",
         calling: "4567",
         user: b"A",
+        params: None,
     },
 ));
 
@@ -34,6 +35,7 @@ const CALLS_12: Act = Do(Command(
         called: "1",
         calling: "2",
         user: b"",
+        params: None,
     },
 ));
 
@@ -43,6 +45,7 @@ const DCE_CALLS_34: Act = Do(Command(
         called: "3",
         calling: "4",
         user: b"",
+        params: None,
     },
 ));
 
@@ -52,12 +55,25 @@ const DCE_CALLS_12: Act = Do(Command(
         called: "1",
         calling: "2",
         user: b"",
+        params: None,
     },
 ));
 
-const ACCEPTS: Act = Do(Command(Dce, Cmd::Accept { channel: 1 }));
+const ACCEPTS: Act = Do(Command(
+    Dce,
+    Cmd::Accept {
+        channel: 1,
+        params: None,
+    },
+));
 
-const DTE_ACCEPTS: Act = Do(Command(Dte, Cmd::Accept { channel: 1 }));
+const DTE_ACCEPTS: Act = Do(Command(
+    Dte,
+    Cmd::Accept {
+        channel: 1,
+        params: None,
+    },
+));
 
 const CLEARS: Act = Do(Command(Dte, Cmd::Clear { channel: 1 }));
 
@@ -333,7 +349,13 @@ static ROWS: [Row; 14] = [
             SENDS_NOTHING,
             Drain,
             Do(T1(Dte)),
-            Do(Command(Dte, Cmd::Accept { channel: 2 })),
+            Do(Command(
+                Dte,
+                Cmd::Accept {
+                    channel: 2,
+                    params: None,
+                },
+            )),
             DTE_ACCEPTS,
             DCE_CALLS_12,
         ],

@@ -5,10 +5,10 @@ use Rattle.x25_circuit.specs.code.Cutter.{ShownCutter}
 
 abbrev pub shown : Inside → ShownCutter
 shown c = record {
-  left = if c.is_cut then [] else record { q = c.message.q; user = drop c.start c.message.user } ∷ [];
-  lent = take (c.start - c.lent) (drop c.lent c.message.user);
+  left = if c.is_cut then [] else record { q = c.q; user = drop c.start c.user.items } ∷ [];
+  lent = take (c.start - c.lent) (drop c.lent c.user.items);
 }
 
 pub record IsSound (c : Inside) : Type 0 where
   pub lent : c.lent ≤ c.start
-  pub start : c.start ≤ length c.message.user
+  pub start : c.start ≤ length c.user.items

@@ -1,9 +1,10 @@
 -- Which states of the definition a circuit stands for, and what its calls mean.
-use Rattle.std.specs.Prelude.{◌≡◌, ℕ, List, [], length, Some, None, Result, Err, IsOkAnd}
+use Rattle.std.specs.Prelude.{◌≡◌, ℕ, List, [], length, Some, None, Result, Err, IsOkAnd, MatchResult}
 use Rattle.x25_packet.specs.declared.packet.Packet.{Packet}
 use Rattle.x25_packet.specs.Packet.{PlainPacket, plain, user_data}
 use Rattle.x25_circuit.specs.declared.circuit.Circuit as code
 use Rattle.x25_circuit.specs.declared.error.CircuitError.{CircuitError}
+use Rattle.x25_circuit.specs.declared.error.CircuitError.TheVariants as error
 use Rattle.x25_circuit.specs.Circuit.{Settings, Circuit, outgoing}
 use Rattle.x25_circuit.specs.Queue.{waiting}
 use Rattle.x25_circuit.specs.code.Fits.{FitsTalk}
@@ -39,9 +40,10 @@ abbrev pub Sends : Settings → code.Circuit → Result Packet CircuitError → 
 Sends c v result (Done next packet) = IsOkAnd result (λ p. FitsCircuit c v next × (packet ≡ Some (plain p)))
 Sends c v result (Refused e) = result ≡ Err e
 
--- a call with none
+-- a call with none, or for which memory is missing
 abbrev pub Keeps : {T : Type 0} → Settings → code.Circuit → Result T CircuitError → Outcome → Type 0
-Keeps c v result (Done next packet) = IsOkAnd result (λ p. FitsCircuit c v next × (packet ≡ None))
+Keeps c v result (Done next packet) =
+    MatchResult result (λ _. FitsCircuit c v next × (packet ≡ None)) (λ e. e ≡ error.NoMemory)
 Keeps c v result (Refused e) = result ≡ Err e
 
 -- the user data that a packet brings for a message

@@ -48,7 +48,7 @@ packet_owed channel owing.InterruptConf = interrupt_conf channel
 packet_owed channel (owing.Reset cause diagnostic) = reset channel cause diagnostic
 packet_owed channel owing.ResetConf = reset_conf channel
 
--- .. on channel 1
+-- what is owed, where something is, on channel 1
 abbrev pub plain_owed : Option Owed → Option PlainPacket
 plain_owed None = None
 plain_owed (Some owed) = Some (packet_owed 1 owed)

@@ -51,7 +51,7 @@ waits_up_to circuits (suc n) = waits_up_to circuits n + waits (circuits (suc n))
 abbrev pub is_most : ℕ → Bool
 is_most count = count == 2 ^ 64 - 1
 
--- .. of one of the channels up to a number
+-- a count of one of the channels up to a number is at its most
 abbrev pub full_up_to : (ℕ → Circuit) → ℕ → Bool
 full_up_to circuits zero = false
 full_up_to circuits (suc n) = full_up_to circuits n

@@ -1,5 +1,5 @@
 -- A layer over any link that keeps order: what it sees of the link, and the link after packets were put.
-use Rattle.std.specs.Prelude.{◌≡◌, ℕ, ◌<◌, ◌≤◌, ◌⊎◌, max, List, [], ◌∷◌, Bool, Result, Err, OnOk, OnErr, IsErrOf}
+use Rattle.std.specs.Prelude.{◌≡◌, ℕ, ◌<◌, ◌≤◌, ◌⊎◌, max, List, [], ◌∷◌, Bool, true, false, Result, Err, OnOk, OnErr, IsErrOf}
 use Rattle.std.specs.Prelude.{MatchResult}
 use Rattle.x25_packet.specs.Packet.{PlainPacket}
 use Rattle.x25_packet.specs.Spelling.{spelling_of}
@@ -8,7 +8,7 @@ use Rattle.x25_layer.specs.declared.error.LayerError.TheVariants as error
 use Rattle.x25_layer.specs.declared.layer.Layer as code
 use Rattle.x25_link.specs.declared.ordered_link.OrderedLink.{Ghosts}
 use Rattle.x25_layer.specs.Layer.{LayerSettings, Layer}
-use Rattle.x25_layer.specs.Calls.{LayerRequest}
+use Rattle.x25_layer.specs.Calls.{LayerRequest, copies}
 use Rattle.x25_layer.specs.Room.{HasRoom, KeepsRoom}
 use Rattle.x25_layer.specs.code.FitsLayer.{FitsLayer}
 use Rattle.x25_layer.specs.Rounds.{LinkView, Answered, Went, Refuses, calls}
@@ -38,11 +38,17 @@ LinkGives fits after x result (Refuses e) = result ≡ Err e
 abbrev pub LacksMemory : ℕ → code.Layer → ℕ → Type 0
 LacksMemory count v spares = (v.memory < count) ⊎ (spares < count)
 
+-- where 70 may be answered: for what is copied always
+abbrev pub MayLack : Bool → ℕ → code.Layer → ℕ → Type 0
+MayLack true count v spares = Unit {0}
+MayLack false count v spares = LacksMemory count v spares
+
 -- A call of the user does to a layer and to the link below it what the definition says of it, or it is refused and both
--- are as before. 70 comes only where memory for fewer packets than so many is set aside; and of what was set aside no
--- more than for 16 packets is kept, or what there was.
+-- are as before. 70 comes only for a message, which is copied, or where memory for fewer packets than so many is set
+-- aside; and of what was set aside no more than for 16 packets is kept, or what there was.
 pub record Does {D T : Type 0} (g : Ghosts D) (old : code.Layer) (below : D) (new : code.Layer) (below₂ : D)
-    (result : Result T LayerError) (count : ℕ) (said : LinkView → LayerSettings → Layer → Answered) : Type 0 where
+    (result : Result T LayerError) (count : ℕ) (copies : Bool) (said : LinkView → LayerSettings → Layer → Answered)
+    : Type 0 where
   pub layer : (c : LayerSettings) (l : Layer) (x : g.State) → FitsLayer c old l → g.fits below x
       → LayerGives c new result (said (view_of g.up_in g.waits_in g.after_put x) c l)
   pub link : (c : LayerSettings) (l : Layer) (x : g.State) → FitsLayer c old l → g.fits below x
@@ -50,14 +56,14 @@ pub record Does {D T : Type 0} (g : Ghosts D) (old : code.Layer) (below : D) (ne
   pub layer_stays : (c : LayerSettings) (l : Layer) → FitsLayer c old l → OnErr result (FitsLayer c new l)
   pub link_stays : (x : g.State) → g.fits below x → OnErr result (g.fits below₂ x)
   pub longest : g.longest below₂ ≡ g.longest below
-  pub missing : IsErrOf result error.NoMemory → LacksMemory count old (g.spares below)
+  pub missing : IsErrOf result error.NoMemory → MayLack copies count old (g.spares below)
   pub most_memory : new.memory ≤ max old.memory 16
   pub most_spares : g.spares below₂ ≤ max (g.spares below) 16
   pub room : KeepsRoom old (g.spares below) new (g.spares below₂)
   pub room_stays : (len : ℕ) → HasRoom len old (g.spares below) → OnErr result (HasRoom len new (g.spares below₂))
 
--- .. what it says of this request
+-- a call does what the definition says of this request
 abbrev pub Answers : {D T : Type 0} → Ghosts D → code.Layer → D → code.Layer → D → Result T LayerError → ℕ
     → LayerRequest → Type 0
-Answers g old below new below₂ result count request = Does g old below new below₂ result count
+Answers g old below new below₂ result count request = Does g old below new below₂ result count (copies request)
     (λ view c l. calls view c l request)

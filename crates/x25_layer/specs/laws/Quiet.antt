@@ -16,7 +16,7 @@ IsQuiet (reset channel cause diagnostic) = cause ≡ 0
 IsQuiet (restart cause diagnostic) = (cause ≡ 0) ⊎ (cause ≡ 7)
 IsQuiet packet = Unit {0}
 
--- .. and each but RESTART and its confirmation is of a configured channel
+-- each of them but RESTART and its confirmation is of a configured channel
 abbrev pub IsQuietAt : ℕ → PlainPacket → Type 0
 IsQuietAt channels packet = IsQuiet packet × (HasChannel packet → is_channel channels (channel_of packet) ≡ true)
 

@@ -18,7 +18,7 @@ abbrev pub RoundsLeaveNone : Type 0
 RoundsLeaveNone = (link : LinkView) (c : LayerSettings) (s : Putting) → link.waits (rounds link c s).put < 8
     → PullsNone c (rounds link c s).layer
 
--- .. and where the pull of all leaves the layer as it was, in a link that has room
+-- the same where the pull of all leaves the layer as it was, in a link that has room
 abbrev pub StillPullsNone : Type 0
 StillPullsNone = (link : LinkView) (c : LayerSettings) (l : Layer) (s : Putting) → calls link c l PullsAll ≡ Went s
     → s.layer ≡ l → link.waits [] < 8 → PullsNone c l

@@ -1,10 +1,11 @@
-use Rattle.std.proofs.Common.{ℕ, ◌-◌, ◌≤◌, min, refl, sym, subst, arith}
+use Rattle.std.proofs.Common.{ℕ, ◌-◌, ◌≤◌, ◌∙◌, Err, min, refl, sym, ap, subst, arith}
+use Rattle.x25_circuit.specs.declared.error.CircuitError.{CircuitError}
 use Rattle.x25_circuit.specs.declared.circuit.Circuit as circuit_code
 use Rattle.x25_circuit.specs.Calling.{outcome}
 use Rattle.x25_circuit.specs.code.FitsCircuit.{FitsCircuit, room_of}
 use Rattle.x25_circuit.specs.Request.{plain_request}
 use Rattle.x25_layer.specs.Room.{HasCountsLeft}
-use Rattle.x25_layer.proofs.CallLemmas.{found_at, asks_ok, asks_err, layer_kept}
+use Rattle.x25_layer.proofs.CallLemmas.{found_at, asks_ok, asks_err, memory_is, err_is, layer_kept}
 use Rattle.x25_layer.proofs.FitLemmas.{all_changed, counts_left}
 use Rattle.x25_layer.proofs.HearLemmas.{read_there}
 use Rattle.x25_layer.proofs.layer.Layer.ask_circuit.Goals as goal
@@ -18,7 +19,12 @@ returns-in-Ok-clause-outcome c = λ s l fits.
 pub returns-in-Err-clause-outcome : goal.returns-in-Err-clause-outcome
 returns-in-Err-clause-outcome c = λ s l fits.
     let at = found_at s c.args.self.now l c.args.channel c.from-place.result c.index_mut.result.now fits c.requires c.from-place.ensures c.index_mut.ensures.value in
-    asks_err s c.args.self.now l c.args.channel c.ask.new.self c.in-Err.error (outcome s.circuit (l.circuits c.args.channel) (plain_request c.args.request)) (c.in-Err.ensures.outcome s.circuit (l.circuits c.args.channel) at.1)
+    rw c.of_circuit.ensures
+    (asks_err s c.args.self.now l c.args.channel c.ask.new.self c.in-Err.error (outcome s.circuit (l.circuits c.args.channel) (plain_request c.args.request)) (c.in-Err.ensures.outcome s.circuit (l.circuits c.args.channel) at.1)
+    (λ none. (c.in-Err.ensures.memory (ap (λ (e : CircuitError). Err e) none)).accepted s.circuit (l.circuits c.args.channel) at.1))
+
+pub returns-in-Err-clause-missing : goal.returns-in-Err-clause-missing
+returns-in-Err-clause-missing c = λ is. (c.in-Err.ensures.memory (ap (λ (e : CircuitError). Err e) (memory_is c.in-Err.error (sym c.of_circuit.ensures ∙ err_is _ _ is)))).message
 
 pub returns-in-Err-clause-fits : goal.returns-in-Err-clause-fits
 returns-in-Err-clause-fits c = λ s l fits.

@@ -1,14 +1,16 @@
-use Rattle.std.proofs.Common.{rules, ◌∙◌, Ok, sym, subst, ap, arith}
+use Rattle.std.proofs.Common.{rules, ◌∙◌, Ok, Err, sym, subst, ap, arith}
 use Rattle.x25_circuit.specs.Calling.{Outcome, outcome}
-use Rattle.x25_circuit.specs.Request.{plain_request}
-use Rattle.x25_layer.specs.code.OverLink.{view_of, LayerGives, LinkGives}
+use Rattle.x25_circuit.specs.Request.{plain_request, is_message}
+use Rattle.x25_layer.specs.declared.error.LayerError.{LayerError}
+use Rattle.x25_layer.specs.declared.error.LayerError.TheVariants as error
+use Rattle.x25_layer.specs.code.OverLink.{view_of, LayerGives, LinkGives, LacksMemory}
 use Rattle.x25_layer.specs.Rounds.{LinkView, Answered, begin, went}
 use Rattle.x25_layer.specs.declared.layer.Layer as code
 use Rattle.x25_layer.specs.Layer.{packet_on}
 use Rattle.x25_layer.specs.Room.{HaveRoom}
 use Rattle.x25_circuit.specs.code.Replies.{plain_sent}
 use Rattle.x25_layer.proofs.FitLemmas.{on_err}
-use Rattle.x25_layer.proofs.CallLemmas.{IsAccepted, is_accepted, declined_layer, declined_link, short_layer, short_link}
+use Rattle.x25_layer.proofs.CallLemmas.{IsAccepted, is_accepted, declined_layer, declined_link, short_layer, short_link, may_lack, may_copy, same_err}
 use Rattle.x25_layer.proofs.layer.Layer.ask_ready.Goals as goal
 
 pub returns-then-is_err : goal.returns-then-is_err
@@ -20,7 +22,9 @@ returns-then-is_err g c = record {
   layer_stays = search rules;
   link_stays = search rules;
   longest = search rules;
-  missing = search rules;
+  missing = λ is.
+      let lacks : LacksMemory 16 c.args.self.now (g.L.OrderedLink.spares c.args.link.now) = search rules in
+      may_lack (is_message (plain_request c.args.request)) 16 c.args.self.now (g.L.OrderedLink.spares c.args.link.now) lacks;
   most_memory = search rules;
   most_spares = search rules;
   room = search rules;
@@ -38,7 +42,9 @@ returns-in_err-packet g c = record {
   layer_stays = λ s l fits. on_err c.from_residual.result (c.in_err-packet.ensures.fits s l (c.set_aside.ensures.fits s l fits));
   link_stays = search rules;
   longest = search rules;
-  missing = search rules;
+  missing = λ is.
+      may_copy (is_message (plain_request c.args.request)) 16 c.args.self.now (g.L.OrderedLink.spares c.args.link.now)
+      (c.in_err-packet.ensures.missing (ap (λ (e : LayerError). Err e) (same_err c.from_residual.result c.in_err-packet.field-0.0 error.NoMemory c.from_residual.ensures.1 is)));
   most_memory = search rules;
   most_spares = search rules;
   room = λ len has still.

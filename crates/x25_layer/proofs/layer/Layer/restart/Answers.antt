@@ -2,6 +2,8 @@ use Rattle.std.proofs.Common.{rules, ◌≡◌, ◌∙◌, Ok, sym, subst, true,
 use Rattle.x25_layer.specs.code.OverLink.{view_of, LayerGives, LinkGives}
 use Rattle.x25_layer.specs.Rounds.{Answered, LinkView}
 use Rattle.x25_layer.proofs.FitLemmas.{on_err}
+use Rattle.x25_layer.specs.Calls.{Restarts}
+use Rattle.x25_layer.proofs.CallLemmas.{refuses_all}
 use Rattle.x25_layer.proofs.SettleLemmas.{restart_goes}
 use Rattle.x25_layer.proofs.layer.Layer.restart.Goals as goal
 
@@ -19,6 +21,10 @@ returns-in_err-set_aside g c = record {
   room_stays = search rules;
 }
 
+pub returns-in-Some : goal.returns-in-Some
+returns-in-Some g c = refuses_all _ g.L.OrderedLink c.args.self.now c.args.link.now c.in-Some.error 1 _ _ c.in-Some.ensures.kinds
+    (λ s l x fits link. c.in-Some.ensures.refused s l x Restarts fits link)
+
 pub returns : goal.returns
 returns g c = record {
   layer = λ s l x fits link.
@@ -26,8 +32,9 @@ returns g c = record {
       let view : LinkView = view_of g.L.OrderedLink.up_in g.L.OrderedLink.waits_in g.L.OrderedLink.after_put x in
       let up_law = g.met.L.OrderedLink.up_is c.args.link.now x link in
       let waits_law = g.met.L.OrderedLink.waits_are c.args.link.now x link in
+      let is_up = c.in_default.ensures.up in
       let up : g.L.OrderedLink.up_in x ≡ true = search rules in
-      let at_l : l.restarting ≡ false = sym fits.restarting ∙ c.if-self.false in
+      let at_l : l.restarting ≡ false = sym fits.restarting ∙ c.in_default.ensures.ready in
       let free : g.L.OrderedLink.waits_in x ≡ 256 → ⊥ = λ full. grind (arith, full, waits_law, c.waiting.ensures.value, c.if-waiting-eq256.false) in
       subst (λ (a : Answered). LayerGives s c.send_restart.new.self (Ok tt) a) (sym (restart_goes view s l up at_l free))
       (c.send_restart.ensures.layer s l before);
@@ -35,8 +42,9 @@ returns g c = record {
       let view : LinkView = view_of g.L.OrderedLink.up_in g.L.OrderedLink.waits_in g.L.OrderedLink.after_put x in
       let up_law = g.met.L.OrderedLink.up_is c.args.link.now x link in
       let waits_law = g.met.L.OrderedLink.waits_are c.args.link.now x link in
+      let is_up = c.in_default.ensures.up in
       let up : g.L.OrderedLink.up_in x ≡ true = search rules in
-      let at_l : l.restarting ≡ false = sym fits.restarting ∙ c.if-self.false in
+      let at_l : l.restarting ≡ false = sym fits.restarting ∙ c.in_default.ensures.ready in
       let free : g.L.OrderedLink.waits_in x ≡ 256 → ⊥ = λ full. grind (arith, full, waits_law, c.waiting.ensures.value, c.if-waiting-eq256.false) in
       subst (λ (a : Answered). LinkGives (g.L.OrderedLink.fits c.send_restart.new.link) g.L.OrderedLink.after_put x (Ok tt) a) (sym (restart_goes view s l up at_l free))
       (c.send_restart.ensures.link x (c.set_aside.ensures.link x link));

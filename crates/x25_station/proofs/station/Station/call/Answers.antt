@@ -18,7 +18,7 @@ pub invariant_of-self : goal.invariant_of-self
 invariant_of-self c = record {
   meant = still_meant _ _ _ _ c.args.self.now.meant (λ c' s fits.
       let request = Dials c.args.called.now c.args.calling.now c.args.user.now c.args.params in
-      let a = answers c.in-Ok.channel c' _ c.call_with.new.link c.swap_frames.new.self _ c.call_with.new.self (record { frames = c.swap_frames.new.frames; entries = c.enter.new.entries; timer = c.make_room.new.self.timer }) s request fits
+      let a = answers c.in-Ok.channel c' _ c.call.new.link c.swap_frames.new.self _ c.call.new.self (record { frames = c.swap_frames.new.frames; entries = c.enter.new.entries; timer = c.make_room.new.self.timer }) s request fits
       c.in-Ok.ensures.does.layer c.in-Ok.ensures.does.link c.swap_frames.ensures.station (ap (λ o. o.made) c.swap_frames.ensures.outbox ∙ ap (map (λ frame. frame.items)) c.make_room.ensures.empty.frames) c.swap_frames.ensures.frames
       (c.steps_keep_bounds.ensures.command c' s (Requests request) fits.kept) in
       leaves_some c' _ _ (requests c' s request) a.state a.refused);
@@ -33,7 +33,7 @@ invariant_of-self c = record {
 pub invariant_of-self-in-Err-1 : goal.invariant_of-self-in-Err-1
 invariant_of-self-in-Err-1 c = record {
   meant = still_meant _ _ _ _ c.args.self.now.meant (λ c' s fits.
-      (c', s, still_fits c' c.args.self.now.link c.call_with.new.link _ c.call_with.new.self s fits (c.in-Err.ensures.does.layer_stays (layer_settings c') s.layer fits.layer) c.in-Err.ensures.does.link_stays));
+      (c', s, still_fits c' c.args.self.now.link c.call.new.link _ c.call.new.self s fits (c.in-Err.ensures.does.layer_stays (layer_settings c') s.layer fits.layer) c.in-Err.ensures.does.link_stays));
   aside =
       let before = c.args.self.now.aside in
       let packets = c.in-Err.ensures.does.most_memory in
@@ -47,11 +47,11 @@ pub returns-in-Ok : goal.returns-in-Ok
 returns-in-Ok c =
     let request = Dials c.args.called.now c.args.calling.now c.args.user.now c.args.params in
     let r : code_step.Step = record { frames = c.swap_frames.new.frames; entries = c.enter.new.entries; timer = c.make_room.new.self.timer } in
-    did_request c.in-Ok.channel c.args.self.now _ c.call_with.new.link r request c.in-Ok.ensures.does.layer c.in-Ok.ensures.does.link c.swap_frames.ensures.station (ap (λ o. o.made) c.swap_frames.ensures.outbox ∙ ap (map (λ frame. frame.items)) c.make_room.ensures.empty.frames) c.swap_frames.ensures.frames
+    did_request c.in-Ok.channel c.args.self.now _ c.call.new.link r request c.in-Ok.ensures.does.layer c.in-Ok.ensures.does.link c.swap_frames.ensures.station (ap (λ o. o.made) c.swap_frames.ensures.outbox ∙ ap (map (λ frame. frame.items)) c.make_room.ensures.empty.frames) c.swap_frames.ensures.frames
     c.steps_keep_bounds.ensures.command c.holds_few.ensures.window c.holds_few.ensures.stand
     (λ c' s fits.
     let h = c.in-Ok.channel in
-    dialled_enters c' _ _ c.call_with.new.self s r h c.args.called.now c.args.calling.now c.args.user.now c.args.params fits c.in-Ok.ensures.does.layer (c.in-Ok.ensures.channel (layer_settings c') s.layer fits.layer) (λ k after configured.
+    dialled_enters c' _ _ c.call.new.self s r h c.args.called.now c.args.calling.now c.args.user.now c.args.params fits c.in-Ok.ensures.does.layer (c.in-Ok.ensures.channel (layer_settings c') s.layer fits.layer) (λ k after configured.
     c.enter.ensures.entered (layer_settings c') k after configured
     ∙ ap (λ es. map plain_entry es ++ of_channel (record { channel = h; name = name_of k h; said = plain_said (said.Asked c.in_ok-asked.asked) }) ∷ []) c.make_room.ensures.empty.entries
     ∙ ap (λ q. of_channel (record { channel = h; name = name_of k h; said = Asked q }) ∷ []) c.in_ok-asked.ensures.ok))

@@ -1,0 +1,29 @@
+use Rattle.std.proofs.Common.{◌≡◌, refl, Bool, Err, ap, sym, subst, ◌∙◌, lit≤, true}
+use Rattle.std.proofs.lemmas.Result.{err_from_is_err_and}
+use Rattle.x25_packet.specs.Facilities.{IsFacilityField}
+use Rattle.x25_circuit.specs.declared.params.Params.{Params}
+use Rattle.x25_circuit.specs.declared.state.State.TheVariants.{Calling}
+use Rattle.x25_circuit.specs.Calling.{may_call}
+use Rattle.x25_circuit.specs.Circuit.{entered}
+use Rattle.x25_circuit.specs.code.FitsCircuit.{FitsCircuit}
+use Rattle.x25_circuit.specs.Params.{may_propose}
+use Rattle.x25_circuit.proofs.TableLemmas.{call_at}
+use Rattle.x25_circuit.proofs.ParamsLemmas.{field_is_allowed}
+use Rattle.x25_circuit.proofs.circuit.Circuit.call.Goals as goal
+
+pub returns-clause-range : goal.returns-clause-range
+returns-clause-range c =
+    let said = c.in_ok-fields.ensures in
+    let allowed = subst (λ (p : Params). may_propose p ≡ true) (said.flow ∙ c.params.ensures) c.in_ok-fields.fields.flow.allowed in
+    ((lit≤ tt, lit≤ tt), said.called_address, said.calling_address, subst IsFacilityField (sym c.field_for.ensures) (field_is_allowed c.default.result c.args.proposal.now allowed), said.short)
+
+pub returns-clause-outcome : goal.returns-clause-outcome
+returns-clause-outcome c = λ d x fits.
+    let said = c.in_ok-fields.ensures in
+    let may = subst (λ (b : Bool). may_call b c.args.called.now c.args.calling.now c.args.user.now c.args.proposal.now ≡ true) fits.long_data
+    (subst (λ (p : Params). may_call c.args.self.now.long_data c.args.called.now c.args.calling.now c.args.user.now p ≡ true) c.params.ensures said.may_call) in
+    rw (call_at d x x.state c.args.called.now c.args.calling.now c.args.user.now c.args.proposal.now (sym fits.state ∙ said.free), may)
+    ((
+      subst (λ (p : Params). FitsCircuit d c.enter.new.self (entered x Calling p true)) (said.flow ∙ c.params.ensures) (c.enter.ensures.fits d x fits),
+      rw (said.called, said.calling, c.field_for.ensures, c.default.ensures) refl,
+    ))
