@@ -17,7 +17,7 @@ ghost use Rattle.x25_station.specs.Station.{Station as State, view_of, all_put};
 ghost use Rattle.x25_station.specs.Step.{Did, abandons, receives, layer_at, layer_answer, entries_heard};
 ghost use Rattle.x25_station.specs.Step.{entries_of_answer};
 
-use crate::entering::{MOST_TEXTS, TextMemory, enter_message, enter_told};
+use crate::entering::{MOST_TEXTS, TextMemory, enter_told};
 use crate::entry::Entry;
 use crate::error::StationError;
 use crate::law::steps_keep_bounds;
@@ -57,10 +57,8 @@ fn come_up(layer: &mut Layer, link: &mut Link, entries: &mut Vec<Entry>)
     layer.up(link).unwrap();
 }
 
-// A packet that the link hands up and that isn't one of data transfer with which nothing is wrong.
-#[cold]
-#[inline(never)]
-fn hear_other(
+// What the layer does with a packet that the link hands up.
+fn hear(
     layer: &mut Layer,
     link: &mut Link,
     texts: &mut TextMemory,
@@ -93,44 +91,6 @@ fn hear_other(
     reading_is_the_grammar();
     let told = layer.packet(link, packet).unwrap();
     enter_told(layer, texts, told, entries);
-}
-
-// What the layer does with a packet that the link hands up.
-fn hear(
-    layer: &mut Layer,
-    link: &mut Link,
-    texts: &mut TextMemory,
-    packet: &[u8],
-    entries: &mut Vec<Entry>,
-)
-    requires put { CanPut link.old }
-    requires left { IsNotFull layer.old }
-    requires room { HasRoom (length packet.now - 3) layer.old link.old.outbox.long }
-    requires texts { 3 ≤ texts.old }
-    requires entries { vec_len entries.old + 2 ≤ vec_capacity entries.old }
-    ensures layer { (c : Settings) (l : LayerState) (t : Side) → FitsLayer (layer_settings c) layer.old l
-        → FitsWhole link.old (kept_of (link_settings c) t) →
-        FitsLayer (layer_settings c) layer.new
-        (hears (view_of (link_settings c) t.near) (layer_settings c) l packet.now).step.layer }
-    ensures link { (c : Settings) (l : LayerState) (t : Side) → FitsLayer (layer_settings c) layer.old l
-        → FitsWhole link.old (kept_of (link_settings c) t) →
-        FitsWhole link.new (kept_of (link_settings c)
-        (all_put (link_settings c) (hears (view_of (link_settings c) t.near)
-        (layer_settings c) l packet.now).step.put t)) }
-    ensures entries { (c : Settings) (l : LayerState) (t : Side) → FitsLayer (layer_settings c) layer.old l
-        → FitsWhole link.old (kept_of (link_settings c) t) →
-        map plain_entry entries.new.items ≡ map plain_entry entries.old.items
-        ++ entries_of_answer (layer_answer (layer_settings c) l packet.now) }
-    ensures length { vec_len entries.new ≤ vec_len entries.old + 2 }
-    ensures most_memory { layer.new.memory ≤ max layer.old.memory 16 }
-    ensures most_spares { link.new.outbox.long ≤ max link.old.outbox.long 16 }
-    ensures texts { texts.new ≤ texts.old }
-{
-    if let Some(delivery) = layer.transfer(link, packet) {
-        enter_message(layer, entries, delivery.channel, delivery.message);
-        return;
-    }
-    hear_other(layer, link, texts, packet, entries);
 }
 
 // What the layer does at a step of the link that noted this and handed this up.
