@@ -58,4 +58,5 @@ def main():
         print(">" if to_dce else "<", octets.hex())
 
 
-main()
+if __name__ == "__main__":
+    main()

@@ -1,16 +1,13 @@
 //! What each task does, over any reader and writer.
-ghost use Rattle.std.specs.Prelude.{◌≡◌, ◌≤◌, ◌<◌, ◌-◌, ◌^◌, ℕ, true, List, Some, IfOk, OnOk, OnErr, IfSome, IsErrOf};
-ghost use Rattle.std.specs.Prelude.{length};
-ghost use Rattle.std.specs.Io.KnownBytes.{Appends};
-ghost use Rattle.x25.specs.Tasks.{OfScript, WritesEnded, WritesEndedLines, WritesEndedScript, WritesScript};
-ghost use Rattle.x25.specs.Tasks.{WritesScriptOnce, WritesScriptSetUp, cfg_in, is_plain, lines_status, lines_text};
-ghost use Rattle.x25.specs.Tasks.{role_in, script_status, script_text, settings_in, task_status, task_text};
-ghost use Rattle.x25_io.specs.code.Written.{AppendsPrefix};
+ghost use Rattle.std.specs.Prelude.{◌≡◌, true, IsErrOf, OnOk};
+ghost use Rattle.x25.specs.Tasks.{WritesScript, cfg_in, is_plain, program_of, role_in, settings_in};
+ghost use Rattle.x25_io.specs.code.Runs.{OfInput, Runs};
+ghost use Rattle.x25_pipe.specs.code.Stream as piping;
 ghost use Rattle.x25_settings.specs.Options as options;
 ghost use Rattle.x25_settings.specs.Words.{AreInRange};
-ghost use Rattle.x25_world.specs.laws.Claims.{ArrivesAll, HasNoProcedureError, IsLawful, IsNamed};
-ghost use Rattle.x25_world.specs.laws.WindowGoes.{IsInWindow};
-ghost use Rattle.x25_world.specs.laws.SessionClaims.{SessionsKeepOrder};
+ghost use Rattle.x25_sim.specs.code.Stream as simulating;
+ghost use Rattle.x25_sim.specs.laws.WritesRun.{WritesRun};
+ghost use Rattle.x25_station.specs.Config.{settings_from};
 
 use std::alloc::Global;
 use x25_bit_line::{deframe, frame};
@@ -63,22 +60,8 @@ fn answer_lines<R: Source, W: Sink>(
     writer: &mut W,
 ) -> Result<u8, Fault>
     requires { options.PlaceIsInRange place }
-    ensures clean { OnOk result ((R.is_marked reader.new ≡ R.is_marked reader.old)
-        × (W.is_marked writer.new ≡ W.is_marked writer.old)) }
-    ensures zero_or_one { IfOk result (λ status. status ≤ 1) }
-    ensures text { OnOk result (IfSome (R.remaining reader.old) (λ input. length input < 2 ^ 64 - 1
-        → Appends (W.contents writer.old) (W.contents writer.new) (lines_text place input))) }
-    ensures status { IfOk result (λ status. IfSome (R.remaining reader.old) (λ input. length input < 2 ^ 64 - 1
-        → status ≡ lines_status place input)) }
-    ensures fault { OnErr result (IfSome (R.remaining reader.old) (λ input. length input < 2 ^ 64 - 1
-        → AppendsPrefix (W.contents writer.old) (W.contents writer.new) (lines_text place input))) }
-    ensures ended { IsErrOf result Fault.Read → IfSome (R.remaining reader.old) (λ input.
-        (rest : List ℕ) × (R.remaining reader.new ≡ Some rest)
-        × WritesEndedLines place (W.contents writer.old) (W.contents writer.new) rest input) }
-    ensures read { IsErrOf result Fault.Read → R.is_marked reader.new ≡ true }
-    ensures write { IsErrOf result Fault.Write → W.is_marked writer.new ≡ true }
-    ensures memory { IsErrOf result Fault.NoMemory → (R.is_marked reader.new ≡ R.is_marked reader.old)
-        × (W.is_marked writer.new ≡ W.is_marked writer.old) }
+    ensures { Runs R.Source W.Sink (piping.program (settings_from (role_in place.end) (cfg_in place)))
+        reader.old reader.new writer.old writer.new result }
 {
     station(alloc, role_of(place.end), cfg_of(place), reader, writer)
 }
@@ -91,39 +74,11 @@ fn simulate<R: Source, W: Sink>(
     writer: &mut W,
 ) -> Result<u8, Fault>
     requires { options.AreInRange simulation }
-    ensures clean { OnOk result ((R.is_marked reader.new ≡ R.is_marked reader.old)
-        × (W.is_marked writer.new ≡ W.is_marked writer.old)) }
-    ensures zero_or_one { IfOk result (λ status. status ≤ 1) }
-    ensures text { OnOk result (IfSome (R.remaining reader.old) (λ script. length script < 2 ^ 64 - 1
-        → Appends (W.contents writer.old) (W.contents writer.new) (script_text simulation script))) }
-    ensures status { IfOk result (λ status. IfSome (R.remaining reader.old) (λ script. length script < 2 ^ 64 - 1
-        → status ≡ script_status simulation script)) }
-
-    // What is written for a script is the transcript of a run of two stations, of which the claims hold: as long as
-    // neither end goes up a second time, `window` of a script that begins with the link set up, ..
-    ensures lawful { OnOk result (IfSome (R.remaining reader.old) (λ script. length script < 2 ^ 64 - 1
-        → WritesScriptOnce IsLawful simulation script (W.contents writer.old) (W.contents writer.new))) }
-    ensures named { OnOk result (IfSome (R.remaining reader.old) (λ script. length script < 2 ^ 64 - 1
-        → WritesScriptOnce IsNamed simulation script (W.contents writer.old) (W.contents writer.new))) }
-    ensures arrives { OnOk result (IfSome (R.remaining reader.old) (λ script. length script < 2 ^ 64 - 1
-        → WritesScriptOnce ArrivesAll simulation script (W.contents writer.old) (W.contents writer.new))) }
-    ensures quiet { OnOk result (IfSome (R.remaining reader.old) (λ script. length script < 2 ^ 64 - 1
-        → WritesScriptOnce HasNoProcedureError simulation script (W.contents writer.old) (W.contents writer.new))) }
-    ensures window { OnOk result (IfSome (R.remaining reader.old) (λ script. length script < 2 ^ 64 - 1
-        → WritesScriptSetUp IsInWindow simulation script (W.contents writer.old) (W.contents writer.new))) }
-    // .. and of every script those on sessions.
-    ensures sessions { OnOk result (IfSome (R.remaining reader.old) (λ script. length script < 2 ^ 64 - 1
-        → WritesScript SessionsKeepOrder simulation script (W.contents writer.old) (W.contents writer.new))) }
-
-    ensures fault { OnErr result (IfSome (R.remaining reader.old) (λ script. length script < 2 ^ 64 - 1
-        → AppendsPrefix (W.contents writer.old) (W.contents writer.new) (script_text simulation script))) }
-    ensures ended { IsErrOf result Fault.Read → IfSome (R.remaining reader.old) (λ script.
-        (rest : List ℕ) × (R.remaining reader.new ≡ Some rest)
-        × WritesEndedScript simulation (W.contents writer.old) (W.contents writer.new) rest script) }
-    ensures read { IsErrOf result Fault.Read → R.is_marked reader.new ≡ true }
-    ensures write { IsErrOf result Fault.Write → W.is_marked writer.new ≡ true }
-    ensures memory { IsErrOf result Fault.NoMemory → (R.is_marked reader.new ≡ R.is_marked reader.old)
-        × (W.is_marked writer.new ≡ W.is_marked writer.old) }
+    ensures runs { Runs R.Source W.Sink (simulating.program (settings_in simulation) simulation.down simulation.tap)
+        reader.old reader.new writer.old writer.new result }
+    ensures claims { OnOk result (OfInput (R.remaining reader.old) (λ script.
+        WritesRun (settings_in simulation) simulation.down simulation.tap script
+        (W.contents writer.old) (W.contents writer.new))) }
 {
     let (down, tap) = (simulation.down, simulation.tap);
     sim(alloc, down, settings_of(simulation), tap, reader, writer)
@@ -137,47 +92,12 @@ pub(crate) fn perform<R: Source, W: Sink>(
     writer: &mut W,
 ) -> Result<u8, Fault>
     requires { AreInRange task }
-    // Where a status is answered, no call of the reader or of the writer failed.
-    ensures clean { OnOk result ((R.is_marked reader.new ≡ R.is_marked reader.old)
-        × (W.is_marked writer.new ≡ W.is_marked writer.old)) }
-    ensures zero_or_one { IfOk result (λ status. status ≤ 1) }
-    // What is written is the task's text of all that was read, and the status is the task's.
-    ensures text { OnOk result (IfSome (R.remaining reader.old) (λ input. length input < 2 ^ 64 - 1
-        → Appends (W.contents writer.old) (W.contents writer.new) (task_text task input))) }
-    ensures status { IfOk result (λ status. IfSome (R.remaining reader.old) (λ input. length input < 2 ^ 64 - 1
-        → status ≡ task_status task input)) }
-
-    // What is written for a script is the transcript of a run of two stations, of which the claims hold: as long as
-    // neither end goes up a second time, `window` of a script that begins with the link set up, ..
-    ensures lawful { OnOk result (IfSome (R.remaining reader.old) (λ script. length script < 2 ^ 64 - 1
-        → OfScript (WritesScriptOnce IsLawful) task script (W.contents writer.old) (W.contents writer.new))) }
-    ensures named { OnOk result (IfSome (R.remaining reader.old) (λ script. length script < 2 ^ 64 - 1
-        → OfScript (WritesScriptOnce IsNamed) task script (W.contents writer.old) (W.contents writer.new))) }
-    ensures arrives { OnOk result (IfSome (R.remaining reader.old) (λ script. length script < 2 ^ 64 - 1
-        → OfScript (WritesScriptOnce ArrivesAll) task script (W.contents writer.old) (W.contents writer.new))) }
-    ensures quiet { OnOk result (IfSome (R.remaining reader.old) (λ script. length script < 2 ^ 64 - 1
-        → OfScript (WritesScriptOnce HasNoProcedureError) task script (W.contents writer.old)
-        (W.contents writer.new))) }
-    ensures window { OnOk result (IfSome (R.remaining reader.old) (λ script. length script < 2 ^ 64 - 1
-        → OfScript (WritesScriptSetUp IsInWindow) task script (W.contents writer.old) (W.contents writer.new))) }
-    // .. and of every script those on sessions.
-    ensures sessions { OnOk result (IfSome (R.remaining reader.old) (λ script. length script < 2 ^ 64 - 1
-        → OfScript (WritesScript SessionsKeepOrder) task script (W.contents writer.old) (W.contents writer.new))) }
-
-    // What was written before a fault is a beginning of it.
-    ensures fault { OnErr result (IfSome (R.remaining reader.old) (λ input. length input < 2 ^ 64 - 1
-        → AppendsPrefix (W.contents writer.old) (W.contents writer.new) (task_text task input))) }
-    // At a failed read all that the lines that had ended gave is written.
-    ensures ended { IsErrOf result Fault.Read → IfSome (R.remaining reader.old) (λ input.
-        (rest : List ℕ) × (R.remaining reader.new ≡ Some rest)
-        × WritesEnded task (W.contents writer.old) (W.contents writer.new) rest input) }
-
-    ensures read { IsErrOf result Fault.Read → R.is_marked reader.new ≡ true }
-    ensures write { IsErrOf result Fault.Write → W.is_marked writer.new ≡ true }
-    // Nor did any where want of memory is answered.
-    ensures memory { IsErrOf result Fault.NoMemory → (R.is_marked reader.new ≡ R.is_marked reader.old)
-        × (W.is_marked writer.new ≡ W.is_marked writer.old) }
-    // Of `decode`, `vectors`, `judge` and `deframe` it is answered with nothing read and nothing written.
+    // What is written and answered is the task's.
+    ensures runs { Runs R.Source W.Sink (program_of task) reader.old reader.new writer.old writer.new result }
+    // What is written for a script is the transcript of a run of two stations, of which the claims hold.
+    ensures claims { OnOk result (OfInput (R.remaining reader.old) (λ script.
+        WritesScript task script (W.contents writer.old) (W.contents writer.new))) }
+    // Of `decode`, `vectors`, `judge` and `deframe` want of memory is answered with nothing read and nothing written.
     ensures untouched { IsErrOf result Fault.NoMemory → is_plain task ≡ true → (reader.new ≡ reader.old)
         × (writer.new ≡ writer.old) }
     ensures unread { task ≡ Task.Vectors → reader.new ≡ reader.old }

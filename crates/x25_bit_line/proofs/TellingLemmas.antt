@@ -1,9 +1,7 @@
 -- Digits that are told a part at a time.
-use Rattle.std.proofs.Common.{◌≡◌, ◌∙◌, ◌≤◌, ℕ, List, [], ◌∷◌, ◌++◌, length, Option, Some, None, append_assoc, ap, sym, subst, refl, arith}
-use Rattle.std.specs.Prelude.{IfSome}
+use Rattle.std.proofs.Common.{◌≡◌, ◌∙◌, ◌≤◌, ℕ, List, [], ◌∷◌, ◌++◌, length, Option, append_assoc, ap, sym, subst, refl, arith}
 use Rattle.std.specs.List.{flat_map}
 use Rattle.std.specs.Io.KnownBytes.{Appends}
-use Rattle.std.proofs.KnownBytes.{Appends-nil}
 use Rattle.std.proofs.lemmas.Grind.{flat_map-append}
 use Rattle.std.proofs.lemmas.List.{append-nil}
 use Rattle.x25_text.specs.Text.{octet_text}
@@ -44,8 +42,3 @@ module _ (old now : Option (List ℕ)) (told : List ℕ) where
   pub all_digits : (text octets part left : List ℕ) → octets ≡ part ++ left → left ≡ [] → Tells old now text (told ++ flat_map octet_text part) → Tells old now text (told ++ flat_map octet_text octets)
   all_digits text octets part left e none h =
       subst (λ l. Tells old now text (told ++ flat_map octet_text l)) (sym (e ∙ ap (λ l. part ++ l) none ∙ append-nil part)) h
-
--- nothing is written
-pub nothing_written : (o w : Option (List ℕ)) (K : List ℕ → Type 0) (text : List ℕ → List ℕ) → IfSome o (λ input. K input → AppendsPrefix w w (text input))
-nothing_written None w K text = tt
-nothing_written (Some input) w K text = λ few. ([], text input, refl, Appends-nil w)

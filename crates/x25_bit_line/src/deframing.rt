@@ -1,10 +1,7 @@
 //! A synchronous line answered by lines of a trace.
-ghost use Rattle.std.specs.Prelude.{◌≡◌, ◌<◌, ◌≤◌, ◌-◌, ◌^◌, ℕ, true, List, Some, IfOk, OnOk, OnErr, IfSome, IsErrOf};
-ghost use Rattle.std.specs.Prelude.{length};
-ghost use Rattle.std.specs.Io.KnownBytes.{Appends};
-ghost use Rattle.x25_io.specs.code.Written.{AppendsPrefix};
-ghost use Rattle.x25_bit_line.specs.Deframing.{deframed};
-ghost use Rattle.x25_bit_line.specs.code.Reads.{WritesRead};
+ghost use Rattle.std.specs.Prelude.{◌≡◌, IsErrOf};
+ghost use Rattle.x25_bit_line.specs.code.Reads.{program};
+ghost use Rattle.x25_io.specs.code.Runs.{Runs};
 
 use crate::finder::Finder;
 use crate::span_lines::SpanLines;
@@ -26,27 +23,8 @@ pub fn deframe<R: Source, W: Sink>(
     reader: &mut R,
     writer: &mut W,
 ) -> Result<u8, Fault>
-    // Where a status is answered, no call of the reader or of the writer failed.
-    ensures clean { OnOk result ((R.is_marked reader.new ≡ R.is_marked reader.old)
-        × (W.is_marked writer.new ≡ W.is_marked writer.old)) }
-    ensures zero_or_one { IfOk result (λ status. status ≤ 1) }
-    // What is written is the text of all that was read.
-    ensures text { OnOk result (IfSome (R.remaining reader.old) (λ input. length input < 2 ^ 64 - 1
-        → Appends (W.contents writer.old) (W.contents writer.new) (deframed from input))) }
-    ensures status { IfOk result (λ status. IfSome (R.remaining reader.old) (λ input. length input < 2 ^ 64 - 1
-        → status ≡ 0)) }
-
-    // What was written before a fault is a beginning of it.
-    ensures fault { OnErr result (IfSome (R.remaining reader.old) (λ input. length input < 2 ^ 64 - 1
-        → AppendsPrefix (W.contents writer.old) (W.contents writer.new) (deframed from input))) }
-    // At a failed read the text of all that was read is written.
-    ensures ended { IsErrOf result Fault.Read → IfSome (R.remaining reader.old) (λ input.
-        (rest : List ℕ) × (R.remaining reader.new ≡ Some rest)
-        × WritesRead from (W.contents writer.old) (W.contents writer.new) rest input) }
-
+    ensures runs { Runs R.Source W.Sink (program from) reader.old reader.new writer.old writer.new result }
     ensures memory { IsErrOf result Fault.NoMemory → (reader.new ≡ reader.old) × (writer.new ≡ writer.old) }
-    ensures read { IsErrOf result Fault.Read → R.is_marked reader.new ≡ true }
-    ensures write { IsErrOf result Fault.Write → W.is_marked writer.new ≡ true }
 {
     let mut piece = vec![in alloc; 0u8; PIECE]?;
     let deframer = Deframer::new(alloc)?;

@@ -73,7 +73,7 @@ module _ (mark count : ℕ) (digits octets : List ℕ) (few : count ≤ 4103) (w
         subst IsOpen (sym front) (other, (space, open_digits (take (2 * count) digits) octets read)),
       )
 
--- .. of a text
+-- the same of the front of a text
 pub line_left : (left digits : List ℕ) (count : ℕ) (octets : List ℕ) (from : Role) → digits ≡ drop 2 left → 2 ≤ length left → slice_index left 1 ≡ 32
     → sender_of (slice_index left 0) ≡ Some from → count ≤ 4103 → (2 * count < length digits) × (slice_index digits (2 * count) ≡ 10)
     → result_ok (decode_of (take (2 * count) digits)) ≡ Some octets

@@ -1,12 +1,10 @@
 -- A text, a piece at a time.
 use Rattle.x25_decode.specs.declared.answer.Reading.{Reading}
-use Rattle.std.proofs.Common.{◌≡◌, ◌∙◌, ◌||◌, ℕ, Bool, false, List, [], ◌∷◌, ◌++◌, Option, Some, None, ap, sym, refl, subst, append_assoc}
-use Rattle.std.specs.Prelude.{IfSome}
+use Rattle.std.proofs.Common.{◌≡◌, ◌∙◌, ◌||◌, ℕ, Bool, false, List, [], ◌∷◌, ◌++◌, Option, ap, sym, refl, subst, append_assoc}
 use Rattle.std.specs.List.{flat_map, list_any}
 use Rattle.std.proofs.lemmas.List.{append-nil}
 use Rattle.std.specs.Io.KnownBytes.{Appends}
 use Rattle.std.proofs.Math.Bool.{or_assoc, or-false}
-use Rattle.std.proofs.KnownBytes.{Appends-nil}
 use Rattle.x25_io.specs.HeldLine.{HoldsLine}
 use Rattle.x25_io.specs.declared.held_line.HeldLine.{HeldLine}
 use Rattle.x25_io.specs.Lines.{IsOpen, lines_of}
@@ -23,12 +21,6 @@ nil_output reading = refl
 nil_refuses : has_refused [] ≡ false
 unfolding lines_of
 nil_refuses = refl
-
--- nothing was read or written
-pub nothing_written : (reading : Reading) (o w : Option (List ℕ)) (K : List ℕ → Type 0)
-    → IfSome o (λ input. K input → AppendsPrefix w w (output_of reading input))
-nothing_written reading None w K = tt
-nothing_written reading (Some input) w K = λ few. ([], output_of reading input, refl, Appends-nil w)
 
 -- before anything is read
 pub start : (reading : Reading) (old : Option (List ℕ)) (held : HeldLine) (text input : List ℕ) → HoldsLine [] held → text ≡ []

@@ -1,10 +1,8 @@
 -- From the pieces that are read to the whole text.
-use Rattle.std.proofs.Common.{◌≡◌, ◌∙◌, ◌+◌, ◌≤◌, ℕ, List, [], ◌++◌, length, take, Option, Some, None, Result, Ok, Err, ap, sym, subst, refl, arith}
-use Rattle.std.specs.Prelude.{IfSome, IfOk, OnErr}
+use Rattle.std.proofs.Common.{◌≡◌, ◌∙◌, ◌+◌, ◌≤◌, ℕ, List, [], ◌++◌, length, take, Option, Some, None, ap, sym, subst, refl, arith}
 use Rattle.std.specs.Io.KnownBytes.{Consumes, IsAtEnd, Keeps}
 use Rattle.std.proofs.lemmas.List.{length-append, length-take-le}
 use Rattle.std.proofs.lemmas.Option.{same_Some}
-use Rattle.x25_io.specs.declared.fault.Fault.{Fault}
 
 -- what is left behind the octets read
 pub consumed : (a b : Option (List ℕ)) (rest octets : List ℕ) → a ≡ Some rest → Consumes a b octets
@@ -29,18 +27,3 @@ pub fewer : (counter count : ℕ) (rest buffer more input : List ℕ) → rest �
 fewer counter count rest buffer more input split fits some before =
     let size : length rest ≡ length (take count buffer) + length more = ap length split ∙ length-append (take count buffer) more in
     omega (arith, size, length-take-le count buffer fits, some, before)
-
-pub if_some : (o : Option (List ℕ)) (P : List ℕ → Type 0) → ((input : List ℕ) → o ≡ Some input → P input) → IfSome o P
-if_some None P f = tt
-if_some (Some input) P f = f input refl
-
--- what a run came to, where its input is known
-pub told_ok : (o : Option (List ℕ)) (r : Result ℕ Fault) (K : List ℕ → Type 0) (A : ℕ → List ℕ → Type 0) → ((input : List ℕ) → o ≡ Some input → K input → IfOk r (λ n. A n input))
-    → IfOk r (λ n. IfSome o (λ input. K input → A n input))
-told_ok o (Ok n) K A told = if_some o (λ input. K input → A n input) told
-told_ok o (Err fault) K A told = tt
-
-pub told_fault : (o : Option (List ℕ)) (r : Result ℕ Fault) (K A : List ℕ → Type 0) → ((input : List ℕ) → o ≡ Some input → K input → OnErr r (A input))
-    → OnErr r (IfSome o (λ input. K input → A input))
-told_fault o (Ok n) K A told = tt
-told_fault o (Err fault) K A told = if_some o (λ input. K input → A input) told

@@ -25,11 +25,11 @@ module _ (Stands : List (List ℕ) → Type 0) (held : HeldLine) where
   pub ends : (rest : List ℕ) (l : LinesLead Stands held (10 ∷ rest)) → Stands (l.begun ∷ lines_of rest)
   ends rest l = subst Stands (ends_line l.begun rest l.is_open) l.stands
 
-  -- .. of which nothing was held
+  -- a line ends of which nothing was held
   pub ends_whole : (line rest : List ℕ) (l : LinesLead Stands held (line ++ 10 ∷ rest)) → IsOpen line → l.begun ≡ [] → Stands (line ∷ lines_of rest)
   ends_whole line rest l none empty = subst Stands (ends_line line rest none) (subst (λ begun. Stands (lines_of (begun ++ (line ++ 10 ∷ rest)))) empty l.stands)
 
-  -- .. without a line feed
+  -- the last line ends without a line feed
   pub ends_last : (l : LinesLead Stands held []) → (l.begun ≡ [] → ⊥) → Stands (l.begun ∷ [])
   ends_last l some = subst Stands (ends_text l.begun l.is_open some ∙ ap (λ (lines : List (List ℕ)). l.begun ∷ lines) no_lines) l.stands
 

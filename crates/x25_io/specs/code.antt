@@ -2,4 +2,5 @@
 pub mod LinesLead
 pub mod MarksFaults
 pub mod OutputLends
+pub mod Runs
 pub mod Written

@@ -2,6 +2,7 @@
 ghost use Rattle.std.specs.Prelude.{◌≡◌, ◌≢◌, ◌<◌, ◌≤◌, ◌-◌, ◌^◌, ◌++◌, [], ℕ, true, List, Option, Some, IfOk, OnOk};
 ghost use Rattle.std.specs.Prelude.{OnErr, IfSome, IsErrOf, MatchResult, length};
 ghost use Rattle.std.specs.Io.KnownBytes.{Appends};
+ghost use Rattle.x25_io.specs.code.Runs.{Answers, MarksDevices};
 ghost use Rattle.x25_io.specs.code.Written.{AppendsPrefix};
 
 use crate::device::{Sink, Source};
@@ -76,31 +77,13 @@ pub fn take_text<T: TextTaker, R: Source, W: Sink>(
     writer: &mut W,
 ) -> Result<u8, Fault>
     requires room { 0 < length piece.old }
-    ensures clean { OnOk result ((R.is_marked reader.new ≡ R.is_marked reader.old)
-        × (W.is_marked writer.new ≡ W.is_marked writer.old)) }
     ensures zero_or_one { IfOk result (λ status. status ≤ 1) }
-    ensures text { (setting : T.Setting) (old : Option (List ℕ))
+    ensures answers { (setting : T.Setting) (old : Option (List ℕ))
         → ((text : List ℕ) → T.leads setting taker old (W.contents writer.old) text text)
-        → OnOk result (IfSome (R.remaining reader.old) (λ text. length text < 2 ^ 64 - 1
-        → Appends old (W.contents writer.new) (T.text_of setting text))) }
-    ensures status { (setting : T.Setting) (old : Option (List ℕ))
-        → ((text : List ℕ) → T.leads setting taker old (W.contents writer.old) text text)
-        → IfOk result (λ status. IfSome (R.remaining reader.old) (λ text. length text < 2 ^ 64 - 1
-        → status ≡ T.status_of setting text)) }
-    ensures fault { (setting : T.Setting) (old : Option (List ℕ))
-        → ((text : List ℕ) → T.leads setting taker old (W.contents writer.old) text text)
-        → OnErr result (IfSome (R.remaining reader.old) (λ text. length text < 2 ^ 64 - 1
-        → AppendsPrefix old (W.contents writer.new) (T.text_of setting text))) }
-    ensures ended { (setting : T.Setting) (old : Option (List ℕ))
-        → ((text : List ℕ) → T.leads setting taker old (W.contents writer.old) text text)
-        → IsErrOf result Fault.Read → IfSome (R.remaining reader.old) (λ text.
-        (rest : List ℕ) × (R.remaining reader.new ≡ Some rest)
-        × T.ended setting old (W.contents writer.new) rest text) }
-    ensures memory { IsErrOf result Fault.NoMemory
-        → T.may_want × (R.is_marked reader.new ≡ R.is_marked reader.old)
-        × (W.is_marked writer.new ≡ W.is_marked writer.old) }
-    ensures read { IsErrOf result Fault.Read → R.is_marked reader.new ≡ true }
-    ensures write { IsErrOf result Fault.Write → W.is_marked writer.new ≡ true }
+        → Answers (record { text = T.text_of setting; status = T.status_of setting; Ended = T.ended setting })
+        (R.remaining reader.old) (R.remaining reader.new) old (W.contents writer.new) result }
+    ensures marks { MarksDevices R.Source W.Sink reader.old reader.new writer.old writer.new result }
+    ensures memory { IsErrOf result Fault.NoMemory → T.may_want }
 {
     for _ in 0..u64::MAX {
         let Ok(count) = reader.read(piece) else {

@@ -1,8 +1,6 @@
 -- An input, line by line.
-use Rattle.std.proofs.Common.{◌≡◌, ◌∙◌, ◌||◌, ℕ, false, List, [], ◌∷◌, ◌++◌, Option, Some, None, append_assoc, ap, sym, subst, refl}
-use Rattle.std.specs.Prelude.{IfSome}
+use Rattle.std.proofs.Common.{◌≡◌, ◌∙◌, ◌||◌, ℕ, false, List, [], ◌∷◌, ◌++◌, Option, append_assoc, ap, sym, subst}
 use Rattle.std.specs.Io.KnownBytes.{Appends}
-use Rattle.std.proofs.KnownBytes.{Appends-nil}
 use Rattle.std.proofs.Math.Bool.{or_assoc, or-false}
 use Rattle.std.proofs.lemmas.List.{append-nil}
 use Rattle.x25_io.specs.HeldLine.{HoldsLine}
@@ -17,11 +15,6 @@ use Rattle.x25_judge.specs.code.Stream.{JudgesOn, WritesLines}
 use Rattle.x25_judge.specs.declared.answerer.Answerer.{Answerer}
 use Rattle.x25_judge.specs.declared.judge.Judge.{Judge}
 use Rattle.x25_judge.proofs.LineLemmas.{text_first, fault_first, no_text, no_fault}
-
--- nothing was read or written
-pub nothing_written : (j : Judge) (o w : Option (List ℕ)) (K : List ℕ → Type 0) → IfSome o (λ input. K input → AppendsPrefix w w (output_of j input))
-nothing_written j None w K = tt
-nothing_written j (Some input) w K = λ few. ([], output_of j input, refl, Appends-nil w)
 
 -- before anything is read
 start : (j : Judge) (old : Option (List ℕ)) (a : Answerer) (input : List ℕ) → a.judge ≡ j → a.output ≡ [] → a.is_faulty ≡ false → JudgesOn j a old old (lines_of input) input

@@ -1,6 +1,5 @@
 -- A whole input.
-use Rattle.std.proofs.Common.{◌≡◌, ℕ, false, List, [], Option, Some, None, refl, sym, subst}
-use Rattle.std.specs.Prelude.{IfSome}
+use Rattle.std.proofs.Common.{◌≡◌, ℕ, false, List, [], Option, refl, sym, subst}
 use Rattle.x25_io.specs.Lines.{lines_of}
 use Rattle.x25_io.specs.code.Written.{AppendsPrefix}
 use Rattle.x25_station.specs.Config.{Settings}
@@ -9,7 +8,7 @@ use Rattle.x25_io.specs.HeldLine.{HoldsLine}
 use Rattle.x25_io.specs.declared.held_line.HeldLine.{HeldLine}
 use Rattle.x25_io.specs.code.LinesLead.{LinesLead}
 use Rattle.x25_io.proofs.TakerLemmas.{between}
-use Rattle.x25_io.proofs.ToldLemmas.{none_told, told_more}
+use Rattle.x25_io.proofs.ToldLemmas.{none_told}
 use Rattle.x25_station.specs.code.FitsStation.{FitsStation}
 use Rattle.x25_pipe.specs.Pipe.{sayings_text, has_refusal, turns, standing_turn, piped, text_of}
 use Rattle.x25_pipe.specs.code.Stands.{Stands}
@@ -17,14 +16,6 @@ use Rattle.x25_pipe.specs.code.Stream.{Answers}
 use Rattle.x25_pipe.specs.declared.pipe.Pipe.{Pipe}
 use Rattle.x25_pipe.proofs.SayingLemmas.{parts_text, parts_refused}
 use Rattle.x25_pipe.proofs.StandLemmas.{StandsAt, BeginsAt, begins_before}
-
-pub if_some : (o : Option (List ℕ)) (P : List ℕ → Type 0) → ((input : List ℕ) → o ≡ Some input → P input) → IfSome o P
-if_some None P f = tt
-if_some (Some input) P f = f input refl
-
--- before the first mark
-pub nothing_written : (written : Option (List ℕ)) (text : List ℕ) → AppendsPrefix written written text
-nothing_written written text = told_more written written [] [] text (none_told written [] refl)
 
 -- a station that never was up
 pub stands_first : (c : Settings) (written : Option (List ℕ)) (p : Pipe) → FitsStation c p.station new_station → p.end ≡ c.role → p.output ≡ [] → p.is_refused ≡ false

@@ -1,11 +1,8 @@
 //! Lines answered by one station.
-ghost use Rattle.std.specs.Prelude.{◌≡◌, ◌<◌, ◌≤◌, ◌-◌, ◌^◌, ℕ, true, List, Some, None, IfOk, OnOk, OnErr, IfSome};
-ghost use Rattle.std.specs.Prelude.{IsErrOf, length};
-ghost use Rattle.std.specs.Io.KnownBytes.{Appends};
-ghost use Rattle.x25_io.specs.code.Written.{AppendsPrefix};
+ghost use Rattle.std.specs.Prelude.{◌≡◌, None};
+ghost use Rattle.x25_io.specs.code.Runs.{Runs};
+ghost use Rattle.x25_pipe.specs.code.Stream.{program};
 ghost use Rattle.x25_station.specs.Config.{config_refusal, settings_from};
-ghost use Rattle.x25_pipe.specs.Pipe.{piped, station_status, station_text};
-ghost use Rattle.x25_pipe.specs.code.Stream.{WritesEnded};
 
 use crate::pipe::Pipe;
 use std::alloc::Global;
@@ -29,29 +26,8 @@ pub fn station<R: Source, W: Sink>(
     writer: &mut W,
 ) -> Result<u8, Fault>
     requires range { config_refusal cfg ≡ None }
-    // Where a status is answered, no call of the reader or of the writer failed.
-    ensures clean { OnOk result ((R.is_marked reader.new ≡ R.is_marked reader.old)
-        × (W.is_marked writer.new ≡ W.is_marked writer.old)) }
-    ensures zero_or_one { IfOk result (λ status. status ≤ 1) }
-    // What is written is the text of all that was read.
-    ensures text { OnOk result (IfSome (R.remaining reader.old) (λ input. length input < 2 ^ 64 - 1
-        → Appends (W.contents writer.old) (W.contents writer.new) (station_text end cfg input))) }
-    ensures status { IfOk result (λ status. IfSome (R.remaining reader.old) (λ input. length input < 2 ^ 64 - 1
-        → status ≡ station_status end cfg input)) }
-    // What was written before a fault is a beginning of it.
-    ensures fault { OnErr result (IfSome (R.remaining reader.old) (λ input. length input < 2 ^ 64 - 1
-        → AppendsPrefix (W.contents writer.old) (W.contents writer.new) (station_text end cfg input))) }
-    // At a failed read the answers to all lines that had ended are written.
-    ensures ended { IsErrOf result Fault.Read → IfSome (R.remaining reader.old) (λ input.
-        (rest : List ℕ) × (R.remaining reader.new ≡ Some rest)
-        × WritesEnded (settings_from end cfg) (W.contents writer.old) (W.contents writer.new) rest
-        (piped (settings_from end cfg) input)) }
-
-    ensures read { IsErrOf result Fault.Read → R.is_marked reader.new ≡ true }
-    ensures write { IsErrOf result Fault.Write → W.is_marked writer.new ≡ true }
-    // Nor did any where want of memory is answered.
-    ensures memory { IsErrOf result Fault.NoMemory → (R.is_marked reader.new ≡ R.is_marked reader.old)
-        × (W.is_marked writer.new ≡ W.is_marked writer.old) }
+    ensures { Runs R.Source W.Sink (program (settings_from end cfg)) reader.old reader.new
+        writer.old writer.new result }
 {
     let mut piece = vec![in alloc; 0u8; PIECE]?;
     let held = HeldLine::new(alloc)?;

@@ -1,5 +1,5 @@
 use std::test::Fail;
-use x25_pipe::{Cfg, Device, Role, answers_as_worked, station};
+use x25_pipe::{Cfg, Device, Role, station};
 
 /// An end, what is read, what is written and the status.
 type Row = (Role, &'static str, &'static str, u8);
@@ -46,11 +46,5 @@ fn answers_each_line(rt: HostRuntime) -> Result<(), Fail> {
         assert_eq!(rt; result, Ok(status));
         assert_eq!(rt; written.as_slice(), text.as_bytes());
     }
-    Ok(())
-}
-
-#[test]
-fn laws_can_be_called(_rt: HostRuntime) -> Result<(), Fail> {
-    answers_as_worked();
     Ok(())
 }

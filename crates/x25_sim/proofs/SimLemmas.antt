@@ -1,6 +1,5 @@
 -- A whole script.
-use Rattle.std.proofs.Common.{◌≡◌, ◌∙◌, ℕ, Bool, false, List, [], Option, Some, None, ap, refl, sym, subst}
-use Rattle.std.specs.Prelude.{IfSome}
+use Rattle.std.proofs.Common.{◌≡◌, ◌∙◌, ℕ, Bool, false, List, [], Option, ap, refl, sym, subst}
 use Rattle.x25_io.specs.Lines.{lines_of}
 use Rattle.x25_io.specs.code.Written.{AppendsPrefix}
 use Rattle.x25_station.specs.declared.config.Cfg.{Cfg}
@@ -13,16 +12,7 @@ use Rattle.x25_sim.specs.declared.simulator.Simulator.{Simulator}
 use Rattle.x25_sim.specs.declared.stage.Stage.{Stage}
 use Rattle.x25_io.specs.code.LinesLead.{LinesLead}
 use Rattle.x25_io.proofs.TakerLemmas.{between}
-use Rattle.x25_io.proofs.ToldLemmas.{none_told, told_more}
 use Rattle.x25_sim.proofs.StandLemmas.{StandsAt, BeginsAt, begins_before, parts_text, parts_refused}
-
-pub if_some : (o : Option (List ℕ)) (P : List ℕ → Type 0) → ((script : List ℕ) → o ≡ Some script → P script) → IfSome o P
-if_some None P f = tt
-if_some (Some script) P f = f script refl
-
--- before the first step
-pub nothing_written : (written : Option (List ℕ)) (text : List ℕ) → AppendsPrefix written written text
-nothing_written written text = told_more written written [] [] text (none_told written [] refl)
 
 module _ (cfg : Cfg) (down tap asked : Bool) (same : asked ≡ tap) (old now : Option (List ℕ)) (stage : Stage) (script : List ℕ) where
   -- what comes before the script failed

@@ -1,15 +1,11 @@
 //! Scripts answered by transcripts.
-ghost use Rattle.std.specs.Prelude.{◌≡◌, ◌<◌, ◌≤◌, ◌-◌, ◌^◌, ℕ, true, List, Some, None, IfOk, OnOk, OnErr, IfSome};
-ghost use Rattle.std.specs.Prelude.{IsErrOf, length};
-ghost use Rattle.std.specs.Io.KnownBytes.{Appends};
-ghost use Rattle.x25_io.specs.code.Written.{AppendsPrefix};
+ghost use Rattle.std.specs.Prelude.{◌≡◌, ◌<◌, [], false, None, IfErr, IfOk, OnOk, vec_len};
+ghost use Rattle.x25_io.specs.HeldLine.{HoldsLine};
+ghost use Rattle.x25_io.specs.code.Runs.{OfInput, Runs};
 ghost use Rattle.x25_station.specs.Config.{config_refusal};
-ghost use Rattle.x25_sim.specs.Stage.{simulated, sim_status, sim_text};
-ghost use Rattle.x25_sim.specs.code.Stream.{WritesEnded};
-ghost use Rattle.x25_sim.specs.laws.WritesRun.{Writes, WritesOnce, WritesSetUp};
-ghost use Rattle.x25_world.specs.laws.Claims.{ArrivesAll, HasNoProcedureError, IsLawful, IsNamed};
-ghost use Rattle.x25_world.specs.laws.WindowGoes.{IsInWindow};
-ghost use Rattle.x25_world.specs.laws.SessionClaims.{SessionsKeepOrder};
+ghost use Rattle.x25_sim.specs.code.Stands.{IsOpening};
+ghost use Rattle.x25_sim.specs.code.Stream.{program};
+ghost use Rattle.x25_sim.specs.laws.WritesRun.{WritesRun};
 
 use crate::law::{scripts_keep_order, scripts_meet_in_sessions};
 use crate::simulator::Simulator;
@@ -17,6 +13,28 @@ use crate::stage::Stage;
 use std::alloc::Global;
 use x25_io::{Fault, HeldLine, LineByLine, PIECE, Sink, Source, take_text};
 use x25_station::Cfg;
+
+/// The buffers of a run, and the stage before the first line. It has no reader and no writer: where memory is refused
+/// here, nothing is read and nothing written.
+fn made_ready(
+    alloc: Global,
+    down: bool,
+    cfg: Cfg,
+    tap: bool,
+) -> Result<(Vec<u8>, HeldLine, Stage), Fault>
+    ensures piece { IfOk result (λ ready. 0 < vec_len ready.0) }
+    ensures held { IfOk result (λ ready. HoldsLine [] ready.1) }
+    ensures opening { IfOk result (λ ready. IsOpening cfg down ready.2) }
+    ensures tap { IfOk result (λ ready. ready.2.tap ≡ tap) }
+    ensures empty { IfOk result (λ ready. ready.2.output ≡ []) }
+    ensures is_refused { IfOk result (λ ready. ready.2.is_refused ≡ false) }
+    ensures memory { IfErr result (λ fault. fault ≡ Fault.NoMemory) }
+{
+    let piece = vec![in alloc; 0u8; PIECE]?;
+    let held = HeldLine::new(alloc)?;
+    let stage = Stage::new(alloc, down, cfg, tap)?;
+    Ok((piece, held, stage))
+}
 
 /// As `sim`, but for what the laws say.
 fn play<R: Source, W: Sink>(
@@ -27,26 +45,9 @@ fn play<R: Source, W: Sink>(
     reader: &mut R,
     writer: &mut W,
 ) -> Result<u8, Fault>
-    ensures clean { OnOk result ((R.is_marked reader.new ≡ R.is_marked reader.old)
-        × (W.is_marked writer.new ≡ W.is_marked writer.old)) }
-    ensures zero_or_one { IfOk result (λ status. status ≤ 1) }
-    ensures text { OnOk result (IfSome (R.remaining reader.old) (λ script. length script < 2 ^ 64 - 1
-        → Appends (W.contents writer.old) (W.contents writer.new) (sim_text cfg down tap script))) }
-    ensures status { IfOk result (λ status. IfSome (R.remaining reader.old) (λ script. length script < 2 ^ 64 - 1
-        → status ≡ sim_status cfg down tap script)) }
-    ensures fault { OnErr result (IfSome (R.remaining reader.old) (λ script. length script < 2 ^ 64 - 1
-        → AppendsPrefix (W.contents writer.old) (W.contents writer.new) (sim_text cfg down tap script))) }
-    ensures ended { IsErrOf result Fault.Read → IfSome (R.remaining reader.old) (λ script.
-        (rest : List ℕ) × (R.remaining reader.new ≡ Some rest)
-        × WritesEnded cfg tap (W.contents writer.old) (W.contents writer.new) rest (simulated cfg down tap script)) }
-    ensures read { IsErrOf result Fault.Read → R.is_marked reader.new ≡ true }
-    ensures write { IsErrOf result Fault.Write → W.is_marked writer.new ≡ true }
-    ensures memory { IsErrOf result Fault.NoMemory → (R.is_marked reader.new ≡ R.is_marked reader.old)
-        × (W.is_marked writer.new ≡ W.is_marked writer.old) }
+    ensures { Runs R.Source W.Sink (program cfg down tap) reader.old reader.new writer.old writer.new result }
 {
-    let mut piece = vec![in alloc; 0u8; PIECE]?;
-    let held = HeldLine::new(alloc)?;
-    let mut stage = Stage::new(alloc, down, cfg, tap)?;
+    let (mut piece, held, mut stage) = made_ready(alloc, down, cfg, tap)?;
     if let Err(fault) = stage.open(writer) {
         // By one call: as its scope ends a body lets go of the stations part by part, which the prover follows.
         drop(stage);
@@ -76,45 +77,11 @@ pub fn sim<R: Source, W: Sink>(
     writer: &mut W,
 ) -> Result<u8, Fault>
     requires range { config_refusal cfg ≡ None }
-    // Where a status is answered, no call of the reader or of the writer failed.
-    ensures clean { OnOk result ((R.is_marked reader.new ≡ R.is_marked reader.old)
-        × (W.is_marked writer.new ≡ W.is_marked writer.old)) }
-    ensures zero_or_one { IfOk result (λ status. status ≤ 1) }
-    // What is written is the text of all that was read.
-    ensures text { OnOk result (IfSome (R.remaining reader.old) (λ script. length script < 2 ^ 64 - 1
-        → Appends (W.contents writer.old) (W.contents writer.new) (sim_text cfg down tap script))) }
-    ensures status { IfOk result (λ status. IfSome (R.remaining reader.old) (λ script. length script < 2 ^ 64 - 1
-        → status ≡ sim_status cfg down tap script)) }
+    ensures runs { Runs R.Source W.Sink (program cfg down tap) reader.old reader.new writer.old writer.new result }
 
-    // What is written is the transcript of a run of two stations, and with `tap` its frames, of which the claims hold:
-    // as long as neither end goes up a second time, `window` of a script that begins with the link set up, ..
-    ensures lawful { OnOk result (IfSome (R.remaining reader.old) (λ script. length script < 2 ^ 64 - 1
-        → WritesOnce IsLawful cfg down tap script (W.contents writer.old) (W.contents writer.new))) }
-    ensures named { OnOk result (IfSome (R.remaining reader.old) (λ script. length script < 2 ^ 64 - 1
-        → WritesOnce IsNamed cfg down tap script (W.contents writer.old) (W.contents writer.new))) }
-    ensures arrives { OnOk result (IfSome (R.remaining reader.old) (λ script. length script < 2 ^ 64 - 1
-        → WritesOnce ArrivesAll cfg down tap script (W.contents writer.old) (W.contents writer.new))) }
-    ensures quiet { OnOk result (IfSome (R.remaining reader.old) (λ script. length script < 2 ^ 64 - 1
-        → WritesOnce HasNoProcedureError cfg down tap script (W.contents writer.old) (W.contents writer.new))) }
-    ensures window { OnOk result (IfSome (R.remaining reader.old) (λ script. length script < 2 ^ 64 - 1
-        → WritesSetUp IsInWindow cfg down tap script (W.contents writer.old) (W.contents writer.new))) }
-    // And of every script those on sessions.
-    ensures sessions { OnOk result (IfSome (R.remaining reader.old) (λ script. length script < 2 ^ 64 - 1
-        → Writes SessionsKeepOrder cfg down tap script (W.contents writer.old) (W.contents writer.new))) }
-
-    // What was written before a fault is a beginning of it.
-    ensures fault { OnErr result (IfSome (R.remaining reader.old) (λ script. length script < 2 ^ 64 - 1
-        → AppendsPrefix (W.contents writer.old) (W.contents writer.new) (sim_text cfg down tap script))) }
-    // At a failed read what all lines that had ended gave is written.
-    ensures ended { IsErrOf result Fault.Read → IfSome (R.remaining reader.old) (λ script.
-        (rest : List ℕ) × (R.remaining reader.new ≡ Some rest)
-        × WritesEnded cfg tap (W.contents writer.old) (W.contents writer.new) rest (simulated cfg down tap script)) }
-
-    ensures read { IsErrOf result Fault.Read → R.is_marked reader.new ≡ true }
-    ensures write { IsErrOf result Fault.Write → W.is_marked writer.new ≡ true }
-    // Nor did any where want of memory is answered.
-    ensures memory { IsErrOf result Fault.NoMemory → (R.is_marked reader.new ≡ R.is_marked reader.old)
-        × (W.is_marked writer.new ≡ W.is_marked writer.old) }
+    // What is written is the transcript of a run of two stations, and with `tap` its frames, of which the claims hold.
+    ensures claims { OnOk result (OfInput (R.remaining reader.old) (λ script.
+        WritesRun cfg down tap script (W.contents writer.old) (W.contents writer.new))) }
 {
     scripts_keep_order();
     scripts_meet_in_sessions();

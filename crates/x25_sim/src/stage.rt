@@ -1,5 +1,5 @@
 //! Two stations, a line between them, and what is told of them.
-ghost use Rattle.std.specs.Prelude.{◌≡◌, ◌≢◌, ◌↔◌, IfErr, IfOk, IsTrue, OnOk, drop, length, map};
+ghost use Rattle.std.specs.Prelude.{◌≡◌, ◌≢◌, IfErr, IfOk, OnOk, drop, length, map};
 ghost use Rattle.x25_station.specs.code.PlainEntry.{plain_entry};
 ghost use Rattle.x25_bits.specs.Role.{end_of, other};
 ghost use Rattle.x25_world.specs.code.FitsWorld.{FitsWorld};
@@ -29,13 +29,6 @@ pub(crate) struct Stage {
 /// none.
 const MOST_TIMES: u32 = 4_294_967_295;
 
-/// Whether memory was refused.
-fn is_memory(error: WorldError) -> bool
-    ensures { IsTrue result ↔ (error ≡ WorldError.NoMemory) }
-{
-    matches!(error, WorldError::NoMemory)
-}
-
 /// Two stations, of which the DTE has asked that the link be set up, or with `down` both links are down.
 fn first_world(alloc: Global, down: bool, cfg: Cfg) -> Result<World, WorldError>
     ensures { IfOk result (λ world. FitsWorld cfg world (opening cfg down)) }
@@ -52,10 +45,10 @@ fn unless_memory(error: WorldError) -> Result<(), Fault>
     ensures other { OnOk result (error ≢ WorldError.NoMemory) }
     ensures memory { IfErr result (λ fault. fault ≡ Fault.NoMemory) }
 {
-    if is_memory(error) {
-        return Err(Fault::NoMemory);
+    match error {
+        WorldError::NoMemory => Err(Fault::NoMemory),
+        _ => Ok(()),
     }
-    Ok(())
 }
 
 /// The direction that leads away from an end.
@@ -160,9 +153,7 @@ impl Stage {
             → Stood cfg tap old (W.contents writer.new) self.new told refused result (turn_of tap w outcome) }
         ensures faults { MarksFaults W.Sink writer.old writer.new result }
     {
-        if is_memory(error) {
-            return Err(Fault::NoMemory);
-        }
+        unless_memory(error)?;
         self.is_refused = true;
         tell_refusal(error, &mut self.output, writer)
     }

@@ -1,5 +1,5 @@
 use std::test::Fail;
-use x25_sim::{Cfg, Device, scripts_are_runs, scripts_keep_order, scripts_move, sim};
+use x25_sim::{Cfg, Device, sim};
 
 /// A script, whether its frames are asked for, its transcript and its status.
 type Row = (&'static str, bool, &'static str, u8);
@@ -109,11 +109,4 @@ fn keeps_to_its_settings(rt: HostRuntime) -> Result<(), Fail> {
         b"dce linkup\ndte linkup\ndte linkdown retries\n! 9\n".as_slice()
     );
     Ok(())
-}
-
-#[test]
-fn does_nothing_as_laws() {
-    scripts_are_runs();
-    scripts_keep_order();
-    scripts_move();
 }

@@ -5,7 +5,8 @@ use Rattle.std.specs.Io.KnownBytes.{Appends}
 use Rattle.x25_bits.specs.Found.{octets_of}
 use Rattle.x25_bits.specs.Stuffing.{filled}
 use Rattle.x25_io.specs.code.LinesLead.{LinesEnded}
-use Rattle.x25_bit_line.specs.Framing.{framed_bits, framed_octets, has_wrong, is_wrong, line_bits}
+use Rattle.x25_io.specs.code.Runs.{Program}
+use Rattle.x25_bit_line.specs.Framing.{frame_status, framed_bits, framed_octets, has_wrong, is_wrong, line_bits}
 use Rattle.x25_bit_line.specs.LineBits.{Sends}
 use Rattle.x25_bit_line.specs.declared.frame_sender.FrameSender.{FrameSender}
 
@@ -29,3 +30,6 @@ pub record WritesLines (old now : Option (List ℕ)) (lines : List (List ℕ)) (
 -- the same, where a line has begun
 abbrev pub WritesFrames : Option (List ℕ) → Option (List ℕ) → List ℕ → List ℕ → Type 0
 WritesFrames old now rest input = LinesEnded (λ lines. WritesLines old now lines input) rest
+
+abbrev pub program : Program
+program = record { text = framed_octets; status = frame_status; Ended = WritesFrames }

@@ -6,6 +6,7 @@ use Rattle.x25_bits.specs.code.Fits.{Fits}
 use Rattle.x25_bits.specs.Found.{found_of}
 use Rattle.x25_bits.specs.declared.deframer.Deframer.{Deframer}
 use Rattle.x25_bits.specs.declared.role.Role.{Role}
+use Rattle.x25_io.specs.code.Runs.{Program}
 use Rattle.x25_io.specs.code.Written.{Tells}
 use Rattle.x25_bit_line.specs.Deframing.{class_lines, deframed}
 use Rattle.x25_bit_line.specs.declared.finder.Finder.{Finder}
@@ -28,3 +29,6 @@ pub record WritesRead (from : Role) (old now : Option (List ℕ)) (rest input : 
   pub done : List ℕ
   pub split : done ++ rest ≡ input
   pub appends : Appends old now (deframed from done)
+
+abbrev pub program : Role → Program
+program from = record { text = deframed from; status = λ _. 0; Ended = WritesRead from }

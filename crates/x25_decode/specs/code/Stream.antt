@@ -4,8 +4,9 @@ use Rattle.std.specs.Io.KnownBytes.{Appends}
 use Rattle.x25_io.specs.HeldLine.{HoldsLine}
 use Rattle.x25_io.specs.declared.held_line.HeldLine.{HeldLine}
 use Rattle.x25_io.specs.Lines.{IsOpen}
+use Rattle.x25_io.specs.code.Runs.{Program}
 use Rattle.x25_io.specs.code.Written.{Tells}
-use Rattle.x25_decode.specs.Decoding.{output_of, has_refused}
+use Rattle.x25_decode.specs.Decoding.{output_of, has_refused, status_of}
 use Rattle.x25_decode.specs.declared.answer.Reading.{Reading}
 use Rattle.x25_decode.specs.declared.decoder.Decoder.{Decoder}
 
@@ -24,7 +25,7 @@ pub record Leads (reading : Reading) (old now : Option (List ℕ)) (held : HeldL
 abbrev pub LeadsFrom : Option (List ℕ) → Option (List ℕ) → Decoder → List ℕ → List ℕ → Bool → Type 0
 LeadsFrom old now d rest all any = Leads d.reading old now d.held d.output d.is_refused rest all any
 
--- .. of an input, by how octets are read
+-- the same of an input, by how octets are read
 abbrev pub DecodesOn : Reading → Decoder → Option (List ℕ) → Option (List ℕ) → List ℕ → List ℕ → Type 0
 DecodesOn reading d old now rest input = (d.reading ≡ reading)
     × LeadsFrom old now d rest (output_of reading input) (has_refused input)
@@ -36,3 +37,10 @@ pub record WritesEnded (reading : Reading) (old now : Option (List ℕ)) (rest a
   pub part : List ℕ
   pub appends : Appends old now part
   pub same : part ++ output_of reading (begun ++ rest) ≡ all
+
+abbrev pub program : Reading → Program
+program reading = record {
+  text = output_of reading;
+  status = status_of;
+  Ended = λ old now rest input. WritesEnded reading old now rest (output_of reading input);
+}

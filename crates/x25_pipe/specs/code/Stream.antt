@@ -2,9 +2,10 @@
 use Rattle.std.specs.Prelude.{◌≡◌, ℕ, false, List, [], ◌++◌, Option}
 use Rattle.std.specs.Io.KnownBytes.{Appends}
 use Rattle.x25_io.specs.code.LinesLead.{LinesEnded}
+use Rattle.x25_io.specs.code.Runs.{Program}
 use Rattle.x25_station.specs.Config.{Settings}
 use Rattle.x25_station.specs.Station.{Station}
-use Rattle.x25_pipe.specs.Pipe.{Turn, sayings_text, piped, turns}
+use Rattle.x25_pipe.specs.Pipe.{Turn, sayings_text, piped, status_of, text_of, turns}
 use Rattle.x25_pipe.specs.code.Leaves.{Leaves}
 use Rattle.x25_pipe.specs.declared.pipe.Pipe.{Pipe}
 
@@ -22,3 +23,10 @@ pub record WritesLines (c : Settings) (old now : Option (List ℕ)) (lines : Lis
 -- the same, where a line has begun
 abbrev pub WritesEnded : Settings → Option (List ℕ) → Option (List ℕ) → List ℕ → Turn → Type 0
 WritesEnded c old now rest whole = LinesEnded (λ lines. WritesLines c old now lines whole) rest
+
+abbrev pub program : Settings → Program
+program c = record {
+  text = text_of c;
+  status = status_of c;
+  Ended = λ old now rest input. WritesEnded c old now rest (piped c input);
+}

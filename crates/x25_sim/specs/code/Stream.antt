@@ -2,10 +2,11 @@
 use Rattle.std.specs.Prelude.{◌≡◌, ℕ, Bool, false, List, [], ◌++◌, Option}
 use Rattle.std.specs.Io.KnownBytes.{Appends}
 use Rattle.x25_io.specs.code.LinesLead.{LinesEnded}
+use Rattle.x25_io.specs.code.Runs.{Program}
 use Rattle.x25_station.specs.declared.config.Cfg.{Cfg}
 use Rattle.x25_world.specs.World.{World}
 use Rattle.x25_sim.specs.Telling.{sayings_text}
-use Rattle.x25_sim.specs.Stage.{Turn, simulated, turns}
+use Rattle.x25_sim.specs.Stage.{Turn, sim_status, sim_text, simulated, turns}
 use Rattle.x25_sim.specs.code.Leaves.{Leaves}
 use Rattle.x25_sim.specs.declared.simulator.Simulator.{Simulator}
 
@@ -31,3 +32,10 @@ pub record WritesLines (cfg : Cfg) (tap : Bool) (old now : Option (List ℕ)) (l
 -- the same, where a line has begun
 abbrev pub WritesEnded : Cfg → Bool → Option (List ℕ) → Option (List ℕ) → List ℕ → Turn → Type 0
 WritesEnded cfg tap old now rest whole = LinesEnded (λ lines. WritesLines cfg tap old now lines whole) rest
+
+abbrev pub program : Cfg → Bool → Bool → Program
+program cfg down tap = record {
+  text = sim_text cfg down tap;
+  status = sim_status cfg down tap;
+  Ended = λ old now rest script. WritesEnded cfg tap old now rest (simulated cfg down tap script);
+}

@@ -3,15 +3,17 @@ use Rattle.std.specs.Prelude.{◌≡◌, ℕ, Bool, true, false, List, Option}
 use Rattle.std.specs.Io.KnownBytes.{Appends}
 use Rattle.x25_station.specs.declared.config.Cfg.{Cfg}
 use Rattle.x25_world.specs.World.{World}
-use Rattle.x25_world.specs.laws.Claims.{IsUpOnce, IsUpAtMostOnce}
+use Rattle.x25_world.specs.laws.Claims.{ArrivesAll, HasNoProcedureError, IsLawful, IsNamed, IsUpOnce, IsUpAtMostOnce}
+use Rattle.x25_world.specs.laws.SessionClaims.{SessionsKeepOrder}
+use Rattle.x25_world.specs.laws.WindowGoes.{IsInWindow}
 use Rattle.x25_sim.specs.Telling.{Saying, sayings_text}
 use Rattle.x25_sim.specs.Stage.{simulated}
 use Rattle.x25_sim.specs.laws.RunLaw.{entries_in, frames_in}
 
 -- What was written behind `old` is the text of sayings. The entries among these are the transcript of the two stations
 -- to which the script leads, and the frames, where they are asked for, their tap. Of these stations this holds.
-pub record Writes (Holds : Cfg → World
-    → Type 0) (cfg : Cfg) (down tap : Bool) (script : List ℕ) (old now : Option (List ℕ)) : Type 0 where
+pub record Writes (Holds : Cfg → World → Type 0) (cfg : Cfg) (down tap : Bool) (script : List ℕ)
+    (old now : Option (List ℕ)) : Type 0 where
   pub sayings : List Saying
   pub text : Appends old now (sayings_text sayings)
   pub entries : entries_in sayings ≡ (simulated cfg down tap script).next.transcript
@@ -28,3 +30,15 @@ abbrev pub WritesSetUp : (Cfg → World → Type 0) → Cfg → Bool → Bool �
     → Type 0
 WritesSetUp Holds cfg down tap script old now = down ≡ false → IsUpOnce cfg (simulated cfg down tap script).next
     → Writes Holds cfg down tap script old now
+
+-- What was written is the transcript of a run of two stations of which all claims hold.
+pub record WritesRun (cfg : Cfg) (down tap : Bool) (script : List ℕ) (old now : Option (List ℕ)) : Type 0 where
+  -- as long as neither end goes up a second time
+  pub lawful : WritesOnce IsLawful cfg down tap script old now
+  pub named : WritesOnce IsNamed cfg down tap script old now
+  pub arrives : WritesOnce ArrivesAll cfg down tap script old now
+  pub quiet : WritesOnce HasNoProcedureError cfg down tap script old now
+  -- of a script that begins with the link set up
+  pub window : WritesSetUp IsInWindow cfg down tap script old now
+  -- of every script
+  pub sessions : Writes SessionsKeepOrder cfg down tap script old now

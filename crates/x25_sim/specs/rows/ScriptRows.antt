@@ -51,12 +51,14 @@ OtherLinesAreRefused = Simulates usual false false (codes "dte call 1 2\n\n")
 -- a call and two messages
 abbrev pub MessagesArrive : Type 0
 MessagesArrive = Simulates usual false false
-    (codes "drain 100\ndte call 123 4567 41\ndrain 100\ndce accept 1\ndrain 100\ndte send 1 0 6869\ndte send 1 0 -\ndrain 100\n") (codes "dce linkup\ndte linkup\ndce restarted cause=0 diag=0\ndte restarted cause=7 diag=0\ndte call ch=1 at 1.0.0 called=123 calling=4567 data=41\ndce incoming ch=1 at 1.0.0 called=123 calling=4567 data=41\ndce accept ch=1\ndte connected ch=1\ndte send ch=1 at 1.0.0 q=0 data=6869\ndte send ch=1 at 1.0.0 q=0 data=-\ndce message ch=1 at 1.0.0 q=0 data=6869\ndce message ch=1 at 1.0.0 q=0 data=-\n") 0
+    (codes "drain 100\ndte call 123 4567 41\ndrain 100\ndce accept 1\ndrain 100\ndte send 1 0 6869\ndte send 1 0 -\ndrain 100\n")
+    (codes "dce linkup\ndte linkup\ndce restarted cause=0 diag=0\ndte restarted cause=7 diag=0\ndte call ch=1 at 1.0.0 called=123 calling=4567 data=41\ndce incoming ch=1 at 1.0.0 called=123 calling=4567 data=41\ndce accept ch=1\ndte connected ch=1\ndte send ch=1 at 1.0.0 q=0 data=6869\ndte send ch=1 at 1.0.0 q=0 data=-\ndce message ch=1 at 1.0.0 q=0 data=6869\ndce message ch=1 at 1.0.0 q=0 data=-\n") 0
 
 -- a channel is reset, and a message comes in the next stretch
 abbrev pub ResetIsDone : Type 0
 ResetIsDone = Simulates usual false false
-    (codes "drain 100\ndte call 123 4567 41\ndrain 100\ndce accept 1\ndrain 100\ndte reset 1\ndrain 100\ndte send 1 0 61\ndrain 100\n") (codes "dce linkup\ndte linkup\ndce restarted cause=0 diag=0\ndte restarted cause=7 diag=0\ndte call ch=1 at 1.0.0 called=123 calling=4567 data=41\ndce incoming ch=1 at 1.0.0 called=123 calling=4567 data=41\ndce accept ch=1\ndte connected ch=1\ndte reset ch=1\ndce wasreset ch=1 cause=0 diag=0\ndte resetdone ch=1\ndte send ch=1 at 1.0.1 q=0 data=61\ndce message ch=1 at 1.0.1 q=0 data=61\n") 0
+    (codes "drain 100\ndte call 123 4567 41\ndrain 100\ndce accept 1\ndrain 100\ndte reset 1\ndrain 100\ndte send 1 0 61\ndrain 100\n")
+    (codes "dce linkup\ndte linkup\ndce restarted cause=0 diag=0\ndte restarted cause=7 diag=0\ndte call ch=1 at 1.0.0 called=123 calling=4567 data=41\ndce incoming ch=1 at 1.0.0 called=123 calling=4567 data=41\ndce accept ch=1\ndte connected ch=1\ndte reset ch=1\ndce wasreset ch=1 cause=0 diag=0\ndte resetdone ch=1\ndte send ch=1 at 1.0.1 q=0 data=61\ndce message ch=1 at 1.0.1 q=0 data=61\n") 0
 
 -- a restart, in which no call is taken
 abbrev pub RestartIsDone : Type 0
@@ -87,17 +89,20 @@ LinkIsSetUpAgain = Simulates once false false (codes "lose > 0\nt1 dte\nt1 dte\n
 -- a message whose frame was lost arrives, and T1 stops at the other end too
 abbrev pub LostFrameArrives : Type 0
 LostFrameArrives = Simulates usual false false
-    (codes "drain 100\ndte call 1 2 -\ndrain 100\ndce accept 1\ndrain 100\ndte send 1 0 61\nlose > 0\nheal\nt1 dte\nt1 dce\n") (codes "dce linkup\ndte linkup\ndce restarted cause=0 diag=0\ndte restarted cause=7 diag=0\ndte call ch=1 at 1.0.0 called=1 calling=2 data=-\ndce incoming ch=1 at 1.0.0 called=1 calling=2 data=-\ndce accept ch=1\ndte connected ch=1\ndte send ch=1 at 1.0.0 q=0 data=61\ndce message ch=1 at 1.0.0 q=0 data=61\n! 11\n! 11\n") 1
+    (codes "drain 100\ndte call 1 2 -\ndrain 100\ndce accept 1\ndrain 100\ndte send 1 0 61\nlose > 0\nheal\nt1 dte\nt1 dce\n")
+    (codes "dce linkup\ndte linkup\ndce restarted cause=0 diag=0\ndte restarted cause=7 diag=0\ndte call ch=1 at 1.0.0 called=1 calling=2 data=-\ndce incoming ch=1 at 1.0.0 called=1 calling=2 data=-\ndce accept ch=1\ndte connected ch=1\ndte send ch=1 at 1.0.0 q=0 data=61\ndce message ch=1 at 1.0.0 q=0 data=61\n! 11\n! 11\n") 1
 
 -- both ends have lost a frame, and one of them a poll
 abbrev pub BothEndsHeal : Type 0
 BothEndsHeal = Simulates usual false false
-    (codes "drain 100\ndte call 1 2 -\ndrain 100\ndce accept 1\ndrain 100\ndte send 1 0 61\ndce send 1 0 62\nlose > 0\nlose < 0\nt1 dte\nlose > 0\nheal\n") (codes "dce linkup\ndte linkup\ndce restarted cause=0 diag=0\ndte restarted cause=7 diag=0\ndte call ch=1 at 1.0.0 called=1 calling=2 data=-\ndce incoming ch=1 at 1.0.0 called=1 calling=2 data=-\ndce accept ch=1\ndte connected ch=1\ndte send ch=1 at 1.0.0 q=0 data=61\ndce send ch=1 at 1.0.0 q=0 data=62\ndce message ch=1 at 1.0.0 q=0 data=61\ndte message ch=1 at 1.0.0 q=0 data=62\n") 0
+    (codes "drain 100\ndte call 1 2 -\ndrain 100\ndce accept 1\ndrain 100\ndte send 1 0 61\ndce send 1 0 62\nlose > 0\nlose < 0\nt1 dte\nlose > 0\nheal\n")
+    (codes "dce linkup\ndte linkup\ndce restarted cause=0 diag=0\ndte restarted cause=7 diag=0\ndte call ch=1 at 1.0.0 called=1 calling=2 data=-\ndce incoming ch=1 at 1.0.0 called=1 calling=2 data=-\ndce accept ch=1\ndte connected ch=1\ndte send ch=1 at 1.0.0 q=0 data=61\ndce send ch=1 at 1.0.0 q=0 data=62\ndce message ch=1 at 1.0.0 q=0 data=61\ndte message ch=1 at 1.0.0 q=0 data=62\n") 0
 
 -- a message waits in its circuit with nothing on the line
 abbrev pub WaitingMessageIsPulled : Type 0
 WaitingMessageIsPulled = Simulates narrow false false
-    (codes "drain 100\ndte call 1 2 -\ndrain 100\ndce accept 1\ndrain 100\ndte ready 1\ndte ready 1\ndte ready 1\ndte ready 1\ndte ready 1\ndte ready 1\ndte ready 1\ndte ready 1\ndte ready 1\ndte send 1 0 61\ndrain 100\nheal\n") (codes "dce linkup\ndte linkup\ndce restarted cause=0 diag=0\ndte restarted cause=7 diag=0\ndte call ch=1 at 1.0.0 called=1 calling=2 data=-\ndce incoming ch=1 at 1.0.0 called=1 calling=2 data=-\ndce accept ch=1\ndte connected ch=1\ndte ready ch=1\ndte ready ch=1\ndte ready ch=1\ndte ready ch=1\ndte ready ch=1\ndte ready ch=1\ndte ready ch=1\ndte ready ch=1\ndte ready ch=1\ndte send ch=1 at 1.0.0 q=0 data=61\ndce message ch=1 at 1.0.0 q=0 data=61\n") 0
+    (codes "drain 100\ndte call 1 2 -\ndrain 100\ndce accept 1\ndrain 100\ndte ready 1\ndte ready 1\ndte ready 1\ndte ready 1\ndte ready 1\ndte ready 1\ndte ready 1\ndte ready 1\ndte ready 1\ndte send 1 0 61\ndrain 100\nheal\n")
+    (codes "dce linkup\ndte linkup\ndce restarted cause=0 diag=0\ndte restarted cause=7 diag=0\ndte call ch=1 at 1.0.0 called=1 calling=2 data=-\ndce incoming ch=1 at 1.0.0 called=1 calling=2 data=-\ndce accept ch=1\ndte connected ch=1\ndte ready ch=1\ndte ready ch=1\ndte ready ch=1\ndte ready ch=1\ndte ready ch=1\ndte ready ch=1\ndte ready ch=1\ndte ready ch=1\ndte ready ch=1\ndte send ch=1 at 1.0.0 q=0 data=61\ndce message ch=1 at 1.0.0 q=0 data=61\n") 0
 
 -- there is nothing to do where both links are down, and nothing is refused
 abbrev pub LinksThatAreDownHeal : Type 0

@@ -1,199 +1,93 @@
-use Rattle.std.proofs.Common.{ℕ, ◌<◌, ◌-◌, ◌^◌, List, length, Option, Some, None, Result, Ok, Err, OnOk, IfSome}
-use Rattle.std.specs.Prelude.{⊤}
+use Rattle.std.proofs.Common.{◌≡◌, ◌≤◌, ℕ, Bool, true, false, ap, List, Option, Some, None, Result, Ok, Err, arith, refl}
+use Rattle.std.specs.Prelude.{⊤, IfOk, IsErrOf, OnErr, OnOk, if◌then◌else◌}
+use Rattle.std.specs.Io.KnownBytes.{Appends}
+use Rattle.x25_decode.specs.TestVectors.{are_right, verdicts}
+use Rattle.x25_io.specs.code.Runs.{OfInput, Runs}
+use Rattle.x25_io.specs.code.Written.{AppendsPrefix}
+use Rattle.x25_io.specs.declared.device.Sink.{Ghosts as SinkGhosts}
+use Rattle.x25_io.specs.declared.device.Source.{Ghosts as SourceGhosts}
 use Rattle.x25_io.specs.declared.fault.Fault.{Fault}
+use Rattle.x25_io.specs.declared.fault.Fault.TheVariants.{Read, Write, NoMemory}
+use Rattle.x25_settings.specs.declared.words.Task.TheVariants.{Vectors}
+use Rattle.x25.specs.Tasks.{program_of}
 use Rattle.x25.proofs.tasks.perform.Goals as goal
 
 -- of a task that runs no script nothing is said
-nothing : (r : Result ℕ Fault) (o : Option (List ℕ)) → OnOk r (IfSome o (λ script. length script < 2 ^ 64 - 1 → ⊤))
+nothing : (r : Result ℕ Fault) (o : Option (List ℕ)) → OnOk r (OfInput o (λ script. ⊤))
 nothing (Ok status) (Some script) = λ few. tt
 nothing (Ok status) None = tt
 nothing (Err e) o = tt
 
-pub returns-in-Decode-clause-text : goal.returns-in-Decode-clause-text
-returns-in-Decode-clause-text g c = rw c.in-Decode.is c.decode_lines.ensures.text
+of_input : (o : Option (List ℕ)) (P : Type 0) → P → OfInput o (λ input. P)
+of_input None P p = tt
+of_input (Some input) P p = λ few. p
 
-pub returns-in-Decode-clause-status : goal.returns-in-Decode-clause-status
-returns-in-Decode-clause-status g c = rw c.in-Decode.is c.decode_lines.ensures.status
+bit : (b : Bool) → (if b then 0 else 1) ≤ 1
+bit true = omega arith
+bit false = omega arith
 
-pub returns-in-Decode-clause-fault : goal.returns-in-Decode-clause-fault
-returns-in-Decode-clause-fault g c = rw c.in-Decode.is c.decode_lines.ensures.fault
+-- a task that reads nothing
+unread : {R W : Type 0} (source : SourceGhosts R) (sink : SinkGhosts W) (reader : R) (writer next : W) (r : Result ℕ Fault)
+    → OnOk r (Appends (sink.contents writer) (sink.contents next) verdicts) → IfOk r (λ status. status ≡ (if are_right then 0 else 1))
+    → OnOk r (sink.is_marked next ≡ sink.is_marked writer) → OnErr r (AppendsPrefix (sink.contents writer) (sink.contents next) verdicts)
+    → (IsErrOf r NoMemory → next ≡ writer) → (IsErrOf r Read → ⊥) → (IsErrOf r Write → sink.is_marked next ≡ true)
+    → Runs source sink (program_of Vectors) reader reader writer next r
+unread source sink reader writer next (Ok n) text status clean fault memory read write = record {
+  zero_or_one = rw status (bit are_right);
+  answers = record {
+    text = of_input (source.remaining reader) _ text;
+    status = of_input (source.remaining reader) _ status;
+    fault = tt;
+    ended = λ err. absurd (read err);
+  };
+  marks = record { clean = (refl, clean); read = λ err. absurd (read err); write = write; memory = λ err. (refl, ap sink.is_marked (memory err)) };
+}
+unread source sink reader writer next (Err e) text status clean fault memory read write = record {
+  zero_or_one = tt;
+  answers = record { text = tt; status = tt; fault = of_input (source.remaining reader) _ fault; ended = λ err. absurd (read err) };
+  marks = record { clean = tt; read = λ err. absurd (read err); write = write; memory = λ err. (refl, ap sink.is_marked (memory err)) };
+}
 
-pub returns-in-Decode-clause-ended : goal.returns-in-Decode-clause-ended
-returns-in-Decode-clause-ended g c = rw c.in-Decode.is c.decode_lines.ensures.ended
+pub returns-in-Decode-clause-runs : goal.returns-in-Decode-clause-runs
+returns-in-Decode-clause-runs g c = rw c.in-Decode.is c.decode_lines.ensures.runs
 
-pub returns-in-Decode-clause-lawful : goal.returns-in-Decode-clause-lawful
-returns-in-Decode-clause-lawful g c = rw c.in-Decode.is (nothing c.decode_lines.result _)
+pub returns-in-Decode-clause-claims : goal.returns-in-Decode-clause-claims
+returns-in-Decode-clause-claims g c = rw c.in-Decode.is (nothing c.decode_lines.result _)
 
-pub returns-in-Decode-clause-named : goal.returns-in-Decode-clause-named
-returns-in-Decode-clause-named g c = rw c.in-Decode.is (nothing c.decode_lines.result _)
+pub returns-in-Sim-clause-runs : goal.returns-in-Sim-clause-runs
+returns-in-Sim-clause-runs g c = rw c.in-Sim.is c.simulate.ensures.runs
 
-pub returns-in-Decode-clause-arrives : goal.returns-in-Decode-clause-arrives
-returns-in-Decode-clause-arrives g c = rw c.in-Decode.is (nothing c.decode_lines.result _)
+pub returns-in-Sim-clause-claims : goal.returns-in-Sim-clause-claims
+returns-in-Sim-clause-claims g c = rw c.in-Sim.is c.simulate.ensures.claims
 
-pub returns-in-Decode-clause-quiet : goal.returns-in-Decode-clause-quiet
-returns-in-Decode-clause-quiet g c = rw c.in-Decode.is (nothing c.decode_lines.result _)
+pub returns-in-Station-clause-runs : goal.returns-in-Station-clause-runs
+returns-in-Station-clause-runs g c = rw c.in-Station.is c.answer_lines.ensures
 
-pub returns-in-Decode-clause-window : goal.returns-in-Decode-clause-window
-returns-in-Decode-clause-window g c = rw c.in-Decode.is (nothing c.decode_lines.result _)
+pub returns-in-Station-clause-claims : goal.returns-in-Station-clause-claims
+returns-in-Station-clause-claims g c = rw c.in-Station.is (nothing c.answer_lines.result _)
 
-pub returns-in-Decode-clause-sessions : goal.returns-in-Decode-clause-sessions
-returns-in-Decode-clause-sessions g c = rw c.in-Decode.is (nothing c.decode_lines.result _)
+pub returns-in-Vectors-clause-runs : goal.returns-in-Vectors-clause-runs
+returns-in-Vectors-clause-runs g c =
+    let said = c.vectors.ensures in
+    rw c.in-Vectors.is (unread g.R.Source g.W.Sink c.args.reader.now c.args.writer.now c.vectors.new.writer c.vectors.result said.text said.status said.clean said.fault said.memory said.read said.write)
 
-pub returns-in-Sim-clause-text : goal.returns-in-Sim-clause-text
-returns-in-Sim-clause-text g c = rw c.in-Sim.is c.simulate.ensures.text
+pub returns-in-Vectors-clause-claims : goal.returns-in-Vectors-clause-claims
+returns-in-Vectors-clause-claims g c = rw c.in-Vectors.is (nothing c.vectors.result _)
 
-pub returns-in-Sim-clause-status : goal.returns-in-Sim-clause-status
-returns-in-Sim-clause-status g c = rw c.in-Sim.is c.simulate.ensures.status
+pub returns-in-Judge-clause-runs : goal.returns-in-Judge-clause-runs
+returns-in-Judge-clause-runs g c = rw c.in-Judge.is c.judge_lines.ensures.runs
 
-pub returns-in-Sim-clause-fault : goal.returns-in-Sim-clause-fault
-returns-in-Sim-clause-fault g c = rw c.in-Sim.is c.simulate.ensures.fault
+pub returns-in-Judge-clause-claims : goal.returns-in-Judge-clause-claims
+returns-in-Judge-clause-claims g c = rw c.in-Judge.is (nothing c.judge_lines.result _)
 
-pub returns-in-Sim-clause-ended : goal.returns-in-Sim-clause-ended
-returns-in-Sim-clause-ended g c = rw c.in-Sim.is c.simulate.ensures.ended
+pub returns-in-Deframe-clause-runs : goal.returns-in-Deframe-clause-runs
+returns-in-Deframe-clause-runs g c = rw c.in-Deframe.is (rw c.role_of.ensures at c.deframe.ensures.runs)
 
-pub returns-in-Sim-clause-lawful : goal.returns-in-Sim-clause-lawful
-returns-in-Sim-clause-lawful g c = rw c.in-Sim.is c.simulate.ensures.lawful
+pub returns-in-Deframe-clause-claims : goal.returns-in-Deframe-clause-claims
+returns-in-Deframe-clause-claims g c = rw c.in-Deframe.is (nothing c.deframe.result _)
 
-pub returns-in-Sim-clause-named : goal.returns-in-Sim-clause-named
-returns-in-Sim-clause-named g c = rw c.in-Sim.is c.simulate.ensures.named
+pub returns-in-Frame-clause-runs : goal.returns-in-Frame-clause-runs
+returns-in-Frame-clause-runs g c = rw c.in-Frame.is c.frame.ensures
 
-pub returns-in-Sim-clause-arrives : goal.returns-in-Sim-clause-arrives
-returns-in-Sim-clause-arrives g c = rw c.in-Sim.is c.simulate.ensures.arrives
-
-pub returns-in-Sim-clause-quiet : goal.returns-in-Sim-clause-quiet
-returns-in-Sim-clause-quiet g c = rw c.in-Sim.is c.simulate.ensures.quiet
-
-pub returns-in-Sim-clause-window : goal.returns-in-Sim-clause-window
-returns-in-Sim-clause-window g c = rw c.in-Sim.is c.simulate.ensures.window
-
-pub returns-in-Sim-clause-sessions : goal.returns-in-Sim-clause-sessions
-returns-in-Sim-clause-sessions g c = rw c.in-Sim.is c.simulate.ensures.sessions
-
-pub returns-in-Station-clause-text : goal.returns-in-Station-clause-text
-returns-in-Station-clause-text g c = rw c.in-Station.is c.answer_lines.ensures.text
-
-pub returns-in-Station-clause-status : goal.returns-in-Station-clause-status
-returns-in-Station-clause-status g c = rw c.in-Station.is c.answer_lines.ensures.status
-
-pub returns-in-Station-clause-fault : goal.returns-in-Station-clause-fault
-returns-in-Station-clause-fault g c = rw c.in-Station.is c.answer_lines.ensures.fault
-
-pub returns-in-Station-clause-ended : goal.returns-in-Station-clause-ended
-returns-in-Station-clause-ended g c = rw c.in-Station.is c.answer_lines.ensures.ended
-
-pub returns-in-Station-clause-lawful : goal.returns-in-Station-clause-lawful
-returns-in-Station-clause-lawful g c = rw c.in-Station.is (nothing c.answer_lines.result _)
-
-pub returns-in-Station-clause-named : goal.returns-in-Station-clause-named
-returns-in-Station-clause-named g c = rw c.in-Station.is (nothing c.answer_lines.result _)
-
-pub returns-in-Station-clause-arrives : goal.returns-in-Station-clause-arrives
-returns-in-Station-clause-arrives g c = rw c.in-Station.is (nothing c.answer_lines.result _)
-
-pub returns-in-Station-clause-quiet : goal.returns-in-Station-clause-quiet
-returns-in-Station-clause-quiet g c = rw c.in-Station.is (nothing c.answer_lines.result _)
-
-pub returns-in-Station-clause-window : goal.returns-in-Station-clause-window
-returns-in-Station-clause-window g c = rw c.in-Station.is (nothing c.answer_lines.result _)
-
-pub returns-in-Station-clause-sessions : goal.returns-in-Station-clause-sessions
-returns-in-Station-clause-sessions g c = rw c.in-Station.is (nothing c.answer_lines.result _)
-
-pub returns-in-Vectors-clause-lawful : goal.returns-in-Vectors-clause-lawful
-returns-in-Vectors-clause-lawful g c = rw c.in-Vectors.is (nothing c.vectors.result _)
-
-pub returns-in-Vectors-clause-named : goal.returns-in-Vectors-clause-named
-returns-in-Vectors-clause-named g c = rw c.in-Vectors.is (nothing c.vectors.result _)
-
-pub returns-in-Vectors-clause-arrives : goal.returns-in-Vectors-clause-arrives
-returns-in-Vectors-clause-arrives g c = rw c.in-Vectors.is (nothing c.vectors.result _)
-
-pub returns-in-Vectors-clause-quiet : goal.returns-in-Vectors-clause-quiet
-returns-in-Vectors-clause-quiet g c = rw c.in-Vectors.is (nothing c.vectors.result _)
-
-pub returns-in-Vectors-clause-window : goal.returns-in-Vectors-clause-window
-returns-in-Vectors-clause-window g c = rw c.in-Vectors.is (nothing c.vectors.result _)
-
-pub returns-in-Vectors-clause-sessions : goal.returns-in-Vectors-clause-sessions
-returns-in-Vectors-clause-sessions g c = rw c.in-Vectors.is (nothing c.vectors.result _)
-
-pub returns-in-Judge-clause-text : goal.returns-in-Judge-clause-text
-returns-in-Judge-clause-text g c = rw c.in-Judge.is c.judge_lines.ensures.text
-
-pub returns-in-Judge-clause-status : goal.returns-in-Judge-clause-status
-returns-in-Judge-clause-status g c = rw c.in-Judge.is c.judge_lines.ensures.status
-
-pub returns-in-Judge-clause-fault : goal.returns-in-Judge-clause-fault
-returns-in-Judge-clause-fault g c = rw c.in-Judge.is c.judge_lines.ensures.fault
-
-pub returns-in-Judge-clause-ended : goal.returns-in-Judge-clause-ended
-returns-in-Judge-clause-ended g c = rw c.in-Judge.is c.judge_lines.ensures.ended
-
-pub returns-in-Judge-clause-lawful : goal.returns-in-Judge-clause-lawful
-returns-in-Judge-clause-lawful g c = rw c.in-Judge.is (nothing c.judge_lines.result _)
-
-pub returns-in-Judge-clause-named : goal.returns-in-Judge-clause-named
-returns-in-Judge-clause-named g c = rw c.in-Judge.is (nothing c.judge_lines.result _)
-
-pub returns-in-Judge-clause-arrives : goal.returns-in-Judge-clause-arrives
-returns-in-Judge-clause-arrives g c = rw c.in-Judge.is (nothing c.judge_lines.result _)
-
-pub returns-in-Judge-clause-quiet : goal.returns-in-Judge-clause-quiet
-returns-in-Judge-clause-quiet g c = rw c.in-Judge.is (nothing c.judge_lines.result _)
-
-pub returns-in-Judge-clause-window : goal.returns-in-Judge-clause-window
-returns-in-Judge-clause-window g c = rw c.in-Judge.is (nothing c.judge_lines.result _)
-
-pub returns-in-Judge-clause-sessions : goal.returns-in-Judge-clause-sessions
-returns-in-Judge-clause-sessions g c = rw c.in-Judge.is (nothing c.judge_lines.result _)
-
-pub returns-in-Deframe-clause-text : goal.returns-in-Deframe-clause-text
-returns-in-Deframe-clause-text g c = rw c.in-Deframe.is (rw c.role_of.ensures at c.deframe.ensures.text)
-
-pub returns-in-Deframe-clause-lawful : goal.returns-in-Deframe-clause-lawful
-returns-in-Deframe-clause-lawful g c = rw c.in-Deframe.is (nothing c.deframe.result _)
-
-pub returns-in-Deframe-clause-named : goal.returns-in-Deframe-clause-named
-returns-in-Deframe-clause-named g c = rw c.in-Deframe.is (nothing c.deframe.result _)
-
-pub returns-in-Deframe-clause-arrives : goal.returns-in-Deframe-clause-arrives
-returns-in-Deframe-clause-arrives g c = rw c.in-Deframe.is (nothing c.deframe.result _)
-
-pub returns-in-Deframe-clause-quiet : goal.returns-in-Deframe-clause-quiet
-returns-in-Deframe-clause-quiet g c = rw c.in-Deframe.is (nothing c.deframe.result _)
-
-pub returns-in-Deframe-clause-window : goal.returns-in-Deframe-clause-window
-returns-in-Deframe-clause-window g c = rw c.in-Deframe.is (nothing c.deframe.result _)
-
-pub returns-in-Deframe-clause-sessions : goal.returns-in-Deframe-clause-sessions
-returns-in-Deframe-clause-sessions g c = rw c.in-Deframe.is (nothing c.deframe.result _)
-
-pub returns-in-Frame-clause-text : goal.returns-in-Frame-clause-text
-returns-in-Frame-clause-text g c = rw c.in-Frame.is c.frame.ensures.text
-
-pub returns-in-Frame-clause-status : goal.returns-in-Frame-clause-status
-returns-in-Frame-clause-status g c = rw c.in-Frame.is c.frame.ensures.status
-
-pub returns-in-Frame-clause-fault : goal.returns-in-Frame-clause-fault
-returns-in-Frame-clause-fault g c = rw c.in-Frame.is c.frame.ensures.fault
-
-pub returns-in-Frame-clause-ended : goal.returns-in-Frame-clause-ended
-returns-in-Frame-clause-ended g c = rw c.in-Frame.is c.frame.ensures.ended
-
-pub returns-in-Frame-clause-lawful : goal.returns-in-Frame-clause-lawful
-returns-in-Frame-clause-lawful g c = rw c.in-Frame.is (nothing c.frame.result _)
-
-pub returns-in-Frame-clause-named : goal.returns-in-Frame-clause-named
-returns-in-Frame-clause-named g c = rw c.in-Frame.is (nothing c.frame.result _)
-
-pub returns-in-Frame-clause-arrives : goal.returns-in-Frame-clause-arrives
-returns-in-Frame-clause-arrives g c = rw c.in-Frame.is (nothing c.frame.result _)
-
-pub returns-in-Frame-clause-quiet : goal.returns-in-Frame-clause-quiet
-returns-in-Frame-clause-quiet g c = rw c.in-Frame.is (nothing c.frame.result _)
-
-pub returns-in-Frame-clause-window : goal.returns-in-Frame-clause-window
-returns-in-Frame-clause-window g c = rw c.in-Frame.is (nothing c.frame.result _)
-
-pub returns-in-Frame-clause-sessions : goal.returns-in-Frame-clause-sessions
-returns-in-Frame-clause-sessions g c = rw c.in-Frame.is (nothing c.frame.result _)
+pub returns-in-Frame-clause-claims : goal.returns-in-Frame-clause-claims
+returns-in-Frame-clause-claims g c = rw c.in-Frame.is (nothing c.frame.result _)

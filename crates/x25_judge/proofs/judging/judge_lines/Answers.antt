@@ -1,50 +1,30 @@
-use Rattle.std.proofs.Common.{◌<◌, ◌-◌, ◌^◌, length}
-use Rattle.std.proofs.lemmas.Result.{err_from_is_err_and}
+use Rattle.x25_io.proofs.RunLemmas.{none_ran}
 use Rattle.x25_judge.specs.Judge.{begins}
-use Rattle.x25_judge.proofs.StreamLemmas.{input_begins, nothing_written}
+use Rattle.x25_judge.specs.code.Stream.{program}
+use Rattle.x25_judge.proofs.StreamLemmas.{input_begins}
 use Rattle.x25_judge.proofs.judging.judge_lines.Goals as goal
 
-pub returns-in_err-held-clause-fault : goal.returns-in_err-held-clause-fault
-returns-in_err-held-clause-fault g c =
-    let p = err_from_is_err_and c.from_residual-in_err-held.result c.from_residual-in_err-held.ensures.1 in
-    rw p.1 (nothing_written (begins c.args.window c.args.long c.args.is_strict) (g.R.Source.remaining c.args.reader.now) (g.W.Sink.contents c.args.writer.now) (λ input. length input < 2 ^ 64 - 1))
+pub returns-in_err-held-clause-runs : goal.returns-in_err-held-clause-runs
+returns-in_err-held-clause-runs g c =
+    let p = program (begins c.args.window c.args.long c.args.is_strict) in
+    none_ran g.R.Source g.W.Sink p c.args.reader.now c.args.writer.now c.from_residual-in_err-held.result c.from_residual-in_err-held.ensures.1
 
-pub returns-in_err-answerer-clause-fault : goal.returns-in_err-answerer-clause-fault
-returns-in_err-answerer-clause-fault g c =
-    let p = err_from_is_err_and c.from_residual-in_err-answerer.result c.from_residual-in_err-answerer.ensures.1 in
-    rw p.1 (nothing_written (begins c.args.window c.args.long c.args.is_strict) (g.R.Source.remaining c.args.reader.now) (g.W.Sink.contents c.args.writer.now) (λ input. length input < 2 ^ 64 - 1))
+pub returns-in_err-answerer-clause-runs : goal.returns-in_err-answerer-clause-runs
+returns-in_err-answerer-clause-runs g c =
+    let p = program (begins c.args.window c.args.long c.args.is_strict) in
+    none_ran g.R.Source g.W.Sink p c.args.reader.now c.args.writer.now c.from_residual-in_err-answerer.result c.from_residual-in_err-answerer.ensures.1
 
-pub returns-clause-text : goal.returns-clause-text
-returns-clause-text g c =
+pub returns-clause-runs : goal.returns-clause-runs
+returns-clause-runs g c =
     let j = begins c.args.window c.args.long c.args.is_strict in
     let written = g.W.Sink.contents c.args.writer.now in
     let made = c.in_ok-answerer.ensures in
-    c.take_text.ensures.text j written
-    (input_begins j written c.new-lines.result.held _ c.new-lines.result.taker _ c.new-lines.ensures.held c.new-lines.ensures.taker c.in_ok-held.ensures made.judge made.empty made.faultless)
-
-pub returns-clause-status : goal.returns-clause-status
-returns-clause-status g c =
-    let j = begins c.args.window c.args.long c.args.is_strict in
-    let written = g.W.Sink.contents c.args.writer.now in
-    let made = c.in_ok-answerer.ensures in
-    c.take_text.ensures.status j written
-    (input_begins j written c.new-lines.result.held _ c.new-lines.result.taker _ c.new-lines.ensures.held c.new-lines.ensures.taker c.in_ok-held.ensures made.judge made.empty made.faultless)
-
-pub returns-clause-fault : goal.returns-clause-fault
-returns-clause-fault g c =
-    let j = begins c.args.window c.args.long c.args.is_strict in
-    let written = g.W.Sink.contents c.args.writer.now in
-    let made = c.in_ok-answerer.ensures in
-    c.take_text.ensures.fault j written
-    (input_begins j written c.new-lines.result.held _ c.new-lines.result.taker _ c.new-lines.ensures.held c.new-lines.ensures.taker c.in_ok-held.ensures made.judge made.empty made.faultless)
-
-pub returns-clause-ended : goal.returns-clause-ended
-returns-clause-ended g c =
-    let j = begins c.args.window c.args.long c.args.is_strict in
-    let written = g.W.Sink.contents c.args.writer.now in
-    let made = c.in_ok-answerer.ensures in
-    c.take_text.ensures.ended j written
-    (input_begins j written c.new-lines.result.held _ c.new-lines.result.taker _ c.new-lines.ensures.held c.new-lines.ensures.taker c.in_ok-held.ensures made.judge made.empty made.faultless)
+    record {
+      zero_or_one = c.take_text.ensures.zero_or_one;
+      answers = c.take_text.ensures.answers j written
+          (input_begins j written c.new-lines.result.held _ c.new-lines.result.taker _ c.new-lines.ensures.held c.new-lines.ensures.taker c.in_ok-held.ensures made.judge made.empty made.faultless);
+      marks = c.take_text.ensures.marks;
+    }
 
 pub returns-clause-memory : goal.returns-clause-memory
-returns-clause-memory g c = λ err. absurd (c.take_text.ensures.memory err).0
+returns-clause-memory g c = λ err. absurd (c.take_text.ensures.memory err)

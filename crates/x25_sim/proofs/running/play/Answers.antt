@@ -1,75 +1,35 @@
-use Rattle.std.proofs.Common.{◌∙◌}
-use Rattle.std.proofs.lemmas.Result.{err_from_is_err_and, on_ok_weaker}
+use Rattle.std.proofs.Common.{◌∙◌, Err, refl}
+use Rattle.std.proofs.lemmas.Result.{err_from_is_err_and}
+use Rattle.x25_io.proofs.RunLemmas.{none_ran, ran_on, stopped}
 use Rattle.x25_io.proofs.ToldLemmas.{none_told}
-use Rattle.x25_sim.specs.Stage.{sim_text}
-use Rattle.x25_sim.proofs.SimLemmas.{if_some, nothing_written, opening_failed, script_begins}
+use Rattle.x25_sim.specs.code.Stream.{program}
+use Rattle.x25_sim.proofs.SimLemmas.{opening_failed, script_begins}
 use Rattle.x25_sim.proofs.running.play.Goals as goal
 
-pub returns-in_err-held-clause-fault : goal.returns-in_err-held-clause-fault
-returns-in_err-held-clause-fault g c =
-    let p = err_from_is_err_and c.from_residual-in_err-held.result c.from_residual-in_err-held.ensures.1 in
-    rw p.1 (if_some (g.R.Source.remaining c.args.reader.now) _
-    (λ script is few. nothing_written (g.W.Sink.contents c.args.writer.now) (sim_text c.args.cfg c.args.down c.args.tap script)))
+pub returns-in_err-piece : goal.returns-in_err-piece
+returns-in_err-piece g c =
+    let p = err_from_is_err_and c.from_residual.result c.from_residual.ensures.1 in
+    rw p.1 (none_ran g.R.Source g.W.Sink (program c.args.cfg c.args.down c.args.tap) c.args.reader.now c.args.writer.now (Err p.0) (p.2 ∙ c.in_err-piece.ensures.memory))
 
-pub returns-in_err-stage-clause-fault : goal.returns-in_err-stage-clause-fault
-returns-in_err-stage-clause-fault g c =
-    let p = err_from_is_err_and c.from_residual-in_err-stage.result c.from_residual-in_err-stage.ensures.1 in
-    rw p.1 (if_some (g.R.Source.remaining c.args.reader.now) _
-    (λ script is few. nothing_written (g.W.Sink.contents c.args.writer.now) (sim_text c.args.cfg c.args.down c.args.tap script)))
-
-pub returns-in-Err-clause-fault : goal.returns-in-Err-clause-fault
-returns-in-Err-clause-fault g c =
-    let first = c.in_ok-stage.ensures in
-    let stage = c.in_ok-stage.stage in
-    if_some (g.R.Source.remaining c.args.reader.now) _
-    (λ script is few.
+pub returns-in-Err : goal.returns-in-Err
+returns-in-Err g c =
+    let first = c.in_ok-piece.ensures in
+    let stage = c.in_ok-piece.stage in
     let written = g.W.Sink.contents c.args.writer.now in
-    opening_failed c.args.cfg c.args.down c.args.tap stage.tap first.tap written (g.W.Sink.contents c.open.new.writer) c.open.new.self script
+    stopped g.R.Source g.W.Sink (program c.args.cfg c.args.down c.args.tap) c.args.reader.now c.args.writer.now c.open.new.writer c.in-Err.fault (Err c.in-Err.fault) refl c.in-Err.ensures.faults
+    (λ script. opening_failed c.args.cfg c.args.down c.args.tap stage.tap first.tap written (g.W.Sink.contents c.open.new.writer) c.open.new.self script
     (c.in-Err.ensures.stood c.args.cfg c.args.down written first.opening first.is_refused (none_told written stage.output first.empty)))
 
-pub returns-clause-clean : goal.returns-clause-clean
-returns-clause-clean g c = on_ok_weaker c.take_text.result (λ clean. (clean.0, clean.1 ∙ c.in_default.ensures.faults.kept)) c.take_text.ensures.clean
-
-pub returns-clause-text : goal.returns-clause-text
-returns-clause-text g c =
-    let first = c.in_ok-stage.ensures in
-    let stage = c.in_ok-stage.stage in
+pub returns : goal.returns
+returns g c =
+    let first = c.in_ok-piece.ensures in
+    let stage = c.in_ok-piece.stage in
     let written = g.W.Sink.contents c.args.writer.now in
-    c.take_text.ensures.text (record { cfg = c.args.cfg; down = c.args.down; tap = c.args.tap }) written
+    ran_on g.R.Source g.W.Sink (program c.args.cfg c.args.down c.args.tap) c.args.reader.now c.args.writer.now c.take_text.new.writer c.take_text.new.reader c.open.new.writer c.take_text.result
+    c.in_default.ensures.faults.kept c.take_text.ensures.zero_or_one
+    (c.take_text.ensures.answers (record { cfg = c.args.cfg; down = c.args.down; tap = c.args.tap }) written
     (λ script. script_begins c.args.cfg c.args.down c.args.tap stage.tap first.tap written (g.W.Sink.contents c.open.new.writer) c.open.new.self script
-    c.new-lines.result.taker c.new-simulator.result c.new-lines.result.held c.in_ok-held.held
-    c.new-lines.ensures.held c.new-lines.ensures.taker c.new-simulator.ensures c.in_ok-held.ensures
-    (c.in_default.ensures.stood c.args.cfg c.args.down written first.opening first.is_refused (none_told written stage.output first.empty)))
-
-pub returns-clause-status : goal.returns-clause-status
-returns-clause-status g c =
-    let first = c.in_ok-stage.ensures in
-    let stage = c.in_ok-stage.stage in
-    let written = g.W.Sink.contents c.args.writer.now in
-    c.take_text.ensures.status (record { cfg = c.args.cfg; down = c.args.down; tap = c.args.tap }) written
-    (λ script. script_begins c.args.cfg c.args.down c.args.tap stage.tap first.tap written (g.W.Sink.contents c.open.new.writer) c.open.new.self script
-    c.new-lines.result.taker c.new-simulator.result c.new-lines.result.held c.in_ok-held.held
-    c.new-lines.ensures.held c.new-lines.ensures.taker c.new-simulator.ensures c.in_ok-held.ensures
-    (c.in_default.ensures.stood c.args.cfg c.args.down written first.opening first.is_refused (none_told written stage.output first.empty)))
-
-pub returns-clause-fault : goal.returns-clause-fault
-returns-clause-fault g c =
-    let first = c.in_ok-stage.ensures in
-    let stage = c.in_ok-stage.stage in
-    let written = g.W.Sink.contents c.args.writer.now in
-    c.take_text.ensures.fault (record { cfg = c.args.cfg; down = c.args.down; tap = c.args.tap }) written
-    (λ script. script_begins c.args.cfg c.args.down c.args.tap stage.tap first.tap written (g.W.Sink.contents c.open.new.writer) c.open.new.self script
-    c.new-lines.result.taker c.new-simulator.result c.new-lines.result.held c.in_ok-held.held
-    c.new-lines.ensures.held c.new-lines.ensures.taker c.new-simulator.ensures c.in_ok-held.ensures
-    (c.in_default.ensures.stood c.args.cfg c.args.down written first.opening first.is_refused (none_told written stage.output first.empty)))
-
-pub returns-clause-ended : goal.returns-clause-ended
-returns-clause-ended g c =
-    let first = c.in_ok-stage.ensures in
-    let stage = c.in_ok-stage.stage in
-    let written = g.W.Sink.contents c.args.writer.now in
-    c.take_text.ensures.ended (record { cfg = c.args.cfg; down = c.args.down; tap = c.args.tap }) written
-    (λ script. script_begins c.args.cfg c.args.down c.args.tap stage.tap first.tap written (g.W.Sink.contents c.open.new.writer) c.open.new.self script
-    c.new-lines.result.taker c.new-simulator.result c.new-lines.result.held c.in_ok-held.held
-    c.new-lines.ensures.held c.new-lines.ensures.taker c.new-simulator.ensures c.in_ok-held.ensures
-    (c.in_default.ensures.stood c.args.cfg c.args.down written first.opening first.is_refused (none_told written stage.output first.empty)))
+    c.new-lines.result.taker c.new-simulator.result c.new-lines.result.held c.in_ok-piece.held
+    c.new-lines.ensures.held c.new-lines.ensures.taker c.new-simulator.ensures first.held
+    (c.in_default.ensures.stood c.args.cfg c.args.down written first.opening first.is_refused (none_told written stage.output first.empty))))
+    c.take_text.ensures.marks
