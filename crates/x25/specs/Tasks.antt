@@ -32,7 +32,7 @@ use Rattle.x25_world.specs.World.{World}
 
 -- the settings of both stations
 abbrev pub settings_in : Simulation → Cfg
-settings_in s = record { k = s.k; n2 = s.n2; channels = s.channels; long_data = s.long }
+settings_in s = record { k = s.k; n2 = s.n2; channels = s.channels; long_data = s.long; say_sizes = s.say_sizes }
 
 -- an end, and the settings of a station there
 abbrev pub role_in : End → Role
@@ -40,7 +40,7 @@ role_in Dte = role.Dte
 role_in Dce = role.Dce
 
 abbrev pub cfg_in : Place → Cfg
-cfg_in p = record { k = p.k; n2 = p.n2; channels = p.channels; long_data = p.long }
+cfg_in p = record { k = p.k; n2 = p.n2; channels = p.channels; long_data = p.long; say_sizes = p.say_sizes }
 
 abbrev pub lines_text : Place → List ℕ → List ℕ
 lines_text p input = station_text (role_in p.end) (cfg_in p) input

@@ -1,6 +1,5 @@
 //! The user's calls that set up and clear. ITU-T X.25 (10/96), sections 4.1.2, 4.1.4 and 4.1.7.
-ghost use Rattle.std.specs.Prelude.{◌≡◌, ◌≤◌, OnErr, IfSome, IfNone, Some, None, true, false, IfOk, IfErr, length};
-ghost use Rattle.std.specs.Prelude.{unwrap_or};
+ghost use Rattle.std.specs.Prelude.{◌≡◌, ◌≤◌, OnErr, IfSome, IfNone, Some, None, Bool, true, false, IfOk, IfErr, length};
 ghost use Rattle.std.specs.Result.{result_err};
 ghost use Rattle.x25_packet.specs.Packet.{plain};
 ghost use Rattle.x25_packet.specs.Spelling.{IsInRange};
@@ -8,10 +7,10 @@ ghost use Rattle.x25_packet.specs.Digits.{IsAddress, digits_of_text};
 ghost use Rattle.x25_circuit.specs.declared.state.State.{State};
 ghost use Rattle.x25_circuit.specs.Circuit.{Settings};
 ghost use Rattle.x25_circuit.specs.Circuit.{Circuit as Channel};
-ghost use Rattle.x25_circuit.specs.Params.{default_params, field_for, may_answer};
+ghost use Rattle.x25_circuit.specs.Params.{default_params, field_for, in_brief, may_answer};
 ghost use Rattle.x25_circuit.specs.Calling.{outcome, Refused, Calls, Accepts, Clears, may_call, call_in, accept_in};
 ghost use Rattle.x25_circuit.specs.Calling.{is_address_text};
-ghost use Rattle.x25_circuit.specs.Request.{plain_answer, refusal_of};
+ghost use Rattle.x25_circuit.specs.Request.{plain_answer, params_answered, refusal_of};
 ghost use Rattle.x25_circuit.specs.code.FitsCircuit.{FitsCircuit, Sends, room_of, clears_of, resets_of};
 
 use crate::circuit::Circuit;
@@ -82,18 +81,18 @@ impl Circuit {
         user: &'a [u8],
     ) -> Result<Packet<'a>, CircuitError>
         ensures outcome { (c : Settings) (x : Channel) → FitsCircuit c self.old x
-            → Sends c self.new result (outcome c x (Calls called.now calling.now user.now default_params)) }
+            → Sends c self.new result (outcome c x (Calls called.now calling.now user.now (in_brief default_params))) }
         ensures range { IfOk result (λ packet. IsInRange 128 (plain packet)) }
         ensures room { room_of self.old ≤ room_of self.new }
         ensures clears { clears_of self.new ≡ clears_of self.old }
         ensures resets { resets_of self.new ≡ resets_of self.old }
         ensures unchanged { OnErr result (self.new ≡ self.old) }
     {
-        self.call_out(called, calling, user, Params::default(), &[])
+        self.call_out(called, calling, user, Params::default(), false, &[])
     }
 
     /// Calls as `call`, and proposes these packet sizes and windows: sizes of 4 to 12, and windows of 1 to 7. What
-    /// isn't the default stands in the CALL. ITU-T X.25 (10/96), section 6.12.
+    /// isn't the default stands in the CALL, and with `says_all` what is. ITU-T X.25 (10/96), section 6.12.
     ///
     /// 30 WrongState outside of p1, then 34 BadParameter where an address, the user data, a size or a window is none of
     /// these.
@@ -117,6 +116,7 @@ impl Circuit {
             calling,
             user,
             proposal.params(),
+            proposal.says_all(),
             proposal.field_for(Params::default()),
         )
     }
@@ -128,11 +128,13 @@ impl Circuit {
         calling: &'a str,
         user: &'a [u8],
         params: Params,
+        says_all: bool,
         facilities: &'a [u8],
     ) -> Result<Packet<'a>, CircuitError>
-        requires { facilities.now ≡ field_for default_params params }
+        requires { facilities.now ≡ field_for default_params (record { params = params; says_all = says_all }) }
         ensures outcome { (c : Settings) (x : Channel) → FitsCircuit c self.old x
-            → Sends c self.new result (call_in c x x.state called.now calling.now user.now params) }
+            → Sends c self.new result (call_in c x x.state called.now calling.now user.now
+            (record { params = params; says_all = says_all })) }
         ensures range { IfOk result (λ packet. IsInRange 128 (plain packet)) }
         ensures room { room_of self.old ≤ room_of self.new }
         ensures clears { clears_of self.new ≡ clears_of self.old }
@@ -167,10 +169,12 @@ impl Circuit {
         ensures calling_address { IfOk result (λ fields. IsAddress fields.calling) }
         ensures short { IfOk result (λ fields. length user.now ≤ 128) }
         ensures flow { IfOk result (λ fields. fields.flow.params ≡ params) }
-        ensures refused { (c : Settings) (x : Channel) → FitsCircuit c self.now x
-            → IfErr result (λ e. call_in c x x.state called.now calling.now user.now params ≡ Refused e) }
-        ensures refusal { (c : Settings) (x : Channel) → FitsCircuit c self.now x
-            → result_err result ≡ refusal_of (call_in c x x.state called.now calling.now user.now params) }
+        ensures refused { (c : Settings) (x : Channel) (says_all : Bool) → FitsCircuit c self.now x
+            → IfErr result (λ e. call_in c x x.state called.now calling.now user.now
+            (record { params = params; says_all = says_all }) ≡ Refused e) }
+        ensures refusal { (c : Settings) (x : Channel) (says_all : Bool) → FitsCircuit c self.now x
+            → result_err result ≡ refusal_of (call_in c x x.state called.now calling.now user.now
+            (record { params = params; says_all = says_all })) }
     {
         if self.state != State::Free {
             return Err(CircuitError::WrongState);
@@ -202,7 +206,8 @@ impl Circuit {
     }
 
     /// Accepts the call of the other end, with these packet sizes and windows, each from the proposed value to the
-    /// default. What isn't as proposed stands in the CALL ACCEPTED that it answers. ITU-T X.25 (10/96), section 6.12.
+    /// default. What isn't as proposed stands in the CALL ACCEPTED that it answers, and with `says_all` what is. ITU-T
+    /// X.25 (10/96), section 6.12.
     ///
     /// 30 WrongState where no call came, then 34 BadParameter where a value is out of this range.
     pub fn accept_with<'a>(&mut self, answer: &'a Proposal) -> Result<Packet<'a>, CircuitError>
@@ -227,8 +232,8 @@ impl Circuit {
     pub(crate) fn accepted(&self, answer: Option<&Proposal>) -> Result<FlowControl, CircuitError>
         ensures arriving { IfOk result (λ flow. self.now.state ≡ State.Arriving) }
         ensures may_answer { IfOk result (λ flow. IfSome (plain_answer answer.entry)
-            (λ said. may_answer self.now.flow.params said ≡ true)) }
-        ensures flow { IfOk result (λ flow. flow.params ≡ unwrap_or (plain_answer answer.entry) self.now.flow.params) }
+            (λ said. may_answer self.now.flow.params said.params ≡ true)) }
+        ensures flow { IfOk result (λ flow. flow.params ≡ params_answered (plain_answer answer.entry) self.now.flow.params) }
         ensures refused { (c : Settings) (x : Channel) → FitsCircuit c self.now x
             → IfErr result (λ e. accept_in x x.state (plain_answer answer.entry) ≡ Refused e) }
         ensures refusal { (c : Settings) (x : Channel) → FitsCircuit c self.now x

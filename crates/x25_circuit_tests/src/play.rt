@@ -18,9 +18,13 @@ pub enum Event<'a> {
     Call(&'a str, &'a str, usize),
     /// The user at 2 calls 1 with these sizes and windows, in the order of `Params`.
     CallWith([u8; 4]),
+    /// The same, and all of them are said.
+    CallInFull([u8; 4]),
     Accept,
     /// The user accepts with these.
     AcceptWith([u8; 4]),
+    /// The same, and all of them are said.
+    AcceptInFull([u8; 4]),
     Clear,
     /// A message with this qualifier and so many octets.
     Send(bool, usize),
@@ -51,18 +55,19 @@ pub enum Event<'a> {
 }
 
 use Event::{
-    Accept, AcceptWith, Ask, Call, CallWith, Clear, Data, Fill, Forget, Interrupt, Joined,
-    NotReady, Pass, PassRnr, PassRr, Pull, Ready, Reset, Send, Take, Zero,
+    Accept, AcceptInFull, AcceptWith, Ask, Call, CallInFull, CallWith, Clear, Data, Fill, Forget,
+    Interrupt, Joined, NotReady, Pass, PassRnr, PassRr, Pull, Ready, Reset, Send, Take, Zero,
 };
 
 /// What is proposed or answered.
-fn proposal(values: [u8; 4]) -> Proposal {
-    Proposal::new(Params {
+fn proposal(values: [u8; 4], says_all: bool) -> Proposal {
+    let params = Params {
         size_called: values[0],
         size_calling: values[1],
         win_called: values[2],
         win_calling: values[3],
-    })
+    };
+    Proposal::new(params, says_all)
 }
 
 fn hex_text(alloc: Global, octets: &[u8]) -> Result<String, AllocError> {
@@ -348,21 +353,23 @@ impl Player {
         )?)
     }
 
-    fn call_with(&mut self, values: [u8; 4]) -> Result<String, Fail> {
-        let proposal = proposal(values);
+    fn call_with(&mut self, values: [u8; 4], says_all: bool) -> Result<String, Fail> {
+        let proposal = proposal(values, says_all);
         Ok(sent_text(self.alloc, self.circuit.call_with("1", "2", &[], &proposal))?)
     }
 
-    fn accept_with(&mut self, values: [u8; 4]) -> Result<String, Fail> {
-        let answer = proposal(values);
+    fn accept_with(&mut self, values: [u8; 4], says_all: bool) -> Result<String, Fail> {
+        let answer = proposal(values, says_all);
         Ok(sent_text(self.alloc, self.circuit.accept_with(&answer))?)
     }
 
     fn happens(&mut self, event: Event) -> Result<String, Fail> {
         match event {
             Call(called, calling, count) => self.call(called, calling, count),
-            CallWith(values) => self.call_with(values),
-            AcceptWith(values) => self.accept_with(values),
+            CallWith(values) => self.call_with(values, false),
+            CallInFull(values) => self.call_with(values, true),
+            AcceptWith(values) => self.accept_with(values, false),
+            AcceptInFull(values) => self.accept_with(values, true),
             Accept => Ok(sent_text(self.alloc, self.circuit.accept())?),
             Clear => Ok(sent_text(self.alloc, self.circuit.clear())?),
             Send(q, count) => self.send(q, count),

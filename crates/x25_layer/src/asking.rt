@@ -4,7 +4,7 @@ ghost use Rattle.std.specs.Prelude.{vec_capacity, IfErr, IfOk, IfSome, OnErr};
 ghost use Rattle.x25_circuit.specs.Calling.{outcome, Sends};
 ghost use Rattle.x25_circuit.specs.code.Replies.{IsSendable, plain_sent};
 ghost use Rattle.x25_circuit.specs.Request.{plain_request, MayPut};
-ghost use Rattle.x25_circuit.specs.declared.params.Params.{Params};
+ghost use Rattle.x25_circuit.specs.Params.{Proposal};
 ghost use Rattle.x25_layer.specs.Layer.{LayerSettings, is_channel};
 ghost use Rattle.x25_layer.specs.Layer.{Layer as State};
 ghost use Rattle.x25_layer.specs.Calls.{Asks, Dials, puts_at_once, outcome_on};
@@ -216,10 +216,10 @@ impl Layer {
     /// `None` says nothing: a call may be refused on the other grounds.
     #[inline(always)]
     pub fn dial_refusal<L: OrderedLink>(&self, link: &L) -> Option<LayerError>
-        ensures { (c : LayerSettings) (l : State) (x : L.State) (called calling user : List ℕ) (params : Params)
+        ensures { (c : LayerSettings) (l : State) (x : L.State) (called calling user : List ℕ) (proposal : Proposal)
             → FitsLayer c self.now l → L.fits link.now x
             → IfSome result (λ e. calls (view_of L.up_in L.waits_in L.after_put x) c l
-            (Dials called calling user params) ≡ Refuses e) }
+            (Dials called calling user proposal) ≡ Refuses e) }
     {
         if !link.is_up() {
             return Some(LayerError::NotUp);

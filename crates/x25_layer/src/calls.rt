@@ -8,7 +8,7 @@
 //! An accepted call puts its packet, and then the data packets of all channels in rounds, while fewer than 8 packets
 //! wait. The link takes packets of 4,099 octets.
 ghost use Rattle.std.specs.Prelude.{◌≡◌, ◌≤◌, None, Some, IfOk};
-ghost use Rattle.x25_circuit.specs.Params.{default_params};
+ghost use Rattle.x25_circuit.specs.Params.{default_params, in_brief};
 ghost use Rattle.x25_circuit.specs.Calling.{Accepts, Clears, Sends, Interrupts, Resets, SaysReady, SaysNotReady};
 ghost use Rattle.x25_layer.specs.Layer.{LayerSettings};
 ghost use Rattle.x25_layer.specs.Layer.{Layer as State};
@@ -37,15 +37,16 @@ impl Layer {
     ) -> Result<u16, LayerError>
         requires { 4099 ≤ L.longest link.old }
         ensures does { Answers L.OrderedLink self.old link.old self.new link.new result 16
-            (Dials called.now calling.now user.now default_params) }
+            (Dials called.now calling.now user.now (in_brief default_params)) }
         ensures channel { (c : LayerSettings) (l : State) → FitsLayer c self.old l
             → IfOk result (λ channel. free_channel c.circuit.role l.circuits c.channels ≡ Some channel) }
     {
-        self.call_with(link, called, calling, user, Params::default())
+        let usual = Proposal::new(Params::default(), false);
+        self.call_with(link, called, calling, user, &usual)
     }
 
     /// Calls as `call`, and proposes these packet sizes and windows: sizes of 4 to 12, and windows of 1 to 7. What
-    /// isn't the default stands in the CALL. ITU-T X.25 (10/96), section 6.12.
+    /// isn't the default stands in the CALL, or all. ITU-T X.25 (10/96), section 6.12.
     ///
     /// 9 NotUp, 40 Restarting, 41 NoFreeChannel, 10 QueueFull, then 34 BadParameter of the circuit where an address,
     /// the user data, a size or a window is none of these, and else 70 alone.
@@ -55,11 +56,11 @@ impl Layer {
         called: &str,
         calling: &str,
         user: &[u8],
-        params: Params,
+        proposal: &Proposal,
     ) -> Result<u16, LayerError>
         requires { 4099 ≤ L.longest link.old }
         ensures does { Answers L.OrderedLink self.old link.old self.new link.new result 16
-            (Dials called.now calling.now user.now params) }
+            (Dials called.now calling.now user.now proposal.now) }
         ensures channel { (c : LayerSettings) (l : State) → FitsLayer c self.old l
             → IfOk result (λ channel. free_channel c.circuit.role l.circuits c.channels ≡ Some channel) }
     {
@@ -75,12 +76,11 @@ impl Layer {
         if link.waiting() == 256 {
             return Err(LayerError::QueueFull);
         }
-        let proposal = Proposal::new(params);
         let request = Request::Call {
             called,
             calling,
             user,
-            proposal: &proposal,
+            proposal,
         };
         self.ask_ready(link, channel, request)?;
         Ok(channel)
@@ -98,7 +98,7 @@ impl Layer {
     }
 
     /// Accepts the call that came on a channel with these packet sizes and windows, each from the proposed value to the
-    /// default. What isn't as proposed stands in the CALL ACCEPTED. ITU-T X.25 (10/96), section 6.12.
+    /// default. What isn't as proposed stands in the CALL ACCEPTED, or all. ITU-T X.25 (10/96), section 6.12.
     ///
     /// 9 NotUp, 40 Restarting, 42 NoSuchChannel, 10 QueueFull, then 30 WrongState of the circuit where no call came and
     /// 34 BadParameter where a size or a window is none of these, and else 70 alone.
@@ -106,18 +106,17 @@ impl Layer {
         &mut self,
         link: &mut L,
         channel: u16,
-        params: Params,
+        answer: &Proposal,
     ) -> Result<(), LayerError>
         requires { 4099 ≤ L.longest link.old }
         ensures { Answers L.OrderedLink self.old link.old self.new link.new result 16
-            (Asks channel (Accepts (Some params))) }
+            (Asks channel (Accepts (Some answer.now))) }
     {
-        let answer = Proposal::new(params);
         self.ask(
             link,
             channel,
             Request::Accept {
-                answer: Some(&answer),
+                answer: Some(answer),
             },
         )
     }

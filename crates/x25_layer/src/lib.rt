@@ -29,4 +29,4 @@ pub use stretch::Stretch;
 pub use taking::Delivery;
 pub use told::Told;
 pub use x25_bits::Role;
-pub use x25_circuit::Params;
+pub use x25_circuit::{Params, Proposal};

@@ -6,7 +6,7 @@ use std::alloc::{AllocError, Global};
 use std::process::Abort;
 use std::test::Fail;
 use x25_circuit::Request;
-use x25_layer::{Delivery, Layer, LayerError, Params, Role};
+use x25_layer::{Delivery, Layer, LayerError, Params, Proposal, Role};
 use x25_link::{OrderedLink, PlainLink};
 
 /// Packet sizes of the called and of the calling end, and then windows.
@@ -76,13 +76,14 @@ pub const STAY: &str = "stay";
 /// What happens, what it shows, and the packets that wait in the link then, which are taken out of it, or `STAY`.
 pub type Row = (Event<'static>, &'static str, &'static str);
 
-fn params_of(values: Values) -> Params {
-    Params {
+fn proposal(values: Values) -> Proposal {
+    let params = Params {
         size_called: values[0],
         size_calling: values[1],
         win_called: values[2],
         win_calling: values[3],
-    }
+    };
+    Proposal::new(params, false)
 }
 
 // Tells the layer that a link came up, of which that is asked first.
@@ -220,7 +221,7 @@ fn asks<L: OrderedLink>(layer: &mut Layer, link: &mut L, event: Event) -> Result
         Restart => layer.restart(link),
         Pull => layer.pull(link),
         Accept(channel) => layer.accept(link, channel),
-        AcceptWith(channel, values) => layer.accept_with(link, channel, params_of(values)),
+        AcceptWith(channel, values) => layer.accept_with(link, channel, &proposal(values)),
         AskToAccept(channel) => ask_to_accept(layer, link, channel),
         Clear(channel) => layer.clear(link, channel),
         Interrupt(channel, user) => layer.interrupt(link, channel, user),
@@ -274,8 +275,8 @@ pub fn happens<L: OrderedLink>(
             channel_text(alloc, call(layer, link, called, calling, user))
         }
         CallWith(values) => {
-            let params = params_of(values);
-            channel_text(alloc, layer.call_with(link, "1", "2", &[], params))
+            let proposal = proposal(values);
+            channel_text(alloc, layer.call_with(link, "1", "2", &[], &proposal))
         }
         Send(channel, q, count) => {
             let user = vec![in alloc; 0u8; count]?;

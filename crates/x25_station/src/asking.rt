@@ -1,15 +1,17 @@
 //! What the user asks of the packet layer: the layer's call, and its entry.
 ghost use Rattle.std.specs.Prelude.{ℕ, List, length, Bool, ◌≡◌, Some, true, false, string_bytes, IfOk, IfErr, IfSome};
+ghost use Rattle.std.specs.Prelude.{None};
 ghost use Rattle.x25_circuit.specs.Circuit.{Circuit};
 ghost use Rattle.x25_circuit.specs.Calling.{Calls, Accepts, Sends as CircuitSends};
 ghost use Rattle.x25_circuit.specs.Request.{plain_request};
+ghost use Rattle.x25_circuit.specs.Params.{Proposal, in_brief};
 ghost use Rattle.x25_circuit.specs.declared.params.Params.{Params};
 ghost use Rattle.x25_layer.specs.Layer.{Layer as LayerState, LayerSettings, is_channel};
 ghost use Rattle.x25_layer.specs.Calls.{Asks, Dials, Restarts, PullsAll};
 ghost use Rattle.x25_layer.specs.code.FitsLayer.{FitsLayer};
 ghost use Rattle.x25_layer.specs.laws.Transcript.{name_of};
 ghost use Rattle.x25_layer.specs.laws.TwoLayers.{shown};
-ghost use Rattle.x25_station.specs.Command.{command_of};
+ghost use Rattle.x25_station.specs.Command.{Requests, answer_in_brief, command_of, proposal_said};
 ghost use Rattle.x25_station.specs.Entry.{of_channel};
 ghost use Rattle.x25_station.specs.code.Clock.{TellsTimer};
 ghost use Rattle.x25_station.specs.code.FitsStation.{FitsStation, Does, IsEmpty};
@@ -93,7 +95,8 @@ fn asked_call(
     user: &[u8],
     params: Params,
 ) -> Result<Asked, StationError>
-    ensures ok { IfOk result (λ asked. plain_asked asked ≡ Calls called.now calling.now user.now params) }
+    ensures ok { IfOk result (λ asked. plain_asked asked
+        ≡ Calls called.now calling.now user.now (in_brief params)) }
     ensures err { IfErr result (λ e. e ≡ StationError.NoMemory) }
 {
     let called = copied_text(alloc, called)?;
@@ -164,7 +167,6 @@ impl Station {
             → IfSome result (λ e. commands c s (command_of command.now) ≡ Refused (StationError.Layer e)) }
     {
         match command {
-            Cmd::Accept { channel } => self.refuses(*channel, &Request::Accept { answer: None }),
             Cmd::Clear { channel } => self.refuses(*channel, &Request::Clear),
             Cmd::Send { channel, user, .. } => self.refuses_message(*channel, user.len()),
             Cmd::Interrupt { channel, user } => self.refuses(
@@ -202,8 +204,8 @@ impl Station {
     // Why any call would be refused now, if it would.
     #[inline(always)]
     fn refuses_calls(&self) -> Option<LayerError>
-        ensures { (c : Settings) (s : State) (called calling user : List ℕ) (params : Params) → FitsStation c self.now s
-            → IfSome result (λ e. requests c s (Dials called calling user params) ≡ Refused (StationError.Layer e)) }
+        ensures { (c : Settings) (s : State) (called calling user : List ℕ) (proposal : Proposal) → FitsStation c self.now s
+            → IfSome result (λ e. requests c s (Dials called calling user proposal) ≡ Refused (StationError.Layer e)) }
     {
         self.layer.dial_refusal(&self.link)
     }
@@ -228,8 +230,8 @@ impl Station {
         ensures { Does self.old self.new out.new result (λ c s. commands c s (command_of command.now)) }
     {
         match command {
-            Cmd::Accept { channel } => self.ask(*channel, Request::Accept { answer: None }, out),
-            Cmd::AcceptWith { channel, params } => { self.accept_with(*channel, *params, out) }
+            Cmd::Accept { channel } => self.accept(*channel, None, out),
+            Cmd::AcceptWith { channel, params } => self.accept(*channel, Some(*params), out),
             Cmd::Clear { channel } => self.ask(*channel, Request::Clear, out),
             Cmd::Send { channel, q, user } => self.send(*channel, *q, user, out),
             Cmd::Interrupt { channel, user } => self.ask(
@@ -276,27 +278,48 @@ impl Station {
         }
     }
 
-    // An acceptance, with packet sizes and windows of its own.
-    fn accept_with(
+    // An acceptance, with packet sizes and windows of its own, or with those proposed.
+    fn accept(
         &mut self,
         channel: u16,
-        params: Params,
+        params: Option<Params>,
         out: &mut Step,
     ) -> Result<(), StationError>
         requires { IsEmpty out.old }
-        ensures { Does self.old self.new out.new result (λ c s. requests c s (Asks channel (Accepts (Some params)))) }
+        ensures { Does self.old self.new out.new result
+            (λ c s. commands c s (Requests (Asks channel (Accepts (answer_in_brief params))))) }
     {
-        let answer = Proposal::new(params);
-        self.ask(
-            channel,
-            Request::Accept {
-                answer: Some(&answer),
-            },
-            out,
-        )
+        match self.answer(channel, params) {
+            Some(answer) => self.ask(
+                channel,
+                Request::Accept {
+                    answer: Some(&answer),
+                },
+                out,
+            ),
+            None => self.ask(channel, Request::Accept { answer: None }, out),
+        }
     }
 
-    // A call, on a channel that is free.
+    // What an acceptance says, where it says anything.
+    fn answer(&self, channel: u16, params: Option<Params>) -> Option<Proposal>
+        ensures { (c : Settings) (s : State) → FitsStation c self.now s
+            → commands c s (Requests (Asks channel (Accepts (answer_in_brief params))))
+            ≡ requests c s (Asks channel (Accepts result)) }
+    {
+        if let Some(params) = params {
+            return Some(Proposal::new(params, self.say_sizes));
+        }
+        if !self.say_sizes {
+            return None;
+        }
+        let Some(proposed) = self.layer.params(channel) else {
+            return None;
+        };
+        Some(Proposal::new(proposed, true))
+    }
+
+    // A call, with these packet sizes and windows.
     fn call(
         &mut self,
         called: &str,
@@ -307,15 +330,40 @@ impl Station {
     ) -> Result<(), StationError>
         requires { IsEmpty out.old }
         ensures { Does self.old self.new out.new result
-            (λ c s. requests c s (Dials called.now calling.now user.now params)) }
+            (λ c s. commands c s (Requests (Dials called.now calling.now user.now (in_brief params)))) }
+    {
+        let proposal = self.proposal(params);
+        self.dial(called, calling, user, &proposal, out)
+    }
+
+    // What a call says.
+    fn proposal(&self, params: Params) -> Proposal
+        ensures { (c : Settings) (s : State) → FitsStation c self.now s
+            → proposal_said c.say_sizes (in_brief params) ≡ result }
+    {
+        Proposal::new(params, self.say_sizes)
+    }
+
+    // A call, on a channel that is free.
+    fn dial(
+        &mut self,
+        called: &str,
+        calling: &str,
+        user: &[u8],
+        proposal: &Proposal,
+        out: &mut Step,
+    ) -> Result<(), StationError>
+        requires { IsEmpty out.old }
+        ensures { Does self.old self.new out.new result
+            (λ c s. requests c s (Dials called.now calling.now user.now proposal.now)) }
     {
         steps_keep_bounds();
         holds_few();
-        let asked = asked_call(self.alloc, called, calling, user, params)?;
+        let asked = asked_call(self.alloc, called, calling, user, proposal.params())?;
         out.make_room()?;
         match self
             .layer
-            .call_with(&mut self.link, called, calling, user, params)
+            .call_with(&mut self.link, called, calling, user, proposal)
         {
             Ok(channel) => {
                 enter(&self.layer, &mut out.entries, channel, Said::Asked(asked));

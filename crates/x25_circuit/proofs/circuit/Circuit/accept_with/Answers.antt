@@ -19,7 +19,7 @@ pub returns-clause-outcome : goal.returns-clause-outcome
 returns-clause-outcome c = λ d x fits.
     rw (
       accept_at x x.state (Some c.args.answer.now) (sym fits.state ∙ c.in_ok-flow.ensures.arriving),
-      answer_accepts x c.args.answer.now (ap (λ (p : Params). may_answer p c.args.answer.now) (sym fits.params) ∙ c.in_ok-flow.ensures.may_answer),
+      answer_accepts x c.args.answer.now (ap (λ (p : Params). may_answer p c.args.answer.now.params) (sym fits.params) ∙ c.in_ok-flow.ensures.may_answer),
     )
     ((
       subst (λ (p : Params). FitsCircuit d c.enter.new.self (entered x Open p false)) c.in_ok-flow.ensures.flow (c.enter.ensures.fits d x fits),

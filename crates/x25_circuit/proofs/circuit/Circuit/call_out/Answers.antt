@@ -14,13 +14,13 @@ pub returns-clause-range : goal.returns-clause-range
 returns-clause-range c =
     let said = c.in_ok-fields.ensures in
     let allowed = subst (λ (p : Params). may_propose p ≡ true) said.flow c.in_ok-fields.fields.flow.allowed in
-    ((lit≤ tt, lit≤ tt), said.called_address, said.calling_address, subst IsFacilityField (sym c.requires) (field_is_allowed default_params c.args.params allowed), said.short)
+    ((lit≤ tt, lit≤ tt), said.called_address, said.calling_address, subst IsFacilityField (sym c.requires) (field_is_allowed default_params (record { params = c.args.params; says_all = c.args.says_all }) allowed), said.short)
 
 pub returns-clause-outcome : goal.returns-clause-outcome
 returns-clause-outcome c = λ d x fits.
     let said = c.in_ok-fields.ensures in
     let may = subst (λ (b : Bool). may_call b c.args.called.now c.args.calling.now c.args.user.now c.args.params ≡ true) fits.long_data said.may_call in
-    rw (call_at d x x.state c.args.called.now c.args.calling.now c.args.user.now c.args.params (sym fits.state ∙ said.free), may)
+    rw (call_at d x x.state c.args.called.now c.args.calling.now c.args.user.now (record { params = c.args.params; says_all = c.args.says_all }) (sym fits.state ∙ said.free), may)
     ((
       subst (λ (p : Params). FitsCircuit d c.enter.new.self (entered x Calling p true)) said.flow (c.enter.ensures.fits d x fits),
       rw (said.called, said.calling, c.requires) refl,
