@@ -469,6 +469,11 @@ def xot_host(text):
     return host_and_port(text) if has_port else (host(text), XOT_PORT)
 
 
+def is_xot(options):
+    """Whether the line is X.25 over TCP."""
+    return bool(options.xot or options.xot_listen)
+
+
 def add_station_words(parser):
     """Adds the words that the station gets."""
     parser.add_argument("end", choices=["dte", "dce"], help="which end the station is")
@@ -482,7 +487,8 @@ def add_station_words(parser):
 def station_words(options):
     """The words that the station gets behind its end."""
     given = [(f"--{name}", str(getattr(options, name))) for name in ("k", "n2", "channels") if getattr(options, name) is not None]
-    return [word for pair in given for word in pair] + (["--long"] if options.long else [])
+    flags = {"--long": options.long, "--say-sizes": is_xot(options)}
+    return [word for pair in given for word in pair] + [word for word, is_asked in flags.items() if is_asked]
 
 
 def station_of(options):
@@ -528,14 +534,15 @@ def words():
     parser.add_argument("--trace", metavar="FILE", help="write the frames that the station sent and those that came, each with its time")
     parser.add_argument("--stats", action="store_true", help="say at the end how many frames went and came")
     options = parser.parse_args()
-    is_xot = bool(options.xot or options.xot_listen)
-    lines = [options.listen, options.connect, options.stdio, options.ethernet, options.udp, is_xot]
+    lines = [options.listen, options.connect, options.stdio, options.ethernet, options.udp, is_xot(options)]
     if sum(map(bool, lines)) != 1:
         parser.error("name one line: --listen, --connect, --stdio, --ethernet, --udp, or --xot and --xot-listen")
     if options.lose + options.damage > 1:
         parser.error("the two probabilities come to more than 1")
-    if is_xot and options.lose + options.damage > 0:
+    if is_xot(options) and options.lose + options.damage > 0:
         parser.error("XOT loses and damages nothing")
+    if is_xot(options) and options.library:
+        parser.error("XOT is for the program, not for --library, which has no --say-sizes")
     if options.retry and not options.connect:
         parser.error("--retry is for --connect")
     return options

@@ -4,7 +4,7 @@ A connection carries the packets of one virtual circuit, each behind a header of
 neither LAPB nor RESTART on it. What a station needs of these comes from here: SABM, or UA to its own; an acknowledgement of each I frame
 as soon as it was sent, since TCP loses nothing; and a RESTART of the other end. A CALL of the station makes a connection, and one that
 another makes brings a CALL, which gets a channel that is free. A CALL and its acceptance say packet sizes and windows on a connection,
-also where the station leaves them out. Where a connection ends its circuit is cleared, and where the station restarts all of them end.
+for which the station has `--say-sizes`. Where a connection ends its circuit is cleared, and where the station restarts all of them end.
 """
 
 import socket
@@ -16,43 +16,14 @@ import wires
 import x25lines
 
 UA, RR, RNR, SABM, DISC, DM, FRMR, POLL = 0x63, 0x01, 0x05, 0x2F, 0x43, 0x0F, 0x87, 0x10
-CALL, ACCEPT, CLEAR, CLEAR_CONFIRMATION, RESTART, RESTART_CONFIRMATION, DIAGNOSTIC = 0x0B, 0x0F, 0x13, 0x17, 0xFB, 0xFF, 0xF1
+CALL, CLEAR, CLEAR_CONFIRMATION, RESTART, RESTART_CONFIRMATION, DIAGNOSTIC = 0x0B, 0x13, 0x17, 0xFB, 0xFF, 0xF1
 # What no connection carries, as it isn't of one circuit: registration and its confirmation, set-up of permanent circuits, restarts.
 FOREIGN = (0xF3, 0xF7, 0xF5, RESTART, RESTART_CONFIRMATION)
 # Causes of clears, and the diagnostic that no channel is free.
 CONGESTION, OUT_OF_ORDER, NOT_OBTAINABLE, NO_CHANNEL = 5, 9, 13, 71
-# The facilities of packet sizes and windows, as they are where nothing is said.
-USUAL = {0x42: b"\x42\7\7", 0x43: b"\x43\2\2"}
 HEADER = 4
 # So many connections may stand that have brought no CALL yet.
 MOST_COMING = 16
-
-
-def facilities(field):
-    """The facilities of packet sizes and windows that a facility field says, by their codes."""
-    at, said = 0, {}
-    while at < len(field):
-        kind = field[at] >> 6
-        length = 2 + kind if kind < 3 else 2 + int.from_bytes(field[at + 1 : at + 2], "big")
-        if field[at] in USUAL:
-            said[field[at]] = field[at : at + length]
-        at += length
-    return said
-
-
-def parts(packet):
-    """What stands in a CALL, or its acceptance, before the length of its facilities, its facilities, and what stands behind them."""
-    packet += b"\0\0"[: max(0, 5 - len(packet))]
-    at = 4 + ((packet[3] & 15) + (packet[3] >> 4) + 1) // 2
-    length = int.from_bytes(packet[at : at + 1], "big")
-    return packet[:at], packet[at + 1 : at + 1 + length], packet[at + 1 + length :]
-
-
-def in_full(packet, usual):
-    """A CALL of the station, or its acceptance, with the packet sizes and windows that it says, or else those of `usual`."""
-    front, field, behind = parts(packet)
-    said = b"".join({**usual, **facilities(field)}.values())
-    return front + bytes([len(said)]) + said + behind
 
 
 class Link:
@@ -114,7 +85,7 @@ class Circuit:
 
     def __init__(self, connection, channel=0, untried=()):
         self.connection, self.channel, self.untried = connection, channel, list(untried)
-        self.proposed, self.is_clearing, self._open = USUAL, False, b""
+        self.is_clearing, self._open = False, b""
         self.last = time.monotonic() + wires.PATIENCE
 
     def send(self, packet):
@@ -236,7 +207,7 @@ class Xot(wires.Wire):
             self._ending.append(it)
             self._note("a call came, and no channel is free: it is cleared")
             return False
-        it.channel, it.proposed = min(free), {**USUAL, **facilities(parts(packet)[1])}
+        it.channel = min(free)
         self._circuits[it.channel] = it
         return True
 
@@ -302,7 +273,7 @@ class Xot(wires.Wire):
             if kind in (CLEAR, CLEAR_CONFIRMATION):
                 self._gone.discard(channel)
         else:
-            circuit.send(in_full(packet, circuit.proposed) if kind == ACCEPT else packet)
+            circuit.send(packet)
             circuit.is_clearing = circuit.is_clearing or kind == CLEAR
             if kind == CLEAR_CONFIRMATION:
                 self._end(circuit)
@@ -317,7 +288,7 @@ class Xot(wires.Wire):
         circuit = Circuit(None, channel, self._target)
         self._call(circuit)
         self._circuits[channel] = circuit
-        circuit.send(in_full(packet, USUAL))
+        circuit.send(packet)
 
     def _call(self, it):
         """Has a circuit's connection made to the next address; what waits goes over that."""

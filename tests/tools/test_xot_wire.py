@@ -19,27 +19,8 @@ import xot_wire
 
 CALL = bytes.fromhex("10010b431234567000c0ffee")
 IN_FULL = bytes.fromhex("10010b431234567006420707430202c0ffee")
-PROPOSAL = bytes.fromhex("06420808430303")
 ACCEPT = bytes.fromhex("10010f0006420707430202")
 SECONDS = 120
-
-
-class Facilities(unittest.TestCase):
-    def test_a_call_says_sizes_and_windows(self):
-        self.assertEqual(xot_wire.in_full(CALL, xot_wire.USUAL), IN_FULL)
-        self.assertEqual(xot_wire.in_full(IN_FULL, xot_wire.USUAL), IN_FULL)
-        windows = bytes.fromhex("10010b00" + "03430303" + "01")
-        self.assertEqual(xot_wire.in_full(windows, xot_wire.USUAL), bytes.fromhex("10010b00" + "06420707430303" + "01"))
-
-    def test_an_acceptance_says_those_of_the_call_where_it_says_none(self):
-        proposed = xot_wire.facilities(PROPOSAL[1:])
-        self.assertEqual(xot_wire.in_full(bytes.fromhex("10010f"), proposed), bytes.fromhex("10010f00") + PROPOSAL)
-        self.assertEqual(xot_wire.in_full(bytes.fromhex("10010f0003420707"), proposed), bytes.fromhex("10010f00" + "06420707430303"))
-
-    def test_facilities_of_all_lengths_are_passed_over(self):
-        field = bytes.fromhex("0101" + "420809" + "85010203" + "c5020102" + "430203")
-        self.assertEqual(xot_wire.facilities(field), {0x42: b"\x42\x08\x09", 0x43: b"\x43\x02\x03"})
-        self.assertEqual(xot_wire.facilities(b"\xc5"), {})
 
 
 @support.needs_station

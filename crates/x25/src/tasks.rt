@@ -27,6 +27,7 @@ fn settings_of(simulation: Simulation) -> Cfg
         n2: simulation.n2,
         channels: simulation.channels,
         long_data: simulation.long,
+        say_sizes: simulation.say_sizes,
     }
 }
 
@@ -49,6 +50,7 @@ fn cfg_of(place: Place) -> Cfg
         n2: place.n2,
         channels: place.channels,
         long_data: place.long,
+        say_sizes: place.say_sizes,
     }
 }
 

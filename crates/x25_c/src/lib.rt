@@ -84,7 +84,7 @@ pub extern "C" fn x25_new(
     long_data: bool,
 ) -> u32
     ensures { Makes slot.old.handle.held slot.new.handle.held result end
-        (record { k = k; n2 = n2; channels = channels; long_data = long_data }) }
+        (record { k = k; n2 = n2; channels = channels; long_data = long_data; say_sizes = false }) }
 {
     if slot.is_open {
         return IN_USE;
@@ -94,6 +94,7 @@ pub extern "C" fn x25_new(
         n2,
         channels,
         long_data,
+        say_sizes: false,
     };
     match make(alloc, end, cfg) {
         Ok(held) => {

@@ -8,8 +8,8 @@ use Rattle.x25_packet.specs.declared.facilities.Facilities.{Facilities}
 use Rattle.x25_packet.specs.declared.facilities.Directions.{Directions}
 use Rattle.x25_packet.specs.Facilities.{AreWithin, IfGiven, facilities_of, facility, field_of, is_within, last, with_sizes, windows_of as windows_in}
 use Rattle.x25_circuit.specs.declared.params.Params.{Params}
-use Rattle.x25_circuit.specs.Params.{may_propose, is_toward, sizes_of, windows_of, params_of, news, said_or, said_by, terms_of}
-use Rattle.x25_circuit.specs.laws.ParamsLaws.{FieldIsSaid, NoFieldIsKnown, KnownIsNoField, FieldIsAllowed, SaidIsAllowed, ProposalIsAnswer, DefaultIsAnswer, AnswerIsAllowed, AreTerms, TermsAreAllowed}
+use Rattle.x25_circuit.specs.Params.{Proposal, in_brief, in_full, may_propose, is_toward, sizes_of, windows_of, params_of, news, said_of, field_for, said_in, said_or, said_by, terms_of}
+use Rattle.x25_circuit.specs.laws.ParamsLaws.{FieldIsSaid, FullIsReadAlike, FullSaysAll, NoFieldIsKnown, KnownIsNoField, FieldIsAllowed, SaidIsAllowed, ProposalIsAnswer, DefaultIsAnswer, AnswerIsAllowed, AreTerms, TermsAreAllowed}
 
 -- ---- tests
 
@@ -112,13 +112,18 @@ news_by true known said e =
     rw (sym f, sym g) refl
 news_by false known said e = refl
 
--- what is new, beside what is known, is what is said
-said_news : (known said : Directions) → said_or known (news known said) ≡ said
-said_news known said = news_by (said.called == known.called && said.calling == known.calling) known said refl
+-- what is said, beside what is known, is what is understood
+said_is : (all : Bool) (known said : Directions) → said_or known (said_of all known said) ≡ said
+said_is true known said = refl
+said_is false known said = news_by (said.called == known.called && said.calling == known.calling) known said refl
 
 news_given : (b : Bool) (said : Directions) (P : Directions → Type 0) → P said → IfGiven (if b then None else Some said) P
 news_given true said P h = tt
 news_given false said P h = h
+
+said_given : (all : Bool) (known said : Directions) (P : Directions → Type 0) → P said → IfGiven (said_of all known said) P
+said_given true known said P h = h
+said_given false known said P h = news_given (said.called == known.called && said.calling == known.calling) said P h
 
 -- a field that says values within the bounds is read as them
 pub field_is_read : (sizes windows : Option Directions) → IfGiven sizes (BothWithin 4 12) → IfGiven windows (BothWithin 1 7)
@@ -130,16 +135,24 @@ field_is_read (Some s) None f g = rw f refl
 field_is_read (Some s) (Some w) f g = rw (f, g) refl
 
 pub field_is_said : FieldIsSaid
-field_is_said known said allowed =
+field_is_said known proposal allowed =
+    let said = proposal.params in let all = proposal.says_all in
     let inside = are_inside said allowed in
-    let sizes = news (sizes_of known) (sizes_of said) in
-    let windows = news (windows_of known) (windows_of said) in
+    let sizes = said_of all (sizes_of known) (sizes_of said) in
+    let windows = said_of all (windows_of known) (windows_of said) in
     ap (said_by known)
     (field_is_read sizes windows
-    (news_given (said.size_called == known.size_called && said.size_calling == known.size_calling) (sizes_of said) (BothWithin 4 12) (both_within 4 12 said.size_called said.size_calling inside.size_called inside.size_calling))
-    (news_given (said.win_called == known.win_called && said.win_calling == known.win_calling) (windows_of said) (BothWithin 1 7) (both_within 1 7 said.win_called said.win_calling inside.win_called inside.win_calling)))
-    ∙ ap (λ (d : Directions). params_of d (said_or (windows_of known) windows)) (said_news (sizes_of known) (sizes_of said))
-    ∙ ap (params_of (sizes_of said)) (said_news (windows_of known) (windows_of said))
+    (said_given all (sizes_of known) (sizes_of said) (BothWithin 4 12) (both_within 4 12 said.size_called said.size_calling inside.size_called inside.size_calling))
+    (said_given all (windows_of known) (windows_of said) (BothWithin 1 7) (both_within 1 7 said.win_called said.win_calling inside.win_called inside.win_calling)))
+    ∙ ap (λ (d : Directions). params_of d (said_or (windows_of known) windows)) (said_is all (sizes_of known) (sizes_of said))
+    ∙ ap (params_of (sizes_of said)) (said_is all (windows_of known) (windows_of said))
+
+-- a field in full is the same, whatever is known
+pub full_is_read_alike : FullIsReadAlike
+full_is_read_alike known usual params allowed = field_is_said usual (in_full params) allowed ∙ sym (field_is_said usual (in_brief params) allowed)
+
+pub full_says_all : FullSaysAll
+full_says_all known params = refl
 
 pub no_field_is_known : NoFieldIsKnown
 unfolding facilities_of
@@ -154,12 +167,13 @@ known_is_no_field known = ap (λ (s : Option Directions). field_of (record { pac
 
 -- a field that says what may be proposed may stand in a packet
 pub field_is_allowed : FieldIsAllowed
-field_is_allowed known said allowed =
+field_is_allowed known proposal allowed =
+    let said = proposal.params in let all = proposal.says_all in
     let inside = are_inside said allowed in (
-      record { packet_size = news (sizes_of known) (sizes_of said); window_size = news (windows_of known) (windows_of said) },
+      record { packet_size = said_of all (sizes_of known) (sizes_of said); window_size = said_of all (windows_of known) (windows_of said) },
       record {
-        sizes = news_given (said.size_called == known.size_called && said.size_calling == known.size_calling) (sizes_of said) (AreWithin 4 12) (are_within 4 12 said.size_called said.size_calling inside.size_called inside.size_calling);
-        windows = news_given (said.win_called == known.win_called && said.win_calling == known.win_calling) (windows_of said) (AreWithin 1 7) (are_within 1 7 said.win_called said.win_calling inside.win_called inside.win_calling);
+        sizes = said_given all (sizes_of known) (sizes_of said) (AreWithin 4 12) (are_within 4 12 said.size_called said.size_calling inside.size_called inside.size_calling);
+        windows = said_given all (windows_of known) (windows_of said) (AreWithin 1 7) (are_within 1 7 said.win_called said.win_calling inside.win_called inside.win_calling);
       },
       refl,
     )

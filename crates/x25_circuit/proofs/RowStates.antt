@@ -4,7 +4,7 @@ use Rattle.x25_bits.specs.declared.role.Role.TheVariants.{Dte, Dce}
 use Rattle.x25_packet.specs.Packet.{PlainPacket}
 use Rattle.x25_circuit.specs.declared.state.State.{State}
 use Rattle.x25_circuit.specs.declared.state.State.TheVariants.{Calling, Collision, Open}
-use Rattle.x25_circuit.specs.Params.{default_params}
+use Rattle.x25_circuit.specs.Params.{Proposal, in_brief, default_params}
 use Rattle.x25_circuit.specs.Message.{Piece}
 use Rattle.x25_circuit.specs.Circuit.{Settings, Talk, silent, Circuit}
 use Rattle.x25_circuit.specs.Notice.{PlainNotice}
@@ -15,6 +15,10 @@ dte = record { role = Dte; long_data = false }
 
 abbrev pub dce : Settings
 dce = record { role = Dce; long_data = false }
+
+-- the defaults, of which nothing is said
+abbrev pub usual : Proposal
+usual = in_brief default_params
 
 -- this end called, in a state before the call is accepted
 abbrev pub has_called : State → Bool

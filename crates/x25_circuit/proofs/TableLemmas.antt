@@ -9,7 +9,7 @@ use Rattle.x25_packet.specs.Packet.{PlainPacket, accept, clear, clear_conf}
 use Rattle.x25_circuit.specs.declared.state.State.{State}
 use Rattle.x25_circuit.specs.declared.state.State.TheVariants.{Free, Calling, Arriving, Collision, Open, Resetting, Clearing}
 use Rattle.x25_circuit.specs.declared.params.Params.{Params}
-use Rattle.x25_circuit.specs.Params.{default_params, may_answer, field_for, said_in}
+use Rattle.x25_circuit.specs.Params.{Proposal, default_params, may_answer, field_for, said_in}
 use Rattle.x25_circuit.specs.Circuit.{Settings, Circuit, outgoing, waits}
 use Rattle.x25_circuit.specs.code.Changes.{with_rest}
 use Rattle.x25_circuit.specs.Message.{cut}
@@ -43,7 +43,7 @@ answer_out_of_range c x known answered field e f g =
     ap (λ (p : Params). connects c x (said_in p field)) (sym e) ∙ ap (connects c x) (sym f)
     ∙ answer_clears c x answered (ap (λ (p : Params). may_answer p answered) (sym e) ∙ g)
 
-pub answer_accepts : (x : Circuit) (answer : Params) → may_answer x.params answer ≡ true → accept_with x (Some answer) ≡ does x Open answer false (accept 1 (field_for x.params answer))
+pub answer_accepts : (x : Circuit) (answer : Proposal) → may_answer x.params answer.params ≡ true → accept_with x (Some answer) ≡ does x Open answer.params false (accept 1 (field_for x.params answer))
 answer_accepts x answer e = rw e refl
 
 pub call_strays : (c : Settings) (x : Circuit) (s : State) (request : CallRequest) → s ≢ Free → s ≢ Calling → s ≢ Clearing → row_call c x s request ≡ unexpected c x s
@@ -133,10 +133,10 @@ ready_at x s b e = ap (λ (r : State). ready_in x r b) e
 pub send_at : (c : Settings) (x : Circuit) (s : State) (q : Bool) (user : List ℕ) → s ≡ Open → send_in c x s q user ≡ send_open c x x.talk q user
 send_at c x s q user e = ap (λ (r : State). send_in c x r q user) e
 
-pub call_at : (c : Settings) (x : Circuit) (s : State) (called calling user : List ℕ) (params : Params) → s ≡ Free → call_in c x s called calling user params ≡ call_in c x Free called calling user params
-call_at c x s called calling user params e = ap (λ (r : State). call_in c x r called calling user params) e
+pub call_at : (c : Settings) (x : Circuit) (s : State) (called calling user : List ℕ) (proposal : Proposal) → s ≡ Free → call_in c x s called calling user proposal ≡ call_in c x Free called calling user proposal
+call_at c x s called calling user proposal e = ap (λ (r : State). call_in c x r called calling user proposal) e
 
-pub accept_at : (x : Circuit) (s : State) (answer : Option Params) → s ≡ Arriving → accept_in x s answer ≡ accept_with x answer
+pub accept_at : (x : Circuit) (s : State) (answer : Option Proposal) → s ≡ Arriving → accept_in x s answer ≡ accept_with x answer
 accept_at x s answer e = ap (λ (r : State). accept_in x r answer) e
 
 pub send_full : (c : Settings) (x : Circuit) (q : Bool) (user : List ℕ) → length user ≤ 65535 → waits x ≡ 8 → send_open c x x.talk q user ≡ Refused error.Full

@@ -12,7 +12,7 @@ use Rattle.x25_circuit.specs.declared.error.CircuitError.TheVariants.{BadParamet
 use Rattle.x25_circuit.specs.declared.state.State.{State}
 use Rattle.x25_circuit.specs.declared.state.State.TheVariants.{Free, Calling, Arriving, Open, Resetting, Clearing}
 use Rattle.x25_circuit.specs.declared.params.Params.{Params}
-use Rattle.x25_circuit.specs.Params.{default_params, may_propose, may_answer, field_for}
+use Rattle.x25_circuit.specs.Params.{Proposal, default_params, may_propose, may_answer, field_for}
 use Rattle.x25_circuit.specs.Message.{Piece, More, Last, cut}
 use Rattle.x25_circuit.specs.Circuit.{Settings, Talk, Circuit, entered, talking, outgoing, waits}
 use Rattle.x25_circuit.specs.Notice.{CallRequest}
@@ -25,8 +25,8 @@ pub data Outcome : Type 0 where
 
 -- the addresses of a call are texts; an acceptance without packet sizes and windows accepts those that are proposed
 pub data Request : Type 0 where
-  Calls : (called : List ℕ) → (calling : List ℕ) → (user : List ℕ) → (params : Params) → Request
-  Accepts : (answer : Option Params) → Request
+  Calls : (called : List ℕ) → (calling : List ℕ) → (user : List ℕ) → (proposal : Proposal) → Request
+  Accepts : (answer : Option Proposal) → Request
   Clears : Request
   Sends : (q : Bool) → (user : List ℕ) → Request
   Interrupts : (user : List ℕ) → Request
@@ -57,9 +57,10 @@ request_of called calling user params = record {
   params = params;
 }
 
--- what is the default isn't said
-abbrev pub call_sent : CallRequest → PlainPacket
-call_sent request = call 1 request.called request.calling (field_for default_params request.params) request.user
+-- the other end takes the defaults where nothing is said
+abbrev pub call_sent : List ℕ → List ℕ → List ℕ → Proposal → PlainPacket
+call_sent called calling user proposal =
+    call 1 (digits_of_text called) (digits_of_text calling) (field_for default_params proposal) user
 
 -- both addresses are texts of digits, there is no more user data than a CALL has, and what is proposed is in range
 abbrev pub may_call : Bool → List ℕ → List ℕ → List ℕ → Params → Bool
@@ -67,19 +68,19 @@ may_call long_data called calling user params =
     is_address_text called && (is_address_text calling
     && (nat_le (length user) (longest_user long_data) && may_propose params))
 
-abbrev pub call_in : Settings → Circuit → State → List ℕ → List ℕ → List ℕ → Params → Outcome
-call_in c x Free called calling user params =
-    if may_call c.long_data called calling user params
-    then does x Calling params true (call_sent (request_of called calling user params)) else Refused BadParameter
-call_in c x state called calling user params = Refused WrongState
+abbrev pub call_in : Settings → Circuit → State → List ℕ → List ℕ → List ℕ → Proposal → Outcome
+call_in c x Free called calling user proposal =
+    if may_call c.long_data called calling user proposal.params
+    then does x Calling proposal.params true (call_sent called calling user proposal) else Refused BadParameter
+call_in c x state called calling user proposal = Refused WrongState
 
--- what is as proposed isn't said
-abbrev pub accept_with : Circuit → Option Params → Outcome
+-- the other end takes what it proposed where nothing is said
+abbrev pub accept_with : Circuit → Option Proposal → Outcome
 accept_with x None = does x Open x.params false (accept 1 [])
-accept_with x (Some answer) = if may_answer x.params answer
-    then does x Open answer false (accept 1 (field_for x.params answer)) else Refused BadParameter
+accept_with x (Some answer) = if may_answer x.params answer.params
+    then does x Open answer.params false (accept 1 (field_for x.params answer)) else Refused BadParameter
 
-abbrev pub accept_in : Circuit → State → Option Params → Outcome
+abbrev pub accept_in : Circuit → State → Option Proposal → Outcome
 accept_in x Arriving answer = accept_with x answer
 accept_in x state answer = Refused WrongState
 
@@ -159,7 +160,7 @@ ready_in x state is_ready = Refused WrongState
 -- ---- the calls
 
 abbrev pub outcome : Settings → Circuit → Request → Outcome
-outcome c x (Calls called calling user params) = call_in c x x.state called calling user params
+outcome c x (Calls called calling user proposal) = call_in c x x.state called calling user proposal
 outcome c x (Accepts answer) = accept_in x x.state answer
 outcome c x Clears = clear_in x x.state
 outcome c x (Sends q user) = send_in c x x.state q user

@@ -1,7 +1,8 @@
 -- What a call proposes and its acceptance answers: for each end the code of the packet size, and the window, of the
 -- data packets that it sends. ITU-T X.25 (10/96), sections 6.12 and 7.2.2.1; that what isn't said stands as it was
 -- known is of the profile.
-use Rattle.std.specs.Prelude.{ℕ, ◌^◌, ◌==◌, ◌&&◌, ◌||◌, Bool, List, if◌then◌else◌, Option, Some, None, Result, Ok, Err}
+use Rattle.std.specs.Prelude.{ℕ, ◌^◌, ◌==◌, ◌&&◌, ◌||◌, Bool, true, false, List, if◌then◌else◌, Option, Some, None}
+use Rattle.std.specs.Prelude.{Result, Ok, Err}
 use Rattle.x25_packet.specs.declared.facilities.Facilities.{Facilities}
 use Rattle.x25_packet.specs.declared.facilities.Directions.{Directions}
 use Rattle.x25_packet.specs.declared.error.PacketError.{PacketError}
@@ -11,6 +12,17 @@ use Rattle.x25_circuit.specs.declared.params.Params.{Params}
 -- where nothing is said: packets of 128 octets, and window 2
 abbrev pub default_params : Params
 default_params = record { size_called = 7; size_calling = 7; win_called = 2; win_calling = 2 }
+
+-- what a CALL or an ACCEPT says, and whether it says that too which the other end takes without it
+pub record Proposal : Type 0 where
+  pub params : Params
+  pub says_all : Bool
+
+abbrev pub in_brief : Params → Proposal
+in_brief params = record { params = params; says_all = false }
+
+abbrev pub in_full : Params → Proposal
+in_full params = record { params = params; says_all = true }
 
 -- packet sizes are 2 to a power of 4 to 12 octets, windows 1 to 7 packets
 abbrev pub may_propose : Params → Bool
@@ -47,13 +59,17 @@ params_of sizes windows = record {
 abbrev pub news : Directions → Directions → Option Directions
 news known said = if said.called == known.called && said.calling == known.calling then None else Some said
 
+abbrev pub said_of : Bool → Directions → Directions → Option Directions
+said_of true known said = Some said
+said_of false known said = news known said
+
 -- the octets of the facility field that says these, where the first are known
-abbrev pub field_for : Params → Params → List ℕ
+abbrev pub field_for : Params → Proposal → List ℕ
 field_for known said =
     field_of (record {
-      packet_size = news (sizes_of known) (sizes_of said);
-      window_size = news (windows_of known)
-          (windows_of said);
+      packet_size = said_of said.says_all (sizes_of known) (sizes_of said.params);
+      window_size = said_of said.says_all (windows_of known)
+          (windows_of said.params);
     })
 
 abbrev pub said_or : Directions → Option Directions → Directions

@@ -6,6 +6,7 @@ use Rattle.x25_circuit.specs.declared.circuit.Circuit as circuit_code
 use Rattle.x25_circuit.specs.declared.error.CircuitError.{CircuitError}
 use Rattle.x25_circuit.specs.declared.error.CircuitError.TheVariants as error
 use Rattle.x25_circuit.specs.declared.params.Params.{Params}
+use Rattle.x25_circuit.specs.Params.{Proposal}
 use Rattle.x25_circuit.specs.declared.request.Request as declared
 use Rattle.x25_circuit.specs.declared.request.Request.TheVariants as code
 use Rattle.x25_circuit.specs.Circuit.{Settings, Circuit}
@@ -15,9 +16,14 @@ use Rattle.x25_circuit.specs.code.FitsCircuit.{FitsCircuit}
 use Rattle.x25_circuit.specs.code.Replies.{plain_sent}
 
 -- where there is one
-abbrev pub plain_answer : Option (Bor Params) → Option Params
+abbrev pub plain_answer : Option (Bor Proposal) → Option Proposal
 plain_answer None = None
 plain_answer (Some answer) = Some answer.now
+
+-- those that are in force behind an answer to these
+abbrev pub params_answered : Option Proposal → Params → Params
+params_answered None proposed = proposed
+params_answered (Some answer) proposed = answer.params
 
 abbrev pub plain_request : declared.Request → Request
 plain_request (code.Call called calling user proposal) = Calls called.now calling.now user.now proposal.now

@@ -1,6 +1,5 @@
 //! The user's calls that set up and clear. ITU-T X.25 (10/96), sections 4.1.2, 4.1.4 and 4.1.7.
-ghost use Rattle.std.specs.Prelude.{◌≡◌, ◌≢◌, ◌≤◌, OnErr, IfSome, IfNone, true, false, IfOk, IfErr, length};
-ghost use Rattle.std.specs.Prelude.{unwrap_or};
+ghost use Rattle.std.specs.Prelude.{◌≡◌, ◌≢◌, ◌≤◌, OnErr, IfSome, IfNone, Bool, true, false, IfOk, IfErr, length};
 ghost use Rattle.std.specs.Result.{result_err};
 ghost use Rattle.x25_packet.specs.Packet.{plain};
 ghost use Rattle.x25_packet.specs.Spelling.{IsInRange};
@@ -11,7 +10,7 @@ ghost use Rattle.x25_circuit.specs.Circuit.{Circuit as Channel};
 ghost use Rattle.x25_circuit.specs.Params.{may_answer};
 ghost use Rattle.x25_circuit.specs.Calling.{outcome, Refused, Calls, Accepts, Clears, may_call, call_in, accept_in};
 ghost use Rattle.x25_circuit.specs.Calling.{is_address_text};
-ghost use Rattle.x25_circuit.specs.Request.{plain_answer, refusal_of};
+ghost use Rattle.x25_circuit.specs.Request.{plain_answer, params_answered, refusal_of};
 ghost use Rattle.x25_circuit.specs.code.FitsCircuit.{FitsCircuit, Sends, room_of, clears_of, resets_of};
 
 use crate::circuit::Circuit;
@@ -73,7 +72,7 @@ fn fields_of<'a>(
 impl Circuit {
     /// Calls the other end, with addresses of 0 to 15 digits and at most 16 octets of user data (128 where it may be
     /// long), and proposes these packet sizes and windows: sizes of 4 to 12, and windows of 1 to 7. It answers CALL, in
-    /// which what isn't the default stands. ITU-T X.25 (10/96), section 6.12.
+    /// which what isn't the default stands, and with `says_all` what is. ITU-T X.25 (10/96), section 6.12.
     ///
     /// 30 WrongState outside of p1, then 34 BadParameter where an address, the user data, a size or a window is none of
     /// these.
@@ -121,10 +120,12 @@ impl Circuit {
         ensures calling_address { IfOk result (λ fields. IsAddress fields.calling) }
         ensures short { IfOk result (λ fields. length user.now ≤ 128) }
         ensures flow { IfOk result (λ fields. fields.flow.params ≡ params) }
-        ensures refused { (c : Settings) (x : Channel) → FitsCircuit c self.now x
-            → IfErr result (λ e. call_in c x x.state called.now calling.now user.now params ≡ Refused e) }
-        ensures refusal { (c : Settings) (x : Channel) → FitsCircuit c self.now x
-            → result_err result ≡ refusal_of (call_in c x x.state called.now calling.now user.now params) }
+        ensures refused { (c : Settings) (x : Channel) (says_all : Bool) → FitsCircuit c self.now x
+            → IfErr result (λ e. call_in c x x.state called.now calling.now user.now
+            (record { params = params; says_all = says_all }) ≡ Refused e) }
+        ensures refusal { (c : Settings) (x : Channel) (says_all : Bool) → FitsCircuit c self.now x
+            → result_err result ≡ refusal_of (call_in c x x.state called.now calling.now user.now
+            (record { params = params; says_all = says_all })) }
         ensures kinds { IfErr result (λ e. e ≢ CircuitError.NoMemory) }
     {
         if self.state != State::Free {
@@ -137,8 +138,8 @@ impl Circuit {
     }
 
     /// Accepts the call of the other end, with these packet sizes and windows, each from the proposed value to the
-    /// default, or else with those that it proposes. It answers CALL ACCEPTED, in which what isn't as proposed stands.
-    /// ITU-T X.25 (10/96), section 6.12.
+    /// default, or else with those that it proposes. It answers CALL ACCEPTED, in which what isn't as proposed stands,
+    /// and with `says_all` what is. ITU-T X.25 (10/96), section 6.12.
     ///
     /// 30 WrongState where no call came, then 34 BadParameter where a value is out of this range.
     pub(crate) fn accept<'a>(
@@ -173,8 +174,8 @@ impl Circuit {
     pub(crate) fn accepted(&self, answer: Option<&Proposal>) -> Result<FlowControl, CircuitError>
         ensures arriving { IfOk result (λ flow. self.now.state ≡ State.Arriving) }
         ensures may_answer { IfOk result (λ flow. IfSome (plain_answer answer.entry)
-            (λ said. may_answer self.now.flow.params said ≡ true)) }
-        ensures flow { IfOk result (λ flow. flow.params ≡ unwrap_or (plain_answer answer.entry) self.now.flow.params) }
+            (λ said. may_answer self.now.flow.params said.params ≡ true)) }
+        ensures flow { IfOk result (λ flow. flow.params ≡ params_answered (plain_answer answer.entry) self.now.flow.params) }
         ensures refused { (c : Settings) (x : Channel) → FitsCircuit c self.now x
             → IfErr result (λ e. accept_in x x.state (plain_answer answer.entry) ≡ Refused e) }
         ensures refusal { (c : Settings) (x : Channel) → FitsCircuit c self.now x

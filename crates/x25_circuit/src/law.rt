@@ -2,7 +2,7 @@ ghost use Rattle.x25_circuit.specs.laws.MessageLaws.{CutCarries, CutIsSound, Sen
 ghost use Rattle.x25_circuit.specs.laws.PullLaw.{PullsWhatWaits};
 ghost use Rattle.x25_circuit.specs.laws.ParamsLaws.{FieldIsSaid, NoFieldIsKnown, KnownIsNoField, FieldIsAllowed};
 ghost use Rattle.x25_circuit.specs.laws.ParamsLaws.{SaidIsAllowed, ProposalIsAnswer, DefaultIsAnswer, AnswerIsAllowed};
-ghost use Rattle.x25_circuit.specs.laws.ParamsLaws.{TermsAreAllowed};
+ghost use Rattle.x25_circuit.specs.laws.ParamsLaws.{TermsAreAllowed, FullIsReadAlike, FullSaysAll};
 
 /// What the packets sent, and behind them those that wait, carry are the messages of `send`, and what the packets taken
 /// carry are the messages told. ITU-T X.25 (10/96), sections 4.3.4 to 4.3.6.
@@ -18,6 +18,8 @@ pub fn messages_are_carried()
 /// within bounds. ITU-T X.25 (10/96), section 6.12.
 pub fn values_are_agreed()
     ensures said { FieldIsSaid }
+    ensures in_full { FullIsReadAlike }
+    ensures says_all { FullSaysAll }
     ensures no_field { NoFieldIsKnown }
     ensures known { KnownIsNoField }
     ensures field { FieldIsAllowed }

@@ -1,7 +1,8 @@
 //! Packet sizes and windows that are proposed and answered.
 
 use crate::play::Event::{
-    Accept, AcceptWith, Ask, Call, CallWith, Clear, Data, Pull, Reset, Send, Take,
+    Accept, AcceptInFull, AcceptWith, Ask, Call, CallInFull, CallWith, Clear, Data, Pull, Reset,
+    Send, Take,
 };
 use crate::play::{Row, play};
 use std::test::Fail;
@@ -86,7 +87,7 @@ fn an_answer_out_of_range_clears(rt: HostRuntime) -> Result<(), Fail> {
 }
 
 /// Each at a circuit of its own.
-static PROPOSALS: [Row; 7] = [
+static PROPOSALS: [Row; 9] = [
     (CallWith([3, 7, 2, 2]), "refused 34"),
     (CallWith([7, 13, 2, 2]), "refused 34"),
     (CallWith([7, 7, 0, 2]), "refused 34"),
@@ -103,6 +104,11 @@ static PROPOSALS: [Row; 7] = [
         CallWith([7, 7, 1, 7]),
         "CALL called=1 calling=2 fac=430107 data=0",
     ),
+    (CallInFull([3, 7, 2, 2]), "refused 34"),
+    (
+        CallInFull([7, 7, 2, 2]),
+        "CALL called=1 calling=2 fac=420707430202 data=0",
+    ),
 ];
 
 #[test]
@@ -118,7 +124,7 @@ static IS_PROPOSED: [Row; 1] = [(
     "incoming called=1 calling=2 data=- size=7,7 win=1,7",
 )];
 
-static ANSWERS: [Row; 8] = [
+static ANSWERS: [Row; 10] = [
     (AcceptWith([7, 7, 0, 7]), "refused 34"),
     (AcceptWith([7, 7, 1, 7]), "ACCEPT fac=-"),
     (AcceptWith([7, 7, 2, 7]), "ACCEPT fac=430207"),
@@ -127,6 +133,8 @@ static ANSWERS: [Row; 8] = [
     (AcceptWith([7, 7, 1, 2]), "ACCEPT fac=430102"),
     (AcceptWith([7, 7, 2, 4]), "ACCEPT fac=430204"),
     (AcceptWith([7, 7, 2, 8]), "refused 34"),
+    (AcceptInFull([7, 7, 2, 8]), "refused 34"),
+    (AcceptInFull([7, 7, 1, 7]), "ACCEPT fac=420707430107"),
 ];
 
 #[test]

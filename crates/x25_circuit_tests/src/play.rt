@@ -18,9 +18,13 @@ pub enum Event<'a> {
     Call(&'a str, &'a str, usize),
     /// The user at 2 calls 1 with these sizes and windows, in the order of `Params`.
     CallWith([u8; 4]),
+    /// The same, and all of them are said.
+    CallInFull([u8; 4]),
     Accept,
     /// The user accepts with these.
     AcceptWith([u8; 4]),
+    /// The same, and all of them are said.
+    AcceptInFull([u8; 4]),
     Clear,
     /// A message with this qualifier and so many octets.
     Send(bool, usize),
@@ -46,18 +50,19 @@ pub enum Event<'a> {
 }
 
 use Event::{
-    Accept, AcceptWith, Ask, Call, CallWith, Clear, Data, Fill, Forget, Interrupt, Joined,
-    NotReady, Pull, Ready, Reset, Send, Take, Zero,
+    Accept, AcceptInFull, AcceptWith, Ask, Call, CallInFull, CallWith, Clear, Data, Fill, Forget,
+    Interrupt, Joined, NotReady, Pull, Ready, Reset, Send, Take, Zero,
 };
 
 /// What is proposed or answered.
-fn proposal(values: [u8; 4]) -> Proposal {
-    Proposal::new(Params {
+fn proposal(values: [u8; 4], says_all: bool) -> Proposal {
+    let params = Params {
         size_called: values[0],
         size_calling: values[1],
         win_called: values[2],
         win_calling: values[3],
-    })
+    };
+    Proposal::new(params, says_all)
 }
 
 fn hex_text(alloc: Global, octets: &[u8]) -> Result<String, AllocError> {
@@ -322,9 +327,10 @@ impl Player {
         calling: &str,
         count: usize,
         values: [u8; 4],
+        says_all: bool,
     ) -> Result<String, Fail> {
         let user = vec![in self.alloc; 0u8; count]?;
-        let proposal = proposal(values);
+        let proposal = proposal(values, says_all);
         self.asks(Request::Call {
             called,
             calling,
@@ -333,8 +339,8 @@ impl Player {
         })
     }
 
-    fn accept_with(&mut self, values: [u8; 4]) -> Result<String, Fail> {
-        let answer = proposal(values);
+    fn accept_with(&mut self, values: [u8; 4], says_all: bool) -> Result<String, Fail> {
+        let answer = proposal(values, says_all);
         self.asks(Request::Accept {
             answer: Some(&answer),
         })
@@ -342,9 +348,11 @@ impl Player {
 
     fn happens(&mut self, event: Event) -> Result<String, Fail> {
         match event {
-            Call(called, calling, count) => self.call(called, calling, count, [7, 7, 2, 2]),
-            CallWith(values) => self.call("1", "2", 0, values),
-            AcceptWith(values) => self.accept_with(values),
+            Call(called, calling, count) => self.call(called, calling, count, [7, 7, 2, 2], false),
+            CallWith(values) => self.call("1", "2", 0, values, false),
+            CallInFull(values) => self.call("1", "2", 0, values, true),
+            AcceptWith(values) => self.accept_with(values, false),
+            AcceptInFull(values) => self.accept_with(values, true),
             Accept => self.asks(Request::Accept { answer: None }),
             Clear => self.asks(Request::Clear),
             Send(q, count) => self.send(q, count),

@@ -37,13 +37,14 @@ struct Proposals {
 impl Proposals {
     fn new() -> Proposals {
         Proposals {
-            usual: Proposal::new(Params::default()),
-            size_3: Proposal::new(Params {
-                size_called: 3,
-                size_calling: 7,
-                win_called: 2,
-                win_calling: 2,
-            }),
+            usual: Proposal::new(Params::default(), false),
+            size_3: Proposal::new(
+                Params {
+                    size_called: 3,
+                    ..Params::default()
+                },
+                false,
+            ),
         }
     }
 

@@ -1,17 +1,18 @@
 -- What a line of a script asks of a station (profile).
 use Rattle.std.specs.Prelude.{ℕ, List, [], unwrap_or}
-use Rattle.x25_circuit.specs.Params.{default_params}
+use Rattle.x25_circuit.specs.Params.{in_brief, default_params}
 use Rattle.x25_circuit.specs.Calling.{Accepts, Clears, Sends, Interrupts, Resets, SaysReady, SaysNotReady}
 use Rattle.x25_layer.specs.Calls.{Asks, Dials, Restarts, PullsAll}
-use Rattle.x25_station.specs.Command.{Command, Requests, Connects, Disconnects}
+use Rattle.x25_station.specs.Command.{Command, Requests, Connects, Disconnects, answer_in_brief}
 use Rattle.x25_script.specs.ScriptLine.{PlainCommand, call, accept, clear, send, interrupt, reset, ready, not_ready}
 use Rattle.x25_script.specs.ScriptLine.{restart, pull, connect, disconnect}
 
 -- A call without packet sizes and windows proposes the default, and an acceptance without them accepts what was
 -- proposed.
 abbrev pub command_asked : PlainCommand → Command
-command_asked (call called calling user params) = Requests (Dials called calling user (unwrap_or params default_params))
-command_asked (accept channel params) = Requests (Asks channel (Accepts params))
+command_asked (call called calling user params) = Requests (Dials called calling user
+    (in_brief (unwrap_or params default_params)))
+command_asked (accept channel params) = Requests (Asks channel (Accepts (answer_in_brief params)))
 command_asked (clear channel) = Requests (Asks channel Clears)
 command_asked (send channel q user) = Requests (Asks channel (Sends q user))
 command_asked (interrupt channel user) = Requests (Asks channel (Interrupts user))

@@ -20,6 +20,7 @@ const SETTINGS: Cfg = Cfg {
     n2: 10,
     channels: 1,
     long_data: false,
+    say_sizes: false,
 };
 
 /// One end: its station, and what a program keeps beside it.

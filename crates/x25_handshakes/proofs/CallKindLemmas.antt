@@ -5,7 +5,7 @@ use Rattle.std.proofs.lemmas.Bool.{cond_both}
 use Rattle.x25_bits.specs.declared.role.Role.{Role}
 use Rattle.x25_bits.specs.declared.role.Role.TheVariants.{Dte, Dce}
 use Rattle.x25_circuit.specs.declared.params.Params.{Params}
-use Rattle.x25_circuit.specs.Params.{may_propose, may_answer, field_for, said_in}
+use Rattle.x25_circuit.specs.Params.{Proposal, may_propose, may_answer, field_for, said_in}
 use Rattle.x25_circuit.specs.Notice.{CallRequest}
 use Rattle.x25_handshakes.specs.laws.Handshake.{Inner}
 use Rattle.x25_handshakes.specs.laws.Stretch.{Packet, Call, Accept}
@@ -82,10 +82,10 @@ call_taken r e c u p v y inner h =
 abbrev Acted : List CallRequest → List CallRequest → CallStep → Type 0
 Acted m i s = IsPrefix m s.next.made × (s.next.indicated ≡ i)
 
-accepted : (theirs : Params) (m i : List CallRequest) (answer : Option Params) → Acted m i (accepts theirs m i answer)
+accepted : (theirs : Params) (m i : List CallRequest) (answer : Option Proposal) → Acted m i (accepts theirs m i answer)
 accepted theirs m i None = (alike m, refl)
 accepted theirs m i (Some q) =
-    cond_both (may_answer theirs q) (goes (called_talk q) m i (Accept (field_for theirs q) ∷ [])) (goes (Offered theirs) m i []) (λ (s : CallStep). Acted m i s) (λ _. (alike m, refl)) (λ _. (alike m, refl))
+    cond_both (may_answer theirs q.params) (goes (called_talk q.params) m i (Accept (field_for theirs q) ∷ [])) (goes (Offered theirs) m i []) (λ (s : CallStep). Acted m i s) (λ _. (alike m, refl)) (λ _. (alike m, refl))
 
 acted : (a : Phase) (m i : List CallRequest) (act : CallAct) → Acted m i (phase_acts a m i act)
 acted Unused m i (PlacesCall n) =

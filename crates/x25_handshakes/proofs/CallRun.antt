@@ -2,6 +2,7 @@
 use Rattle.std.proofs.Common.{◌≡◌, List, [], ◌∷◌, ◌++◌, Some, None, true, false, refl}
 use Rattle.x25_packet.specs.Facilities.{facilities_of}
 use Rattle.x25_circuit.specs.declared.params.Params.{Params}
+use Rattle.x25_circuit.specs.Params.{in_brief}
 use Rattle.x25_circuit.specs.Notice.{CallRequest}
 use Rattle.x25_handshakes.specs.laws.Handshake.{Side, At, state_of}
 use Rattle.x25_handshakes.specs.laws.Transfer.{fresh_transfer}
@@ -30,7 +31,7 @@ offered : List Event
 offered = at_first Takes ∷ at_second Takes ∷ at_first (on_one (PlacesCall item)) ∷ at_second Takes ∷ []
 
 accepted : Params → List Event
-accepted answer = offered ++ at_second (on_one (AcceptsCall (Some answer))) ∷ at_first Takes ∷ []
+accepted answer = offered ++ at_second (on_one (AcceptsCall (Some (in_brief answer)))) ∷ at_first Takes ∷ []
 
 phase_at : Side (At Channels) → Phase
 phase_at s = (state_of (circuit_at (state_of s) 1).side).phase

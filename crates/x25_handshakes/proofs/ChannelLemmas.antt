@@ -7,7 +7,7 @@ use Rattle.x25_circuit.specs.Message.{Piece, cut, wholes}
 use Rattle.x25_bits.specs.declared.role.Role.{Role}
 use Rattle.x25_bits.specs.declared.role.Role.TheVariants.{Dte, Dce}
 use Rattle.x25_circuit.specs.declared.params.Params.{Params}
-use Rattle.x25_circuit.specs.Params.{Terms, may_propose, may_answer, field_for, said_in}
+use Rattle.x25_circuit.specs.Params.{Proposal, Terms, may_propose, may_answer, field_for, said_in}
 use Rattle.x25_circuit.specs.Notice.{CallRequest}
 use Rattle.x25_handshakes.specs.laws.Stretch.{Packet, Data, Rr, Rnr, Int, IntConf, Reset, ResetConf, Call, Accept, Clear, ClearConf, Stretch, StretchStep, stretch_does, stretch_fails, StretchAct, Send, Pull, Ready, NotReady, Interrupt, status, pulls, stretch_acts, ack_ground, data_ground, by_ground, takes_data, takes_status, stretch_takes}
 use Rattle.x25_handshakes.specs.laws.Transfer.{lifted, takes_d1, takes_rst, transfer_side_takes, TransferAct, Inside, SendsReset, transfer_side_acts}
@@ -107,10 +107,10 @@ acts_side_inner t e (Live x) (Inside a) = lifted_inner e (stretch_acts t x a) (s
 acts_side_inner t e (Live x) SendsReset = (refl, tt)
 acts_side_inner t e (Left x) a = tt
 
-accepts_inner : (theirs : Params) (m i : List CallRequest) (answer : Option Params) → Quiet (accepts theirs m i answer).out
+accepts_inner : (theirs : Params) (m i : List CallRequest) (answer : Option Proposal) → Quiet (accepts theirs m i answer).out
 accepts_inner theirs m i None = (refl, tt)
 accepts_inner theirs m i (Some q) =
-    cond_both (may_answer theirs q) (goes (called_talk q) m i (Accept (field_for theirs q) ∷ [])) (goes (Offered theirs) m i []) (λ (s : CallStep). Quiet s.out) (λ _. (refl, tt)) (λ _. tt)
+    cond_both (may_answer theirs q.params) (goes (called_talk q.params) m i (Accept (field_for theirs q) ∷ [])) (goes (Offered theirs) m i []) (λ (s : CallStep). Quiet s.out) (λ _. (refl, tt)) (λ _. tt)
 
 acts_phase_inner : (p : Phase) (m i : List CallRequest) (a : CallAct) → Quiet (phase_acts p m i a).out
 acts_phase_inner Unused m i (PlacesCall n) =

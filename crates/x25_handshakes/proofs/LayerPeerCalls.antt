@@ -5,7 +5,7 @@ use Rattle.std.proofs.lemmas.Bool.{cond_both}
 use Rattle.x25_bits.specs.declared.role.Role.{Role}
 use Rattle.x25_bits.specs.declared.role.Role.TheVariants.{Dte, Dce}
 use Rattle.x25_circuit.specs.declared.params.Params.{Params}
-use Rattle.x25_circuit.specs.Params.{may_propose, may_answer, field_for, said_in}
+use Rattle.x25_circuit.specs.Params.{Proposal, may_propose, may_answer, field_for, said_in}
 use Rattle.x25_circuit.specs.Notice.{CallRequest}
 use Rattle.x25_handshakes.specs.laws.Handshake.{Side, Live, Left, At}
 use Rattle.x25_handshakes.specs.laws.Stretch.{Packet, Call, Accept, Clear, ClearConf}
@@ -43,13 +43,13 @@ places_did m i n =
     (λ may. Something (peer.PlacesCall n) may refl refl)
     (λ _. Nothing refl refl)
 
-accepts_did : Laws → (theirs : Params) → may_propose theirs ≡ true → (m i : List CallRequest) (answer : Option Params) → Did_to (Offered theirs) m i (accepts theirs m i answer)
+accepts_did : Laws → (theirs : Params) → may_propose theirs ≡ true → (m i : List CallRequest) (answer : Option Proposal) → Did_to (Offered theirs) m i (accepts theirs m i answer)
 accepts_did laws theirs proposed m i None =
     let same : said_in theirs [] ≡ theirs = laws.no_field theirs in
     Something (peer.AcceptsCall []) (subst (λ (q : Params). may_answer theirs q ≡ true) (sym same) (laws.proposal theirs)) (ap (λ (q : Params). stands (called_in_data q) m i) same) refl
 accepts_did laws theirs proposed m i (Some q) =
-    cond_both (may_answer theirs q) (goes (called_talk q) m i (Accept (field_for theirs q) ∷ [])) (goes (Offered theirs) m i []) (λ (s : CallStep). Did_to (Offered theirs) m i s)
-    (λ may. let same : said_in theirs (field_for theirs q) ≡ q = answer_read laws theirs q proposed may in
+    cond_both (may_answer theirs q.params) (goes (called_talk q.params) m i (Accept (field_for theirs q) ∷ [])) (goes (Offered theirs) m i []) (λ (s : CallStep). Did_to (Offered theirs) m i s)
+    (λ may. let same : said_in theirs (field_for theirs q) ≡ q.params = answer_read laws theirs q proposed may in
     Something (peer.AcceptsCall (field_for theirs q)) (subst (λ (q : Params). may_answer theirs q ≡ true) (sym same) may) (ap (λ (q : Params). stands (called_in_data q) m i) same) refl)
     (λ _. Nothing refl refl)
 

@@ -4,7 +4,7 @@ use Rattle.std.proofs.lemmas.List.{append-nil}
 use Rattle.std.proofs.lemmas.Bool.{cond_both}
 use Rattle.x25_bits.specs.declared.role.Role.TheVariants.{Dte, Dce}
 use Rattle.x25_circuit.specs.declared.params.Params.{Params}
-use Rattle.x25_circuit.specs.Params.{Terms, may_propose, may_answer, field_for, said_in, called_terms, calling_terms}
+use Rattle.x25_circuit.specs.Params.{Proposal, Terms, may_propose, may_answer, field_for, said_in, called_terms, calling_terms}
 use Rattle.x25_circuit.specs.Notice.{CallRequest}
 use Rattle.x25_handshakes.specs.laws.Handshake.{At}
 use Rattle.x25_handshakes.specs.laws.Stretch.{Packet, Call, Accept, Stretch}
@@ -40,10 +40,10 @@ as_proposed : Laws → (mine theirs : Params) → IsProposal mine theirs → Agr
 as_proposed laws mine theirs h =
     subst (λ (p : Params). Agreed mine p []) (sym h.same) (agreed laws mine mine [] h.allowed (laws.proposal mine) (laws.no_field mine))
 
-as_answered : Laws → (mine theirs answer : Params) → IsProposal mine theirs → may_answer theirs answer ≡ true → Agreed mine answer (field_for theirs answer)
+as_answered : Laws → (mine theirs : Params) (answer : Proposal) → IsProposal mine theirs → may_answer theirs answer.params ≡ true → Agreed mine answer.params (field_for theirs answer)
 as_answered laws mine theirs answer h =
-    subst (λ (p : Params). may_answer p answer ≡ true → Agreed mine answer (field_for p answer)) (sym h.same)
-    (λ may. agreed laws mine answer (field_for mine answer) h.allowed may (answer_read laws mine answer h.allowed may))
+    subst (λ (p : Params). may_answer p answer.params ≡ true → Agreed mine answer.params (field_for p answer)) (sym h.same)
+    (λ may. agreed laws mine answer.params (field_for mine answer) h.allowed may (answer_read laws mine answer h.allowed may))
 
 pub nil_is : (u : List Packet) → Nil u → u ≡ []
 nil_is [] h = refl
@@ -188,12 +188,12 @@ module _ {B : Type 0} (R : TalksOf (At Stretch) B) (y₀ : B) (talks : DteTalks 
     );
   }
 
-  dte_accepts : Laws → (q theirs : Params) (answer : Option Params) (ma ia mb ib : List CallRequest) (u v : List Packet) → DteJoint (Offered theirs) (Calling q) ma ia mb ib u v
+  dte_accepts : Laws → (q theirs : Params) (answer : Option Proposal) (ma ia mb ib : List CallRequest) (u v : List Packet) → DteJoint (Offered theirs) (Calling q) ma ia mb ib u v
       → DteGood (accepts theirs ma ia answer) u v (Calling q) mb ib
   dte_accepts laws q theirs None ma ia mb ib u v h = dte_accepted q theirs theirs [] ma ia mb ib u v (as_proposed laws q theirs h.4) h
   dte_accepts laws q theirs (Some answer) ma ia mb ib u v h =
-      cond_both (may_answer theirs answer) (goes (called_talk answer) ma ia (Accept (field_for theirs answer) ∷ [])) (goes (Offered theirs) ma ia []) (λ (s : CallStep). DteGood s u v (Calling q) mb ib)
-      (λ may. dte_accepted q theirs answer (field_for theirs answer) ma ia mb ib u v (as_answered laws q theirs answer h.4 may) h)
+      cond_both (may_answer theirs answer.params) (goes (called_talk answer.params) ma ia (Accept (field_for theirs answer) ∷ [])) (goes (Offered theirs) ma ia []) (λ (s : CallStep). DteGood s u v (Calling q) mb ib)
+      (λ may. dte_accepted q theirs answer.params (field_for theirs answer) ma ia mb ib u v (as_answered laws q theirs answer h.4 may) h)
       (λ _. dte_still (record { phase = Offered theirs; made = ma; indicated = ia }) u v (Calling q) mb ib h)
 
   -- the DTE calls
@@ -327,7 +327,7 @@ module _ {A : Type 0} (R : TalksOf A (At Stretch)) (x₀ : A) (talks : DceTalks 
     kept = joint may.fits (talks.fresh (calling_terms answer) (called_terms answer) may.terms.calling may.terms.called);
   }
 
-  dce_accepts : Laws → (a : Stage A) (mine theirs : Params) (answer : Option Params) (ma ia mb ib : List CallRequest) (u v : List Packet) → IsProposal mine theirs → DceJoint a (Offered theirs) ma ia mb ib u v
+  dce_accepts : Laws → (a : Stage A) (mine theirs : Params) (answer : Option Proposal) (ma ia mb ib : List CallRequest) (u v : List Packet) → IsProposal mine theirs → DceJoint a (Offered theirs) ma ia mb ib u v
       → ((q : Params) (field : List ℕ) → IsAnswer mine field (called_terms q) (calling_terms q)
       → R (calling_terms q) (called_terms q) x₀ [] [] (called_terms q) (calling_terms q) fresh_transfer
       → DceJoint a (called_talk q) ma ia mb ib u (v ++ Accept field ∷ []))
@@ -335,8 +335,8 @@ module _ {A : Type 0} (R : TalksOf A (At Stretch)) (x₀ : A) (talks : DceTalks 
   dce_accepts laws a mine theirs None ma ia mb ib u v is h joint =
       dce_accepted a mine theirs [] ma ia mb ib u v (as_proposed laws mine theirs is) (joint theirs [])
   dce_accepts laws a mine theirs (Some answer) ma ia mb ib u v is h joint =
-      cond_both (may_answer theirs answer) (goes (called_talk answer) mb ib (Accept (field_for theirs answer) ∷ [])) (goes (Offered theirs) mb ib []) (λ (s : CallStep). DceGood a ma ia u v s)
-      (λ may. dce_accepted a mine answer (field_for theirs answer) ma ia mb ib u v (as_answered laws mine theirs answer is may) (joint answer (field_for theirs answer)))
+      cond_both (may_answer theirs answer.params) (goes (called_talk answer.params) mb ib (Accept (field_for theirs answer) ∷ [])) (goes (Offered theirs) mb ib []) (λ (s : CallStep). DceGood a ma ia u v s)
+      (λ may. dce_accepted a mine answer.params (field_for theirs answer) ma ia mb ib u v (as_answered laws mine theirs answer is may) (joint answer.params (field_for theirs answer)))
       (λ _. dce_still a ma ia u v (record { phase = Offered theirs; made = mb; indicated = ib }) h)
 
   -- the DCE calls

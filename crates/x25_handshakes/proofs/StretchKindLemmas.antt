@@ -6,7 +6,7 @@ use Rattle.x25_circuit.specs.Message.{Piece, wholes}
 use Rattle.x25_bits.specs.declared.role.Role.{Role}
 use Rattle.x25_bits.specs.declared.role.Role.TheVariants.{Dte, Dce}
 use Rattle.x25_circuit.specs.declared.params.Params.{Params}
-use Rattle.x25_circuit.specs.Params.{Terms, may_propose, may_answer, field_for, said_in}
+use Rattle.x25_circuit.specs.Params.{Proposal, Terms, may_propose, may_answer, field_for, said_in}
 use Rattle.x25_circuit.specs.Notice.{CallRequest}
 use Rattle.x25_handshakes.proofs.TermsLemmas.{IsSound}
 use Rattle.x25_handshakes.specs.laws.Handshake.{Inner, Side, Live, Left, At, state_of}
@@ -143,10 +143,10 @@ transfer_acted down up k t b s (Left x) a = (refl, alike (down x), refl)
 unmoved : {M : Type 0} (down up : Stretch → List M) (a : Phase) → Acted down up a a
 unmoved down up a = (refl, alike (held_in down up a).down, refl)
 
-accepted : {M : Type 0} (down up : Stretch → List M) → IsKept down up → (theirs : Params) (m i : List CallRequest) (answer : Option Params) → Acted down up (Offered theirs) (accepts theirs m i answer).next.phase
+accepted : {M : Type 0} (down up : Stretch → List M) → IsKept down up → (theirs : Params) (m i : List CallRequest) (answer : Option Proposal) → Acted down up (Offered theirs) (accepts theirs m i answer).next.phase
 accepted down up k theirs m i None = (refl, (down fresh, refl), k.up_fresh)
 accepted down up k theirs m i (Some q) =
-    cond_both (may_answer theirs q) (goes (called_talk q) m i (Accept (field_for theirs q) ∷ [])) (goes (Offered theirs) m i []) (λ (s : CallStep). Acted down up (Offered theirs) s.next.phase)
+    cond_both (may_answer theirs q.params) (goes (called_talk q.params) m i (Accept (field_for theirs q) ∷ [])) (goes (Offered theirs) m i []) (λ (s : CallStep). Acted down up (Offered theirs) s.next.phase)
     (λ _. (refl, (down fresh, refl), k.up_fresh))
     (λ _. unmoved down up (Offered theirs))
 

@@ -1,7 +1,7 @@
 -- Proposals and answers give sound terms.
 use Rattle.std.proofs.Common.{◌≡◌, ◌≤◌, true, arith}
 use Rattle.x25_circuit.specs.declared.params.Params.{Params}
-use Rattle.x25_circuit.specs.Params.{Terms, may_propose, may_answer, field_for, said_in, called_terms, calling_terms}
+use Rattle.x25_circuit.specs.Params.{Proposal, Terms, may_propose, may_answer, field_for, said_in, called_terms, calling_terms}
 use Rattle.x25_circuit.specs.laws.ParamsLaws.{FieldIsSaid, NoFieldIsKnown, ProposalIsAnswer, AnswerIsAllowed, AreTerms, TermsAreAllowed}
 
 -- what a circuit's laws say of them
@@ -31,5 +31,5 @@ answer_sound laws p q proposed answered =
     let terms = laws.terms q (laws.answer p q proposed answered) in
     record { called = sound (called_terms q) terms.0; calling = sound (calling_terms q) terms.1 }
 
-pub answer_read : Laws → (p q : Params) → may_propose p ≡ true → may_answer p q ≡ true → said_in p (field_for p q) ≡ q
-answer_read laws p q proposed answered = laws.said p q (laws.answer p q proposed answered)
+pub answer_read : Laws → (p : Params) (q : Proposal) → may_propose p ≡ true → may_answer p q.params ≡ true → said_in p (field_for p q) ≡ q.params
+answer_read laws p q proposed answered = laws.said p q (laws.answer p q.params proposed answered)

@@ -4,6 +4,7 @@ use Rattle.std.proofs.Math.ListN.{length-set}
 use Rattle.std.proofs.lemmas.Bool.{leb-true, and_parts}
 use Rattle.x25_packet.specs.declared.packet.Packet.{Packet}
 use Rattle.x25_packet.specs.Packet.{PlainPacket}
+use Rattle.x25_circuit.specs.Params.{Proposal}
 use Rattle.x25_circuit.specs.declared.circuit.Circuit as circuit_code
 use Rattle.x25_circuit.specs.declared.error.CircuitError.{CircuitError}
 use Rattle.x25_circuit.specs.declared.error.CircuitError.TheVariants as circuit_error
@@ -179,14 +180,14 @@ asked_goes view c l h request up ready is free =
 -- ---- a new call
 
 -- where nothing of the link or layer refuses it, the circuit of the free channel is asked
-pub dial_goes : (view : LinkView) (c : LayerSettings) (l : Layer) (called calling user : List ℕ) (params : Params) (h : ℕ) → view.is_up ≡ true → l.restarting ≡ false → free_channel c.circuit.role l.circuits c.channels ≡ Some h
-    → (view.waits [] ≡ 256 → ⊥) → calls view c l (Dials called calling user params) ≡ went view c (outcome_on l.restarts l.circuits h (outcome c.circuit (l.circuits h) (Calls called calling user params)))
-dial_goes view c l called calling user params h up ready is free =
+pub dial_goes : (view : LinkView) (c : LayerSettings) (l : Layer) (called calling user : List ℕ) (proposal : Proposal) (h : ℕ) → view.is_up ≡ true → l.restarting ≡ false → free_channel c.circuit.role l.circuits c.channels ≡ Some h
+    → (view.waits [] ≡ 256 → ⊥) → calls view c l (Dials called calling user proposal) ≡ went view c (outcome_on l.restarts l.circuits h (outcome c.circuit (l.circuits h) (Calls called calling user proposal)))
+dial_goes view c l called calling user proposal h up ready is free =
     let f : Bool = view.waits [] == 256 in
-    ap (λ (b : Bool). if b then went view c (layer_outcome c f l (Dials called calling user params)) else Refuses error.NotUp) up
-    ∙ ap (λ (b : Bool). went view c (outcome_in c f b l.restarts l.circuits (Dials called calling user params))) ready
-    ∙ ap (λ (o : Option ℕ). went view c (dialled c f l.restarts l.circuits o called calling user params)) is
-    ∙ ap (λ (b : Bool). went view c (where_room b (outcome_on l.restarts l.circuits h (outcome c.circuit (l.circuits h) (Calls called calling user params))))) (not_same (view.waits []) 256 free)
+    ap (λ (b : Bool). if b then went view c (layer_outcome c f l (Dials called calling user proposal)) else Refuses error.NotUp) up
+    ∙ ap (λ (b : Bool). went view c (outcome_in c f b l.restarts l.circuits (Dials called calling user proposal))) ready
+    ∙ ap (λ (o : Option ℕ). went view c (dialled c f l.restarts l.circuits o called calling user proposal)) is
+    ∙ ap (λ (b : Bool). went view c (where_room b (outcome_on l.restarts l.circuits h (outcome c.circuit (l.circuits h) (Calls called calling user proposal))))) (not_same (view.waits []) 256 free)
 
 pub err_is : {T : Type 0} (e f : LayerError) → ◌≡◌ {A = Result T LayerError} (Err e) (Err f) → e ≡ f
 err_is e f same = cc

@@ -4,6 +4,7 @@ use Rattle.std.proofs.lemmas.Bool.{eqb-true}
 use Rattle.x25_bits.specs.declared.role.Role.TheVariants.{Dte, Dce}
 use Rattle.x25_packet.specs.Packet.{PlainPacket, clear, restart, restart_conf}
 use Rattle.x25_packet.specs.Spelling.{channel_of}
+use Rattle.x25_circuit.specs.Params.{Proposal}
 use Rattle.x25_circuit.specs.declared.params.Params.{Params}
 use Rattle.x25_circuit.specs.Circuit.{Circuit}
 use Rattle.x25_circuit.specs.Notice.{PlainNotice}
@@ -94,18 +95,18 @@ kept_if : (l : Layer) (b : Bool) (good : LayerOutcome) (e : LayerError) → Keep
 kept_if l true good e keeps = keeps
 kept_if l false good e keeps = tt
 
-kept_dial : (c : LayerSettings) (full : Bool) (l : Layer) (o : Option ℕ) (called calling user : List ℕ) (params : Params) → KeepsNames l (dialled c full l.restarts l.circuits o called calling user params)
-kept_dial c full l None called calling user params = tt
-kept_dial c full l (Some h) called calling user params =
-    kept_room l full (outcome_on l.restarts l.circuits h (outcome c.circuit (l.circuits h) (Calls called calling user params)))
-    (kept_on l h (outcome c.circuit (l.circuits h) (Calls called calling user params)) (outcome_keeps c.circuit (l.circuits h) (Calls called calling user params)))
+kept_dial : (c : LayerSettings) (full : Bool) (l : Layer) (o : Option ℕ) (called calling user : List ℕ) (proposal : Proposal) → KeepsNames l (dialled c full l.restarts l.circuits o called calling user proposal)
+kept_dial c full l None called calling user proposal = tt
+kept_dial c full l (Some h) called calling user proposal =
+    kept_room l full (outcome_on l.restarts l.circuits h (outcome c.circuit (l.circuits h) (Calls called calling user proposal)))
+    (kept_on l h (outcome c.circuit (l.circuits h) (Calls called calling user proposal)) (outcome_keeps c.circuit (l.circuits h) (Calls called calling user proposal)))
 
 kept_ready : (c : LayerSettings) (full : Bool) (l : Layer) (request : LayerRequest) → KeepsNames l (outcome_ready c full l.restarts l.circuits request)
 kept_ready c full l (Asks h request) =
     kept_if l (is_channel c.channels h) (if_at_once (puts_at_once request) full (outcome_on l.restarts l.circuits h (outcome c.circuit (l.circuits h) request))) error.NoSuchChannel
     (kept_at_once l (puts_at_once request) full (outcome_on l.restarts l.circuits h (outcome c.circuit (l.circuits h) request))
     (kept_on l h (outcome c.circuit (l.circuits h) request) (outcome_keeps c.circuit (l.circuits h) request)))
-kept_ready c full l (Dials called calling user params) = kept_dial c full l (free_channel c.circuit.role l.circuits c.channels) called calling user params
+kept_ready c full l (Dials called calling user proposal) = kept_dial c full l (free_channel c.circuit.role l.circuits c.channels) called calling user proposal
 kept_ready c full l Restarts = kept_room l full _ (λ k. refl)
 kept_ready c full l PullsAll = λ k. refl
 

@@ -6,6 +6,7 @@ use Rattle.x25_bits.specs.declared.role.Role.{Role}
 use Rattle.x25_bits.specs.declared.role.Role.TheVariants.{Dte, Dce}
 use Rattle.x25_packet.specs.Packet.{PlainPacket, call, accept, clear, clear_conf, user_data, rr, rnr, interrupt, interrupt_conf, reset, reset_conf, restart, restart_conf}
 use Rattle.x25_packet.specs.Spelling.{channel_of, HasChannel, moved_to}
+use Rattle.x25_circuit.specs.Params.{Proposal}
 use Rattle.x25_circuit.specs.declared.params.Params.{Params}
 use Rattle.x25_circuit.specs.Circuit.{Circuit, begun, forgotten, is_free}
 use Rattle.x25_circuit.specs.Notice.{PlainNotice}
@@ -237,19 +238,19 @@ circuit_asked laws c e f x h request is each l r same =
     (subst (λ (y : Circuit). NotesOutcome (outcome c.circuit y request) (x h) (channel_acts (x h) (act_of request)).next (asked_by request)) (sym (each h).is) (notes_asked c.circuit (each h).agreed (x h) request (each h).fits))
     l r same
 
-dial : ParamsLaws → (c : LayerSettings) (full : Bool) (e : ℕ) (f : ℕ → Circuit) (x : Channels) (called calling user : List ℕ) (params : Params) → ((k : ℕ) → Shows (f k) (x k)) → (l : Layer) → l.circuits ≡ f
-    → HeedsLayer c l (Dials called calling user params) (dialled c full e f (free_channel c.circuit.role f c.channels) called calling user params) (ready e x)
-    (layer_side_acts e (Live x) (dial_act (free_channel c.circuit.role f c.channels) called calling user params))
-dial laws c full e f x called calling user params each l same = found (free_channel c.circuit.role f c.channels) refl
+dial : ParamsLaws → (c : LayerSettings) (full : Bool) (e : ℕ) (f : ℕ → Circuit) (x : Channels) (called calling user : List ℕ) (proposal : Proposal) → ((k : ℕ) → Shows (f k) (x k)) → (l : Layer) → l.circuits ≡ f
+    → HeedsLayer c l (Dials called calling user proposal) (dialled c full e f (free_channel c.circuit.role f c.channels) called calling user proposal) (ready e x)
+    (layer_side_acts e (Live x) (dial_act (free_channel c.circuit.role f c.channels) called calling user proposal))
+dial laws c full e f x called calling user proposal each l same = found (free_channel c.circuit.role f c.channels) refl
   where
     found : (o : Option ℕ) → free_channel c.circuit.role f c.channels ≡ o
-        → HeedsLayer c l (Dials called calling user params) (dialled c full e f o called calling user params) (ready e x) (layer_side_acts e (Live x) (dial_act o called calling user params))
+        → HeedsLayer c l (Dials called calling user proposal) (dialled c full e f o called calling user proposal) (ready e x) (layer_side_acts e (Live x) (dial_act o called calling user proposal))
     found None is = tt
     found (Some h) is =
-        room c l (Dials called calling user params) full (outcome_on e f h (outcome c.circuit (f h) (Calls called calling user params))) (ready e x)
-        (on_channel e x h (channel_acts (x h) (act_of (Calls called calling user params))))
-        (circuit_asked laws c e f x h (Calls called calling user params) (free_in c.circuit.role f c.channels h is) each l (Dials called calling user params)
-        (λ n. ap (λ o. entry_of_dial n o (Calls called calling user params)) (ap (λ (g : ℕ → Circuit). free_channel c.circuit.role g c.channels) same ∙ is)))
+        room c l (Dials called calling user proposal) full (outcome_on e f h (outcome c.circuit (f h) (Calls called calling user proposal))) (ready e x)
+        (on_channel e x h (channel_acts (x h) (act_of (Calls called calling user proposal))))
+        (circuit_asked laws c e f x h (Calls called calling user proposal) (free_in c.circuit.role f c.channels h is) each l (Dials called calling user proposal)
+        (λ n. ap (λ o. entry_of_dial n o (Calls called calling user proposal)) (ap (λ (g : ℕ → Circuit). free_channel c.circuit.role g c.channels) same ∙ is)))
 
 asked_ready : ParamsLaws → (c : LayerSettings) (full : Bool) (e : ℕ) (l : Layer) (x : Channels) (r : LayerRequest) → DoesItself r → ((k : ℕ) → Shows (l.circuits k) (x k))
     → HeedsLayer c l r (outcome_ready c full e l.circuits r) (ready e x) (layer_side_acts e (Live x) (layer_act c l.circuits r))
@@ -259,7 +260,7 @@ asked_ready laws c full e l x (Asks h request) does each =
     (λ is. at_once c l (Asks h request) (puts_at_once request) full (outcome_on e l.circuits h (outcome c.circuit (l.circuits h) request)) (ready e x)
     (on_channel e x h (channel_acts (x h) (act_of request)))
     (circuit_asked laws c e l.circuits x h request is each l (Asks h request) (λ n. refl)))
-asked_ready laws c full e l x (Dials called calling user params) does each = dial laws c full e l.circuits x called calling user params each l refl
+asked_ready laws c full e l x (Dials called calling user proposal) does each = dial laws c full e l.circuits x called calling user proposal each l refl
 asked_ready laws c full e l x PullsAll does each = absurd does
 asked_ready laws c full e l x Restarts does each =
     room c l Restarts full (Accepted (flat.restarting_from e l.circuits) (Some (restart 0 0))) (ready e x) (record { next = restarting e x; out = Restart ∷ []; error = None })

@@ -1,6 +1,7 @@
 -- What a layer is of the nested handshakes, and what a step does to the names and lists of its channels.
 use Rattle.std.proofs.Common.{◌≡◌, ℕ, ◌<◌, List, Option, None, Some, if◌then◌else◌, option_to_list}
 use Rattle.x25_packet.specs.Packet.{PlainPacket}
+use Rattle.x25_circuit.specs.Params.{Proposal}
 use Rattle.x25_circuit.specs.declared.params.Params.{Params}
 use Rattle.x25_circuit.specs.Circuit.{Circuit, forgotten}
 use Rattle.x25_circuit.specs.Calling.{Calls}
@@ -54,14 +55,14 @@ pub record DoesLayer (channels : ℕ) (l : Layer) (packet : Option PlainPacket) 
   pub quiet : AreQuiet channels (option_to_list packet)
   pub step : StepOf z s.next es
 
-abbrev pub dial_act : Option ℕ → List ℕ → List ℕ → List ℕ → Params → LayerAct
-dial_act None called calling user params = SendsRestart
-dial_act (Some h) called calling user params = OnChannel h (act_of (Calls called calling user params))
+abbrev pub dial_act : Option ℕ → List ℕ → List ℕ → List ℕ → Proposal → LayerAct
+dial_act None called calling user proposal = SendsRestart
+dial_act (Some h) called calling user proposal = OnChannel h (act_of (Calls called calling user proposal))
 
 -- (of a dial that finds no free channel nothing is said, and neither of pulls, which change nothing themselves)
 abbrev pub layer_act : LayerSettings → (ℕ → Circuit) → LayerRequest → LayerAct
 layer_act c circuits (Asks h request) = OnChannel h (act_of request)
-layer_act c circuits (Dials called calling user params) = dial_act (free_channel c.circuit.role circuits c.channels) called calling user params
+layer_act c circuits (Dials called calling user proposal) = dial_act (free_channel c.circuit.role circuits c.channels) called calling user proposal
 layer_act c circuits Restarts = SendsRestart
 layer_act c circuits PullsAll = SendsRestart
 

@@ -8,7 +8,7 @@ use Rattle.x25_circuit.specs.declared.error.CircuitError.TheVariants.{Full, TooL
 use Rattle.x25_circuit.specs.declared.state.State.{State}
 use Rattle.x25_circuit.specs.declared.state.State.TheVariants.{Free, Calling, Arriving, Collision, Open, Resetting, Clearing}
 use Rattle.x25_circuit.specs.declared.params.Params.{Params}
-use Rattle.x25_circuit.specs.Params.{may_answer, field_for, said_in}
+use Rattle.x25_circuit.specs.Params.{Proposal, may_answer, field_for, said_in}
 use Rattle.x25_circuit.specs.Message.{Piece, piece_of, no_part, joining, completed, cut}
 use Rattle.x25_circuit.specs.Circuit.{Settings, Talk, Circuit, outgoing, incoming as terms_in, is_free, is_free_in, waits}
 use Rattle.x25_circuit.specs.Notice.{CallRequest, PlainNotice, connected, deliveries}
@@ -159,9 +159,9 @@ keeps_if x true u v h g = h
 keeps_if x false u v h g = g
 
 module _ (c : Settings) (x : Circuit) where
-  call_keeps : (s : State) (called calling user : List ℕ) (params : Params) → KeepsName x (call_in c x s called calling user params)
-  call_keeps Free called calling user params =
-      keeps_if x (may_call c.long_data called calling user params) (does x Calling params true (call_sent (request_of called calling user params))) (Refused BadParameter) (λ e. refl) tt
+  call_keeps : (s : State) (called calling user : List ℕ) (proposal : Proposal) → KeepsName x (call_in c x s called calling user proposal)
+  call_keeps Free called calling user proposal =
+      keeps_if x (may_call c.long_data called calling user proposal.params) (does x Calling proposal.params true (call_sent called calling user proposal)) (Refused BadParameter) (λ e. refl) tt
   call_keeps Calling called calling user params = tt
   call_keeps Arriving called calling user params = tt
   call_keeps Collision called calling user params = tt
@@ -169,11 +169,11 @@ module _ (c : Settings) (x : Circuit) where
   call_keeps Resetting called calling user params = tt
   call_keeps Clearing called calling user params = tt
 
-  answer_keeps : (answer : Option Params) → KeepsName x (accept_with x answer)
+  answer_keeps : (answer : Option Proposal) → KeepsName x (accept_with x answer)
   answer_keeps None = λ e. refl
-  answer_keeps (Some answer) = keeps_if x (may_answer x.params answer) (does x Open answer false (accept 1 (field_for x.params answer))) (Refused BadParameter) (λ e. refl) tt
+  answer_keeps (Some answer) = keeps_if x (may_answer x.params answer.params) (does x Open answer.params false (accept 1 (field_for x.params answer))) (Refused BadParameter) (λ e. refl) tt
 
-  accept_keeps : (s : State) (answer : Option Params) → KeepsName x (accept_in x s answer)
+  accept_keeps : (s : State) (answer : Option Proposal) → KeepsName x (accept_in x s answer)
   accept_keeps Arriving answer = answer_keeps answer
   accept_keeps Free answer = tt
   accept_keeps Calling answer = tt

@@ -10,7 +10,7 @@ use Rattle.x25_circuit.specs.Message.{Piece, piece_of, no_part, joining, complet
 use Rattle.x25_circuit.specs.declared.params.Params.{Params}
 use Rattle.x25_circuit.specs.declared.error.CircuitError.TheVariants.{BadParameter}
 use Rattle.x25_circuit.specs.declared.state.State.TheVariants.{Calling, Open}
-use Rattle.x25_circuit.specs.Params.{Terms, may_answer, field_for, said_in}
+use Rattle.x25_circuit.specs.Params.{Proposal, Terms, may_answer, field_for, said_in}
 use Rattle.x25_circuit.specs.Circuit.{Settings, Circuit}
 use Rattle.x25_circuit.specs.Notice.{CallRequest, connected, deliveries}
 use Rattle.x25_circuit.specs.Hearing.{answers, unless, takes, hears_status, confirms, request_in, goes, clears_for, collides}
@@ -235,28 +235,31 @@ asked_in_transfer : (c : Settings) (g : Agreed) (e : ℕ) (m i : List CallReques
 asked_in_transfer c g e m i s (Live x) request = asked_open c g e m i s x request
 asked_in_transfer c g e m i s (Left x) request = asked_resetting c g e m i s x request
 
-asked_call : (c : Settings) (g : Agreed) (e : ℕ) (m i : List CallRequest) (called calling user : List ℕ) (params : Params) → Asked c g (in_call e m i Unused) (Calls called calling user params)
-asked_call c g e m i called calling user params = test (may_call c.long_data called calling user params) refl
+asked_call : (c : Settings) (g : Agreed) (e : ℕ) (m i : List CallRequest) (called calling user : List ℕ) (proposal : Proposal) → Asked c g (in_call e m i Unused) (Calls called calling user proposal)
+asked_call c g e m i called calling user proposal = test (may_call c.long_data called calling user params) refl
   where
+    params : Params
+    params = proposal.params
+
     placed : Bool → CallStep
     placed b = if b then nested_calls.goes (Waiting params) (m ++ request_of called calling user params ∷ []) i (Call (request_of called calling user params) ∷ []) else nested_calls.goes Unused m i []
 
     test : (b : Bool) → may_call c.long_data called calling user params ≡ b
-        → NotesOutcome (if b then does (view g (in_call e m i Unused)) Calling params true (call_sent (request_of called calling user params)) else Refused BadParameter) (in_call e m i Unused)
-        (channel_acts (in_call e m i Unused) (act_of (Calls called calling user params))).next (asked_by (Calls called calling user params))
+        → NotesOutcome (if b then does (view g (in_call e m i Unused)) Calling params true (call_sent called calling user proposal) else Refused BadParameter) (in_call e m i Unused)
+        (channel_acts (in_call e m i Unused) (act_of (Calls called calling user proposal))).next (asked_by (Calls called calling user proposal))
     test true is =
-        subst (λ (b : Bool). Notes (in_call e m i Unused) (lifted_call e (placed b) (placed b).error).next (asked_by (Calls called calling user params))) (sym (call_proposes c.long_data called calling user params is))
+        subst (λ (b : Bool). Notes (in_call e m i Unused) (lifted_call e (placed b) (placed b).error).next (asked_by (Calls called calling user proposal))) (sym (call_proposes c.long_data called calling user params is))
         (Adds refl refl (handed_is (m ++ request_of called calling user params ∷ []) _ refl i _ (none i) [] _ refl [] _ refl [] _ refl [] _ refl) (inr refl))
     test false is = tt
 
-asked_answer : (c : Settings) (g : Agreed) (e : ℕ) (m i : List CallRequest) (theirs answer : Params) → Asked c g (in_call e m i (Offered theirs)) (Accepts (Some answer))
-asked_answer c g e m i theirs answer = test (may_answer theirs answer)
+asked_answer : (c : Settings) (g : Agreed) (e : ℕ) (m i : List CallRequest) (theirs : Params) (answer : Proposal) → Asked c g (in_call e m i (Offered theirs)) (Accepts (Some answer))
+asked_answer c g e m i theirs answer = test (may_answer theirs answer.params)
   where
     answered : Bool → CallStep
-    answered b = if b then nested_calls.goes (called_talk answer) m i (Accept (field_for theirs answer) ∷ []) else nested_calls.goes (Offered theirs) m i []
+    answered b = if b then nested_calls.goes (called_talk answer.params) m i (Accept (field_for theirs answer) ∷ []) else nested_calls.goes (Offered theirs) m i []
 
     test : (b : Bool)
-        → NotesOutcome (if b then does (view g (in_call e m i (Offered theirs))) Open answer false (accept 1 (field_for theirs answer)) else Refused BadParameter) (in_call e m i (Offered theirs))
+        → NotesOutcome (if b then does (view g (in_call e m i (Offered theirs))) Open answer.params false (accept 1 (field_for theirs answer)) else Refused BadParameter) (in_call e m i (Offered theirs))
         (lifted_call e (answered b) (answered b).error).next (asked_by (Accepts (Some answer)))
     test true = Adds refl refl (added_nothing (held_of (in_call e m i (Offered theirs)))) (inl (refl, refl))
     test false = tt

@@ -142,7 +142,7 @@ Heeds (Done next packet) s = Does next packet s
 Heeds (Refused e) s = Unit {0}
 
 abbrev pub act_of : Request → ChannelAct
-act_of (Calls called calling user params) = Within (PlacesCall (request_of called calling user params))
+act_of (Calls called calling user proposal) = Within (PlacesCall (request_of called calling user proposal.params))
 act_of (Accepts answer) = Within (AcceptsCall answer)
 act_of Clears = SendsClear
 act_of (Sends q user) = Within (Talks (Inside (Send q user)))

@@ -10,7 +10,7 @@ use Rattle.x25_circuit.specs.Message.{Piece, More, Last, piece_of, no_part, join
 use Rattle.x25_circuit.specs.declared.params.Params.{Params}
 use Rattle.x25_circuit.specs.declared.error.CircuitError.TheVariants.{BadParameter}
 use Rattle.x25_circuit.specs.declared.state.State.TheVariants.{Calling, Open}
-use Rattle.x25_circuit.specs.Params.{Terms, default_params, may_propose, may_answer, field_for, said_in}
+use Rattle.x25_circuit.specs.Params.{Proposal, Terms, default_params, may_propose, may_answer, field_for, said_in}
 use Rattle.x25_circuit.specs.Circuit.{Settings, silent, Circuit, entered}
 use Rattle.x25_circuit.specs.Notice.{CallRequest, connected, deliveries}
 use Rattle.x25_circuit.specs.Hearing.{answers, unless, takes, hears_status, confirms, status, request_in, goes, clears_for, collides}
@@ -251,38 +251,41 @@ asked_in_transfer c g e m i s (Live x) request = asked_open c g e m i s x reques
 asked_in_transfer c g e m i s (Left x) request = asked_resetting c g e m i s x request
 
 -- a call goes where what it proposes may be proposed
-asked_call : ParamsLaws → (c : Settings) (g : Agreed) (e : ℕ) (m i : List CallRequest) (called calling user : List ℕ) (params : Params) → Asked c g (in_call e m i Unused) (Calls called calling user params)
-asked_call laws c g e m i called calling user params = test (may_call c.long_data called calling user params) refl
+asked_call : ParamsLaws → (c : Settings) (g : Agreed) (e : ℕ) (m i : List CallRequest) (called calling user : List ℕ) (proposal : Proposal) → Asked c g (in_call e m i Unused) (Calls called calling user proposal)
+asked_call laws c g e m i called calling user proposal = test (may_call c.long_data called calling user params) refl
   where
+    params : Params
+    params = proposal.params
+
     placed : Bool → CallStep
     placed b = if b then nested_calls.goes (Waiting params) (m ++ request_of called calling user params ∷ []) i (Call (request_of called calling user params) ∷ []) else nested_calls.goes Unused m i []
 
     test : (b : Bool) → may_call c.long_data called calling user params ≡ b
-        → Heeds (if b then does (view g (in_call e m i Unused)) Calling params true (call_sent (request_of called calling user params)) else Refused BadParameter)
-        (channel_acts (in_call e m i Unused) (act_of (Calls called calling user params)))
+        → Heeds (if b then does (view g (in_call e m i Unused)) Calling params true (call_sent called calling user proposal) else Refused BadParameter)
+        (channel_acts (in_call e m i Unused) (act_of (Calls called calling user proposal)))
     test true is =
         let allowed : may_propose params ≡ true = call_proposes c.long_data called calling user params is in
-        subst (λ (b : Bool). Does (entered (view g (in_call e m i Unused)) Calling params true) (Some (call_sent (request_of called calling user params))) (lifted_call e (placed b) (placed b).error)) (sym allowed)
+        subst (λ (b : Bool). Does (entered (view g (in_call e m i Unused)) Calling params true) (Some (call_sent called calling user proposal)) (lifted_call e (placed b) (placed b).error)) (sym allowed)
         (record {
           next = record { agreed = g; is = refl; fits = tt };
-          packet = ap (λ (p : Params). Call (record { called = digits_of_text called; calling = digits_of_text calling; user = user; params = p }) ∷ []) (laws.said default_params params allowed);
-          quiet = (laws.field default_params params allowed, tt);
+          packet = ap (λ (p : Params). Call (record { called = digits_of_text called; calling = digits_of_text calling; user = user; params = p }) ∷ []) (laws.said default_params proposal allowed);
+          quiet = (laws.field default_params proposal allowed, tt);
         })
     test false is = tt
 
 -- an answer goes where it may be answered to what is proposed
-asked_answer : ParamsLaws → (c : Settings) (g : Agreed) (e : ℕ) (m i : List CallRequest) (theirs answer : Params) → may_propose theirs ≡ true → Asked c g (in_call e m i (Offered theirs)) (Accepts (Some answer))
-asked_answer laws c g e m i theirs answer allowed = test (may_answer theirs answer) refl
+asked_answer : ParamsLaws → (c : Settings) (g : Agreed) (e : ℕ) (m i : List CallRequest) (theirs : Params) (answer : Proposal) → may_propose theirs ≡ true → Asked c g (in_call e m i (Offered theirs)) (Accepts (Some answer))
+asked_answer laws c g e m i theirs answer allowed = test (may_answer theirs answer.params) refl
   where
     answered : Bool → CallStep
-    answered b = if b then nested_calls.goes (called_talk answer) m i (Accept (field_for theirs answer) ∷ []) else nested_calls.goes (Offered theirs) m i []
+    answered b = if b then nested_calls.goes (called_talk answer.params) m i (Accept (field_for theirs answer) ∷ []) else nested_calls.goes (Offered theirs) m i []
 
-    test : (b : Bool) → may_answer theirs answer ≡ b
-        → Heeds (if b then does (view g (in_call e m i (Offered theirs))) Open answer false (accept 1 (field_for theirs answer)) else Refused BadParameter) (lifted_call e (answered b) (answered b).error)
+    test : (b : Bool) → may_answer theirs answer.params ≡ b
+        → Heeds (if b then does (view g (in_call e m i (Offered theirs))) Open answer.params false (accept 1 (field_for theirs answer)) else Refused BadParameter) (lifted_call e (answered b) (answered b).error)
     test true is = record {
-      next = record { agreed = record { params = answer; calls = false }; is = refl; fits = (refl, refl) };
+      next = record { agreed = record { params = answer.params; calls = false }; is = refl; fits = (refl, refl) };
       packet = refl;
-      quiet = (laws.field theirs answer (laws.answered theirs answer allowed is), tt);
+      quiet = (laws.field theirs answer (laws.answered theirs answer.params allowed is), tt);
     }
     test false is = tt
 

@@ -3,7 +3,7 @@ use Rattle.std.specs.Prelude.{ℕ, zero, suc, List, Option, Some, None, Bool, tr
 use Rattle.x25_bits.specs.declared.role.Role.{Role}
 use Rattle.x25_bits.specs.declared.role.Role.TheVariants.{Dte, Dce}
 use Rattle.x25_packet.specs.Packet.{PlainPacket, restart}
-use Rattle.x25_circuit.specs.declared.params.Params.{Params}
+use Rattle.x25_circuit.specs.Params.{Proposal}
 use Rattle.x25_circuit.specs.Circuit.{Circuit, is_free}
 use Rattle.x25_circuit.specs.Calling.{Outcome, Done, Refused, Request, Calls, Sends, outcome, Pulled, pulled}
 use Rattle.x25_circuit.specs.Request.{is_message}
@@ -15,7 +15,7 @@ use Rattle.x25_layer.specs.Layer.{LayerSettings, Layer, is_channel, put_at, pack
 -- proposes; a restart; and that the data packets which wait be pulled, which puts no packet of its own
 pub data LayerRequest : Type 0 where
   Asks : (channel : ℕ) → (request : Request) → LayerRequest
-  Dials : (called : List ℕ) → (calling : List ℕ) → (user : List ℕ) → (params : Params) → LayerRequest
+  Dials : (called : List ℕ) → (calling : List ℕ) → (user : List ℕ) → (proposal : Proposal) → LayerRequest
   Restarts : LayerRequest
   PullsAll : LayerRequest
 
@@ -33,7 +33,7 @@ abbrev pub lowest_free : (ℕ → Circuit) → ℕ → Option ℕ
 lowest_free circuits zero = None
 lowest_free circuits (suc n) = first_of (lowest_free circuits n) (is_free (circuits (suc n))) (suc n)
 
--- the highest of them
+-- the highest free channel of those up to a number
 abbrev pub highest_free : (ℕ → Circuit) → ℕ → Option ℕ
 highest_free circuits zero = None
 highest_free circuits (suc n) = if is_free (circuits (suc n)) then Some (suc n) else highest_free circuits n
@@ -68,12 +68,12 @@ outcome_on restarts circuits h (Done next packet) = Accepted (is_ready restarts 
     (packet_on h packet)
 outcome_on restarts circuits h (Refused e) = Declined (error.Circuit e)
 
-abbrev pub dialled : LayerSettings → Bool → ℕ → (ℕ → Circuit) → Option ℕ → List ℕ → List ℕ → List ℕ → Params
+abbrev pub dialled : LayerSettings → Bool → ℕ → (ℕ → Circuit) → Option ℕ → List ℕ → List ℕ → List ℕ → Proposal
     → LayerOutcome
-dialled c is_full restarts circuits None called calling user params = Declined error.NoFreeChannel
-dialled c is_full restarts circuits (Some h) called calling user params =
+dialled c is_full restarts circuits None called calling user proposal = Declined error.NoFreeChannel
+dialled c is_full restarts circuits (Some h) called calling user proposal =
     where_room is_full (outcome_on restarts circuits h
-    (outcome c.circuit (circuits h) (Calls called calling user params)))
+    (outcome c.circuit (circuits h) (Calls called calling user proposal)))
 
 abbrev pub outcome_ready : LayerSettings → Bool → ℕ → (ℕ → Circuit) → LayerRequest → LayerOutcome
 outcome_ready c is_full restarts circuits (Asks h request) =
@@ -81,8 +81,8 @@ outcome_ready c is_full restarts circuits (Asks h request) =
     then if_at_once (puts_at_once request) is_full
     (outcome_on restarts circuits h (outcome c.circuit (circuits h) request))
     else Declined error.NoSuchChannel
-outcome_ready c is_full restarts circuits (Dials called calling user params) =
-    dialled c is_full restarts circuits (free_channel c.circuit.role circuits c.channels) called calling user params
+outcome_ready c is_full restarts circuits (Dials called calling user proposal) =
+    dialled c is_full restarts circuits (free_channel c.circuit.role circuits c.channels) called calling user proposal
 outcome_ready c is_full restarts circuits Restarts = where_room is_full
     (Accepted (restarting_from restarts circuits) (Some (restart 0 0)))
 outcome_ready c is_full restarts circuits PullsAll = Accepted (is_ready restarts circuits) None

@@ -19,7 +19,7 @@ ghost use Rattle.x25_layer.specs.Calls.{Asks, Dials, free_channel};
 use crate::asking::puts_at_once;
 use crate::error::LayerError;
 use crate::layer::Layer;
-use x25_circuit::{Params, Proposal, Request};
+use x25_circuit::{Proposal, Request};
 use x25_link::OrderedLink;
 
 impl Layer {
@@ -54,8 +54,8 @@ impl Layer {
 
     /// Calls the other end, with addresses of 0 to 15 digits and at most 16 octets of user data (128 where it may be
     /// long), on the highest free channel at a DTE and on the lowest at a DCE, which it answers. It proposes these
-    /// packet sizes and windows: sizes of 4 to 12, and windows of 1 to 7. What isn't the default stands in the CALL.
-    /// ITU-T X.25 (10/96), section 6.12.
+    /// packet sizes and windows: sizes of 4 to 12, and windows of 1 to 7. What isn't the default stands in the CALL,
+    /// and with `says_all` what is. ITU-T X.25 (10/96), section 6.12.
     ///
     /// 9 NotUp, 40 Restarting, 41 NoFreeChannel, 10 QueueFull, then 34 BadParameter of the circuit where an address,
     /// the user data, a size or a window is none of these, and else 70 alone.
@@ -65,11 +65,11 @@ impl Layer {
         called: &str,
         calling: &str,
         user: &[u8],
-        params: Params,
+        proposal: &Proposal,
     ) -> Result<u16, LayerError>
         requires { 4099 ≤ L.longest link.old }
         ensures does { Answers L.OrderedLink self.old link.old self.new link.new result 16
-            (Dials called.now calling.now user.now params) }
+            (Dials called.now calling.now user.now proposal.now) }
         ensures channel { (c : LayerSettings) (l : State) → FitsLayer c self.old l
             → IfOk result (λ channel. free_channel c.circuit.role l.circuits c.channels ≡ Some channel) }
     {
@@ -82,12 +82,11 @@ impl Layer {
         if link.waiting() == 256 {
             return Err(LayerError::QueueFull);
         }
-        let proposal = Proposal::new(params);
         let request = Request::Call {
             called,
             calling,
             user,
-            proposal: &proposal,
+            proposal,
         };
         self.ask_ready(link, channel, request)?;
         Ok(channel)

@@ -27,4 +27,4 @@ pub use layer::Layer;
 pub use stretch::Stretch;
 pub use told::Told;
 pub use x25_bits::Role;
-pub use x25_circuit::Params;
+pub use x25_circuit::{Params, Proposal};

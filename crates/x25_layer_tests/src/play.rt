@@ -5,8 +5,8 @@ use crate::texts::{agreed_text, channel_text, done_text, put_text, state_text, t
 use std::alloc::{AllocError, Global};
 use std::process::Abort;
 use std::test::Fail;
-use x25_circuit::{Proposal, Request};
-use x25_layer::{Layer, LayerError, Params, Role};
+use x25_circuit::Request;
+use x25_layer::{Layer, LayerError, Params, Proposal, Role};
 use x25_link::{OrderedLink, PlainLink};
 
 /// Packet sizes of the called and of the calling end, and then windows.
@@ -70,13 +70,14 @@ pub const STAY: &str = "stay";
 /// What happens, what it shows, and the packets that wait in the link then, which are taken out of it, or `STAY`.
 pub type Row = (Event<'static>, &'static str, &'static str);
 
-fn params_of(values: Values) -> Params {
-    Params {
+fn proposal(values: Values) -> Proposal {
+    let params = Params {
         size_called: values[0],
         size_calling: values[1],
         win_called: values[2],
         win_calling: values[3],
-    }
+    };
+    Proposal::new(params, false)
 }
 
 // Tells the layer that a link came up, of which that is asked first.
@@ -142,7 +143,7 @@ fn accept_with<L: OrderedLink>(
 ) -> Result<(), LayerError>
     requires { 4099 ≤ L.longest link.old }
 {
-    let answer = Proposal::new(params_of(values));
+    let answer = proposal(values);
     layer.ask(
         link,
         channel,
@@ -212,12 +213,12 @@ pub fn happens<L: OrderedLink>(
         Call(called, calling, user) => {
             channel_text(
                 alloc,
-                layer.call(link, called, calling, user, Params::default()),
+                layer.call(link, called, calling, user, &Proposal::new(Params::default(), false)),
             )
         }
         CallWith(values) => {
-            let params = params_of(values);
-            channel_text(alloc, layer.call(link, "1", "2", &[], params))
+            let proposal = proposal(values);
+            channel_text(alloc, layer.call(link, "1", "2", &[], &proposal))
         }
         Send(channel, q, count) => {
             let user = vec![in alloc; 0u8; count]?;

@@ -43,7 +43,7 @@ use Rattle.x25_station.specs.Station.{all_put}
 use Rattle.x25_station.specs.Command.{Requests as Commanded}
 use Rattle.x25_station.specs.Step.{Step, unless, follows, abandons, receives}
 use Rattle.x25_station.specs.laws.JoinLaw.{station_with, IsJoined, RequestIsJoined, ReceiveIsJoined, QuietIsJoined}
-use Rattle.x25_station.specs.laws.KeepLaw.{IsKept, KeptBy, TimerKeeps, CommandKeeps, ReceiveKeeps}
+use Rattle.x25_station.specs.laws.KeepLaw.{IsKept, KeptBy, TimerKeeps, RequestKeeps, ReceiveKeeps}
 use Rattle.x25_station.specs.laws.ReadLaw.{AreReadable, IsReachedByOctets, at_start, goes_on, PutsBesidePeersAreReadable}
 use Rattle.x25_peer.specs.laws.Beside.{Beside, ReadAs, came_up, start, stepped, handed_down, Happens, Asks, Fires, Receives, Loses, Damages, LosesThere, DamagesThere, Sends, Hears, LayerDoes, LayerHears, IsReached}
 use Rattle.x25_peer.specs.laws.Beside as beside
@@ -58,7 +58,7 @@ pub record Below : Type 0 where
   pub receive : ReceiveIsJoined
   pub still : QuietIsJoined
   pub timer : TimerKeeps
-  pub command : CommandKeeps
+  pub command : RequestKeeps
   pub takes : ReceiveKeeps
 
 -- ---- lists
@@ -359,7 +359,7 @@ module _ (below : Below) (c : Settings) (low : 1 ≤ c.window) (high : c.window 
   step_on : (w v : Beside) → Stands c w → Happens c w v → Stands c v
   step_on w v h (Asks request step octets did) =
       let j = below.request c w.near.link (layer_peer.our_end (layers w h)) request step refl h.kept.few did in
-      let kept : IsKept step.near = subst KeptBy did (below.command c w.near (Commanded request) h.kept) in
+      let kept : IsKept step.near = subst KeptBy did (below.command c w.near request h.kept) in
       goes w h (alone w.near.link) w.back h.up (drop (length h.up) h.puts) (Requests (waits w.near.link.outgoing == 256) request ∷ pulls_of j.0) step (tt, octets, pulls_stay j.0) j.2
       (subst (λ (o : List (List ℕ)). LinkReached lc w.near.link (spelled h.given) h.up w.peer o w.back) (sym (append-nil w.out)) h.link) refl kept
   step_on w v h (Fires none noted) =

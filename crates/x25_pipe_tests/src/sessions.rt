@@ -9,6 +9,7 @@ const USUAL: Cfg = Cfg {
     n2: 10,
     channels: 1,
     long_data: false,
+    say_sizes: false,
 };
 
 const ROWS: [Row; 5] = [

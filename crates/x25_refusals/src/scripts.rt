@@ -30,6 +30,7 @@ const USUAL: Cfg = Cfg {
     n2: 10,
     channels: 1,
     long_data: false,
+    say_sizes: false,
 };
 
 const ONE_TRY: Cfg = Cfg {
@@ -37,6 +38,7 @@ const ONE_TRY: Cfg = Cfg {
     n2: 1,
     channels: 1,
     long_data: false,
+    say_sizes: false,
 };
 
 const WINDOW_OF_ONE: Cfg = Cfg {
@@ -44,6 +46,7 @@ const WINDOW_OF_ONE: Cfg = Cfg {
     n2: 10,
     channels: 1,
     long_data: false,
+    say_sizes: false,
 };
 
 const CONNECTS: Act = Do(Command(Dte, Cmd::Connect));

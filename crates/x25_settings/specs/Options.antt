@@ -9,7 +9,7 @@ use Rattle.x25_settings.specs.declared.options.Judging.{Judging}
 use Rattle.x25_settings.specs.declared.options.Place.{Place}
 use Rattle.x25_settings.specs.declared.options.Chosen.{Chosen}
 use Rattle.x25_settings.specs.declared.options.Flag.{Flag}
-use Rattle.x25_settings.specs.declared.options.Flag.TheVariants.{Down, Long, Tap, Strict}
+use Rattle.x25_settings.specs.declared.options.Flag.TheVariants.{Down, Long, SaySizes, Tap, Strict}
 use Rattle.x25_settings.specs.declared.options.Numbered.{Numbered}
 use Rattle.x25_settings.specs.declared.options.Numbered.TheVariants.{Window, Tries, Channels}
 pub mod Choosing
@@ -17,6 +17,7 @@ pub mod Choosing
 abbrev pub flag_word : Flag → List ℕ
 flag_word Down = codes "--down"
 flag_word Long = codes "--long"
+flag_word SaySizes = codes "--say-sizes"
 flag_word Tap = codes "--tap"
 flag_word Strict = codes "--strict"
 
@@ -47,7 +48,16 @@ words_of (flag x) = flag_word x ∷ []
 words_of (number x n) = word_of x ∷ decimal n ∷ []
 
 abbrev pub nothing : Chosen
-nothing = record { down = false; long = false; tap = false; strict = false; k = None; n2 = None; channels = None }
+nothing = record {
+  down = false;
+  long = false;
+  say_sizes = false;
+  tap = false;
+  strict = false;
+  k = None;
+  n2 = None;
+  channels = None;
+}
 
 abbrev pub chosen_number : Chosen → Numbered → Option ℕ
 chosen_number c Window = c.k
@@ -57,6 +67,7 @@ chosen_number c Channels = c.channels
 abbrev pub chosen_flag : Chosen → Flag → Bool
 chosen_flag c Down = c.down
 chosen_flag c Long = c.long
+chosen_flag c SaySizes = c.say_sizes
 chosen_flag c Tap = c.tap
 chosen_flag c Strict = c.strict
 
@@ -64,6 +75,7 @@ abbrev pub with_flag : Chosen → Flag → Chosen
 with_flag c Down = record {
   down = true;
   long = c.long;
+  say_sizes = c.say_sizes;
   tap = c.tap;
   strict = c.strict;
   k = c.k;
@@ -73,6 +85,17 @@ with_flag c Down = record {
 with_flag c Long = record {
   down = c.down;
   long = true;
+  say_sizes = c.say_sizes;
+  tap = c.tap;
+  strict = c.strict;
+  k = c.k;
+  n2 = c.n2;
+  channels = c.channels;
+}
+with_flag c SaySizes = record {
+  down = c.down;
+  long = c.long;
+  say_sizes = true;
   tap = c.tap;
   strict = c.strict;
   k = c.k;
@@ -82,6 +105,7 @@ with_flag c Long = record {
 with_flag c Tap = record {
   down = c.down;
   long = c.long;
+  say_sizes = c.say_sizes;
   tap = true;
   strict = c.strict;
   k = c.k;
@@ -91,6 +115,7 @@ with_flag c Tap = record {
 with_flag c Strict = record {
   down = c.down;
   long = c.long;
+  say_sizes = c.say_sizes;
   tap = c.tap;
   strict = true;
   k = c.k;
@@ -102,6 +127,7 @@ abbrev pub with_number : Chosen → Numbered → ℕ → Chosen
 with_number c Window n = record {
   down = c.down;
   long = c.long;
+  say_sizes = c.say_sizes;
   tap = c.tap;
   strict = c.strict;
   k = Some n;
@@ -111,6 +137,7 @@ with_number c Window n = record {
 with_number c Tries n = record {
   down = c.down;
   long = c.long;
+  say_sizes = c.say_sizes;
   tap = c.tap;
   strict = c.strict;
   k = c.k;
@@ -120,6 +147,7 @@ with_number c Tries n = record {
 with_number c Channels n = record {
   down = c.down;
   long = c.long;
+  say_sizes = c.say_sizes;
   tap = c.tap;
   strict = c.strict;
   k = c.k;
@@ -152,6 +180,7 @@ abbrev pub settled : Chosen → Simulation
 settled c = record {
   down = c.down;
   long = c.long;
+  say_sizes = c.say_sizes;
   tap = c.tap;
   k = chosen_or_default c Window;
   n2 = chosen_or_default c Tries;
@@ -162,6 +191,7 @@ abbrev pub settled_at : End → Chosen → Place
 settled_at end c = record {
   end = end;
   long = c.long;
+  say_sizes = c.say_sizes;
   k = chosen_or_default c Window;
   n2 = chosen_or_default c Tries;
   channels = chosen_or_default c Channels;
@@ -199,6 +229,7 @@ pub record SayJudging (words : List (List ℕ)) (g : Judging) : Type 0 where
   pub choose : Choose words end
   pub no_down : end.down ≡ false
   pub no_tap : end.tap ≡ false
+  pub no_say : end.say_sizes ≡ false
   pub no_tries : end.n2 ≡ None
   pub no_channels : end.channels ≡ None
   pub same : g ≡ judging_in end

@@ -17,6 +17,8 @@ pub struct Simulation {
     pub down: bool,
     /// A CALL has up to 128 octets of user data, in place of up to 16.
     pub long: bool,
+    /// Calls and acceptances say packet sizes and windows also where they are the default.
+    pub say_sizes: bool,
     /// The frames of each step are written behind its entries.
     pub tap: bool,
     /// The window of the link, 1 to 7.
@@ -41,6 +43,8 @@ pub struct Place {
     pub end: End,
     /// A CALL has up to 128 octets of user data, in place of up to 16.
     pub long: bool,
+    /// Calls and acceptances say packet sizes and windows also where they are the default.
+    pub say_sizes: bool,
     /// The window of the link, 1 to 7.
     pub k: u8,
     /// How often a command of the link that isn't answered is sent again, 1 to 255.
@@ -65,6 +69,7 @@ pub struct Judging {
 enum Flag {
     Down,
     Long,
+    SaySizes,
     Tap,
     Strict,
 }
@@ -124,6 +129,7 @@ impl Numbered {
 struct Chosen {
     down: bool,
     long: bool,
+    say_sizes: bool,
     tap: bool,
     strict: bool,
     k: Option<u8>,
@@ -144,6 +150,8 @@ fn flag_option(word: &str) -> Option<Flag>
         Some(Flag::Down)
     } else if is(word, "--long") {
         Some(Flag::Long)
+    } else if is(word, "--say-sizes") {
+        Some(Flag::SaySizes)
     } else if is(word, "--tap") {
         Some(Flag::Tap)
     } else if is(word, "--strict") {
@@ -206,6 +214,10 @@ impl Chosen {
         match flag {
             Flag::Down if !self.down => Some(Chosen { down: true, ..self }),
             Flag::Long if !self.long => Some(Chosen { long: true, ..self }),
+            Flag::SaySizes if !self.say_sizes => Some(Chosen {
+                say_sizes: true,
+                ..self
+            }),
             Flag::Tap if !self.tap => Some(Chosen { tap: true, ..self }),
             Flag::Strict if !self.strict => Some(Chosen {
                 strict: true,
@@ -264,6 +276,7 @@ impl Chosen {
         Some(Place {
             end,
             long: rest.long,
+            say_sizes: rest.say_sizes,
             k: rest.k,
             n2: rest.n2,
             channels: rest.channels,
@@ -274,7 +287,7 @@ impl Chosen {
     fn judging(self) -> Option<Judging>
         ensures { result ≡ judging_of self }
     {
-        if self.down || self.tap {
+        if (self.down || self.tap) || self.say_sizes {
             return None;
         }
         match (self.n2, self.channels) {
@@ -297,6 +310,7 @@ impl Chosen {
         Simulation {
             down: self.down,
             long: self.long,
+            say_sizes: self.say_sizes,
             tap: self.tap,
             k: self.k.unwrap_or(Numbered::Window.usual()),
             n2: self.n2.unwrap_or(Numbered::Tries.usual()),
@@ -323,6 +337,7 @@ fn choose<S: AsStr>(words: &[S]) -> Option<Chosen>
     let mut chosen = Chosen {
         down: false,
         long: false,
+        say_sizes: false,
         tap: false,
         strict: false,
         k: None,

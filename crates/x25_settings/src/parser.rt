@@ -91,6 +91,16 @@ fn long_option<'a>(alloc: Global) -> Arg<'a> {
         .help("Take up to 128 octets of user data in a CALL, in place of 16")
 }
 
+/// That packet sizes and windows are always said.
+fn say_option<'a>(alloc: Global) -> Arg<'a> {
+    Arg::new(alloc, "say-sizes")
+        .long("say-sizes")
+        .action(ArgAction::SetTrue)
+        .help(
+            "Say packet sizes and windows in each CALL and CALL ACCEPTED, also where they are the default",
+        )
+}
+
 /// That packets are read in all their forms.
 fn wide_option<'a>(alloc: Global) -> Arg<'a> {
     Arg::new(alloc, "wide")
@@ -184,6 +194,7 @@ fn sim_command<'a>(alloc: Global) -> Result<Command<'a>, AllocError> {
     let command = with_arg(Ok(command), tap_option(alloc));
     let command = with_arg(command, down_option(alloc));
     let command = with_arg(command, long_option(alloc));
+    let command = with_arg(command, say_option(alloc));
     with_numbers(alloc, command)
 }
 
@@ -195,6 +206,7 @@ fn station_command<'a>(alloc: Global) -> Result<Command<'a>, AllocError> {
     let end = end_argument(alloc, "The end at which the station is");
     let command = with_arg(Ok(command), end);
     let command = with_arg(command, long_option(alloc));
+    let command = with_arg(command, say_option(alloc));
     with_numbers(alloc, command)
 }
 

@@ -4,6 +4,7 @@ use x25_settings::{End, Judging, Place, SettingsError, Simulation, Task, setting
 const DEFAULTS: Simulation = Simulation {
     down: false,
     long: false,
+    say_sizes: false,
     tap: false,
     k: 7,
     n2: 10,
@@ -13,6 +14,7 @@ const DEFAULTS: Simulation = Simulation {
 const PLACE: Place = Place {
     end: End::Dte,
     long: false,
+    say_sizes: false,
     k: 7,
     n2: 10,
     channels: 1,
@@ -20,7 +22,7 @@ const PLACE: Place = Place {
 
 #[test]
 fn takes_plain_words_alone(rt: HostRuntime) {
-    let plain: [(&[&str], Task); 21] = [
+    let plain: [(&[&str], Task); 23] = [
         (
             &["decode"],
             Task::Decode {
@@ -73,6 +75,13 @@ fn takes_plain_words_alone(rt: HostRuntime) {
             }),
         ),
         (
+            &["sim", "--say-sizes"],
+            Task::Sim(Simulation {
+                say_sizes: true,
+                ..DEFAULTS
+            }),
+        ),
+        (
             &["sim", "--n2", "1"],
             Task::Sim(Simulation { n2: 1, ..DEFAULTS }),
         ),
@@ -92,6 +101,7 @@ fn takes_plain_words_alone(rt: HostRuntime) {
             Task::Sim(Simulation {
                 down: true,
                 long: true,
+                say_sizes: false,
                 tap: true,
                 k: 1,
                 n2: 255,
@@ -134,6 +144,13 @@ fn takes_plain_words_alone(rt: HostRuntime) {
         ),
         (&["station", "dte"], Task::Station(PLACE)),
         (
+            &["station", "dte", "--say-sizes"],
+            Task::Station(Place {
+                say_sizes: true,
+                ..PLACE
+            }),
+        ),
+        (
             &["station", "dce", "--long"],
             Task::Station(Place {
                 end: End::Dce,
@@ -171,7 +188,7 @@ fn takes_plain_words_alone(rt: HostRuntime) {
 
 #[test]
 fn takes_no_other_words(rt: HostRuntime) {
-    let others: [&[&str]; 48] = [
+    let others: [&[&str]; 50] = [
         &[],
         &["dec"],
         &["decode", "decode"],
@@ -212,6 +229,8 @@ fn takes_no_other_words(rt: HostRuntime) {
         &["judge", "--k", "8"],
         &["judge", "--tap"],
         &["judge", "--down"],
+        &["judge", "--say-sizes"],
+        &["station", "dte", "--say-sizes", "--say-sizes"],
         &["judge", "--n2", "1"],
         &["judge", "--channels", "1"],
         &["deframe"],
@@ -248,7 +267,7 @@ const DECODE: &str =
 
 /// The help of `sim`.
 const SIM: &str =
-    "Run a script of two stations joined by a line, and write what each end is told\n\nUsage: x25 sim [OPTIONS] < SCRIPT\n\nOptions:\n      --tap           Tell the frames of each step behind its entries, as lines for `decode`\n      --down          Begin with both links down, in place of just set up\n      --long          Take up to 128 octets of user data in a CALL, in place of 16\n      --k <N>         The window of the link: 1 to 7 [default: 7]\n      --n2 <N>        How often an unanswered command of the link is sent again: 1 to 255 [default: 10]\n      --channels <N>  The number of logical channels: 1 to 16 [default: 1]\n  -h, --help          Print help\n\nExamples:\n  x25 sim < examples/call.script\n  x25 sim --tap < examples/call.script | grep '^[<>]' | x25 decode\n";
+    "Run a script of two stations joined by a line, and write what each end is told\n\nUsage: x25 sim [OPTIONS] < SCRIPT\n\nOptions:\n      --tap           Tell the frames of each step behind its entries, as lines for `decode`\n      --down          Begin with both links down, in place of just set up\n      --long          Take up to 128 octets of user data in a CALL, in place of 16\n      --say-sizes     Say packet sizes and windows in each CALL and CALL ACCEPTED, also where they are the default\n      --k <N>         The window of the link: 1 to 7 [default: 7]\n      --n2 <N>        How often an unanswered command of the link is sent again: 1 to 255 [default: 10]\n      --channels <N>  The number of logical channels: 1 to 16 [default: 1]\n  -h, --help          Print help\n\nExamples:\n  x25 sim < examples/call.script\n  x25 sim --tap < examples/call.script | grep '^[<>]' | x25 decode\n";
 
 /// The help of `judge`.
 const JUDGE: &str =

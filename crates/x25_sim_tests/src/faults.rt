@@ -7,6 +7,7 @@ const USUAL: Cfg = Cfg {
     n2: 10,
     channels: 1,
     long_data: false,
+    say_sizes: false,
 };
 
 const SCRIPT: &str = "drain 9\nx\ndte call 1 2 -\ndte accept 1\n";

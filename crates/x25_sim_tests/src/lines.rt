@@ -7,6 +7,7 @@ const USUAL: Cfg = Cfg {
     n2: 10,
     channels: 1,
     long_data: false,
+    say_sizes: false,
 };
 
 /// The most characters of a line.

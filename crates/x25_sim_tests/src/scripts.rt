@@ -9,6 +9,7 @@ const USUAL: Cfg = Cfg {
     n2: 10,
     channels: 1,
     long_data: false,
+    say_sizes: false,
 };
 
 const ROWS: [Row; 5] = [
@@ -97,6 +98,7 @@ fn keeps_to_its_settings(rt: HostRuntime) -> Result<(), Fail> {
         n2: 1,
         channels: 1,
         long_data: false,
+        say_sizes: false,
     };
     let script = "lose > 0\nt1 dte\nt1 dte\ndte call 1 2 -\n";
     let mut reader = Device::new(script.as_bytes());

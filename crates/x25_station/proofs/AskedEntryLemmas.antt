@@ -2,6 +2,7 @@
 use Rattle.std.proofs.Common.{◌≡◌, ℕ, zero, suc, ◌≤◌, nat_le, ◌&&◌, List, [], ◌∷◌, Option, Some, None, Bool, true, false, ◌==◌, if◌then◌else◌, refl, ap, sym, subst, ◌∙◌, arith}
 use Rattle.std.proofs.lemmas.Option.{none-some, same_Some}
 use Rattle.std.proofs.lemmas.Bool.{le-leb}
+use Rattle.x25_circuit.specs.Params.{Proposal, in_brief}
 use Rattle.x25_bits.specs.declared.role.Role.{Role}
 use Rattle.x25_bits.specs.declared.role.Role.TheVariants.{Dte, Dce}
 use Rattle.x25_packet.specs.Packet.{PlainPacket}
@@ -70,17 +71,17 @@ asked_entry view c l h request p is =
     ∙ ap (λ n. of_channel (record { channel = h; name = n; said = Asked (shown (a.next.circuits h) request) }) ∷ []) (next_name view c l (Asks h request) p h a)
     ∙ ap (λ q. of_channel (record { channel = h; name = name_of p.layer h; said = Asked q }) ∷ []) (same_shown (a.next.circuits h) (p.layer.circuits h) request (next_params view c l (Asks h request) p h a))
 
-pub dialled_entry : (view : LinkView) (c : LayerSettings) (l : Layer) (h : ℕ) (called calling user : List ℕ) (params : Params) (p : Putting) → calls view c l (Dials called calling user params) ≡ Went p → free_channel c.circuit.role l.circuits c.channels ≡ Some h
-    → entries_of_outcome c l (Dials called calling user params) (layer_outcome c (view.waits [] == 256) l (Dials called calling user params))
-    ≡ of_channel (record { channel = h; name = name_of p.layer h; said = Asked (circuit.Calls called calling user params) }) ∷ []
-dialled_entry view c l h called calling user params p is free =
-    let a = accepted view c l (Dials called calling user params) p is in
-    entries_are view c l (Dials called calling user params) p a
+pub dialled_entry : (view : LinkView) (c : LayerSettings) (l : Layer) (h : ℕ) (called calling user : List ℕ) (proposal : Proposal) (p : Putting) → calls view c l (Dials called calling user proposal) ≡ Went p → free_channel c.circuit.role l.circuits c.channels ≡ Some h
+    → entries_of_outcome c l (Dials called calling user proposal) (layer_outcome c (view.waits [] == 256) l (Dials called calling user proposal))
+    ≡ of_channel (record { channel = h; name = name_of p.layer h; said = Asked (circuit.Calls called calling user (in_brief proposal.params)) }) ∷ []
+dialled_entry view c l h called calling user proposal p is free =
+    let a = accepted view c l (Dials called calling user proposal) p is in
+    entries_are view c l (Dials called calling user proposal) p a
     ∙ ap (λ (o : Option ℕ). of_dial a.next o) free
-    ∙ ap (λ n. of_channel (record { channel = h; name = n; said = Asked (circuit.Calls called calling user params) }) ∷ []) (next_name view c l (Dials called calling user params) p h a)
+    ∙ ap (λ n. of_channel (record { channel = h; name = n; said = Asked (circuit.Calls called calling user (in_brief proposal.params)) }) ∷ []) (next_name view c l (Dials called calling user proposal) p h a)
   where
     of_dial : Layer → Option ℕ → List StationEntry
-    of_dial next o = of_channels (entry_of_dial next o (circuit.Calls called calling user params))
+    of_dial next o = of_channels (entry_of_dial next o (circuit.Calls called calling user proposal))
 
 pub restart_entry : (view : LinkView) (c : LayerSettings) (l : Layer) (p : Putting) → calls view c l Restarts ≡ Went p → entries_of_outcome c l Restarts (layer_outcome c (view.waits [] == 256) l Restarts) ≡ restart_asked ∷ []
 restart_entry view c l p is = entries_are view c l Restarts p (accepted view c l Restarts p is)

@@ -17,7 +17,7 @@ use Rattle.x25_circuit.specs.Message.{Piece, More, Last, Partial, no_part, joini
 use Rattle.x25_window.specs.code.Modulo.{resolved}
 use Rattle.x25_packet.specs.Facilities.{IsFacilityField}
 use Rattle.x25_circuit.specs.declared.params.Params.{Params}
-use Rattle.x25_circuit.specs.Params.{default_params, may_propose, may_answer, field_for, said_in, called_terms, calling_terms}
+use Rattle.x25_circuit.specs.Params.{Proposal, default_params, may_propose, may_answer, field_for, said_in, called_terms, calling_terms}
 use Rattle.x25_circuit.specs.laws.ParamsLaws.{FieldIsAllowed, SaidIsAllowed, AnswerIsAllowed, TermsAreAllowed, AreTerms}
 use Rattle.x25_circuit.specs.Circuit.{Settings, Talk, Circuit, talking, outgoing, incoming, waits}
 use Rattle.x25_circuit.specs.Notice.{CallRequest, connected}
@@ -274,35 +274,35 @@ module _ (long_data : Bool) where
       let short : length text ≤ 15 = leb-true (length text) 15 parts.0 in
       record { short = subst (λ (n : ℕ). n ≤ 15) (sym (length-map text (λ c. c - 48))) short; decimal = digits_low text parts.1 }
 
-  call_in_fits : Agreed → (c : Settings) → c.long_data ≡ long_data → (x : Circuit) (s : State) (called calling user : List ℕ) (params : Params) → AreOctets user → OutcomeFits (call_in c x s called calling user params)
-  call_in_fits laws c same x Free called calling user params octets = outcome_if (may_call c.long_data called calling user params) (does x Calling params true (call_sent (request_of called calling user params))) (Refused error.BadParameter) fits tt
+  call_in_fits : Agreed → (c : Settings) → c.long_data ≡ long_data → (x : Circuit) (s : State) (called calling user : List ℕ) (proposal : Proposal) → AreOctets user → OutcomeFits (call_in c x s called calling user proposal)
+  call_in_fits laws c same x Free called calling user proposal octets = outcome_if (may_call c.long_data called calling user proposal.params) (does x Calling proposal.params true (call_sent called calling user proposal)) (Refused error.BadParameter) fits tt
     where
-      fits : may_call c.long_data called calling user params ≡ true → OutcomeFits (does x Calling params true (call_sent (request_of called calling user params)))
+      fits : may_call c.long_data called calling user proposal.params ≡ true → OutcomeFits (does x Calling proposal.params true (call_sent called calling user proposal))
       fits is =
-          let parts = and_parts (is_address_text called) (is_address_text calling && (nat_le (length user) (longest_user c.long_data) && may_propose params)) is in
-          let more = and_parts (is_address_text calling) (nat_le (length user) (longest_user c.long_data) && may_propose params) parts.1 in
-          let last = and_parts (nat_le (length user) (longest_user c.long_data)) (may_propose params) more.1 in
-          ((tt, last.1), (tt, (address_fits called parts.0, address_fits calling more.0, laws.field default_params params last.1, subst (λ (b : Bool). length user ≤ longest_user b) same (leb-true (length user) (longest_user c.long_data) last.0), octets)))
-  call_in_fits laws c same x Calling called calling user params octets = tt
-  call_in_fits laws c same x Arriving called calling user params octets = tt
-  call_in_fits laws c same x Collision called calling user params octets = tt
-  call_in_fits laws c same x Open called calling user params octets = tt
-  call_in_fits laws c same x Resetting called calling user params octets = tt
-  call_in_fits laws c same x Clearing called calling user params octets = tt
+          let parts = and_parts (is_address_text called) (is_address_text calling && (nat_le (length user) (longest_user c.long_data) && may_propose proposal.params)) is in
+          let more = and_parts (is_address_text calling) (nat_le (length user) (longest_user c.long_data) && may_propose proposal.params) parts.1 in
+          let last = and_parts (nat_le (length user) (longest_user c.long_data)) (may_propose proposal.params) more.1 in
+          ((tt, last.1), (tt, (address_fits called parts.0, address_fits calling more.0, laws.field default_params proposal last.1, subst (λ (b : Bool). length user ≤ longest_user b) same (leb-true (length user) (longest_user c.long_data) last.0), octets)))
+  call_in_fits laws c same x Calling called calling user proposal octets = tt
+  call_in_fits laws c same x Arriving called calling user proposal octets = tt
+  call_in_fits laws c same x Collision called calling user proposal octets = tt
+  call_in_fits laws c same x Open called calling user proposal octets = tt
+  call_in_fits laws c same x Resetting called calling user proposal octets = tt
+  call_in_fits laws c same x Clearing called calling user proposal octets = tt
 
   no_field : IsFacilityField []
   no_field = (record { packet_size = None; window_size = None }, record { sizes = tt; windows = tt }, refl)
 
-  accept_with_fits : Agreed → (x : Circuit) (answer : Option Params) → CircuitFits x → OutcomeFits (accept_with x answer)
+  accept_with_fits : Agreed → (x : Circuit) (answer : Option Proposal) → CircuitFits x → OutcomeFits (accept_with x answer)
   accept_with_fits laws x None f = ((tt, f.1), (tt, no_field))
-  accept_with_fits laws x (Some answer) f = outcome_if (may_answer x.params answer) (does x Open answer false (accept 1 (field_for x.params answer))) (Refused error.BadParameter) fits tt
+  accept_with_fits laws x (Some answer) f = outcome_if (may_answer x.params answer.params) (does x Open answer.params false (accept 1 (field_for x.params answer))) (Refused error.BadParameter) fits tt
     where
-      fits : may_answer x.params answer ≡ true → OutcomeFits (does x Open answer false (accept 1 (field_for x.params answer)))
+      fits : may_answer x.params answer.params ≡ true → OutcomeFits (does x Open answer.params false (accept 1 (field_for x.params answer)))
       fits is =
-          let may = laws.answer x.params answer f.1 is in
+          let may = laws.answer x.params answer.params f.1 is in
           ((tt, may), (tt, laws.field x.params answer may))
 
-  accept_in_fits : Agreed → (x : Circuit) (s : State) (answer : Option Params) → CircuitFits x → OutcomeFits (accept_in x s answer)
+  accept_in_fits : Agreed → (x : Circuit) (s : State) (answer : Option Proposal) → CircuitFits x → OutcomeFits (accept_in x s answer)
   accept_in_fits laws x Arriving answer f = accept_with_fits laws x answer f
   accept_in_fits laws x Free answer f = tt
   accept_in_fits laws x Calling answer f = tt
@@ -383,7 +383,7 @@ module _ (long_data : Bool) where
   ready_in_fits x Clearing b f = tt
 
   pub outcome_fits : Agreed → (c : Settings) → c.long_data ≡ long_data → (x : Circuit) (request : Request) → CircuitFits x → AsksOctets request → OutcomeFits (outcome c x request)
-  outcome_fits laws c same x (Calls called calling user params) f octets = call_in_fits laws c same x x.state called calling user params octets
+  outcome_fits laws c same x (Calls called calling user proposal) f octets = call_in_fits laws c same x x.state called calling user proposal octets
   outcome_fits laws c same x (Accepts answer) f octets = accept_in_fits laws x x.state answer f
   outcome_fits laws c same x Clears f octets = clear_in_fits x x.state
   outcome_fits laws c same x (Sends q user) f octets = send_in_fits laws c x x.state q user f octets

@@ -52,20 +52,21 @@ disconnect_down c l s = follows_down c l (disconnect_step (link_settings c) s) r
 
 -- ---- the station after it
 
-pub fits_down : (c : Settings) (v : ShownLink) (y : layer_code.Layer) (l : Layer) (k : LinkStep) (step : Step) (down : Option Reason) → step.near ≡ (downs l k.side k.notes.down).near → down ≡ k.notes.down
-    → FitsLink (link_settings c) v k.side.near → FitsLayer (layer_settings c) y (layer_down l down) → v.outbox.made ≡ [] → IsKept step.near → FitsParts c v y step.near
-fits_down c v y l k step down near is link layer sent kept =
+pub fits_down : {says : Bool} (c : Settings) → says ≡ c.say_sizes → (v : ShownLink) (y : layer_code.Layer) (l : Layer) (k : LinkStep) (step : Step) (down : Option Reason) → step.near ≡ (downs l k.side k.notes.down).near → down ≡ k.notes.down
+    → FitsLink (link_settings c) v k.side.near → FitsLayer (layer_settings c) y (layer_down l down) → v.outbox.made ≡ [] → IsKept step.near → FitsParts c says v y step.near
+fits_down c as_set v y l k step down near is link layer sent kept =
     let moved : layer_down l down ≡ step.near.layer = ap (layer_down l) is ∙ sym (ap (λ (x : Station). x.layer) near) in
     record {
       link = subst (λ (x : LinkStation). FitsLink (link_settings c) v x) (sym (ap (λ (x : Station). x.link) near)) link;
       layer = subst (λ (x : Layer). FitsLayer (layer_settings c) y x) moved layer;
       kept = kept;
       sent = sent;
+      same = as_set;
     }
 
-pub leaves_down : (c : Settings) (v : ShownLink) (y : layer_code.Layer) (o : Option LinkError) (l : Layer) (k : LinkStep) (step : Step) (down : Option Reason) → step.near ≡ (downs l k.side k.notes.down).near
-    → down ≡ k.notes.down → FitsLink (link_settings c) v k.side.near → FitsLayer (layer_settings c) y (layer_down l down) → v.outbox.made ≡ [] → KeptBy (unless o step) → LeavesParts {T = Unit} c v y (Ok tt) (unless o step)
-leaves_down c v y o l k step down near is link layer sent kept = leaves_unless c v y o step kept (λ now. fits_down c v y l k step down near is link layer sent now)
+pub leaves_down : {says : Bool} (c : Settings) → says ≡ c.say_sizes → (v : ShownLink) (y : layer_code.Layer) (o : Option LinkError) (l : Layer) (k : LinkStep) (step : Step) (down : Option Reason) → step.near ≡ (downs l k.side k.notes.down).near
+    → down ≡ k.notes.down → FitsLink (link_settings c) v k.side.near → FitsLayer (layer_settings c) y (layer_down l down) → v.outbox.made ≡ [] → KeptBy (unless o step) → LeavesParts {T = Unit} c says v y (Ok tt) (unless o step)
+leaves_down c as_set v y o l k step down near is link layer sent kept = leaves_unless c v y o step kept (λ now. fits_down c as_set v y l k step down near is link layer sent now)
 
 -- ---- what it answers
 

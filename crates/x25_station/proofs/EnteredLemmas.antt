@@ -1,5 +1,6 @@
 -- The entries of an accepted command are those of the definition.
-use Rattle.std.proofs.Common.{◌≡◌, ℕ, List, [], ◌∷◌, ◌==◌, Some, Ok, map, true, sym, subst, ◌∙◌}
+use Rattle.std.proofs.Common.{Bool, ◌≡◌, ℕ, List, [], ◌∷◌, ◌==◌, Some, Ok, map, true, sym, subst, ◌∙◌}
+use Rattle.x25_circuit.specs.Params.{Proposal, in_brief}
 use Rattle.x25_link.specs.code.FitsLink.{ShownLink}
 use Rattle.x25_circuit.specs.declared.params.Params.{Params}
 use Rattle.x25_circuit.specs.Calling as circuit
@@ -29,7 +30,7 @@ entries_by c s request = entries_of_outcome (layer_settings c) s.layer request (
 went_fits : {T : Type 0} (u : T) (c : Settings) (z : layer_code.Layer) (a : Answered) (p : Putting) → LayerGives (layer_settings c) z (Ok u) a → a ≡ Went p → FitsLayer (layer_settings c) z p.layer
 went_fits u c z a p gives is = subst (λ (x : Answered). LayerGives (layer_settings c) z (Ok u) x) is gives
 
-pub asked_enters : {T : Type 0} (u : T) (c : Settings) (l : ShownLink) (y z : layer_code.Layer) (s : Station) (r : code_step.Step) (h : ℕ) (request : circuit.Request) → FitsParts c l y s → Layers l y z (Ok u) (Asks h request)
+pub asked_enters : {T : Type 0} {says : Bool} (u : T) (c : Settings) (l : ShownLink) (y z : layer_code.Layer) (s : Station) (r : code_step.Step) (h : ℕ) (request : circuit.Request) → FitsParts c says l y s → Layers l y z (Ok u) (Asks h request)
     → ((k : Layer) → FitsLayer (layer_settings c) z k → is_channel c.channels h ≡ true → map plain_entry r.entries.items ≡ of_channel (record { channel = h; name = name_of k h; said = Asked (shown (k.circuits h) request) }) ∷ [])
     → Enters {T = Unit} r (Ok tt) (requests c s (Asks h request))
 asked_enters u c l y z s r h request fits layers entered =
@@ -38,18 +39,18 @@ asked_enters u c l y z s r h request fits layers entered =
     enters_did c s.link r (entries_by c s (Asks h request)) (answered_by c s (Asks h request)) (λ p is.
     entered p.layer (went_fits u c z _ p (layer_gives (Ok u) c l y z s (Asks h request) fits layers) is) (asked_channel view lc s.layer h request p is) ∙ sym (asked_entry view lc s.layer h request p is))
 
-pub dialled_enters : (c : Settings) (l : ShownLink) (y z : layer_code.Layer) (s : Station) (r : code_step.Step) (h : ℕ) (called calling user : List ℕ) (params : Params) → FitsParts c l y s → Layers l y z (Ok h) (Dials called calling user params)
+pub dialled_enters : {says : Bool} (c : Settings) (l : ShownLink) (y z : layer_code.Layer) (s : Station) (r : code_step.Step) (h : ℕ) (called calling user : List ℕ) (proposal : Proposal) → FitsParts c says l y s → Layers l y z (Ok h) (Dials called calling user proposal)
     → free_channel c.role s.layer.circuits c.channels ≡ Some h
     → ((k : Layer) → FitsLayer (layer_settings c) z k → is_channel c.channels h ≡ true →
-    map plain_entry r.entries.items ≡ of_channel (record { channel = h; name = name_of k h; said = Asked (circuit.Calls called calling user params) }) ∷ [])
-    → Enters {T = Unit} r (Ok tt) (requests c s (Dials called calling user params))
-dialled_enters c l y z s r h called calling user params fits layers free entered =
+    map plain_entry r.entries.items ≡ of_channel (record { channel = h; name = name_of k h; said = Asked (circuit.Calls called calling user (in_brief proposal.params)) }) ∷ [])
+    → Enters {T = Unit} r (Ok tt) (requests c s (Dials called calling user proposal))
+dialled_enters c l y z s r h called calling user proposal fits layers free entered =
     let view : LinkView = view_of (link_settings c) s.link in
     let lc : LayerSettings = layer_settings c in
-    let request : LayerRequest = Dials called calling user params in
+    let request : LayerRequest = Dials called calling user proposal in
     enters_did c s.link r (entries_by c s request) (answered_by c s request) (λ p is.
     entered p.layer (went_fits h c z _ p (layer_gives (Ok h) c l y z s request fits layers) is) (free_is_channel c.role s.layer.circuits c.channels h free)
-    ∙ sym (dialled_entry view lc s.layer h called calling user params p is free))
+    ∙ sym (dialled_entry view lc s.layer h called calling user proposal p is free))
 
 pub restart_enters : (c : Settings) (s : Station) (r : code_step.Step) → map plain_entry r.entries.items ≡ restart_asked ∷ [] → Enters {T = Unit} r (Ok tt) (requests c s Restarts)
 restart_enters c s r entered =

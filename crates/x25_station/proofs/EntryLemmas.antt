@@ -23,9 +23,9 @@ told_notices l (layer_fault diagnostic ∷ notices) = ap (λ (ns : List LayerNot
 
 pub asked_entries : (c : LayerSettings) (l next : Layer) (request : LayerRequest) → layer_entries (station_asked c l next request) ≡ entries_asked c l next request
 asked_entries c l next (Asks h request) = refl
-asked_entries c l next (Dials called calling user params) = by (free_channel c.circuit.role l.circuits c.channels)
+asked_entries c l next (Dials called calling user proposal) = by (free_channel c.circuit.role l.circuits c.channels)
   where
-    by : (o : Option ℕ) → layer_entries (of_channels (entry_of_dial next o (Calls called calling user params))) ≡ entry_of_dial next o (Calls called calling user params)
+    by : (o : Option ℕ) → layer_entries (of_channels (entry_of_dial next o (Calls called calling user proposal))) ≡ entry_of_dial next o (Calls called calling user proposal)
     by None = refl
     by (Some h) = refl
 asked_entries c l next Restarts = refl
@@ -33,9 +33,9 @@ asked_entries c l next PullsAll = refl
 
 pub asked_notices : (c : LayerSettings) (l next : Layer) (request : LayerRequest) → layer_notices (station_asked c l next request) ≡ []
 asked_notices c l next (Asks h request) = refl
-asked_notices c l next (Dials called calling user params) = by (free_channel c.circuit.role l.circuits c.channels)
+asked_notices c l next (Dials called calling user proposal) = by (free_channel c.circuit.role l.circuits c.channels)
   where
-    by : (o : Option ℕ) → layer_notices (of_channels (entry_of_dial next o (Calls called calling user params))) ≡ []
+    by : (o : Option ℕ) → layer_notices (of_channels (entry_of_dial next o (Calls called calling user proposal))) ≡ []
     by None = refl
     by (Some h) = refl
 asked_notices c l next Restarts = refl

@@ -21,12 +21,12 @@ use Rattle.x25_layer.specs.Layer.{LayerSettings, Layer, goes_up}
 use Rattle.x25_layer.specs.Calls.{LayerRequest, LayerOutcome, Accepted, Declined, layer_outcome}
 use Rattle.x25_layer.specs.Rounds.{LinkView, Putting, begin, rounds, Refuses, went}
 use Rattle.x25_station.specs.Config.{Settings, link_settings, layer_settings}
-use Rattle.x25_station.specs.Command.{Requests, Connects, Disconnects}
+use Rattle.x25_station.specs.Command.{Requests, Connects, Disconnects, said_by}
 use Rattle.x25_station.specs.Entry.{StationEntry, connect_asked, disconnect_asked}
 use Rattle.x25_station.specs.Station.{Station, put_on, all_put, view_of}
 use Rattle.x25_station.specs.Step.{Step, with_puts, layer_at, layer_answer, follows, led_by, unless, abandons, entries_of_outcome, did, requests}
 use Rattle.x25_station.specs.laws.JoinLaw.{AreAccepted}
-use Rattle.x25_station.specs.laws.KeepLaw.{IsKept, KeptBy, ConnectKeeps, TimerKeeps, CommandKeeps, ReceiveKeeps}
+use Rattle.x25_station.specs.laws.KeepLaw.{IsKept, KeptBy, ConnectKeeps, TimerKeeps, RequestKeeps, CommandKeeps, ReceiveKeeps}
 use Rattle.x25_station.proofs.PutLemmas.{all_up, rounds_accepted, begin_accepted}
 use Rattle.x25_station.proofs.RequestLemmas.{has_room}
 
@@ -223,7 +223,7 @@ receive_kept laws c s octets kept = test (abandons c s)
 below : (n : ℕ) → n ≤ 256 → (n == 256) ≡ false → n < 256
 below n low differ = omega (arith, low, (λ (e : n ≡ 256). true_false (sym (eq-eqb n 256 e) ∙ differ)))
 
-request_kept : PutTells → (c : Settings) (s : Station) (request : LayerRequest) → IsKept s → KeptBy (requests c s request)
+pub request_kept : PutTells → RequestKeeps
 request_kept tells c s request kept = at (is_up s.link.phase) refl (layer_outcome lc full s.layer request) refl
   where
     lc : LayerSettings
@@ -253,7 +253,7 @@ kept_led entries None step kept = kept
 kept_led entries (Some e) step kept = tt
 
 pub command_kept : LinkLaws → CommandKeeps
-command_kept laws c s (Requests request) kept = request_kept laws.put c s request kept
+command_kept laws c s (Requests request) kept = request_kept laws.put c s (said_by c.say_sizes s.layer request) kept
 command_kept laws c s Connects kept = kept_led (connect_asked ∷ []) (connect_refusal s.link.phase) (follows c s.layer (connect_step (link_settings c) s.link)) (connect_kept laws c s kept)
 command_kept laws c s Disconnects kept = unless_kept (disconnect_refusal s.link.phase) (led_by (disconnect_asked ∷ []) (follows c s.layer (disconnect_step (link_settings c) s.link)))
     (λ none. follows_kept laws.put c s (disconnect_step (link_settings c) s.link) kept (disconnect_keeps laws (link_settings c) s.link))

@@ -11,6 +11,7 @@ pub mod LinkLemmas
 pub mod NameLemmas
 pub mod AskLemmas
 pub mod ShownLemmas
+pub mod SaidLemmas
 pub mod AskedEntryLemmas
 pub mod EnteredLemmas
 pub mod TellLemmas

@@ -25,8 +25,8 @@ use Rattle.x25_station.proofs.ResultLemmas.{ok_err, err_is}
 
 -- ---- an accepted call, which the link may refuse
 
-pub leaves_unless : (c : Settings) (l : ShownLink) (y : layer_code.Layer) (o : Option LinkError) (step : Step) → KeptBy (unless o step) → (IsKept step.near → FitsParts c l y step.near)
-    → LeavesParts {T = Unit} c l y (Ok tt) (unless o step)
+pub leaves_unless : {says : Bool} (c : Settings) (l : ShownLink) (y : layer_code.Layer) (o : Option LinkError) (step : Step) → KeptBy (unless o step) → (IsKept step.near → FitsParts c says l y step.near)
+    → LeavesParts {T = Unit} c says l y (Ok tt) (unless o step)
 leaves_unless c l y None step kept fits = fits kept
 leaves_unless c l y (Some e) step kept fits = tt
 
@@ -39,11 +39,11 @@ enters_unless r None step entries = entries
 enters_unless r (Some e) step entries = tt
 
 -- ---- so that the station stands for some state again
-pub leaves_some : (c : Settings) (l : ShownLink) (y : layer_code.Layer) (o : Outcome) → LeavesParts {T = Unit} c l y (Ok tt) o → Refuses {T = Unit} (Ok tt) o → (d : Settings) × (s : Station) × FitsParts d l y s
+pub leaves_some : {says : Bool} (c : Settings) (l : ShownLink) (y : layer_code.Layer) (o : Outcome) → LeavesParts {T = Unit} c says l y (Ok tt) o → Refuses {T = Unit} (Ok tt) o → (d : Settings) × (s : Station) × FitsParts d says l y s
 leaves_some c l y (Did step) fits none = (c, step.near, fits)
 leaves_some c l y (Refused e) fits none = absurd none
 
-pub still_meant : (l m : ShownLink) (y z : layer_code.Layer) → AreMeant l y → ((c : Settings) (s : Station) → FitsParts c l y s → (d : Settings) × (t : Station) × FitsParts d m z t) → AreMeant m z
+pub still_meant : {says told : Bool} (l m : ShownLink) (y z : layer_code.Layer) → AreMeant says l y → ((c : Settings) (s : Station) → FitsParts c says l y s → (d : Settings) × (t : Station) × FitsParts d told m z t) → AreMeant told m z
 still_meant l m y z h f = ∥∥₁_map h (λ w. f w.0 w.1 w.2)
 
 -- ---- the link's refusal, or its want of memory

@@ -181,14 +181,14 @@ module _ (long_data : Bool) where
           at_once_fits (puts_at_once request) full (outcome_on restarts circuits h (outcome c.circuit (circuits h) request))
           (outcome_on_fits restarts circuits h (outcome c.circuit (circuits h) request) (channel_low c.channels h few is) all (outcome_fits long_data laws c.circuit same (circuits h) request (all h) octets))
       test false is = tt
-  outcome_ready_fits laws c same full restarts circuits (Dials called calling user params) few all octets = by (free_channel c.circuit.role circuits c.channels) (free_in c.circuit.role circuits c.channels)
+  outcome_ready_fits laws c same full restarts circuits (Dials called calling user proposal) few all octets = by (free_channel c.circuit.role circuits c.channels) (free_in c.circuit.role circuits c.channels)
     where
-      by : (o : Option ℕ) → InRange c.channels o → LayerOutcomeFits (dialled c full restarts circuits o called calling user params)
+      by : (o : Option ℕ) → InRange c.channels o → LayerOutcomeFits (dialled c full restarts circuits o called calling user proposal)
       by None r = tt
       by (Some h) r =
-          room_fits full (outcome_on restarts circuits h (outcome c.circuit (circuits h) (Calls called calling user params)))
-          (outcome_on_fits restarts circuits h (outcome c.circuit (circuits h) (Calls called calling user params)) (r.0, omega (arith, r.1, few)) all
-          (outcome_fits long_data laws c.circuit same (circuits h) (Calls called calling user params) (all h) octets))
+          room_fits full (outcome_on restarts circuits h (outcome c.circuit (circuits h) (Calls called calling user proposal)))
+          (outcome_on_fits restarts circuits h (outcome c.circuit (circuits h) (Calls called calling user proposal)) (r.0, omega (arith, r.1, few)) all
+          (outcome_fits long_data laws c.circuit same (circuits h) (Calls called calling user proposal) (all h) octets))
   outcome_ready_fits laws c same full restarts circuits Restarts few all octets = room_fits full (Accepted (restarting_from restarts circuits) (Some (restart 0 0))) (begun_fits, (((omega arith, omega arith), on_restart 0 0), tt))
   outcome_ready_fits laws c same full restarts circuits PullsAll few all octets = (all, tt)
 

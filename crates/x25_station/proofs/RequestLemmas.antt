@@ -58,7 +58,7 @@ if_channel false u none = tt
 asks_none : (c : LayerSettings) (restarts : ℕ) (circuits : ℕ → Circuit) (h : ℕ) (request : Request)
     → PutsNone (if_at_once (puts_at_once request) true (outcome_on restarts circuits h (outcome c.circuit (circuits h) request)))
 asks_none c restarts circuits h (Sends q user) = on_none restarts circuits h (outcome c.circuit (circuits h) (Sends q user)) (send_none c.circuit (circuits h) q user)
-asks_none c restarts circuits h (Calls called calling user params) = tt
+asks_none c restarts circuits h (Calls called calling user proposal) = tt
 asks_none c restarts circuits h (Accepts answer) = tt
 asks_none c restarts circuits h Clears = tt
 asks_none c restarts circuits h (Interrupts user) = tt
@@ -69,9 +69,9 @@ asks_none c restarts circuits h SaysNotReady = tt
 ready_none : (c : LayerSettings) (restarts : ℕ) (circuits : ℕ → Circuit) (request : LayerRequest) → PutsNone (outcome_ready c true restarts circuits request)
 ready_none c restarts circuits (Asks h request) =
     if_channel (is_channel c.channels h) (if_at_once (puts_at_once request) true (outcome_on restarts circuits h (outcome c.circuit (circuits h) request))) (asks_none c restarts circuits h request)
-ready_none c restarts circuits (Dials called calling user params) = by (free_channel c.circuit.role circuits c.channels)
+ready_none c restarts circuits (Dials called calling user proposal) = by (free_channel c.circuit.role circuits c.channels)
   where
-    by : (o : Option ℕ) → PutsNone (dialled c true restarts circuits o called calling user params)
+    by : (o : Option ℕ) → PutsNone (dialled c true restarts circuits o called calling user proposal)
     by None = tt
     by (Some h) = tt
 ready_none c restarts circuits Restarts = tt

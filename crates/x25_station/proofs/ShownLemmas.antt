@@ -1,6 +1,7 @@
 -- What is shown of a request: an acceptance with the packet sizes and windows in force.
 use Rattle.std.proofs.Common.{◌≡◌, Bool, true, if◌then◌else◌, Option, Some, None, refl, ap, ◌∙◌}
 use Rattle.std.specs.Option.{unwrap_or}
+use Rattle.x25_circuit.specs.Params.{in_brief}
 use Rattle.x25_circuit.specs.declared.params.Params.{Params}
 use Rattle.x25_circuit.specs.Circuit.{Circuit}
 use Rattle.x25_circuit.specs.Calling as circuit
@@ -11,8 +12,8 @@ use Rattle.x25_station.specs.code.PlainEntry.{plain_asked}
 
 -- it looks at packet sizes and windows alone
 pub same_shown : (x y : Circuit) (request : circuit.Request) → x.params ≡ y.params → shown x request ≡ shown y request
-same_shown x y (circuit.Calls called calling user params) same = refl
-same_shown x y (circuit.Accepts answer) same = ap (λ (q : Params). circuit.Accepts (Some q)) same
+same_shown x y (circuit.Calls called calling user proposal) same = refl
+same_shown x y (circuit.Accepts answer) same = ap (λ (q : Params). circuit.Accepts (Some (in_brief q))) same
 same_shown x y circuit.Clears same = refl
 same_shown x y (circuit.Sends q user) same = refl
 same_shown x y (circuit.Interrupts user) same = refl

@@ -113,17 +113,17 @@ handed_can_put tells hands c l octets s p fits is =
 
 -- ---- of any state that the station stands for
 
-pub put_by_meaning : (l m : ShownLink) (y : layer_code.Layer) → AreMeant l y → ((c : Settings) (s : Station) → FitsParts c l y s → CanPut m) → CanPut m
+pub put_by_meaning : {says : Bool} (l m : ShownLink) (y : layer_code.Layer) → AreMeant says l y → ((c : Settings) (s : Station) → FitsParts c says l y s → CanPut m) → CanPut m
 put_by_meaning l m y h f = record {
   up = ∥∥₁_elim h (hlevel props) (λ w. (f w.0 w.1 w.2).up);
   free = ∥∥₁_elim h (hlevel props) (λ w. (f w.0 w.1 w.2).free);
   longest = ∥∥₁_elim h (hlevel props) (λ w. (f w.0 w.1 w.2).longest);
 }
 
-pub least_by_meaning : (l : ShownLink) (y : layer_code.Layer) (a b : ℕ) → AreMeant l y → ((c : Settings) (s : Station) → FitsParts c l y s → a ≤ b) → a ≤ b
+pub least_by_meaning : {says : Bool} (l : ShownLink) (y : layer_code.Layer) (a b : ℕ) → AreMeant says l y → ((c : Settings) (s : Station) → FitsParts c says l y s → a ≤ b) → a ≤ b
 least_by_meaning l y a b h f = ∥∥₁_elim h (hlevel props) (λ w. f w.0 w.1 w.2)
 
-pub up_by_meaning : (l : ShownLink) (y : layer_code.Layer) (b : Bool) → AreMeant l y → ((c : Settings) (s : Station) → FitsParts c l y s → b ≡ true) → b ≡ true
+pub up_by_meaning : {says : Bool} (l : ShownLink) (y : layer_code.Layer) (b : Bool) → AreMeant says l y → ((c : Settings) (s : Station) → FitsParts c says l y s → b ≡ true) → b ≡ true
 up_by_meaning l y b h f = ∥∥₁_elim h (hlevel props) (λ w. f w.0 w.1 w.2)
 
 pub handed_was_up : TakeHandsUp → (c : Settings) (l : ShownLink) (octets : List ℕ) (s : LinkStation) (p : List ℕ) → FitsLink (link_settings c) l s → (take_step (link_settings c) octets s).packet ≡ Some p → up_of l ≡ true

@@ -54,18 +54,19 @@ took c s octets o notes on same =
     let k : LinkStep = take_step (link_settings c) octets s.link in
     subst (λ (step : Step). IsBehind c s k o notes step) (sym (takes_on c s octets on)) (is_behind c s k o notes same.0 same.1)
 
-pub took_fits : (c : Settings) (s : Station) (octets : List ℕ) (o : Option (List ℕ)) (notes : Notes) (m n : ShownLink) (z : layer_code.Layer) → abandons c s ≡ false
+pub took_fits : {says : Bool} (c : Settings) → says ≡ c.say_sizes → (s : Station) (octets : List ℕ) (o : Option (List ℕ)) (notes : Notes) (m n : ShownLink) (z : layer_code.Layer) → abandons c s ≡ false
     → (let k : LinkStep = take_step (link_settings c) octets s.link in (o ≡ k.packet) × (notes ≡ k.notes))
     → (let k : LinkStep = take_step (link_settings c) octets s.link in FitsWhole m (kept_of (link_settings c) (all_put (link_settings c) (put_behind c s k o notes).put k.side)))
     → (let k : LinkStep = take_step (link_settings c) octets s.link in FitsLayer (layer_settings c) z (put_behind c s k o notes).layer)
-    → n.station ≡ m.station → n.outbox.made ≡ [] → IsKept (receives c s octets).near → FitsParts c n z (receives c s octets).near
-took_fits c s octets o notes m n z on same link layer station none kept =
+    → n.station ≡ m.station → n.outbox.made ≡ [] → IsKept (receives c s octets).near → FitsParts c says n z (receives c s octets).near
+took_fits c as_set s octets o notes m n z on same link layer station none kept =
     let b = took c s octets o notes on same in
     record {
       link = subst (λ (x : LinkStation). FitsLink (link_settings c) n x) b.link (taken_link (link_settings c) m n _ station link.link);
       layer = subst (λ x. FitsLayer (layer_settings c) z x) b.layer layer;
       kept = kept;
       sent = none;
+      same = as_set;
     }
 
 pub took_sends : (c : Settings) (s : Station) (octets : List ℕ) (o : Option (List ℕ)) (notes : Notes) (made : List (List ℕ)) → abandons c s ≡ false

@@ -1,7 +1,10 @@
 -- What the user of a station asks for (profile: the commands).
-use Rattle.std.specs.Prelude.{unwrap_or}
-use Rattle.x25_circuit.specs.Params.{default_params}
-use Rattle.x25_circuit.specs.Calling.{Accepts, Clears, Sends, Interrupts, Resets, SaysReady, SaysNotReady}
+use Rattle.std.specs.Prelude.{Bool, true, false, ◌||◌, Option, Some, None, unwrap_or}
+use Rattle.x25_circuit.specs.Params.{Proposal, in_brief, in_full, default_params}
+use Rattle.x25_circuit.specs.Circuit.{Circuit}
+use Rattle.x25_circuit.specs.declared.params.Params.{Params}
+use Rattle.x25_circuit.specs.Calling.{Request, Accepts, Clears, Sends, Interrupts, Resets, SaysReady, SaysNotReady}
+use Rattle.x25_layer.specs.Layer.{Layer}
 use Rattle.x25_layer.specs.Calls.{LayerRequest, Asks, Dials, Restarts, PullsAll}
 use Rattle.x25_station.specs.declared.command.Cmd.{Cmd}
 use Rattle.x25_station.specs.declared.command.Cmd.TheVariants as code
@@ -12,12 +15,17 @@ pub data Command : Type 0 where
   Connects : Command
   Disconnects : Command
 
+-- an acceptance with these packet sizes and windows, or with those proposed
+abbrev pub answer_in_brief : Option Params → Option Proposal
+answer_in_brief None = None
+answer_in_brief (Some params) = Some (in_brief params)
+
 -- A call takes a free channel; the others name theirs. Where no packet sizes and windows are named, a call proposes the
 -- defaults, and an acceptance takes what is proposed.
 abbrev pub command_of : Cmd → Command
 command_of (code.Call called calling user params) =
-    Requests (Dials called.now calling.now user.now (unwrap_or params default_params))
-command_of (code.Accept channel params) = Requests (Asks channel (Accepts params))
+    Requests (Dials called.now calling.now user.now (in_brief (unwrap_or params default_params)))
+command_of (code.Accept channel params) = Requests (Asks channel (Accepts (answer_in_brief params)))
 command_of (code.Clear channel) = Requests (Asks channel Clears)
 command_of (code.Send channel q user) = Requests (Asks channel (Sends q user.now))
 command_of (code.Interrupt channel user) = Requests (Asks channel (Interrupts user.now))
@@ -28,3 +36,23 @@ command_of code.Restart = Requests Restarts
 command_of code.Pull = Requests PullsAll
 command_of code.Connect = Connects
 command_of code.Disconnect = Disconnects
+
+-- ---- with the setting, calls and acceptances say all packet sizes and windows
+
+abbrev pub proposal_said : Bool → Proposal → Proposal
+proposal_said says proposal = record { params = proposal.params; says_all = says || proposal.says_all }
+
+abbrev pub answer_said : Bool → Circuit → Option Proposal → Option Proposal
+answer_said says x (Some answer) = Some (proposal_said says answer)
+answer_said true x None = Some (in_full x.params)
+answer_said false x None = None
+
+abbrev pub request_said : Bool → Circuit → Request → Request
+request_said says x (Accepts answer) = Accepts (answer_said says x answer)
+request_said says x request = request
+
+abbrev pub said_by : Bool → Layer → LayerRequest → LayerRequest
+said_by says l (Asks h request) = Asks h (request_said says (l.circuits h) request)
+said_by says l (Dials called calling user proposal) = Dials called calling user (proposal_said says proposal)
+said_by says l Restarts = Restarts
+said_by says l PullsAll = PullsAll

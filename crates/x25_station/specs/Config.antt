@@ -8,14 +8,15 @@ use Rattle.x25_station.specs.declared.config.Cfg.{Cfg}
 use Rattle.x25_station.specs.declared.error.StationError.{StationError}
 use Rattle.x25_station.specs.declared.error.StationError.TheVariants as error
 
--- which end it is, k and N2 of the link (sections 2.4.8.6 and 2.4.8.4), how many channels are configured, and whether
--- the user data of a CALL may be long
+-- which end it is, k and N2 of the link (sections 2.4.8.6 and 2.4.8.4), how many channels are configured, whether the
+-- user data of a CALL may be long, and whether calls and acceptances say all packet sizes and windows
 pub record Settings : Type 0 where
   pub role : Role
   pub window : ℕ
   pub retries : ℕ
   pub channels : ℕ
   pub long_data : Bool
+  pub say_sizes : Bool
 
 abbrev pub settings_from : Role → Cfg → Settings
 settings_from role cfg = record {
@@ -24,6 +25,7 @@ settings_from role cfg = record {
   retries = cfg.n2;
   channels = cfg.channels;
   long_data = cfg.long_data;
+  say_sizes = cfg.say_sizes;
 }
 
 -- k is 1 to 7, N2 1 to 255, and there are 1 to 16 channels

@@ -54,8 +54,8 @@ of_channels (e ∷ entries) = of_channel e ∷ of_channels entries
 
 abbrev pub station_asked : LayerSettings → Layer → Layer → LayerRequest → List StationEntry
 station_asked c l next (Asks h request) = of_channels (entries_asked c l next (Asks h request))
-station_asked c l next (Dials called calling user params) = of_channels
-    (entries_asked c l next (Dials called calling user params))
+station_asked c l next (Dials called calling user proposal) = of_channels
+    (entries_asked c l next (Dials called calling user proposal))
 station_asked c l next Restarts = restart_asked ∷ []
 station_asked c l next PullsAll = []
 

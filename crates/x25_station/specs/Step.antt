@@ -18,7 +18,7 @@ use Rattle.x25_layer.specs.Rounds.{LinkView, Putting, Answered, Went, Refuses, c
 use Rattle.x25_station.specs.declared.error.StationError.{StationError}
 use Rattle.x25_station.specs.declared.error.StationError.TheVariants as error
 use Rattle.x25_station.specs.Config.{Settings, link_settings, layer_settings}
-use Rattle.x25_station.specs.Command.{Command, Requests, Connects, Disconnects}
+use Rattle.x25_station.specs.Command.{Command, Requests, Connects, Disconnects, said_by}
 use Rattle.x25_station.specs.Entry.{StationEntry, connect_asked, disconnect_asked, entries_noted, station_told}
 use Rattle.x25_station.specs.Entry.{station_asked}
 use Rattle.x25_station.specs.Station.{Station, all_put, view_of}
@@ -137,6 +137,6 @@ abbrev pub requests : Settings → Station → LayerRequest → Outcome
 requests c s request = requests_of c s.link s.layer (view_of (link_settings c) s.link) request
 
 abbrev pub commands : Settings → Station → Command → Outcome
-commands c s (Requests request) = requests c s request
+commands c s (Requests request) = requests c s (said_by c.say_sizes s.layer request)
 commands c s Connects = connects_asked c s
 commands c s Disconnects = disconnects c s

@@ -1,14 +1,15 @@
 //! What the user asks of the packet layer: the layer's call, and its entry.
-ghost use Rattle.std.specs.Prelude.{◌≡◌, Some, true, false, string_bytes, IfOk, IfErr};
+ghost use Rattle.std.specs.Prelude.{◌≡◌, Some, None, true, false, string_bytes, IfOk, IfErr};
 ghost use Rattle.x25_circuit.specs.Circuit.{Circuit};
 ghost use Rattle.x25_circuit.specs.Calling.{Calls, Accepts};
 ghost use Rattle.x25_circuit.specs.Request.{plain_request};
+ghost use Rattle.x25_circuit.specs.Params.{in_brief};
 ghost use Rattle.x25_layer.specs.Layer.{Layer as LayerState, LayerSettings, is_channel};
 ghost use Rattle.x25_layer.specs.Calls.{Asks, Dials, Restarts, PullsAll};
 ghost use Rattle.x25_layer.specs.code.FitsLayer.{FitsLayer};
 ghost use Rattle.x25_layer.specs.laws.Transcript.{name_of};
 ghost use Rattle.x25_layer.specs.laws.TwoLayers.{shown};
-ghost use Rattle.x25_station.specs.Command.{command_of};
+ghost use Rattle.x25_station.specs.Command.{Requests, answer_in_brief, command_of, proposal_said};
 ghost use Rattle.x25_station.specs.Entry.{of_channel};
 ghost use Rattle.x25_station.specs.code.Clock.{TellsTimer};
 ghost use Rattle.x25_station.specs.code.FitsStation.{FitsStation, Does, IsEmpty};
@@ -130,7 +131,7 @@ fn asked_call(
     user: &[u8],
     params: Params,
 ) -> Result<Asked, StationError>
-    ensures ok { IfOk result (λ asked. plain_asked asked ≡ Calls called.now calling.now user.now params) }
+    ensures ok { IfOk result (λ asked. plain_asked asked ≡ Calls called.now calling.now user.now (in_brief params)) }
     ensures err { IfErr result (λ e. e ≡ StationError.NoMemory) }
 {
     let called = copied_text(alloc, called)?;
@@ -237,7 +238,7 @@ impl Station {
         }
     }
 
-    // An acceptance, with packet sizes and windows of its own where there are some.
+    // An acceptance, with packet sizes and windows of its own, or with those proposed.
     fn accept(
         &mut self,
         channel: u16,
@@ -245,22 +246,40 @@ impl Station {
         out: &mut Step,
     ) -> Result<(), StationError>
         requires { IsEmpty out.old }
-        ensures { Does self.old self.new out.new result (λ c s. requests c s (Asks channel (Accepts params))) }
+        ensures { Does self.old self.new out.new result
+            (λ c s. commands c s (Requests (Asks channel (Accepts (answer_in_brief params))))) }
     {
-        let Some(params) = params else {
-            return self.ask(channel, Request::Accept { answer: None }, out);
-        };
-        let answer = Proposal::new(params);
-        self.ask(
-            channel,
-            Request::Accept {
-                answer: Some(&answer),
-            },
-            out,
-        )
+        match self.answer(channel, params) {
+            Some(answer) => self.ask(
+                channel,
+                Request::Accept {
+                    answer: Some(&answer),
+                },
+                out,
+            ),
+            None => self.ask(channel, Request::Accept { answer: None }, out),
+        }
     }
 
-    // A call, on a channel that is free.
+    // What an acceptance says, where it says anything.
+    fn answer(&self, channel: u16, params: Option<Params>) -> Option<Proposal>
+        ensures { (c : Settings) (s : State) → FitsStation c self.now s
+            → commands c s (Requests (Asks channel (Accepts (answer_in_brief params))))
+            ≡ requests c s (Asks channel (Accepts result)) }
+    {
+        if let Some(params) = params {
+            return Some(Proposal::new(params, self.say_sizes));
+        }
+        if !self.say_sizes {
+            return None;
+        }
+        let Some(proposed) = self.layer.params(channel) else {
+            return None;
+        };
+        Some(Proposal::new(proposed, true))
+    }
+
+    // A call, with these packet sizes and windows.
     fn call(
         &mut self,
         called: &str,
@@ -271,15 +290,40 @@ impl Station {
     ) -> Result<(), StationError>
         requires { IsEmpty out.old }
         ensures { Does self.old self.new out.new result
-            (λ c s. requests c s (Dials called.now calling.now user.now params)) }
+            (λ c s. commands c s (Requests (Dials called.now calling.now user.now (in_brief params)))) }
+    {
+        let proposal = self.proposal(params);
+        self.dial(called, calling, user, &proposal, out)
+    }
+
+    // What a call says.
+    fn proposal(&self, params: Params) -> Proposal
+        ensures { (c : Settings) (s : State) → FitsStation c self.now s
+            → proposal_said c.say_sizes (in_brief params) ≡ result }
+    {
+        Proposal::new(params, self.say_sizes)
+    }
+
+    // A call, on a channel that is free.
+    fn dial(
+        &mut self,
+        called: &str,
+        calling: &str,
+        user: &[u8],
+        proposal: &Proposal,
+        out: &mut Step,
+    ) -> Result<(), StationError>
+        requires { IsEmpty out.old }
+        ensures { Does self.old self.new out.new result
+            (λ c s. requests c s (Dials called.now calling.now user.now proposal.now)) }
     {
         steps_keep_bounds();
         holds_few();
-        let asked = asked_call(self.alloc, called, calling, user, params)?;
+        let asked = asked_call(self.alloc, called, calling, user, proposal.params())?;
         out.make_room()?;
         match self
             .layer
-            .call(&mut self.link, called, calling, user, params)
+            .call(&mut self.link, called, calling, user, proposal)
         {
             Ok(channel) => {
                 enter(&self.layer, &mut out.entries, channel, Said::Asked(asked));

@@ -9,4 +9,7 @@ pub struct Cfg {
     pub channels: u8,
     /// Whether a call may have up to 128 octets of user data, in place of up to 16. It is the same at both ends.
     pub long_data: bool,
+    /// Whether a CALL and a CALL ACCEPTED say packet sizes and windows also where the other end takes them without it.
+    /// Ends may differ in it.
+    pub say_sizes: bool,
 }

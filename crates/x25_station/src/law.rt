@@ -2,7 +2,7 @@
 //! does nothing.
 ghost use Rattle.x25_station.specs.laws.JoinLaw.{RequestIsJoined, ReceiveIsJoined, QuietIsJoined, DownIsJoined};
 ghost use Rattle.x25_station.specs.laws.JoinLaw.{UpIsJoined};
-ghost use Rattle.x25_station.specs.laws.KeepLaw.{ConnectKeeps, TimerKeeps, CommandKeeps, ReceiveKeeps};
+ghost use Rattle.x25_station.specs.laws.KeepLaw.{ConnectKeeps, TimerKeeps, RequestKeeps, CommandKeeps, ReceiveKeeps};
 ghost use Rattle.x25_station.specs.laws.ReadLaw.{PutsAreReadable, PutsBesidePeersAreReadable};
 ghost use Rattle.x25_station.specs.laws.HoldLaw.{FewWait, FewStand, FewMessages, FewJoined, FewHeld, FewAside};
 ghost use Rattle.x25_station.specs.laws.TimerLaw.{BeginsWhereDue, BeginsBehindPull, DeadlineIsTrue, FiringIsTaken};
@@ -49,6 +49,7 @@ pub fn puts_beside_peers_are_readable()
 pub fn steps_keep_bounds()
     ensures connect { ConnectKeeps }
     ensures timer { TimerKeeps }
+    ensures request { RequestKeeps }
     ensures command { CommandKeeps }
     ensures receive { ReceiveKeeps }
 {

@@ -18,11 +18,13 @@ use x25_link::{Link, LinkError};
 pub struct Station {
     pub(crate) link: Link,
     pub(crate) layer: Layer,
+    /// Whether calls and acceptances say all packet sizes and windows.
+    pub(crate) say_sizes: bool,
     /// Memory for texts of entries, and for the message of one.
     pub(crate) texts: TextMemory,
     pub(crate) messages: MessageMemory,
     pub(crate) alloc: Global,
-    ghost meant: { AreMeant link layer },
+    ghost meant: { AreMeant say_sizes link layer },
     ghost aside: { IsFewAside link layer texts },
 }
 
@@ -58,6 +60,7 @@ impl Station {
         Ok(Station {
             link,
             layer,
+            say_sizes: cfg.say_sizes,
             texts: Blanks::new(alloc),
             messages: Blanks::new(alloc),
             alloc,

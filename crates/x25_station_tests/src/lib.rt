@@ -26,4 +26,6 @@ mod reused;
 #[cfg(test)]
 mod rows;
 #[cfg(test)]
+mod say_sizes;
+#[cfg(test)]
 mod texts;

@@ -15,6 +15,7 @@ fn refusal(alloc: Global, role: Role, (k, n2, channels): (u8, u8, u8)) -> Option
         n2,
         channels,
         long_data: false,
+        say_sizes: false,
     };
     station(alloc, role, cfg).err()
 }

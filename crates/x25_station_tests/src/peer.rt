@@ -56,6 +56,7 @@ pub fn settings(channels: u8, long_data: bool) -> Cfg {
         n2: 1,
         channels,
         long_data,
+        say_sizes: false,
     }
 }
 

@@ -67,11 +67,11 @@ params_text p =
 
 -- what its user asked
 abbrev pub request_text : ℕ → Name → Request → List ℕ
-request_text channel name (Calls called calling user params) = codes "call" ++ stretch_text channel name
+request_text channel name (Calls called calling user proposal) = codes "call" ++ stretch_text channel name
     ++ (codes " called=" ++ address_text called)
-    ++ (codes " calling=" ++ address_text calling) ++ user_text user ++ params_text params
+    ++ (codes " calling=" ++ address_text calling) ++ user_text user ++ params_text proposal.params
 request_text channel name (Accepts None) = codes "accept" ++ channel_text channel
-request_text channel name (Accepts (Some params)) = codes "accept" ++ channel_text channel ++ params_text params
+request_text channel name (Accepts (Some answer)) = codes "accept" ++ channel_text channel ++ params_text answer.params
 request_text channel name Clears = codes "clear" ++ channel_text channel
 request_text channel name (Sends q user) = codes "send" ++ stretch_text channel name ++ (codes " q=" ++ decimal (bit q))
     ++ user_text user

@@ -17,6 +17,7 @@ const WINDOW_OF_ONE: Cfg = Cfg {
     n2: 10,
     channels: 1,
     long_data: false,
+    say_sizes: false,
 };
 
 const FIVE_CHANNELS: Cfg = Cfg {
@@ -24,6 +25,7 @@ const FIVE_CHANNELS: Cfg = Cfg {
     n2: 10,
     channels: 5,
     long_data: false,
+    say_sizes: false,
 };
 
 const CALLS: Event = Command(

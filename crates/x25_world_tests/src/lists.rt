@@ -71,6 +71,7 @@ fn settings(numbers: &mut Numbers) -> Cfg {
         n2: numbers.up_to(20),
         channels: numbers.up_to(3),
         long_data: false,
+        say_sizes: false,
     }
 }
 

@@ -14,6 +14,7 @@ pub const USUAL: Cfg = Cfg {
     n2: 10,
     channels: 1,
     long_data: false,
+    say_sizes: false,
 };
 
 pub const ONE_TRY: Cfg = Cfg {
@@ -21,6 +22,7 @@ pub const ONE_TRY: Cfg = Cfg {
     n2: 1,
     channels: 1,
     long_data: false,
+    say_sizes: false,
 };
 
 /// What is played.

@@ -66,6 +66,7 @@ fn settings_are_in_range(rt: HostRuntime) {
             n2,
             channels,
             long_data: false,
+            say_sizes: false,
         };
         let wanted = if is_fine {
             Ok(())

@@ -17,6 +17,7 @@ const THREE_CHANNELS: Cfg = Cfg {
     n2: 10,
     channels: 3,
     long_data: false,
+    say_sizes: false,
 };
 
 const CALLS: Act = Do(Command(

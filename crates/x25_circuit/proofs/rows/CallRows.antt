@@ -5,20 +5,19 @@ use Rattle.x25_circuit.specs.declared.error.CircuitError.{CircuitError}
 use Rattle.x25_circuit.specs.declared.error.CircuitError.TheVariants.{WrongState, Full, InterruptOutstanding}
 use Rattle.x25_circuit.specs.declared.error.CircuitError.TheVariants as error
 use Rattle.x25_circuit.specs.declared.state.State.TheVariants.{Free, Calling, Arriving, Open, Resetting, Clearing}
-use Rattle.x25_circuit.specs.Params.{default_params}
 use Rattle.x25_circuit.specs.Message.{More, Last}
 use Rattle.x25_circuit.specs.Calling.{Done, Refused, Calls, Accepts, Clears, Sends, Interrupts, Resets, SaysReady, SaysNotReady, outcome, pulled}
-use Rattle.x25_circuit.proofs.RowStates.{dce, still, opened, talk, zeros}
+use Rattle.x25_circuit.proofs.RowStates.{dce, usual, still, opened, talk, zeros}
 
 abbrev refused_parameter : CircuitError
 refused_parameter = error.BadParameter
 
 dce_p1_calls :
-    (outcome dce (still Free 0 0) (Calls (49 ∷ []) (50 ∷ []) (7 ∷ []) default_params) ≡ (Done (still Calling 0 0) (Some (call 1 (1 ∷ []) (2 ∷ []) [] (7 ∷ [])))))
-    × (outcome dce (still Free 0 0) (Calls (49 ∷ 49 ∷ 49 ∷ 49 ∷ 49 ∷ 49 ∷ 49 ∷ 49 ∷ 49 ∷ 49 ∷ 49 ∷ 49 ∷ 49 ∷ 49 ∷ 49 ∷ 49 ∷ []) (50 ∷ []) [] default_params) ≡ (Refused refused_parameter))
-    × (outcome dce (still Free 0 0) (Calls (49 ∷ []) (50 ∷ []) (zeros 17) default_params) ≡ (Refused refused_parameter))
-    × (outcome dce (still Free 0 0) (Calls (49 ∷ []) (50 ∷ 50 ∷ 50 ∷ 50 ∷ 50 ∷ 50 ∷ 50 ∷ 50 ∷ 50 ∷ 50 ∷ 50 ∷ 50 ∷ 50 ∷ 50 ∷ 50 ∷ 50 ∷ []) [] default_params) ≡ (Refused refused_parameter))
-    × (outcome dce (still Free 0 0) (Calls [] [] (zeros 16) default_params) ≡ (Done (still Calling 0 0) (Some (call 1 [] [] [] (zeros 16)))))
+    (outcome dce (still Free 0 0) (Calls (49 ∷ []) (50 ∷ []) (7 ∷ []) usual) ≡ (Done (still Calling 0 0) (Some (call 1 (1 ∷ []) (2 ∷ []) [] (7 ∷ [])))))
+    × (outcome dce (still Free 0 0) (Calls (49 ∷ 49 ∷ 49 ∷ 49 ∷ 49 ∷ 49 ∷ 49 ∷ 49 ∷ 49 ∷ 49 ∷ 49 ∷ 49 ∷ 49 ∷ 49 ∷ 49 ∷ 49 ∷ []) (50 ∷ []) [] usual) ≡ (Refused refused_parameter))
+    × (outcome dce (still Free 0 0) (Calls (49 ∷ []) (50 ∷ []) (zeros 17) usual) ≡ (Refused refused_parameter))
+    × (outcome dce (still Free 0 0) (Calls (49 ∷ []) (50 ∷ 50 ∷ 50 ∷ 50 ∷ 50 ∷ 50 ∷ 50 ∷ 50 ∷ 50 ∷ 50 ∷ 50 ∷ 50 ∷ 50 ∷ 50 ∷ 50 ∷ 50 ∷ []) [] usual) ≡ (Refused refused_parameter))
+    × (outcome dce (still Free 0 0) (Calls [] [] (zeros 16) usual) ≡ (Done (still Calling 0 0) (Some (call 1 [] [] [] (zeros 16)))))
     × (outcome dce (still Free 0 0) (Accepts None) ≡ (Refused WrongState))
     × (outcome dce (still Free 0 0) Clears ≡ (Refused WrongState))
     × (outcome dce (still Free 0 0) (Sends true (1 ∷ 2 ∷ [])) ≡ (Refused WrongState))
@@ -33,11 +32,11 @@ dce_p1_calls :
 dce_p1_calls = (refl, refl, refl, refl, refl, refl, refl, refl, refl, refl, refl, refl, refl, refl, refl, refl)
 
 dce_calling_calls :
-    (outcome dce (still Calling 0 0) (Calls (49 ∷ []) (50 ∷ []) (7 ∷ []) default_params) ≡ (Refused WrongState))
-    × (outcome dce (still Calling 0 0) (Calls (49 ∷ 49 ∷ 49 ∷ 49 ∷ 49 ∷ 49 ∷ 49 ∷ 49 ∷ 49 ∷ 49 ∷ 49 ∷ 49 ∷ 49 ∷ 49 ∷ 49 ∷ 49 ∷ []) (50 ∷ []) [] default_params) ≡ (Refused WrongState))
-    × (outcome dce (still Calling 0 0) (Calls (49 ∷ []) (50 ∷ []) (zeros 17) default_params) ≡ (Refused WrongState))
-    × (outcome dce (still Calling 0 0) (Calls (49 ∷ []) (50 ∷ 50 ∷ 50 ∷ 50 ∷ 50 ∷ 50 ∷ 50 ∷ 50 ∷ 50 ∷ 50 ∷ 50 ∷ 50 ∷ 50 ∷ 50 ∷ 50 ∷ 50 ∷ []) [] default_params) ≡ (Refused WrongState))
-    × (outcome dce (still Calling 0 0) (Calls [] [] (zeros 16) default_params) ≡ (Refused WrongState))
+    (outcome dce (still Calling 0 0) (Calls (49 ∷ []) (50 ∷ []) (7 ∷ []) usual) ≡ (Refused WrongState))
+    × (outcome dce (still Calling 0 0) (Calls (49 ∷ 49 ∷ 49 ∷ 49 ∷ 49 ∷ 49 ∷ 49 ∷ 49 ∷ 49 ∷ 49 ∷ 49 ∷ 49 ∷ 49 ∷ 49 ∷ 49 ∷ 49 ∷ []) (50 ∷ []) [] usual) ≡ (Refused WrongState))
+    × (outcome dce (still Calling 0 0) (Calls (49 ∷ []) (50 ∷ []) (zeros 17) usual) ≡ (Refused WrongState))
+    × (outcome dce (still Calling 0 0) (Calls (49 ∷ []) (50 ∷ 50 ∷ 50 ∷ 50 ∷ 50 ∷ 50 ∷ 50 ∷ 50 ∷ 50 ∷ 50 ∷ 50 ∷ 50 ∷ 50 ∷ 50 ∷ 50 ∷ 50 ∷ []) [] usual) ≡ (Refused WrongState))
+    × (outcome dce (still Calling 0 0) (Calls [] [] (zeros 16) usual) ≡ (Refused WrongState))
     × (outcome dce (still Calling 0 0) (Accepts None) ≡ (Refused WrongState))
     × (outcome dce (still Calling 0 0) Clears ≡ (Done (still Clearing 0 0) (Some (clear 1 0 0))))
     × (outcome dce (still Calling 0 0) (Sends true (1 ∷ 2 ∷ [])) ≡ (Refused WrongState))
@@ -52,11 +51,11 @@ dce_calling_calls :
 dce_calling_calls = (refl, refl, refl, refl, refl, refl, refl, refl, refl, refl, refl, refl, refl, refl, refl, refl)
 
 dce_arriving_calls :
-    (outcome dce (still Arriving 0 0) (Calls (49 ∷ []) (50 ∷ []) (7 ∷ []) default_params) ≡ (Refused WrongState))
-    × (outcome dce (still Arriving 0 0) (Calls (49 ∷ 49 ∷ 49 ∷ 49 ∷ 49 ∷ 49 ∷ 49 ∷ 49 ∷ 49 ∷ 49 ∷ 49 ∷ 49 ∷ 49 ∷ 49 ∷ 49 ∷ 49 ∷ []) (50 ∷ []) [] default_params) ≡ (Refused WrongState))
-    × (outcome dce (still Arriving 0 0) (Calls (49 ∷ []) (50 ∷ []) (zeros 17) default_params) ≡ (Refused WrongState))
-    × (outcome dce (still Arriving 0 0) (Calls (49 ∷ []) (50 ∷ 50 ∷ 50 ∷ 50 ∷ 50 ∷ 50 ∷ 50 ∷ 50 ∷ 50 ∷ 50 ∷ 50 ∷ 50 ∷ 50 ∷ 50 ∷ 50 ∷ 50 ∷ []) [] default_params) ≡ (Refused WrongState))
-    × (outcome dce (still Arriving 0 0) (Calls [] [] (zeros 16) default_params) ≡ (Refused WrongState))
+    (outcome dce (still Arriving 0 0) (Calls (49 ∷ []) (50 ∷ []) (7 ∷ []) usual) ≡ (Refused WrongState))
+    × (outcome dce (still Arriving 0 0) (Calls (49 ∷ 49 ∷ 49 ∷ 49 ∷ 49 ∷ 49 ∷ 49 ∷ 49 ∷ 49 ∷ 49 ∷ 49 ∷ 49 ∷ 49 ∷ 49 ∷ 49 ∷ 49 ∷ []) (50 ∷ []) [] usual) ≡ (Refused WrongState))
+    × (outcome dce (still Arriving 0 0) (Calls (49 ∷ []) (50 ∷ []) (zeros 17) usual) ≡ (Refused WrongState))
+    × (outcome dce (still Arriving 0 0) (Calls (49 ∷ []) (50 ∷ 50 ∷ 50 ∷ 50 ∷ 50 ∷ 50 ∷ 50 ∷ 50 ∷ 50 ∷ 50 ∷ 50 ∷ 50 ∷ 50 ∷ 50 ∷ 50 ∷ 50 ∷ []) [] usual) ≡ (Refused WrongState))
+    × (outcome dce (still Arriving 0 0) (Calls [] [] (zeros 16) usual) ≡ (Refused WrongState))
     × (outcome dce (still Arriving 0 0) (Accepts None) ≡ (Done (still Open 0 0) (Some (accept 1 []))))
     × (outcome dce (still Arriving 0 0) Clears ≡ (Done (still Clearing 0 0) (Some (clear 1 0 0))))
     × (outcome dce (still Arriving 0 0) (Sends true (1 ∷ 2 ∷ [])) ≡ (Refused WrongState))
@@ -71,11 +70,11 @@ dce_arriving_calls :
 dce_arriving_calls = (refl, refl, refl, refl, refl, refl, refl, refl, refl, refl, refl, refl, refl, refl, refl, refl)
 
 dce_open_calls :
-    (outcome dce (still Open 0 0) (Calls (49 ∷ []) (50 ∷ []) (7 ∷ []) default_params) ≡ (Refused WrongState))
-    × (outcome dce (still Open 0 0) (Calls (49 ∷ 49 ∷ 49 ∷ 49 ∷ 49 ∷ 49 ∷ 49 ∷ 49 ∷ 49 ∷ 49 ∷ 49 ∷ 49 ∷ 49 ∷ 49 ∷ 49 ∷ 49 ∷ []) (50 ∷ []) [] default_params) ≡ (Refused WrongState))
-    × (outcome dce (still Open 0 0) (Calls (49 ∷ []) (50 ∷ []) (zeros 17) default_params) ≡ (Refused WrongState))
-    × (outcome dce (still Open 0 0) (Calls (49 ∷ []) (50 ∷ 50 ∷ 50 ∷ 50 ∷ 50 ∷ 50 ∷ 50 ∷ 50 ∷ 50 ∷ 50 ∷ 50 ∷ 50 ∷ 50 ∷ 50 ∷ 50 ∷ 50 ∷ []) [] default_params) ≡ (Refused WrongState))
-    × (outcome dce (still Open 0 0) (Calls [] [] (zeros 16) default_params) ≡ (Refused WrongState))
+    (outcome dce (still Open 0 0) (Calls (49 ∷ []) (50 ∷ []) (7 ∷ []) usual) ≡ (Refused WrongState))
+    × (outcome dce (still Open 0 0) (Calls (49 ∷ 49 ∷ 49 ∷ 49 ∷ 49 ∷ 49 ∷ 49 ∷ 49 ∷ 49 ∷ 49 ∷ 49 ∷ 49 ∷ 49 ∷ 49 ∷ 49 ∷ 49 ∷ []) (50 ∷ []) [] usual) ≡ (Refused WrongState))
+    × (outcome dce (still Open 0 0) (Calls (49 ∷ []) (50 ∷ []) (zeros 17) usual) ≡ (Refused WrongState))
+    × (outcome dce (still Open 0 0) (Calls (49 ∷ []) (50 ∷ 50 ∷ 50 ∷ 50 ∷ 50 ∷ 50 ∷ 50 ∷ 50 ∷ 50 ∷ 50 ∷ 50 ∷ 50 ∷ 50 ∷ 50 ∷ 50 ∷ 50 ∷ []) [] usual) ≡ (Refused WrongState))
+    × (outcome dce (still Open 0 0) (Calls [] [] (zeros 16) usual) ≡ (Refused WrongState))
     × (outcome dce (still Open 0 0) (Accepts None) ≡ (Refused WrongState))
     × (outcome dce (still Open 0 0) Clears ≡ (Done (still Clearing 0 0) (Some (clear 1 0 0))))
     × (outcome dce (still Open 0 0) (Sends true (1 ∷ 2 ∷ [])) ≡ (Done (opened 0 0 (talk [] [] 0 ((Last true (1 ∷ 2 ∷ [])) ∷ []) false true true)) None))
@@ -90,11 +89,11 @@ dce_open_calls :
 dce_open_calls = (refl, refl, refl, refl, refl, refl, refl, refl, refl, refl, refl, refl, refl, refl, refl, refl)
 
 dce_collision_calls :
-    (outcome dce (still Arriving 0 0) (Calls (49 ∷ []) (50 ∷ []) (7 ∷ []) default_params) ≡ (Refused WrongState))
-    × (outcome dce (still Arriving 0 0) (Calls (49 ∷ 49 ∷ 49 ∷ 49 ∷ 49 ∷ 49 ∷ 49 ∷ 49 ∷ 49 ∷ 49 ∷ 49 ∷ 49 ∷ 49 ∷ 49 ∷ 49 ∷ 49 ∷ []) (50 ∷ []) [] default_params) ≡ (Refused WrongState))
-    × (outcome dce (still Arriving 0 0) (Calls (49 ∷ []) (50 ∷ []) (zeros 17) default_params) ≡ (Refused WrongState))
-    × (outcome dce (still Arriving 0 0) (Calls (49 ∷ []) (50 ∷ 50 ∷ 50 ∷ 50 ∷ 50 ∷ 50 ∷ 50 ∷ 50 ∷ 50 ∷ 50 ∷ 50 ∷ 50 ∷ 50 ∷ 50 ∷ 50 ∷ 50 ∷ []) [] default_params) ≡ (Refused WrongState))
-    × (outcome dce (still Arriving 0 0) (Calls [] [] (zeros 16) default_params) ≡ (Refused WrongState))
+    (outcome dce (still Arriving 0 0) (Calls (49 ∷ []) (50 ∷ []) (7 ∷ []) usual) ≡ (Refused WrongState))
+    × (outcome dce (still Arriving 0 0) (Calls (49 ∷ 49 ∷ 49 ∷ 49 ∷ 49 ∷ 49 ∷ 49 ∷ 49 ∷ 49 ∷ 49 ∷ 49 ∷ 49 ∷ 49 ∷ 49 ∷ 49 ∷ 49 ∷ []) (50 ∷ []) [] usual) ≡ (Refused WrongState))
+    × (outcome dce (still Arriving 0 0) (Calls (49 ∷ []) (50 ∷ []) (zeros 17) usual) ≡ (Refused WrongState))
+    × (outcome dce (still Arriving 0 0) (Calls (49 ∷ []) (50 ∷ 50 ∷ 50 ∷ 50 ∷ 50 ∷ 50 ∷ 50 ∷ 50 ∷ 50 ∷ 50 ∷ 50 ∷ 50 ∷ 50 ∷ 50 ∷ 50 ∷ 50 ∷ []) [] usual) ≡ (Refused WrongState))
+    × (outcome dce (still Arriving 0 0) (Calls [] [] (zeros 16) usual) ≡ (Refused WrongState))
     × (outcome dce (still Arriving 0 0) (Accepts None) ≡ (Done (still Open 0 0) (Some (accept 1 []))))
     × (outcome dce (still Arriving 0 0) Clears ≡ (Done (still Clearing 0 0) (Some (clear 1 0 0))))
     × (outcome dce (still Arriving 0 0) (Sends true (1 ∷ 2 ∷ [])) ≡ (Refused WrongState))
@@ -109,11 +108,11 @@ dce_collision_calls :
 dce_collision_calls = (refl, refl, refl, refl, refl, refl, refl, refl, refl, refl, refl, refl, refl, refl, refl, refl)
 
 dce_resetting_calls :
-    (outcome dce (still Resetting 0 0) (Calls (49 ∷ []) (50 ∷ []) (7 ∷ []) default_params) ≡ (Refused WrongState))
-    × (outcome dce (still Resetting 0 0) (Calls (49 ∷ 49 ∷ 49 ∷ 49 ∷ 49 ∷ 49 ∷ 49 ∷ 49 ∷ 49 ∷ 49 ∷ 49 ∷ 49 ∷ 49 ∷ 49 ∷ 49 ∷ 49 ∷ []) (50 ∷ []) [] default_params) ≡ (Refused WrongState))
-    × (outcome dce (still Resetting 0 0) (Calls (49 ∷ []) (50 ∷ []) (zeros 17) default_params) ≡ (Refused WrongState))
-    × (outcome dce (still Resetting 0 0) (Calls (49 ∷ []) (50 ∷ 50 ∷ 50 ∷ 50 ∷ 50 ∷ 50 ∷ 50 ∷ 50 ∷ 50 ∷ 50 ∷ 50 ∷ 50 ∷ 50 ∷ 50 ∷ 50 ∷ 50 ∷ []) [] default_params) ≡ (Refused WrongState))
-    × (outcome dce (still Resetting 0 0) (Calls [] [] (zeros 16) default_params) ≡ (Refused WrongState))
+    (outcome dce (still Resetting 0 0) (Calls (49 ∷ []) (50 ∷ []) (7 ∷ []) usual) ≡ (Refused WrongState))
+    × (outcome dce (still Resetting 0 0) (Calls (49 ∷ 49 ∷ 49 ∷ 49 ∷ 49 ∷ 49 ∷ 49 ∷ 49 ∷ 49 ∷ 49 ∷ 49 ∷ 49 ∷ 49 ∷ 49 ∷ 49 ∷ 49 ∷ []) (50 ∷ []) [] usual) ≡ (Refused WrongState))
+    × (outcome dce (still Resetting 0 0) (Calls (49 ∷ []) (50 ∷ []) (zeros 17) usual) ≡ (Refused WrongState))
+    × (outcome dce (still Resetting 0 0) (Calls (49 ∷ []) (50 ∷ 50 ∷ 50 ∷ 50 ∷ 50 ∷ 50 ∷ 50 ∷ 50 ∷ 50 ∷ 50 ∷ 50 ∷ 50 ∷ 50 ∷ 50 ∷ 50 ∷ 50 ∷ []) [] usual) ≡ (Refused WrongState))
+    × (outcome dce (still Resetting 0 0) (Calls [] [] (zeros 16) usual) ≡ (Refused WrongState))
     × (outcome dce (still Resetting 0 0) (Accepts None) ≡ (Refused WrongState))
     × (outcome dce (still Resetting 0 0) Clears ≡ (Done (still Clearing 0 0) (Some (clear 1 0 0))))
     × (outcome dce (still Resetting 0 0) (Sends true (1 ∷ 2 ∷ [])) ≡ (Refused WrongState))
@@ -128,11 +127,11 @@ dce_resetting_calls :
 dce_resetting_calls = (refl, refl, refl, refl, refl, refl, refl, refl, refl, refl, refl, refl, refl, refl, refl, refl)
 
 dce_clearing_calls :
-    (outcome dce (still Clearing 0 0) (Calls (49 ∷ []) (50 ∷ []) (7 ∷ []) default_params) ≡ (Refused WrongState))
-    × (outcome dce (still Clearing 0 0) (Calls (49 ∷ 49 ∷ 49 ∷ 49 ∷ 49 ∷ 49 ∷ 49 ∷ 49 ∷ 49 ∷ 49 ∷ 49 ∷ 49 ∷ 49 ∷ 49 ∷ 49 ∷ 49 ∷ []) (50 ∷ []) [] default_params) ≡ (Refused WrongState))
-    × (outcome dce (still Clearing 0 0) (Calls (49 ∷ []) (50 ∷ []) (zeros 17) default_params) ≡ (Refused WrongState))
-    × (outcome dce (still Clearing 0 0) (Calls (49 ∷ []) (50 ∷ 50 ∷ 50 ∷ 50 ∷ 50 ∷ 50 ∷ 50 ∷ 50 ∷ 50 ∷ 50 ∷ 50 ∷ 50 ∷ 50 ∷ 50 ∷ 50 ∷ 50 ∷ []) [] default_params) ≡ (Refused WrongState))
-    × (outcome dce (still Clearing 0 0) (Calls [] [] (zeros 16) default_params) ≡ (Refused WrongState))
+    (outcome dce (still Clearing 0 0) (Calls (49 ∷ []) (50 ∷ []) (7 ∷ []) usual) ≡ (Refused WrongState))
+    × (outcome dce (still Clearing 0 0) (Calls (49 ∷ 49 ∷ 49 ∷ 49 ∷ 49 ∷ 49 ∷ 49 ∷ 49 ∷ 49 ∷ 49 ∷ 49 ∷ 49 ∷ 49 ∷ 49 ∷ 49 ∷ 49 ∷ []) (50 ∷ []) [] usual) ≡ (Refused WrongState))
+    × (outcome dce (still Clearing 0 0) (Calls (49 ∷ []) (50 ∷ []) (zeros 17) usual) ≡ (Refused WrongState))
+    × (outcome dce (still Clearing 0 0) (Calls (49 ∷ []) (50 ∷ 50 ∷ 50 ∷ 50 ∷ 50 ∷ 50 ∷ 50 ∷ 50 ∷ 50 ∷ 50 ∷ 50 ∷ 50 ∷ 50 ∷ 50 ∷ 50 ∷ 50 ∷ []) [] usual) ≡ (Refused WrongState))
+    × (outcome dce (still Clearing 0 0) (Calls [] [] (zeros 16) usual) ≡ (Refused WrongState))
     × (outcome dce (still Clearing 0 0) (Accepts None) ≡ (Refused WrongState))
     × (outcome dce (still Clearing 0 0) Clears ≡ (Refused WrongState))
     × (outcome dce (still Clearing 0 0) (Sends true (1 ∷ 2 ∷ [])) ≡ (Refused WrongState))
@@ -147,11 +146,11 @@ dce_clearing_calls :
 dce_clearing_calls = (refl, refl, refl, refl, refl, refl, refl, refl, refl, refl, refl, refl, refl, refl, refl, refl)
 
 dce_busy_calls :
-    (outcome dce (opened 0 0 (talk ((Last true (1 ∷ 2 ∷ 3 ∷ [])) ∷ []) ((More true (9 ∷ [])) ∷ []) 1 ((Last false []) ∷ []) true false false)) (Calls (49 ∷ []) (50 ∷ []) (7 ∷ []) default_params) ≡ (Refused WrongState))
-    × (outcome dce (opened 0 0 (talk ((Last true (1 ∷ 2 ∷ 3 ∷ [])) ∷ []) ((More true (9 ∷ [])) ∷ []) 1 ((Last false []) ∷ []) true false false)) (Calls (49 ∷ 49 ∷ 49 ∷ 49 ∷ 49 ∷ 49 ∷ 49 ∷ 49 ∷ 49 ∷ 49 ∷ 49 ∷ 49 ∷ 49 ∷ 49 ∷ 49 ∷ 49 ∷ []) (50 ∷ []) [] default_params) ≡ (Refused WrongState))
-    × (outcome dce (opened 0 0 (talk ((Last true (1 ∷ 2 ∷ 3 ∷ [])) ∷ []) ((More true (9 ∷ [])) ∷ []) 1 ((Last false []) ∷ []) true false false)) (Calls (49 ∷ []) (50 ∷ []) (zeros 17) default_params) ≡ (Refused WrongState))
-    × (outcome dce (opened 0 0 (talk ((Last true (1 ∷ 2 ∷ 3 ∷ [])) ∷ []) ((More true (9 ∷ [])) ∷ []) 1 ((Last false []) ∷ []) true false false)) (Calls (49 ∷ []) (50 ∷ 50 ∷ 50 ∷ 50 ∷ 50 ∷ 50 ∷ 50 ∷ 50 ∷ 50 ∷ 50 ∷ 50 ∷ 50 ∷ 50 ∷ 50 ∷ 50 ∷ 50 ∷ []) [] default_params) ≡ (Refused WrongState))
-    × (outcome dce (opened 0 0 (talk ((Last true (1 ∷ 2 ∷ 3 ∷ [])) ∷ []) ((More true (9 ∷ [])) ∷ []) 1 ((Last false []) ∷ []) true false false)) (Calls [] [] (zeros 16) default_params) ≡ (Refused WrongState))
+    (outcome dce (opened 0 0 (talk ((Last true (1 ∷ 2 ∷ 3 ∷ [])) ∷ []) ((More true (9 ∷ [])) ∷ []) 1 ((Last false []) ∷ []) true false false)) (Calls (49 ∷ []) (50 ∷ []) (7 ∷ []) usual) ≡ (Refused WrongState))
+    × (outcome dce (opened 0 0 (talk ((Last true (1 ∷ 2 ∷ 3 ∷ [])) ∷ []) ((More true (9 ∷ [])) ∷ []) 1 ((Last false []) ∷ []) true false false)) (Calls (49 ∷ 49 ∷ 49 ∷ 49 ∷ 49 ∷ 49 ∷ 49 ∷ 49 ∷ 49 ∷ 49 ∷ 49 ∷ 49 ∷ 49 ∷ 49 ∷ 49 ∷ 49 ∷ []) (50 ∷ []) [] usual) ≡ (Refused WrongState))
+    × (outcome dce (opened 0 0 (talk ((Last true (1 ∷ 2 ∷ 3 ∷ [])) ∷ []) ((More true (9 ∷ [])) ∷ []) 1 ((Last false []) ∷ []) true false false)) (Calls (49 ∷ []) (50 ∷ []) (zeros 17) usual) ≡ (Refused WrongState))
+    × (outcome dce (opened 0 0 (talk ((Last true (1 ∷ 2 ∷ 3 ∷ [])) ∷ []) ((More true (9 ∷ [])) ∷ []) 1 ((Last false []) ∷ []) true false false)) (Calls (49 ∷ []) (50 ∷ 50 ∷ 50 ∷ 50 ∷ 50 ∷ 50 ∷ 50 ∷ 50 ∷ 50 ∷ 50 ∷ 50 ∷ 50 ∷ 50 ∷ 50 ∷ 50 ∷ 50 ∷ []) [] usual) ≡ (Refused WrongState))
+    × (outcome dce (opened 0 0 (talk ((Last true (1 ∷ 2 ∷ 3 ∷ [])) ∷ []) ((More true (9 ∷ [])) ∷ []) 1 ((Last false []) ∷ []) true false false)) (Calls [] [] (zeros 16) usual) ≡ (Refused WrongState))
     × (outcome dce (opened 0 0 (talk ((Last true (1 ∷ 2 ∷ 3 ∷ [])) ∷ []) ((More true (9 ∷ [])) ∷ []) 1 ((Last false []) ∷ []) true false false)) (Accepts None) ≡ (Refused WrongState))
     × (outcome dce (opened 0 0 (talk ((Last true (1 ∷ 2 ∷ 3 ∷ [])) ∷ []) ((More true (9 ∷ [])) ∷ []) 1 ((Last false []) ∷ []) true false false)) Clears ≡ (Done (still Clearing 0 0) (Some (clear 1 0 0))))
     × (outcome dce (opened 0 0 (talk ((Last true (1 ∷ 2 ∷ 3 ∷ [])) ∷ []) ((More true (9 ∷ [])) ∷ []) 1 ((Last false []) ∷ []) true false false)) (Sends true (1 ∷ 2 ∷ [])) ≡ (Done (opened 0 0 (talk ((Last true (1 ∷ 2 ∷ 3 ∷ [])) ∷ []) ((More true (9 ∷ [])) ∷ []) 1 ((Last false []) ∷ (Last true (1 ∷ 2 ∷ [])) ∷ []) true false false)) None))
@@ -166,11 +165,11 @@ dce_busy_calls :
 dce_busy_calls = (refl, refl, refl, refl, refl, refl, refl, refl, refl, refl, refl, refl, refl, refl, refl, refl)
 
 dce_full_calls :
-    (outcome dce (opened 0 0 (talk ((Last true (1 ∷ [])) ∷ (Last true (1 ∷ [])) ∷ []) [] 0 ((Last true (1 ∷ [])) ∷ (Last true (1 ∷ [])) ∷ (Last true (1 ∷ [])) ∷ (Last true (1 ∷ [])) ∷ (Last true (1 ∷ [])) ∷ (Last true (1 ∷ [])) ∷ (Last true (1 ∷ [])) ∷ (Last true (1 ∷ [])) ∷ []) false true true)) (Calls (49 ∷ []) (50 ∷ []) (7 ∷ []) default_params) ≡ (Refused WrongState))
-    × (outcome dce (opened 0 0 (talk ((Last true (1 ∷ [])) ∷ (Last true (1 ∷ [])) ∷ []) [] 0 ((Last true (1 ∷ [])) ∷ (Last true (1 ∷ [])) ∷ (Last true (1 ∷ [])) ∷ (Last true (1 ∷ [])) ∷ (Last true (1 ∷ [])) ∷ (Last true (1 ∷ [])) ∷ (Last true (1 ∷ [])) ∷ (Last true (1 ∷ [])) ∷ []) false true true)) (Calls (49 ∷ 49 ∷ 49 ∷ 49 ∷ 49 ∷ 49 ∷ 49 ∷ 49 ∷ 49 ∷ 49 ∷ 49 ∷ 49 ∷ 49 ∷ 49 ∷ 49 ∷ 49 ∷ []) (50 ∷ []) [] default_params) ≡ (Refused WrongState))
-    × (outcome dce (opened 0 0 (talk ((Last true (1 ∷ [])) ∷ (Last true (1 ∷ [])) ∷ []) [] 0 ((Last true (1 ∷ [])) ∷ (Last true (1 ∷ [])) ∷ (Last true (1 ∷ [])) ∷ (Last true (1 ∷ [])) ∷ (Last true (1 ∷ [])) ∷ (Last true (1 ∷ [])) ∷ (Last true (1 ∷ [])) ∷ (Last true (1 ∷ [])) ∷ []) false true true)) (Calls (49 ∷ []) (50 ∷ []) (zeros 17) default_params) ≡ (Refused WrongState))
-    × (outcome dce (opened 0 0 (talk ((Last true (1 ∷ [])) ∷ (Last true (1 ∷ [])) ∷ []) [] 0 ((Last true (1 ∷ [])) ∷ (Last true (1 ∷ [])) ∷ (Last true (1 ∷ [])) ∷ (Last true (1 ∷ [])) ∷ (Last true (1 ∷ [])) ∷ (Last true (1 ∷ [])) ∷ (Last true (1 ∷ [])) ∷ (Last true (1 ∷ [])) ∷ []) false true true)) (Calls (49 ∷ []) (50 ∷ 50 ∷ 50 ∷ 50 ∷ 50 ∷ 50 ∷ 50 ∷ 50 ∷ 50 ∷ 50 ∷ 50 ∷ 50 ∷ 50 ∷ 50 ∷ 50 ∷ 50 ∷ []) [] default_params) ≡ (Refused WrongState))
-    × (outcome dce (opened 0 0 (talk ((Last true (1 ∷ [])) ∷ (Last true (1 ∷ [])) ∷ []) [] 0 ((Last true (1 ∷ [])) ∷ (Last true (1 ∷ [])) ∷ (Last true (1 ∷ [])) ∷ (Last true (1 ∷ [])) ∷ (Last true (1 ∷ [])) ∷ (Last true (1 ∷ [])) ∷ (Last true (1 ∷ [])) ∷ (Last true (1 ∷ [])) ∷ []) false true true)) (Calls [] [] (zeros 16) default_params) ≡ (Refused WrongState))
+    (outcome dce (opened 0 0 (talk ((Last true (1 ∷ [])) ∷ (Last true (1 ∷ [])) ∷ []) [] 0 ((Last true (1 ∷ [])) ∷ (Last true (1 ∷ [])) ∷ (Last true (1 ∷ [])) ∷ (Last true (1 ∷ [])) ∷ (Last true (1 ∷ [])) ∷ (Last true (1 ∷ [])) ∷ (Last true (1 ∷ [])) ∷ (Last true (1 ∷ [])) ∷ []) false true true)) (Calls (49 ∷ []) (50 ∷ []) (7 ∷ []) usual) ≡ (Refused WrongState))
+    × (outcome dce (opened 0 0 (talk ((Last true (1 ∷ [])) ∷ (Last true (1 ∷ [])) ∷ []) [] 0 ((Last true (1 ∷ [])) ∷ (Last true (1 ∷ [])) ∷ (Last true (1 ∷ [])) ∷ (Last true (1 ∷ [])) ∷ (Last true (1 ∷ [])) ∷ (Last true (1 ∷ [])) ∷ (Last true (1 ∷ [])) ∷ (Last true (1 ∷ [])) ∷ []) false true true)) (Calls (49 ∷ 49 ∷ 49 ∷ 49 ∷ 49 ∷ 49 ∷ 49 ∷ 49 ∷ 49 ∷ 49 ∷ 49 ∷ 49 ∷ 49 ∷ 49 ∷ 49 ∷ 49 ∷ []) (50 ∷ []) [] usual) ≡ (Refused WrongState))
+    × (outcome dce (opened 0 0 (talk ((Last true (1 ∷ [])) ∷ (Last true (1 ∷ [])) ∷ []) [] 0 ((Last true (1 ∷ [])) ∷ (Last true (1 ∷ [])) ∷ (Last true (1 ∷ [])) ∷ (Last true (1 ∷ [])) ∷ (Last true (1 ∷ [])) ∷ (Last true (1 ∷ [])) ∷ (Last true (1 ∷ [])) ∷ (Last true (1 ∷ [])) ∷ []) false true true)) (Calls (49 ∷ []) (50 ∷ []) (zeros 17) usual) ≡ (Refused WrongState))
+    × (outcome dce (opened 0 0 (talk ((Last true (1 ∷ [])) ∷ (Last true (1 ∷ [])) ∷ []) [] 0 ((Last true (1 ∷ [])) ∷ (Last true (1 ∷ [])) ∷ (Last true (1 ∷ [])) ∷ (Last true (1 ∷ [])) ∷ (Last true (1 ∷ [])) ∷ (Last true (1 ∷ [])) ∷ (Last true (1 ∷ [])) ∷ (Last true (1 ∷ [])) ∷ []) false true true)) (Calls (49 ∷ []) (50 ∷ 50 ∷ 50 ∷ 50 ∷ 50 ∷ 50 ∷ 50 ∷ 50 ∷ 50 ∷ 50 ∷ 50 ∷ 50 ∷ 50 ∷ 50 ∷ 50 ∷ 50 ∷ []) [] usual) ≡ (Refused WrongState))
+    × (outcome dce (opened 0 0 (talk ((Last true (1 ∷ [])) ∷ (Last true (1 ∷ [])) ∷ []) [] 0 ((Last true (1 ∷ [])) ∷ (Last true (1 ∷ [])) ∷ (Last true (1 ∷ [])) ∷ (Last true (1 ∷ [])) ∷ (Last true (1 ∷ [])) ∷ (Last true (1 ∷ [])) ∷ (Last true (1 ∷ [])) ∷ (Last true (1 ∷ [])) ∷ []) false true true)) (Calls [] [] (zeros 16) usual) ≡ (Refused WrongState))
     × (outcome dce (opened 0 0 (talk ((Last true (1 ∷ [])) ∷ (Last true (1 ∷ [])) ∷ []) [] 0 ((Last true (1 ∷ [])) ∷ (Last true (1 ∷ [])) ∷ (Last true (1 ∷ [])) ∷ (Last true (1 ∷ [])) ∷ (Last true (1 ∷ [])) ∷ (Last true (1 ∷ [])) ∷ (Last true (1 ∷ [])) ∷ (Last true (1 ∷ [])) ∷ []) false true true)) (Accepts None) ≡ (Refused WrongState))
     × (outcome dce (opened 0 0 (talk ((Last true (1 ∷ [])) ∷ (Last true (1 ∷ [])) ∷ []) [] 0 ((Last true (1 ∷ [])) ∷ (Last true (1 ∷ [])) ∷ (Last true (1 ∷ [])) ∷ (Last true (1 ∷ [])) ∷ (Last true (1 ∷ [])) ∷ (Last true (1 ∷ [])) ∷ (Last true (1 ∷ [])) ∷ (Last true (1 ∷ [])) ∷ []) false true true)) Clears ≡ (Done (still Clearing 0 0) (Some (clear 1 0 0))))
     × (outcome dce (opened 0 0 (talk ((Last true (1 ∷ [])) ∷ (Last true (1 ∷ [])) ∷ []) [] 0 ((Last true (1 ∷ [])) ∷ (Last true (1 ∷ [])) ∷ (Last true (1 ∷ [])) ∷ (Last true (1 ∷ [])) ∷ (Last true (1 ∷ [])) ∷ (Last true (1 ∷ [])) ∷ (Last true (1 ∷ [])) ∷ (Last true (1 ∷ [])) ∷ []) false true true)) (Sends true (1 ∷ 2 ∷ [])) ≡ (Refused Full))
@@ -185,11 +184,11 @@ dce_full_calls :
 dce_full_calls = (refl, refl, refl, refl, refl, refl, refl, refl, refl, refl, refl, refl, refl, refl, refl, refl)
 
 dce_past_eight_calls :
-    (outcome dce (opened 0 0 (talk [] ((Last false []) ∷ (Last false []) ∷ (Last false []) ∷ (Last false []) ∷ (Last false []) ∷ (Last false []) ∷ (Last false []) ∷ (Last false []) ∷ (Last false []) ∷ []) 0 [] false true true)) (Calls (49 ∷ []) (50 ∷ []) (7 ∷ []) default_params) ≡ (Refused WrongState))
-    × (outcome dce (opened 0 0 (talk [] ((Last false []) ∷ (Last false []) ∷ (Last false []) ∷ (Last false []) ∷ (Last false []) ∷ (Last false []) ∷ (Last false []) ∷ (Last false []) ∷ (Last false []) ∷ []) 0 [] false true true)) (Calls (49 ∷ 49 ∷ 49 ∷ 49 ∷ 49 ∷ 49 ∷ 49 ∷ 49 ∷ 49 ∷ 49 ∷ 49 ∷ 49 ∷ 49 ∷ 49 ∷ 49 ∷ 49 ∷ []) (50 ∷ []) [] default_params) ≡ (Refused WrongState))
-    × (outcome dce (opened 0 0 (talk [] ((Last false []) ∷ (Last false []) ∷ (Last false []) ∷ (Last false []) ∷ (Last false []) ∷ (Last false []) ∷ (Last false []) ∷ (Last false []) ∷ (Last false []) ∷ []) 0 [] false true true)) (Calls (49 ∷ []) (50 ∷ []) (zeros 17) default_params) ≡ (Refused WrongState))
-    × (outcome dce (opened 0 0 (talk [] ((Last false []) ∷ (Last false []) ∷ (Last false []) ∷ (Last false []) ∷ (Last false []) ∷ (Last false []) ∷ (Last false []) ∷ (Last false []) ∷ (Last false []) ∷ []) 0 [] false true true)) (Calls (49 ∷ []) (50 ∷ 50 ∷ 50 ∷ 50 ∷ 50 ∷ 50 ∷ 50 ∷ 50 ∷ 50 ∷ 50 ∷ 50 ∷ 50 ∷ 50 ∷ 50 ∷ 50 ∷ 50 ∷ []) [] default_params) ≡ (Refused WrongState))
-    × (outcome dce (opened 0 0 (talk [] ((Last false []) ∷ (Last false []) ∷ (Last false []) ∷ (Last false []) ∷ (Last false []) ∷ (Last false []) ∷ (Last false []) ∷ (Last false []) ∷ (Last false []) ∷ []) 0 [] false true true)) (Calls [] [] (zeros 16) default_params) ≡ (Refused WrongState))
+    (outcome dce (opened 0 0 (talk [] ((Last false []) ∷ (Last false []) ∷ (Last false []) ∷ (Last false []) ∷ (Last false []) ∷ (Last false []) ∷ (Last false []) ∷ (Last false []) ∷ (Last false []) ∷ []) 0 [] false true true)) (Calls (49 ∷ []) (50 ∷ []) (7 ∷ []) usual) ≡ (Refused WrongState))
+    × (outcome dce (opened 0 0 (talk [] ((Last false []) ∷ (Last false []) ∷ (Last false []) ∷ (Last false []) ∷ (Last false []) ∷ (Last false []) ∷ (Last false []) ∷ (Last false []) ∷ (Last false []) ∷ []) 0 [] false true true)) (Calls (49 ∷ 49 ∷ 49 ∷ 49 ∷ 49 ∷ 49 ∷ 49 ∷ 49 ∷ 49 ∷ 49 ∷ 49 ∷ 49 ∷ 49 ∷ 49 ∷ 49 ∷ 49 ∷ []) (50 ∷ []) [] usual) ≡ (Refused WrongState))
+    × (outcome dce (opened 0 0 (talk [] ((Last false []) ∷ (Last false []) ∷ (Last false []) ∷ (Last false []) ∷ (Last false []) ∷ (Last false []) ∷ (Last false []) ∷ (Last false []) ∷ (Last false []) ∷ []) 0 [] false true true)) (Calls (49 ∷ []) (50 ∷ []) (zeros 17) usual) ≡ (Refused WrongState))
+    × (outcome dce (opened 0 0 (talk [] ((Last false []) ∷ (Last false []) ∷ (Last false []) ∷ (Last false []) ∷ (Last false []) ∷ (Last false []) ∷ (Last false []) ∷ (Last false []) ∷ (Last false []) ∷ []) 0 [] false true true)) (Calls (49 ∷ []) (50 ∷ 50 ∷ 50 ∷ 50 ∷ 50 ∷ 50 ∷ 50 ∷ 50 ∷ 50 ∷ 50 ∷ 50 ∷ 50 ∷ 50 ∷ 50 ∷ 50 ∷ 50 ∷ []) [] usual) ≡ (Refused WrongState))
+    × (outcome dce (opened 0 0 (talk [] ((Last false []) ∷ (Last false []) ∷ (Last false []) ∷ (Last false []) ∷ (Last false []) ∷ (Last false []) ∷ (Last false []) ∷ (Last false []) ∷ (Last false []) ∷ []) 0 [] false true true)) (Calls [] [] (zeros 16) usual) ≡ (Refused WrongState))
     × (outcome dce (opened 0 0 (talk [] ((Last false []) ∷ (Last false []) ∷ (Last false []) ∷ (Last false []) ∷ (Last false []) ∷ (Last false []) ∷ (Last false []) ∷ (Last false []) ∷ (Last false []) ∷ []) 0 [] false true true)) (Accepts None) ≡ (Refused WrongState))
     × (outcome dce (opened 0 0 (talk [] ((Last false []) ∷ (Last false []) ∷ (Last false []) ∷ (Last false []) ∷ (Last false []) ∷ (Last false []) ∷ (Last false []) ∷ (Last false []) ∷ (Last false []) ∷ []) 0 [] false true true)) Clears ≡ (Done (still Clearing 0 0) (Some (clear 1 0 0))))
     × (outcome dce (opened 0 0 (talk [] ((Last false []) ∷ (Last false []) ∷ (Last false []) ∷ (Last false []) ∷ (Last false []) ∷ (Last false []) ∷ (Last false []) ∷ (Last false []) ∷ (Last false []) ∷ []) 0 [] false true true)) (Sends true (1 ∷ 2 ∷ [])) ≡ (Done (opened 0 0 (talk [] ((Last false []) ∷ (Last false []) ∷ (Last false []) ∷ (Last false []) ∷ (Last false []) ∷ (Last false []) ∷ (Last false []) ∷ (Last false []) ∷ (Last false []) ∷ []) 0 ((Last true (1 ∷ 2 ∷ [])) ∷ []) false true true)) None))
@@ -204,11 +203,11 @@ dce_past_eight_calls :
 dce_past_eight_calls = (refl, refl, refl, refl, refl, refl, refl, refl, refl, refl, refl, refl, refl, refl, refl, refl)
 
 dce_in_a_message_calls :
-    (outcome dce (opened 0 0 (talk ((More true (zeros 128)) ∷ []) [] 0 ((Last true (0 ∷ 0 ∷ [])) ∷ []) false true true)) (Calls (49 ∷ []) (50 ∷ []) (7 ∷ []) default_params) ≡ (Refused WrongState))
-    × (outcome dce (opened 0 0 (talk ((More true (zeros 128)) ∷ []) [] 0 ((Last true (0 ∷ 0 ∷ [])) ∷ []) false true true)) (Calls (49 ∷ 49 ∷ 49 ∷ 49 ∷ 49 ∷ 49 ∷ 49 ∷ 49 ∷ 49 ∷ 49 ∷ 49 ∷ 49 ∷ 49 ∷ 49 ∷ 49 ∷ 49 ∷ []) (50 ∷ []) [] default_params) ≡ (Refused WrongState))
-    × (outcome dce (opened 0 0 (talk ((More true (zeros 128)) ∷ []) [] 0 ((Last true (0 ∷ 0 ∷ [])) ∷ []) false true true)) (Calls (49 ∷ []) (50 ∷ []) (zeros 17) default_params) ≡ (Refused WrongState))
-    × (outcome dce (opened 0 0 (talk ((More true (zeros 128)) ∷ []) [] 0 ((Last true (0 ∷ 0 ∷ [])) ∷ []) false true true)) (Calls (49 ∷ []) (50 ∷ 50 ∷ 50 ∷ 50 ∷ 50 ∷ 50 ∷ 50 ∷ 50 ∷ 50 ∷ 50 ∷ 50 ∷ 50 ∷ 50 ∷ 50 ∷ 50 ∷ 50 ∷ []) [] default_params) ≡ (Refused WrongState))
-    × (outcome dce (opened 0 0 (talk ((More true (zeros 128)) ∷ []) [] 0 ((Last true (0 ∷ 0 ∷ [])) ∷ []) false true true)) (Calls [] [] (zeros 16) default_params) ≡ (Refused WrongState))
+    (outcome dce (opened 0 0 (talk ((More true (zeros 128)) ∷ []) [] 0 ((Last true (0 ∷ 0 ∷ [])) ∷ []) false true true)) (Calls (49 ∷ []) (50 ∷ []) (7 ∷ []) usual) ≡ (Refused WrongState))
+    × (outcome dce (opened 0 0 (talk ((More true (zeros 128)) ∷ []) [] 0 ((Last true (0 ∷ 0 ∷ [])) ∷ []) false true true)) (Calls (49 ∷ 49 ∷ 49 ∷ 49 ∷ 49 ∷ 49 ∷ 49 ∷ 49 ∷ 49 ∷ 49 ∷ 49 ∷ 49 ∷ 49 ∷ 49 ∷ 49 ∷ 49 ∷ []) (50 ∷ []) [] usual) ≡ (Refused WrongState))
+    × (outcome dce (opened 0 0 (talk ((More true (zeros 128)) ∷ []) [] 0 ((Last true (0 ∷ 0 ∷ [])) ∷ []) false true true)) (Calls (49 ∷ []) (50 ∷ []) (zeros 17) usual) ≡ (Refused WrongState))
+    × (outcome dce (opened 0 0 (talk ((More true (zeros 128)) ∷ []) [] 0 ((Last true (0 ∷ 0 ∷ [])) ∷ []) false true true)) (Calls (49 ∷ []) (50 ∷ 50 ∷ 50 ∷ 50 ∷ 50 ∷ 50 ∷ 50 ∷ 50 ∷ 50 ∷ 50 ∷ 50 ∷ 50 ∷ 50 ∷ 50 ∷ 50 ∷ 50 ∷ []) [] usual) ≡ (Refused WrongState))
+    × (outcome dce (opened 0 0 (talk ((More true (zeros 128)) ∷ []) [] 0 ((Last true (0 ∷ 0 ∷ [])) ∷ []) false true true)) (Calls [] [] (zeros 16) usual) ≡ (Refused WrongState))
     × (outcome dce (opened 0 0 (talk ((More true (zeros 128)) ∷ []) [] 0 ((Last true (0 ∷ 0 ∷ [])) ∷ []) false true true)) (Accepts None) ≡ (Refused WrongState))
     × (outcome dce (opened 0 0 (talk ((More true (zeros 128)) ∷ []) [] 0 ((Last true (0 ∷ 0 ∷ [])) ∷ []) false true true)) Clears ≡ (Done (still Clearing 0 0) (Some (clear 1 0 0))))
     × (outcome dce (opened 0 0 (talk ((More true (zeros 128)) ∷ []) [] 0 ((Last true (0 ∷ 0 ∷ [])) ∷ []) false true true)) (Sends true (1 ∷ 2 ∷ [])) ≡ (Done (opened 0 0 (talk ((More true (zeros 128)) ∷ []) [] 0 ((Last true (0 ∷ 0 ∷ [])) ∷ (Last true (1 ∷ 2 ∷ [])) ∷ []) false true true)) None))

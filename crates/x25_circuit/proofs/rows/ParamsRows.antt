@@ -6,7 +6,7 @@ use Rattle.x25_circuit.specs.declared.error.CircuitError.TheVariants.{BadParamet
 use Rattle.x25_circuit.specs.declared.params.Params.{Params}
 use Rattle.x25_circuit.specs.declared.state.State.{State}
 use Rattle.x25_circuit.specs.declared.state.State.TheVariants.{Free, Calling, Arriving, Collision, Open, Clearing}
-use Rattle.x25_circuit.specs.Params.{may_answer}
+use Rattle.x25_circuit.specs.Params.{may_answer, in_brief, in_full}
 use Rattle.x25_circuit.specs.Message.{More, Last}
 use Rattle.x25_circuit.specs.Circuit.{Circuit, Talk, silent}
 use Rattle.x25_circuit.specs.Notice.{PlainNotice, incoming, connected, collided, fault}
@@ -32,23 +32,34 @@ abbrev comes_with : Params → PlainNotice
 comes_with params = incoming (record { called = 1 ∷ []; calling = 2 ∷ []; user = []; params = params })
 
 proposals :
-    (outcome dte (still Free 0 0) (Calls (49 ∷ []) (50 ∷ []) [] (values 8 8 3 3)) ≡ Done (with_values Calling (values 8 8 3 3) true) (Some (call_with (66 ∷ 8 ∷ 8 ∷ 67 ∷ 3 ∷ 3 ∷ []))))
-    × (outcome dte (still Free 0 0) (Calls (49 ∷ []) (50 ∷ []) [] (values 7 7 1 7)) ≡ Done (with_values Calling (values 7 7 1 7) true) (Some (call_with (67 ∷ 1 ∷ 7 ∷ []))))
-    × (outcome dte (still Free 0 0) (Calls (49 ∷ []) (50 ∷ []) [] (values 4 12 2 2)) ≡ Done (with_values Calling (values 4 12 2 2) true) (Some (call_with (66 ∷ 4 ∷ 12 ∷ []))))
-    × (outcome dte (still Free 0 0) (Calls (49 ∷ []) (50 ∷ []) [] (values 3 7 2 2)) ≡ Refused BadParameter)
-    × (outcome dte (still Free 0 0) (Calls (49 ∷ []) (50 ∷ []) [] (values 7 13 2 2)) ≡ Refused BadParameter)
-    × (outcome dte (still Free 0 0) (Calls (49 ∷ []) (50 ∷ []) [] (values 7 7 0 2)) ≡ Refused BadParameter)
-    × (outcome dte (still Free 0 0) (Calls (49 ∷ []) (50 ∷ []) [] (values 7 7 2 8)) ≡ Refused BadParameter)
+    (outcome dte (still Free 0 0) (Calls (49 ∷ []) (50 ∷ []) [] (in_brief (values 8 8 3 3))) ≡ Done (with_values Calling (values 8 8 3 3) true) (Some (call_with (66 ∷ 8 ∷ 8 ∷ 67 ∷ 3 ∷ 3 ∷ []))))
+    × (outcome dte (still Free 0 0) (Calls (49 ∷ []) (50 ∷ []) [] (in_brief (values 7 7 1 7))) ≡ Done (with_values Calling (values 7 7 1 7) true) (Some (call_with (67 ∷ 1 ∷ 7 ∷ []))))
+    × (outcome dte (still Free 0 0) (Calls (49 ∷ []) (50 ∷ []) [] (in_brief (values 4 12 2 2))) ≡ Done (with_values Calling (values 4 12 2 2) true) (Some (call_with (66 ∷ 4 ∷ 12 ∷ []))))
+    × (outcome dte (still Free 0 0) (Calls (49 ∷ []) (50 ∷ []) [] (in_brief (values 3 7 2 2))) ≡ Refused BadParameter)
+    × (outcome dte (still Free 0 0) (Calls (49 ∷ []) (50 ∷ []) [] (in_brief (values 7 13 2 2))) ≡ Refused BadParameter)
+    × (outcome dte (still Free 0 0) (Calls (49 ∷ []) (50 ∷ []) [] (in_brief (values 7 7 0 2))) ≡ Refused BadParameter)
+    × (outcome dte (still Free 0 0) (Calls (49 ∷ []) (50 ∷ []) [] (in_brief (values 7 7 2 8))) ≡ Refused BadParameter)
     × (answers dce (still Free 0 0) (call_with (66 ∷ 8 ∷ 8 ∷ 67 ∷ 3 ∷ 3 ∷ [])) ≡ gives (with_values Arriving (values 8 8 3 3) false) None (comes_with (values 8 8 3 3) ∷ []))
     × (answers dce (still Free 0 0) (call_with (67 ∷ 1 ∷ 7 ∷ [])) ≡ gives (with_values Arriving (values 7 7 1 7) false) None (comes_with (values 7 7 1 7) ∷ []))
 unfolding facilities_of
 proposals = (refl, refl, refl, refl, refl, refl, refl, refl, refl)
 
+-- both are said, also where they are the default, or as proposed
+said_in_full :
+    (outcome dte (still Free 0 0) (Calls (49 ∷ []) (50 ∷ []) [] (in_full (values 7 7 2 2))) ≡ Done (with_values Calling (values 7 7 2 2) true) (Some (call_with (66 ∷ 7 ∷ 7 ∷ 67 ∷ 2 ∷ 2 ∷ []))))
+    × (outcome dte (still Free 0 0) (Calls (49 ∷ []) (50 ∷ []) [] (in_full (values 7 7 1 7))) ≡ Done (with_values Calling (values 7 7 1 7) true) (Some (call_with (66 ∷ 7 ∷ 7 ∷ 67 ∷ 1 ∷ 7 ∷ []))))
+    × (outcome dte (still Free 0 0) (Calls (49 ∷ []) (50 ∷ []) [] (in_full (values 3 7 2 2))) ≡ Refused BadParameter)
+    × (answers dce (still Free 0 0) (call_with (66 ∷ 7 ∷ 7 ∷ 67 ∷ 2 ∷ 2 ∷ [])) ≡ gives (with_values Arriving (values 7 7 2 2) false) None (comes_with (values 7 7 2 2) ∷ []))
+    × (outcome dce (with_values Arriving (values 8 8 3 3) false) (Accepts (Some (in_full (values 8 8 3 3)))) ≡ Done (with_values Open (values 8 8 3 3) false) (Some (accept 1 (66 ∷ 8 ∷ 8 ∷ 67 ∷ 3 ∷ 3 ∷ []))))
+    × (outcome dce (with_values Arriving (values 8 8 3 3) false) (Accepts (Some (in_full (values 9 8 3 3)))) ≡ Refused BadParameter)
+unfolding facilities_of
+said_in_full = (refl, refl, refl, refl, refl, refl)
+
 answers_to_a_proposal :
-    (outcome dce (with_values Arriving (values 8 8 3 3) false) (Accepts (Some (values 7 8 3 2))) ≡ Done (with_values Open (values 7 8 3 2) false) (Some (accept 1 (66 ∷ 7 ∷ 8 ∷ 67 ∷ 3 ∷ 2 ∷ []))))
-    × (outcome dce (with_values Arriving (values 8 8 3 3) false) (Accepts (Some (values 8 8 3 2))) ≡ Done (with_values Open (values 8 8 3 2) false) (Some (accept 1 (67 ∷ 3 ∷ 2 ∷ []))))
+    (outcome dce (with_values Arriving (values 8 8 3 3) false) (Accepts (Some (in_brief (values 7 8 3 2)))) ≡ Done (with_values Open (values 7 8 3 2) false) (Some (accept 1 (66 ∷ 7 ∷ 8 ∷ 67 ∷ 3 ∷ 2 ∷ []))))
+    × (outcome dce (with_values Arriving (values 8 8 3 3) false) (Accepts (Some (in_brief (values 8 8 3 2)))) ≡ Done (with_values Open (values 8 8 3 2) false) (Some (accept 1 (67 ∷ 3 ∷ 2 ∷ []))))
     × (outcome dce (with_values Arriving (values 8 8 3 3) false) (Accepts None) ≡ Done (with_values Open (values 8 8 3 3) false) (Some (accept 1 [])))
-    × (outcome dce (with_values Arriving (values 8 8 3 3) false) (Accepts (Some (values 9 8 3 3))) ≡ Refused BadParameter)
+    × (outcome dce (with_values Arriving (values 8 8 3 3) false) (Accepts (Some (in_brief (values 9 8 3 3)))) ≡ Refused BadParameter)
     × (answers dte (with_values Calling (values 8 8 3 3) true) (accept 1 (66 ∷ 7 ∷ 8 ∷ 67 ∷ 3 ∷ 2 ∷ [])) ≡ gives (with_values Open (values 7 8 3 2) true) None (connected (values 7 8 3 2) ∷ []))
     × (answers dte (with_values Calling (values 8 8 3 3) true) (accept 1 (67 ∷ 2 ∷ 2 ∷ [])) ≡ gives (with_values Open (values 8 8 2 2) true) None (connected (values 8 8 2 2) ∷ []))
     × (answers dte (with_values Calling (values 8 8 3 3) true) (accept 1 []) ≡ gives (with_values Open (values 8 8 3 3) true) None (connected (values 8 8 3 3) ∷ []))

@@ -1,25 +1,37 @@
 -- What is said in a facility field is what is understood, and what is proposed and answered stays within bounds.
 -- ITU-T X.25 (10/96), section 6.12.
-use Rattle.std.specs.Prelude.{◌≡◌, ◌≤◌, ℕ, true, List, []}
+use Rattle.std.specs.Prelude.{◌≡◌, ◌≤◌, ℕ, true, List, [], ◌∷◌}
 use Rattle.x25_packet.specs.Facilities.{IsFacilityField}
 use Rattle.x25_circuit.specs.declared.params.Params.{Params}
-use Rattle.x25_circuit.specs.Params.{Terms, default_params, may_propose, may_answer, field_for, said_in, called_terms}
-use Rattle.x25_circuit.specs.Params.{calling_terms}
+use Rattle.x25_circuit.specs.Params.{Terms, Proposal, in_brief, in_full, default_params, may_propose, may_answer, field_for}
+use Rattle.x25_circuit.specs.Params.{said_in, called_terms, calling_terms}
 
--- where both ends know the same, the one that reads understands what the other says
+-- where both ends know the same, the one that reads understands what the other says, in brief or in full
 abbrev pub FieldIsSaid : Type 0
-FieldIsSaid = (known said : Params) → may_propose said ≡ true → said_in known (field_for known said) ≡ said
+FieldIsSaid = (known : Params) (said : Proposal) → may_propose said.params ≡ true
+    → said_in known (field_for known said) ≡ said.params
+
+-- what is said in full is read as the same, whatever the end that reads knows
+abbrev pub FullIsReadAlike : Type 0
+FullIsReadAlike = (known usual params : Params) → may_propose params ≡ true
+    → said_in usual (field_for known (in_full params)) ≡ said_in usual (field_for usual (in_brief params))
+
+-- the code and both values of packet sizes (0x42), then of windows (0x43)
+abbrev pub FullSaysAll : Type 0
+FullSaysAll = (known params : Params) → field_for known (in_full params)
+    ≡ 66 ∷ params.size_called ∷ params.size_calling ∷ 67 ∷ params.win_called ∷ params.win_calling ∷ []
 
 -- no field says that all is as known
 abbrev pub NoFieldIsKnown : Type 0
 NoFieldIsKnown = (known : Params) → said_in known [] ≡ known
 
 abbrev pub KnownIsNoField : Type 0
-KnownIsNoField = (known : Params) → field_for known known ≡ []
+KnownIsNoField = (known : Params) → field_for known (in_brief known) ≡ []
 
 -- what is said is a field of facilities that are allowed
 abbrev pub FieldIsAllowed : Type 0
-FieldIsAllowed = (known said : Params) → may_propose said ≡ true → IsFacilityField (field_for known said)
+FieldIsAllowed = (known : Params) (said : Proposal) → may_propose said.params ≡ true
+    → IsFacilityField (field_for known said)
 
 -- whatever the octets of a field are
 abbrev pub SaidIsAllowed : Type 0

@@ -4,7 +4,8 @@ use Rattle.x25_handshakes.specs.laws.Handshake.{At}
 use Rattle.x25_bits.specs.declared.role.Role.{Role}
 use Rattle.x25_bits.specs.declared.role.Role.TheVariants.{Dte, Dce}
 use Rattle.x25_circuit.specs.declared.params.Params.{Params}
-use Rattle.x25_circuit.specs.Params.{Terms, may_propose, may_answer, field_for, said_in, called_terms, calling_terms}
+use Rattle.x25_circuit.specs.Params.{Terms, Proposal, may_propose, may_answer, field_for, said_in, called_terms}
+use Rattle.x25_circuit.specs.Params.{calling_terms}
 use Rattle.x25_circuit.specs.Notice.{CallRequest}
 use Rattle.x25_handshakes.specs.laws.Stretch.{Packet, Call, Accept, Stretch}
 use Rattle.x25_handshakes.specs.laws.Transfer.{TransferStep, fresh_transfer, transfer_takes, TransferAct, transfer_acts}
@@ -78,16 +79,17 @@ call_takes r x p = phase_takes r x.phase x.made x.indicated p
 pub data CallAct : Type 0 where
   PlacesCall : (item : CallRequest) → CallAct
   -- with an answer, or as it was proposed
-  AcceptsCall : (answer : Option Params) → CallAct
+  AcceptsCall : (answer : Option Proposal) → CallAct
   Talks : (act : TransferAct) → CallAct
 
 abbrev pub places : List CallRequest → List CallRequest → CallRequest → CallStep
 places m i n = if may_propose n.params then goes (Waiting n.params) (m ++ n ∷ []) i (Call n ∷ [])
     else goes Unused m i []
 
-abbrev pub accepts : Params → List CallRequest → List CallRequest → Option Params → CallStep
+abbrev pub accepts : Params → List CallRequest → List CallRequest → Option Proposal → CallStep
 accepts theirs m i None = goes (called_talk theirs) m i (Accept [] ∷ [])
-accepts theirs m i (Some q) = if may_answer theirs q then goes (called_talk q) m i (Accept (field_for theirs q) ∷ [])
+accepts theirs m i (Some q) =
+    if may_answer theirs q.params then goes (called_talk q.params) m i (Accept (field_for theirs q) ∷ [])
     else goes (Offered theirs) m i []
 
 abbrev pub phase_acts : Phase → List CallRequest → List CallRequest → CallAct → CallStep

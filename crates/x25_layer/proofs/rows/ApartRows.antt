@@ -2,7 +2,7 @@
 use Rattle.std.proofs.Common.{◌≡◌, List, [], ◌∷◌, ◌++◌, None, true, false, refl}
 use Rattle.x25_packet.specs.Packet.{call, accept, restart}
 use Rattle.x25_packet.specs.Facilities.{facilities_of}
-use Rattle.x25_circuit.specs.Params.{default_params}
+use Rattle.x25_circuit.specs.Params.{Proposal, in_brief, default_params}
 use Rattle.x25_circuit.specs.Notice.{connected}
 use Rattle.x25_circuit.specs.Calling.{Request, Calls, Accepts}
 use Rattle.x25_layer.specs.Layer.{on_channel, restarted}
@@ -25,9 +25,13 @@ after events = apart_run false 2 events (apart_start false 2)
 abbrev restarts : List ApartEvent
 restarts = by_dce (Takes (restart 0 0)) ∷ by_dte (Takes (restart 7 0)) ∷ []
 
+-- the defaults, of which nothing is said
+abbrev usual : Proposal
+usual = in_brief default_params
+
 -- a call goes, and comes; then the DTE's link goes down
 abbrev calls : List ApartEvent
-calls = restarts ++ by_dte (asks (Calls (49 ∷ []) (50 ∷ []) [] default_params)) ∷ by_dce (Takes (call 1 (1 ∷ []) (2 ∷ []) [] [])) ∷ by_dce (asks (Accepts None)) ∷ by_dte (Takes (accept 1 [])) ∷ by_dte GoesDown ∷ []
+calls = restarts ++ by_dte (asks (Calls (49 ∷ []) (50 ∷ []) [] usual)) ∷ by_dce (Takes (call 1 (1 ∷ []) (2 ∷ []) [] [])) ∷ by_dce (asks (Accepts None)) ∷ by_dte (Takes (accept 1 [])) ∷ by_dte GoesDown ∷ []
 
 row_in_order : AreInOrder false 2 calls (apart_start false 2)
 unfolding facilities_of
@@ -42,5 +46,5 @@ row_out_of_order : (after (by_dte (Takes (restart 7 9)) ∷ [])).near.told ≡ r
 row_out_of_order = refl
 
 -- nothing is asked before the first packet
-row_before : (after (by_dte (asks (Calls (49 ∷ []) (50 ∷ []) [] default_params)) ∷ by_dte (Pulls 1) ∷ [])).near.given ≡ restart 0 0 ∷ []
+row_before : (after (by_dte (asks (Calls (49 ∷ []) (50 ∷ []) [] usual)) ∷ by_dte (Pulls 1) ∷ [])).near.given ≡ restart 0 0 ∷ []
 row_before = refl

@@ -6,7 +6,7 @@ use Rattle.x25_packet.specs.Facilities.{facilities_of}
 use Rattle.x25_circuit.specs.declared.error.CircuitError.TheVariants as circuit
 use Rattle.x25_circuit.specs.declared.state.State.TheVariants.{Calling, Open}
 use Rattle.x25_circuit.specs.declared.params.Params.{Params}
-use Rattle.x25_circuit.specs.Params.{default_params}
+use Rattle.x25_circuit.specs.Params.{Proposal, in_brief, default_params}
 use Rattle.x25_circuit.specs.Message.{Last}
 use Rattle.x25_circuit.specs.Circuit.{Circuit, begun, entered, waits}
 use Rattle.x25_circuit.specs.Notice.{CallRequest, incoming, connected, collided, cleared, clear_done, was_reset, delivered}
@@ -42,6 +42,10 @@ name r c s = record { restarts = r; clears = c; resets = s }
 abbrev entry : ℕ → Name → Said → Entry
 entry channel at said = record { channel = channel; name = at; said = said }
 
+-- the defaults, of which nothing is said
+abbrev usual : Proposal
+usual = in_brief default_params
+
 abbrev digits_12 : CallRequest
 digits_12 = record { called = 1 ∷ []; calling = 2 ∷ []; user = []; params = default_params }
 
@@ -53,23 +57,23 @@ row_restart_told : (after restarts).near.told ≡ restarted 7 0 ∷ []
 row_restart_told = refl
 
 -- a DTE calls on the highest channel, a DCE on the lowest; the calls of both are told on the channels where they came
-row_channels : (after (restarts ++ by_dte (Requests false (Dials (49 ∷ []) (50 ∷ []) [] default_params)) ∷ by_dce (Requests false (Dials (51 ∷ []) (52 ∷ []) [] default_params)) ∷ [])).near.given ≡ restart 0 0 ∷ call 2 (1 ∷ []) (2 ∷ []) [] [] ∷ []
+row_channels : (after (restarts ++ by_dte (Requests false (Dials (49 ∷ []) (50 ∷ []) [] usual)) ∷ by_dce (Requests false (Dials (51 ∷ []) (52 ∷ []) [] usual)) ∷ [])).near.given ≡ restart 0 0 ∷ call 2 (1 ∷ []) (2 ∷ []) [] [] ∷ []
 row_channels = refl
 
-row_channels_dce : (after (restarts ++ by_dte (Requests false (Dials (49 ∷ []) (50 ∷ []) [] default_params)) ∷ by_dce (Requests false (Dials (51 ∷ []) (52 ∷ []) [] default_params)) ∷ [])).far.given ≡ restart 7 0 ∷ call 1 (3 ∷ []) (4 ∷ []) [] [] ∷ []
+row_channels_dce : (after (restarts ++ by_dte (Requests false (Dials (49 ∷ []) (50 ∷ []) [] usual)) ∷ by_dce (Requests false (Dials (51 ∷ []) (52 ∷ []) [] usual)) ∷ [])).far.given ≡ restart 7 0 ∷ call 1 (3 ∷ []) (4 ∷ []) [] [] ∷ []
 row_channels_dce = refl
 
 -- a call of the DTE on channel 1, which the DCE accepts
 abbrev connects : List Event
-connects = restarts ++ by_dte (asks (Calls (49 ∷ []) (50 ∷ []) [] default_params)) ∷ by_dce HandsUp ∷ by_dce (asks (Accepts None)) ∷ by_dte HandsUp ∷ []
+connects = restarts ++ by_dte (asks (Calls (49 ∷ []) (50 ∷ []) [] usual)) ∷ by_dce HandsUp ∷ by_dce (asks (Accepts None)) ∷ by_dte HandsUp ∷ []
 
 row_message : (after (connects ++ by_dte (asks (Sends false (104 ∷ 105 ∷ []))) ∷ by_dte (Pulls 1) ∷ by_dce HandsUp ∷ by_dte HandsUp ∷ [])).far.entries
-    ≡ entry 1 (name 1 0 0) (Told (incoming digits_12)) ∷ entry 1 (name 1 0 0) (Asked (Accepts (Some default_params))) ∷ entry 1 (name 1 0 0) (Told (delivered (record { q = false; user = 104 ∷ 105 ∷ [] }))) ∷ []
+    ≡ entry 1 (name 1 0 0) (Told (incoming digits_12)) ∷ entry 1 (name 1 0 0) (Asked (Accepts (Some usual))) ∷ entry 1 (name 1 0 0) (Told (delivered (record { q = false; user = 104 ∷ 105 ∷ [] }))) ∷ []
 unfolding facilities_of
 row_message = refl
 
 -- a collision of calls, and then of clears: no confirmation is sent
-row_collision : (after (restarts ++ by_dte (asks (Calls (49 ∷ []) (50 ∷ []) [] default_params)) ∷ by_dce (asks (Calls (51 ∷ []) (52 ∷ []) [] default_params)) ∷ by_dce HandsUp ∷ by_dte HandsUp
+row_collision : (after (restarts ++ by_dte (asks (Calls (49 ∷ []) (50 ∷ []) [] usual)) ∷ by_dce (asks (Calls (51 ∷ []) (52 ∷ []) [] usual)) ∷ by_dce HandsUp ∷ by_dte HandsUp
     ∷ by_dte (asks Clears) ∷ by_dce (asks Clears) ∷ by_dce HandsUp ∷ by_dte HandsUp ∷ [])).far.told
     ≡ restarted 0 0 ∷ on_channel 1 collided ∷ on_channel 1 (incoming digits_12) ∷ on_channel 1 clear_done ∷ []
 unfolding facilities_of
@@ -77,16 +81,16 @@ row_collision = refl
 
 -- RESET and then CLEAR: the resets are counted afresh behind the clear, so the next call stands under one name at both ends
 abbrev resets_and_clears : List Event
-resets_and_clears = connects ++ by_dte (asks Resets) ∷ by_dte (asks Clears) ∷ by_dce HandsUp ∷ by_dce HandsUp ∷ by_dte HandsUp ∷ by_dte HandsUp ∷ by_dte (asks (Calls (49 ∷ []) (50 ∷ []) [] default_params)) ∷ by_dce HandsUp ∷ []
+resets_and_clears = connects ++ by_dte (asks Resets) ∷ by_dte (asks Clears) ∷ by_dce HandsUp ∷ by_dce HandsUp ∷ by_dte HandsUp ∷ by_dte HandsUp ∷ by_dte (asks (Calls (49 ∷ []) (50 ∷ []) [] usual)) ∷ by_dce HandsUp ∷ []
 
 row_names_dte : (after resets_and_clears).near.entries
-    ≡ entry 1 (name 1 0 0) (Asked (Calls (49 ∷ []) (50 ∷ []) [] default_params)) ∷ entry 1 (name 1 0 0) (Told (connected default_params)) ∷ entry 1 (name 1 0 0) (Asked Resets) ∷ entry 1 (name 1 0 0) (Asked Clears)
-    ∷ entry 1 (name 1 1 0) (Told clear_done) ∷ entry 1 (name 1 1 0) (Asked (Calls (49 ∷ []) (50 ∷ []) [] default_params)) ∷ []
+    ≡ entry 1 (name 1 0 0) (Asked (Calls (49 ∷ []) (50 ∷ []) [] usual)) ∷ entry 1 (name 1 0 0) (Told (connected default_params)) ∷ entry 1 (name 1 0 0) (Asked Resets) ∷ entry 1 (name 1 0 0) (Asked Clears)
+    ∷ entry 1 (name 1 1 0) (Told clear_done) ∷ entry 1 (name 1 1 0) (Asked (Calls (49 ∷ []) (50 ∷ []) [] usual)) ∷ []
 unfolding facilities_of
 row_names_dte = refl
 
 row_names_dce : (after resets_and_clears).far.entries
-    ≡ entry 1 (name 1 0 0) (Told (incoming digits_12)) ∷ entry 1 (name 1 0 0) (Asked (Accepts (Some default_params))) ∷ entry 1 (name 1 0 1) (Told (was_reset 0 0)) ∷ entry 1 (name 1 1 0) (Told (cleared 0 0))
+    ≡ entry 1 (name 1 0 0) (Told (incoming digits_12)) ∷ entry 1 (name 1 0 0) (Asked (Accepts (Some usual))) ∷ entry 1 (name 1 0 1) (Told (was_reset 0 0)) ∷ entry 1 (name 1 1 0) (Told (cleared 0 0))
     ∷ entry 1 (name 1 1 0) (Told (incoming digits_12)) ∷ []
 unfolding facilities_of
 row_names_dce = refl
@@ -108,7 +112,7 @@ abbrev answered : Params
 answered = record { size_called = 7; size_calling = 7; win_called = 2; win_calling = 3 }
 
 abbrev negotiates : List Event
-negotiates = restarts ++ by_dte (asks (Calls (49 ∷ []) (50 ∷ []) [] proposed)) ∷ by_dce HandsUp ∷ by_dce (asks (Accepts (Some answered))) ∷ by_dte HandsUp ∷ []
+negotiates = restarts ++ by_dte (asks (Calls (49 ∷ []) (50 ∷ []) [] (in_brief proposed))) ∷ by_dce HandsUp ∷ by_dce (asks (Accepts (Some (in_brief answered)))) ∷ by_dte HandsUp ∷ []
 
 row_proposed : (after negotiates).near.given ≡ restart 0 0 ∷ call 1 (1 ∷ []) (2 ∷ []) (66 ∷ 7 ∷ 8 ∷ 67 ∷ 3 ∷ 3 ∷ []) [] ∷ []
 unfolding facilities_of
@@ -119,11 +123,11 @@ unfolding facilities_of
 row_answered = refl
 
 row_in_force_there : (after negotiates).far.entries
-    ≡ entry 1 (name 1 0 0) (Told (incoming (record { called = 1 ∷ []; calling = 2 ∷ []; user = []; params = proposed }))) ∷ entry 1 (name 1 0 0) (Asked (Accepts (Some answered))) ∷ []
+    ≡ entry 1 (name 1 0 0) (Told (incoming (record { called = 1 ∷ []; calling = 2 ∷ []; user = []; params = proposed }))) ∷ entry 1 (name 1 0 0) (Asked (Accepts (Some (in_brief answered)))) ∷ []
 unfolding facilities_of
 row_in_force_there = refl
 
-row_in_force : (after negotiates).near.entries ≡ entry 1 (name 1 0 0) (Asked (Calls (49 ∷ []) (50 ∷ []) [] proposed)) ∷ entry 1 (name 1 0 0) (Told (connected answered)) ∷ []
+row_in_force : (after negotiates).near.entries ≡ entry 1 (name 1 0 0) (Asked (Calls (49 ∷ []) (50 ∷ []) [] (in_brief proposed))) ∷ entry 1 (name 1 0 0) (Told (connected answered)) ∷ []
 unfolding facilities_of
 row_in_force = refl
 
@@ -159,7 +163,7 @@ row_full_send = refl
 row_state : calls (link_with true 255) one (is_ready 1 (λ k. begun)) (Asks 1 Clears) ≡ Refuses (error.Circuit circuit.WrongState)
 row_state = refl
 
-row_no_free : calls (link_with true 256) one (is_ready 1 (λ k. entered begun Calling default_params true)) (Dials [] [] [] default_params) ≡ Refuses error.NoFreeChannel
+row_no_free : calls (link_with true 256) one (is_ready 1 (λ k. entered begun Calling default_params true)) (Dials [] [] [] usual) ≡ Refuses error.NoFreeChannel
 row_no_free = refl
 
 row_restart_full : calls (link_with true 256) one (is_ready 1 (λ k. begun)) Restarts ≡ Refuses error.QueueFull

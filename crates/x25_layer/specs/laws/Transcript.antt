@@ -55,8 +55,8 @@ told_by_all [] = nothing_handed
 told_by_all (notice ∷ notices) = added (told_by notice) (told_by_all notices)
 
 abbrev pub asked_by : Request → Handed
-asked_by (Calls called calling user params) = record {
-  made = request_of called calling user params ∷ [];
+asked_by (Calls called calling user proposal) = record {
+  made = request_of called calling user proposal.params ∷ [];
   indicated = [];
   down = [];
   up = [];

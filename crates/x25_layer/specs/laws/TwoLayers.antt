@@ -6,6 +6,7 @@ use Rattle.std.specs.Prelude.{if◌then◌else◌}
 use Rattle.x25_bits.specs.declared.role.Role.{Role}
 use Rattle.x25_bits.specs.declared.role.Role.TheVariants.{Dte, Dce}
 use Rattle.x25_packet.specs.Packet.{PlainPacket}
+use Rattle.x25_circuit.specs.Params.{in_brief}
 use Rattle.x25_circuit.specs.Circuit.{Circuit}
 use Rattle.x25_circuit.specs.Calling.{Request, Calls, Accepts}
 use Rattle.x25_layer.specs.Layer.{LayerSettings, Layer, LayerNotice, on_channel, LayerAnswer, is_channel, layer_answers}
@@ -33,9 +34,11 @@ pub record TwoLayers : Type 0 where
 
 -- ---- entries: each stands under the name after the step
 
--- an acceptance is entered with the packet sizes and windows in force, by the circuit after it
+-- a call is entered with what it proposes, and an acceptance with the packet sizes and windows in force, by the circuit
+-- after it
 abbrev pub shown : Circuit → Request → Request
-shown x (Accepts answer) = Accepts (Some x.params)
+shown x (Calls called calling user proposal) = Calls called calling user (in_brief proposal.params)
+shown x (Accepts answer) = Accepts (Some (in_brief x.params))
 shown x request = request
 
 abbrev pub entry_of_request : Layer → ℕ → Request → List Entry
@@ -53,8 +56,8 @@ entry_of_dial l (Some h) request = entry_of_request l h request
 -- of an accepted call, by the layer before and after it
 abbrev pub entries_asked : LayerSettings → Layer → Layer → LayerRequest → List Entry
 entries_asked c l next (Asks h request) = entry_of_request next h request
-entries_asked c l next (Dials called calling user params) = entry_of_dial next
-    (free_channel c.circuit.role l.circuits c.channels) (Calls called calling user params)
+entries_asked c l next (Dials called calling user proposal) = entry_of_dial next
+    (free_channel c.circuit.role l.circuits c.channels) (Calls called calling user proposal)
 entries_asked c l next Restarts = []
 entries_asked c l next PullsAll = []
 

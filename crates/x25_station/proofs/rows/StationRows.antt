@@ -12,7 +12,7 @@ use Rattle.x25_link.specs.Hearing.{Step as LinkStep}
 use Rattle.x25_link.specs.Link.{alone, goes_up}
 use Rattle.x25_circuit.specs.declared.state.State.TheVariants.{Open}
 use Rattle.x25_circuit.specs.Message.{Last}
-use Rattle.x25_circuit.specs.Params.{default_params}
+use Rattle.x25_circuit.specs.Params.{default_params, in_brief}
 use Rattle.x25_circuit.specs.Circuit.{silent, begun}
 use Rattle.x25_circuit.specs.Calling.{Calls, Sends}
 use Rattle.x25_handshakes.specs.laws.Names.{Name}
@@ -29,7 +29,7 @@ use Rattle.x25_station.specs.Step.{Outcome, Did, Refused, follows, connects, fir
 use Rattle.x25_station.specs.Station.Told.{is_idle, stretch}
 
 abbrev dte : Settings
-dte = record { role = Dte; window = 7; retries = 10; channels = 1; long_data = false }
+dte = record { role = Dte; window = 7; retries = 10; channels = 1; long_data = false; say_sizes = false }
 
 abbrev frames_in : Outcome → List PlainFrame
 frames_in (Did step) = step.out
@@ -97,11 +97,11 @@ ready = record { link = fresh; layer = layer.is_ready 1 (λ k. begun) }
 abbrev name_1 : Name
 name_1 = record { restarts = 1; clears = 0; resets = 0 }
 
-row_call : frames_in (commands dte ready (Requests (Dials (49 ∷ []) (50 ∷ []) (65 ∷ []) default_params))) ≡ info 0 0 false (16 ∷ 1 ∷ 11 ∷ 17 ∷ 18 ∷ 0 ∷ 65 ∷ []) ∷ []
+row_call : frames_in (commands dte ready (Requests (Dials (49 ∷ []) (50 ∷ []) (65 ∷ []) (in_brief default_params)))) ≡ info 0 0 false (16 ∷ 1 ∷ 11 ∷ 17 ∷ 18 ∷ 0 ∷ 65 ∷ []) ∷ []
 unfolding pumped packed
 row_call = refl
 
-row_call_entry : entries_in (commands dte ready (Requests (Dials (49 ∷ []) (50 ∷ []) (65 ∷ []) default_params))) ≡ of_channel (record { channel = 1; name = name_1; said = Asked (Calls (49 ∷ []) (50 ∷ []) (65 ∷ []) default_params) }) ∷ []
+row_call_entry : entries_in (commands dte ready (Requests (Dials (49 ∷ []) (50 ∷ []) (65 ∷ []) (in_brief default_params)))) ≡ of_channel (record { channel = 1; name = name_1; said = Asked (Calls (49 ∷ []) (50 ∷ []) (65 ∷ []) (in_brief default_params)) }) ∷ []
 unfolding pumped packed
 row_call_entry = refl
 

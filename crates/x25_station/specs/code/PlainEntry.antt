@@ -1,5 +1,6 @@
 -- Which entry of the definition an entry of the code is.
 use Rattle.std.specs.Prelude.{string_bytes, Some}
+use Rattle.x25_circuit.specs.Params.{in_brief}
 use Rattle.x25_circuit.specs.Notice.{PlainNotice, incoming, connected, collided, cleared, clear_done, was_reset}
 use Rattle.x25_circuit.specs.Notice.{reset_done, delivered, interrupted, interrupt_done, fault}
 use Rattle.x25_circuit.specs.Calling.{Request, Calls, Accepts, Clears, Sends, Interrupts, Resets, SaysReady}
@@ -23,8 +24,8 @@ plain_name s = record { restarts = s.restarts; clears = s.clears; resets = s.res
 
 abbrev pub plain_asked : Asked → Request
 plain_asked (asked.Call called calling user params) = Calls (string_bytes called)
-    (string_bytes calling) user.items params
-plain_asked (asked.Accept params) = Accepts (Some params)
+    (string_bytes calling) user.items (in_brief params)
+plain_asked (asked.Accept params) = Accepts (Some (in_brief params))
 plain_asked asked.Clear = Clears
 plain_asked (asked.Send q user) = Sends q user.items
 plain_asked (asked.Interrupt user) = Interrupts user.items

@@ -4,10 +4,11 @@ use Rattle.std.specs.Prelude.{◌≡◌, ℕ, ◌≤◌, false, List}
 use Rattle.x25_link.specs.Outgoing.{waits}
 use Rattle.x25_link.specs.Station.{is_up}
 use Rattle.x25_layer.specs.Layer.{rested}
+use Rattle.x25_layer.specs.Calls.{LayerRequest}
 use Rattle.x25_station.specs.Config.{Settings}
 use Rattle.x25_station.specs.Command.{Command}
 use Rattle.x25_station.specs.Station.{Station}
-use Rattle.x25_station.specs.Step.{Outcome, Did, Refused, connects, fires, receives, commands}
+use Rattle.x25_station.specs.Step.{Outcome, Did, Refused, connects, fires, receives, requests, commands}
 
 pub record IsKept (s : Station) : Type 0 where
   pub few : waits s.link.outgoing ≤ 256
@@ -23,6 +24,9 @@ ConnectKeeps = (c : Settings) (s : Station) → IsKept s → KeptBy (connects c 
 
 abbrev pub TimerKeeps : Type 0
 TimerKeeps = (c : Settings) (s : Station) → IsKept s → KeptBy (fires c s)
+
+abbrev pub RequestKeeps : Type 0
+RequestKeeps = (c : Settings) (s : Station) (request : LayerRequest) → IsKept s → KeptBy (requests c s request)
 
 abbrev pub CommandKeeps : Type 0
 CommandKeeps = (c : Settings) (s : Station) (command : Command) → IsKept s → KeptBy (commands c s command)

@@ -26,14 +26,14 @@ AreReadable long_data (packet ∷ packets) = IsReadable long_data packet × AreR
 -- ---- what users hand down is octets
 
 abbrev pub AsksOctets : Request → Type 0
-AsksOctets (Calls called calling user params) = AreOctets user
+AsksOctets (Calls called calling user proposal) = AreOctets user
 AsksOctets (Sends q user) = AreOctets user
 AsksOctets (Interrupts user) = AreOctets user
 AsksOctets request = Unit {0}
 
 abbrev pub RequestsOctets : LayerRequest → Type 0
 RequestsOctets (Asks h request) = AsksOctets request
-RequestsOctets (Dials called calling user params) = AreOctets user
+RequestsOctets (Dials called calling user proposal) = AreOctets user
 RequestsOctets Restarts = Unit {0}
 RequestsOctets PullsAll = Unit {0}
 

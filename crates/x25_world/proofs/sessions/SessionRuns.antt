@@ -51,12 +51,26 @@ one_up : (end : Role) (transcript : List AtEnd) → transcript ≡ record { at =
 one_up Dte transcript is = ap (λ (t : List AtEnd). (progress_at Dte t).begun) is
 one_up Dce transcript is = ap (λ (t : List AtEnd). (progress_at Dce t).begun) is
 
+-- what calls and acceptances say changes no octet of the user
+said_octets : (says : Bool) (l : Layer) (request : LayerRequest) → RequestsOctets request → RequestsOctets (said_by says l request)
+said_octets says l (Asks h (Calls called calling user proposal)) octets = octets
+said_octets says l (Asks h (Accepts answer)) octets = octets
+said_octets says l (Asks h Clears) octets = octets
+said_octets says l (Asks h (Sends q user)) octets = octets
+said_octets says l (Asks h (Interrupts user)) octets = octets
+said_octets says l (Asks h Resets) octets = octets
+said_octets says l (Asks h SaysReady) octets = octets
+said_octets says l (Asks h SaysNotReady) octets = octets
+said_octets says l (Dials called calling user proposal) octets = octets
+said_octets says l Restarts octets = octets
+said_octets says l PullsAll octets = octets
+
 -- ---- acts and events
 
 module _ (laws : SessionLaws) (cfg : Cfg) (fine : IsConfigured cfg) where
   acts_joined : {since : Beginning} (end : Role) (w : World) → SessionsJoined since cfg end w → (act : Act) → IsAt since end act → ActsInOctets act
       → (since ≡ set_up false → IsNoConnect act (refusal_of (acts (settings_from end cfg) w act))) → SessionsJoined since cfg end (after w (acts (settings_from end cfg) w act))
-  acts_joined end w h (Commands (Requests request)) is_at octets none = requests_joined laws cfg fine end w h request is_at octets
+  acts_joined end w h (Commands (Requests request)) is_at octets none = requests_joined laws cfg fine end w h (said_by cfg.say_sizes w.near.layer request) is_at (said_octets cfg.say_sizes w.near.layer request octets)
   acts_joined end w h (Commands Connects) is_at octets none = connects_joined laws cfg fine end w h is_at none
   acts_joined end w h (Commands Disconnects) is_at octets none = disconnects_joined laws cfg fine end w h is_at
   acts_joined end w h Receives is_at octets none = receives_joined laws cfg fine end w h is_at

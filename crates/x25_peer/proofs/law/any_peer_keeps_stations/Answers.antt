@@ -9,7 +9,7 @@ known c = record {
   receive = c.steps_are_joined.ensures.receive;
   still = c.steps_are_joined.ensures.quiet;
   timer = c.steps_keep_bounds.ensures.timer;
-  command = c.steps_keep_bounds.ensures.command;
+  command = c.steps_keep_bounds.ensures.request;
   takes = c.steps_keep_bounds.ensures.receive;
 }
 

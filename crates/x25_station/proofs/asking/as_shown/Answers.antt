@@ -1,4 +1,5 @@
 use Rattle.std.proofs.Common.{Some, ap, sym, ◌∙◌}
+use Rattle.x25_circuit.specs.Params.{in_brief}
 use Rattle.x25_circuit.specs.Calling.{Accepts}
 use Rattle.x25_layer.specs.laws.TwoLayers.{shown}
 use Rattle.x25_station.specs.code.PlainEntry.{plain_asked}
@@ -8,7 +9,7 @@ use Rattle.x25_station.proofs.asking.as_shown.Goals as goal
 pub returns-in-Accept : goal.returns-in-Accept
 returns-in-Accept c = λ c' l fits configured.
     let x = l.circuits c.args.channel in
-    ap (λ q. Accepts (Some q)) (c.unwrap_or.ensures ∙ in_force _ _ x.params _ configured (c.params.ensures c' l fits))
+    ap (λ q. Accepts (Some (in_brief q))) (c.unwrap_or.ensures ∙ in_force _ _ x.params _ configured (c.params.ensures c' l fits))
     ∙ ap (λ a. shown x (plain_asked a)) (sym c.in-Accept.is)
 
 pub returns-in_default : goal.returns-in_default

@@ -1,5 +1,4 @@
 use Rattle.std.proofs.Common.{◌≡◌, Option, IfSome, true, sym, refl, subst, ap, None, Some, Err, false, ◌∙◌, lit≤}
-use Rattle.std.specs.Prelude.{unwrap_or}
 use Rattle.std.proofs.lemmas.Result.{err_from_is_err_and}
 use denote.Ref.{Bor}
 use Rattle.x25_packet.specs.Facilities.{IsFacilityField}
@@ -7,8 +6,8 @@ use Rattle.x25_circuit.specs.declared.params.Params.{Params}
 use Rattle.x25_circuit.specs.declared.state.State.TheVariants.{Open}
 use Rattle.x25_circuit.specs.Circuit.{entered}
 use Rattle.x25_circuit.specs.code.FitsCircuit.{FitsCircuit}
-use Rattle.x25_circuit.specs.Request.{plain_answer}
-use Rattle.x25_circuit.specs.Params.{may_answer, may_propose}
+use Rattle.x25_circuit.specs.Request.{plain_answer, params_answered}
+use Rattle.x25_circuit.specs.Params.{Proposal, may_answer, may_propose}
 use Rattle.x25_circuit.proofs.TableLemmas.{accept_at, answer_accepts}
 use Rattle.x25_circuit.proofs.TalkLemmas.{no_field}
 use Rattle.x25_circuit.proofs.ParamsLemmas.{field_is_allowed}
@@ -22,12 +21,12 @@ returns-in_err-flow-clause-outcome c = λ d x fits.
 pub returns-in-Some-clause-outcome : goal.returns-in-Some-clause-outcome
 returns-in-Some-clause-outcome c = λ d x fits.
     let known = c.args.self.now.flow.params in
-    let flow = c.in_ok-flow.ensures.flow ∙ ap (λ (a : Option (Bor Params)). unwrap_or (plain_answer a) known) c.in-Some.is in
-    let may = subst (λ (a : Option (Bor Params)). IfSome (plain_answer a) (λ said. may_answer known said ≡ true)) c.in-Some.is c.in_ok-flow.ensures.may_answer in
+    let flow = c.in_ok-flow.ensures.flow ∙ ap (λ (a : Option (Bor Proposal)). params_answered (plain_answer a) known) c.in-Some.is in
+    let may = subst (λ (a : Option (Bor Proposal)). IfSome (plain_answer a) (λ said. may_answer known said.params ≡ true)) c.in-Some.is c.in_ok-flow.ensures.may_answer in
     rw (
       c.in-Some.is,
       accept_at x x.state (Some c.in-Some.answer.now) (sym fits.state ∙ c.in_ok-flow.ensures.arriving),
-      answer_accepts x c.in-Some.answer.now (ap (λ (p : Params). may_answer p c.in-Some.answer.now) (sym fits.params) ∙ may),
+      answer_accepts x c.in-Some.answer.now (ap (λ (p : Params). may_answer p c.in-Some.answer.now.params) (sym fits.params) ∙ may),
     )
     ((
       subst (λ (p : Params). FitsCircuit d c.enter.new.self (entered x Open p false)) flow (c.enter.ensures.fits d x fits),
@@ -37,7 +36,7 @@ returns-in-Some-clause-outcome c = λ d x fits.
 pub returns-in-Some-clause-range : goal.returns-in-Some-clause-range
 returns-in-Some-clause-range c =
     let known = c.args.self.now.flow.params in
-    let flow = c.in_ok-flow.ensures.flow ∙ ap (λ (a : Option (Bor Params)). unwrap_or (plain_answer a) known) c.in-Some.is in (
+    let flow = c.in_ok-flow.ensures.flow ∙ ap (λ (a : Option (Bor Proposal)). params_answered (plain_answer a) known) c.in-Some.is in (
       (lit≤ tt, lit≤ tt),
       subst IsFacilityField (sym c.field_for.ensures)
           (field_is_allowed known c.in-Some.answer.now (subst (λ (p : Params). may_propose p ≡ true) flow c.in_ok-flow.flow.allowed)),
@@ -48,6 +47,6 @@ returns-in-None-clause-range c = ((lit≤ tt, lit≤ tt), no_field)
 
 pub returns-in-None-clause-outcome : goal.returns-in-None-clause-outcome
 returns-in-None-clause-outcome c = λ d x fits.
-    let flow = c.in_ok-flow.ensures.flow ∙ ap (λ (a : Option (Bor Params)). unwrap_or (plain_answer a) c.args.self.now.flow.params) c.in-None.is ∙ fits.params in
+    let flow = c.in_ok-flow.ensures.flow ∙ ap (λ (a : Option (Bor Proposal)). params_answered (plain_answer a) c.args.self.now.flow.params) c.in-None.is ∙ fits.params in
     rw (c.in-None.is, accept_at x x.state None (sym fits.state ∙ c.in_ok-flow.ensures.arriving))
     ((subst (λ (p : Params). FitsCircuit d c.enter.new.self (entered x Open p false)) flow (c.enter.ensures.fits d x fits), refl))

@@ -20,7 +20,7 @@ returns-clause-range c =
 pub returns-clause-outcome : goal.returns-clause-outcome
 returns-clause-outcome c = λ d x fits.
     let said = c.in_ok-fields.ensures in
-    let may = subst (λ (b : Bool). may_call b c.args.called.now c.args.calling.now c.args.user.now c.args.proposal.now ≡ true) fits.long_data
+    let may = subst (λ (b : Bool). may_call b c.args.called.now c.args.calling.now c.args.user.now c.args.proposal.now.params ≡ true) fits.long_data
     (subst (λ (p : Params). may_call c.args.self.now.long_data c.args.called.now c.args.calling.now c.args.user.now p ≡ true) c.params.ensures said.may_call) in
     rw (call_at d x x.state c.args.called.now c.args.calling.now c.args.user.now c.args.proposal.now (sym fits.state ∙ said.free), may)
     ((

@@ -1,5 +1,16 @@
-use Rattle.std.proofs.Common.{inl, inr, true, false}
+use Rattle.std.proofs.Common.{◌≡◌, inl, inr, true, false, subst}
+use Rattle.std.specs.Result.{result_err}
+use Rattle.x25_circuit.specs.declared.params.Params.{Params}
+use Rattle.x25_circuit.specs.Calling.{call_in}
+use Rattle.x25_circuit.specs.Request.{refusal_of}
 use Rattle.x25_circuit.proofs.circuit.Circuit.refusal.Goals as goal
+
+pub returns-in-Call : goal.returns-in-Call
+returns-in-Call c = λ d x fits.
+    let said = c.in-Call.proposal.now in
+    rw (c.in-Call.is, c.err.ensures.value)
+    (subst (λ (p : Params). result_err c.call_fields.result ≡ refusal_of (call_in d x x.state c.in-Call.called.now c.in-Call.calling.now c.in-Call.user.now (record { params = p; says_all = said.says_all })))
+    c.params.ensures (c.call_fields.ensures.refusal d x said.says_all fits))
 
 pub returns-in-Accept : goal.returns-in-Accept
 returns-in-Accept c = λ d x fits. rw (c.in-Accept.is, c.err-in-Accept.ensures.value) (c.accepted.ensures.refusal d x fits)

@@ -1,6 +1,5 @@
 use Rattle.std.proofs.Common.{rules, ◌≡◌, ℕ, ◌∙◌, Some, Err, sym, subst, true, false, arith}
 use Rattle.std.proofs.lemmas.Result.{err_from_is_err_and}
-use Rattle.x25_circuit.specs.declared.params.Params.{Params}
 use Rattle.x25_circuit.specs.Calling.{Calls, outcome}
 use Rattle.x25_layer.specs.Calls.{Dials, free_channel, outcome_on}
 use Rattle.x25_layer.specs.code.OverLink.{view_of, LayerGives, LinkGives}
@@ -10,7 +9,7 @@ use Rattle.x25_layer.proofs.layer.Layer.call.Goals as goal
 
 pub returns-in-Some-clause-does : goal.returns-in-Some-clause-does
 returns-in-Some-clause-does g c = refuses_all _ g.L.OrderedLink c.args.self.now c.args.link.now c.in-Some.error 16 _ _ c.in-Some.ensures.kinds
-    (λ s l x fits link. c.in-Some.ensures.refused s l x (Dials c.args.called.now c.args.calling.now c.args.user.now c.args.params) fits link)
+    (λ s l x fits link. c.in-Some.ensures.refused s l x (Dials c.args.called.now c.args.calling.now c.args.user.now c.args.proposal.now) fits link)
 
 pub returns-in_err-ask_ready-clause-does : goal.returns-in_err-ask_ready-clause-does
 returns-in_err-ask_ready-clause-does g c = record {
@@ -24,10 +23,9 @@ returns-in_err-ask_ready-clause-does g c = record {
       let at_l : l.restarting ≡ false = sym fits.restarting ∙ c.in_default.ensures.ready in
       let is : free_channel s.circuit.role l.circuits s.channels ≡ Some c.in-Some-free_channel.channel = sym (c.in-Some-free_channel.ensures.value s l fits) in
       let free : g.L.OrderedLink.waits_in x ≡ 256 → ⊥ = λ full. grind (arith, full, waits_law, c.waiting.ensures.value, c.if-waiting-eq256.false) in
-      rw (p.1, p.2) (subst (λ (a : Answered). LayerGives {T = ℕ} s c.ask_ready.new.self (Err e) a) (sym (dial_goes view s l c.args.called.now c.args.calling.now c.args.user.now c.args.params c.in-Some-free_channel.channel up at_l is free))
+      rw (p.1, p.2) (subst (λ (a : Answered). LayerGives {T = ℕ} s c.ask_ready.new.self (Err e) a) (sym (dial_goes view s l c.args.called.now c.args.calling.now c.args.user.now c.args.proposal.now c.in-Some-free_channel.channel up at_l is free))
       (dial_err_layer s c.ask_ready.new.self e _
-      (subst (λ (p : Params). LayerGives {T = Unit {0}} s c.ask_ready.new.self (Err e) (went view s (outcome_on l.restarts l.circuits c.in-Some-free_channel.channel (outcome s.circuit (l.circuits c.in-Some-free_channel.channel) (Calls c.args.called.now c.args.calling.now c.args.user.now p)))))
-      c.new-proposal.ensures (c.in_err-ask_ready.ensures.layer s l x fits link))));
+      (c.in_err-ask_ready.ensures.layer s l x fits link)));
   link = λ s l x fits link.
       let p = err_from_is_err_and c.from_residual.result c.from_residual.ensures.1 in
       let e = c.in_err-ask_ready.field-0.0 in
@@ -39,10 +37,9 @@ returns-in_err-ask_ready-clause-does g c = record {
       let is : free_channel s.circuit.role l.circuits s.channels ≡ Some c.in-Some-free_channel.channel = sym (c.in-Some-free_channel.ensures.value s l fits) in
       let free : g.L.OrderedLink.waits_in x ≡ 256 → ⊥ = λ full. grind (arith, full, waits_law, c.waiting.ensures.value, c.if-waiting-eq256.false) in
       rw (p.1, p.2) (subst (λ (a : Answered). LinkGives {T = ℕ} (g.L.OrderedLink.fits c.ask_ready.new.link) g.L.OrderedLink.after_put x (Err e) a)
-      (sym (dial_goes view s l c.args.called.now c.args.calling.now c.args.user.now c.args.params c.in-Some-free_channel.channel up at_l is free))
+      (sym (dial_goes view s l c.args.called.now c.args.calling.now c.args.user.now c.args.proposal.now c.in-Some-free_channel.channel up at_l is free))
       (dial_err_link (g.L.OrderedLink.fits c.ask_ready.new.link) g.L.OrderedLink.after_put x e _
-      (subst (λ (p : Params). LinkGives {T = Unit {0}} (g.L.OrderedLink.fits c.ask_ready.new.link) g.L.OrderedLink.after_put x (Err e) (went view s (outcome_on l.restarts l.circuits c.in-Some-free_channel.channel (outcome s.circuit (l.circuits c.in-Some-free_channel.channel) (Calls c.args.called.now c.args.calling.now c.args.user.now p)))))
-      c.new-proposal.ensures (c.in_err-ask_ready.ensures.link s l x fits link))));
+      (c.in_err-ask_ready.ensures.link s l x fits link)));
   layer_stays = search rules;
   link_stays = search rules;
   longest = search rules;

@@ -19,7 +19,7 @@ invariant_of-self c = record {
       let step : Step = receives c' s c.args.octets.now in (
         c',
         step.near,
-        fits_down c' _ _ s.layer k step _ (ap (λ (x : Step). x.near) (gives_up c' s c.args.octets.now (c.requires.full c' s fits)))
+        fits_down c' fits.same _ _ s.layer k step _ (ap (λ (x : Step). x.near) (gives_up c' s c.args.octets.now (c.requires.full c' s fits)))
             (ap (λ n. n.down) (c.abandon-heard.ensures.heard (link_settings c') s.link fits.link).notes)
             (taken_link (link_settings c') c.abandon-heard.new.self c.swap_frames.new.self k.side.near c.swap_frames.ensures.station (c.abandon-heard.ensures.state (link_settings c') s.link fits.link))
             (c.note_down.ensures.layer (layer_settings c') s.layer fits.layer)
@@ -39,7 +39,7 @@ returns-clause-does c = record {
   state = λ c' s fits.
       let k : LinkStep = abandon_step (link_settings c') s.link in
       let step : Step = receives c' s c.args.octets.now in
-      fits_down c' _ _ s.layer k step _ (ap (λ (x : Step). x.near) (gives_up c' s c.args.octets.now (c.requires.full c' s fits)))
+      fits_down c' fits.same _ _ s.layer k step _ (ap (λ (x : Step). x.near) (gives_up c' s c.args.octets.now (c.requires.full c' s fits)))
       (ap (λ n. n.down) (c.abandon-heard.ensures.heard (link_settings c') s.link fits.link).notes)
       (taken_link (link_settings c') c.abandon-heard.new.self c.swap_frames.new.self k.side.near c.swap_frames.ensures.station (c.abandon-heard.ensures.state (link_settings c') s.link fits.link))
       (c.note_down.ensures.layer (layer_settings c') s.layer fits.layer)

@@ -1,10 +1,9 @@
-use Rattle.std.proofs.Common.{arith, [], ◌∷◌, ◌++◌, ap, ◌∙◌, length, map, ◌≡◌}
+use Rattle.std.proofs.Common.{refl, arith, [], ◌∷◌, ◌++◌, ap, ◌∙◌, length, map, ◌≡◌}
 use Rattle.x25_circuit.specs.Request.{plain_request}
 use Rattle.x25_layer.specs.Calls.{Asks}
 use Rattle.x25_layer.specs.laws.Transcript.{Asked, name_of}
 use Rattle.x25_station.specs.declared.entry.Said.TheVariants as said
 use Rattle.x25_station.specs.declared.step.Step as code_step
-use Rattle.x25_station.specs.Command.{Requests}
 use Rattle.x25_station.specs.Entry.{of_channel}
 use Rattle.x25_station.specs.code.PlainEntry.{plain_entry, plain_said}
 use Rattle.x25_station.specs.Config.{layer_settings}
@@ -31,7 +30,7 @@ invariant_of-self-in-Ok c = record {
       let request = Asks c.args.channel (plain_request c.args.request) in
       let a = answers c.in-Ok.field-0 c' _ c.ask.new.link c.swap_frames.new.self _ c.ask.new.self (record { frames = c.swap_frames.new.frames; entries = c.enter.new.entries; timer = c.make_room.new.self.timer }) s request fits
       c.in-Ok.ensures.layer c.in-Ok.ensures.link c.swap_frames.ensures.station (ap (λ o. o.made) c.swap_frames.ensures.outbox ∙ ap (map (λ frame. frame.items)) c.make_room.ensures.empty.frames) c.swap_frames.ensures.frames
-      (c.steps_keep_bounds.ensures.command c' s (Requests request) fits.kept) in
+      (c.steps_keep_bounds.ensures.request c' s request fits.kept) in
       leaves_some c' _ _ (requests c' s request) a.state a.refused);
   aside =
       let before = c.args.self.now.aside in
@@ -59,14 +58,14 @@ returns-in-Ok c =
     let request = Asks c.args.channel (plain_request c.args.request) in
     let r : code_step.Step = record { frames = c.swap_frames.new.frames; entries = c.enter.new.entries; timer = c.make_room.new.self.timer } in
     did_request c.in-Ok.field-0 c.args.self.now _ c.ask.new.link r request c.in-Ok.ensures.layer c.in-Ok.ensures.link c.swap_frames.ensures.station (ap (λ o. o.made) c.swap_frames.ensures.outbox ∙ ap (map (λ frame. frame.items)) c.make_room.ensures.empty.frames) c.swap_frames.ensures.frames
-    c.steps_keep_bounds.ensures.command c.holds_few.ensures.window c.holds_few.ensures.stand
+    c.steps_keep_bounds.ensures.request c.holds_few.ensures.window c.holds_few.ensures.stand
     (λ c' s fits.
     let h = c.args.channel in
     asked_enters c.in-Ok.field-0 c' _ _ c.ask.new.self s r h (plain_request c.args.request) fits c.in-Ok.ensures.layer (λ k after configured.
     c.enter.ensures.entered (layer_settings c') k after configured
     ∙ ap (λ es. map plain_entry es ++ of_channel (record { channel = h; name = name_of k h; said = plain_said (said.Asked c.as_shown-asked.result) }) ∷ []) c.make_room.ensures.empty.entries
     ∙ ap (λ q. of_channel (record { channel = h; name = name_of k h; said = Asked q }) ∷ []) (c.as_shown-asked.ensures (layer_settings c') k after configured ∙ c.in_ok-asked.ensures.ok (k.circuits h))))
-    (grind (arith, c.enter.ensures.length, ap length c.make_room.ensures.empty.entries, c.make_room.new.self.entries.ok))
+    (grind (arith, c.enter.ensures.length, ap length c.make_room.ensures.empty.entries, c.make_room.new.self.entries.ok)) refl
 
 pub returns-in-Err : goal.returns-in-Err
-returns-in-Err c = declines_request _ c.in-Err.error _ c.args.self.now _ _ (Asks c.args.channel (plain_request c.args.request)) c.of_layer.ensures c.in-Err.ensures.layer c.in-Err.ensures.layer_stays c.in-Err.ensures.link_stays c.make_room.ensures.empty
+returns-in-Err c = declines_request _ c.in-Err.error _ c.args.self.now _ _ (Asks c.args.channel (plain_request c.args.request)) c.of_layer.ensures c.in-Err.ensures.layer c.in-Err.ensures.layer_stays c.in-Err.ensures.link_stays c.make_room.ensures.empty refl

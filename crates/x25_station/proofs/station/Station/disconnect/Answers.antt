@@ -22,7 +22,7 @@ invariant_of-self c = record {
       let k = disconnect_step (link_settings c') s.link in
       let step : Step = led_by (disconnect_asked ∷ []) (follows c' s.layer k) in
       leaves_some c' _ _ (unless (disconnect_refusal s.link.phase) step)
-      (leaves_down c' _ _ (disconnect_refusal s.link.phase) s.layer k step _ (ap (λ (x : Step). x.near) (disconnect_down c' s.layer s.link))
+      (leaves_down c' fits.same _ _ (disconnect_refusal s.link.phase) s.layer k step _ (ap (λ (x : Step). x.near) (disconnect_down c' s.layer s.link))
       (ap (λ n. n.down) (c.in-Ok.ensures.heard (link_settings c') s.link fits.link).notes)
       (taken_link (link_settings c') c.disconnect.new.self c.swap_frames.new.self k.side.near c.swap_frames.ensures.station (c.in-Ok.ensures.state (link_settings c') s.link fits.link))
       (c.note_down.ensures.layer (layer_settings c') s.layer fits.layer)
@@ -38,14 +38,14 @@ invariant_of-self c = record {
 }
 
 pub invariant_of-self-in-Err-1 : goal.invariant_of-self-in-Err-1
-invariant_of-self-in-Err-1 c = record { meant = subst (λ l. AreMeant l c.args.self.now.layer) (sym c.in-Err.ensures.err) c.args.self.now.meant; aside = subst (λ l. IsFewAside l c.args.self.now.layer c.args.self.now.texts) (sym c.in-Err.ensures.err) c.args.self.now.aside }
+invariant_of-self-in-Err-1 c = record { meant = subst (λ l. AreMeant c.args.self.now.say_sizes l c.args.self.now.layer) (sym c.in-Err.ensures.err) c.args.self.now.meant; aside = subst (λ l. IsFewAside l c.args.self.now.layer c.args.self.now.texts) (sym c.in-Err.ensures.err) c.args.self.now.aside }
 
 pub returns-in-Ok : goal.returns-in-Ok
 returns-in-Ok c = record {
   state = λ c' s fits.
       let k = disconnect_step (link_settings c') s.link in
       let step : Step = led_by (disconnect_asked ∷ []) (follows c' s.layer k) in
-      leaves_down c' _ _ (disconnect_refusal s.link.phase) s.layer k step _ (ap (λ (x : Step). x.near) (disconnect_down c' s.layer s.link))
+      leaves_down c' fits.same _ _ (disconnect_refusal s.link.phase) s.layer k step _ (ap (λ (x : Step). x.near) (disconnect_down c' s.layer s.link))
       (ap (λ n. n.down) (c.in-Ok.ensures.heard (link_settings c') s.link fits.link).notes)
       (taken_link (link_settings c') c.disconnect.new.self c.swap_frames.new.self k.side.near c.swap_frames.ensures.station (c.in-Ok.ensures.state (link_settings c') s.link fits.link))
       (c.note_down.ensures.layer (layer_settings c') s.layer fits.layer)
@@ -79,5 +79,5 @@ returns-in-Err c = declines c.args.self.now _ _ _ disconnects (λ c' s fits.
     let step : Step = led_by (disconnect_asked ∷ []) (follows c' s.layer (disconnect_step (link_settings c') s.link)) in
     refused Heard Unit c.in-Err.error _ (disconnect_refusal s.link.phase) step (disconnect_named s.link.phase) c.of_link.ensures
     (c.in-Err.ensures.refused (link_settings c') s.link fits.link))
-    (λ c' s fits. subst (λ l. FitsParts c' l c.args.self.now.layer s) (sym c.in-Err.ensures.err) fits)
+    (λ c' s fits. subst (λ l. FitsParts c' c.args.self.now.say_sizes l c.args.self.now.layer s) (sym c.in-Err.ensures.err) fits)
     (record { frames = c.requires.frames; entries = c.reserve.ensures.items ∙ c.requires.entries })

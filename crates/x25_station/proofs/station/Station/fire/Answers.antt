@@ -20,7 +20,7 @@ invariant_of-self c = record {
       let k = timer_step (link_settings c') s.link in
       let step : Step = follows c' s.layer k in
       leaves_some c' _ _ (unless (timer_refusal s.link) step)
-      (leaves_down c' _ _ (timer_refusal s.link) s.layer k step _ (ap (λ (x : Step). x.near) (timer_down c' s.layer s.link))
+      (leaves_down c' fits.same _ _ (timer_refusal s.link) s.layer k step _ (ap (λ (x : Step). x.near) (timer_down c' s.layer s.link))
       (ap (λ n. n.down) (c.in-Ok.ensures.heard (link_settings c') s.link fits.link).notes)
       (taken_link (link_settings c') c.t1.new.self c.swap_frames.new.self k.side.near c.swap_frames.ensures.station (c.in-Ok.ensures.state (link_settings c') s.link fits.link))
       (c.note_down.ensures.layer (layer_settings c') s.layer fits.layer)
@@ -36,14 +36,14 @@ invariant_of-self c = record {
 }
 
 pub invariant_of-self-in-Err-1 : goal.invariant_of-self-in-Err-1
-invariant_of-self-in-Err-1 c = record { meant = subst (λ l. AreMeant l c.args.self.now.layer) (sym c.in-Err.ensures.err) c.args.self.now.meant; aside = subst (λ l. IsFewAside l c.args.self.now.layer c.args.self.now.texts) (sym c.in-Err.ensures.err) c.args.self.now.aside }
+invariant_of-self-in-Err-1 c = record { meant = subst (λ l. AreMeant c.args.self.now.say_sizes l c.args.self.now.layer) (sym c.in-Err.ensures.err) c.args.self.now.meant; aside = subst (λ l. IsFewAside l c.args.self.now.layer c.args.self.now.texts) (sym c.in-Err.ensures.err) c.args.self.now.aside }
 
 pub returns-in-Ok : goal.returns-in-Ok
 returns-in-Ok c = record {
   state = λ c' s fits.
       let k = timer_step (link_settings c') s.link in
       let step : Step = follows c' s.layer k in
-      leaves_down c' _ _ (timer_refusal s.link) s.layer k step _ (ap (λ (x : Step). x.near) (timer_down c' s.layer s.link))
+      leaves_down c' fits.same _ _ (timer_refusal s.link) s.layer k step _ (ap (λ (x : Step). x.near) (timer_down c' s.layer s.link))
       (ap (λ n. n.down) (c.in-Ok.ensures.heard (link_settings c') s.link fits.link).notes)
       (taken_link (link_settings c') c.t1.new.self c.swap_frames.new.self k.side.near c.swap_frames.ensures.station (c.in-Ok.ensures.state (link_settings c') s.link fits.link))
       (c.note_down.ensures.layer (layer_settings c') s.layer fits.layer)
@@ -73,5 +73,5 @@ pub returns-in-Err : goal.returns-in-Err
 returns-in-Err c = declines c.args.self.now _ _ _ fires (λ c' s fits.
     refused Heard Unit c.in-Err.error _ (timer_refusal s.link) (follows c' s.layer (timer_step (link_settings c') s.link)) (timer_named s.link) c.of_link.ensures
     (c.in-Err.ensures.refused (link_settings c') s.link fits.link))
-    (λ c' s fits. subst (λ l. FitsParts c' l c.args.self.now.layer s) (sym c.in-Err.ensures.err) fits)
+    (λ c' s fits. subst (λ l. FitsParts c' c.args.self.now.say_sizes l c.args.self.now.layer s) (sym c.in-Err.ensures.err) fits)
     c.make_room.ensures.empty

@@ -1,8 +1,7 @@
-use Rattle.std.proofs.Common.{arith, [], ◌∷◌, ◌++◌, ap, ◌∙◌, length, map, ◌≡◌}
+use Rattle.std.proofs.Common.{refl, arith, [], ◌∷◌, ◌++◌, ap, ◌∙◌, length, map, ◌≡◌}
 use Rattle.x25_layer.specs.Calls.{Restarts}
 use Rattle.x25_station.specs.declared.entry.Entry.TheVariants.{RestartAsked}
 use Rattle.x25_station.specs.declared.step.Step as code_step
-use Rattle.x25_station.specs.Command.{Requests}
 use Rattle.x25_station.specs.code.PlainEntry.{plain_entry}
 use Rattle.x25_station.specs.Config.{layer_settings}
 use Rattle.x25_station.specs.Step.{requests}
@@ -18,7 +17,7 @@ invariant_of-self c = record {
       let request = Restarts in
       let a = answers c.in-Ok.field-0 c' _ c.restart.new.link c.swap_frames.new.self _ c.restart.new.self (record { frames = c.swap_frames.new.frames; entries = c.push_reserved.new.self; timer = c.make_room.new.self.timer }) s request fits
       c.in-Ok.ensures.layer c.in-Ok.ensures.link c.swap_frames.ensures.station (ap (λ o. o.made) c.swap_frames.ensures.outbox ∙ ap (map (λ frame. frame.items)) c.make_room.ensures.empty.frames) c.swap_frames.ensures.frames
-      (c.steps_keep_bounds.ensures.command c' s (Requests request) fits.kept) in
+      (c.steps_keep_bounds.ensures.request c' s request fits.kept) in
       leaves_some c' _ _ (requests c' s request) a.state a.refused);
   aside =
       let before = c.args.self.now.aside in
@@ -46,10 +45,10 @@ returns-in-Ok c =
     let request = Restarts in
     let r : code_step.Step = record { frames = c.swap_frames.new.frames; entries = c.push_reserved.new.self; timer = c.make_room.new.self.timer } in
     did_request c.in-Ok.field-0 c.args.self.now _ c.restart.new.link r request c.in-Ok.ensures.layer c.in-Ok.ensures.link c.swap_frames.ensures.station (ap (λ o. o.made) c.swap_frames.ensures.outbox ∙ ap (map (λ frame. frame.items)) c.make_room.ensures.empty.frames) c.swap_frames.ensures.frames
-    c.steps_keep_bounds.ensures.command c.holds_few.ensures.window c.holds_few.ensures.stand
+    c.steps_keep_bounds.ensures.request c.holds_few.ensures.window c.holds_few.ensures.stand
     (λ c' s fits.
     restart_enters c' s r (ap (λ es. map plain_entry es) (c.push_reserved.ensures.items ∙ ap (λ es. es ++ RestartAsked ∷ []) c.make_room.ensures.empty.entries)))
-    (grind (arith, c.push_reserved.ensures.len, ap length c.make_room.ensures.empty.entries, c.make_room.new.self.entries.ok))
+    (grind (arith, c.push_reserved.ensures.len, ap length c.make_room.ensures.empty.entries, c.make_room.new.self.entries.ok)) refl
 
 pub returns-in-Err : goal.returns-in-Err
-returns-in-Err c = declines_request _ c.in-Err.error _ c.args.self.now _ _ Restarts c.of_layer.ensures c.in-Err.ensures.layer c.in-Err.ensures.layer_stays c.in-Err.ensures.link_stays c.make_room.ensures.empty
+returns-in-Err c = declines_request _ c.in-Err.error _ c.args.self.now _ _ Restarts c.of_layer.ensures c.in-Err.ensures.layer c.in-Err.ensures.layer_stays c.in-Err.ensures.link_stays c.make_room.ensures.empty refl

@@ -68,7 +68,7 @@ invariant_of-self c = record {
       let whole : FitsWhole c.take.new.self (kept_of lk k.side) = record { link = c.in-Ok.ensures.does.state lk s.link before.link; kept = c.in-Ok.ensures.does.frames lk s.link before.link ∙ ap (λ (made : List (List ℕ)). made ++ map (spelling_of c'.role) k.side.out) before.sent } in (
         c',
         (receives c' s c.args.octets.now).near,
-        took_fits c' s c.args.octets.now (option_copied c.in-Ok.heard.packet) c.in-Ok.heard.notes c.follow.new.link c.swap_frames.new.self c.follow.new.layer (c.requires.goes_on c' s fits) (heard.packet, heard.notes)
+        took_fits c' before.same s c.args.octets.now (option_copied c.in-Ok.heard.packet) c.in-Ok.heard.notes c.follow.new.link c.swap_frames.new.self c.follow.new.layer (c.requires.goes_on c' s fits) (heard.packet, heard.notes)
             (c.follow.ensures.link c' s.layer k.side before.layer whole) (c.follow.ensures.layer c' s.layer k.side before.layer whole) c.swap_frames.ensures.station (ap (λ o. o.made) c.swap_frames.ensures.outbox ∙ ap (map (λ frame. frame.items)) c.set_aside.ensures.empty.frames)
             (c.steps_keep_bounds.ensures.receive c' s c.args.octets.now fits.kept),
       ));
@@ -83,7 +83,7 @@ invariant_of-self c = record {
 }
 
 pub invariant_of-self-in-Err-1 : goal.invariant_of-self-in-Err-1
-invariant_of-self-in-Err-1 c = record { meant = subst (λ l. AreMeant l c.set_aside.new.self.layer) (sym c.in-Err.ensures.does.err) c.set_aside.new.self.meant; aside = subst (λ l. IsFewAside l c.set_aside.new.self.layer c.set_aside.new.self.texts) (sym c.in-Err.ensures.does.err) c.set_aside.new.self.aside }
+invariant_of-self-in-Err-1 c = record { meant = subst (λ l. AreMeant c.set_aside.new.self.say_sizes l c.set_aside.new.self.layer) (sym c.in-Err.ensures.does.err) c.set_aside.new.self.meant; aside = subst (λ l. IsFewAside l c.set_aside.new.self.layer c.set_aside.new.self.texts) (sym c.in-Err.ensures.does.err) c.set_aside.new.self.aside }
 
 pub returns-in-Ok-clause-does : goal.returns-in-Ok-clause-does
 returns-in-Ok-clause-does c = record {
@@ -93,7 +93,7 @@ returns-in-Ok-clause-does c = record {
       let before = c.in_ok-set_aside.ensures.fits c' s fits in
       let heard = c.in-Ok.ensures.does.heard lk s.link before.link in
       let whole : FitsWhole c.take.new.self (kept_of lk k.side) = record { link = c.in-Ok.ensures.does.state lk s.link before.link; kept = c.in-Ok.ensures.does.frames lk s.link before.link ∙ ap (λ (made : List (List ℕ)). made ++ map (spelling_of c'.role) k.side.out) before.sent } in
-      took_fits c' s c.args.octets.now (option_copied c.in-Ok.heard.packet) c.in-Ok.heard.notes c.follow.new.link c.swap_frames.new.self c.follow.new.layer (c.requires.goes_on c' s fits) (heard.packet, heard.notes)
+      took_fits c' before.same s c.args.octets.now (option_copied c.in-Ok.heard.packet) c.in-Ok.heard.notes c.follow.new.link c.swap_frames.new.self c.follow.new.layer (c.requires.goes_on c' s fits) (heard.packet, heard.notes)
       (c.follow.ensures.link c' s.layer k.side before.layer whole) (c.follow.ensures.layer c' s.layer k.side before.layer whole) c.swap_frames.ensures.station (ap (λ o. o.made) c.swap_frames.ensures.outbox ∙ ap (map (λ frame. frame.items)) c.set_aside.ensures.empty.frames)
       (c.steps_keep_bounds.ensures.receive c' s c.args.octets.now fits.kept);
   frames = λ c' s fits.
