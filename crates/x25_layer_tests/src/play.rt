@@ -213,7 +213,13 @@ pub fn happens<L: OrderedLink>(
         Call(called, calling, user) => {
             channel_text(
                 alloc,
-                layer.call(link, called, calling, user, &Proposal::new(Params::default(), false)),
+                layer.call(
+                    link,
+                    called,
+                    calling,
+                    user,
+                    &Proposal::new(Params::default(), false),
+                ),
             )
         }
         CallWith(values) => {
