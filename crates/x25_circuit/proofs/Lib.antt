@@ -7,3 +7,4 @@ pub mod AskLemmas
 pub mod TalkLemmas
 pub mod PullLemmas
 pub mod CarryLemmas
+pub mod TakingLemmas

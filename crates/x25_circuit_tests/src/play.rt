@@ -7,7 +7,8 @@ use std::alloc::{AllocError, Global};
 use std::process::Abort;
 use std::test::Fail;
 use x25_circuit::{
-    Circuit, CircuitError, DataPacket, Message, Notice, Params, Proposal, Reply, Request, Role,
+    Circuit, CircuitError, DataPacket, Flow, Message, Notice, Params, Proposal, Reply, Request,
+    Role, Taken,
 };
 use x25_packet::{Digits, Packet, PacketError, Seq, decode};
 
@@ -38,6 +39,11 @@ pub enum Event<'a> {
     Take(&'a str),
     /// DATA comes, with P(S), P(R), M, Q and so many octets.
     Data(u8, u8, bool, bool, usize),
+    /// The same, by the call that takes it where nothing is wrong with it. The text is that, or 'none'.
+    Pass(u8, u8, bool, bool, usize),
+    /// RR, or RNR, comes so, with P(R).
+    PassRr(u8),
+    PassRnr(u8),
     /// So many full packets of one message come, from P(S) 0 on. The text is that of the last.
     Fill(usize),
     Forget,
@@ -51,7 +57,7 @@ pub enum Event<'a> {
 
 use Event::{
     Accept, AcceptInFull, AcceptWith, Ask, Call, CallInFull, CallWith, Clear, Data, Fill, Forget,
-    Interrupt, Joined, NotReady, Pull, Ready, Reset, Send, Take, Zero,
+    Interrupt, Joined, NotReady, Pass, PassRnr, PassRr, Pull, Ready, Reset, Send, Take, Zero,
 };
 
 /// What is proposed or answered.
@@ -201,6 +207,18 @@ fn reply_text(alloc: Global, reply: &Reply) -> Result<String, AllocError> {
     Ok(text)
 }
 
+/// What the user is told of a message that ended, and the packet owed.
+fn taken_text(alloc: Global, taken: &Taken) -> Result<String, AllocError> {
+    let mut text = String::new(alloc);
+    if let Some(message) = &taken.message {
+        append(&mut text, message_text(alloc, message)?.as_str())?;
+    }
+    if let Some(packet) = &taken.owed {
+        append(&mut text, packet_text(alloc, &packet.packet(1))?.as_str())?;
+    }
+    Ok(text)
+}
+
 fn sent_text(
     alloc: Global,
     sent: Result<Option<Packet>, CircuitError>,
@@ -270,6 +288,25 @@ impl Player {
             pr: Seq::modulo(r),
             user: octets.as_slice(),
         })
+    }
+
+    fn pass(&mut self, packet: &Flow) -> Result<String, AllocError> {
+        match self.circuit.take(packet) {
+            Some(taken) => taken_text(self.alloc, &taken),
+            None => format!(in self.alloc; "none"),
+        }
+    }
+
+    fn pass_data(&mut self, s: u8, r: u8, m: bool, q: bool, count: usize) -> Result<String, Fail> {
+        let octets = vec![in self.alloc; 0u8; count]?;
+        self.circuit.room(count)?;
+        Ok(self.pass(&Flow::Data {
+            q,
+            m,
+            ps: Seq::modulo(s),
+            pr: Seq::modulo(r),
+            user: octets.as_slice(),
+        })?)
     }
 
     fn fill(&mut self, count: usize) -> Result<String, Fail> {
@@ -363,6 +400,9 @@ impl Player {
             Pull => self.pull(),
             Take(text) => self.take(text),
             Data(s, r, m, q, count) => self.data(s, r, m, q, count),
+            Pass(s, r, m, q, count) => self.pass_data(s, r, m, q, count),
+            PassRr(r) => Ok(self.pass(&Flow::Rr { pr: Seq::modulo(r) })?),
+            PassRnr(r) => Ok(self.pass(&Flow::Rnr { pr: Seq::modulo(r) })?),
             Fill(count) => self.fill(count),
             Forget => {
                 self.circuit.forget();

@@ -1,6 +1,6 @@
 use crate::play::Event::{
-    Accept, Ask, Call, Clear, Data, Fill, Forget, Interrupt, Joined, NotReady, Pull, Ready, Reset,
-    Send, Take, Zero,
+    Accept, Ask, Call, Clear, Data, Fill, Forget, Interrupt, Joined, NotReady, Pass, PassRnr,
+    PassRr, Pull, Ready, Reset, Send, Take, Zero,
 };
 use crate::play::{Player, Row, play};
 use std::alloc::Global;
@@ -286,20 +286,38 @@ fn numbers_of_errors(rt: HostRuntime) {
     assert_eq!(rt; CircuitError::NoMemory.number(), 70);
 }
 
-/// RNR and RR, and messages joined in a circuit that isn't ready.
-static READINESS: [Row; 9] = [
-    (Data(0, 0, true, true, 128), "RR R=1"),
-    (Data(1, 0, false, true, 2), "message q=1 130, RR R=2"),
+/// Packets with which nothing is wrong, and others, which are left to the table.
+static PASSES: [Row; 16] = [
+    (Pass(0, 0, true, true, 128), "RR R=1"),
+    (Pass(0, 0, true, true, 128), "none"),
+    (Pass(1, 0, false, false, 2), "none"),
+    (Pass(1, 1, false, true, 2), "none"),
+    (Pass(1, 0, false, true, 129), "none"),
+    (Pass(1, 0, false, true, 2), "message q=1 130, RR R=2"),
     (Send(false, 1), ""),
-    (Take("100105"), ""),
+    (Send(false, 1), ""),
+    (PassRnr(0), ""),
     (Pull, ""),
-    (Take("100101"), ""),
+    (PassRr(0), ""),
     (Pull, "DATA S=0 R=2 M=0 Q=0 1"),
+    (PassRr(2), "none"),
     (NotReady, "RNR R=2"),
-    (Data(2, 1, false, false, 0), "message q=0 0, RNR R=3"),
+    (Pass(2, 1, false, false, 0), "message q=0 0, RNR R=3"),
+    (Ask, "open 0.0, 1 wait"),
 ];
 
 #[test]
-fn either_end_may_say_that_it_is_not_ready(rt: HostRuntime) -> Result<(), Fail> {
-    play_open(&rt, rt.alloc(), Role::Dte, &READINESS)
+fn packets_with_which_nothing_is_wrong(rt: HostRuntime) -> Result<(), Fail> {
+    play_open(&rt, rt.alloc(), Role::Dte, &PASSES)
+}
+
+static PASSES_NONE: [Row; 3] = [
+    (Pass(0, 0, false, false, 0), "none"),
+    (PassRr(0), "none"),
+    (Ask, "free 0.0, 0 wait"),
+];
+
+#[test]
+fn nothing_passes_outside_of_a_call(rt: HostRuntime) -> Result<(), Fail> {
+    play(&rt, rt.alloc(), Role::Dte, &[], &PASSES_NONE)
 }

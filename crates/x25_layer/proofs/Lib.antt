@@ -15,6 +15,7 @@ pub mod LengthLemmas
 pub mod FitLemmas
 pub mod CallLemmas
 pub mod HearLemmas
+pub mod TakingLemmas
 pub mod LawLemmas
 pub mod RoundLemmas
 pub mod SettleLemmas

@@ -16,6 +16,7 @@ mod room;
 mod rounds;
 mod sending;
 mod stretch;
+mod taking;
 mod told;
 
 pub use error::LayerError;
@@ -25,6 +26,7 @@ pub use law::{
 };
 pub use layer::Layer;
 pub use stretch::Stretch;
+pub use taking::Delivery;
 pub use told::Told;
 pub use x25_bits::Role;
 pub use x25_circuit::{Params, Proposal};

@@ -20,7 +20,6 @@ ghost use Rattle.x25_layer.specs.Receiving.{plain_read, IsOfChannel, brings, cir
 use crate::error::LayerError;
 use crate::layer::Layer;
 use crate::putting::MOST_PUT;
-use crate::room::is_full;
 use crate::told::Told;
 use x25_circuit::{Circuit, CircuitError, Notice, Reply};
 use x25_link::OrderedLink;
@@ -70,8 +69,7 @@ fn told_on<'a>(channel: u16, collided: bool, notice: Option<Notice<'a>>) -> Told
 }
 
 impl Layer {
-    // The circuit of a configured channel takes a packet, or octets that spell none.
-    #[inline(always)]
+    // .. that of a configured channel.
     fn hear_channel<'a>(
         &mut self,
         channel: u16,
@@ -98,14 +96,10 @@ impl Layer {
         ensures room_stays { (len : ℕ) → HaveRoom len self.old.circuits.items
             → OnErr result (HaveRoom len self.new.circuits.items) }
     {
+        self.quiet = false;
+        self.counts_left = false;
         let place = usize::from(channel) - 1;
-        let circuit = &mut self.circuits[place];
-        let answer = hear_circuit(circuit, read);
-        let waits = circuit.waits();
-        let is_full = is_full(circuit);
-        self.quiet &= waits == 0;
-        self.counts_left &= !is_full;
-        match answer {
+        match hear_circuit(&mut self.circuits[place], read) {
             Ok(reply) => Ok(reply),
             Err(_) => Err(LayerError::NoMemory),
         }

@@ -1,6 +1,6 @@
 //! Octets that the link handed up: what the users are told, and what is owed.
 
-use crate::play::Event::{Accept, Call, Full, Restart, State, Take};
+use crate::play::Event::{Accept, Call, Full, Restart, Room, Send, State, Take, Transfer};
 use crate::play::{Row, play};
 use std::test::Fail;
 use x25_layer::Role;
@@ -55,4 +55,30 @@ static AT_A_DCE: [Row; 9] = [
 #[test]
 fn a_dce_restarts_and_drops_its_call_at_a_collision(rt: HostRuntime) -> Result<(), Fail> {
     play(&rt, rt.alloc(), Role::Dce, 2, &[AT_A_DCE.as_slice()])
+}
+
+static TRANSFERS: [Row; 16] = [
+    (Take("10020b0000"), "2: incoming", ""),
+    (Accept(2), "ok", "10020f"),
+    // No memory is set aside for 16 packets any more, as one was put.
+    (Transfer("100210aa"), "none", ""),
+    (Room, "true", ""),
+    (Transfer("100210aa"), "2", "100221"),
+    (Room, "true", ""),
+    // The qualifier of another packet, another channel, an RR with the qualifier, one that is too long, RESET.
+    (Transfer("900202bb"), "none", ""),
+    (Transfer("100102bb"), "none", ""),
+    (Transfer("900201"), "none", ""),
+    (Transfer("10020100"), "none", ""),
+    (Transfer("10021b0000"), "none", ""),
+    (Transfer("100202bb"), "2: message 2", "100241"),
+    (Send(2, false, 1), "ok", "10024000"),
+    (Room, "true", ""),
+    (Transfer("100221"), "2", ""),
+    (State(2), "0.0.0, open", ""),
+];
+
+#[test]
+fn packets_of_data_transfer_are_taken_by_themselves(rt: HostRuntime) -> Result<(), Fail> {
+    play(&rt, rt.alloc(), Role::Dte, 2, &[TRANSFERS.as_slice()])
 }

@@ -6,7 +6,7 @@ use std::alloc::{AllocError, Global};
 use std::process::Abort;
 use std::test::Fail;
 use x25_circuit::Request;
-use x25_layer::{Layer, LayerError, Params, Proposal, Role};
+use x25_layer::{Delivery, Layer, LayerError, Params, Proposal, Role};
 use x25_link::{OrderedLink, PlainLink};
 
 /// Packet sizes of the called and of the calling end, and then windows.
@@ -38,6 +38,9 @@ pub enum Event<'a> {
     NotReady(u16),
     /// Octets, in hexadecimal, are handed up by the link.
     Take(&'a str),
+    /// The same, by the call that takes packets of data transfer alone. The text is the channel and how many octets the
+    /// message has that ends with the packet, or 'none'.
+    Transfer(&'a str),
     /// So many packets of the octet 7 are handed down to the link, by another than the layer.
     Fill(usize),
     /// Memory is set aside for what comes. The text is that for 16 packets is.
@@ -58,7 +61,7 @@ pub enum Event<'a> {
 
 use Event::{
     Accept, AcceptWith, Agreed, Call, CallWith, Clear, Down, Fill, Full, Interrupt, Joined,
-    NotReady, Pull, Ready, Reset, Restart, Room, Send, State, Take, Up, Waiting, Waits,
+    NotReady, Pull, Ready, Reset, Restart, Room, Send, State, Take, Transfer, Up, Waiting, Waits,
 };
 
 /// What happens, and what it shows.
@@ -125,6 +128,31 @@ fn take<L: OrderedLink>(
 ) -> Result<String, Fail> {
     let octets = hex::decode(alloc, octets)?;
     hand_up(alloc, layer, link, octets.as_slice())
+}
+
+fn delivery_text(alloc: Global, delivery: Option<Delivery>) -> Result<String, AllocError> {
+    let Some(delivery) = delivery else {
+        return format!(in alloc; "none");
+    };
+    let channel = delivery.channel;
+    match &delivery.message {
+        Some(message) => format!(in alloc; "{channel}: message {}", message.user.as_slice().len()),
+        None => format!(in alloc; "{channel}"),
+    }
+}
+
+// Packets of data transfer, where memory was set aside.
+fn transfer<L: OrderedLink>(
+    alloc: Global,
+    layer: &mut Layer,
+    link: &mut L,
+    octets: &str,
+) -> Result<String, Fail> {
+    let octets = hex::decode(alloc, octets)?;
+    if !link.is_up() || link.waiting() == 256 || link.limit() < 4099 {
+        return Err("the layer takes no packet")?;
+    }
+    Ok(delivery_text(alloc, layer.transfer(link, octets.as_slice()))?)
 }
 
 // Sets memory aside for packets with 4,096 octets of user data.
@@ -201,6 +229,7 @@ pub fn happens<L: OrderedLink>(
     }
     let text = match event {
         Take(octets) => return take(alloc, layer, link, octets),
+        Transfer(octets) => return transfer(alloc, layer, link, octets),
         Fill(count) => return fill(alloc, link, count),
         Room => return room(alloc, layer, link),
         Down => {

@@ -1,6 +1,7 @@
 //! Entries of what the packet layer tells, in memory that was set aside.
 ghost use Rattle.std.specs.Prelude.{◌≡◌, ℕ, ◌+◌, ◌<◌, ◌≤◌, ◌++◌, [], ◌∷◌, map, take, true, option_to_list, vec_len};
 ghost use Rattle.std.specs.Prelude.{vec_capacity};
+ghost use Rattle.x25_circuit.specs.Notice.{deliveries};
 ghost use Rattle.x25_circuit.specs.code.Replies.{plain_notice, notices_of};
 ghost use Rattle.x25_layer.specs.Layer.{Layer as LayerState, LayerSettings, is_channel, notices_on};
 ghost use Rattle.x25_layer.specs.code.FitsLayer.{FitsLayer};
@@ -12,7 +13,7 @@ ghost use Rattle.x25_station.specs.Receiving.{IsShort, AreTellable};
 
 use crate::entry::{Entry, Said, Told};
 use x25_bits::Blanks;
-use x25_circuit::Notice;
+use x25_circuit::{Message, Notice};
 use x25_layer::{Layer, Told as Heard};
 use x25_packet::Digits;
 
@@ -43,6 +44,31 @@ pub(crate) fn enter(layer: &Layer, entries: &mut Vec<Entry>, channel: u16, said:
             name,
             said,
         });
+    }
+}
+
+/// Enters the message that was delivered on a configured channel, where there is one.
+#[inline(always)]
+pub(crate) fn enter_message(
+    layer: &Layer,
+    entries: &mut Vec<Entry>,
+    channel: u16,
+    message: Option<Message>,
+)
+    requires { vec_len entries.old < vec_capacity entries.old }
+    ensures length { vec_len entries.new ≤ vec_len entries.old + 1 }
+    ensures entered { (c : LayerSettings) (l : LayerState) → FitsLayer c layer.now l
+        → is_channel c.channels channel ≡ true →
+        map plain_entry entries.new.items ≡ map plain_entry entries.old.items
+        ++ station_told l (notices_on channel (deliveries (option_to_list message))) }
+{
+    if let Some(message) = message {
+        enter(
+            layer,
+            entries,
+            channel,
+            Said::Told(Told::Delivered(message)),
+        );
     }
 }
 
@@ -139,6 +165,8 @@ fn enter_notices(
 }
 
 /// Enters what the layer reported.
+#[cold]
+#[inline(never)]
 pub(crate) fn enter_told(
     layer: &Layer,
     texts: &mut TextMemory,

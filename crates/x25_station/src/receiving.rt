@@ -17,7 +17,7 @@ ghost use Rattle.x25_station.specs.Station.{Station as State, view_of, all_put};
 ghost use Rattle.x25_station.specs.Step.{Did, abandons, receives, layer_at, layer_answer, entries_heard};
 ghost use Rattle.x25_station.specs.Step.{entries_of_answer};
 
-use crate::entering::{MOST_TEXTS, TextMemory, enter_told};
+use crate::entering::{MOST_TEXTS, TextMemory, enter_message, enter_told};
 use crate::entry::Entry;
 use crate::error::StationError;
 use crate::law::steps_keep_bounds;
@@ -88,6 +88,10 @@ fn hear(
     ensures most_spares { link.new.outbox.long ≤ max link.old.outbox.long 16 }
     ensures texts { texts.new ≤ texts.old }
 {
+    if let Some(delivery) = layer.transfer(link, packet) {
+        enter_message(layer, entries, delivery.channel, delivery.message);
+        return;
+    }
     reading_is_the_grammar();
     let told = layer.packet(link, packet).unwrap();
     enter_told(layer, texts, told, entries);

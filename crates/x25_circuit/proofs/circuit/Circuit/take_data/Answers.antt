@@ -1,0 +1,23 @@
+use Rattle.std.proofs.Common.{ℕ, ap, ◌∙◌, Some}
+use Rattle.std.proofs.lemmas.List.{length_push}
+use Rattle.x25_circuit.specs.Message.{piece_of}
+use Rattle.x25_circuit.specs.Notice.{deliveries}
+use Rattle.x25_circuit.specs.Hearing.{status}
+use Rattle.x25_circuit.specs.Circuit.{outgoing}
+use Rattle.x25_circuit.proofs.TalkLemmas.{with_transfer}
+use Rattle.x25_circuit.proofs.circuit.Circuit.take_data.Goals as goal
+
+pub returns-clause-next : goal.returns-clause-next
+returns-clause-next c = λ d x fits.
+    let acked = c.ack.ensures.fits (outgoing x).size x.talk fits.talk c.if-not-ack.false in
+    with_transfer d c.args.self.now x _ _ fits (c.take-message.ensures.fits (outgoing x).size _ acked)
+
+pub returns-clause-says : goal.returns-clause-says
+returns-clause-says c = λ d x fits.
+    let acked = c.ack.ensures.fits (outgoing x).size x.talk fits.talk c.if-not-ack.false in
+    let now = with_transfer d c.args.self.now x _ _ fits (c.take-message.ensures.fits (outgoing x).size _ acked) in
+    let piece = piece_of c.args.q c.args.m c.args.user.now in
+    record {
+      owed = ap Some (c.status-owed.ensures.value d _ now ∙ ap (λ (n : ℕ). status x.talk.own_ready n) (length_push x.talk.taken piece));
+      notices = ap deliveries (c.take-message.ensures.message (outgoing x).size _ acked);
+    }
