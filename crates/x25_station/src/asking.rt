@@ -1,5 +1,5 @@
 //! What the user asks of the packet layer: the layer's call, and its entry.
-ghost use Rattle.std.specs.Prelude.{◌≡◌, Some, None, true, false, string_bytes, IfOk, IfErr};
+ghost use Rattle.std.specs.Prelude.{◌≡◌, ◌≤◌, [], max, Some, None, true, false, string_bytes, vec_capacity, IfOk, IfErr};
 ghost use Rattle.x25_circuit.specs.Circuit.{Circuit};
 ghost use Rattle.x25_circuit.specs.Calling.{Calls, Accepts};
 ghost use Rattle.x25_circuit.specs.Request.{plain_request};
@@ -60,7 +60,28 @@ fn copied_text(alloc: Global, text: &str) -> Result<String, StationError>
     }
 }
 
-// A copy of a message, for an entry, in memory of one that was read where that has room.
+// Memory for the message of an entry: that of one that was read where that has room, or else new.
+fn message_memory(
+    alloc: Global,
+    messages: &mut MessageMemory,
+    count: usize,
+) -> Result<Vec<u8>, StationError>
+    ensures same { messages.new ≡ messages.old }
+    ensures empty { IfOk result (λ memory. memory.items ≡ []) }
+    ensures room { IfOk result (λ memory. count ≤ vec_capacity memory) }
+    ensures most { IfOk result (λ memory. vec_capacity memory ≤ max count 4096) }
+    ensures err { IfErr result (λ e. e ≡ StationError.NoMemory) }
+{
+    if let Some(memory) = messages.again(count) {
+        return Ok(memory);
+    }
+    match Vec::with_capacity(alloc, count) {
+        Ok(memory) => Ok(memory),
+        Err(_) => Err(StationError::NoMemory),
+    }
+}
+
+// A copy of a message, for an entry.
 fn copied_message(
     alloc: Global,
     messages: &mut MessageMemory,
@@ -70,9 +91,7 @@ fn copied_message(
     ensures ok { IfOk result (λ copy. copy.items ≡ user.now) }
     ensures err { IfErr result (λ e. e ≡ StationError.NoMemory) }
 {
-    let Some(mut copy) = messages.again(user.len()) else {
-        return copied(alloc, user);
-    };
+    let mut copy = message_memory(alloc, messages, user.len())?;
     copy.extend_from_slice(user).unwrap();
     Ok(copy)
 }

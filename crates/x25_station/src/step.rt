@@ -1,4 +1,4 @@
-ghost use Rattle.std.specs.Prelude.{◌≡◌, ◌+◌, ◌≤◌, vec_len, vec_capacity, OnOk, IfErr};
+ghost use Rattle.std.specs.Prelude.{◌≡◌, ◌+◌, ◌≤◌, max, vec_len, vec_capacity, OnOk, IfErr};
 ghost use Rattle.x25_station.specs.code.FitsStation.{HasPlaces, IsEmpty};
 
 use crate::entry::Entry;
@@ -35,15 +35,16 @@ impl Step {
         }
     }
 
-    /// Room for the entries of a call. The list of its frames comes from the link.
+    /// Room for the entries of a call, and no more, or what there was. The list of its frames comes from the link.
     #[inline(always)]
     pub(crate) fn make_room(&mut self) -> Result<(), StationError>
         requires { IsEmpty self.old }
         ensures empty { IsEmpty self.new }
         ensures places { OnOk result (HasPlaces self.new) }
+        ensures most { vec_capacity self.new.entries ≤ max (vec_capacity self.old.entries) 3 }
         ensures refused { IfErr result (λ e. e ≡ StationError.NoMemory) }
     {
-        if self.entries.reserve(MOST_ENTRIES).is_err() {
+        if self.entries.reserve_exact(MOST_ENTRIES).is_err() {
             return Err(StationError::NoMemory);
         }
         Ok(())
