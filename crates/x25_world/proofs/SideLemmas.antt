@@ -1,5 +1,5 @@
 -- What an end did is its act by the definition, and its refusal is due.
-use Rattle.std.proofs.Common.{◌≡◌, ℕ, Bool, true, false, ◌&&◌, if◌then◌else◌, List, [], ◌∷◌, ◌++◌, map, Some, slice_get, Result, Ok, Err, OnOk, OnErr, IfErr, ◌⊎◌, inl, inr, refl, ap, sym, ◌∙◌}
+use Rattle.std.proofs.Common.{◌≡◌, ℕ, Bool, true, false, ◌&&◌, if◌then◌else◌, List, [], ◌∷◌, ◌++◌, map, Some, slice_get, Result, Ok, Err, OnOk, OnErr, IfErr, ◌⊎◌, inl, inr, refl, ap, sym, ◌∙◌, arith}
 use Rattle.std.specs.List.{remove}
 use Rattle.std.proofs.lemmas.List.{append-nil}
 use Rattle.x25_bits.specs.Role.{other}
@@ -22,7 +22,7 @@ use Rattle.x25_world.specs.declared.error.WorldError.{WorldError}
 use Rattle.x25_world.specs.declared.error.WorldError.TheVariants as error
 use Rattle.x25_world.specs.Error.{error_of}
 use Rattle.x25_world.specs.World.{World, WorldOutcome, Happened, Declined, after_step, of_station, delivered, on_line, is_on_line, fired, refusal_of, entered}
-use Rattle.x25_world.specs.code.ShownLine.{ShownLine, line_to, with_line_to, put_by}
+use Rattle.x25_world.specs.code.ShownLine.{ShownLine, line_to, with_line_to, with_room_of, put_by, TakesFew}
 use Rattle.x25_world.specs.code.FitsWorld.{FitsSide, HasHappened}
 
 -- what an end shares with the other, where this is left on the line to it
@@ -40,9 +40,29 @@ step_told cfg Dce near line w left step frames entries shared fits sent told =
     (record { near = fits; out = rw (shared.out, sent) refl; back = shared.back }, ap (λ l. w.transcript ++ entered Dce l) (sym told))
 
 -- memory that was set aside shows nowhere
-pub shared_of : (cfg : Cfg) (at : Role) (near : code.Station) (line : ShownLine) (w : World) (room : ℕ) → FitsSide cfg at near line w → FitsShared at (record line { room = room }) w w.back
+pub shared_of : (cfg : Cfg) (at : Role) (near : code.Station) (line : ShownLine) (w : World) (room : ShownLine) → FitsSide cfg at near line w → FitsShared at (with_room_of room line) w w.back
 shared_of cfg Dte near line w room side = record { out = side.out; back = side.back }
 shared_of cfg Dce near line w room side = record { out = side.out; back = side.back }
+
+-- ---- places for frames on the line
+
+module _ (count : ℕ) (old mid : ShownLine) (at : Role) where
+  pub few_changed : (frames : List (List ℕ)) → TakesFew count old mid → TakesFew count old (with_line_to mid at frames)
+  few_changed frames few = by at
+    where
+      by : (end : Role) → TakesFew count old (with_line_to mid end frames)
+      by Dte = record { to_dce = few.to_dce; to_dte = few.to_dte }
+      by Dce = record { to_dce = few.to_dce; to_dte = few.to_dte }
+
+  pub few_put : (frames : List (List ℕ)) → TakesFew count old mid → TakesFew count old (put_by mid at frames)
+  few_put frames few = by at
+    where
+      by : (end : Role) → TakesFew count old (put_by mid end frames)
+      by Dte = record { to_dce = few.to_dce; to_dte = few.to_dte }
+      by Dce = record { to_dce = few.to_dce; to_dte = few.to_dte }
+
+pub few_same : (count : ℕ) (line : ShownLine) → TakesFew count line line
+few_same count line = record { to_dce = omega arith; to_dte = omega arith }
 
 -- memory that serves again shows nowhere
 pub reused : (cfg : Cfg) (at : Role) (near new : code.Station) (line : ShownLine) (w : World) → FitsSide cfg at near line w → FitsStation (settings_from at cfg) new w.near → FitsSide cfg at new line w
@@ -84,8 +104,8 @@ pub is_refusal : (cfg : Cfg) (at : Role) (w : World) (outcome : Outcome) (e : St
 is_refusal cfg at w (Did step) e refuses = inr (no_memory e refuses)
 is_refusal cfg at w (Refused d) e refuses = elim refuses [ inl is ↦ its_own e d is | inr is ↦ inr (no_memory e is) ]
 
-pub side_stays : (cfg : Cfg) (at : Role) (near new : code.Station) (line : ShownLine) (w : World) (room : ℕ)
-    → FitsSide cfg at near line w → FitsStation (settings_from at cfg) new w.near → FitsSide cfg at new (record line { room = room }) w
+pub side_stays : (cfg : Cfg) (at : Role) (near new : code.Station) (line : ShownLine) (w : World) (room : ShownLine)
+    → FitsSide cfg at near line w → FitsStation (settings_from at cfg) new w.near → FitsSide cfg at new (with_room_of room line) w
 side_stays cfg Dte near new line w room side fits = record { near = fits; out = side.out; back = side.back }
 side_stays cfg Dce near new line w room side fits = record { near = fits; out = side.out; back = side.back }
 

@@ -1,6 +1,6 @@
 //! What happens at one end, and on the line to it.
-ghost use Rattle.std.specs.Prelude.{◌≡◌, ◌&&◌, ◌+◌, ◌≤◌, ◌++◌, ◌⊎◌, [], length, map, vec_len, vec_capacity, IfErr};
-ghost use Rattle.std.specs.Prelude.{OnOk, OnErr, IsErrOf};
+ghost use Rattle.std.specs.Prelude.{◌≡◌, ◌&&◌, ◌+◌, ◌*◌, ◌≤◌, ◌++◌, ◌⊎◌, [], length, map, max, vec_len, vec_capacity};
+ghost use Rattle.std.specs.Prelude.{IfErr, OnOk, OnErr, IsErrOf};
 ghost use Rattle.x25_link.specs.Station.{awaits_ua};
 ghost use Rattle.x25_line.specs.laws.Stations.{is_visible};
 ghost use Rattle.x25_station.specs.Command.{command_of};
@@ -15,7 +15,7 @@ ghost use Rattle.x25_world.specs.World as definition;
 ghost use Rattle.x25_world.specs.World.{Happened, Declined, of_station, delivered, is_on_line, fired, on_line, lost};
 ghost use Rattle.x25_world.specs.World.{damaged, acts, entered, event_of};
 ghost use Rattle.x25_world.specs.code.PlainTold.{plain_entered};
-ghost use Rattle.x25_world.specs.code.ShownLine.{put_by, line_to, with_line_to};
+ghost use Rattle.x25_world.specs.code.ShownLine.{put_by, line_to, with_line_to, with_room_of, TakesFew};
 ghost use Rattle.x25_world.specs.code.FitsWorld.{FitsWorld, FitsSide, HasActed, HasActedAt, TakesMemory, most_told};
 ghost use Rattle.x25_world.specs.code.ShownWorld.{shown_with};
 
@@ -42,6 +42,7 @@ pub fn act_at_end(
     ensures untold { OnErr result (out.new.entries.items ≡ []) }
     ensures few { vec_len out.new.entries ≤ most_told (event_of event.entry).act }
     ensures memory { IsErrOf result WorldError.NoMemory → TakesMemory (event_of event.entry).act }
+    ensures places { TakesFew 17 line.old line.new }
     ensures acted { (cfg : Cfg) (w : definition.World) → FitsWorld cfg (shown_with dte.old dce.old line.old) w →
         HasActedAt cfg (shown_with dte.new dce.new line.new)
         (entered (event_of event.entry).at (map plain_entry out.new.entries.items)) result w (event_of event.entry) }
@@ -66,6 +67,7 @@ fn act(
     ensures untold { OnErr result (out.new.entries.items ≡ []) }
     ensures few { vec_len out.new.entries ≤ most_told (event_of event.entry).act }
     ensures memory { IsErrOf result WorldError.NoMemory → TakesMemory (event_of event.entry).act }
+    ensures places { TakesFew 17 line.old line.new }
     ensures acted { (cfg : Cfg) (w : definition.World) → FitsSide cfg at near.old line.old w →
         HasActed cfg at near.new line.new (entered at (map plain_entry out.new.entries.items)) result w
         (acts (settings_from at cfg) w (event_of event.entry).act) }
@@ -93,6 +95,7 @@ fn command(
     ensures sent { out.new.frames.items ≡ [] }
     ensures untold { OnErr result (out.new.entries.items ≡ []) }
     ensures few { vec_len out.new.entries ≤ 3 }
+    ensures places { TakesFew 17 line.old line.new }
     ensures acted { (cfg : Cfg) (w : definition.World) → FitsSide cfg at near.old line.old w →
         HasActed cfg at near.new line.new (entered at (map plain_entry out.new.entries.items)) result w
         (of_station (settings_from at cfg) w (commands (settings_from at cfg) w.near (command_of cmd.entry))) }
@@ -114,6 +117,7 @@ fn deliver(at: Role, near: &mut Station, line: &mut Line, out: &mut Step) -> Res
     ensures sent { out.new.frames.items ≡ [] }
     ensures untold { OnErr result (out.new.entries.items ≡ []) }
     ensures few { vec_len out.new.entries ≤ 3 }
+    ensures places { TakesFew 17 line.old line.new }
     ensures acted { (cfg : Cfg) (w : definition.World) → FitsSide cfg at near.old line.old w →
         HasActed cfg at near.new line.new (entered at (map plain_entry out.new.entries.items)) result w
         (delivered (settings_from at cfg) w w.back) }
@@ -171,6 +175,7 @@ fn fire(at: Role, near: &mut Station, line: &mut Line, out: &mut Step) -> Result
     ensures sent { out.new.frames.items ≡ [] }
     ensures untold { OnErr result (out.new.entries.items ≡ []) }
     ensures few { vec_len out.new.entries ≤ 3 }
+    ensures places { TakesFew 17 line.old line.new }
     ensures acted { (cfg : Cfg) (w : definition.World) → FitsSide cfg at near.old line.old w →
         HasActed cfg at near.new line.new (entered at (map plain_entry out.new.entries.items)) result w
         (fired (settings_from at cfg) w) }
@@ -207,6 +212,7 @@ pub fn connect(
     ensures sent { out.new.frames.items ≡ [] }
     ensures untold { OnErr result (out.new.entries.items ≡ []) }
     ensures few { vec_len out.new.entries ≤ 3 }
+    ensures places { TakesFew 17 line.old line.new }
     ensures acted { (cfg : Cfg) (w : definition.World) → FitsSide cfg at near.old line.old w →
         HasActed cfg at near.new line.new (entered at (map plain_entry out.new.entries.items)) result w
         (of_station (settings_from at cfg) w (connects (settings_from at cfg) w.near)) }
@@ -224,7 +230,8 @@ pub fn connect(
 // Room for the frames that a step of a station answers.
 fn make_room(line: &mut Line) -> Result<(), WorldError>
     ensures frames { OnOk result (17 ≤ line.new.room) }
-    ensures line { line.new ≡ record line.old { room = line.new.room } }
+    ensures line { line.new ≡ with_room_of line.new line.old }
+    ensures few { TakesFew 17 line.old line.new }
     ensures refused { IfErr result (λ e. e ≡ WorldError.NoMemory) }
 {
     if line.reserve(MOST_FRAMES).is_err() {
@@ -240,11 +247,15 @@ pub fn make_room_to_enter(transcript: &mut Vec<Entered>, event: Event) -> Result
     ensures items { transcript.new.items ≡ transcript.old.items }
     ensures refused { IfErr result (λ e. e ≡ WorldError.NoMemory) }
     ensures memory { OnErr result (TakesMemory (event_of event.entry).act) }
+    ensures few { vec_capacity transcript.new ≤ max (vec_capacity transcript.old) (2 * vec_len transcript.old + 3) }
 {
-    if !event.takes_memory() {
+    if !event.takes_memory() || transcript.capacity() - transcript.len() >= MOST_ENTRIES {
         return Ok(());
     }
-    if transcript.reserve(MOST_ENTRIES).is_err() {
+    if transcript
+        .reserve_exact(transcript.len().max(MOST_ENTRIES))
+        .is_err()
+    {
         return Err(WorldError::NoMemory);
     }
     Ok(())
@@ -253,8 +264,9 @@ pub fn make_room_to_enter(transcript: &mut Vec<Entered>, event: Event) -> Result
 /// What an end told comes into the transcript, in room that there is.
 pub fn enter(at: Role, told: &mut Vec<Entry>, transcript: &mut Vec<Entered>)
     requires room { vec_len transcript.old + vec_len told.old ≤ vec_capacity transcript.old }
-    ensures { map plain_entered transcript.new.items ≡ map plain_entered transcript.old.items
+    ensures entries { map plain_entered transcript.new.items ≡ map plain_entered transcript.old.items
         ++ entered at (map plain_entry told.old.items) }
+    ensures capacity { vec_capacity transcript.new ≡ vec_capacity transcript.old }
 {
     for entry in told.drain(..) {
         transcript.push_reserved(Entered { at, entry });

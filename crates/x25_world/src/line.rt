@@ -1,7 +1,7 @@
-ghost use Rattle.std.specs.Prelude.{◌≡◌, ◌+◌, ◌<◌, ◌≤◌, [], length, map, remove, OnOk, OnErr, ◌∷◌, option_copied};
+ghost use Rattle.std.specs.Prelude.{◌≡◌, ◌+◌, ◌*◌, ◌<◌, ◌≤◌, max, [], length, map, remove, OnOk, OnErr, ◌∷◌, option_copied};
 ghost use Rattle.std.specs.Prelude.{slice_get};
 ghost use Rattle.x25_line.specs.laws.Stations.{replaced};
-ghost use Rattle.x25_world.specs.code.ShownLine.{ShownLine, line_to, with_line_to, put_by};
+ghost use Rattle.x25_world.specs.code.ShownLine.{ShownLine, line_to, with_line_to, with_room_of, put_by, TakesFew};
 ghost use Rattle.std.specs.VecDeque.{deque_len, deque_capacity};
 
 use std::alloc::{AllocError, Global};
@@ -29,6 +29,8 @@ impl Model for Line {
       to_dce = map (λ frame. frame.items) l.to_dce.items;
       to_dte = map (λ frame. frame.items) l.to_dte.items;
       room = l.room;
+      places_to_dce = deque_capacity l.to_dce;
+      places_to_dte = deque_capacity l.to_dte;
     } };
 
     ghost invariant = { λ l. (deque_len l.to_dce + l.room ≤ deque_capacity l.to_dce) ×
@@ -38,11 +40,11 @@ impl Model for Line {
 impl Line {
     /// An empty line.
     pub fn new(alloc: Global) -> Line
-        ensures { result ≡ record { to_dce = []; to_dte = []; room = 0 } }
+        ensures { result ≡ record { to_dce = []; to_dte = []; room = 0; places_to_dce = 0; places_to_dte = 0 } }
     {
         Line {
-            to_dce: VecDeque::new(alloc),
-            to_dte: VecDeque::new(alloc),
+            to_dce: VecDeque::from_vec(Vec::new(alloc)),
+            to_dte: VecDeque::from_vec(Vec::new(alloc)),
             room: 0,
             alloc,
         }
@@ -58,16 +60,17 @@ impl Line {
         }
     }
 
-    /// Makes room for so many frames in each direction. Err: no memory. It changes nothing but the room.
+    /// Makes room for so many frames in each direction. Err: no memory. It changes nothing but the room and the places.
     pub fn reserve(&mut self, frames: usize) -> Result<(), AllocError>
         ensures room { OnOk result (frames ≤ self.new.room) }
-        ensures same { self.new ≡ record self.old { room = self.new.room } }
+        ensures same { self.new ≡ with_room_of self.new self.old }
+        ensures few { TakesFew frames self.old self.new }
     {
         if self.room >= frames {
             return Ok(());
         }
-        self.to_dce.reserve(frames)?;
-        self.to_dte.reserve(frames)?;
+        grow(&mut self.to_dce, frames)?;
+        grow(&mut self.to_dte, frames)?;
         self.room = frames;
         Ok(())
     }
@@ -131,6 +134,20 @@ impl Line {
         }
         Ok(())
     }
+}
+
+// Makes room for so many frames more, by places for as many again as there are, or for those. Err: no memory.
+fn grow(queue: &mut VecDeque<Vec<u8>>, frames: usize) -> Result<(), AllocError>
+    ensures items { queue.new.items ≡ queue.old.items }
+    ensures len { deque_len queue.new ≡ deque_len queue.old }
+    ensures room { OnOk result (deque_len queue.new + frames ≤ deque_capacity queue.new) }
+    ensures more { deque_capacity queue.old ≤ deque_capacity queue.new }
+    ensures few { deque_capacity queue.new ≤ max (deque_capacity queue.old) (2 * deque_len queue.old + frames) }
+{
+    if queue.capacity() - queue.len() >= frames {
+        return Ok(());
+    }
+    queue.reserve_exact(queue.len().max(frames))
 }
 
 // The frame at this place is taken out, with no move of others where it is the first.

@@ -1,4 +1,5 @@
-ghost use Rattle.std.specs.Prelude.{◌≡◌, ◌≤◌, vec_len, Bool, None, Some, ℕ, List, [], ◌++◌, drop, length, map};
+ghost use Rattle.std.specs.Prelude.{◌≡◌, ◌+◌, ◌*◌, ◌≤◌, vec_len, vec_capacity, Bool, None, Some, ℕ, List, [], ◌++◌};
+ghost use Rattle.std.specs.Prelude.{drop, length, map, max};
 ghost use Rattle.std.specs.Prelude.{option_copied, slice_get, OnOk, OnErr, IfOk, IfErr, IfSome, IsErrOf};
 ghost use Rattle.x25_station.specs.declared.config.Cfg.{Cfg};
 ghost use Rattle.x25_station.specs.code.FitsStation.{FitsStation};
@@ -11,7 +12,7 @@ ghost use Rattle.x25_station.specs.Station as station;
 ghost use Rattle.x25_bits.specs.HarmlessBits.{IsHarmless};
 ghost use Rattle.x25_world.specs.BitDamage.{bit_damage, RefusesBits};
 ghost use Rattle.x25_world.specs.code.PlainTold.{plain_entered};
-ghost use Rattle.x25_world.specs.code.ShownWorld.{line_from, line_of, station_of};
+ghost use Rattle.x25_world.specs.code.ShownWorld.{line_from, line_of, station_of, TakesFewPlaces};
 ghost use Rattle.x25_world.specs.code.FitsHealing.{Tells, telling};
 ghost use Rattle.x25_world.specs.code.FitsWorld.{FitsWorld, Claims, ClaimsOfNew, ClaimsOfSetUp, and_then, IsRefusal};
 ghost use Rattle.x25_world.specs.code.FitsWorld.{TakesMemory, most_told, RefusesConfig};
@@ -187,6 +188,7 @@ impl World {
             (let at = (event_of event.entry).at in
             OnOk result ((after w (happens cfg w (event_of event.entry))).tap ≡ w.tap ++ tapped at (drop (length
             (line_from self.old at)) (line_from self.new at)))) }
+        ensures places { TakesFewPlaces self.old self.new }
         ensures accepted { (cfg : Cfg) (w : definition.World) → FitsWorld cfg self.old w →
             OnOk result (refusal_of (happens cfg w (event_of event.entry)) ≡ None) }
         ensures refused { (cfg : Cfg) (w : definition.World) → FitsWorld cfg self.old w →
@@ -213,6 +215,7 @@ impl World {
         ensures untold { OnErr result (out.new.entries.items ≡ []) }
         ensures sent { out.new.frames.items ≡ [] }
         ensures few { vec_len out.new.entries ≤ most_told (event_of event.entry).act }
+        ensures places { TakesFewPlaces self.old self.new }
         ensures accepted { (cfg : Cfg) (w : definition.World) → FitsWorld cfg self.old w →
             OnOk result (refusal_of (happens cfg w (event_of event.entry)) ≡ None) }
         ensures refused { (cfg : Cfg) (w : definition.World) → FitsWorld cfg self.old w →
@@ -230,6 +233,8 @@ impl World {
             Tells cfg (telling self.old told.old.items) w before →
             OnOk result (Tells cfg (telling self.new told.new.items) (after w (happens cfg w
             (event_of event.entry))) before) }
+        ensures places { TakesFewPlaces self.old self.new }
+        ensures memory { vec_capacity told.new ≤ max (vec_capacity told.old) (2 * vec_len told.old + 3) }
         ensures accepted { (cfg : Cfg) (w : definition.World) → FitsWorld cfg self.old w →
             OnOk result (refusal_of (happens cfg w (event_of event.entry)) ≡ None) }
         ensures refused { (cfg : Cfg) (w : definition.World) → FitsWorld cfg self.old w →
@@ -259,6 +264,7 @@ impl World {
     ) -> Result<(), WorldError>
         ensures step { (cfg : Cfg) (w : definition.World) → FitsWorld cfg self.old w →
             OnOk result (FitsWorld cfg self.new (after w (happens cfg w (bit_damage direction place bits.now)))) }
+        ensures places { TakesFewPlaces self.old self.new }
         ensures accepted { (cfg : Cfg) (w : definition.World) → FitsWorld cfg self.old w →
             OnOk result (refusal_of (happens cfg w (bit_damage direction place bits.now)) ≡ None) }
         ensures harmless { OnOk result (IsHarmless bits.now) }
@@ -283,6 +289,7 @@ impl World {
     ) -> Result<(), WorldError>
         ensures step { (cfg : Cfg) (w : definition.World) → FitsWorld cfg self.old w →
             OnOk result (FitsWorld cfg self.new (after w (happens cfg w (bit_damage direction place bits.now)))) }
+        ensures places { TakesFewPlaces self.old self.new }
         ensures accepted { (cfg : Cfg) (w : definition.World) → FitsWorld cfg self.old w →
             OnOk result (refusal_of (happens cfg w (bit_damage direction place bits.now)) ≡ None) }
         ensures harmless { OnOk result (IsHarmless bits.now) }

@@ -1,5 +1,5 @@
 -- What a world holds, as clauses see it.
-use Rattle.std.specs.Prelude.{ℕ, List}
+use Rattle.std.specs.Prelude.{ℕ, ◌+◌, ◌*◌, ◌≤◌, List, length, max}
 use Rattle.x25_bits.specs.declared.role.Role.{Role}
 use Rattle.x25_bits.specs.declared.role.Role.TheVariants.{Dte, Dce}
 use Rattle.x25_bits.specs.declared.direction.Direction.{Direction}
@@ -7,12 +7,14 @@ use Rattle.x25_bits.specs.declared.direction.Direction.TheVariants.{ToDce, ToDte
 use Rattle.x25_station.specs.declared.station.Station.{Station}
 use Rattle.x25_world.specs.code.ShownLine.{ShownLine}
 
--- the stations, and the octets on the line in each direction, front first
+-- the stations, the octets on the line in each direction, front first, and for how many frames it has places in memory
 pub record ShownWorld : Type 0 where
   pub dte : Station
   pub dce : Station
   pub to_dce : List (List ℕ)
   pub to_dte : List (List ℕ)
+  pub places_to_dce : ℕ
+  pub places_to_dte : ℕ
 
 abbrev pub line_of : ShownWorld → Direction → List (List ℕ)
 line_of v ToDce = v.to_dce
@@ -29,4 +31,17 @@ station_of v Dce = v.dce
 
 -- these stations, and this line between them
 abbrev pub shown_with : Station → Station → ShownLine → ShownWorld
-shown_with dte dce line = record { dte = dte; dce = dce; to_dce = line.to_dce; to_dte = line.to_dte }
+shown_with dte dce line = record {
+  dte = dte;
+  dce = dce;
+  to_dce = line.to_dce;
+  to_dte = line.to_dte;
+  places_to_dce = line.places_to_dce;
+  places_to_dte = line.places_to_dte;
+}
+
+-- where the line has more places than before in a direction, they are at most twice as many as frames were there, and
+-- 17 more, as many as a step of a station sends
+pub record TakesFewPlaces (old new : ShownWorld) : Type 0 where
+  pub to_dce : new.places_to_dce ≤ max old.places_to_dce (2 * length old.to_dce + 17)
+  pub to_dte : new.places_to_dte ≤ max old.places_to_dte (2 * length old.to_dte + 17)

@@ -17,3 +17,8 @@ returns-clause-refused c = λ cfg w fits. (c.act_at_end.ensures.acted cfg w (sub
 
 pub returns-clause-stays : goal.returns-clause-stays
 returns-clause-stays c = λ cfg w fits. (c.act_at_end.ensures.acted cfg w (subst (λ (v : ShownWorld). FitsWorld cfg v w) (sym c.self.view_is) fits)).stays
+
+pub returns-clause-places : goal.returns-clause-places
+returns-clause-places c =
+    let few = c.act_at_end.ensures.places in
+    rw (← c.self.view_is) (record { to_dce = few.to_dce; to_dte = few.to_dte })
