@@ -1,6 +1,6 @@
 -- A session that begins at the station, by SABM or by the UA that it awaits, and SABM while it awaits UA, keep what
 -- holds of it and a peer.
-use Rattle.std.proofs.Common.{◌≡◌, ◌≤◌, ◌<◌, ℕ, suc, ◌+◌, List, [], ◌∷◌, ◌++◌, inl, inr, Bool, true, false, None, refl, sym, ap, ◌∙◌, subst, arith, append-nil}
+use Rattle.std.proofs.Common.{◌≡◌, zero, ◌≤◌, ◌<◌, ℕ, suc, ◌+◌, List, [], ◌∷◌, ◌++◌, inl, inr, Bool, true, false, None, refl, sym, ap, ◌∙◌, subst, arith, append-nil}
 use Rattle.x25_frame.specs.Frame.{PlainFrame, ua}
 use Rattle.x25_frame.specs.Spelling.{spelling_of}
 use Rattle.x25_frame.specs.laws.ReadingLaw.{ReadsSpelled}
@@ -18,15 +18,15 @@ use Rattle.x25_line.proofs.sessions.SessionLines.{numbers, quiet_of, count}
 use Rattle.x25_line.proofs.sessions.SessionHeld.{View, Live, Soon, Gone, Owes, HasLists, SameLists, meetings_same, meetings_anew}
 use Rattle.x25_line.proofs.sessions.SessionSteps.{end_after, stepped, nothing_handed}
 use Rattle.x25_sessions.specs.laws.PeerSessions.{Stand, Asking, In, PeerSessions, as_end, both_ends, with_peer}
-use Rattle.x25_sessions.proofs.PeerLines.{After, after_last, after_front, Thin, none, IsAsked, asked_map, Comes, behind_ua, behind_quiet_ua, comes_behind_ua}
-use Rattle.x25_sessions.proofs.PeerHeld.{Running, MayBeOlder, NearIs, BackIs, OutIs, OnLines, Held, joined_with, begins_with}
-use Rattle.x25_sessions.proofs.PeerNear.{read_of, front_gone, quiet_step, lines_more}
+use Rattle.x25_sessions.proofs.PeerLines.{After, after_last, after_front, Thin, none, IsAsked, asked_map, Comes, pick, behind_ua, behind_quiet_ua, comes_behind_ua}
+use Rattle.x25_sessions.proofs.PeerHeld.{AllSendable, Running, MayBeOlder, NearIs, BackIs, OutIs, OnLines, Held, joined_with, begins_with}
+use Rattle.x25_sessions.proofs.PeerNear.{read_of, front_gone, quiet_step, more_frmr, lines_more}
 
 -- LinkUp is noted
-up_step : (c : Settings) (w : PeerSessions) (es : List Entry) (step : Step) → step.notes.up ≡ true → Held c (with_peer w.peer (stepped c (both_ends w) es w.met [] (suc w.near.begun) step))
-    → Held c (with_peer w.peer (after_step c (both_ends w) es w.met [] step))
-up_step c w es step up h =
-    subst (λ (n : ℕ). Held c (with_peer w.peer (stepped c (both_ends w) es w.met [] n step))) (sym (ap (λ (b : Bool). begun_by b w.near.begun) up)) h
+up_step : (Odd : Type 0) (c : Settings) (w : PeerSessions) (es : List Entry) (step : Step) → step.notes.up ≡ true → Held Odd c (with_peer w.peer (stepped c (both_ends w) es w.met [] (suc w.near.begun) step))
+    → Held Odd c (with_peer w.peer (after_step c (both_ends w) es w.met [] step))
+up_step Odd c w es step up h =
+    subst (λ (n : ℕ). Held Odd c (with_peer w.peer (stepped c (both_ends w) es w.met [] n step))) (sym (ap (λ (b : Bool). begun_by b w.near.begun) up)) h
 
 fresh_runs : (c : Settings) (s : LinkStation) → s ≡ fresh → Running c s
 fresh_runs c s is = subst (Running c) (sym is) (λ _. (record { place_low = omega arith; place_high = omega arith; sent_high = omega arith; room = omega arith }, tt))
@@ -63,7 +63,15 @@ latest_asked c phase begun stand e es part one h = elim h [
   | inr asked ↦ elim asked [ inl older ↦ absurd (no_older phase part older.0) | inr latest ↦ latest ]
 ]
 
-module _ (reads : ReadsSpelled) (c : Settings) where
+behind_sendable : (Odd : Type 0) (c : Settings) (es : List Entry) → AllSendable Odd c es → AllSendable Odd c (behind_ua (other c.role) c.longest es)
+behind_sendable Odd c [] h = tt
+behind_sendable Odd c (e ∷ es) h = go (ua_in (read_of c e)) (behind_sendable Odd c es h.1) h.1
+  where
+    go : (n : ℕ) → AllSendable Odd c (behind_ua (other c.role) c.longest es) → AllSendable Odd c es → AllSendable Odd c (pick (other c.role) c.longest n (behind_ua (other c.role) c.longest es) es)
+    go zero a b = a
+    go (suc n) a b = b
+
+module _ (reads : ReadsSpelled) (Odd : Type 0) (c : Settings) where
   ua_parting : (f : Bool) (fs : List PlainFrame) → fs ≡ ua f ∷ [] → AreParting (Unit {0}) fs
   ua_parting f fs is = subst (AreParting (Unit {0})) (sym is) tt
 
@@ -76,12 +84,13 @@ module _ (reads : ReadsSpelled) (c : Settings) where
 
   -- ---- SABM, in Down and in Up
 
-  pub sabm_begins : (w : PeerSessions) (h : Held c w) (e : Entry) (es : List Entry) → w.back ≡ e ∷ es → sabm_in (read_of c e) ≡ 1 → TakesPart w.near.station.phase → (f : Bool) (step : Step)
-      → step.side.near ≡ fresh → step.side.out ≡ ua f ∷ [] → step.packet ≡ None → step.notes.up ≡ true → Held c (with_peer w.peer (after_step c (both_ends w) es w.met [] step))
+  pub sabm_begins : (w : PeerSessions) (h : Held Odd c w) (e : Entry) (es : List Entry) → w.back ≡ e ∷ es → sabm_in (read_of c e) ≡ 1 → TakesPart w.near.station.phase → (f : Bool) (step : Step)
+      → step.side.near ≡ fresh → step.side.out ≡ ua f ∷ [] → step.packet ≡ None → step.notes.up ≡ true → Held Odd c (with_peer w.peer (after_step c (both_ends w) es w.met [] step))
   sabm_begins w h e es is one part f step near sent nothing up =
       let all : OnLines c w.near.station.phase w.peer.begun w.peer.stand w.out (e ∷ es) = subst (OnLines c w.near.station.phase w.peer.begun w.peer.stand w.out) is h.lines in
       let latest = latest_asked c w.near.station.phase w.peer.begun w.peer.stand e es part one all.asked.0 in
       let rest = front_gone c w.near.station.phase w.peer.begun w.peer.stand w.out e es all in
+      let sendable = (subst (AllSendable Odd c) is h.sendable).1 in
       let owed = none_owed w.near.station.phase part _ _ rest.owes in
       let asked = asked_map (other c.role) c.longest (MayBeOlder w.near.station.phase) ⊥ (no_older w.near.station.phase part) w.peer.begun w.peer.stand es all.asked.1 in
       let sabms = ap (count sabm_in) sent in
@@ -89,9 +98,9 @@ module _ (reads : ReadsSpelled) (c : Settings) where
       let discs = ap (count disc_in) sent in
       let same = nothing_handed w.near (suc w.near.begun) step nothing (omega arith) in
       let phase : step.side.near.phase ≡ Up = ap (λ (s : LinkStation). s.phase) near in
-      up_step c w es step up (record {
+      up_step Odd c w es step up (record {
         alone = joined_with (octets_of es);
-        reached = begins_with c es latest.1;
+        reached = begins_with Odd c es latest.1 sendable;
         quiet = refl;
         p = suc w.near.begun;
         q = suc w.peer.begun;
@@ -101,7 +110,7 @@ module _ (reads : ReadsSpelled) (c : Settings) where
         peer = (latest.0, refl);
         back = record { octets = refl; of_session = quiet_of (other c.role) c.longest (suc w.peer.begun) es latest.1; asked = asked };
         out = λ asks. (let few = (all.asking asks).0 in behind_answer (suc w.near.begun) w.out (suc w.near.begun) f step.side.out sent (omega (arith, few, one)));
-        lines = lines_more reads c step.side.near.phase w.near.station.phase w.peer.begun w.peer.stand w.out es (suc w.near.begun) step.side.out (ua_parting f step.side.out sent) rest
+        lines = lines_more reads Odd c step.side.near.phase w.near.station.phase w.peer.begun w.peer.stand w.out es (suc w.near.begun) step.side.out (ua_parting f step.side.out sent) rest
             (subst (λ (z : Phase). Owes z (how_many sabm_in c.role c.longest w.out + count sabm_in step.side.out + how_many ua_in (other c.role) c.longest es) (how_many disc_in c.role c.longest w.out + count disc_in step.side.out)) (sym phase)
             (omega (arith, owed.0, sabms), omega (arith, owed.1, discs)))
             (λ asks. (let few = (all.asking asks).0 in omega (arith, few, one, uas)))
@@ -111,13 +120,15 @@ module _ (reads : ReadsSpelled) (c : Settings) where
         running = fresh_runs c step.side.near near;
         meetings = meetings_same w.near (end_after w.near (suc w.near.begun) [] step) (as_end w.peer) (suc w.near.begun) (suc w.peer.begun) w.met same
             (meetings_anew w.near (as_end w.peer) h.p h.q (suc w.near.begun) (suc w.peer.begun) w.met (omega arith) (omega arith) h.meetings);
+        sendable = sendable;
+        no_frmr = λ lapb. more_frmr reads c w.out (suc w.near.begun) step.side.out (ua_parting f step.side.out sent) (h.no_frmr lapb);
       })
 
   -- ---- the UA that is awaited
 
-  pub ua_begins : (w : PeerSessions) (h : Held c w) (e : Entry) (es : List Entry) → w.back ≡ e ∷ es → ua_in (read_of c e) ≡ 1 → w.near.station.phase ≡ Waiting → (step : Step) → step.side.near ≡ fresh → step.side.out ≡ []
-      → step.packet ≡ None → step.notes.up ≡ true → Held c (with_peer w.peer (after_step c (both_ends w) es w.met [] step))
-  ua_begins w h e es is one waiting step near sent nothing up = up_step c w es step up (go h.near_view h.near h.back)
+  pub ua_begins : (w : PeerSessions) (h : Held Odd c w) (e : Entry) (es : List Entry) → w.back ≡ e ∷ es → ua_in (read_of c e) ≡ 1 → w.near.station.phase ≡ Waiting → (step : Step) → step.side.near ≡ fresh → step.side.out ≡ []
+      → step.packet ≡ None → step.notes.up ≡ true → Held Odd c (with_peer w.peer (after_step c (both_ends w) es w.met [] step))
+  ua_begins w h e es is one waiting step near sent nothing up = up_step Odd c w es step up (go h.near_view h.near h.back)
     where
       all : OnLines c w.near.station.phase w.peer.begun w.peer.stand w.out (e ∷ es)
       all = subst (OnLines c w.near.station.phase w.peer.begun w.peer.stand w.out) is h.lines
@@ -147,7 +158,7 @@ module _ (reads : ReadsSpelled) (c : Settings) where
       nothing_put = sym (append-nil w.out) ∙ ap (λ (fs : List PlainFrame). w.out ++ sent_in (suc w.near.begun) c.role fs) (sym sent)
 
       go : (v : View) → NearIs v w.near h.alone.near h.p h.alone.out → BackIs c v w.near.station.phase w.peer.begun w.peer.stand w.back h.alone.back h.q
-          → Held c (with_peer w.peer (stepped c (both_ends w) es w.met [] (suc w.near.begun) step))
+          → Held Odd c (with_peer w.peer (stepped c (both_ends w) es w.met [] (suc w.near.begun) step))
       go Live n k = not_both (is_up w.near.station.phase) n.0 (ap is_up waiting)
       go Gone n k = (let no_ua = k waiting in absurd (omega (arith, some, no_ua)))
       go Soon n k =
@@ -165,7 +176,7 @@ module _ (reads : ReadsSpelled) (c : Settings) where
             peer = h.peer;
             back = comes;
             out = subst (λ (xs : List Entry). OutIs c h.peer_view w.peer.stand xs h.alone.out h.p) nothing_put h.out;
-            lines = lines_more reads c step.side.near.phase w.near.station.phase w.peer.begun w.peer.stand w.out es (suc w.near.begun) step.side.out (subst (AreParting (Unit {0})) (sym sent) tt)
+            lines = lines_more reads Odd c step.side.near.phase w.near.station.phase w.peer.begun w.peer.stand w.out es (suc w.near.begun) step.side.out (subst (AreParting (Unit {0})) (sym sent) tt)
                 (front_gone c w.near.station.phase w.peer.begun w.peer.stand w.out e es all)
                 (subst (λ (z : Phase). Owes z (how_many sabm_in c.role c.longest w.out + count sabm_in step.side.out + how_many ua_in (other c.role) c.longest es) (how_many disc_in c.role c.longest w.out + count disc_in step.side.out)) (sym phase)
                 (omega (arith, owed.0, one, sabms), omega (arith, owed.1, discs)))
@@ -179,12 +190,14 @@ module _ (reads : ReadsSpelled) (c : Settings) where
             peer_lists = h.peer_lists;
             running = fresh_runs c step.side.near near;
             meetings = meetings_same w.near (end_after w.near (suc w.near.begun) [] step) (as_end w.peer) h.p h.q w.met same_lists h.meetings;
+            sendable = (subst (AllSendable Odd c) is h.sendable).1;
+            no_frmr = λ lapb. more_frmr reads c w.out (suc w.near.begun) step.side.out (subst (AreParting (Unit {0})) (sym sent) tt) (h.no_frmr lapb);
           }
 
   -- ---- SABM of a peer that awaits UA, while the station awaits it too
 
-  pub sabm_crosses : (w : PeerSessions) (h : Held c w) (e : Entry) (es : List Entry) → w.back ≡ e ∷ es → sabm_in (read_of c e) ≡ 1 → w.near.station.phase ≡ Waiting → w.peer.stand ≡ Asking → (f : Bool) (step : Step)
-      → step.side.near ≡ w.near.station → step.side.out ≡ ua f ∷ [] → step.packet ≡ None → step.notes.up ≡ false → Held c (with_peer w.peer (after_step c (both_ends w) es w.met [] step))
+  pub sabm_crosses : (w : PeerSessions) (h : Held Odd c w) (e : Entry) (es : List Entry) → w.back ≡ e ∷ es → sabm_in (read_of c e) ≡ 1 → w.near.station.phase ≡ Waiting → w.peer.stand ≡ Asking → (f : Bool) (step : Step)
+      → step.side.near ≡ w.near.station → step.side.out ≡ ua f ∷ [] → step.packet ≡ None → step.notes.up ≡ false → Held Odd c (with_peer w.peer (after_step c (both_ends w) es w.met [] step))
   sabm_crosses w h e es is one waiting asks f step near sent nothing quiet =
       let all : OnLines c w.near.station.phase w.peer.begun w.peer.stand w.out (e ∷ es) = subst (OnLines c w.near.station.phase w.peer.begun w.peer.stand w.out) is h.lines in
       let asking = all.asking asks in
@@ -195,6 +208,7 @@ module _ (reads : ReadsSpelled) (c : Settings) where
         | inr known ↦ elim known [ inl older ↦ absurd older.0 | inr now ↦ now ]
       ] in
       let rest = front_gone c w.near.station.phase w.peer.begun w.peer.stand w.out e es all in
+      let sendable = (subst (AllSendable Odd c) is h.sendable).1 in
       let sabms = ap (count sabm_in) sent in
       let uas = ap (count ua_in) sent in
       let discs = ap (count disc_in) sent in
@@ -203,9 +217,9 @@ module _ (reads : ReadsSpelled) (c : Settings) where
       let behind = behind_ua (other c.role) c.longest es in
       let owed : (how_many sabm_in c.role c.longest w.out + how_many ua_in (other c.role) c.longest es ≤ 1) × (how_many disc_in c.role c.longest w.out ≡ 0) =
       subst (λ (z : Phase). Owes z (how_many sabm_in c.role c.longest w.out + how_many ua_in (other c.role) c.longest es) (how_many disc_in c.role c.longest w.out)) waiting rest.owes in
-      quiet_step c w es w.met [] step quiet (record {
+      quiet_step Odd c w es w.met [] step quiet (record {
         alone = joined_with (octets_of behind);
-        reached = begins_with c behind (behind_quiet_ua (other c.role) c.longest es latest.1);
+        reached = begins_with Odd c behind (behind_quiet_ua (other c.role) c.longest es latest.1) (behind_sendable Odd c es sendable);
         quiet = refl;
         p = suc w.near.begun;
         q = suc w.peer.begun;
@@ -215,7 +229,7 @@ module _ (reads : ReadsSpelled) (c : Settings) where
         peer = (latest.0, refl);
         back = λ _. comes_behind_ua (other c.role) c.longest w.peer.begun (suc w.peer.begun) w.peer.stand es latest.1 asked.1;
         out = λ _. behind_answer (suc w.near.begun) w.out w.near.begun f step.side.out sent (omega (arith, few, one));
-        lines = lines_more reads c step.side.near.phase w.near.station.phase w.peer.begun w.peer.stand w.out es w.near.begun step.side.out (ua_parting f step.side.out sent) rest
+        lines = lines_more reads Odd c step.side.near.phase w.near.station.phase w.peer.begun w.peer.stand w.out es w.near.begun step.side.out (ua_parting f step.side.out sent) rest
             (subst (λ (z : Phase). Owes z (how_many sabm_in c.role c.longest w.out + count sabm_in step.side.out + how_many ua_in (other c.role) c.longest es) (how_many disc_in c.role c.longest w.out + count disc_in step.side.out)) (sym (phase ∙ waiting))
             (omega (arith, owed.0, sabms), omega (arith, owed.1, discs)))
             (λ _. omega (arith, few, one, uas))
@@ -225,4 +239,6 @@ module _ (reads : ReadsSpelled) (c : Settings) where
         running = λ up. not_both (is_up step.side.near.phase) up (ap is_up (phase ∙ waiting));
         meetings = meetings_same w.near (end_after w.near w.near.begun [] step) (as_end w.peer) (suc w.near.begun) (suc w.peer.begun) w.met same
             (meetings_anew w.near (as_end w.peer) h.p h.q (suc w.near.begun) (suc w.peer.begun) w.met (omega arith) (omega arith) h.meetings);
+        sendable = sendable;
+        no_frmr = λ lapb. more_frmr reads c w.out w.near.begun step.side.out (ua_parting f step.side.out sent) (h.no_frmr lapb);
       })

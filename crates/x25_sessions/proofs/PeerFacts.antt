@@ -16,21 +16,23 @@ use Rattle.x25_link.specs.Station.{Settings, LinkStation, is_up}
 use Rattle.x25_link.specs.Hearing.{Step as LinkStep}
 use Rattle.x25_link.specs.laws.WindowMachine.{Window, Input, hands_down, receives, nothing, ShowAll, IsSent, Runs, rests, goes_on}
 use Rattle.x25_link.specs.laws.WindowLaw.{window_of, after_input, ending_of, Stays, Ends}
-use Rattle.x25_line.specs.laws.StationClaims.{AreWhole}
+use Rattle.x25_line.specs.laws.StationClaims.{AreWhole, number_in}
 use Rattle.x25_line.specs.laws.Sessions.{sabm_in, ua_in, disc_in, how_many, sent_in}
 use Rattle.x25_line.proofs.StationLines.{AllGood, good_append, good_reads, AreParting, parting_whole}
 use Rattle.x25_line.proofs.StationSends.{AllWithin, within_push, item_at, single_good, tell_good, send_good}
 use Rattle.x25_line.proofs.StationSteps.{not_both}
-use Rattle.x25_line.proofs.sessions.SessionLines.{Read, IsKind, of_sabm, of_ua, of_disc, number_kind, count, many_sent}
+use Rattle.x25_line.proofs.sessions.SessionLines.{Read, none_is_some, IsKind, of_sabm, of_ua, of_disc, number_kind, count, many_sent}
+use Rattle.x25_sessions.specs.laws.PeerSessionClaims.{frmr_in}
 use Rattle.x25_sessions.proofs.PeerHeld.{Running}
 
--- what it puts there, where the peer asks or not
-pub record LiveFacts (c : Settings) (Asks : Type 0) (step : LinkStep) : Type 0 where
+-- what it puts there, where the peer sends frames of LAPB alone or not, and asks or not
+pub record LiveFacts (c : Settings) (Lapb Asks : Type 0) (step : LinkStep) : Type 0 where
   pub sabm : (n : ℕ) → how_many sabm_in c.role c.longest (sent_in n c.role step.side.out) ≡ 0
   pub disc : (step.side.near.phase ≡ Closed) ⊎ ((n : ℕ) → how_many disc_in c.role c.longest (sent_in n c.role step.side.out) ≡ 0)
   pub ua : Asks → (n : ℕ) → how_many ua_in c.role c.longest (sent_in n c.role step.side.out) ≡ 0
   pub still : step.side.near.phase ≡ Waiting → ⊥
   pub running : Running c step.side.near
+  pub frmr : Lapb → (n : ℕ) → how_many frmr_in c.role c.longest (sent_in n c.role step.side.out) ≡ 0
 
 -- a packet that is brought fits into an I frame
 abbrev pub MayBring : Settings → Input → Type 0
@@ -156,11 +158,46 @@ module _ (reads : ReadsSpelled) (c : Settings) where
       let there = many_good kind k n fs h.1 in
       omega (arith, here, there)
 
+  number_frmr : (r : Read) (g : PlainFrame) → number_in r ≡ Some g → frmr_in r ≡ 0
+  number_frmr (Ok (info ns nr p x)) g e = refl
+  number_frmr (Ok (rr command nr pf)) g e = refl
+  number_frmr (Ok (rnr command nr pf)) g e = refl
+  number_frmr (Ok (rej command nr pf)) g e = refl
+  number_frmr (Ok (sabm p)) g e = refl
+  number_frmr (Ok (disc p)) g e = refl
+  number_frmr (Ok (ua f)) g e = refl
+  number_frmr (Ok (dm f)) g e = refl
+  number_frmr (Ok (frmr f why)) g e = none_is_some g e
+  number_frmr (Err x) g e = refl
+
+  good_frmr : (n : ℕ) (fs : List PlainFrame) → AllGood c.longest fs → how_many frmr_in c.role c.longest (sent_in n c.role fs) ≡ 0
+  good_frmr n [] h = refl
+  good_frmr n (f ∷ fs) h =
+      let here : frmr_in (frame_of c.role c.longest (spelling_of c.role f)) ≡ 0 = ap frmr_in (good_reads reads c.role c.longest f h.0) ∙ number_frmr (Ok f) f h.0.number in
+      let there = good_frmr n fs h.1 in
+      omega (arith, here, there)
+
+  parting_count : (fs : List PlainFrame) → AreParting (Unit {0}) fs → count frmr_in fs ≡ 0
+  parting_count [] h = refl
+  parting_count (sabm p ∷ fs) h = (let rest = parting_count fs h.1 in omega (arith, rest))
+  parting_count (disc p ∷ fs) h = (let rest = parting_count fs h in omega (arith, rest))
+  parting_count (ua f ∷ fs) h = (let rest = parting_count fs h in omega (arith, rest))
+  parting_count (dm f ∷ fs) h = (let rest = parting_count fs h in omega (arith, rest))
+  parting_count (info ns nr p x ∷ fs) h = absurd h
+  parting_count (rr command nr pf ∷ fs) h = absurd h
+  parting_count (rnr command nr pf ∷ fs) h = absurd h
+  parting_count (rej command nr pf ∷ fs) h = absurd h
+  parting_count (frmr f why ∷ fs) h = absurd h
+
   pub many_parting : (kind : Read → ℕ) (n : ℕ) (fs : List PlainFrame) → AreParting (Unit {0}) fs → how_many kind c.role c.longest (sent_in n c.role fs) ≡ count kind fs
   many_parting kind n fs parting = many_sent reads c.role c.longest kind n [] fs (parting_whole (Unit {0}) c.longest [] fs parting)
 
-  pub stays_facts : (Asks : Type 0) (input : Input) (s : LinkStation) (step : LinkStep) → MayBring c input → AllWithin c.longest s.outgoing.given → Stays c.window input s step → LiveFacts c Asks step
-  stays_facts Asks input s step may within h =
+  -- no FRMR is among frames that part
+  pub parting_frmr : (n : ℕ) (fs : List PlainFrame) → AreParting (Unit {0}) fs → how_many frmr_in c.role c.longest (sent_in n c.role fs) ≡ 0
+  parting_frmr n fs parting = many_parting frmr_in n fs parting ∙ parting_count fs parting
+
+  pub stays_facts : (Lapb Asks : Type 0) (input : Input) (s : LinkStation) (step : LinkStep) → MayBring c input → AllWithin c.longest s.outgoing.given → Stays c.window input s step → LiveFacts c Lapb Asks step
+  stays_facts Lapb Asks input s step may within h =
       let from = input_within c input step.packet (window_of c.window s) may within in
       let good = runs_good c.longest (after_input input step.packet (window_of c.window s)) (window_of c.window step.side.near) step.side.out from h.sends in
       record {
@@ -169,17 +206,19 @@ module _ (reads : ReadsSpelled) (c : Settings) where
         ua = λ _ n. many_good ua_in of_ua n step.side.out good.0;
         still = λ waiting. not_both (is_up step.side.near.phase) h.up (ap is_up waiting);
         running = λ _. (h.sound, subst (AllWithin c.longest) (sym good.1) from);
+        frmr = λ _ n. good_frmr n step.side.out good.0;
       }
 
-  ended : (Asks : Type 0) (step : LinkStep) (fs : List PlainFrame) → step.side.out ≡ fs → AreWhole c.longest [] fs → count sabm_in fs ≡ 0 → (step.side.near.phase ≡ Closed) ⊎ (count disc_in fs ≡ 0)
-      → (Asks → count ua_in fs ≡ 0) → is_up step.side.near.phase ≡ false → (step.side.near.phase ≡ Waiting → ⊥) → LiveFacts c Asks step
-  ended Asks step fs is whole sabms discs uas off still =
+  ended : (Lapb Asks : Type 0) (step : LinkStep) (fs : List PlainFrame) → step.side.out ≡ fs → AreWhole c.longest [] fs → count sabm_in fs ≡ 0 → (step.side.near.phase ≡ Closed) ⊎ (count disc_in fs ≡ 0)
+      → (Asks → count ua_in fs ≡ 0) → is_up step.side.near.phase ≡ false → (step.side.near.phase ≡ Waiting → ⊥) → (Lapb → count frmr_in fs ≡ 0) → LiveFacts c Lapb Asks step
+  ended Lapb Asks step fs is whole sabms discs uas off still frmrs =
       record {
         sabm = λ n. many sabm_in n ∙ sabms;
         disc = elim discs [ inl closed ↦ inl closed | inr none ↦ inr (λ n. many disc_in n ∙ none) ];
         ua = λ asks n. many ua_in n ∙ uas asks;
         still = still;
         running = λ up. not_both (is_up step.side.near.phase) up off;
+        frmr = λ lapb n. many frmr_in n ∙ frmrs lapb;
       }
     where
       many : (kind : Read → ℕ) (n : ℕ) → how_many kind c.role c.longest (sent_in n c.role step.side.out) ≡ count kind fs
@@ -197,17 +236,17 @@ module _ (reads : ReadsSpelled) (c : Settings) where
       never : Closed ≡ Waiting → ⊥
       never k = cc
 
-  pub ends_facts : (Asks : Type 0) (reason : Reason) (step : LinkStep) → (reason ≡ Reset → ⊥) → (reason ≡ Disc → Asks → ⊥)
-      → ((f : Bool) (why : List ℕ) → reason ≡ FrmrSent → step.side.out ≡ frmr f why ∷ [] → length why ≡ 3) → Ends reason step → LiveFacts c Asks step
-  ends_facts Asks Retries step never answers three h = ended Asks step [] h.frames tt refl (inr refl) (λ _. refl) (ap is_up h.phase) (down_still _ h.phase)
-  ends_facts Asks Disc step never answers three h =
-      ended Asks step (ua h.frames.0 ∷ []) h.frames.1 (parting_whole (Unit {0}) c.longest [] (ua h.frames.0 ∷ []) tt) refl (inr refl) (λ asks. absurd (answers refl asks)) (ap is_up h.phase) (down_still _ h.phase)
-  ends_facts Asks Dm step never answers three h = ended Asks step [] h.frames tt refl (inr refl) (λ _. refl) (ap is_up h.phase) (down_still _ h.phase)
-  ends_facts Asks FrmrSent step never answers three h =
-      ended Asks step (frmr h.frames.0 h.frames.1 ∷ []) h.frames.2 (record { in_range = tt; carries = three h.frames.0 h.frames.1 refl h.frames.2; within = tt; packet = tt }, tt) refl (inr refl) (λ _. refl)
-      (ap is_up h.phase) (down_still _ h.phase)
-  ends_facts Asks FrmrGot step never answers three h = ended Asks step [] h.frames tt refl (inr refl) (λ _. refl) (ap is_up h.phase) (down_still _ h.phase)
-  ends_facts Asks Reset step never answers three h = absurd (never refl)
-  ends_facts Asks Local step never answers three h =
-      ended Asks step (disc true ∷ []) h.frames (parting_whole (Unit {0}) c.longest [] (disc true ∷ []) tt) refl (inl h.phase) (λ _. refl) (ap is_up h.phase) (closed_still _ h.phase)
-  ends_facts Asks Counts step never answers three h = ended Asks step [] h.frames tt refl (inr refl) (λ _. refl) (ap is_up h.phase) (down_still _ h.phase)
+  pub ends_facts : (Lapb Asks : Type 0) (reason : Reason) (step : LinkStep) → (reason ≡ Reset → ⊥) → (reason ≡ Disc → Asks → ⊥) → (reason ≡ FrmrSent → Lapb → ⊥)
+      → ((f : Bool) (why : List ℕ) → reason ≡ FrmrSent → step.side.out ≡ frmr f why ∷ [] → length why ≡ 3) → Ends reason step → LiveFacts c Lapb Asks step
+  ends_facts Lapb Asks Retries step never answers faultless three h = ended Lapb Asks step [] h.frames tt refl (inr refl) (λ _. refl) (ap is_up h.phase) (down_still _ h.phase) (λ _. refl)
+  ends_facts Lapb Asks Disc step never answers faultless three h =
+      ended Lapb Asks step (ua h.frames.0 ∷ []) h.frames.1 (parting_whole (Unit {0}) c.longest [] (ua h.frames.0 ∷ []) tt) refl (inr refl) (λ asks. absurd (answers refl asks)) (ap is_up h.phase) (down_still _ h.phase) (λ _. refl)
+  ends_facts Lapb Asks Dm step never answers faultless three h = ended Lapb Asks step [] h.frames tt refl (inr refl) (λ _. refl) (ap is_up h.phase) (down_still _ h.phase) (λ _. refl)
+  ends_facts Lapb Asks FrmrSent step never answers faultless three h =
+      ended Lapb Asks step (frmr h.frames.0 h.frames.1 ∷ []) h.frames.2 (record { in_range = tt; carries = three h.frames.0 h.frames.1 refl h.frames.2; within = tt; packet = tt }, tt) refl (inr refl) (λ _. refl)
+      (ap is_up h.phase) (down_still _ h.phase) (λ lapb. absurd (faultless refl lapb))
+  ends_facts Lapb Asks FrmrGot step never answers faultless three h = ended Lapb Asks step [] h.frames tt refl (inr refl) (λ _. refl) (ap is_up h.phase) (down_still _ h.phase) (λ _. refl)
+  ends_facts Lapb Asks Reset step never answers faultless three h = absurd (never refl)
+  ends_facts Lapb Asks Local step never answers faultless three h =
+      ended Lapb Asks step (disc true ∷ []) h.frames (parting_whole (Unit {0}) c.longest [] (disc true ∷ []) tt) refl (inl h.phase) (λ _. refl) (ap is_up h.phase) (closed_still _ h.phase) (λ _. refl)
+  ends_facts Lapb Asks Counts step never answers faultless three h = ended Lapb Asks step [] h.frames tt refl (inr refl) (λ _. refl) (ap is_up h.phase) (down_still _ h.phase) (λ _. refl)

@@ -1,9 +1,8 @@
 -- What holds of a station and a peer over set-up and re-set-up: the session that stands, by itself, is one of a link that
 -- is set up once, with the same octets on its lines.
-use Rattle.std.proofs.Common.{◌≡◌, ◌≤◌, ◌<◌, ℕ, zero, suc, ◌+◌, List, [], ◌∷◌, ◌++◌, ◌⊎◌, inl, inr, map, remove, true, false, Option, Some, None, Ok, Err, refl, sym, ap, ◌∙◌, subst, arith, append-nil, append_assoc}
-use Rattle.x25_frame.specs.Frame.{PlainFrame, info, rr, rnr, rej, sabm, disc, ua, dm, frmr}
+use Rattle.std.proofs.Common.{◌≡◌, ◌≤◌, ◌<◌, ℕ, zero, suc, ◌+◌, List, [], ◌∷◌, ◌++◌, ◌⊎◌, inl, inr, map, remove, true, false, Option, Some, None, refl, sym, ap, ◌∙◌, subst, arith, append-nil, append_assoc}
+use Rattle.x25_frame.specs.Frame.{PlainFrame}
 use Rattle.x25_frame.specs.Reading.{frame_of}
-use Rattle.x25_frame.specs.declared.error.FrameError.TheVariants.{Short, BadFcs, BadAddress, Undefined, NoInfoAllowed, TooLong}
 use Rattle.x25_link.specs.declared.phase.Phase.{Phase}
 use Rattle.x25_link.specs.declared.phase.Phase.TheVariants.{Down, Waiting, Up, Closed}
 use Rattle.x25_link.specs.Station.{Settings, LinkStation, is_up}
@@ -18,13 +17,14 @@ use Rattle.x25_line.specs.laws.Peer.{Peer, fresh_peer}
 use Rattle.x25_line.specs.laws.Peer as once
 use Rattle.x25_line.specs.laws.PeerJoined.{Joined, IsReached, our_end, with_peer as with_peer_once, Ours, HandsDown, Sends, Loses, Damages}
 use Rattle.x25_line.specs.laws.PeerJoined as joined
-use Rattle.x25_line.proofs.StationLines.{consed}
+use Rattle.x25_line.proofs.StationLines.{consed, visible_reads}
 use Rattle.x25_line.proofs.StationSends.{AllWithin}
 use Rattle.x25_line.proofs.StationSteps.{not_both}
-use Rattle.x25_line.proofs.sessions.SessionLines.{Read, none_is_some, AllBegun, numbers, quiet_tail, Behind, of_sabm, of_ua, of_disc, change_many, change_behind, change_begun, change_of}
+use Rattle.x25_line.proofs.sessions.SessionLines.{Read, AllBegun, numbers, quiet_tail, Behind, of_sabm, of_ua, of_disc, change_many, change_behind, change_begun, change_of}
 use Rattle.x25_line.proofs.sessions.SessionHeld.{View, Live, Soon, Gone, Owes, owes_less, HasLists, Meetings, IsPaired, IsBegun}
 use Rattle.x25_sessions.specs.laws.PeerSessions.{Stand, Out, Asking, In, PeerEnd, PeerSessions, as_end}
-use Rattle.x25_sessions.proofs.PeerLines.{Shrinks, same, loses, damages, Shrunk, Less, less_shrinks, less_changes, After, after_less, Thin, thin_less, AllAsked, asked_less, Comes}
+use Rattle.x25_sessions.specs.laws.PeerSessionClaims.{frmr_in}
+use Rattle.x25_sessions.proofs.PeerLines.{Shrinks, same, loses, damages, Shrunk, Less, all, gone, hurt, deeper, less_shrinks, less_changes, After, after_less, Thin, thin_less, AllAsked, asked_less, Comes}
 
 -- ---- how each end is in the session that stands
 
@@ -74,9 +74,42 @@ pub record PeerLists (p : PeerEnd) (q : ℕ) (alone : Peer) : Type 0 where
   pub at : p.of_session q ≡ alone
   pub later : (n : ℕ) → p.begun < n → p.of_session n ≡ fresh_peer
 
-pub record Held (c : Settings) (w : PeerSessions) : Type 0 where
+-- octets without a number may be sent as they are
+abbrev pub IsSendable : Type 0 → Read → Type 0
+IsSendable Odd r = number_in r ≡ None → (p : Peer) → once.MaySend Odd p r p
+
+abbrev pub AllSendable : Type 0 → Settings → List Entry → Type 0
+AllSendable Odd c [] = Unit {0}
+AllSendable Odd c (e ∷ es) = IsSendable Odd (frame_of (other c.role) c.longest e.octets) × AllSendable Odd c es
+
+pub sendable_append : (Odd : Type 0) (c : Settings) (xs ys : List Entry) → AllSendable Odd c xs → AllSendable Odd c ys → AllSendable Odd c (xs ++ ys)
+sendable_append Odd c [] ys f g = g
+sendable_append Odd c (e ∷ xs) ys f g = (f.0, sendable_append Odd c xs ys f.1 g)
+
+sendable_less : (Odd : Type 0) (c : Settings) (es fs : List Entry) → Less es fs → AllSendable Odd c es → AllSendable Odd c fs
+sendable_less Odd c es fs (all xs) h = h
+sendable_less Odd c es fs (gone e xs) h = h.1
+sendable_less Odd c es fs (hurt e xs o visible) h = (hurt_sendable, h.1)
+  where
+    hurt_sendable : IsSendable Odd (frame_of (other c.role) c.longest o)
+    hurt_sendable = elim (visible_reads (other c.role) c.longest o visible) [
+      | inl short ↦ subst (IsSendable Odd) (sym short) (λ none p. refl)
+      | inr bad ↦ subst (IsSendable Odd) (sym bad) (λ none p. refl)
+    ]
+sendable_less Odd c es fs (deeper e xs ys l) h = (h.0, sendable_less Odd c xs ys l h.1)
+
+-- FRMRs on the line to the peer
+pub frmr_less : (c : Settings) (es fs : List Entry) → Less es fs → how_many frmr_in c.role c.longest fs ≤ how_many frmr_in c.role c.longest es
+frmr_less c es fs (all xs) = omega arith
+frmr_less c es fs (gone e xs) = omega arith
+frmr_less c es fs (hurt e xs o visible) =
+    let none : frmr_in (frame_of c.role c.longest o) ≡ 0 = elim (visible_reads c.role c.longest o visible) [ inl short ↦ ap frmr_in short | inr bad ↦ ap frmr_in bad ] in
+    omega (arith, none)
+frmr_less c es fs (deeper e xs ys l) = (let less = frmr_less c xs ys l in omega (arith, less))
+
+pub record Held (Odd : Type 0) (c : Settings) (w : PeerSessions) : Type 0 where
   pub alone : Joined
-  pub reached : IsReached (Unit {0}) c alone
+  pub reached : IsReached Odd c alone
   pub quiet : alone.near.came_up ≡ false
   pub p : ℕ
   pub q : ℕ
@@ -91,33 +124,35 @@ pub record Held (c : Settings) (w : PeerSessions) : Type 0 where
   pub peer_lists : PeerLists w.peer q alone.peer
   pub running : Running c w.near.station
   pub meetings : Meetings w.near (as_end w.peer) p q w.met
+  pub sendable : AllSendable Odd c w.back
+  pub no_frmr : (Odd → ⊥) → how_many frmr_in c.role c.longest w.out ≡ 0
 
 -- ---- a station that is Up is in the session
 
-pub record InSession (c : Settings) (w : PeerSessions) (h : Held c w) : Type 0 where
+pub record InSession (Odd : Type 0) (c : Settings) (w : PeerSessions) (h : Held Odd c w) : Type 0 where
   pub station : h.alone.near.station ≡ w.near.station
   pub begun : w.near.begun ≡ h.p
   pub comes : Comes (other c.role) c.longest w.peer.begun h.q w.peer.stand h.alone.back w.back
 
-pub in_session : (c : Settings) (w : PeerSessions) (h : Held c w) → is_up w.near.station.phase ≡ true → InSession c w h
-in_session c w h up = go h.near_view h.near h.back
+pub in_session : (Odd : Type 0) (c : Settings) (w : PeerSessions) (h : Held Odd c w) → is_up w.near.station.phase ≡ true → InSession Odd c w h
+in_session Odd c w h up = go h.near_view h.near h.back
   where
-    go : (v : View) → NearIs v w.near h.alone.near h.p h.alone.out → BackIs c v w.near.station.phase w.peer.begun w.peer.stand w.back h.alone.back h.q → InSession c w h
+    go : (v : View) → NearIs v w.near h.alone.near h.p h.alone.out → BackIs c v w.near.station.phase w.peer.begun w.peer.stand w.back h.alone.back h.q → InSession Odd c w h
     go Live near back = record { station = near.1; begun = near.2; comes = back }
     go Soon near back = not_both (is_up w.near.station.phase) up near.0
     go Gone near back = not_both (is_up w.near.station.phase) up near.0
 
 -- no end began a session later than the one that stands
-pub near_high : (c : Settings) (w : PeerSessions) (h : Held c w) → w.near.begun ≤ h.p
-near_high c w h = go h.near_view h.near
+pub near_high : (Odd : Type 0) (c : Settings) (w : PeerSessions) (h : Held Odd c w) → w.near.begun ≤ h.p
+near_high Odd c w h = go h.near_view h.near
   where
     go : (v : View) → NearIs v w.near h.alone.near h.p h.alone.out → w.near.begun ≤ h.p
     go Live near = omega (arith, near.2)
     go Soon near = omega (arith, near.2)
     go Gone near = omega (arith, near.1)
 
-pub peer_high : (c : Settings) (w : PeerSessions) (h : Held c w) → w.peer.begun ≤ h.q
-peer_high c w h = go h.peer_view h.peer
+pub peer_high : (Odd : Type 0) (c : Settings) (w : PeerSessions) (h : Held Odd c w) → w.peer.begun ≤ h.q
+peer_high Odd c w h = go h.peer_view h.peer
   where
     go : (v : View) → PeerIs v w.peer h.q → w.peer.begun ≤ h.q
     go Live peer = omega (arith, peer.1)
@@ -129,28 +164,11 @@ peer_high c w h = go h.peer_view h.peer
 abbrev pub joined_with : List (List ℕ) → Joined
 joined_with os = record { near = fresh_station; peer = fresh_peer; out = []; back = os }
 
-pub may_send_free : (p : Peer) (r : Read) → number_in r ≡ None → once.MaySend (Unit {0}) p r p
-may_send_free p (Ok (info ns nr pf x)) e = none_is_some (info ns nr pf x) (sym e)
-may_send_free p (Ok (rr command nr pf)) e = none_is_some (rr command nr pf) (sym e)
-may_send_free p (Ok (rnr command nr pf)) e = none_is_some (rnr command nr pf) (sym e)
-may_send_free p (Ok (rej command nr pf)) e = none_is_some (rej command nr pf) (sym e)
-may_send_free p (Ok (sabm pf)) e = refl
-may_send_free p (Ok (disc pf)) e = refl
-may_send_free p (Ok (ua f)) e = refl
-may_send_free p (Ok (dm f)) e = refl
-may_send_free p (Ok (frmr f why)) e = refl
-may_send_free p (Err Short) e = refl
-may_send_free p (Err BadFcs) e = refl
-may_send_free p (Err BadAddress) e = refl
-may_send_free p (Err (Undefined control)) e = (tt, refl)
-may_send_free p (Err (NoInfoAllowed control)) e = (tt, refl)
-may_send_free p (Err TooLong) e = (tt, refl)
-
 -- octets without a number
-pub sends_free : (c : Settings) (a : Joined) → IsReached (Unit {0}) c a → (octets : List ℕ) → number_in (frame_of (other c.role) c.longest octets) ≡ None
-    → IsReached (Unit {0}) c (record a { back = a.back ++ octets ∷ [] })
-sends_free c a reached octets none =
-    joined.goes_on a (record a { back = a.back ++ octets ∷ [] }) reached (Sends octets a.peer (may_send_free a.peer (frame_of (other c.role) c.longest octets) none))
+pub sends_free : (Odd : Type 0) (c : Settings) (a : Joined) → IsReached Odd c a → (octets : List ℕ) → number_in (frame_of (other c.role) c.longest octets) ≡ None → IsSendable Odd (frame_of (other c.role) c.longest octets)
+    → IsReached Odd c (record a { back = a.back ++ octets ∷ [] })
+sends_free Odd c a reached octets none sendable =
+    joined.goes_on a (record a { back = a.back ++ octets ∷ [] }) reached (Sends octets a.peer (sendable none a.peer))
 
 quiet_front : (c : Settings) (e : Entry) (es : List Entry) → numbers (other c.role) c.longest (e ∷ es) ≡ [] → number_in (frame_of (other c.role) c.longest e.octets) ≡ None
 quiet_front c e es h = go (number_in (frame_of (other c.role) c.longest e.octets)) refl h
@@ -162,41 +180,41 @@ quiet_front c e es h = go (number_in (frame_of (other c.role) c.longest e.octets
         never : f ∷ numbers (other c.role) c.longest es ≡ [] → ⊥
         never x = cc
 
-goes_free : (c : Settings) (before : List (List ℕ)) (es : List Entry) → numbers (other c.role) c.longest es ≡ [] → IsReached (Unit {0}) c (joined_with before) → IsReached (Unit {0}) c (joined_with (before ++ octets_of es))
-goes_free c before [] quiet reached = subst (λ (os : List (List ℕ)). IsReached (Unit {0}) c (joined_with os)) (sym (append-nil before)) reached
-goes_free c before (e ∷ es) quiet reached =
-    subst (λ (os : List (List ℕ)). IsReached (Unit {0}) c (joined_with os)) (append_assoc before (e.octets ∷ []) (octets_of es))
-    (goes_free c (before ++ e.octets ∷ []) es (quiet_tail (other c.role) c.longest e es quiet)
-    (sends_free c (joined_with before) reached e.octets (quiet_front c e es quiet)))
+goes_free : (Odd : Type 0) (c : Settings) (before : List (List ℕ)) (es : List Entry) → numbers (other c.role) c.longest es ≡ [] → AllSendable Odd c es → IsReached Odd c (joined_with before) → IsReached Odd c (joined_with (before ++ octets_of es))
+goes_free Odd c before [] quiet sendable reached = subst (λ (os : List (List ℕ)). IsReached Odd c (joined_with os)) (sym (append-nil before)) reached
+goes_free Odd c before (e ∷ es) quiet sendable reached =
+    subst (λ (os : List (List ℕ)). IsReached Odd c (joined_with os)) (append_assoc before (e.octets ∷ []) (octets_of es))
+    (goes_free Odd c (before ++ e.octets ∷ []) es (quiet_tail (other c.role) c.longest e es quiet) sendable.1
+    (sends_free Odd c (joined_with before) reached e.octets (quiet_front c e es quiet) sendable.0))
 
-pub begins_with : (c : Settings) (es : List Entry) → numbers (other c.role) c.longest es ≡ [] → IsReached (Unit {0}) c (joined_with (octets_of es))
-begins_with c es quiet = goes_free c [] es quiet joined.at_start
+pub begins_with : (Odd : Type 0) (c : Settings) (es : List Entry) → numbers (other c.role) c.longest es ≡ [] → AllSendable Odd c es → IsReached Odd c (joined_with (octets_of es))
+begins_with Odd c es quiet sendable = goes_free Odd c [] es quiet sendable joined.at_start
 
 -- ---- loss and damage, on the line to the station
 
-pub near_shrinks : (c : Settings) (a : Joined) (left : List (List ℕ)) → Shrinks a.back left → IsReached (Unit {0}) c a → IsReached (Unit {0}) c (record a { back = left })
-near_shrinks c a left s reached = go a.back left refl s
+pub near_shrinks : (Odd : Type 0) (c : Settings) (a : Joined) (left : List (List ℕ)) → Shrinks a.back left → IsReached Odd c a → IsReached Odd c (record a { back = left })
+near_shrinks Odd c a left s reached = go a.back left refl s
   where
-    go : (os left : List (List ℕ)) → a.back ≡ os → Shrinks os left → IsReached (Unit {0}) c (record a { back = left })
-    go os left is (same xs) = subst (λ (x : List (List ℕ)). IsReached (Unit {0}) c (record a { back = x })) is reached
+    go : (os left : List (List ℕ)) → a.back ≡ os → Shrinks os left → IsReached Odd c (record a { back = left })
+    go os left is (same xs) = subst (λ (x : List (List ℕ)). IsReached Odd c (record a { back = x })) is reached
     go os left is (loses xs i) =
-        subst (λ (x : List (List ℕ)). IsReached (Unit {0}) c (record a { back = remove x i })) is (joined.goes_on a (with_peer_once a.peer (one.acts c (one.Lose i) (our_end a))) reached (Ours (one.Lose i)))
+        subst (λ (x : List (List ℕ)). IsReached Odd c (record a { back = remove x i })) is (joined.goes_on a (with_peer_once a.peer (one.acts c (one.Lose i) (our_end a))) reached (Ours (one.Lose i)))
     go os left is (damages xs i o visible) =
-        subst (λ (x : List (List ℕ)). IsReached (Unit {0}) c (record a { back = one.replaced x i o })) is
-        (subst (λ (v : one.Stations). IsReached (Unit {0}) c (with_peer_once a.peer v)) (damaged visible) (joined.goes_on a (with_peer_once a.peer (one.acts c (one.Damage i o) (our_end a))) reached (Ours (one.Damage i o))))
+        subst (λ (x : List (List ℕ)). IsReached Odd c (record a { back = one.replaced x i o })) is
+        (subst (λ (v : one.Stations). IsReached Odd c (with_peer_once a.peer v)) (damaged visible) (joined.goes_on a (with_peer_once a.peer (one.acts c (one.Damage i o) (our_end a))) reached (Ours (one.Damage i o))))
       where
         damaged : is_visible o ≡ true → one.acts c (one.Damage i o) (our_end a) ≡ record (our_end a) { back = one.replaced a.back i o }
         damaged e = rw e refl
 
-pub peer_shrinks : (c : Settings) (a : Joined) (left : List (List ℕ)) → Shrinks a.out left → IsReached (Unit {0}) c a → IsReached (Unit {0}) c (record a { out = left })
-peer_shrinks c a left s reached = go a.out left refl s
+pub peer_shrinks : (Odd : Type 0) (c : Settings) (a : Joined) (left : List (List ℕ)) → Shrinks a.out left → IsReached Odd c a → IsReached Odd c (record a { out = left })
+peer_shrinks Odd c a left s reached = go a.out left refl s
   where
-    go : (os left : List (List ℕ)) → a.out ≡ os → Shrinks os left → IsReached (Unit {0}) c (record a { out = left })
-    go os left is (same xs) = subst (λ (x : List (List ℕ)). IsReached (Unit {0}) c (record a { out = x })) is reached
+    go : (os left : List (List ℕ)) → a.out ≡ os → Shrinks os left → IsReached Odd c (record a { out = left })
+    go os left is (same xs) = subst (λ (x : List (List ℕ)). IsReached Odd c (record a { out = x })) is reached
     go os left is (loses xs i) =
-        subst (λ (x : List (List ℕ)). IsReached (Unit {0}) c (record a { out = remove x i })) is (joined.goes_on a (record a { out = remove a.out i }) reached (Loses i))
+        subst (λ (x : List (List ℕ)). IsReached Odd c (record a { out = remove x i })) is (joined.goes_on a (record a { out = remove a.out i }) reached (Loses i))
     go os left is (damages xs i o visible) =
-        subst (λ (x : List (List ℕ)). IsReached (Unit {0}) c (record a { out = one.replaced x i o })) is (joined.goes_on a (record a { out = one.replaced a.out i o }) reached (Damages i o visible))
+        subst (λ (x : List (List ℕ)). IsReached Odd c (record a { out = one.replaced x i o })) is (joined.goes_on a (record a { out = one.replaced a.out i o }) reached (Damages i o visible))
 
 shrinks_none : (os left : List (List ℕ)) → Shrinks os left → os ≡ [] → left ≡ []
 shrinks_none os left s is = go os left s is
@@ -303,13 +321,13 @@ near_less Live e n p os left s h = h
 near_less Soon e n p os left s h = (h.0, h.1, h.2, shrinks_none os left s h.3)
 near_less Gone e n p os left s h = h
 
-pub back_lost : (c : Settings) (w : PeerSessions) → Held c w → (fs : List Entry) → Less w.back fs → Held c (record w { back = fs })
-back_lost c w h fs less =
+pub back_lost : (Odd : Type 0) (c : Settings) (w : PeerSessions) → Held Odd c w → (fs : List Entry) → Less w.back fs → Held Odd c (record w { back = fs })
+back_lost Odd c w h fs less =
     let few : w.near.station.phase ≡ Waiting → how_many ua_in (other c.role) c.longest w.back ≤ 1 = λ waiting. (let all = waiting_few w.near.station.phase _ _ waiting h.lines.owes in omega (arith, all)) in
     let r = back_less c h.near_view w.near.station.phase w.peer.begun h.q w.peer.stand h.alone.back w.back fs less few h.back in
     record {
       alone = record h.alone { back = r.left };
-      reached = near_shrinks c h.alone r.left r.shrinks h.reached;
+      reached = near_shrinks Odd c h.alone r.left r.shrinks h.reached;
       quiet = h.quiet;
       p = h.p;
       q = h.q;
@@ -324,15 +342,17 @@ back_lost c w h fs less =
       peer_lists = h.peer_lists;
       running = h.running;
       meetings = h.meetings;
+      sendable = sendable_less Odd c w.back fs less h.sendable;
+      no_frmr = h.no_frmr;
     }
 
-pub out_lost : (c : Settings) (w : PeerSessions) → Held c w → (fs : List Entry) → Less w.out fs → Held c (record w { out = fs })
-out_lost c w h fs less =
+pub out_lost : (Odd : Type 0) (c : Settings) (w : PeerSessions) → Held Odd c w → (fs : List Entry) → Less w.out fs → Held Odd c (record w { out = fs })
+out_lost Odd c w h fs less =
     let few : w.peer.stand ≡ Asking → how_many ua_in c.role c.longest w.out ≤ 1 = λ asks. (let all = (h.lines.asking asks).0 in omega (arith, all)) in
     let r = out_less c h.peer_view w.peer.stand h.p h.alone.out w.out fs less few h.out in
     record {
       alone = record h.alone { out = r.left };
-      reached = peer_shrinks c h.alone r.left r.shrinks h.reached;
+      reached = peer_shrinks Odd c h.alone r.left r.shrinks h.reached;
       quiet = h.quiet;
       p = h.p;
       q = h.q;
@@ -347,6 +367,8 @@ out_lost c w h fs less =
       peer_lists = h.peer_lists;
       running = h.running;
       meetings = h.meetings;
+      sendable = h.sendable;
+      no_frmr = λ lapb. (let none = h.no_frmr lapb in let fewer = frmr_less c w.out fs less in omega (arith, none, fewer));
     }
 
 -- ---- meetings, seen by the peer

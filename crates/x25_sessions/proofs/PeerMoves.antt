@@ -19,8 +19,9 @@ use Rattle.x25_line.proofs.StationSteps.{not_both}
 use Rattle.x25_line.proofs.sessions.SessionLines.{Read, of_sabm, of_ua, of_disc, none_is_some, number_kind, octets_append, AllBegun, begun_append, numbers, quiet_of, of_append, many_append}
 use Rattle.x25_line.proofs.sessions.SessionHeld.{View, Live, Soon, Gone, owes_less, Grows, Meetings, meetings_go_on, meetings_hear}
 use Rattle.x25_sessions.specs.laws.PeerSessions.{Stand, Asking, In, PeerEnd, PeerSessions, as_end, now, put_for, with_now, stands, entry}
+use Rattle.x25_sessions.specs.laws.PeerSessionClaims.{frmr_in}
 use Rattle.x25_sessions.proofs.PeerLines.{gone, after_none, after_more, Thin, thin_front, Front, AllAsked, asked_in, Comes}
-use Rattle.x25_sessions.proofs.PeerHeld.{MayBeOlder, NearIs, PeerIs, BackIs, OutIs, OnLines, lines_out, Held, meetings_turned, meetings_back}
+use Rattle.x25_sessions.proofs.PeerHeld.{AllSendable, sendable_append, MayBeOlder, NearIs, PeerIs, BackIs, OutIs, OnLines, lines_out, Held, meetings_turned, meetings_back}
 use Rattle.x25_sessions.proofs.PeerNear.{KeepsAll, in_pair}
 
 -- ---- what is known of it, by sessions
@@ -48,15 +49,15 @@ abbrev pub knowing : (ℕ → Peer) → PeerEnd → PeerEnd
 knowing all p = record { stand = p.stand; begun = p.begun; of_session = all }
 
 -- a peer that is in a session is in the one that stands
-pub record PeerIn (c : Settings) (w : PeerSessions) (h : Held c w) : Type 0 where
+pub record PeerIn (Odd : Type 0) (c : Settings) (w : PeerSessions) (h : Held Odd c w) : Type 0 where
   pub begun : w.peer.begun ≡ h.q
   pub thin : Thin c.role c.longest h.p h.alone.out w.out
   pub now_is : now w.peer ≡ h.alone.peer
 
-pub peer_in : (c : Settings) (w : PeerSessions) (h : Held c w) → w.peer.stand ≡ In → PeerIn c w h
-peer_in c w h is = go h.peer_view h.peer h.out
+pub peer_in : (Odd : Type 0) (c : Settings) (w : PeerSessions) (h : Held Odd c w) → w.peer.stand ≡ In → PeerIn Odd c w h
+peer_in Odd c w h is = go h.peer_view h.peer h.out
   where
-    go : (v : View) → PeerIs v w.peer h.q → OutIs c v w.peer.stand w.out h.alone.out h.p → PeerIn c w h
+    go : (v : View) → PeerIs v w.peer h.q → OutIs c v w.peer.stand w.out h.alone.out h.p → PeerIn Odd c w h
     go Live k out = record { begun = k.1; thin = out; now_is = ap w.peer.of_session k.1 ∙ h.peer_lists.at }
     go Soon k out = absurd (k.0 is)
     go Gone k out = absurd (k.0 is)
@@ -75,18 +76,18 @@ turned_order : (near far : SessionEnd) (p q : ℕ) → IsInOrder near far (recor
 turned_order near far p q h = record { there = h.back; back = h.there }
 
 -- it took nothing
-pub peer_goes_on : (c : Settings) (w : PeerSessions) (h : Held c w) (all : ℕ → Peer) (r : Peer) → Knows w.peer h.q all r → r.taken ≡ h.alone.peer.taken → IsInOrder w.near (as_end (knowing all w.peer)) (record { near = h.p; far = h.q })
+pub peer_goes_on : (Odd : Type 0) (c : Settings) (w : PeerSessions) (h : Held Odd c w) (all : ℕ → Peer) (r : Peer) → Knows w.peer h.q all r → r.taken ≡ h.alone.peer.taken → IsInOrder w.near (as_end (knowing all w.peer)) (record { near = h.p; far = h.q })
     → Meetings w.near (as_end (knowing all w.peer)) h.p h.q w.met
-peer_goes_on c w h all r k same order =
+peer_goes_on Odd c w h all r k same order =
     let far = as_end (knowing all w.peer) in
     meetings_back w.near far h.p h.q w.met
     (meetings_go_on (as_end w.peer) far w.near h.q h.p (map turned w.met) (knows_grows w.peer h.q all r k) (turned_order w.near far h.p h.q order)
     (ap (λ (z : Peer). z.taken) k.at ∙ same ∙ sym (ap (λ (z : Peer). z.taken) h.peer_lists.at)) (meetings_turned w.near (as_end w.peer) h.p h.q w.met h.meetings))
 
 -- it heard a frame of the station's session that stands
-pub peer_meets : (c : Settings) (w : PeerSessions) (h : Held c w) (all : ℕ → Peer) (r : Peer) → Knows w.peer h.q all r → w.peer.begun ≡ h.q → h.p ≤ w.near.begun → IsInOrder w.near (as_end (knowing all w.peer)) (record { near = h.p; far = h.q })
+pub peer_meets : (Odd : Type 0) (c : Settings) (w : PeerSessions) (h : Held Odd c w) (all : ℕ → Peer) (r : Peer) → Knows w.peer h.q all r → w.peer.begun ≡ h.q → h.p ≤ w.near.begun → IsInOrder w.near (as_end (knowing all w.peer)) (record { near = h.p; far = h.q })
     → Meetings w.near (as_end (knowing all w.peer)) h.p h.q (record { near = h.p; far = h.q } ∷ w.met)
-peer_meets c w h all r k is began order =
+peer_meets Odd c w h all r k is began order =
     let far = as_end (knowing all w.peer) in
     meetings_back w.near far h.p h.q (record { near = h.p; far = h.q } ∷ w.met)
     (meetings_hear (as_end w.peer) far w.near h.q h.p (map turned w.met) (knows_grows w.peer h.q all r k) (turned_order w.near far h.p h.q order) (omega (arith, is)) began
@@ -94,21 +95,21 @@ peer_meets c w h all r k is began order =
 
 -- ---- a peer in its session
 
-module _ (c : Settings) (keeps : KeepsAll c) where
+module _ (Odd : Type 0) (c : Settings) (keeps : KeepsAll Odd c) where
   -- the same session, by itself
   abbrev moved : Joined → Peer → List (List ℕ) → List (List ℕ) → Joined
   moved a r out back = record { near = a.near; peer = r; out = out; back = back }
 
-  near_still : (v : View) (w : PeerSessions) (h : Held c w) (os : List (List ℕ)) → (h.alone.out ≡ [] → os ≡ []) → NearIs v w.near h.alone.near h.p h.alone.out → NearIs v w.near h.alone.near h.p os
+  near_still : (v : View) (w : PeerSessions) (h : Held Odd c w) (os : List (List ℕ)) → (h.alone.out ≡ [] → os ≡ []) → NearIs v w.near h.alone.near h.p h.alone.out → NearIs v w.near h.alone.near h.p os
   near_still Live w h os none k = k
   near_still Soon w h os none k = (k.0, k.1, k.2, none k.3)
   near_still Gone w h os none k = k
 
-  in_moves : (w : PeerSessions) (h : Held c w) (i : PeerIn c w h) → w.peer.stand ≡ In → (all : ℕ → Peer) (r : Peer) (out back : List Entry) (os bs : List (List ℕ)) (met : List Meeting) → Knows w.peer h.q all r
-      → IsReached (Unit {0}) c (moved h.alone r os bs) → Thin c.role c.longest h.p os out → (h.alone.out ≡ [] → os ≡ []) → BackIs c h.near_view w.near.station.phase w.peer.begun w.peer.stand back bs h.q
+  in_moves : (w : PeerSessions) (h : Held Odd c w) (i : PeerIn Odd c w h) → w.peer.stand ≡ In → (all : ℕ → Peer) (r : Peer) (out back : List Entry) (os bs : List (List ℕ)) (met : List Meeting) → Knows w.peer h.q all r
+      → IsReached Odd c (moved h.alone r os bs) → Thin c.role c.longest h.p os out → (h.alone.out ≡ [] → os ≡ []) → BackIs c h.near_view w.near.station.phase w.peer.begun w.peer.stand back bs h.q
       → OnLines c w.near.station.phase w.peer.begun w.peer.stand out back → Meetings w.near (as_end (knowing all w.peer)) h.p h.q met
-      → Held c (record { near = w.near; peer = knowing all w.peer; out = out; back = back; met = met })
-  in_moves w h i is all r out back os bs met k reached thin none back_is lines meetings = record {
+      → AllSendable Odd c back → ((Odd → ⊥) → how_many frmr_in c.role c.longest out ≡ 0) → Held Odd c (record { near = w.near; peer = knowing all w.peer; out = out; back = back; met = met })
+  in_moves w h i is all r out back os bs met k reached thin none back_is lines meetings sendable no_frmr = record {
     alone = moved h.alone r os bs;
     reached = reached;
     quiet = h.quiet;
@@ -128,34 +129,36 @@ module _ (c : Settings) (keeps : KeepsAll c) where
     };
     running = h.running;
     meetings = meetings;
+    sendable = sendable;
+    no_frmr = no_frmr;
   }
 
-  now_known : (w : PeerSessions) (h : Held c w) → PeerIn c w h → (r : Peer) → Knows w.peer h.q (put_for w.peer.begun r w.peer.of_session) r
+  now_known : (w : PeerSessions) (h : Held Odd c w) → PeerIn Odd c w h → (r : Peer) → Knows w.peer h.q (put_for w.peer.begun r w.peer.of_session) r
   now_known w h i r = record {
     at = put_same w.peer.begun h.q r w.peer.of_session (sym i.begun);
     others = λ n never. put_other w.peer.begun n r w.peer.of_session (λ here. never (here ∙ i.begun));
   }
 
-  order_with : (w : PeerSessions) (h : Held c w) (all : ℕ → Peer) (r : Peer) (os bs : List (List ℕ)) → Knows w.peer h.q all r → IsReached (Unit {0}) c (moved h.alone r os bs)
+  order_with : (w : PeerSessions) (h : Held Odd c w) (all : ℕ → Peer) (r : Peer) (os bs : List (List ℕ)) → Knows w.peer h.q all r → IsReached Odd c (moved h.alone r os bs)
       → IsInOrder w.near (as_end (knowing all w.peer)) (record { near = h.p; far = h.q })
-  order_with w h all r os bs k reached = in_pair c keeps w.near (knowing all w.peer) (moved h.alone r os bs) h.p h.q reached h.quiet h.near_lists.down h.near_lists.up k.at
+  order_with w h all r os bs k reached = in_pair Odd c keeps w.near (knowing all w.peer) (moved h.alone r os bs) h.p h.q reached h.quiet h.near_lists.down h.near_lists.up k.at
 
   -- ---- it is handed down a packet
 
-  pub handed_held : (w : PeerSessions) (h : Held c w) → w.peer.stand ≡ In → (packet : List ℕ) → Held c (record w { peer = with_now (record (now w.peer) { given = (now w.peer).given ++ packet ∷ [] }) w.peer })
+  pub handed_held : (w : PeerSessions) (h : Held Odd c w) → w.peer.stand ≡ In → (packet : List ℕ) → Held Odd c (record w { peer = with_now (record (now w.peer) { given = (now w.peer).given ++ packet ∷ [] }) w.peer })
   handed_held w h is packet =
-      let i = peer_in c w h is in
+      let i = peer_in Odd c w h is in
       let r : Peer = record (now w.peer) { given = (now w.peer).given ++ packet ∷ [] } in
       let k = now_known w h i r in
-      let reached : IsReached (Unit {0}) c (moved h.alone r h.alone.out h.alone.back) =
-      subst (λ (z : Peer). IsReached (Unit {0}) c (moved h.alone (record z { given = z.given ++ packet ∷ [] }) h.alone.out h.alone.back)) (sym i.now_is)
+      let reached : IsReached Odd c (moved h.alone r h.alone.out h.alone.back) =
+      subst (λ (z : Peer). IsReached Odd c (moved h.alone (record z { given = z.given ++ packet ∷ [] }) h.alone.out h.alone.back)) (sym i.now_is)
       (joined.goes_on h.alone (moved h.alone (record h.alone.peer { given = h.alone.peer.given ++ packet ∷ [] }) h.alone.out h.alone.back) h.reached (HandsDown packet)) in
       in_moves w h i is (put_for w.peer.begun r w.peer.of_session) r w.out w.back h.alone.out h.alone.back w.met k reached i.thin (λ e. e) h.back h.lines
-      (peer_goes_on c w h (put_for w.peer.begun r w.peer.of_session) r k (ap (λ (z : Peer). z.taken) i.now_is) (order_with w h (put_for w.peer.begun r w.peer.of_session) r h.alone.out h.alone.back k reached))
+      (peer_goes_on Odd c w h (put_for w.peer.begun r w.peer.of_session) r k (ap (λ (z : Peer). z.taken) i.now_is) (order_with w h (put_for w.peer.begun r w.peer.of_session) r h.alone.out h.alone.back k reached)) h.sendable h.no_frmr
 
   -- ---- it sends what carries a number
 
-  sends_taken : (p q : Peer) (r : Read) → once.MaySend (Unit {0}) p r q → q.taken ≡ p.taken
+  sends_taken : (p q : Peer) (r : Read) → once.MaySend Odd p r q → q.taken ≡ p.taken
   sends_taken p q (Ok (info ns nr pf x)) h = ap (λ (z : Peer). z.taken) h.4
   sends_taken p q (Ok (rr command nr pf)) h = ap (λ (z : Peer). z.taken) h.2
   sends_taken p q (Ok (rnr command nr pf)) h = ap (λ (z : Peer). z.taken) h.2
@@ -196,10 +199,10 @@ module _ (c : Settings) (keeps : KeepsAll c) where
       go Soon k = λ waiting. after_more (other c.role) c.longest P Q more comes no_ua es (k waiting)
       go Gone k = λ waiting. (let all = many_append (other c.role) c.longest ua_in es more in let old = k waiting in omega (arith, all, old, no_ua))
 
-  pub numbered_held : (w : PeerSessions) (h : Held c w) → w.peer.stand ≡ In → (octets : List ℕ) (frame : PlainFrame) (r : Peer) → number_in (frame_of (other c.role) c.longest octets) ≡ Some frame
-      → once.MaySend (Unit {0}) (now w.peer) (frame_of (other c.role) c.longest octets) r → Held c (record w { peer = with_now r w.peer; back = w.back ++ entry (with_now r w.peer) octets ∷ [] })
+  pub numbered_held : (w : PeerSessions) (h : Held Odd c w) → w.peer.stand ≡ In → (octets : List ℕ) (frame : PlainFrame) (r : Peer) → number_in (frame_of (other c.role) c.longest octets) ≡ Some frame
+      → once.MaySend Odd (now w.peer) (frame_of (other c.role) c.longest octets) r → Held Odd c (record w { peer = with_now r w.peer; back = w.back ++ entry (with_now r w.peer) octets ∷ [] })
   numbered_held w h is octets frame r some may =
-      let i = peer_in c w h is in
+      let i = peer_in Odd c w h is in
       let read = frame_of (other c.role) c.longest octets in
       let e : Entry = record { session = w.peer.begun; octets = octets } in
       let more : List Entry = e ∷ [] in
@@ -208,8 +211,8 @@ module _ (c : Settings) (keeps : KeepsAll c) where
       let sabms : sabm_in read ≡ 0 = number_kind sabm_in of_sabm read frame some in
       let uas : ua_in read ≡ 0 = number_kind ua_in of_ua read frame some in
       let discs : disc_in read ≡ 0 = number_kind disc_in of_disc read frame some in
-      let reached : IsReached (Unit {0}) c (moved h.alone r h.alone.out (h.alone.back ++ octets ∷ [])) =
-      joined.goes_on h.alone (moved h.alone r h.alone.out (h.alone.back ++ octets ∷ [])) h.reached (Sends octets r (subst (λ (z : Peer). once.MaySend (Unit {0}) z read r) i.now_is may)) in
+      let reached : IsReached Odd c (moved h.alone r h.alone.out (h.alone.back ++ octets ∷ [])) =
+      joined.goes_on h.alone (moved h.alone r h.alone.out (h.alone.back ++ octets ∷ [])) h.reached (Sends octets r (subst (λ (z : Peer). once.MaySend Odd z read r) i.now_is may)) in
       let asked : (Z : Type 0) (xs : List Entry) → AllAsked (other c.role) c.longest Z w.peer.begun w.peer.stand xs → AllAsked (other c.role) c.longest Z w.peer.begun w.peer.stand (xs ++ more) = (λ Z xs old.
       subst (λ (s : Stand). AllAsked (other c.role) c.longest Z w.peer.begun s (xs ++ more)) (sym is)
       (asked_in (other c.role) c.longest Z w.peer.begun xs more (inl sabms, tt) (subst (λ (s : Stand). AllAsked (other c.role) c.longest Z w.peer.begun s xs) is old))) in
@@ -222,7 +225,8 @@ module _ (c : Settings) (keeps : KeepsAll c) where
         begun_back = begun_append w.peer.begun w.back more h.lines.begun_back (omega arith, tt);
         asked = asked (MayBeOlder w.near.station.phase) w.back h.lines.asked;
       })
-      (peer_goes_on c w h all r k (sends_taken (now w.peer) r read may ∙ ap (λ (z : Peer). z.taken) i.now_is) (order_with w h all r h.alone.out (h.alone.back ++ octets ∷ []) k reached))
+      (peer_goes_on Odd c w h all r k (sends_taken (now w.peer) r read may ∙ ap (λ (z : Peer). z.taken) i.now_is) (order_with w h all r h.alone.out (h.alone.back ++ octets ∷ []) k reached))
+      (sendable_append Odd c w.back more h.sendable ((λ free p. none_is_some frame (sym free ∙ some)), tt)) h.no_frmr
     where
       never : In ≡ Asking → ⊥
       never x = cc
@@ -256,7 +260,7 @@ module _ (c : Settings) (keeps : KeepsAll c) where
   hears_none p (Err e) = refl
 
   -- a frame with a number that it hears was sent in a session that the station began
-  near_began : (v : View) (w : PeerSessions) (h : Held c w) → NearIs v w.near h.alone.near h.p h.alone.out → (o : List ℕ) (os : List (List ℕ)) → h.alone.out ≡ o ∷ os → h.p ≤ w.near.begun
+  near_began : (v : View) (w : PeerSessions) (h : Held Odd c w) → NearIs v w.near h.alone.near h.p h.alone.out → (o : List ℕ) (os : List (List ℕ)) → h.alone.out ≡ o ∷ os → h.p ≤ w.near.begun
   near_began Live w h k o os is = omega (arith, k.2)
   near_began Soon w h k o os is = absurd (never (sym is ∙ k.3))
     where
@@ -264,14 +268,14 @@ module _ (c : Settings) (keeps : KeepsAll c) where
       never x = cc
   near_began Gone w h k o os is = omega (arith, k.1)
 
-  pub heard_held : (w : PeerSessions) (h : Held c w) → w.peer.stand ≡ In → (e : Entry) (rest : List Entry) → w.out ≡ e ∷ rest → (all : ℕ → Peer) (r : Peer) → ((q : ℕ) → w.peer.begun ≡ q → Knows w.peer q all r)
+  pub heard_held : (w : PeerSessions) (h : Held Odd c w) → w.peer.stand ≡ In → (e : Entry) (rest : List Entry) → w.out ≡ e ∷ rest → (all : ℕ → Peer) (r : Peer) → ((q : ℕ) → w.peer.begun ≡ q → Knows w.peer q all r)
       → once.MayHear (now w.peer) (frame_of c.role c.longest e.octets) r
-      → Held c (record w { peer = knowing all w.peer; out = rest; met = heard true (number_in (frame_of c.role c.longest e.octets)) (record { near = e.session; far = w.peer.begun }) w.met })
+      → Held Odd c (record w { peer = knowing all w.peer; out = rest; met = heard true (number_in (frame_of c.role c.longest e.octets)) (record { near = e.session; far = w.peer.begun }) w.met })
   heard_held w h is e rest front all r knows may =
       elim (thin_front c.role c.longest h.p h.alone.out e rest (subst (Thin c.role c.longest h.p h.alone.out) front i.thin)) [ inl free ↦ passes free.0 free.1 | inr here ↦ by here (number_in read) refl ]
     where
-      i : PeerIn c w h
-      i = peer_in c w h is
+      i : PeerIn Odd c w h
+      i = peer_in Odd c w h is
 
       read : Read
       read = frame_of c.role c.longest e.octets
@@ -288,21 +292,24 @@ module _ (c : Settings) (keeps : KeepsAll c) where
       pair : Meeting
       pair = record { near = e.session; far = w.peer.begun }
 
+      fewer : (Odd → ⊥) → how_many frmr_in c.role c.longest rest ≡ 0
+      fewer lapb = (let none = subst (λ (xs : List Entry). how_many frmr_in c.role c.longest xs ≡ 0) front (h.no_frmr lapb) in omega (arith, none))
+
       Then : List Meeting → Type 0
-      Then met = Held c (record { near = w.near; peer = knowing all w.peer; out = rest; back = w.back; met = met })
+      Then met = Held Odd c (record { near = w.near; peer = knowing all w.peer; out = rest; back = w.back; met = met })
 
       passes : number_in read ≡ None → Thin c.role c.longest h.p h.alone.out rest → Then (heard true (number_in read) pair w.met)
       passes none thin =
           let same : r ≡ h.alone.peer = hears_nothing h.alone.peer r read none may_hear in
-          let reached : IsReached (Unit {0}) c (moved h.alone r h.alone.out h.alone.back) = subst (λ (z : Peer). IsReached (Unit {0}) c (moved h.alone z h.alone.out h.alone.back)) (sym same) h.reached in
+          let reached : IsReached Odd c (moved h.alone r h.alone.out h.alone.back) = subst (λ (z : Peer). IsReached Odd c (moved h.alone z h.alone.out h.alone.back)) (sym same) h.reached in
           subst (λ (o : Option PlainFrame). Then (heard true o pair w.met)) (sym none)
           (in_moves w h i is all r rest w.back h.alone.out h.alone.back w.met k reached thin (λ x. x) h.back lines
-          (peer_goes_on c w h all r k (ap (λ (z : Peer). z.taken) same) (order_with w h all r h.alone.out h.alone.back k reached)))
+          (peer_goes_on Odd c w h all r k (ap (λ (z : Peer). z.taken) same) (order_with w h all r h.alone.out h.alone.back k reached)) h.sendable fewer)
 
       by : Front c.role c.longest h.p h.alone.out e rest → (m : Option PlainFrame) → number_in read ≡ m → Then (heard true (number_in read) pair w.met)
       by here m known = subst (λ (o : Option PlainFrame). Then (heard true o pair w.met)) (sym known) (go m known)
         where
-          reached : IsReached (Unit {0}) c (moved h.alone r here.left h.alone.back)
+          reached : IsReached Odd c (moved h.alone r here.left h.alone.back)
           reached = joined.goes_on h.alone (moved h.alone r here.left h.alone.back) h.reached (Hears e.octets here.left r here.is may_hear)
 
           none_left : h.alone.out ≡ [] → here.left ≡ []
@@ -317,24 +324,24 @@ module _ (c : Settings) (keeps : KeepsAll c) where
           go : (m : Option PlainFrame) → number_in read ≡ m → Then (heard true m pair w.met)
           go None none =
               in_moves w h i is all r rest w.back here.left h.alone.back w.met k reached here.thin none_left h.back lines
-              (peer_goes_on c w h all r k (ap (λ (z : Peer). z.taken) (hears_nothing h.alone.peer r read none may_hear)) order)
+              (peer_goes_on Odd c w h all r k (ap (λ (z : Peer). z.taken) (hears_nothing h.alone.peer r read none may_hear)) order) h.sendable fewer
           go (Some f) some =
               subst (λ (n : ℕ). Then (record { near = n; far = w.peer.begun } ∷ w.met)) (sym here.session)
               (subst (λ (n : ℕ). Then (record { near = h.p; far = n } ∷ w.met)) (sym i.begun)
               (in_moves w h i is all r rest w.back here.left h.alone.back (record { near = h.p; far = h.q } ∷ w.met) k reached here.thin none_left h.back lines
-              (peer_meets c w h all r k i.begun (near_began h.near_view w h h.near e.octets here.left here.is) order)))
+              (peer_meets Odd c w h all r k i.begun (near_began h.near_view w h h.near e.octets here.left here.is) order) h.sendable fewer))
 
   -- ---- it sends what carries no number, or leaves
 
-  pub free_held : (w : PeerSessions) (h : Held c w) (stand : Stand) (more : List Entry) → numbers (other c.role) c.longest more ≡ [] → how_many ua_in (other c.role) c.longest more ≡ 0 → AllBegun w.peer.begun more
+  pub free_held : (w : PeerSessions) (h : Held Odd c w) (stand : Stand) (more : List Entry) → numbers (other c.role) c.longest more ≡ [] → how_many ua_in (other c.role) c.longest more ≡ 0 → AllBegun w.peer.begun more
       → ((Z : Type 0) (xs : List Entry) → AllAsked (other c.role) c.longest Z w.peer.begun w.peer.stand xs → AllAsked (other c.role) c.longest Z w.peer.begun stand (xs ++ more))
       → (stand ≡ Asking → (how_many sabm_in (other c.role) c.longest (w.back ++ more) + how_many ua_in c.role c.longest w.out ≤ 1) × (how_many disc_in (other c.role) c.longest (w.back ++ more) ≡ 0)
       × AllAsked (other c.role) c.longest ⊥ w.peer.begun stand (w.back ++ more))
-      → (stand ≡ Asking → (w.peer.stand ≡ Asking) ⊎ (how_many ua_in c.role c.longest w.out ≡ 0)) → (stand ≡ w.peer.stand) ⊎ (stand ≡ In → ⊥)
-      → IsReached (Unit {0}) c (moved h.alone h.alone.peer h.alone.out (h.alone.back ++ octets_of more)) → Held c (record w { peer = stands stand w.peer; back = w.back ++ more })
-  free_held w h stand more quiet no_ua begun asked asking answered goes reached = go h.peer_view h.peer h.out
+      → (stand ≡ Asking → (w.peer.stand ≡ Asking) ⊎ (how_many ua_in c.role c.longest w.out ≡ 0)) → (stand ≡ w.peer.stand) ⊎ (stand ≡ In → ⊥) → AllSendable Odd c more
+      → IsReached Odd c (moved h.alone h.alone.peer h.alone.out (h.alone.back ++ octets_of more)) → Held Odd c (record w { peer = stands stand w.peer; back = w.back ++ more })
+  free_held w h stand more quiet no_ua begun asked asking answered goes sendable reached = go h.peer_view h.peer h.out
     where
-      by : (v : View) → PeerIs v (stands stand w.peer) h.q → OutIs c v stand w.out h.alone.out h.p → Held c (record w { peer = stands stand w.peer; back = w.back ++ more })
+      by : (v : View) → PeerIs v (stands stand w.peer) h.q → OutIs c v stand w.out h.alone.out h.p → Held Odd c (record w { peer = stands stand w.peer; back = w.back ++ more })
       by v peer out = record {
         alone = moved h.alone h.alone.peer h.alone.out (h.alone.back ++ octets_of more);
         reached = reached;
@@ -358,9 +365,11 @@ module _ (c : Settings) (keeps : KeepsAll c) where
         peer_lists = record { at = h.peer_lists.at; later = h.peer_lists.later };
         running = h.running;
         meetings = h.meetings;
+        sendable = sendable_append Odd c w.back more h.sendable sendable;
+        no_frmr = h.no_frmr;
       }
 
-      go : (v : View) → PeerIs v w.peer h.q → OutIs c v w.peer.stand w.out h.alone.out h.p → Held c (record w { peer = stands stand w.peer; back = w.back ++ more })
+      go : (v : View) → PeerIs v w.peer h.q → OutIs c v w.peer.stand w.out h.alone.out h.p → Held Odd c (record w { peer = stands stand w.peer; back = w.back ++ more })
       go Live k out = elim goes [
         | inl same ↦ by Live (same ∙ k.0, k.1) out
         | inr leaves ↦ by Gone (leaves, k.1) (λ asks. elim (answered asks) [ inl still ↦ absurd (never (sym k.0 ∙ still)) | inr none ↦ none ])

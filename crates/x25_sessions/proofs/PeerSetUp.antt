@@ -6,6 +6,7 @@ use Rattle.std.proofs.lemmas.Bool.{eq-eqb, eqb-true}
 use Rattle.x25_bits.specs.declared.role.Role.{Role}
 use Rattle.x25_frame.specs.Frame.{PlainFrame, info, rr, rnr, rej, sabm, disc, ua, dm, frmr}
 use Rattle.x25_frame.specs.Reading.{frame_of}
+use Rattle.x25_frame.specs.declared.error.FrameError.TheVariants.{Short, BadFcs, BadAddress, Undefined, NoInfoAllowed, TooLong}
 use Rattle.x25_frame.specs.laws.ReadingLaw.{ReadsSpelled}
 use Rattle.x25_link.specs.declared.phase.Phase.{Phase}
 use Rattle.x25_link.specs.declared.phase.Phase.TheVariants.{Down, Waiting, Up, Closed}
@@ -25,8 +26,9 @@ use Rattle.x25_line.proofs.sessions.SessionHeld.{View, Live, Soon, Gone, Owes, o
 use Rattle.x25_line.proofs.sessions.SessionSteps.{asked_by, waiting_is_closed}
 use Rattle.x25_sessions.specs.laws.PeerSessions.{Stand, Out, Asking, In, PeerEnd, PeerSessions, as_end, both_ends, is_in, now, put_for, with_now, begins, stands, entry, heard_by, IsPatient, IsFree}
 use Rattle.x25_sessions.specs.laws.PeerSessions as sessions
+use Rattle.x25_sessions.specs.laws.PeerSessionClaims.{frmr_in}
 use Rattle.x25_sessions.proofs.PeerLines.{Less, gone, less_removes, less_replaces, After, after_last, after_front, Thin, thin_quiet, AllAsked, asked_none, asked_quiet, asked_out, asked_begins, asked_map, Comes}
-use Rattle.x25_sessions.proofs.PeerHeld.{MayBeOlder, NearIs, PeerIs, BackIs, OutIs, OnLines, lines_out, Held, joined_with, out_lost, sends_free, waiting_few, meetings_turned, meetings_back}
+use Rattle.x25_sessions.proofs.PeerHeld.{IsSendable, sendable_append, MayBeOlder, NearIs, PeerIs, BackIs, OutIs, OnLines, lines_out, Held, joined_with, out_lost, sends_free, waiting_few, meetings_turned, meetings_back}
 use Rattle.x25_sessions.proofs.PeerNear.{KeepsAll}
 use Rattle.x25_sessions.proofs.PeerActs.{acts_held}
 use Rattle.x25_sessions.proofs.PeerMoves.{put_same, put_other, Knows, knowing, handed_held, numbered_held, heard_held, hears_none, free_held}
@@ -52,17 +54,32 @@ asking_in k = cc
 not_in : (s : Stand) → s ≡ Asking → is_in s ≡ false
 not_in s e = ap is_in e
 
-free_number : (r : Read) → IsFree r → (number_in r ≡ None) × (sabm_in r ≡ 0) × (ua_in r ≡ 0) × (disc_in r ≡ 0)
-free_number (Ok (info ns nr p x)) h = absurd h
-free_number (Ok (rr command nr pf)) h = absurd h
-free_number (Ok (rnr command nr pf)) h = absurd h
-free_number (Ok (rej command nr pf)) h = absurd h
-free_number (Ok (sabm p)) h = absurd h
-free_number (Ok (disc p)) h = absurd h
-free_number (Ok (ua f)) h = absurd h
-free_number (Ok (dm f)) h = (refl, refl, refl, refl)
-free_number (Ok (frmr f why)) h = (refl, refl, refl, refl)
-free_number (Err e) h = (refl, refl, refl, refl)
+free_number : (Odd : Type 0) (r : Read) → IsFree Odd r → (number_in r ≡ None) × (sabm_in r ≡ 0) × (ua_in r ≡ 0) × (disc_in r ≡ 0) × IsSendable Odd r
+free_number Odd (Ok (info ns nr p x)) h = absurd h
+free_number Odd (Ok (rr command nr pf)) h = absurd h
+free_number Odd (Ok (rnr command nr pf)) h = absurd h
+free_number Odd (Ok (rej command nr pf)) h = absurd h
+free_number Odd (Ok (sabm p)) h = absurd h
+free_number Odd (Ok (disc p)) h = absurd h
+free_number Odd (Ok (ua f)) h = absurd h
+free_number Odd (Ok (dm f)) h = (refl, refl, refl, refl, λ free p. refl)
+free_number Odd (Ok (frmr f why)) h = (refl, refl, refl, refl, λ free p. refl)
+free_number Odd (Err Short) h = (refl, refl, refl, refl, λ free p. refl)
+free_number Odd (Err BadFcs) h = (refl, refl, refl, refl, λ free p. refl)
+free_number Odd (Err BadAddress) h = (refl, refl, refl, refl, λ free p. refl)
+free_number Odd (Err (Undefined control)) h = (refl, refl, refl, refl, λ free p. (h, refl))
+free_number Odd (Err (NoInfoAllowed control)) h = (refl, refl, refl, refl, λ free p. (h, refl))
+free_number Odd (Err TooLong) h = (refl, refl, refl, refl, λ free p. (h, refl))
+
+-- SABM, DISC and UA may be sent as they are
+sabm_sendable : (Odd : Type 0) (r : Read) (p : Bool) → r ≡ Ok (sabm p) → IsSendable Odd r
+sabm_sendable Odd r p is = subst (IsSendable Odd) (sym is) (λ free q. refl)
+
+disc_sendable : (Odd : Type 0) (r : Read) (p : Bool) → r ≡ Ok (disc p) → IsSendable Odd r
+disc_sendable Odd r p is = subst (IsSendable Odd) (sym is) (λ free q. refl)
+
+ua_sendable : (Odd : Type 0) (r : Read) (f : Bool) → r ≡ Ok (ua f) → IsSendable Odd r
+ua_sendable Odd r f is = subst (IsSendable Odd) (sym is) (λ free q. refl)
 
 one_quiet : (c : Settings) (e : Entry) → number_in (frame_of (other c.role) c.longest e.octets) ≡ None → numbers (other c.role) c.longest (e ∷ []) ≡ []
 one_quiet c e none = ap (λ (m : Option PlainFrame). option_to_list m ++ []) none
@@ -112,59 +129,59 @@ begins_lists p later = record {
   begun = omega arith;
 }
 
-begins_meetings : (c : Settings) (w : PeerSessions) (h : Held c w) (p q : ℕ) → Meetings w.near (as_end w.peer) p q w.met → Meetings w.near (as_end (begins w.peer)) p q w.met
-begins_meetings c w h p q m =
+begins_meetings : (Odd : Type 0) (c : Settings) (w : PeerSessions) (h : Held Odd c w) (p q : ℕ) → Meetings w.near (as_end w.peer) p q w.met → Meetings w.near (as_end (begins w.peer)) p q w.met
+begins_meetings Odd c w h p q m =
     meetings_back w.near (as_end (begins w.peer)) p q w.met
     (meetings_same (as_end w.peer) (as_end (begins w.peer)) w.near q p (map turned w.met) (begins_lists w.peer h.peer_lists.later) (meetings_turned w.near (as_end w.peer) p q w.met m))
 
 unbegun : (e : SessionEnd) (later : (n : ℕ) → e.begun < n → (e.down n ≡ []) × (e.up n ≡ [])) → HasLists e (suc e.begun) fresh_station
 unbegun e later = (let at = later (suc e.begun) (omega arith) in record { down = at.0; up = at.1; later = later })
 
-module _ (c : Settings) (keeps : KeepsAll c) where
+module _ (Odd : Type 0) (c : Settings) (keeps : KeepsAll Odd c) where
   -- ---- it asks, leaves, or sends what reads as no frame
 
-  leaves_held : (w : PeerSessions) → Held c w → Held c (record w { peer = stands Out w.peer })
+  leaves_held : (w : PeerSessions) → Held Odd c w → Held Odd c (record w { peer = stands Out w.peer })
   leaves_held w h =
-      subst (λ (back : List Entry). Held c (record w { peer = stands Out w.peer; back = back })) (append-nil w.back)
-      (free_held c keeps w h Out [] refl refl tt
+      subst (λ (back : List Entry). Held Odd c (record w { peer = stands Out w.peer; back = back })) (append-nil w.back)
+      (free_held Odd c keeps w h Out [] refl refl tt
       (λ Z xs old. asked_quiet (other c.role) c.longest Z w.peer.begun Out xs [] refl tt (asked_out (other c.role) c.longest Z w.peer.begun w.peer.stand Out out_in xs old))
-      (λ asks. out_asks asks) (λ asks. out_asks asks) (inr out_in)
-      (subst (λ (os : List (List ℕ)). IsReached (Unit {0}) c (record h.alone { back = os })) (sym (append-nil h.alone.back)) h.reached))
+      (λ asks. out_asks asks) (λ asks. out_asks asks) (inr out_in) tt
+      (subst (λ (os : List (List ℕ)). IsReached Odd c (record h.alone { back = os })) (sym (append-nil h.alone.back)) h.reached))
 
-  closes_held : (w : PeerSessions) → Held c w → (octets : List ℕ) (p : Bool) → frame_of (other c.role) c.longest octets ≡ Ok (disc p) → Held c (record w { peer = stands Out w.peer; back = w.back ++ entry w.peer octets ∷ [] })
+  closes_held : (w : PeerSessions) → Held Odd c w → (octets : List ℕ) (p : Bool) → frame_of (other c.role) c.longest octets ≡ Ok (disc p) → Held Odd c (record w { peer = stands Out w.peer; back = w.back ++ entry w.peer octets ∷ [] })
   closes_held w h octets p is =
       let e : Entry = entry w.peer octets in
       let quiet = one_quiet c e (ap number_in is) in
       let uas : ua_in (frame_of (other c.role) c.longest octets) ≡ 0 = ap ua_in is in
-      free_held c keeps w h Out (e ∷ []) quiet (omega (arith, uas)) (omega arith, tt)
+      free_held Odd c keeps w h Out (e ∷ []) quiet (omega (arith, uas)) (omega arith, tt)
       (λ Z xs old. asked_quiet (other c.role) c.longest Z w.peer.begun Out xs (e ∷ []) quiet (inl (ap sabm_in is), tt) (asked_out (other c.role) c.longest Z w.peer.begun w.peer.stand Out out_in xs old))
-      (λ asks. out_asks asks) (λ asks. out_asks asks) (inr out_in) (sends_free c h.alone h.reached octets (ap number_in is))
+      (λ asks. out_asks asks) (λ asks. out_asks asks) (inr out_in) (disc_sendable Odd (frame_of (other c.role) c.longest octets) p is, tt) (sends_free Odd c h.alone h.reached octets (ap number_in is) (disc_sendable Odd (frame_of (other c.role) c.longest octets) p is))
 
-  free_sent : (w : PeerSessions) → Held c w → (octets : List ℕ) → IsFree (frame_of (other c.role) c.longest octets) → Held c (record w { back = w.back ++ entry w.peer octets ∷ [] })
+  free_sent : (w : PeerSessions) → Held Odd c w → (octets : List ℕ) → IsFree Odd (frame_of (other c.role) c.longest octets) → Held Odd c (record w { back = w.back ++ entry w.peer octets ∷ [] })
   free_sent w h octets is =
       let e : Entry = entry w.peer octets in
-      let kinds = free_number (frame_of (other c.role) c.longest octets) is in
+      let kinds = free_number Odd (frame_of (other c.role) c.longest octets) is in
       let quiet = one_quiet c e kinds.0 in
       let asked : (Z : Type 0) (xs : List Entry) → AllAsked (other c.role) c.longest Z w.peer.begun w.peer.stand xs → AllAsked (other c.role) c.longest Z w.peer.begun w.peer.stand (xs ++ e ∷ []) = (λ Z xs old.
       asked_quiet (other c.role) c.longest Z w.peer.begun w.peer.stand xs (e ∷ []) quiet (inl kinds.1, tt) old) in
-      free_held c keeps w h w.peer.stand (e ∷ []) quiet (let uas = kinds.2 in omega (arith, uas)) (omega arith, tt) asked
+      free_held Odd c keeps w h w.peer.stand (e ∷ []) quiet (let uas = kinds.2 in omega (arith, uas)) (omega arith, tt) asked
       (λ asks. (let old = h.lines.asking asks in
       let sabms = many_append (other c.role) c.longest sabm_in w.back (e ∷ []) in
       let discs = many_append (other c.role) c.longest disc_in w.back (e ∷ []) in
       let no_sabm = kinds.1 in
       let no_disc = kinds.3 in
       (omega (arith, old.0, sabms, no_sabm), omega (arith, old.1, discs, no_disc), asked ⊥ w.back old.2)))
-      (λ asks. inl asks) (inl refl) (sends_free c h.alone h.reached octets kinds.0)
+      (λ asks. inl asks) (inl refl) (kinds.4, tt) (sends_free Odd c h.alone h.reached octets kinds.0 kinds.4)
 
-  asks_held : (w : PeerSessions) → Held c w → (octets : List ℕ) (p : Bool) → frame_of (other c.role) c.longest octets ≡ Ok (sabm p) → IsPatient c w
-      → Held c (record w { peer = stands Asking w.peer; back = w.back ++ entry w.peer octets ∷ [] })
+  asks_held : (w : PeerSessions) → Held Odd c w → (octets : List ℕ) (p : Bool) → frame_of (other c.role) c.longest octets ≡ Ok (sabm p) → IsPatient c w
+      → Held Odd c (record w { peer = stands Asking w.peer; back = w.back ++ entry w.peer octets ∷ [] })
   asks_held w h octets p is patient =
       let e : Entry = entry w.peer octets in
       let quiet = one_quiet c e (ap number_in is) in
       let uas : ua_in (frame_of (other c.role) c.longest octets) ≡ 0 = ap ua_in is in
       let one : sabm_in (frame_of (other c.role) c.longest octets) ≡ 1 = ap sabm_in is in
       let no_disc : disc_in (frame_of (other c.role) c.longest octets) ≡ 0 = ap disc_in is in
-      free_held c keeps w h Asking (e ∷ []) quiet (omega (arith, uas)) (omega arith, tt)
+      free_held Odd c keeps w h Asking (e ∷ []) quiet (omega (arith, uas)) (omega arith, tt)
       (λ Z xs old. asked_quiet (other c.role) c.longest Z w.peer.begun Asking xs (e ∷ []) quiet (inr (inr (asking_in, refl)), tt) (asked_out (other c.role) c.longest Z w.peer.begun w.peer.stand Asking asking_in xs old))
       (λ _. (let sabms = many_append (other c.role) c.longest sabm_in w.back (e ∷ []) in
       let discs = many_append (other c.role) c.longest disc_in w.back (e ∷ []) in
@@ -175,12 +192,12 @@ module _ (c : Settings) (keeps : KeepsAll c) where
         omega (arith, discs, no_disc, none_closed),
         asked_quiet (other c.role) c.longest ⊥ w.peer.begun Asking w.back (e ∷ []) quiet (inr (inr (asking_in, refl)), tt) (asked_none (other c.role) c.longest ⊥ w.peer.begun Asking w.back none_asked),
       )))
-      (λ _. inr patient.ua) (inr asking_in) (sends_free c h.alone h.reached octets (ap number_in is))
+      (λ _. inr patient.ua) (inr asking_in) (sabm_sendable Odd (frame_of (other c.role) c.longest octets) p is, tt) (sends_free Odd c h.alone h.reached octets (ap number_in is) (sabm_sendable Odd (frame_of (other c.role) c.longest octets) p is))
 
   -- ---- it takes the UA that it awaits
 
-  answered_held : (w : PeerSessions) (h : Held c w) (e : Entry) (rest : List Entry) → w.out ≡ e ∷ rest → w.peer.stand ≡ Asking → frame_of c.role c.longest e.octets ≡ Ok (ua true)
-      → Held c (record w { peer = begins w.peer; out = rest })
+  answered_held : (w : PeerSessions) (h : Held Odd c w) (e : Entry) (rest : List Entry) → w.out ≡ e ∷ rest → w.peer.stand ≡ Asking → frame_of c.role c.longest e.octets ≡ Ok (ua true)
+      → Held Odd c (record w { peer = begins w.peer; out = rest })
   answered_held w h e rest front asks read = go h.peer_view h.peer h.out
     where
       one : ua_in (frame_of c.role c.longest e.octets) ≡ 1
@@ -204,7 +221,7 @@ module _ (c : Settings) (keeps : KeepsAll c) where
           after_unasked (other c.role) c.longest (Comes (other c.role) c.longest w.peer.begun h.q w.peer.stand h.alone.back) (Comes (other c.role) c.longest (suc w.peer.begun) h.q In h.alone.back) (comes h.alone.back) w.back unasked (k waiting)
       back_is Gone k = k
 
-      go : (v : View) → PeerIs v w.peer h.q → OutIs c v w.peer.stand w.out h.alone.out h.p → Held c (record w { peer = begins w.peer; out = rest })
+      go : (v : View) → PeerIs v w.peer h.q → OutIs c v w.peer.stand w.out h.alone.out h.p → Held Odd c (record w { peer = begins w.peer; out = rest })
       go Live k out = asks_in (sym k.0 ∙ asks)
       go Gone k out = (let no_ua = out asks in let here = ap (how_many ua_in c.role c.longest) front in absurd (omega (arith, no_ua, here, one)))
       go Soon k out =
@@ -234,7 +251,9 @@ module _ (c : Settings) (keeps : KeepsAll c) where
               later = λ n less. begins_same w.peer h.peer_lists.later n ∙ h.peer_lists.later n (omega (arith, less));
             };
             running = h.running;
-            meetings = begins_meetings c w h h.p h.q h.meetings;
+            meetings = begins_meetings Odd c w h h.p h.q h.meetings;
+            sendable = h.sendable;
+            no_frmr = λ lapb. (let none = subst (λ (xs : List Entry). how_many frmr_in c.role c.longest xs ≡ 0) front (h.no_frmr lapb) in omega (arith, none));
           }
 
   -- ---- it answers by UA
@@ -245,15 +264,17 @@ module _ (c : Settings) (keeps : KeepsAll c) where
     pub no_ua : w.near.station.phase ≡ Waiting → how_many ua_in (other c.role) c.longest w.back ≡ 0
     pub quiet : numbers c.role c.longest rest ≡ []
     pub left : OnLines c w.near.station.phase w.peer.begun w.peer.stand rest w.back
+    pub frmrs : how_many frmr_in c.role c.longest rest ≤ how_many frmr_in c.role c.longest w.out
     pub owes : (more : List Entry) → how_many ua_in (other c.role) c.longest more ≡ 1
         → Owes w.near.station.phase (how_many sabm_in c.role c.longest rest + how_many ua_in (other c.role) c.longest (w.back ++ more)) (how_many disc_in c.role c.longest rest)
 
-  was_asked : (w : PeerSessions) (h : Held c w) (e : Entry) (rest : List Entry) (p : Bool) → w.out ≡ e ∷ rest → frame_of c.role c.longest e.octets ≡ Ok (sabm p) → Asked w rest
+  was_asked : (w : PeerSessions) (h : Held Odd c w) (e : Entry) (rest : List Entry) (p : Bool) → w.out ≡ e ∷ rest → frame_of c.role c.longest e.octets ≡ Ok (sabm p) → Asked w rest
   was_asked w h e rest p front read = record {
     phase = elim by [ inl waits ↦ inl waits.0 | inr closed ↦ inr closed ];
     no_ua = λ waiting. (let few = waiting_few w.near.station.phase _ _ waiting all.owes in omega (arith, few, one));
     quiet = elim all.behind.0 [ inl free ↦ absurd (omega (arith, free, one)) | inr quiet ↦ quiet ];
     left = lines_out c w.near.station.phase w.peer.begun w.peer.stand (e ∷ rest) w.back rest (gone e rest) all;
+    frmrs = (let all_frmrs = ap (how_many frmr_in c.role c.longest) front in omega (arith, all_frmrs));
     owes = λ more one_ua. (let uas = many_append (other c.role) c.longest ua_in w.back more in owes_less w.near.station.phase _ _ _ _ (omega (arith, one, uas, one_ua)) (omega arith) all.owes);
   }
     where
@@ -266,8 +287,8 @@ module _ (c : Settings) (keeps : KeepsAll c) where
       by : ((w.near.station.phase ≡ Waiting) × (how_many sabm_in c.role c.longest (e ∷ rest) + how_many ua_in (other c.role) c.longest w.back ≤ 1) × (how_many disc_in c.role c.longest (e ∷ rest) ≡ 0)) ⊎ (w.near.station.phase ≡ Closed)
       by = asked_by w.near.station.phase _ _ (omega (arith, one)) all.owes
 
-  sabm_answered : (w : PeerSessions) (h : Held c w) (rest : List Entry) → Asked w rest → (octets : List ℕ) (f : Bool) → frame_of (other c.role) c.longest octets ≡ Ok (ua f)
-      → Held c (record w { peer = begins w.peer; out = rest; back = w.back ++ entry (begins w.peer) octets ∷ [] })
+  sabm_answered : (w : PeerSessions) (h : Held Odd c w) (rest : List Entry) → Asked w rest → (octets : List ℕ) (f : Bool) → frame_of (other c.role) c.longest octets ≡ Ok (ua f)
+      → Held Odd c (record w { peer = begins w.peer; out = rest; back = w.back ++ entry (begins w.peer) octets ∷ [] })
   sabm_answered w h rest a octets f read =
       let e : Entry = entry (begins w.peer) octets in
       let quiet = one_quiet c e (ap number_in read) in
@@ -300,11 +321,13 @@ module _ (c : Settings) (keeps : KeepsAll c) where
           later = λ n less. begins_same w.peer h.peer_lists.later n ∙ h.peer_lists.later n (omega (arith, less));
         };
         running = h.running;
-        meetings = begins_meetings c w h (suc w.near.begun) (suc w.peer.begun) (meetings_anew w.near (as_end w.peer) h.p h.q (suc w.near.begun) (suc w.peer.begun) w.met (omega arith) (omega arith) h.meetings);
+        meetings = begins_meetings Odd c w h (suc w.near.begun) (suc w.peer.begun) (meetings_anew w.near (as_end w.peer) h.p h.q (suc w.near.begun) (suc w.peer.begun) w.met (omega arith) (omega arith) h.meetings);
+        sendable = sendable_append Odd c w.back (e ∷ []) h.sendable (ua_sendable Odd (frame_of (other c.role) c.longest octets) f read, tt);
+        no_frmr = λ lapb. (let none = h.no_frmr lapb in let fewer = a.frmrs in omega (arith, none, fewer));
       }
 
-  waits_on_held : (w : PeerSessions) (h : Held c w) (rest : List Entry) → Asked w rest → w.peer.stand ≡ Asking → (octets : List ℕ) (f : Bool) → frame_of (other c.role) c.longest octets ≡ Ok (ua f)
-      → Held c (record w { out = rest; back = w.back ++ entry w.peer octets ∷ [] })
+  waits_on_held : (w : PeerSessions) (h : Held Odd c w) (rest : List Entry) → Asked w rest → w.peer.stand ≡ Asking → (octets : List ℕ) (f : Bool) → frame_of (other c.role) c.longest octets ≡ Ok (ua f)
+      → Held Odd c (record w { out = rest; back = w.back ++ entry w.peer octets ∷ [] })
   waits_on_held w h rest a asks octets f read =
       let e : Entry = entry w.peer octets in
       let quiet = one_quiet c e (ap number_in read) in
@@ -339,13 +362,15 @@ module _ (c : Settings) (keeps : KeepsAll c) where
         peer_lists = record { at = h.peer_lists.later (suc w.peer.begun) (omega arith); later = h.peer_lists.later };
         running = h.running;
         meetings = meetings_anew w.near (as_end w.peer) h.p h.q (suc w.near.begun) (suc w.peer.begun) w.met (omega arith) (omega arith) h.meetings;
+        sendable = sendable_append Odd c w.back (e ∷ []) h.sendable (ua_sendable Odd (frame_of (other c.role) c.longest octets) f read, tt);
+        no_frmr = λ lapb. (let none = h.no_frmr lapb in let fewer = a.frmrs in omega (arith, none, fewer));
       }
 
   -- DISC is of a station that is Closed, and begins no session any more
-  disc_answered : (w : PeerSessions) (h : Held c w) (e : Entry) (rest : List Entry) (p : Bool) → w.out ≡ e ∷ rest → frame_of c.role c.longest e.octets ≡ Ok (disc p) → (octets : List ℕ) (f : Bool)
-      → frame_of (other c.role) c.longest octets ≡ Ok (ua f) → Held c (record w { out = rest; back = w.back ++ entry w.peer octets ∷ [] })
+  disc_answered : (w : PeerSessions) (h : Held Odd c w) (e : Entry) (rest : List Entry) (p : Bool) → w.out ≡ e ∷ rest → frame_of c.role c.longest e.octets ≡ Ok (disc p) → (octets : List ℕ) (f : Bool)
+      → frame_of (other c.role) c.longest octets ≡ Ok (ua f) → Held Odd c (record w { out = rest; back = w.back ++ entry w.peer octets ∷ [] })
   disc_answered w h front_e rest p front front_read octets f read =
-      let lost = out_lost c w h rest (subst (λ (xs : List Entry). Less xs rest) (sym front) (gone front_e rest)) in
+      let lost = out_lost Odd c w h rest (subst (λ (xs : List Entry). Less xs rest) (sym front) (gone front_e rest)) in
       go lost lost.near_view lost.near
     where
       e : Entry
@@ -375,8 +400,8 @@ module _ (c : Settings) (keeps : KeepsAll c) where
       asked : (Z : Type 0) → AllAsked (other c.role) c.longest Z w.peer.begun w.peer.stand w.back → AllAsked (other c.role) c.longest Z w.peer.begun w.peer.stand (w.back ++ e ∷ [])
       asked Z old = asked_quiet (other c.role) c.longest Z w.peer.begun w.peer.stand w.back (e ∷ []) quiet (inl no_sabm, tt) old
 
-      by : (k : Held c (record w { out = rest })) (v : View) → NearIs v w.near k.alone.near k.p k.alone.out → BackIs c v w.near.station.phase w.peer.begun w.peer.stand (w.back ++ e ∷ []) k.alone.back k.q
-          → Held c (record w { out = rest; back = w.back ++ e ∷ [] })
+      by : (k : Held Odd c (record w { out = rest })) (v : View) → NearIs v w.near k.alone.near k.p k.alone.out → BackIs c v w.near.station.phase w.peer.begun w.peer.stand (w.back ++ e ∷ []) k.alone.back k.q
+          → Held Odd c (record w { out = rest; back = w.back ++ e ∷ [] })
       by k v near back = record {
         alone = k.alone;
         reached = k.reached;
@@ -403,17 +428,19 @@ module _ (c : Settings) (keeps : KeepsAll c) where
         peer_lists = k.peer_lists;
         running = k.running;
         meetings = k.meetings;
+        sendable = sendable_append Odd c w.back (e ∷ []) h.sendable (ua_sendable Odd (frame_of (other c.role) c.longest octets) f read, tt);
+        no_frmr = k.no_frmr;
       }
 
-      go : (k : Held c (record w { out = rest })) (v : View) → NearIs v w.near k.alone.near k.p k.alone.out → Held c (record w { out = rest; back = w.back ++ e ∷ [] })
+      go : (k : Held Odd c (record w { out = rest })) (v : View) → NearIs v w.near k.alone.near k.p k.alone.out → Held Odd c (record w { out = rest; back = w.back ++ e ∷ [] })
       go k Live near = not_both (is_up w.near.station.phase) near.0 (ap is_up closed)
       go k Soon near = by k Soon near (λ waiting. absurd (still waiting))
       go k Gone near = by k Gone near (λ waiting. absurd (still waiting))
 
   -- ---- each event
 
-  sends_held : (w : PeerSessions) (h : Held c w) (octets : List ℕ) (q : PeerEnd) → sessions.MaySend c w (frame_of (other c.role) c.longest octets) q → Held c (record w { peer = q; back = w.back ++ entry q octets ∷ [] })
-  sends_held w h octets q (sessions.numbered frame r some is may) = numbered_held c keeps w h is octets frame r some may
+  sends_held : (w : PeerSessions) (h : Held Odd c w) (octets : List ℕ) (q : PeerEnd) → sessions.MaySend Odd c w (frame_of (other c.role) c.longest octets) q → Held Odd c (record w { peer = q; back = w.back ++ entry q octets ∷ [] })
+  sends_held w h octets q (sessions.numbered frame r some is may) = numbered_held Odd c keeps w h is octets frame r some may
   sends_held w h octets q (sessions.asks p read patient) = asks_held w h octets p read patient
   sends_held w h octets q (sessions.closes p read) = closes_held w h octets p read
   sends_held w h octets q (sessions.free is) = free_sent w h octets is
@@ -428,8 +455,8 @@ module _ (c : Settings) (keeps : KeepsAll c) where
   unheard true m pair met off = not_both true refl off
   unheard false m pair met off = refl
 
-  hears_held : (w : PeerSessions) (h : Held c w) (e : Entry) (rest : List Entry) → w.out ≡ e ∷ rest → (q : PeerEnd) → sessions.MayHear w.peer (frame_of c.role c.longest e.octets) q
-      → Held c (record w { peer = q; out = rest; met = heard_by w.peer (frame_of c.role c.longest e.octets) e w.met })
+  hears_held : (w : PeerSessions) (h : Held Odd c w) (e : Entry) (rest : List Entry) → w.out ≡ e ∷ rest → (q : PeerEnd) → sessions.MayHear w.peer (frame_of c.role c.longest e.octets) q
+      → Held Odd c (record w { peer = q; out = rest; met = heard_by w.peer (frame_of c.role c.longest e.octets) e w.met })
   hears_held w h e rest front q may = go q may
     where
       read : Read
@@ -439,35 +466,35 @@ module _ (c : Settings) (keeps : KeepsAll c) where
       pair = record { near = e.session; far = w.peer.begun }
 
       in_held : (is : w.peer.stand ≡ In) (all : ℕ → Peer) (r : Peer) → ((q : ℕ) → w.peer.begun ≡ q → Knows w.peer q all r) → once.MayHear (now w.peer) read r
-          → Held c (record w { peer = knowing all w.peer; out = rest; met = heard_by w.peer read e w.met })
+          → Held Odd c (record w { peer = knowing all w.peer; out = rest; met = heard_by w.peer read e w.met })
       in_held is all r knows hears =
-          subst (λ (b : Bool). Held c (record w { peer = knowing all w.peer; out = rest; met = heard b (number_in read) pair w.met })) (sym (ap is_in is)) (heard_held c keeps w h is e rest front all r knows hears)
+          subst (λ (b : Bool). Held Odd c (record w { peer = knowing all w.peer; out = rest; met = heard b (number_in read) pair w.met })) (sym (ap is_in is)) (heard_held Odd c keeps w h is e rest front all r knows hears)
 
-      go : (q : PeerEnd) → sessions.MayHear w.peer read q → Held c (record w { peer = q; out = rest; met = heard_by w.peer read e w.met })
+      go : (q : PeerEnd) → sessions.MayHear w.peer read q → Held Odd c (record w { peer = q; out = rest; met = heard_by w.peer read e w.met })
       go q sessions.passes_over = elim (in_or_not w.peer.stand) [
-        | inl is ↦ in_held is w.peer.of_session (now w.peer) (λ n same. record { at = ap w.peer.of_session (sym same); others = λ k never. refl }) (hears_none c keeps (now w.peer) read)
-        | inr off ↦ subst (λ (met : List Meeting). Held c (record w { out = rest; met = met })) (sym (unheard (is_in w.peer.stand) (number_in read) pair w.met off)) (out_lost c w h rest (subst (λ (xs : List Entry). Less xs rest) (sym front) (gone e rest)))
+        | inl is ↦ in_held is w.peer.of_session (now w.peer) (λ n same. record { at = ap w.peer.of_session (sym same); others = λ k never. refl }) (hears_none Odd c keeps (now w.peer) read)
+        | inr off ↦ subst (λ (met : List Meeting). Held Odd c (record w { out = rest; met = met })) (sym (unheard (is_in w.peer.stand) (number_in read) pair w.met off)) (out_lost Odd c w h rest (subst (λ (xs : List Entry). Less xs rest) (sym front) (gone e rest)))
       ]
       go q (sessions.hears r is hears) =
           in_held is (put_for w.peer.begun r w.peer.of_session) r
           (λ n same. record { at = put_same w.peer.begun n r w.peer.of_session (sym same); others = λ k never. put_other w.peer.begun k r w.peer.of_session (λ here. never (here ∙ same)) }) hears
       go q (sessions.takes_ua asks answer) =
-          subst (λ (met : List Meeting). Held c (record w { peer = begins w.peer; out = rest; met = met })) (sym (unheard (is_in w.peer.stand) (number_in read) pair w.met (ap is_in asks)))
+          subst (λ (met : List Meeting). Held Odd c (record w { peer = begins w.peer; out = rest; met = met })) (sym (unheard (is_in w.peer.stand) (number_in read) pair w.met (ap is_in asks)))
           (answered_held w h e rest front asks answer)
 
-  answers_held : (w : PeerSessions) (h : Held c w) (e : Entry) (rest : List Entry) (octets : List ℕ) (f : Bool) (q : PeerEnd) → w.out ≡ e ∷ rest → frame_of (other c.role) c.longest octets ≡ Ok (ua f)
-      → sessions.MayAnswer w.peer (frame_of c.role c.longest e.octets) q → Held c (record w { peer = q; out = rest; back = w.back ++ entry q octets ∷ [] })
+  answers_held : (w : PeerSessions) (h : Held Odd c w) (e : Entry) (rest : List Entry) (octets : List ℕ) (f : Bool) (q : PeerEnd) → w.out ≡ e ∷ rest → frame_of (other c.role) c.longest octets ≡ Ok (ua f)
+      → sessions.MayAnswer w.peer (frame_of c.role c.longest e.octets) q → Held Odd c (record w { peer = q; out = rest; back = w.back ++ entry q octets ∷ [] })
   answers_held w h e rest octets f q front read (sessions.takes_sabm p asked) = sabm_answered w h rest (was_asked w h e rest p front asked) octets f read
   answers_held w h e rest octets f q front read (sessions.waits_on p asked asks) = waits_on_held w h rest (was_asked w h e rest p front asked) asks octets f read
   answers_held w h e rest octets f q front read (sessions.takes_disc p asked) = disc_answered w h e rest p front asked octets f read
 
-module _ (reads : ReadsSpelled) (rests : SessionLaws) (c : Settings) (keeps : KeepsAll c) where
-  pub happens_held : (w v : PeerSessions) → sessions.Happens c w v → Held c w → Held c v
-  happens_held w v (sessions.Ours act timely) h = acts_held reads rests c keeps act w h timely
-  happens_held w v (sessions.HandsDown packet is) h = handed_held c keeps w h is packet
-  happens_held w v sessions.Leaves h = leaves_held c keeps w h
-  happens_held w v (sessions.Sends octets q may) h = sends_held c keeps w h octets q may
-  happens_held w v (sessions.Hears e rest q front may) h = hears_held c keeps w h e rest front q may
-  happens_held w v (sessions.Answers e rest octets f q front read may) h = answers_held c keeps w h e rest octets f q front read may
-  happens_held w v (sessions.Loses i) h = out_lost c w h (remove w.out i) (less_removes w.out i)
-  happens_held w v (sessions.Damages i octets visible) h = out_lost c w h (replaced w.out i octets) (less_replaces octets visible w.out i)
+module _ (reads : ReadsSpelled) (rests : SessionLaws) (Odd : Type 0) (c : Settings) (keeps : KeepsAll Odd c) where
+  pub happens_held : (w v : PeerSessions) → sessions.Happens Odd c w v → Held Odd c w → Held Odd c v
+  happens_held w v (sessions.Ours act timely) h = acts_held reads rests Odd c keeps act w h timely
+  happens_held w v (sessions.HandsDown packet is) h = handed_held Odd c keeps w h is packet
+  happens_held w v sessions.Leaves h = leaves_held Odd c keeps w h
+  happens_held w v (sessions.Sends octets q may) h = sends_held Odd c keeps w h octets q may
+  happens_held w v (sessions.Hears e rest q front may) h = hears_held Odd c keeps w h e rest front q may
+  happens_held w v (sessions.Answers e rest octets f q front read may) h = answers_held Odd c keeps w h e rest octets f q front read may
+  happens_held w v (sessions.Loses i) h = out_lost Odd c w h (remove w.out i) (less_removes w.out i)
+  happens_held w v (sessions.Damages i octets visible) h = out_lost Odd c w h (replaced w.out i octets) (less_replaces octets visible w.out i)

@@ -41,7 +41,7 @@ single_of (f ∷ e ∷ fs) g h = absurd h.1
 
 -- ---- frames with an N(R)
 
-tell_sent : (k : ℕ) (p : Peer) → p.told ≤ length p.taken → (f : PlainFrame) → Shows f (machine_frame (machine_of k p) None) → once.MaySend (Unit {0}) p (Ok f) (told_to (length p.taken) p)
+tell_sent : (k : ℕ) (p : Peer) → p.told ≤ length p.taken → (f : PlainFrame) → Shows f (machine_frame (machine_of k p) None) → once.MaySend ⊥ p (Ok f) (told_to (length p.taken) p)
 tell_sent k p told (info ns nr pf x) h = absurd h.0
 tell_sent k p told (rr command nr pf) h = (length p.taken, record { number = h.1; rising = told; taken = omega arith }, refl)
 tell_sent k p told (rnr command nr pf) h = (length p.taken, record { number = h.1; rising = told; taken = omega arith }, refl)
@@ -53,7 +53,7 @@ tell_sent k p told (dm pf) h = absurd h
 tell_sent k p told (frmr pf why) h = absurd h
 
 item_sent : (k n : ℕ) (p : Peer) → k ≤ 7 → p.sent ≤ p.acked + k → p.told ≤ length p.taken → Allows (machine_of k p) (Send n) → (n1 : ℕ) → Item n1 p.given n
-    → (f : PlainFrame) → Shows f (machine_frame (after (machine_of k p) (Send n)) (numbered n (slice_get p.given n))) → once.MaySend (Unit {0}) p (Ok f) (told_to (length p.taken) (numbered_to n p))
+    → (f : PlainFrame) → Shows f (machine_frame (after (machine_of k p) (Send n)) (numbered n (slice_get p.given n))) → once.MaySend ⊥ p (Ok f) (told_to (length p.taken) (numbered_to n p))
 item_sent k n p high room told may n1 i (info ns nr pf x) h =
     let shown : ShowsItem (numbered n (Some i.item)) ns x = subst (λ (o : Option (List ℕ)). ShowsItem (numbered n o) ns x) i.is h.0 in
     let low = may.0 in
@@ -105,44 +105,44 @@ module _ (c d : Settings) (joined : AreJoined c d) (reads : ReadsSpelled) (far :
   there octets r read = ap (λ (from : Role). frame_of from c.longest octets) joined.far_role ∙ ap (λ (n1 : ℕ). frame_of d.role n1 octets) joined.longest ∙ read
 
   -- one frame with a number
-  sends_one : (b : ℕ) (all : ℕ → Peer) (back : List Entry) (f : PlainFrame) (q : Peer) → IsGood d.longest f → once.MaySend (Unit {0}) (all b) (Ok f) q → IsReached c (at In b all back)
-      → IsReached c (at In b (put_for b q all) (back ++ record { session = b; octets = spelling_of d.role f } ∷ []))
+  sends_one : (b : ℕ) (all : ℕ → Peer) (back : List Entry) (f : PlainFrame) (q : Peer) → IsGood d.longest f → once.MaySend ⊥ (all b) (Ok f) q → IsReached ⊥ c (at In b all back)
+      → IsReached ⊥ c (at In b (put_for b q all) (back ++ record { session = b; octets = spelling_of d.role f } ∷ []))
   sends_one b all back f q good may reached =
       let read = there (spelling_of d.role f) (Ok f) (good_reads reads d.role d.longest f good) in
       let p : PeerEnd = record { stand = In; begun = b; of_session = all } in
       sessions.goes_on (at In b all back) (at In b (put_for b q all) (back ++ record { session = b; octets = spelling_of d.role f } ∷ [])) reached
       (sessions.Sends (spelling_of d.role f) (sessions.with_now q p)
-      (sessions.numbered f q (ap number_in read ∙ good.number) refl (subst (λ (r : Result PlainFrame FrameError). once.MaySend (Unit {0}) (all b) r q) (sym read) may)))
+      (sessions.numbered f q (ap number_in read ∙ good.number) refl (subst (λ (r : Result PlainFrame FrameError). once.MaySend ⊥ (all b) r q) (sym read) may)))
 
   -- one without
-  pub sends_free : (stand : Stand) (b : ℕ) (all : ℕ → Peer) (back : List Entry) (octets : List ℕ) (r : Result PlainFrame FrameError) → frame_of d.role d.longest octets ≡ r → IsFree r → IsReached c (at stand b all back)
-      → IsReached c (at stand b all (back ++ record { session = b; octets = octets } ∷ []))
+  pub sends_free : (stand : Stand) (b : ℕ) (all : ℕ → Peer) (back : List Entry) (octets : List ℕ) (r : Result PlainFrame FrameError) → frame_of d.role d.longest octets ≡ r → IsFree ⊥ r → IsReached ⊥ c (at stand b all back)
+      → IsReached ⊥ c (at stand b all (back ++ record { session = b; octets = octets } ∷ []))
   sends_free stand b all back octets r read free reached =
       sessions.goes_on (at stand b all back) (at stand b all (back ++ record { session = b; octets = octets } ∷ [])) reached
-      (sessions.Sends octets (record { stand = stand; begun = b; of_session = all }) (sessions.free (subst IsFree (sym (there octets r read)) free)))
+      (sessions.Sends octets (record { stand = stand; begun = b; of_session = all }) (sessions.free (subst (IsFree ⊥) (sym (there octets r read)) free)))
 
   -- it leaves
-  pub leaves : (stand : Stand) (b : ℕ) (all : ℕ → Peer) (back : List Entry) → IsReached c (at stand b all back) → IsReached c (at sessions.Out b all back)
+  pub leaves : (stand : Stand) (b : ℕ) (all : ℕ → Peer) (back : List Entry) → IsReached ⊥ c (at stand b all back) → IsReached ⊥ c (at sessions.Out b all back)
   leaves stand b all back reached = sessions.goes_on (at stand b all back) (at sessions.Out b all back) reached sessions.Leaves
 
   -- the peer once it said all frames of a run, by which the station's end of the window machine became v
   pub record Said (b : ℕ) (before : ℕ → Peer) (back : List Entry) (v : Window) (frames : List PlainFrame) : Type 0 where
     pub all : ℕ → Peer
-    pub reached : IsReached c (at In b all (back ++ sent_in b d.role frames))
+    pub reached : IsReached ⊥ c (at In b all (back ++ sent_in b d.role frames))
     pub is : machine_of d.window (all b) ≡ v
     pub room : (all b).sent ≤ (all b).acked + d.window
     pub told : (all b).told ≤ length (all b).taken
     pub packets : SamePackets all before
 
-  push : (b : ℕ) (all : ℕ → Peer) (back : List Entry) (before : List PlainFrame) (f : PlainFrame) → IsReached c (at In b all ((back ++ sent_in b d.role before) ++ record { session = b; octets = spelling_of d.role f } ∷ []))
-      → IsReached c (at In b all (back ++ sent_in b d.role (before ++ f ∷ [])))
+  push : (b : ℕ) (all : ℕ → Peer) (back : List Entry) (before : List PlainFrame) (f : PlainFrame) → IsReached ⊥ c (at In b all ((back ++ sent_in b d.role before) ++ record { session = b; octets = spelling_of d.role f } ∷ []))
+      → IsReached ⊥ c (at In b all (back ++ sent_in b d.role (before ++ f ∷ [])))
   push b all back before f h =
-      subst (λ (xs : List Entry). IsReached c (at In b all xs))
+      subst (λ (xs : List Entry). IsReached ⊥ c (at In b all xs))
       (append_assoc back (sent_in b d.role before) (record { session = b; octets = spelling_of d.role f } ∷ []) ∙ ap (λ (xs : List Entry). back ++ xs) (sym (sent_append b d.role before (f ∷ [])))) h
 
   -- one frame more, by which the peer of this session is q
-  more : (b : ℕ) (before all : ℕ → Peer) (back : List Entry) (told_frames : List PlainFrame) (f : PlainFrame) (q : Peer) → IsReached c (at In b all (back ++ sent_in b d.role told_frames)) → IsGood d.longest f
-      → once.MaySend (Unit {0}) (all b) (Ok f) q → SamePackets all before → q.given ≡ (all b).given → q.taken ≡ (all b).taken → q.sent ≤ q.acked + d.window → q.told ≤ length q.taken
+  more : (b : ℕ) (before all : ℕ → Peer) (back : List Entry) (told_frames : List PlainFrame) (f : PlainFrame) (q : Peer) → IsReached ⊥ c (at In b all (back ++ sent_in b d.role told_frames)) → IsGood d.longest f
+      → once.MaySend ⊥ (all b) (Ok f) q → SamePackets all before → q.given ≡ (all b).given → q.taken ≡ (all b).taken → q.sent ≤ q.acked + d.window → q.told ≤ length q.taken
       → Said b before back (machine_of d.window q) (told_frames ++ f ∷ [])
   more b before all back told_frames f q reached good may packets given taken room told =
       let now : put_for b q all b ≡ q = put_same b b q all refl in
@@ -178,12 +178,12 @@ module _ (c d : Settings) (joined : AreJoined c d) (reads : ReadsSpelled) (far :
       (more b before h.all back told_frames single.frame (told_to (length p.taken) (numbered_to n p)) h.reached (send_good d.longest n m item single.frame single.shows)
       (item_sent d.window n p high h.room h.told may d.longest item single.frame single.shows) h.packets refl refl (omega arith) (omega arith))
 
-  pub runs_said : (b : ℕ) (before : ℕ → Peer) (back : List Entry) (from : Window) → IsReached c (at In b before back) → machine_of d.window (before b) ≡ from → (before b).sent ≤ (before b).acked + d.window
+  pub runs_said : (b : ℕ) (before : ℕ → Peer) (back : List Entry) (from : Window) → IsReached ⊥ c (at In b before back) → machine_of d.window (before b) ≡ from → (before b).sent ≤ (before b).acked + d.window
       → (before b).told ≤ length (before b).taken → AllWithin d.longest (before b).given → (w : Window) (frames : List PlainFrame) → Runs from w frames → Said b before back w frames
   runs_said b before back from reached is room told within w frames rests =
       record {
         all = before;
-        reached = subst (λ (xs : List Entry). IsReached c (at In b before xs)) (sym (append-nil back)) reached;
+        reached = subst (λ (xs : List Entry). IsReached ⊥ c (at In b before xs)) (sym (append-nil back)) reached;
         is = is;
         room = room;
         told = told;

@@ -89,7 +89,7 @@ module _ (c d : Settings) (joined : AreJoined c d) (reads : ReadsSpelled) where
   -- the near end, with settings d, as a peer of the far end, with settings c
   pub record Seen (w : Sessions) : Type 0 where
     pub all : ℕ → Peer
-    pub reached : IsReached c (seen (peer_of w all) w)
+    pub reached : IsReached ⊥ c (seen (peer_of w all) w)
     pub up : is_up w.near.station.phase ≡ true → UpFacts w.near.station (all w.near.begun)
     pub given : (n : ℕ) → (all n).given ≡ w.near.down n
     pub taken : (n : ℕ) → (all n).taken ≡ w.near.up n
@@ -103,7 +103,7 @@ module _ (c d : Settings) (joined : AreJoined c d) (reads : ReadsSpelled) where
   -- ---- after a step of the near end
 
   pub build : (w : Sessions) (h : Seen w) (es : List Entry) (met : List Meeting) (down : List (List ℕ)) (step : Step) (all : ℕ → Peer) → step.notes.up ≡ false
-      → IsReached c (stands_at w es met (stand_of step.side.near.phase) w.near.begun all (w.out ++ sent_in w.near.begun d.role step.side.out))
+      → IsReached ⊥ c (stands_at w es met (stand_of step.side.near.phase) w.near.begun all (w.out ++ sent_in w.near.begun d.role step.side.out))
       → (is_up step.side.near.phase ≡ true → UpFacts step.side.near (all w.near.begun)) → ((n : ℕ) → (all n).given ≡ extended w.near.down w.near.begun down n)
       → ((n : ℕ) → (all n).taken ≡ extended w.near.up w.near.begun (option_to_list step.packet) n) → Seen (after_step d w es met down step)
   build w h es met down step all quiet reached up given taken =
@@ -123,7 +123,7 @@ module _ (c d : Settings) (joined : AreJoined c d) (reads : ReadsSpelled) where
 
   -- nothing is handed down or up
   pub build_quiet : (w : Sessions) (h : Seen w) (es : List Entry) (met : List Meeting) (step : Step) → step.notes.up ≡ false → step.packet ≡ None → is_up step.side.near.phase ≡ false
-      → IsReached c (stands_at w es met (stand_of step.side.near.phase) w.near.begun h.all (w.out ++ sent_in w.near.begun d.role step.side.out)) → Seen (after_step d w es met [] step)
+      → IsReached ⊥ c (stands_at w es met (stand_of step.side.near.phase) w.near.begun h.all (w.out ++ sent_in w.near.begun d.role step.side.out)) → Seen (after_step d w es met [] step)
   build_quiet w h es met step quiet none off reached =
       build w h es met [] step h.all quiet reached (λ up. not_both (is_up step.side.near.phase) up off) (λ n. h.given n ∙ sym (extended_nil w.near.down w.near.begun n))
       (λ n. h.taken n ∙ sym (ap (λ (o : Option (List ℕ)). extended w.near.up w.near.begun (option_to_list o) n) none ∙ extended_nil w.near.up w.near.begun n))
@@ -133,12 +133,12 @@ module _ (c d : Settings) (joined : AreJoined c d) (reads : ReadsSpelled) where
 
   -- LinkUp is noted
   pub build_up : (w : Sessions) (h : Seen w) (es : List Entry) (step : Step) → step.notes.up ≡ true → step.side.near ≡ fresh → step.packet ≡ None → how_many sabm_in (other c.role) c.longest w.out ≡ 0
-      → IsReached c (stands_at w es w.met In (suc w.near.begun) (put_for (suc w.near.begun) fresh_peer h.all) (w.out ++ sent_in (suc w.near.begun) d.role step.side.out)) → Seen (after_step d w es w.met [] step)
+      → IsReached ⊥ c (stands_at w es w.met In (suc w.near.begun) (put_for (suc w.near.begun) fresh_peer h.all) (w.out ++ sent_in (suc w.near.begun) d.role step.side.out)) → Seen (after_step d w es w.met [] step)
   build_up w h es step up near none unasked reached =
       subst (λ (n : ℕ). Seen (stepped d w es w.met [] n step)) (sym (ap (λ (b : Bool). begun_by b w.near.begun) up))
       (record {
         all = all;
-        reached = subst (λ (s : Stand). IsReached c (stands_at w es w.met s b all (w.out ++ sent_in b d.role step.side.out))) (sym (ap (λ (s : LinkStation). stand_of s.phase) near)) reached;
+        reached = subst (λ (s : Stand). IsReached ⊥ c (stands_at w es w.met s b all (w.out ++ sent_in b d.role step.side.out))) (sym (ap (λ (s : LinkStation). stand_of s.phase) near)) reached;
         up = λ _. subst (λ (s : LinkStation). UpFacts s (all b)) (sym near) (subst (UpFacts fresh) (sym (put_same b b fresh_peer h.all refl)) fresh_facts);
         given = λ n. put_packets b fresh_peer h.all w.near.down [] (λ (p : Peer). p.given) (sym (ap (λ (xs : List (List ℕ)). xs ++ []) (h.given b ∙ (h.later b (omega arith)).0))) h.given n;
         taken = λ n. put_packets b fresh_peer h.all w.near.up [] (λ (p : Peer). p.taken) (sym (ap (λ (xs : List (List ℕ)). xs ++ []) (h.taken b ∙ (h.later b (omega arith)).1))) h.taken n
@@ -161,7 +161,7 @@ module _ (c d : Settings) (joined : AreJoined c d) (reads : ReadsSpelled) where
   -- the peer once what comes has come, before it sends
   pub record Ready (w : Sessions) (es : List Entry) (met : List Meeting) (down : List (List ℕ)) (packet : Option (List ℕ)) (v : Window) : Type 0 where
     pub all : ℕ → Peer
-    pub reached : IsReached c (stands_at w es met In w.near.begun all w.out)
+    pub reached : IsReached ⊥ c (stands_at w es met In w.near.begun all w.out)
     pub is : machine_of d.window (all w.near.begun) ≡ v
     pub room : (all w.near.begun).sent ≤ (all w.near.begun).acked + d.window
     pub told : (all w.near.begun).told ≤ length (all w.near.begun).taken
@@ -177,15 +177,15 @@ module _ (c d : Settings) (joined : AreJoined c d) (reads : ReadsSpelled) where
       (window_of d.window step.side.near) step.side.out stays.sends
       in
       build w h es met down step said.all (ap (λ (n : Notes). n.up) stays.quiet)
-      (subst (λ (s : Stand). IsReached c (stands_at w es met s b said.all (w.out ++ sent_in b d.role step.side.out))) (sym (up_stands step.side.near.phase stays.up)) said.reached)
+      (subst (λ (s : Stand). IsReached ⊥ c (stands_at w es met s b said.all (w.out ++ sent_in b d.role step.side.out))) (sym (up_stands step.side.near.phase stays.up)) said.reached)
       (λ _. record { same = said.is; sound = stays.sound; room = said.room; told = said.told; within = subst (AllWithin d.longest) (sym (said.packets.given b)) r.within })
       (λ n. said.packets.given n ∙ r.given n) (λ n. said.packets.taken n ∙ r.taken n)
 
   -- the peer in its session, as it is
-  pub reached_in : (w : Sessions) (h : Seen w) → is_up w.near.station.phase ≡ true → IsReached c (stands_at w w.back w.met In w.near.begun h.all w.out)
-  reached_in w h up = subst (λ (s : Stand). IsReached c (stands_at w w.back w.met s w.near.begun h.all w.out)) (up_stands w.near.station.phase up) h.reached
+  pub reached_in : (w : Sessions) (h : Seen w) → is_up w.near.station.phase ≡ true → IsReached ⊥ c (stands_at w w.back w.met In w.near.begun h.all w.out)
+  reached_in w h up = subst (λ (s : Stand). IsReached ⊥ c (stands_at w w.back w.met s w.near.begun h.all w.out)) (up_stands w.near.station.phase up) h.reached
 
-  pub unchanged : (w : Sessions) (h : Seen w) → is_up w.near.station.phase ≡ true → (es : List Entry) (met : List Meeting) → IsReached c (stands_at w es met In w.near.begun h.all w.out)
+  pub unchanged : (w : Sessions) (h : Seen w) → is_up w.near.station.phase ≡ true → (es : List Entry) (met : List Meeting) → IsReached ⊥ c (stands_at w es met In w.near.begun h.all w.out)
       → (v : Window) → v ≡ window_of d.window w.near.station → (packet : Option (List ℕ)) → packet ≡ None → Ready w es met [] packet v
   unchanged w h up es met reached v is packet none =
       let f = h.up up in
@@ -201,7 +201,7 @@ module _ (c d : Settings) (joined : AreJoined c d) (reads : ReadsSpelled) where
       }
 
   -- what it is in this session is r
-  pub changed : (w : Sessions) (h : Seen w) (es : List Entry) (met : List Meeting) (down : List (List ℕ)) (packet : Option (List ℕ)) (r : Peer) → IsReached c (stands_at w es met In w.near.begun (put_for w.near.begun r h.all) w.out)
+  pub changed : (w : Sessions) (h : Seen w) (es : List Entry) (met : List Meeting) (down : List (List ℕ)) (packet : Option (List ℕ)) (r : Peer) → IsReached ⊥ c (stands_at w es met In w.near.begun (put_for w.near.begun r h.all) w.out)
       → (v : Window) → machine_of d.window r ≡ v → r.sent ≤ r.acked + d.window → r.told ≤ length r.taken → AllWithin d.longest r.given → r.given ≡ (h.all w.near.begun).given ++ down
       → r.taken ≡ (h.all w.near.begun).taken ++ option_to_list packet → Ready w es met down packet v
   changed w h es met down packet r reached v is room told within given taken =

@@ -59,7 +59,7 @@ module _ (c d : Settings) (joined : AreJoined c d) (reads : ReadsSpelled) (rests
   S w = Seen c d joined reads w
 
   abbrev pub R : Sessions → List Entry → List Meeting → Stand → ℕ → (ℕ → Peer) → List Entry → Type 0
-  R w es met stand b all back = IsReached c (stands_at c d joined reads w es met stand b all back)
+  R w es met stand b all back = IsReached ⊥ c (stands_at c d joined reads w es met stand b all back)
 
   -- nothing is put
   pub put_none : (w : Sessions) (es : List Entry) (met : List Meeting) (stand : Stand) (b : ℕ) (all : ℕ → Peer) (fs : List PlainFrame) → fs ≡ [] → R w es met stand b all w.out → R w es met stand b all (w.out ++ sent_in b d.role fs)
@@ -67,7 +67,7 @@ module _ (c d : Settings) (joined : AreJoined c d) (reads : ReadsSpelled) (rests
       subst (λ (back : List Entry). R w es met stand b all back) (sym (append-nil w.out) ∙ ap (λ (xs : List PlainFrame). w.out ++ sent_in b d.role xs) (sym is)) reached
 
   -- one frame is put that carries no number
-  put_free : (w : Sessions) (es : List Entry) (met : List Meeting) (stand : Stand) (b : ℕ) (all : ℕ → Peer) (f : PlainFrame) (fs : List PlainFrame) → fs ≡ f ∷ [] → frame_of d.role d.longest (spelling_of d.role f) ≡ Ok f → IsFree (Ok f)
+  put_free : (w : Sessions) (es : List Entry) (met : List Meeting) (stand : Stand) (b : ℕ) (all : ℕ → Peer) (f : PlainFrame) (fs : List PlainFrame) → fs ≡ f ∷ [] → frame_of d.role d.longest (spelling_of d.role f) ≡ Ok f → IsFree ⊥ (Ok f)
       → R w es met stand b all w.out → R w es met stand b all (w.out ++ sent_in b d.role fs)
   put_free w es met stand b all f fs is read free reached =
       subst (λ (xs : List PlainFrame). R w es met stand b all (w.out ++ sent_in b d.role xs)) (sym is)
@@ -141,7 +141,7 @@ module _ (c d : Settings) (joined : AreJoined c d) (reads : ReadsSpelled) (rests
 
     comes : (q : PeerEnd) → sessions.MayHear (peer_of c d joined reads w h.all) r q → R w es met q.stand q.begun q.of_session w.out
     comes q may =
-        subst (λ (xs : List Meeting). IsReached c (record { near = w.far; peer = q; out = es; back = w.out; met = xs })) same_met
+        subst (λ (xs : List Meeting). IsReached ⊥ c (record { near = w.far; peer = q; out = es; back = w.out; met = xs })) same_met
         (sessions.goes_on (seen (peer_of c d joined reads w h.all) w)
         (record { near = w.far; peer = q; out = es; back = w.out; met = heard (is_in (stand_of s.phase)) (number_in (frame_of c.role c.longest e.octets)) (record { near = e.session; far = b }) (map turned w.met) })
         h.reached (sessions.Hears e es q is (subst (λ (x : Read). sessions.MayHear (peer_of c d joined reads w h.all) x q) same_read may)))

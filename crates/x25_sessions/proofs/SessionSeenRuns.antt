@@ -157,16 +157,16 @@ module _ (c d : Settings) (joined : AreJoined c d) (reads : ReadsSpelled) (rests
       met_with : Sessions → List Meeting → PeerSessions
       met_with x met = record { near = x.near; peer = p; out = x.out; back = x.back; met = met }
 
-      before : IsReached c (with_peer p w)
-      before = subst (λ (met : List Meeting). IsReached c (met_with w met)) (twice_turned w.met) h.reached
+      before : IsReached ⊥ c (with_peer p w)
+      before = subst (λ (met : List Meeting). IsReached ⊥ c (met_with w met)) (twice_turned w.met) h.reached
 
-      acted : IsReached c (with_peer p v)
-      acted = subst (IsReached c) (sym (alike c p a w)) (sessions.goes_on (with_peer p w) (with_peer p (acts c a (both_ends (with_peer p w)))) before (sessions.Ours a (station_timely a w p h.tags timely)))
+      acted : IsReached ⊥ c (with_peer p v)
+      acted = subst (IsReached ⊥ c) (sym (alike c p a w)) (sessions.goes_on (with_peer p w) (with_peer p (acts c a (both_ends (with_peer p w)))) before (sessions.Ours a (station_timely a w p h.tags timely)))
 
-      reached : IsReached c (seen (peer_of c d joined reads (swapped v) h.all) (swapped v))
+      reached : IsReached ⊥ c (seen (peer_of c d joined reads (swapped v) h.all) (swapped v))
       reached =
-          subst (λ (e : SessionEnd). IsReached c (record { near = v.near; peer = record { stand = stand_of e.station.phase; begun = e.begun; of_session = h.all }; out = v.out; back = v.back; met = map turned (map turned v.met) })) (sym still.far)
-          (subst (λ (met : List Meeting). IsReached c (met_with v met)) (sym (twice_turned v.met)) acted)
+          subst (λ (e : SessionEnd). IsReached ⊥ c (record { near = v.near; peer = record { stand = stand_of e.station.phase; begun = e.begun; of_session = h.all }; out = v.out; back = v.back; met = map turned (map turned v.met) })) (sym still.far)
+          (subst (λ (met : List Meeting). IsReached ⊥ c (met_with v met)) (sym (twice_turned v.met)) acted)
 
   -- ---- the peer acts
 
@@ -326,7 +326,7 @@ module _ (c d : Settings) (joined : AreJoined c d) (reads : ReadsSpelled) (rests
       by Closed phase = (let out = closed_takes d e.octets w.near.station phase in
           out_seen c d joined reads rests w h e es is (ap is_up phase) ((rests.continues d e.octets w.near.station).phase out.quiet) out)
 
-  line_seen : (w : Sessions) (h : S w) (es : List Entry) → sessions.Happens c (seen (peer_of c d joined reads w h.all) w) (stands_at c d joined reads w es w.met (stand_of w.near.station.phase) w.near.begun h.all w.out)
+  line_seen : (w : Sessions) (h : S w) (es : List Entry) → sessions.Happens ⊥ c (seen (peer_of c d joined reads w h.all) w) (stands_at c d joined reads w es w.met (stand_of w.near.station.phase) w.near.begun h.all w.out)
       → S (record w { back = es })
   line_seen w h es event = record {
     all = h.all;

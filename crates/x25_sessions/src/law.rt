@@ -2,6 +2,7 @@ ghost use Rattle.x25_frame.specs.laws.ReadingLaw.{ReadsSpelled};
 ghost use Rattle.x25_line.specs.laws.LawsBelow.{SessionLaws};
 ghost use Rattle.x25_line.specs.laws.SessionClaims.{Throughout, MeetInStep, MetAreInOrder, UnmetHandNothingUp};
 ghost use Rattle.x25_sessions.specs.laws.PeerSessionClaims.{WithAnyPeer, OfBothEnds, EachMeetsLatest, IdleHasArrived};
+ghost use Rattle.x25_sessions.specs.laws.PeerSessionClaims.{WithAnyLapbPeer, SendsNoFrmr};
 ghost use Rattle.x25_sessions.specs.laws.SessionPeers.{AreBothPeers};
 ghost use Rattle.x25_sessions.specs.rows.PeerSessionRows.{CrossingPeerMoves};
 
@@ -32,13 +33,15 @@ pub(crate) fn laws_below()
 /// station was handed down. In a session that meets none the station hands nothing up, and the peer takes nothing.
 /// The session of an end that is in one meets no other than the latest of the other end. Where the station is idle,
 /// and the peer is in a session or met the station's, all that the station was handed down in this session was taken
-/// in the peer's latest.
+/// in the peer's latest. To a peer that sends no frame that LAPB modulo 8 doesn't have, and none that is too long,
+/// the station never sends FRMR (`no_frmr`).
 pub fn any_peer_keeps_sessions()
     ensures step { WithAnyPeer (OfBothEnds MeetInStep) }
     ensures order { WithAnyPeer (OfBothEnds MetAreInOrder) }
     ensures unmet { WithAnyPeer (OfBothEnds UnmetHandNothingUp) }
     ensures agree { WithAnyPeer EachMeetsLatest }
     ensures idle { WithAnyPeer IdleHasArrived }
+    ensures no_frmr { WithAnyLapbPeer SendsNoFrmr }
 {
     any_peer_keeps_order();
     laws_below();
@@ -46,7 +49,8 @@ pub fn any_peer_keeps_sessions()
 
 /// Our own station keeps the rules of a peer over set-up and re-set-up. Of two link stations, as `sessions_keep_order`
 /// of `x25_line` has them, after each list of events each is a peer of the other, which began the sessions that the
-/// station began, and in each was handed down what that was, and took what that handed up.
+/// station began, and in each was handed down what that was, and took what that handed up. It sent nothing that is
+/// answered by FRMR.
 pub fn stations_are_peers_over_sessions()
     ensures { Throughout AreBothPeers }
 {

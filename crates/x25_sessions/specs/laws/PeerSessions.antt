@@ -8,6 +8,8 @@ use Rattle.x25_bits.specs.declared.role.Role.{Role}
 use Rattle.x25_frame.specs.Frame.{PlainFrame, sabm, disc, ua, dm, frmr}
 use Rattle.x25_frame.specs.Reading.{frame_of}
 use Rattle.x25_frame.specs.declared.error.FrameError.{FrameError}
+use Rattle.x25_frame.specs.declared.error.FrameError.TheVariants.{Short, BadFcs, BadAddress, Undefined}
+use Rattle.x25_frame.specs.declared.error.FrameError.TheVariants.{NoInfoAllowed, TooLong}
 use Rattle.x25_link.specs.declared.phase.Phase.TheVariants.{Down, Waiting}
 use Rattle.x25_link.specs.Station.{Settings, with_nothing}
 use Rattle.x25_link.specs.Hearing.{other}
@@ -85,21 +87,28 @@ pub record IsPatient (c : Settings) (w : PeerSessions) : Type 0 where
   pub disc : how_many disc_in (other c.role) c.longest w.back ≡ 0
   pub ua : how_many ua_in c.role c.longest w.out ≡ 0
 
--- DM, FRMR, and octets that read as no frame
-abbrev pub IsFree : Result PlainFrame FrameError → Type 0
-IsFree (Ok (dm f)) = Unit {0}
-IsFree (Ok (frmr f why)) = Unit {0}
-IsFree (Ok frame) = ⊥
-IsFree (Err e) = Unit {0}
+-- DM, FRMR, and octets that read as no frame. `Odd` is that of `Peer`: it holds where it may send what is answered by
+-- FRMR.
+abbrev pub IsFree : Type 0 → Result PlainFrame FrameError → Type 0
+IsFree Odd (Ok (dm f)) = Unit {0}
+IsFree Odd (Ok (frmr f why)) = Unit {0}
+IsFree Odd (Ok frame) = ⊥
+IsFree Odd (Err Short) = Unit {0}
+IsFree Odd (Err BadFcs) = Unit {0}
+IsFree Odd (Err BadAddress) = Unit {0}
+IsFree Odd (Err (Undefined control)) = Odd
+IsFree Odd (Err (NoInfoAllowed control)) = Odd
+IsFree Odd (Err TooLong) = Odd
 
 -- Octets that it may send unasked, by what they read as. In: those with an N(R) in a session alone, by the rules of
 -- `Peer` (section 2.4.5). Leaves: it leaves its session as it sends SABM or DISC (sections 2.4.4.1 and 2.4.4.3).
-pub data MaySend (c : Settings) (w : PeerSessions) (read : Result PlainFrame FrameError) : PeerEnd → Type 0 where
+pub data MaySend (Odd : Type 0) (c : Settings) (w : PeerSessions) (read : Result PlainFrame FrameError)
+    : PeerEnd → Type 0 where
   numbered : (frame : PlainFrame) (q : Peer) → number_in read ≡ Some frame → w.peer.stand ≡ In
-      → once.MaySend (Unit {0}) (now w.peer) read q → MaySend c w read (with_now q w.peer)
-  asks : (p : Bool) → read ≡ Ok (sabm p) → IsPatient c w → MaySend c w read (stands Asking w.peer)
-  closes : (p : Bool) → read ≡ Ok (disc p) → MaySend c w read (stands Out w.peer)
-  free : IsFree read → MaySend c w read w.peer
+      → once.MaySend Odd (now w.peer) read q → MaySend Odd c w read (with_now q w.peer)
+  asks : (p : Bool) → read ≡ Ok (sabm p) → IsPatient c w → MaySend Odd c w read (stands Asking w.peer)
+  closes : (p : Bool) → read ≡ Ok (disc p) → MaySend Odd c w read (stands Out w.peer)
+  free : IsFree Odd read → MaySend Odd c w read w.peer
 
 -- Octets that come to it, by what they read as. It may pass over anything, hears and takes by the rules of `Peer` in a
 -- session alone, and begins one where it takes the UA that it awaits.
@@ -143,24 +152,24 @@ entry p octets = record { session = p.begun; octets = octets }
 abbrev pub heard_by : PeerEnd → Result PlainFrame FrameError → Entry → List Meeting → List Meeting
 heard_by p read e met = heard (is_in p.stand) (number_in read) (record { near = e.session; far = p.begun }) met
 
-pub data Happens (c : Settings) (w : PeerSessions) : PeerSessions → Type 0 where
+pub data Happens (Odd : Type 0) (c : Settings) (w : PeerSessions) : PeerSessions → Type 0 where
   -- The station acts, by its definition: a packet is handed down, octets come, T1 runs out, connect, disconnect,
   -- abandon. Or octets on the line to it are lost or visibly damaged.
-  Ours : (act : Act) → IsTimely c act w → Happens c w (with_peer w.peer (acts c act (both_ends w)))
+  Ours : (act : Act) → IsTimely c act w → Happens Odd c w (with_peer w.peer (acts c act (both_ends w)))
   -- the peer is handed down a packet
   HandsDown : (packet : List ℕ) → w.peer.stand ≡ In
-      → Happens c w (record w {
+      → Happens Odd c w (record w {
         peer = with_now (record (now w.peer) { given = (now w.peer).given ++ packet ∷ [] }) w.peer;
       })
   -- it leaves its session, or gives up, without a frame
-  Leaves : Happens c w (record w { peer = stands Out w.peer })
+  Leaves : Happens Odd c w (record w { peer = stands Out w.peer })
   -- it sends octets unasked
-  Sends : (octets : List ℕ) (q : PeerEnd) → MaySend c w (frame_of (other c.role) c.longest octets) q
-      → Happens c w (record w { peer = q; back = w.back ++ entry q octets ∷ [] })
+  Sends : (octets : List ℕ) (q : PeerEnd) → MaySend Odd c w (frame_of (other c.role) c.longest octets) q
+      → Happens Odd c w (record w { peer = q; back = w.back ++ entry q octets ∷ [] })
   -- the front octets come to it
   Hears : (e : Entry) (rest : List Entry) (q : PeerEnd) → w.out ≡ e ∷ rest
       → MayHear w.peer (frame_of c.role c.longest e.octets) q
-      → Happens c w (record w {
+      → Happens Odd c w (record w {
         peer = q;
         out = rest;
         met = heard_by w.peer (frame_of c.role c.longest e.octets) e w.met;
@@ -168,18 +177,18 @@ pub data Happens (c : Settings) (w : PeerSessions) : PeerSessions → Type 0 whe
   -- it answers them by UA
   Answers : (e : Entry) (rest : List Entry) (octets : List ℕ) (f : Bool) (q : PeerEnd) → w.out ≡ e ∷ rest
       → frame_of (other c.role) c.longest octets ≡ Ok (ua f) → MayAnswer w.peer (frame_of c.role c.longest e.octets) q
-      → Happens c w (record w { peer = q; out = rest; back = w.back ++ entry q octets ∷ [] })
+      → Happens Odd c w (record w { peer = q; out = rest; back = w.back ++ entry q octets ∷ [] })
   -- the octets at this place of the line to the peer are lost, or others come in their place
-  Loses : (place : ℕ) → Happens c w (record w { out = remove w.out place })
+  Loses : (place : ℕ) → Happens Odd c w (record w { out = remove w.out place })
   Damages : (place : ℕ) (octets : List ℕ) → is_visible octets ≡ true
-      → Happens c w (record w { out = replaced w.out place octets })
+      → Happens Odd c w (record w { out = replaced w.out place octets })
 
 -- nothing was set up yet, or both ends were just set up, each in its first session
 abbrev pub begin_with : Stand → Sessions → PeerSessions
 begin_with stand v = with_peer (record { stand = stand; begun = v.far.begun; of_session = λ n. fresh_peer }) v
 
 -- what is reached, event by event
-pub data IsReached (c : Settings) : PeerSessions → Type 0 where
-  at_start : IsReached c (begin_with Out from_nothing)
-  set_up : IsReached c (begin_with In from_set_up)
-  goes_on : (w v : PeerSessions) → IsReached c w → Happens c w v → IsReached c v
+pub data IsReached (Odd : Type 0) (c : Settings) : PeerSessions → Type 0 where
+  at_start : IsReached Odd c (begin_with Out from_nothing)
+  set_up : IsReached Odd c (begin_with In from_set_up)
+  goes_on : (w v : PeerSessions) → IsReached Odd c w → Happens Odd c w v → IsReached Odd c v

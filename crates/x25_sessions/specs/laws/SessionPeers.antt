@@ -9,10 +9,10 @@ abbrev pub seen : PeerEnd → Sessions → PeerSessions
 seen peer w = record { near = w.far; peer = peer; out = w.back; back = w.out; met = map turned w.met }
 
 -- The near end is a peer of the far end, whose settings are c: it began the sessions that the station began, and in
--- each it was handed down what that was, and took what that handed up.
+-- each it was handed down what that was, and took what that handed up. It sent nothing that is answered by FRMR.
 pub record IsPeer (c : Settings) (w : Sessions) : Type 0 where
   pub peer : PeerEnd
-  pub reached : IsReached c (seen peer w)
+  pub reached : IsReached ⊥ c (seen peer w)
   pub begun : peer.begun ≡ w.near.begun
   pub given : (n : ℕ) → (peer.of_session n).given ≡ w.near.down n
   pub taken : (n : ℕ) → (peer.of_session n).taken ≡ w.near.up n

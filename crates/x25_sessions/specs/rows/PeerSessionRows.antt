@@ -7,5 +7,5 @@ use Rattle.x25_sessions.specs.laws.PeerSessions.{PeerSessions, IsReached}
 -- the station answers too, and takes UA and that frame behind it, each end in its first session.
 abbrev pub CrossingPeerMoves : Type 0
 CrossingPeerMoves =
-    (w : PeerSessions) × IsReached dte w × (w.near.begun ≡ 1) × (w.peer.begun ≡ 1) × (w.near.up 1 ≡ (7 ∷ []) ∷ [])
+    (w : PeerSessions) × IsReached ⊥ dte w × (w.near.begun ≡ 1) × (w.peer.begun ≡ 1) × (w.near.up 1 ≡ (7 ∷ []) ∷ [])
     × (w.met ≡ record { near = 1; far = 1 } ∷ [])
