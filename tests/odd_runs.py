@@ -1,11 +1,12 @@
 """Random runs of a station beside an end whose packets break rules, judged: nothing may be told of the station.
 
-    odd_runs.py [--program PROGRAM] [--from SEED] [RUNS]
+    odd_runs.py [--program PROGRAM] [--from SEED] [--midst] [RUNS]
 
-The station is `x25 station`, of either end, with a user who calls, accepts, sends, clears, resets and restarts at random. The other end keeps
-the rules of the link; its packets have wrong P(S)s and P(R)s at times, are confirmations of nothing, calls where a call is, data of any
-length, and octets that are no packet, and it confirms late, in another order or never. What both send goes through `judge`, whole, and again
-from a frame in its midst on.
+The station is `x25 station`, of either end, with a user who calls, accepts, sends, clears, resets and restarts at random. The other end
+keeps the rules of the link and restarts first; its packets have wrong P(S)s and P(R)s at times, are confirmations of nothing, calls where a
+call is, data of any length, and octets that are no packet, and it confirms late, in another order or never. What both send goes through
+`judge`. With --midst it is judged from a frame in its midst on: then the faults of the other end may stand before the trace begins, so a
+station may be told of at times.
 
 Exit status: 0; 1 where a rule was told of the station, with the seed of that run; 2 for bad words, or where there is no program.
 """
@@ -228,8 +229,7 @@ class Run:
         self.put([self.command, SABM])
         self.deliver()
         self.take()
-        if self.dice.chance(0.9):
-            self.put_packet([0x10, 0, RESTART, 0, 0])
+        self.put_packet([0x10, 0, RESTART, 0, 0])
         for _ in range(STEPS):
             self.step()
         self.station.end()
@@ -241,26 +241,26 @@ def told(program, frames, end):
     return [line for line in done.stdout.splitlines() if f" ! {end}: " in line]
 
 
-def play(program, seed):
-    """How many frames a run has, and the lines that tell of its station: of the whole trace, and of it from a frame in its midst on."""
+def play(program, seed, from_midst=False):
+    """How many frames a run has, and the lines that tell of its station: of the whole trace, or of it from a frame in its midst on."""
     run = Run(program, seed)
     run.play()
-    midst = losses.Dice(seed).below(len(run.trace))
-    cut = [f"from frame {midst} on: {line}" for line in told(program, run.trace[midst:], run.end)]
-    return len(run.trace), told(program, run.trace, run.end) + cut
+    midst = losses.Dice(seed).below(len(run.trace)) if from_midst else 0
+    return len(run.trace), told(program, run.trace[midst:], run.end)
 
 
 def main():
     parser = argparse.ArgumentParser(description=__doc__, formatter_class=argparse.RawDescriptionHelpFormatter)
     parser.add_argument("runs", metavar="RUNS", type=int, nargs="?", default=5_000, help="how many runs (5,000)")
     parser.add_argument("--from", dest="first", metavar="SEED", type=int, default=0, help="the seed of the first run (0)")
+    parser.add_argument("--midst", action="store_true", help="judge each trace from a frame in its midst on")
     parser.add_argument("--program", default=find_program(), help="the program")
     options = parser.parse_args()
     if options.program is None:
         parser.error("there is no program: make x25")
     frames = faults = 0
     for seed in range(options.first, options.first + options.runs):
-        count, lines = play(options.program, seed)
+        count, lines = play(options.program, seed, options.midst)
         frames += count
         for line in lines[:1]:
             faults += 1

@@ -75,10 +75,10 @@ class Frame(NamedTuple):
         return (self.packet()[0] & 15) << 8 | self.packet()[1]
 
     def is_data(self):
-        return self.kind() is not None and not self.kind() & 1
+        return self.kind() is not None and not self.kind() & 1 and self.packet()[0] & 0x70 == 0x10
 
     def has_pr(self):
-        return self.is_data() or (self.kind() is not None and self.kind() & 0x1F in READY)
+        return self.is_data() or (len(self.packet()) == 3 and self.kind() & 0x1F in READY and self.packet()[0] & 0xF0 == 0x10)
 
     def line(self):
         return f"{self.end} {(self.octets + fcs(self.octets)).hex()}\n"

@@ -90,7 +90,7 @@ pub record Seen : Type 0 where
 abbrev pub told : Book → Option PacketRule → Seen
 told b rule = record { book = b; verdict = record { rule = rule; unjudged = None; is_judged = true } }
 
--- .. and wasn't: a channel that isn't judged from there on may be noted, of which 0 stands for all
+-- the packet wasn't judged: a channel that isn't from there on may be noted, of which 0 stands for all
 abbrev pub passed : Book → Option ℕ → Seen
 passed b unjudged = record { book = b; verdict = record { rule = None; unjudged = unjudged; is_judged = false } }
 
@@ -131,12 +131,12 @@ restarts from t b = told (keeps from t (fills from fresh b)) t.rule
 abbrev pub refinds : Role → Layers → Book → Seen
 refinds from t b = told (keeps from (layer.refinds t) (fills_both fresh b)) None
 
--- .. behind a fault of restarts
+-- a confirmation of a RESTART behind a fault of restarts
 abbrev pub confirms_lost : Role → Layers → Book → Seen
 confirms_lost from t b = if layer.is_sure_answer t then refinds from t b
     else quiet (keeps from (layer.confirms_lost t) b)
 
--- .. and else, of a RESTART that was seen
+-- a confirmation of a RESTART that was seen
 abbrev pub answers : Role → Layers → Book → Seen
 answers from t b = if layer.are_counted t then restarts from (layer.answers_restart t) b else refinds from t b
 

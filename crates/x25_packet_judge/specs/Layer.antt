@@ -213,7 +213,7 @@ hears number t =
 abbrev pub is_next : ℕ → Layers → Bool
 is_next number t = is_followed t.own.track && number == t.own.next
 
--- .. and judged, where those of both ends are followed
+-- packets are judged where those of both ends are followed
 abbrev pub may_judge : ℕ → Layers → Bool
 may_judge number t = is_followed t.other.track && is_next number t
 
@@ -301,11 +301,11 @@ restarts t =
 abbrev pub opens : Layers → Layers
 opens t = with_other (opened t.other) (with_own (opened t.own) t)
 
--- the confirmation answers a RESTART that was seen
+-- the confirmation answers a RESTART that was seen, and no other answer to it may be on its way
 abbrev pub is_answer : Layers → Bool
-is_answer t = if are_counted t then nat_lt 0 t.own.owed else is_asking t.other.restart
+is_answer t = if are_counted t then nat_lt 0 t.own.owed else is_asking t.other.restart && not t.other.is_stray
 
--- .. or answers again one that was sent again
+-- the confirmation answers again a RESTART that was sent again
 abbrev pub is_second_answer : Layers → Bool
 is_second_answer t = are_counted t && nat_lt 0 t.own.again
 
@@ -329,7 +329,7 @@ abbrev pub confirms_lost : Layers → Layers
 confirms_lost t = goes_to Ready (with_other (strayed (with_restart Ready t.other)) (with_own (owing_less t.own) t))
 
 abbrev pub confirms_again : Layers → Layers
-confirms_again t = opens (with_own (confirmed_again t.own) t)
+confirms_again t = strays (opens (with_own (confirmed_again t.own) t))
 
 abbrev pub is_begun : Restart → Bool
 is_begun Begun = true
@@ -343,6 +343,6 @@ runs t =
     else if is_begun t.own.restart then are_uncounted (goes_to Ready t)
     else goes_to Ready t
 
--- .. and nothing of the channels of its sender
+-- where nothing is said of the channels of its sender either
 abbrev pub runs_early : Layers → Bool
 runs_early t = is_awaiting t || is_begun t.own.restart

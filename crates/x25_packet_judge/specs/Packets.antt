@@ -24,7 +24,7 @@ speaks (reset channel cause diagnostic) t = resets t
 speaks (reset_conf channel) t = confirms_reset t
 speaks packet t = t
 
--- .. once the call is up, as section 4.3 has it
+-- these go once the call is up, as section 4.3 has it
 unfoldable pub talks : PlainPacket → Pair → Pair
 talks packet t = if may_talk t then speaks packet (with_own (port.in_call Open t.own) t) else breaks NoCall t
 

@@ -33,7 +33,7 @@ tells rule t = record t { rule = first t.rule rule }
 abbrev pub unknown : Pair → Pair
 unknown t = with_other (port.unknown t.other) (with_own (port.unknown t.own) t)
 
--- .. behind a fault, which leaves open where the ends stand
+-- behind a fault, which leaves open where the ends stand
 abbrev pub doubts : Pair → Pair
 doubts t = with_other (port.doubtful (t.own.owed == 0) t.other) (with_own (port.doubtful (t.other.owed == 0) t.own) t)
 
@@ -51,7 +51,7 @@ is_known t = t.own.is_known && t.other.is_known
 abbrev pub is_matched : Pair → Bool
 is_matched t = t.reaches && (t.own.owed == 0 && t.other.owed == 0)
 
--- .. and as many RESETs and confirmations
+-- each end has sent as many CLEARs, RESETs and confirmations as the other
 abbrev pub is_together : Pair → Bool
 is_together t = is_matched t && (t.own.talk.owed == 0 && t.other.talk.owed == 0)
 
@@ -126,11 +126,17 @@ confirms_unknown t = reaching (port.strayed (is_doubtful t) (port.clearing false
 abbrev pub finds : Pair → Pair
 finds t = if is_sure_answer t then with_other (port.found t.other) (with_own port.fresh t) else confirms_unknown t
 
+-- The DTE may have called before too, so the DCE may have that CALL to accept.
+abbrev pub accepted_by : Role → Port
+accepted_by Dte = port.doubted port.fresh
+accepted_by Dce = port.fresh
+
 abbrev pub is_up : Terms → Pair → Pair
-is_up terms t = with_other (port.set_up Answered false terms port.fresh)
+is_up terms t = with_other (port.set_up Answered false terms (accepted_by t.from))
     (with_own (port.set_up Open true terms port.fresh) t)
 
--- .. and so does CALL ACCEPTED behind a CALL, where not both ends called, and no fault left open which CALL it is
+-- CALL ACCEPTED behind a CALL makes the channel known, where not both ends called, and no fault left open which CALL it
+-- is
 abbrev pub may_find_call : Pair → Bool
 may_find_call t = port.is_calling t.other.call && (not (port.is_calling t.own.call) && not (is_doubtful t))
 
@@ -198,7 +204,10 @@ abbrev pub accepts_terms : Terms → Pair → Pair
 accepts_terms terms t = with_own (port.set_up Open true terms t.own) (reaches_with (answered terms t) t)
 
 abbrev pub accepts : List ℕ → Pair → Pair
-accepts field t = if not (may_accept t) then breaks AcceptUnasked t else accepts_terms (said field t.own.terms) t
+accepts field t =
+    if may_accept t then accepts_terms (said field t.own.terms) t
+    else if t.own.is_doubtful then unknown t
+    else breaks AcceptUnasked t
 
 -- ---- data (section 4.3)
 

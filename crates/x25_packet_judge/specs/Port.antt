@@ -28,7 +28,7 @@ begun is_resetting owed window most = record {
   most = most;
 }
 
--- .. by this end: what the other one was ahead by is made up for
+-- behind a RESET of this end, or its confirmation: what the other one was ahead by is made up for
 abbrev pub reset : Bool → Talk → Talk
 reset is_resetting t = begun is_resetting (t.owed - 1) t.window t.most
 
@@ -91,7 +91,7 @@ noted p = record p { is_noted = true }
 abbrev pub unknown : Port → Port
 unknown p = record p { is_known = false; is_clearing = false; call = Idle }
 
--- .. behind a fault, by whether the other end has answered its CLEAR: then that answer may still be on its way
+-- behind a fault, by whether the other end has answered its CLEAR: then that answer may still be on its way
 abbrev pub doubtful : Bool → Port → Port
 doubtful is_answered p = record p {
   is_known = false;

@@ -209,7 +209,7 @@ impl Book {
         }
     }
 
-    /// .. and where no restart and confirmation went before, nothing is known of the end's channels.
+    /// A packet of a channel: where no restart and confirmation went before, nothing is known of the end's channels.
     #[tactic(auto, unfolding(crate::specs::Book::runs))]
     fn runs(&mut self, from: Role, channel: u16, packet: &Packet) -> Verdict
         ensures book { self.new ≡ (definition.runs from channel (plain packet.now) self.old).book }
@@ -243,7 +243,7 @@ impl Book {
         self.keep(from, layers.refinds());
     }
 
-    /// .. behind a fault of restarts.
+    /// A confirmation of a RESTART behind a fault of restarts.
     fn confirms_lost(&mut self, from: Role, layers: Layers) -> Verdict
         ensures book { self.new ≡ (definition.confirms_lost from layers self.old).book }
         ensures verdict { result ≡ (definition.confirms_lost from layers self.old).verdict }
@@ -257,7 +257,7 @@ impl Book {
         }
     }
 
-    /// .. and else, of a RESTART that was seen.
+    /// A confirmation of a RESTART that was seen.
     fn answers(&mut self, from: Role, layers: Layers) -> Verdict
         ensures book { self.new ≡ (definition.answers from layers self.old).book }
         ensures verdict { result ≡ (definition.answers from layers self.old).verdict }
@@ -406,7 +406,7 @@ impl Book {
         }
     }
 
-    /// .. and that breaks a rule of the link layer where `is_broken`.
+    /// UA, which breaks a rule of the link layer where `is_broken`.
     #[tactic(auto, unfolding(crate::specs::Book::accepts_if))]
     fn accepts_if(&mut self, from: Role, is_broken: bool)
         ensures { self.new ≡ definition.accepts_if from is_broken (definition.layers_of from self.old) self.old }

@@ -46,7 +46,7 @@ pub(crate) struct Layer {
     pub(crate) is_counted: bool,
     /// A fault left open where it is with restarts.
     pub(crate) is_lost: bool,
-    /// .. and a confirmation that none of its RESTARTs waits for may be on its way to it.
+    /// A confirmation that none of its RESTARTs waits for may be on its way to it.
     pub(crate) is_stray: bool,
 }
 
@@ -470,7 +470,7 @@ impl Layers {
         self.asks_more().begins(self.own.asked)
     }
 
-    /// .. UA again, behind frames that the other end sent since it is up.
+    /// The end sends UA again, behind frames that the other end sent since it is up.
     fn accepts_late(self) -> Layers
         ensures { result ≡ definition.accepts_late self }
     {
@@ -478,7 +478,7 @@ impl Layers {
             .with_other(self.other.uncounted())
     }
 
-    /// .. UA.
+    /// The end sends UA.
     pub(crate) fn accepts(self) -> Layers
         ensures { result ≡ definition.accepts self }
     {
@@ -496,14 +496,14 @@ impl Layers {
         self.own.asked == 0
     }
 
-    /// .. DM.
+    /// The end sends DM.
     pub(crate) fn declines(self) -> Layers
         ensures { result ≡ definition.declines self }
     {
         self.answers()
     }
 
-    /// .. DISC.
+    /// The end sends DISC.
     pub(crate) fn leaves(self) -> Layers
         ensures { result ≡ definition.leaves self }
     {
@@ -633,11 +633,11 @@ impl Layers {
         if self.are_counted() {
             0 < self.own.owed
         } else {
-            self.other.is_asking()
+            self.other.is_asking() && !self.other.is_stray
         }
     }
 
-    /// .. or answers again one that was sent again.
+    /// Whether a confirmation answers again a RESTART that was sent again.
     pub(crate) fn is_second_answer(self) -> bool
         ensures { result ≡ definition.is_second_answer self }
     {
@@ -667,7 +667,7 @@ impl Layers {
             && (self.other.owed == 0 && !self.other.is_stray)
     }
 
-    /// .. and else leaves open where they are.
+    /// A confirmation behind a fault that leaves open where the ends are.
     pub(crate) fn confirms_lost(self) -> Layers
         ensures { result ≡ definition.confirms_lost self }
     {
@@ -691,7 +691,7 @@ impl Layers {
     pub(crate) fn confirms_again(self) -> Layers
         ensures { result ≡ definition.confirms_again self }
     {
-        self.with_own(self.own.confirmed_again()).opens()
+        self.with_own(self.own.confirmed_again()).opens().strays()
     }
 
     /// Whether the end sent nothing since the set-up of the link.

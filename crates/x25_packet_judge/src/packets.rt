@@ -78,7 +78,7 @@ impl Pair {
         }
     }
 
-    /// .. where it isn't.
+    /// A packet on a channel that isn't known.
     #[tactic(auto, unfolding(crate::specs::Packets::sends_unknown))]
     fn sends_unknown(self, packet: &Packet) -> Pair
         ensures { result ≡ definition.sends_unknown (plain packet.now) self }

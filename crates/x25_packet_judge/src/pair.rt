@@ -25,6 +25,16 @@ fn is_dce(role: Role) -> bool
     matches!(role, Role::Dce)
 }
 
+/// The end whose CALL is accepted: the DTE may have called before too, so the DCE may have that CALL to accept.
+fn accepted_by(role: Role) -> Port
+    ensures { result ≡ definition.accepted_by role }
+{
+    match role {
+        Role::Dte => Port::fresh().doubted(),
+        Role::Dce => Port::fresh(),
+    }
+}
+
 impl Pair {
     pub(crate) fn with_own(self, own: Port) -> Pair
         ensures { result ≡ definition.with_own own self }
@@ -55,7 +65,7 @@ impl Pair {
             .with_other(self.other.unknown())
     }
 
-    /// .. behind a fault.
+    /// Nothing may be said of the channel behind a fault.
     fn doubts(self) -> Pair
         ensures { result ≡ definition.doubts self }
     {
@@ -247,7 +257,7 @@ impl Pair {
         ensures { result ≡ definition.is_up terms self }
     {
         self.with_own(Port::fresh().set_up(Call::Open, true, terms))
-            .with_other(Port::fresh().set_up(Call::Answered, false, terms))
+            .with_other(accepted_by(self.from).set_up(Call::Answered, false, terms))
     }
 
     /// Whether an acceptance answers the CALL that was sent last.
@@ -336,12 +346,15 @@ impl Pair {
     pub(crate) fn accepts(self, field: &[u8]) -> Pair
         ensures { result ≡ definition.accepts field.now self }
     {
-        if !self.may_accept() {
-            return self.breaks(PacketRule::AcceptUnasked);
+        if self.may_accept() {
+            let terms = self.own.terms.said(field);
+            self.reaches_with(self.answered(terms))
+                .with_own(self.own.set_up(Call::Open, true, terms))
+        } else if self.own.is_doubtful {
+            self.unknown()
+        } else {
+            self.breaks(PacketRule::AcceptUnasked)
         }
-        let terms = self.own.terms.said(field);
-        self.reaches_with(self.answered(terms))
-            .with_own(self.own.set_up(Call::Open, true, terms))
     }
 
     // ---- data

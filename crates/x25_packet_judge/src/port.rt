@@ -226,7 +226,7 @@ impl Port {
         }
     }
 
-    /// .. behind a fault; the other end has answered its CLEAR where `is_answered`.
+    /// Nothing may be said of it behind a fault; the other end has answered its CLEAR where `is_answered`.
     pub(crate) fn doubtful(self, is_answered: bool) -> Port
         ensures { result ≡ definition.doubtful is_answered self }
     {
