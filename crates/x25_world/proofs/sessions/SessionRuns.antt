@@ -6,7 +6,11 @@ use Rattle.x25_line.specs.laws.Sessions.{Sessions, from_nothing}
 use Rattle.x25_station.specs.declared.config.Cfg.{Cfg}
 use Rattle.x25_station.specs.Config.{settings_from, config_refusal}
 use Rattle.x25_station.specs.Entry.{link_up}
-use Rattle.x25_station.specs.Command.{Requests, Connects, Disconnects}
+use Rattle.x25_station.specs.Command.{Requests, Connects, Disconnects, said_by}
+use Rattle.x25_station.specs.laws.ReadLaw.{RequestsOctets}
+use Rattle.x25_layer.specs.Layer.{Layer}
+use Rattle.x25_layer.specs.Calls.{LayerRequest, Asks, Dials, Restarts, PullsAll}
+use Rattle.x25_circuit.specs.Calling.{Calls, Accepts, Clears, Sends, Interrupts, Resets, SaysReady, SaysNotReady}
 use Rattle.x25_station.specs.Station.{new_station}
 use Rattle.x25_station.specs.laws.KeepLaw.{ConnectKeeps}
 use Rattle.x25_world.specs.World.{AtEnd, World, swapped, WorldOutcome, Happened, Declined, swapped_back, Act, Commands, Receives, Fires, Loses, Damages, acts, Event, happens, refusal_of, after, run, start, connected, established}
@@ -70,7 +74,7 @@ said_octets says l PullsAll octets = octets
 module _ (laws : SessionLaws) (cfg : Cfg) (fine : IsConfigured cfg) where
   acts_joined : {since : Beginning} (end : Role) (w : World) → SessionsJoined since cfg end w → (act : Act) → IsAt since end act → ActsInOctets act
       → (since ≡ set_up false → IsNoConnect act (refusal_of (acts (settings_from end cfg) w act))) → SessionsJoined since cfg end (after w (acts (settings_from end cfg) w act))
-  acts_joined end w h (Commands (Requests request)) is_at octets none = requests_joined laws cfg fine end w h (said_by cfg.say_sizes w.near.layer request) is_at (said_octets cfg.say_sizes w.near.layer request octets)
+  acts_joined end w h (Commands (Requests request)) is_at octets none = requests_joined laws cfg fine end w h request (said_by cfg.say_sizes w.near.layer request) is_at (said_octets cfg.say_sizes w.near.layer request octets)
   acts_joined end w h (Commands Connects) is_at octets none = connects_joined laws cfg fine end w h is_at none
   acts_joined end w h (Commands Disconnects) is_at octets none = disconnects_joined laws cfg fine end w h is_at
   acts_joined end w h Receives is_at octets none = receives_joined laws cfg fine end w h is_at

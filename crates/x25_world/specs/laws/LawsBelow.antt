@@ -14,7 +14,7 @@ use Rattle.x25_layer.specs.laws.NameLaw.{NamesAreCounted}
 use Rattle.x25_layer.specs.laws.Apart.{AlwaysApart}
 use Rattle.x25_layer.specs.laws.ApartLaw.{IsOverLinks, RestartsFirst, BeginsAlone, OwnMovesDecide, EventsRunOn}
 use Rattle.x25_station.specs.laws.JoinLaw.{RequestIsJoined, ReceiveIsJoined, QuietIsJoined, DownIsJoined, UpIsJoined}
-use Rattle.x25_station.specs.laws.KeepLaw.{ConnectKeeps, TimerKeeps, CommandKeeps, ReceiveKeeps}
+use Rattle.x25_station.specs.laws.KeepLaw.{ConnectKeeps, TimerKeeps, RequestKeeps, CommandKeeps, ReceiveKeeps}
 use Rattle.x25_station.specs.laws.ReadLaw.{PutsAreReadable}
 
 -- those of one station
@@ -27,6 +27,7 @@ pub record Laws : Type 0 where
   pub up : UpIsJoined
   pub connect_keeps : ConnectKeeps
   pub timer_keeps : TimerKeeps
+  pub request_keeps : RequestKeeps
   pub command_keeps : CommandKeeps
   pub receive_keeps : ReceiveKeeps
   pub take_tells : TakeTells

@@ -4,7 +4,7 @@ use Rattle.x25_bits.specs.declared.role.Role.{Role}
 use Rattle.x25_bits.specs.declared.role.Role.TheVariants.{Dte, Dce}
 use Rattle.x25_link.specs.declared.error.LinkError.TheVariants as link_error
 use Rattle.x25_link.specs.declared.phase.Reason.TheVariants.{Local, Disc, Reset, Retries}
-use Rattle.x25_circuit.specs.Params.{default_params}
+use Rattle.x25_circuit.specs.Params.{default_params, in_brief}
 use Rattle.x25_circuit.specs.Calling.{Accepts, Sends}
 use Rattle.x25_handshakes.specs.laws.Names.{Name}
 use Rattle.x25_layer.specs.Calls.{LayerRequest, Asks, Dials, Restarts}

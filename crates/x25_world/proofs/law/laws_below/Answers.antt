@@ -20,6 +20,7 @@ returns c =
       up = joins.up;
       connect_keeps = keeps.connect;
       timer_keeps = keeps.timer;
+      request_keeps = keeps.request;
       command_keeps = keeps.command;
       receive_keeps = keeps.receive;
       take_tells = notes.take;

@@ -216,8 +216,8 @@ module _ {since : Beginning} (laws : SessionLaws) (cfg : Cfg) (fine : IsConfigur
           readable = puts_readable (moves j.0) j.1.packets (ap (λ (e : layer.End). e.given) (sym (near_on j.0)) ∙ j.1.layer.given) (octets, pulls_bring_octets end session j.0) (pair_on j.0);
         }
 
-    accepted_joined : IsAt since end (Commands (command.Requests request)) → SessionsJoined since cfg end (after_step (settings_from end cfg) w w.back step)
-    accepted_joined is_at =
+    accepted_joined : (asked : LayerRequest) → IsAt since end (Commands (command.Requests asked)) → SessionsJoined since cfg end (after_step (settings_from end cfg) w w.back step)
+    accepted_joined asked is_at =
         let c : Settings = settings_from end cfg in
         let j = joined_on in
         let nothing : TakeNothing (moves j.0) = (tt, pulls_take_nothing j.0) in
@@ -227,12 +227,13 @@ module _ {since : Beginning} (laws : SessionLaws) (cfg : Cfg) (fine : IsConfigur
         append_cancel_left own_now.told (layer_notices step.entries) [] (sym j.1.layer.told ∙ ap (λ (e : layer.End). e.told) near ∙ leaves.told ∙ sym (append-nil own_now.told)) in
         joins step h.links (alone w.near.link) (world_on j.0) (moves j.0) [] [] [] w.back (stays_goes (link_of cfg end) h.links w.near.link w.back h.near.link h.back) up up j.1 near (leaves.taken ∙ sym (append-nil own_now.taken))
         (subst ArePlain (sym (did_entries c (alone w.near.link) _ _ step is)) (outcome_plain (layer_settings c) w.near.layer request _))
-        (subst KeptBy is (laws.stations.command_keeps c w.near (command.Requests request) h.near.kept)) (octets, pulls_bring_octets end session j.0) (pair_on j.0)
-        (λ o. may_ask end (Commands (command.Requests request)) (line.Put o) is_at tt) h.reach (λ none. nothing) (pairs_go_quietly laws cfg end h.trace session (moves j.0) nothing h.links.met h.pairs) (λ n m has. has) (λ none. inl (refl, untold))
+        (subst KeptBy is (laws.stations.request_keeps c w.near request h.near.kept)) (octets, pulls_bring_octets end session j.0) (pair_on j.0)
+        (λ o. may_ask end (Commands (command.Requests asked)) (line.Put o) is_at tt) h.reach (λ none. nothing) (pairs_go_quietly laws cfg end h.trace session (moves j.0) nothing h.links.met h.pairs) (λ n m has. has) (λ none. inl (refl, untold))
 
-  pub requests_joined : (request : LayerRequest) → IsAt since end (Commands (command.Requests request)) → RequestsOctets request → SessionsJoined since cfg end (after w (of_station (settings_from end cfg) w (requests (settings_from end cfg) w.near request)))
-  requests_joined request is_at octets = by (requests (settings_from end cfg) w.near request) refl
+  -- what is asked for may be said in full
+  pub requests_joined : (asked request : LayerRequest) → IsAt since end (Commands (command.Requests asked)) → RequestsOctets request → SessionsJoined since cfg end (after w (of_station (settings_from end cfg) w (requests (settings_from end cfg) w.near request)))
+  requests_joined asked request is_at octets = by (requests (settings_from end cfg) w.near request) refl
     where
       by : (o : Outcome) → requests (settings_from end cfg) w.near request ≡ o → SessionsJoined since cfg end (after w (of_station (settings_from end cfg) w o))
-      by (Did step) is = accepted_joined request octets step is is_at
+      by (Did step) is = accepted_joined request octets step is asked is_at
       by (Refused e) is = h
