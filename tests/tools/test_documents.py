@@ -84,7 +84,7 @@ class Names(unittest.TestCase):
         self.words |= {name for path in self.files if path.endswith(".edit") for name in support.names_of_edit(path)}
 
     def test_each_path_is_there(self):
-        """.. at the root, or within a folder; of a source its crate may be told without `src`."""
+        """At the root, or within a folder; of a source its crate may be told without `src`."""
         folders = {path[: at.end()] for path in self.files for at in re.finditer("/", path)}
         paths = {f"/{path}" for path in folders.union(self.files)} | {f"/{path}".replace("/src/", "/", 1) for path in self.files}
         ends = {path[at.start() :] for path in paths for at in re.finditer("/(?=.)", path)}
