@@ -306,7 +306,7 @@ class Joined(ToolCase):
         self.assertEqual(self.end()[1], ["# another client came, and was told that the line is taken"])
 
     def test_clients_of_other_protocols(self):
-        """.. are closed, and the next one is served: octets of another protocol, ten million without a line end, a scan of ports."""
+        """They are closed, and the next one is served: octets of another protocol, ten million without a line end, a scan of ports."""
         self.begin(f". off idle\n= {UA}\n. off idle\n", "--stay")
         for octets in (b"GET / HTTP/1.1\r\n\r\n", b"\x16\x03\x01" * 100 + b"\n", b"a" * 10_000_000, b""):
             with contextlib.suppress(ConnectionResetError, BrokenPipeError):
@@ -402,7 +402,7 @@ class Joined(ToolCase):
         self.assertEqual(self.end()[0], -signal.SIGTERM)
 
     def test_connect_behind_disconnect_begins_a_new_station(self):
-        """.. once DISC is answered, or T1 has passed, as an answer that comes later would be taken for one to SABM."""
+        """Once DISC is answered, or T1 has passed, as an answer that comes later would be taken for one to SABM."""
         for answer in (UA, "< 010f68ee", None):
             with self.subTest(answer):
                 dead = "dte connect\n! 13\n. off busy\n"

@@ -193,7 +193,7 @@ class Two(ToolCase):
         self.finish(dte, dce)
 
     def test_a_bridge_is_killed(self):
-        """.. at each stage: while it listens or calls, while the link is set up, with a call, with messages under way; another one goes on."""
+        """At each stage: while it listens or calls, while the link is set up, with a call, with messages under way; another one goes on."""
         dte, dce, words = self.joined("--t3", "1")
         for stage in range(4):
             with self.subTest(stage):
@@ -217,7 +217,7 @@ class Two(ToolCase):
         self.finish(dte, again)
 
     def test_the_bridge_that_listens_is_killed(self):
-        """.. with a call, without a link, with a link alone, with messages under way: the other one meets the next."""
+        """With a call, without a link, with a link alone, with messages under way: the other one meets the next."""
         dte, dce, words = self.joined("--t3", "1")
         port = words[words.index("--connect") + 1]
         for stage in range(4):
@@ -313,7 +313,7 @@ class Two(ToolCase):
 
     @unittest.skipUnless(os.geteuid() == 0 and shutil.which("ip") and shutil.which("unshare"), "only root makes interfaces of Ethernet, by ip and unshare")
     def test_an_interface_that_goes_down(self):
-        """.. for some seconds, and one that is taken away and comes again; and calls whose packets don't fit."""
+        """For some seconds, and one that is taken away and comes again; and calls whose packets don't fit."""
         bridge = f"{sys.executable} -u {os.path.join(support.TOOLS, 'bridge.py')} --x25 {support.PROGRAM} --t1 0.5 --n2 100 --stay"
         make = "ip link add x0 mtu 1000 type veth peer name x1 mtu 1000 && ip link set x0 up && ip link set x1 up"
         script = f"""{make}

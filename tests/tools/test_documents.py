@@ -13,7 +13,7 @@ from glob import glob
 import support
 
 WIDTH = 100
-LENGTHS = {"README.md": 100, "docs/ARCHITECTURE.md": 125, "docs/PROOFS.md": 175, "docs/DECISIONS.md": 240, "CONTRIBUTING.md": 130}
+LENGTHS = {"README.md": 100, "docs/ARCHITECTURE.md": 125, "docs/PROOFS.md": 175, "docs/DECISIONS.md": 230, "docs/PERFORMANCE.md": 110, "CONTRIBUTING.md": 130}
 CRATES = os.path.join(support.ROOT, "crates")
 # What is named and stands elsewhere: what commands leave behind, the sources of Linux, what whoever races decoders has.
 ELSEWHERE = ("build/*", "out/*", "/*", "../x25_*", "net/*", "AnswersOffered.antt")
@@ -84,7 +84,7 @@ class Names(unittest.TestCase):
         self.words |= {name for path in self.files if path.endswith(".edit") for name in support.names_of_edit(path)}
 
     def test_each_path_is_there(self):
-        """.. at the root, or within a folder; of a source its crate may be told without `src`."""
+        """At the root, or within a folder; of a source its crate may be told without `src`."""
         folders = {path[: at.end()] for path in self.files for at in re.finditer("/", path)}
         paths = {f"/{path}" for path in folders.union(self.files)} | {f"/{path}".replace("/src/", "/", 1) for path in self.files}
         ends = {path[at.start() :] for path in paths for at in re.finditer("/(?=.)", path)}
@@ -223,6 +223,14 @@ class Claims(unittest.TestCase):
             claimed = set(re.findall(r"\w+", " ".join(code_of(text_of("crates", crate, "CLAIMS.md")))))
             with self.subTest(crate):
                 self.assertEqual(laws - claimed, set())
+
+
+class Rest(unittest.TestCase):
+    def test_on_what_the_proofs_rest(self):
+        """docs/PROOFS.md names the crates of the kit that crates.txt lists, and no others."""
+        listed = {low for line in text_of("crates.txt").splitlines() if not line.startswith("#") for low in line.partition(":")[2].split()}
+        named = re.search(r"the\s+kit's\s+crates\s\(([^)]*)\)", text_of("docs", "PROOFS.md"))[1]
+        self.assertEqual(set(re.findall("`([^`]*)`", named)), {low for low in listed if not low.startswith("x25_")})
 
 
 class Theorem(unittest.TestCase):

@@ -142,7 +142,7 @@ class Lemmas(unittest.TestCase):
 
 class Stems(unittest.TestCase):
     def test_each_definition_bears_the_name_of_a_source(self):
-        """.. and so does each folder of specs/ with further definitions of that source; the others are those that any crate may have."""
+        """So does each folder of specs/ with further definitions of that source; the others are those that any crate may have."""
         for crate in sorted(os.listdir(CRATES)):
             with self.subTest(crate):
                 sources = {stem(path) for path in glob(os.path.join(CRATES, crate, "src", "**", "*.rt"), recursive=True)}

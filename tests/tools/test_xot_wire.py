@@ -142,7 +142,7 @@ class Circuits(ToolCase):
         self.hears(child, "dce cleared ch=1 cause=9 diag=0")
 
     def test_a_thousand_connections(self):
-        """.. that bring no CALL, and ten million octets of something else; then a call comes, and a signal ends all."""
+        """Connections that bring no CALL, and ten million octets of something else; then a call comes, and a signal ends all."""
         child, port = self.listening()
         for _ in range(1000):
             self.client(port).close()
