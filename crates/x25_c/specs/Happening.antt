@@ -28,7 +28,7 @@ abbrev pub timer_of_rest : Bool → Settings → Timer → Station → Timer
 timer_of_rest false c first s = timer_pulled first s (pulled c s).near
 timer_of_rest true c first s = first
 
--- .. and at both
+-- of both: what the event leaves, and the pulls behind it
 abbrev pub timer_at_both : Bool → Settings → Station → Event → Outcome → Timer
 timer_at_both waits c s event (Did step) = timer_of_rest waits c (timer s event (Did step)) step.near
 timer_at_both waits c s event (Refused e) = timer s event (Refused e)

@@ -27,7 +27,7 @@ number_of_timer GoesOn = 2
 abbrev pub AnswersOne : Held → Held → ℕ → Event → Type 0
 AnswersOne old new number event = (r : Result Unit StationError) × (number ≡ number_in r) × Happens old new r event
 
--- .. and where none is held it answers 16
+-- where none is held, a call answers 16 and holds none behind it
 abbrev pub Answers : Option Held → Option Held → ℕ → Event → Type 0
 Answers None None number event = number ≡ 16
 Answers None (Some new) number event = ⊥

@@ -175,7 +175,8 @@ impl Circuit {
         ensures arriving { IfOk result (λ flow. self.now.state ≡ State.Arriving) }
         ensures may_answer { IfOk result (λ flow. IfSome (plain_answer answer.entry)
             (λ said. may_answer self.now.flow.params said.params ≡ true)) }
-        ensures flow { IfOk result (λ flow. flow.params ≡ params_answered (plain_answer answer.entry) self.now.flow.params) }
+        ensures flow { IfOk result (λ flow. flow.params
+            ≡ params_answered (plain_answer answer.entry) self.now.flow.params) }
         ensures refused { (c : Settings) (x : Channel) → FitsCircuit c self.now x
             → IfErr result (λ e. accept_in x x.state (plain_answer answer.entry) ≡ Refused e) }
         ensures refusal { (c : Settings) (x : Channel) → FitsCircuit c self.now x

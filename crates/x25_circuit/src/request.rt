@@ -1,5 +1,6 @@
 //! What the user of a circuit asks for, as one type.
-ghost use Rattle.std.specs.Prelude.{◌≡◌, ◌≢◌, ◌≤◌, ◌<◌, Bool, ℕ, List, false, OnErr, IfOk, IfSome, IfNone, Some, None, IsErrOf};
+ghost use Rattle.std.specs.Prelude.{◌≡◌, ◌≢◌, ◌≤◌, ◌<◌, Bool, ℕ, List, false, OnErr, IfOk, IfSome, IfNone, Some, None};
+ghost use Rattle.std.specs.Prelude.{IsErrOf};
 ghost use Rattle.std.specs.Prelude.{length};
 ghost use Rattle.x25_packet.specs.Packet.{plain};
 ghost use Rattle.x25_packet.specs.Spelling.{IsInRange};
@@ -60,8 +61,8 @@ fn with_packet<'a>(
 impl Circuit {
     /// Does what is asked. It answers the packet to send, where there is one.
     ///
-    /// 30 WrongState where the state doesn't allow it: a call outside of p1, an acceptance where no call came, a clear in
-    /// p1 and where this end's CLEAR isn't confirmed yet, and all others outside of p4 with d1. Then of a message 32
+    /// 30 WrongState where the state doesn't allow it: a call outside of p1, an acceptance where no call came, a clear
+    /// in p1 and where this end's CLEAR isn't confirmed yet, and all others outside of p4 with d1. Then of a message 32
     /// TooLong where it has more than 65,535 octets and 31 Full where 8 wait, of an interrupt 34 BadParameter where it
     /// hasn't 1 to 32 octets and 33 InterruptOutstanding, of a call 34 BadParameter where an address isn't 0 to 15
     /// digits, the user data is more than 16 octets (128 where it may be long), a packet size isn't 4 to 12 or a window

@@ -103,7 +103,8 @@ impl Layer {
         requires free { puts_at_once (plain_request request) ≡ true → L.waits link.old < 256 }
         requires longest { 4099 ≤ L.longest link.old }
         ensures { Does L.OrderedLink self.old link.old self.new link.new result 16
-            (is_message (plain_request request.entry)) (λ view c l. went view c (outcome_on l.restarts l.circuits channel
+            (is_message (plain_request request.entry))
+            (λ view c l. went view c (outcome_on l.restarts l.circuits channel
             (outcome c.circuit (l.circuits channel) (plain_request request.entry)))) }
     {
         if self.set_aside(link, MOST_PUT).is_err() {

@@ -69,7 +69,7 @@ fn told_on<'a>(channel: u16, collided: bool, notice: Option<Notice<'a>>) -> Told
 }
 
 impl Layer {
-    // .. that of a configured channel.
+    // Hears a packet, or octets that spell none, of a configured channel.
     fn hear_channel<'a>(
         &mut self,
         channel: u16,

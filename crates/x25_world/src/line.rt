@@ -1,4 +1,5 @@
-ghost use Rattle.std.specs.Prelude.{◌≡◌, ◌+◌, ◌*◌, ◌<◌, ◌≤◌, max, [], length, map, remove, OnOk, OnErr, ◌∷◌, option_copied};
+ghost use Rattle.std.specs.Prelude.{◌≡◌, ◌+◌, ◌*◌, ◌<◌, ◌≤◌, max, [], length, map, remove, OnOk, OnErr, ◌∷◌};
+ghost use Rattle.std.specs.Prelude.{option_copied};
 ghost use Rattle.std.specs.Prelude.{slice_get};
 ghost use Rattle.x25_line.specs.laws.Stations.{replaced};
 ghost use Rattle.x25_world.specs.code.ShownLine.{ShownLine, line_to, with_line_to, with_room_of, put_by, TakesFew};

@@ -3,7 +3,8 @@
 use Rattle.std.specs.Prelude.{◌≡◌, ◌≤◌, ℕ, true, List, [], ◌∷◌}
 use Rattle.x25_packet.specs.Facilities.{IsFacilityField}
 use Rattle.x25_circuit.specs.declared.params.Params.{Params}
-use Rattle.x25_circuit.specs.Params.{Terms, Proposal, in_brief, in_full, default_params, may_propose, may_answer, field_for}
+use Rattle.x25_circuit.specs.Params.{Terms, Proposal, in_brief, in_full, default_params, may_propose, may_answer}
+use Rattle.x25_circuit.specs.Params.{field_for}
 use Rattle.x25_circuit.specs.Params.{said_in, called_terms, calling_terms}
 
 -- where both ends know the same, the one that reads understands what the other says, in brief or in full

@@ -1,5 +1,6 @@
 -- A layer over any link that keeps order: what it sees of the link, and the link after packets were put.
-use Rattle.std.specs.Prelude.{◌≡◌, ℕ, ◌<◌, ◌≤◌, ◌⊎◌, max, List, [], ◌∷◌, Bool, true, false, Result, Err, OnOk, OnErr, IsErrOf}
+use Rattle.std.specs.Prelude.{◌≡◌, ℕ, ◌<◌, ◌≤◌, ◌⊎◌, max, List, [], ◌∷◌, Bool, true, false, Result, Err, OnOk, OnErr}
+use Rattle.std.specs.Prelude.{IsErrOf}
 use Rattle.std.specs.Prelude.{MatchResult}
 use Rattle.x25_packet.specs.Packet.{PlainPacket}
 use Rattle.x25_packet.specs.Spelling.{spelling_of}

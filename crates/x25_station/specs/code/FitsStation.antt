@@ -1,5 +1,6 @@
 -- Which states of the definition a station stands for, and what its calls answer.
-use Rattle.std.specs.Prelude.{Bool, ◌≡◌, ◌+◌, ◌≤◌, ◌⊎◌, [], map, vec_len, vec_capacity, Option, Some, None, Result, Err, OnOk}
+use Rattle.std.specs.Prelude.{Bool, ◌≡◌, ◌+◌, ◌≤◌, ◌⊎◌, [], map, vec_len, vec_capacity, Option, Some, None, Result, Err}
+use Rattle.std.specs.Prelude.{OnOk}
 use Rattle.std.specs.Prelude.{OnErr, IfErr, IsErrAnd}
 use Rattle.x25_frame.specs.Spelling.{spelling_of}
 use Rattle.x25_link.specs.code.FitsLink.{ShownLink}
