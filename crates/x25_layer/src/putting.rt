@@ -115,6 +115,7 @@ fn packet_memory<L: OrderedLink>(memory: &mut PacketMemory, link: &mut L, most: 
     requires short { most ≤ 4099 }
     ensures empty { result.items ≡ [] }
     ensures room { most ≤ vec_capacity result }
+    ensures few { vec_capacity result ≤ 4099 }
     ensures fewer { memory.new + 1 ≡ memory.old }
     ensures link { link.new ≡ link.old }
 {

@@ -73,12 +73,13 @@ pub trait OrderedLink {
         ensures missing { OnErr result (spares self.old < count) }
         ensures err { OnErr result (self.new ≡ self.old) };
 
-    /// Memory of a packet that is no longer kept, for one of so many octets, where there is some. The link is as
-    /// before.
+    /// Memory of a packet that is no longer kept, for one of so many octets and for 4,099 at most, where there is some.
+    /// The link is as before.
     fn spent_memory(&mut self, length: usize) -> Option<Vec<u8>>
         ensures same { self.new ≡ self.old }
         ensures empty { IfSome result (λ octets. octets.items ≡ []) }
-        ensures room { IfSome result (λ octets. length ≤ vec_capacity octets) };
+        ensures room { IfSome result (λ octets. length ≤ vec_capacity octets) }
+        ensures few { IfSome result (λ octets. vec_capacity octets ≤ 4099) };
 
     /// Hands a packet of at most `limit()` octets down.
     ///

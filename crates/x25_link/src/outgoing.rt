@@ -142,12 +142,13 @@ impl Outgoing {
         }
     }
 
-    /// Memory of a packet that was acknowledged, for one of so many octets, where there is some. What is too small for
-    /// them is let go of.
+    /// Memory of a packet that was acknowledged, for one of so many octets and for 4,099 at most, where there is some.
+    /// What is too small for them is let go of.
     pub fn spent_memory(&mut self, length: usize) -> Option<Vec<u8>>
         ensures same { self.new ≡ self.old }
         ensures empty { IfSome result (λ octets. octets.items ≡ []) }
         ensures room { IfSome result (λ octets. length ≤ vec_capacity octets) }
+        ensures few { IfSome result (λ octets. vec_capacity octets ≤ 4099) }
     {
         self.spent.again(length)
     }
