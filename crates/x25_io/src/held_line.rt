@@ -1,19 +1,31 @@
 //! The line that has begun.
-ghost use Rattle.std.specs.Prelude.{◌≤◌, vec_len, vec_capacity};
+ghost use Rattle.std.specs.Prelude.{◌≡◌, ◌≤◌, ◌+◌, ◌++◌, length, vec_len, vec_capacity};
 
 use std::alloc::{AllocError, Global};
 
 /// The most characters of a line, without its line feed.
 const MOST_LINE: usize = 131_200;
 
-/// The line that has begun, as far as it is held: its characters, or that it is too long. No call but `new` takes
-/// memory.
+/// The line that has begun, as far as it is held: its characters, or that it is too long. It has memory for 131,200
+/// characters, from `new` on, and takes no more.
 #[derive(Drop)]
 pub struct HeldLine {
     characters: Vec<u8>,
     is_long: bool,
     ghost few: { vec_len characters ≤ 131200 },
-    ghost room: { 131200 ≤ vec_capacity characters },
+    ghost room: { vec_capacity characters ≡ 131200 },
+}
+
+// These come behind the others, in room that there is.
+fn append(characters: &mut Vec<u8>, part: &[u8])
+    requires { vec_len characters.old + length part.now ≤ vec_capacity characters.old }
+    ensures items { characters.new.items ≡ characters.old.items ++ part.now }
+    ensures len { vec_len characters.new ≡ vec_len characters.old + length part.now }
+    ensures capacity { vec_capacity characters.new ≡ vec_capacity characters.old }
+{
+    for character in part {
+        characters.push_reserved(*character);
+    }
 }
 
 impl HeldLine {
@@ -42,7 +54,7 @@ impl HeldLine {
         if MOST_LINE - self.characters.len() < part.len() {
             self.is_long = true;
         } else {
-            self.characters.extend_from_slice(part).unwrap();
+            append(&mut self.characters, part);
         }
     }
 
