@@ -352,7 +352,7 @@ def play(program, seed):
 
 def main():
     parser = argparse.ArgumentParser(description=__doc__, formatter_class=argparse.RawDescriptionHelpFormatter)
-    parser.add_argument("runs", metavar="RUNS", type=int, nargs="?", default=3_000, help="how many runs (3,000)")
+    parser.add_argument("runs", metavar="RUNS", type=int, nargs="?", default=3_600, help="how many runs (3,600)")
     parser.add_argument("--from", dest="first", metavar="SEED", type=int, default=0, help="the seed of the first run (0)")
     parser.add_argument("--program", default=find_program(), help="the program")
     options = parser.parse_args()

@@ -13,7 +13,7 @@ import judge_runs
 import odd_runs
 import order_runs
 
-# In the gate; `make judge-runs` plays 10,000, 5,000 and 3,000.
+# In the gate; `make judge-runs` plays 10,000, 5,000 and 3,600.
 RUNS = 300
 ODD_RUNS = 100
 ORDER_RUNS = 20
