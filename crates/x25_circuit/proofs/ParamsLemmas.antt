@@ -8,7 +8,7 @@ use Rattle.x25_packet.specs.declared.facilities.Facilities.{Facilities}
 use Rattle.x25_packet.specs.declared.facilities.Directions.{Directions}
 use Rattle.x25_packet.specs.Facilities.{AreWithin, IfGiven, facilities_of, facility, field_of, is_within, last, with_sizes, windows_of as windows_in}
 use Rattle.x25_circuit.specs.declared.params.Params.{Params}
-use Rattle.x25_circuit.specs.Params.{Proposal, in_brief, in_full, may_propose, is_toward, sizes_of, windows_of, params_of, news, said_of, field_for, said_in, said_or, said_by, terms_of}
+use Rattle.x25_circuit.specs.Params.{in_brief, in_full, may_propose, is_toward, sizes_of, windows_of, params_of, news, said_of, said_or, said_by, terms_of}
 use Rattle.x25_circuit.specs.laws.ParamsLaws.{FieldIsSaid, FullIsReadAlike, FullSaysAll, NoFieldIsKnown, KnownIsNoField, FieldIsAllowed, SaidIsAllowed, ProposalIsAnswer, DefaultIsAnswer, AnswerIsAllowed, AreTerms, TermsAreAllowed}
 
 -- ---- tests

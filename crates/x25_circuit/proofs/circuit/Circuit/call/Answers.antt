@@ -3,13 +3,21 @@ use Rattle.std.proofs.lemmas.Result.{err_from_is_err_and}
 use Rattle.x25_packet.specs.Facilities.{IsFacilityField}
 use Rattle.x25_circuit.specs.declared.params.Params.{Params}
 use Rattle.x25_circuit.specs.declared.state.State.TheVariants.{Calling}
-use Rattle.x25_circuit.specs.Calling.{may_call}
+use Rattle.x25_circuit.specs.Calling.{may_call, call_in, Refused}
 use Rattle.x25_circuit.specs.Circuit.{entered}
 use Rattle.x25_circuit.specs.code.FitsCircuit.{FitsCircuit}
 use Rattle.x25_circuit.specs.Params.{may_propose}
 use Rattle.x25_circuit.proofs.TableLemmas.{call_at}
 use Rattle.x25_circuit.proofs.ParamsLemmas.{field_is_allowed}
 use Rattle.x25_circuit.proofs.circuit.Circuit.call.Goals as goal
+
+pub returns-in_err-fields-clause-outcome : goal.returns-in_err-fields-clause-outcome
+returns-in_err-fields-clause-outcome c = λ d x fits.
+    let p = err_from_is_err_and c.from_residual.result c.from_residual.ensures.1 in
+    let says = c.args.proposal.now.says_all in
+    let refused = subst (λ (q : Params). call_in d x x.state c.args.called.now c.args.calling.now c.args.user.now (record { params = q; says_all = says }) ≡ Refused c.in_err-fields.field-0.0)
+    c.params.ensures (c.in_err-fields.ensures.refused d x says fits) in
+    rw (refused) (p.1 ∙ ap Err p.2)
 
 pub returns-clause-range : goal.returns-clause-range
 returns-clause-range c =

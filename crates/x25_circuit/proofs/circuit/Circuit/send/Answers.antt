@@ -1,5 +1,4 @@
-use Rattle.std.proofs.Common.{Err, sym, ap, ◌∙◌, arith, refl}
-use Rattle.std.proofs.lemmas.Result.{err_from_is_err_and}
+use Rattle.std.proofs.Common.{sym, ◌∙◌, arith, refl}
 use Rattle.x25_circuit.proofs.TableLemmas.{send_at, send_waits}
 use Rattle.x25_circuit.specs.Circuit.{outgoing}
 use Rattle.x25_circuit.proofs.TalkLemmas.{with_transfer, waits_are}
