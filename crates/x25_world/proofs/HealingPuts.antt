@@ -35,7 +35,7 @@ use Rattle.x25_world.proofs.sessions.SessionJoined.{SessionsJoined, sessions_swa
 use Rattle.x25_world.proofs.sessions.SessionLinks.{SessionGoes, stays_goes, deliver_goes, puts_of, all_act, all_puts_go, PutsRead}
 use Rattle.x25_world.proofs.sessions.SessionRuns.{event_joined, throughout_joined, down_at_none, not_set_up}
 use Rattle.x25_world.proofs.sessions.SessionsAlong.{links_append}
-use Rattle.x25_world.proofs.sessions.acts.SessionRequests.{request_puts}
+use Rattle.x25_world.proofs.sessions.acts.SessionRequests.{request_puts, said_octets}
 use Rattle.x25_world.proofs.sessions.acts.SessionReceives.{taken_puts}
 use Rattle.x25_world.proofs.HealingLemmas.{Alike, turned, back_after, c_of, d_of, both_alike, none_of, joined_alike, links_are, fired_then, gone_are}
 
@@ -108,7 +108,7 @@ module _ (laws : SessionLaws) (cfg : Cfg) (fine : IsConfigured cfg) (end : Role)
 
   near_asked : (act : Act) → IsReceiptOrRequest act → ActsInOctets act → ActsFreely c w.near w.far.link w.back act → Asked cfg end w (after w (acts c w act)) v
   near_asked Receives are octets free = came_asked free
-  near_asked (Commands (command.Requests request)) are octets free = request_asked request octets
+  near_asked (Commands (command.Requests request)) are octets free = request_asked (command.said_by cfg.say_sizes w.near.layer request) (said_octets cfg.say_sizes w.near.layer request octets)
   near_asked (Commands command.Connects) are octets free = absurd are
   near_asked (Commands command.Disconnects) are octets free = absurd are
   near_asked Fires are octets free = absurd are

@@ -7,10 +7,6 @@ use Rattle.x25_station.specs.declared.config.Cfg.{Cfg}
 use Rattle.x25_station.specs.Config.{settings_from, config_refusal}
 use Rattle.x25_station.specs.Entry.{link_up}
 use Rattle.x25_station.specs.Command.{Requests, Connects, Disconnects, said_by}
-use Rattle.x25_station.specs.laws.ReadLaw.{RequestsOctets}
-use Rattle.x25_layer.specs.Layer.{Layer}
-use Rattle.x25_layer.specs.Calls.{LayerRequest, Asks, Dials, Restarts, PullsAll}
-use Rattle.x25_circuit.specs.Calling.{Calls, Accepts, Clears, Sends, Interrupts, Resets, SaysReady, SaysNotReady}
 use Rattle.x25_station.specs.Station.{new_station}
 use Rattle.x25_station.specs.laws.KeepLaw.{ConnectKeeps}
 use Rattle.x25_world.specs.World.{AtEnd, World, swapped, WorldOutcome, Happened, Declined, swapped_back, Act, Commands, Receives, Fires, Loses, Damages, acts, Event, happens, refusal_of, after, run, start, connected, established}
@@ -27,7 +23,7 @@ use Rattle.x25_world.proofs.sessions.SessionJoined.{IsEnd, SessionsJoined, sessi
 use Rattle.x25_world.specs.laws.LawsBelow.{SessionLaws}
 use Rattle.x25_world.proofs.sessions.acts.SessionLines.{lost_joined, damaged_joined}
 use Rattle.x25_world.proofs.sessions.acts.SessionTimers.{fired_joined, connects_joined, connects_alone_joined, disconnects_joined}
-use Rattle.x25_world.proofs.sessions.acts.SessionRequests.{requests_joined}
+use Rattle.x25_world.proofs.sessions.acts.SessionRequests.{requests_joined, said_octets}
 use Rattle.x25_world.proofs.sessions.acts.SessionReceives.{receives_joined}
 
 -- what happens at the far end is what happens at the near end of the two ends swapped
@@ -54,20 +50,6 @@ set_up_at_none asks before e is = cc
 one_up : (end : Role) (transcript : List AtEnd) → transcript ≡ record { at = Dce; entry = link_up } ∷ record { at = Dte; entry = link_up } ∷ [] → (progress_at end transcript).begun ≡ 1
 one_up Dte transcript is = ap (λ (t : List AtEnd). (progress_at Dte t).begun) is
 one_up Dce transcript is = ap (λ (t : List AtEnd). (progress_at Dce t).begun) is
-
--- what calls and acceptances say changes no octet of the user
-said_octets : (says : Bool) (l : Layer) (request : LayerRequest) → RequestsOctets request → RequestsOctets (said_by says l request)
-said_octets says l (Asks h (Calls called calling user proposal)) octets = octets
-said_octets says l (Asks h (Accepts answer)) octets = octets
-said_octets says l (Asks h Clears) octets = octets
-said_octets says l (Asks h (Sends q user)) octets = octets
-said_octets says l (Asks h (Interrupts user)) octets = octets
-said_octets says l (Asks h Resets) octets = octets
-said_octets says l (Asks h SaysReady) octets = octets
-said_octets says l (Asks h SaysNotReady) octets = octets
-said_octets says l (Dials called calling user proposal) octets = octets
-said_octets says l Restarts octets = octets
-said_octets says l PullsAll octets = octets
 
 -- ---- acts and events
 

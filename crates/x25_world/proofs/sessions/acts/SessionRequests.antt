@@ -12,6 +12,8 @@ use Rattle.x25_line.specs.laws.Stations as line
 use Rattle.x25_line.specs.laws.Sessions.{Meeting, Sessions}
 use Rattle.x25_line.specs.laws.SessionClaims.{octets_of}
 use Rattle.x25_layer.specs.Layer.{Layer, LayerNotice}
+use Rattle.x25_circuit.specs.Calling as circuit
+use Rattle.x25_layer.specs.Calls as asked
 use Rattle.x25_layer.specs.Calls.{LayerRequest, layer_outcome}
 use Rattle.x25_layer.specs.laws.Quiet.{AreNoFaults}
 use Rattle.x25_layer.specs.laws.TwoLayers as layer
@@ -52,6 +54,20 @@ step_in k (Refused e) = k
 
 refused_did : {A : Type 0} (e : StationError) (step : Step) → Refused e ≡ Did step → A
 refused_did e step is = absurd (subst (λ (o : Outcome). elim o as (λ _. Type 0) [ Did x ↦ ⊥ | Refused y ↦ Unit {0} ]) is tt)
+
+-- what calls and acceptances say changes no octet of the user
+pub said_octets : (says : Bool) (l : Layer) (request : LayerRequest) → RequestsOctets request → RequestsOctets (command.said_by says l request)
+said_octets says l (asked.Asks h (circuit.Calls called calling user proposal)) octets = octets
+said_octets says l (asked.Asks h (circuit.Accepts answer)) octets = octets
+said_octets says l (asked.Asks h circuit.Clears) octets = octets
+said_octets says l (asked.Asks h (circuit.Sends q user)) octets = octets
+said_octets says l (asked.Asks h (circuit.Interrupts user)) octets = octets
+said_octets says l (asked.Asks h circuit.Resets) octets = octets
+said_octets says l (asked.Asks h circuit.SaysReady) octets = octets
+said_octets says l (asked.Asks h circuit.SaysNotReady) octets = octets
+said_octets says l (asked.Dials called calling user proposal) octets = octets
+said_octets says l asked.Restarts octets = octets
+said_octets says l asked.PullsAll octets = octets
 
 -- the entries of a command that is accepted
 did_entries : (c : Settings) (t : Side) (entries : List StationEntry) (a : Answered) (step : Step) → did c t entries a ≡ Did step → step.entries ≡ entries
