@@ -1,5 +1,5 @@
 //! Commands of a script, as a station takes them.
-ghost use Rattle.std.specs.Prelude.{◌≡◌, ◌≤◌, IfOk, OnOk, OnErr, length, take};
+ghost use Rattle.std.specs.Prelude.{◌≡◌, ◌≤◌, IfOk, OnOk, OnErr, length, max, take};
 ghost use Rattle.x25_script.specs.ScriptLine.{plain_command};
 ghost use Rattle.x25_station.specs.Command.{command_of};
 ghost use Rattle.x25_console.specs.Commands.{command_asked, user_in};
@@ -8,9 +8,9 @@ use std::alloc::AllocError;
 use x25_script::{Command, HexDigits};
 use x25_station::Cmd;
 
-/// Makes a list longer, if need be, so that it has at least so many octets. Err: no memory; the list is as it was then.
+/// Makes a list that has fewer octets so long. Err: no memory; the list is as it was then.
 fn make_room(octets: &mut Vec<u8>, count: usize) -> Result<(), AllocError>
-    ensures room { OnOk result (count ≤ length octets.new.items) }
+    ensures room { OnOk result (length octets.new.items ≡ max (length octets.old.items) count) }
     ensures unchanged { OnErr result (octets.new.items ≡ octets.old.items) }
 {
     if count <= octets.len() {
@@ -35,6 +35,7 @@ fn write_front(digits: &HexDigits, octets: &mut [u8])
 pub fn read_octets(digits: &HexDigits, octets: &mut Vec<u8>) -> Result<usize, AllocError>
     ensures read { IfOk result (λ count. take count octets.new.items ≡ digits.now) }
     ensures few { IfOk result (λ count. count ≤ length octets.new.items) }
+    ensures memory { length octets.new.items ≤ max (length octets.old.items) (length digits.now) }
     ensures unchanged { OnErr result (octets.new.items ≡ octets.old.items) }
 {
     let count = digits.len();
@@ -49,6 +50,8 @@ pub fn read_octets(digits: &HexDigits, octets: &mut Vec<u8>) -> Result<usize, Al
 pub fn read_user(command: &Command, octets: &mut Vec<u8>) -> Result<usize, AllocError>
     ensures read { IfOk result (λ count. take count octets.new.items ≡ user_in (plain_command command.now)) }
     ensures few { IfOk result (λ count. count ≤ length octets.new.items) }
+    ensures memory { length octets.new.items ≤ max (length octets.old.items)
+        (length (user_in (plain_command command.now))) }
     ensures unchanged { OnErr result (octets.new.items ≡ octets.old.items) }
 {
     match command {
