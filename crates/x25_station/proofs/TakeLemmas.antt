@@ -162,5 +162,5 @@ if_some None P f = tt
 if_some (Some x) P f = f x refl
 
 -- the link takes the longest packet
-pub takes_longest : (l : ShownLink) (y : layer_code.Layer) → AreMeant l y → 4099 ≤ limit_of l
+pub takes_longest : {says : Bool} (l : ShownLink) (y : layer_code.Layer) → AreMeant says l y → 4099 ≤ limit_of l
 takes_longest l y h = least_by_meaning l y 4099 (limit_of l) h (λ c s fits. let n : limit_of l ≡ 4099 = fits.link.near.longest in omega (arith, n))

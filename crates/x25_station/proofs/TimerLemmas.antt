@@ -21,7 +21,7 @@ use Rattle.x25_link.specs.Link as link
 use Rattle.x25_link.specs.Link.{closed_by, alone, declines, when_down, when_waiting, if_read, puts, take_step, connect_refusal, disconnect_refusal, asks_again, timer_refusal, timer_step, abandon_step}
 use Rattle.x25_layer.specs.Rounds.{Answered, Went, Refuses, calls}
 use Rattle.x25_station.specs.declared.error.StationError.TheVariants as error
-use Rattle.x25_station.specs.Command.{Requests, Connects, Disconnects}
+use Rattle.x25_station.specs.Command.{Requests, Connects, Disconnects, said_by}
 use Rattle.x25_station.specs.Config.{Settings, link_settings, layer_settings, longest_packet}
 use Rattle.x25_station.specs.Entry.{StationEntry, of_channel, restart_asked, connect_asked, disconnect_asked, link_up, link_down, was_restarted, restart_confirmed, at_fault}
 use Rattle.x25_station.specs.Station.{Station, put_on, all_put, view_of}
@@ -240,7 +240,7 @@ received_few c octets s false = follows_few c s _ (heard_few (link_settings c) o
 
 few_acked : (c : Settings) (s : Station) (event : Event) → FewBy s (law.outcome c s event)
 few_acked c s (Comes octets) = received_few c octets s (abandons c s)
-few_acked c s (Asks (Requests request)) = did_few c s _ (calls (view_of (link_settings c) s.link) (layer_settings c) s.layer request)
+few_acked c s (Asks (Requests request)) = did_few c s _ (calls (view_of (link_settings c) s.link) (layer_settings c) s.layer (said_by c.say_sizes s.layer request))
 few_acked c s (Asks Connects) = unless_few s (connect_refusal s.link.phase) _ (follows_few c s (link.connects (alone s.link)) (omega arith))
 few_acked c s (Asks Disconnects) = unless_few s (disconnect_refusal s.link.phase) _ (follows_few c s (link.disconnects (alone s.link)) (omega arith))
 few_acked c s Fires = unless_few s (timer_refusal s.link) _ (follows_few c s (link.fires (link_settings c) (alone s.link)) (fired_few (link_settings c) (alone s.link)))
