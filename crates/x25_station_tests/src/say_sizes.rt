@@ -11,18 +11,19 @@ const CALL: Cmd<'static> = Cmd::Call {
     called: "1",
     calling: "2",
     user: &[],
+    params: None,
 };
 
-const CALL_WITH: Cmd<'static> = Cmd::CallWith {
+const CALL_WITH: Cmd<'static> = Cmd::Call {
     called: "1",
     calling: "2",
     user: &[],
-    params: Params {
+    params: Some(Params {
         size_called: 8,
         size_calling: 7,
         win_called: 2,
         win_calling: 2,
-    },
+    }),
 };
 
 const ANSWER: Params = Params {
@@ -70,29 +71,44 @@ static COMES: [Row; 1] = [(
 )];
 
 const TAKES: [Row; 3] = [
-    (Ask(Cmd::Accept { channel: 2 }), &["! 42"]),
     (
-        Ask(Cmd::Accept { channel: 1 }),
+        Ask(Cmd::Accept {
+            channel: 2,
+            params: None,
+        }),
+        &["! 42"],
+    ),
+    (
+        Ask(Cmd::Accept {
+            channel: 1,
+            params: None,
+        }),
         &[
             "dce accept ch=1 size=8,8 win=3,3",
             "I cmd P=0 S=1 R=2 | ACCEPT ch=1 fac=420808430303",
         ],
     ),
-    (Ask(Cmd::Accept { channel: 1 }), &["! 30"]),
+    (
+        Ask(Cmd::Accept {
+            channel: 1,
+            params: None,
+        }),
+        &["! 30"],
+    ),
 ];
 
 const ANSWERS: [Row; 2] = [
     (
-        Ask(Cmd::AcceptWith {
+        Ask(Cmd::Accept {
             channel: 1,
-            params: LARGER,
+            params: Some(LARGER),
         }),
         &["! 34"],
     ),
     (
-        Ask(Cmd::AcceptWith {
+        Ask(Cmd::Accept {
             channel: 1,
-            params: ANSWER,
+            params: Some(ANSWER),
         }),
         &[
             "dce accept ch=1 size=7,8 win=3,3",
