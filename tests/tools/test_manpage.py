@@ -63,7 +63,7 @@ class Completion(unittest.TestCase):
         for words in ([], ["decode"], ["sim"], ["station", "dte"], ["judge"], ["vectors"], ["frame"]):
             done = subprocess.run([support.PROGRAM, *words, "--help"], capture_output=True, text=True, timeout=60)
             usage = done.stdout + done.stderr
-            said = set(re.findall(r"^  (?:    |-[hV], )?(--\w+)", usage, re.MULTILINE)) | set(re.findall(r"^  (\w+)  ", usage, re.MULTILINE) if not words else [])
+            said = set(re.findall(r"^  (?:    |-[hV], )?(--[\w-]+)", usage, re.MULTILINE)) | set(re.findall(r"^  (\w+)  ", usage, re.MULTILINE) if not words else [])
             self.assertTrue(said)
             self.assertEqual(set(complete(*words, "")) | set(complete(*words, "--")), said, words)
 
