@@ -3,3 +3,4 @@ pub mod FoundLaws
 pub mod AgainLaws
 pub mod NarrowLaws
 pub mod NarrowRange
+pub mod TakingLaws

@@ -3,4 +3,5 @@ pub mod Block
 pub mod Packet
 pub mod Reading
 pub mod Narrowing
+pub mod Taking
 pub mod laws

@@ -10,11 +10,13 @@ mod law;
 mod narrowing;
 mod packet;
 mod reading;
+mod taking;
 
 pub use block::{Block, Fields};
 pub use facilities::{Own, are_facilities, own_facilities};
-pub use law::reads_alike;
+pub use law::{reads_alike, taking_keeps_octets};
 pub use narrowing::{NarrowField, narrow};
 pub use packet::{Kind, WidePacket};
 pub use reading::{FAST_SELECT_OCTETS, decode};
+pub use taking::take;
 pub use x25_packet::{PacketError, Seq};

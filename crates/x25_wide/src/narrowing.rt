@@ -1,5 +1,5 @@
 //! What a station takes a packet for: one of those that it writes itself.
-ghost use Rattle.std.specs.Prelude.{◌≡◌, ℕ, IfOk};
+ghost use Rattle.std.specs.Prelude.{◌≡◌, ℕ, [], IfOk};
 ghost use Rattle.x25_packet.specs.Facilities.{IsFacilityField};
 ghost use Rattle.x25_packet.specs.Packet.{plain as plain_written};
 ghost use Rattle.x25_wide.specs.Block.{plain_fields};
@@ -79,11 +79,7 @@ fn field_taken(fields: &Option<Fields>) -> Result<NarrowField, PacketError>
     ensures { result ≡ field_taken (plain_fields fields.now) }
 {
     match fields {
-        None => Ok(NarrowField {
-            octets: [0; 6],
-            has_sizes: false,
-            has_windows: false,
-        }),
+        None => Ok(NarrowField::none()),
         Some(fields) => field_said(own_facilities(fields.facilities)),
     }
 }
@@ -99,6 +95,17 @@ fn field_in(packet: &WidePacket) -> Result<NarrowField, PacketError>
 }
 
 impl NarrowField {
+    /// No facilities.
+    pub fn none() -> NarrowField
+        ensures { result ≡ [] }
+    {
+        NarrowField {
+            octets: [0; 6],
+            has_sizes: false,
+            has_windows: false,
+        }
+    }
+
     /// The facility field of what a packet is taken for: the facilities before a marker that a station knows.
     ///
     /// 26: a packet size or window size out of its range.

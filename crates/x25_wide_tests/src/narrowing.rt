@@ -1,12 +1,12 @@
 use std::test::Fail;
 use x25_packet::{Packet, PacketError};
-use x25_wide::{NarrowField, decode, narrow, reads_alike};
+use x25_wide::{NarrowField, decode, narrow, reads_alike, take, taking_keeps_octets};
 
 /// What is taken of a packet: a cause, a diagnostic, and the facility field in hexadecimal.
 type Taken = (u8, u8, &'static str);
 
 /// Octets in hexadecimal, and what a station takes of them, or the number of the error that they are for it.
-static ROWS: [(&str, Result<Taken, u8>); 14] = [
+static ROWS: [(&str, Result<Taken, u8>); 17] = [
     ("10010b431234567000", Ok((0, 0, ""))),
     ("50010b11120201014142", Ok((0, 0, ""))),
     ("10010b111206430202420707", Ok((0, 0, "420707430202"))),
@@ -21,6 +21,9 @@ static ROWS: [(&str, Result<Taken, u8>); 14] = [
     ("100149", Err(22)),
     ("1000f121", Err(22)),
     ("10010b111203420307", Err(26)),
+    ("10010b111206420808430303", Ok((0, 0, "420808430303"))),
+    ("1001130541", Ok((5, 65, ""))),
+    ("1001", Err(20)),
 ];
 
 fn told<'a>(packet: &Packet<'a>) -> (u8, u8, &'a [u8]) {
@@ -41,13 +44,34 @@ fn told<'a>(packet: &Packet<'a>) -> (u8, u8, &'a [u8]) {
     }
 }
 
-/// Whether a station takes this of octets.
-fn takes(octets: &[u8], cause: u8, diagnostic: u8, field: &[u8]) -> Result<bool, PacketError> {
+/// Whether this is taken of octets, read in all forms.
+fn is_narrowed(
+    octets: &[u8],
+    cause: u8,
+    diagnostic: u8,
+    field: &[u8],
+) -> Result<bool, PacketError> {
     let packet = decode(16, octets)?;
     let own = NarrowField::of(&packet)?;
     let taken = narrow(&packet, &own)?;
     let (a, b, c) = told(&taken);
     Ok(a == cause && b == diagnostic && c == field)
+}
+
+/// Whether a station takes this of octets.
+fn is_taken(octets: &[u8], cause: u8, diagnostic: u8, field: &[u8]) -> Result<bool, PacketError> {
+    let mut own = NarrowField::none();
+    let taken = take(16, octets, &mut own)?;
+    let (a, b, c) = told(&taken);
+    Ok(a == cause && b == diagnostic && c == field)
+}
+
+fn is_right(found: Result<bool, PacketError>, wanted: Result<Taken, u8>) -> bool {
+    match (found, wanted) {
+        (Ok(same), Ok(_)) => same,
+        (Err(error), Err(number)) => error.number() == number,
+        _ => false,
+    }
 }
 
 #[test]
@@ -56,14 +80,12 @@ fn taken_for_packets(rt: HostRuntime) -> Result<(), Fail> {
         let octets = hex::decode(rt.alloc(), text)?;
         let (cause, diagnostic, field) = wanted.unwrap_or((0, 0, ""));
         let field = hex::decode(rt.alloc(), field)?;
-        let found = takes(octets.as_slice(), cause, diagnostic, field.as_slice());
-        let right = match (found, wanted) {
-            (Ok(same), Ok(_)) => same,
-            (Err(error), Err(number)) => error.number() == number,
-            _ => false,
-        };
-        assert!(rt; right, "{text}");
+        let narrowed = is_narrowed(octets.as_slice(), cause, diagnostic, field.as_slice());
+        let taken = is_taken(octets.as_slice(), cause, diagnostic, field.as_slice());
+        assert!(rt; is_right(narrowed, wanted), "{text}");
+        assert!(rt; is_right(taken, wanted), "{text}");
     }
     reads_alike();
+    taking_keeps_octets();
     Ok(())
 }

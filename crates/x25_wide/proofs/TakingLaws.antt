@@ -1,0 +1,143 @@
+-- What a station takes octets for: its channel, and its user data.
+use Rattle.std.proofs.Common.{ℕ, zero, suc, lit≤, ◌+◌, ◌*◌, ◌/◌, ◌%◌, ◌<◌, ◌≤◌, ◌≡◌, ◌∙◌, ◌↔◌, Bool, List, [], ◌∷◌, length, refl, ap, sym, subst, arith, All, Option, Some, Result, Ok, Err}
+use Rattle.x25_bits.specs.Bits.{bit}
+use Rattle.x25_packet.specs.Packet as strict
+use Rattle.x25_packet.specs.Reading.{packet_of, channel_in}
+use Rattle.x25_packet.specs.Spelling as strict_spelling
+use Rattle.x25_packet.specs.Spelling.{HasChannel, channel_of}
+use Rattle.x25_packet.specs.declared.error.PacketError.{PacketError}
+use Rattle.x25_packet.specs.laws.ReadingLaw.{ReadsWhatIsSpelled}
+use Rattle.x25_wide.specs.Narrowing.{field_in, narrow_of, narrowed, taken_of, with_field}
+use Rattle.x25_wide.specs.Packet.{PlainKind, PlainWide, call, accept, clear, extended_clear, clear_conf, user_data, rr, rnr, rej, interrupt, interrupt_conf, reset, reset_conf, restart, restart_conf, diagnostic, registration, registration_conf}
+use Rattle.x25_wide.specs.Packet.Spelling.{spelling_of, body_of, Spells}
+use Rattle.x25_wide.specs.Reading.{wide_of}
+use Rattle.x25_wide.specs.Taking.{or_taken, taken_in}
+use Rattle.x25_wide.specs.laws.TakingLaw.{TakesWhatIsWritten, TakesOnItsChannel, TakesItsUserData}
+use Rattle.x25_wide.proofs.FoundLaws.{AreSmall, found_spells, ok_err, ok_same}
+
+pub takes_what_is_written : TakesWhatIsWritten
+takes_what_is_written most v octets e = ap (λ r. or_taken r (taken_of (wide_of most octets))) e
+
+-- ---- the channel that the first two octets name
+
+on : (channel f : ℕ) → channel ≤ 4095 → Some ((16 * f + channel / 256) % 16 * 256 + channel % 256) ≡ Some channel
+on channel f few = ap (λ (n : ℕ). Some n) (omega (arith, few))
+
+strict_names : (most : ℕ) (v : strict.PlainPacket) → strict_spelling.IsInRange most v → HasChannel v → channel_in (strict_spelling.spelling_of v) ≡ Some (channel_of v)
+strict_names most (strict.call channel called calling field user) h has = on channel 1 h.0.1
+strict_names most (strict.accept channel field) h has = on channel 1 h.0.1
+strict_names most (strict.clear channel cause reason) h has = on channel 1 h.1
+strict_names most (strict.clear_conf channel) h has = on channel 1 h.1
+strict_names most (strict.user_data channel q m ps pr user) h has = on channel (1 + 8 * bit q) h.0.1
+strict_names most (strict.rr channel pr) h has = on channel 1 h.0.1
+strict_names most (strict.rnr channel pr) h has = on channel 1 h.0.1
+strict_names most (strict.interrupt channel user) h has = on channel 1 h.0.1
+strict_names most (strict.interrupt_conf channel) h has = on channel 1 h.1
+strict_names most (strict.reset channel cause reason) h has = on channel 1 h.1
+strict_names most (strict.reset_conf channel) h has = on channel 1 h.1
+strict_names most (strict.restart cause reason) h has = absurd has
+strict_names most strict.restart_conf h has = absurd has
+
+wide_names : (w : PlainWide) → w.channel ≤ 4095 → channel_in (spelling_of w) ≡ Some w.channel
+wide_names w few = at w.channel (bit w.q) (bit w.d) few
+  where
+    at : (channel q d : ℕ) → channel ≤ 4095 → Some ((128 * q + 64 * d + 16 + channel / 256) % 16 * 256 + channel % 256) ≡ Some channel
+    at channel q d few = ap (λ (n : ℕ). Some n) (omega (arith, few))
+
+-- ---- what a packet in any form is taken for
+
+with_names : (channel : ℕ) (q : Bool) (k : PlainKind) (field : List ℕ) (v : strict.PlainPacket) → with_field channel q k field ≡ Ok v → HasChannel v → channel_of v ≡ channel
+with_names channel q (call block) field v e has = ap channel_of (sym (ok_same e))
+with_names channel q (accept block) field v e has = ap channel_of (sym (ok_same e))
+with_names channel q (clear cause reason) field v e has = ap channel_of (sym (ok_same e))
+with_names channel q (extended_clear cause reason block) field v e has = ap channel_of (sym (ok_same e))
+with_names channel q (clear_conf block) field v e has = ap channel_of (sym (ok_same e))
+with_names channel q (user_data m ps pr user) field v e has = ap channel_of (sym (ok_same e))
+with_names channel q (rr pr) field v e has = ap channel_of (sym (ok_same e))
+with_names channel q (rnr pr) field v e has = ap channel_of (sym (ok_same e))
+with_names channel q (rej pr) field v e has = absurd (ok_err e)
+with_names channel q (interrupt user) field v e has = ap channel_of (sym (ok_same e))
+with_names channel q interrupt_conf field v e has = ap channel_of (sym (ok_same e))
+with_names channel q (reset cause reason) field v e has = ap channel_of (sym (ok_same e))
+with_names channel q reset_conf field v e has = ap channel_of (sym (ok_same e))
+with_names channel q (restart cause reason) field v e has = absurd (subst HasChannel (sym (ok_same e)) has)
+with_names channel q restart_conf field v e has = absurd (subst HasChannel (sym (ok_same e)) has)
+with_names channel q (diagnostic number explanation) field v e has = absurd (ok_err e)
+with_names channel q (registration octets) field v e has = absurd (ok_err e)
+with_names channel q (registration_conf octets) field v e has = absurd (ok_err e)
+
+abbrev IsData : strict.PlainPacket → Type 0
+IsData (strict.user_data channel q m ps pr user) = Unit {0}
+IsData other = ⊥
+
+abbrev user_of : strict.PlainPacket → List ℕ
+user_of (strict.user_data channel q m ps pr user) = user
+user_of other = []
+
+-- of data packets alone user data is a packet's body
+with_user : (channel : ℕ) (q : Bool) (k : PlainKind) (field : List ℕ) (v : strict.PlainPacket) → with_field channel q k field ≡ Ok v → IsData v → body_of k ≡ user_of v
+with_user channel q (call block) field v e is_data = absurd (subst IsData (sym (ok_same e)) is_data)
+with_user channel q (accept block) field v e is_data = absurd (subst IsData (sym (ok_same e)) is_data)
+with_user channel q (clear cause reason) field v e is_data = absurd (subst IsData (sym (ok_same e)) is_data)
+with_user channel q (extended_clear cause reason block) field v e is_data = absurd (subst IsData (sym (ok_same e)) is_data)
+with_user channel q (clear_conf block) field v e is_data = absurd (subst IsData (sym (ok_same e)) is_data)
+with_user channel q (user_data m ps pr user) field v e is_data = ap user_of (ok_same e)
+with_user channel q (rr pr) field v e is_data = absurd (subst IsData (sym (ok_same e)) is_data)
+with_user channel q (rnr pr) field v e is_data = absurd (subst IsData (sym (ok_same e)) is_data)
+with_user channel q (rej pr) field v e is_data = absurd (ok_err e)
+with_user channel q (interrupt user) field v e is_data = absurd (subst IsData (sym (ok_same e)) is_data)
+with_user channel q interrupt_conf field v e is_data = absurd (subst IsData (sym (ok_same e)) is_data)
+with_user channel q (reset cause reason) field v e is_data = absurd (subst IsData (sym (ok_same e)) is_data)
+with_user channel q reset_conf field v e is_data = absurd (subst IsData (sym (ok_same e)) is_data)
+with_user channel q (restart cause reason) field v e is_data = absurd (subst IsData (sym (ok_same e)) is_data)
+with_user channel q restart_conf field v e is_data = absurd (subst IsData (sym (ok_same e)) is_data)
+with_user channel q (diagnostic number explanation) field v e is_data = absurd (ok_err e)
+with_user channel q (registration octets) field v e is_data = absurd (ok_err e)
+with_user channel q (registration_conf octets) field v e is_data = absurd (ok_err e)
+
+-- with the field that is taken from it
+taken_with : {P : Type 0} (w : PlainWide) (v : strict.PlainPacket) → narrow_of w ≡ Ok v → ((field : List ℕ) → with_field w.channel w.q w.kind field ≡ Ok v → P) → P
+taken_with {P} w v e f = go (field_in w.kind) e
+  where
+    go : (r : Result (List ℕ) PacketError) → narrowed w r ≡ Ok v → P
+    go (Ok field) h = f field h
+    go (Err x) h = absurd (ok_err h)
+
+-- ---- both readings
+
+all_small : (octets : List ℕ) → All (λ octet. octet < 256) octets → AreSmall octets
+all_small [] small i = lit≤ tt
+all_small (octet ∷ octets) small zero = small zero 0 (omega arith)
+all_small (octet ∷ octets) small (suc i) = all_small octets (λ k d low. small (suc k) d (omega (arith, low))) i
+
+-- octets are read in the form that a station writes, or else in any
+module _ (reads : ReadsWhatIsSpelled) (most : ℕ) (v : strict.PlainPacket) (octets : List ℕ) (small : All (λ octet. octet < 256) octets) (P : Type 0) (strictly : strict_spelling.Spells most v octets → P)
+    (widely : (w : PlainWide) → Spells most w octets → narrow_of w ≡ Ok v → P) where
+  by_wide : (r : Result PlainWide PacketError) → wide_of most octets ≡ r → taken_of r ≡ Ok v → P
+  by_wide (Ok w) is e = widely w (found_spells most octets w (all_small octets small) is) e
+  by_wide (Err x) is e = absurd (ok_err e)
+
+  by_strict : (r : Result strict.PlainPacket PacketError) → packet_of most octets ≡ r → or_taken r (taken_of (wide_of most octets)) ≡ Ok v → P
+  by_strict (Ok u) is e = strictly ((reads most v octets small).0 (is ∙ ap (λ p. Ok p) (ok_same e)))
+  by_strict (Err x) is e = by_wide (wide_of most octets) refl e
+
+  in_either : taken_in most octets ≡ Ok v → P
+  in_either e = by_strict (packet_of most octets) refl e
+
+pub takes_on_its_channel : ReadsWhatIsSpelled → TakesOnItsChannel
+takes_on_its_channel reads most v octets small e has = in_either reads most v octets small (channel_in octets ≡ Some (channel_of v))
+    (λ spells. ap channel_in spells.spelling ∙ strict_names most v spells.in_range has)
+    (λ w spells is. ap channel_in spells.spelling ∙ wide_names w spells.packet.channel
+    ∙ taken_with w v is (λ field h. ap (λ (n : ℕ). Some n) (sym (with_names w.channel w.q w.kind field v h has))))
+    e
+
+header : (n : ℕ) → suc (suc (suc n)) ≡ 3 + n
+header n = omega arith
+
+pub takes_its_user_data : ReadsWhatIsSpelled → TakesItsUserData
+takes_its_user_data reads most channel q m ps pr user octets small e =
+    let v : strict.PlainPacket = strict.user_data channel q m ps pr user in
+    in_either reads most v octets small (length octets ≡ 3 + length user)
+    (λ spells. ap length spells.spelling ∙ header (length user))
+    (λ w spells is. ap length spells.spelling ∙ header (length (body_of w.kind)) ∙ taken_with w v is (λ field h. ap (λ (body : List ℕ). 3 + length body) (with_user w.channel w.q w.kind field v h tt)))
+    e

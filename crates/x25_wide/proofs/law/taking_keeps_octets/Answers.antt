@@ -1,0 +1,9 @@
+use Rattle.x25_wide.proofs.TakingLaws.{takes_what_is_written, takes_on_its_channel, takes_its_user_data}
+use Rattle.x25_wide.proofs.law.taking_keeps_octets.Goals as goal
+
+pub returns : goal.returns
+returns c = record {
+  written = takes_what_is_written;
+  channel = takes_on_its_channel c.reading_is_the_grammar.ensures.spelled;
+  octets = takes_its_user_data c.reading_is_the_grammar.ensures.spelled;
+}

@@ -1,0 +1,32 @@
+//! What a station takes octets for: the packet that they are in the form that it writes itself, or else in any other.
+ghost use Rattle.std.specs.Prelude.{◌≤◌, IfOk};
+ghost use Rattle.x25_packet.specs.Packet.{plain as plain_written};
+ghost use Rattle.x25_packet.specs.Spelling.{IsInRange};
+ghost use Rattle.x25_wide.specs.Reading.{Gives};
+ghost use Rattle.x25_wide.specs.Taking.{taken_in};
+
+use crate::narrowing::{NarrowField, narrow};
+use crate::reading::decode;
+use x25_packet::{Packet, PacketError, decode_within};
+
+/// The packet that a station takes octets for, which borrows these, and the facility field that is put into `field`. A
+/// CALL has at most `most` octets of user data without fast select.
+///
+/// The errors of `decode`; 22 for REJ, DIAGNOSTIC and REGISTRATION, and 26 for a packet size or window size out of its
+/// range.
+pub fn take<'a>(
+    most: usize,
+    octets: &'a [u8],
+    field: &'a mut NarrowField,
+) -> Result<Packet<'a>, PacketError>
+    ensures exact { Gives plain_written result (taken_in most octets.now) }
+    // Its fields are in their ranges, so that it can be spelled.
+    ensures range { most ≤ 128 → IfOk result (λ p. IsInRange 128 (plain_written p)) }
+{
+    if let Ok(packet) = decode_within(most, octets) {
+        return Ok(packet);
+    }
+    let packet = decode(most, octets)?;
+    *field = NarrowField::of(&packet)?;
+    narrow(&packet, field)
+}
