@@ -1,5 +1,5 @@
 -- What a station takes octets for: its channel, and its user data.
-use Rattle.std.proofs.Common.{ℕ, zero, suc, lit≤, ◌+◌, ◌*◌, ◌/◌, ◌%◌, ◌<◌, ◌≤◌, ◌≡◌, ◌∙◌, ◌↔◌, Bool, List, [], ◌∷◌, length, refl, ap, sym, subst, arith, All, Option, Some, Result, Ok, Err}
+use Rattle.std.proofs.Common.{ℕ, zero, suc, lit≤, ◌+◌, ◌*◌, ◌/◌, ◌%◌, ◌<◌, ◌≤◌, ◌≡◌, ◌∙◌, Bool, List, [], ◌∷◌, length, refl, ap, sym, subst, arith, All, Some, Result, Ok, Err}
 use Rattle.x25_bits.specs.Bits.{bit}
 use Rattle.x25_packet.specs.Packet as strict
 use Rattle.x25_packet.specs.Reading.{packet_of, channel_in}

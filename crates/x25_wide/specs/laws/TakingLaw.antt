@@ -1,6 +1,6 @@
 -- What a station takes octets for is what it would take them for in the form that it writes, is on the channel that
 -- they name, and brings no more user data than they have.
-use Rattle.std.specs.Prelude.{◌≡◌, ◌+◌, ◌<◌, ◌≤◌, ℕ, Bool, List, length, All, Some, Ok}
+use Rattle.std.specs.Prelude.{◌≡◌, ◌+◌, ◌<◌, ℕ, Bool, List, length, All, Some, Ok}
 use Rattle.x25_packet.specs.Packet.{PlainPacket, user_data}
 use Rattle.x25_packet.specs.Reading.{packet_of, channel_in}
 use Rattle.x25_packet.specs.Spelling.{HasChannel, channel_of}
