@@ -1,6 +1,6 @@
 //! A text that waits to be written.
 ghost use Rattle.std.specs.Prelude.{◌≡◌, ◌↔◌, ◌+◌, ◌*◌, ◌≤◌, ◌<◌, ◌++◌, [], ◌∷◌, ℕ, List, IfOk, OnOk, OnErr, IsTrue};
-ghost use Rattle.std.specs.Prelude.{length, take, decimal};
+ghost use Rattle.std.specs.Prelude.{length, max, take, decimal};
 ghost use Rattle.std.specs.List.{flat_map};
 ghost use Rattle.x25_frame.specs.Spelling.{bit};
 ghost use Rattle.x25_text.specs.Text.{octet_text, octets_text};
@@ -38,9 +38,9 @@ impl Model for Text {
 fn grow(buffer: &mut Vec<u8>, count: usize, more: usize) -> Result<(), AllocError>
     requires held { count ≤ length buffer.old.items }
     requires short { length buffer.old.items ≤ count + more }
-    ensures room { OnOk result (count + more ≤ length buffer.new.items) }
+    ensures room { OnOk result (length buffer.new.items ≡ count + more) }
     ensures kept { take count buffer.new.items ≡ take count buffer.old.items }
-    ensures size { length buffer.old.items ≤ length buffer.new.items }
+    ensures unchanged { OnErr result (buffer.new.items ≡ buffer.old.items) }
 {
     let Some(end) = count.checked_add(more) else {
         return Err(AllocError);
@@ -52,9 +52,9 @@ fn grow(buffer: &mut Vec<u8>, count: usize, more: usize) -> Result<(), AllocErro
 #[inline(always)]
 fn make_room(buffer: &mut Vec<u8>, count: usize, more: usize) -> Result<(), AllocError>
     requires { count ≤ length buffer.old.items }
-    ensures room { OnOk result (count + more ≤ length buffer.new.items) }
+    ensures room { OnOk result (length buffer.new.items ≡ max (length buffer.old.items) (count + more)) }
     ensures kept { take count buffer.new.items ≡ take count buffer.old.items }
-    ensures size { length buffer.old.items ≤ length buffer.new.items }
+    ensures unchanged { OnErr result (buffer.new.items ≡ buffer.old.items) }
 {
     if more <= buffer.len() - count {
         return Ok(());
