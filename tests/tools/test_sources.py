@@ -1,4 +1,4 @@
-"""The sources and definitions: how wide they are."""
+"""The sources and definitions: how wide they are, and that each comment is a sentence of its own."""
 
 import os
 import re
@@ -29,3 +29,9 @@ class Sources(unittest.TestCase):
             wide = [number for number, line in lines_of(path) if len(line) - max(map(len, STRING.findall(line)), default=0) > WIDTH]
             with self.subTest(path):
                 self.assertEqual(wide, [])
+
+    def test_no_comment_goes_on_from_another(self):
+        for path in sources("src", "specs", "proofs"):
+            going_on = [number for number, line in lines_of(path) if re.match(r"\s*(?:--|//[/!]?) \.\.", line)]
+            with self.subTest(path):
+                self.assertEqual(going_on, [])

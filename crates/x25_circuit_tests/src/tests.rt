@@ -28,7 +28,7 @@ static OPENS: [Row; 2] = [
     (Accept, "ACCEPT fac=-"),
 ];
 
-/// .., and then these.
+/// Plays these rows behind those of an accepted call.
 fn play_open(rt: &impl Abort, alloc: Global, role: Role, rows: &[Row]) -> Result<(), Fail> {
     play(rt, alloc, role, &OPENS, rows)
 }

@@ -73,7 +73,7 @@ pub fn encode(from: Role, frame: &Frame, octets: &mut Vec<u8>) -> Result<(), NoM
     Ok(())
 }
 
-/// .. of a frame without information, which has this address and control.
+/// Appends a frame without information, which has this address and control.
 #[inline(always)]
 fn encode_bare(address: u8, control: u8, octets: &mut Vec<u8>) -> Result<(), NoMemory>
     ensures ok { OnOk result (octets.new.items ≡ octets.old.items

@@ -94,7 +94,7 @@ opened_by : (z : At Channels) (k : ℕ) (far : Side (At Channels)) (y : Channels
 opened_by z k far y c t b at q up restarts clears talks resets =
     ap (λ (s : Side (At Channels)). open_at s k) up ∙ ap (λ (s : Side Channels). open_channel s k) restarts ∙ ap open_call clears ∙ ap open_phase talks ∙ ap open_in resets
 
--- .. and its name
+-- the name of the stretch that is open
 named_by : (z : At Channels) (k : ℕ) (far : Side (At Channels)) (y : Channels) (c : Connection) (t b : Terms) (at : At Stretch)
     → far ≡ Live z → z.side ≡ Live y → (y k).side ≡ Live c → c.phase ≡ Talking t b at → name_at messages (state_of far) k ≡ record { restarts = z.epoch; clears = (y k).epoch; resets = at.epoch }
 named_by z k far y c t b at up restarts clears talks =

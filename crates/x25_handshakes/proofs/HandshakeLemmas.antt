@@ -24,7 +24,7 @@ ends_leave : {P : Type 0} (mark : P → Mark) (q : P) → mark q ≡ Request →
 ends_leave {P} mark q is [] ends = subst (λ (m : Mark). ends_at {P = P} m true [] (true ≡ false)) (sym is) (refl, refl)
 ends_leave mark q is (p ∷ L) ends = ends_step (mark p) L (L ++ q ∷ []) (Ends mark false L) (Ends mark true (L ++ q ∷ [])) true ends (λ e. ends_leave mark q is L e)
 
--- .. and what stands before the first marker is as it was
+-- what stands before the first marker is as it was, where more goes behind
 before_step : {P : Type 0} (m : Mark) (p : P) (rest : List P) (a : Type 0) (later later₂ : List P) → ends_at m false rest a → (a → later ≡ later₂) → kept_before m p later ≡ kept_before m p later₂
 before_step Inner p rest a later later₂ ends go = ap (λ l. p ∷ l) (go ends)
 before_step Request p rest a later later₂ ends go = refl
@@ -382,7 +382,7 @@ inner_live l ex ey x (Left z) L K (inl same) = (same.inner.0, before l.mark K, z
 inner_live l ex ey x y L K (inr (inl ahead)) = (before l.mark (past l.mark L), [], l.fresh_there, ahead.inner)
 inner_live l ex ey x y L K (inr (inr later)) = absurd (true≢false (sym later.waits))
 
--- .. with the inner packet at the front
+-- the same, with the inner packet at the front
 pub live_front : {S T P : Type 0} (l : Level S T P) (p : P) → l.mark p ≡ Inner → (ex ey : ℕ) (x : S) (y : Side T) (L K : List P) → Handshake l ex ey (Live x) y L (p ∷ K)
     → (w : List P) × (v : List P) × (z : T) × l.related x w (p ∷ v) z
 live_front {P = P} l p is ex ey x (Live z) L K (inl same) =

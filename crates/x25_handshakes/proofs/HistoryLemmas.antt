@@ -14,7 +14,7 @@ pub data Change {M : Type 0} (Allowed : List M → Type 0) (clears resets : ℕ)
   MoreResets : clears₂ ≡ clears → resets < resets₂ → l₂ ≡ none → Change Allowed clears resets l clears₂ resets₂ l₂
   MoreClears : clears < clears₂ → l₂ ≡ none → Change Allowed clears resets l clears₂ resets₂ l₂
 
--- .. in a step of the layer
+-- the same in a step of the layer
 pub data Turn {M : Type 0} (kind : Kind M) (Allowed : List M → Type 0) (k : ℕ) (x y : At Channels) : Type 0 where
   Remained : y.epoch ≡ x.epoch
       → Change Allowed (name_at kind x k).clears (name_at kind x k).resets (held_at kind x k) (name_at kind y k).clears (name_at kind y k).resets (held_at kind y k) → Turn kind Allowed k x y

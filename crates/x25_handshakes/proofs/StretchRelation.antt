@@ -67,7 +67,7 @@ abbrev pub hears : ℕ → Option ℕ → ℕ
 hears a None = a
 hears a (Some r) = resolved a r
 
--- .. and once all of the line has
+-- the same, once all of the line has come
 abbrev pub heard : ℕ → List Packet → ℕ
 heard a [] = a
 heard a (p ∷ v) = heard (hears a (ack_in p)) v
@@ -129,7 +129,7 @@ readied b (Rr r) = true
 readied b (Rnr r) = false
 readied b other = b
 
--- .. and once all of the line has
+-- the same, once all of the line has come
 abbrev pub all_readied : Bool → List Packet → Bool
 all_readied b [] = b
 all_readied b (p ∷ v) = all_readied (readied b p) v

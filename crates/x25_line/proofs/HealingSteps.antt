@@ -49,7 +49,7 @@ near_up c d w h up = up_of (Unit {0}) c w.near.station h.line.near h.joint.near 
 pub far_up : (c d : Settings) (w : Stations) (h : Sound c d w) → is_up w.far.station.phase ≡ true → AsUp d w.far.station h.line.far
 far_up c d w h up = up_of (Unit {0}) d w.far.station h.line.far h.joint.far up
 
--- .. and both are Up
+-- the machine is behind, and both ends are Up
 pub record BothUp (c d : Settings) (w : Stations) : Type 0 where
   pub sound : Sound c d w
   pub near_on : is_up w.near.station.phase ≡ true
@@ -225,7 +225,7 @@ pub record Heard (c d : Settings) (w : Stations) (fs gs : List PlainFrame) (nr :
   pub well : HearsWell w.near.station w.far.station nr
   pub went : Delivered c d w (acts c Deliver w) fs gs o octets
 
--- .. and is an I frame that is taken
+-- a numbered frame that comes to the near end is an I frame that is taken
 pub record Taken (c d : Settings) (w : Stations) (fs gs : List PlainFrame) (nr : ℕ) (x : List ℕ) : Type 0 where
   pub goes : Bool
   pub hears : Heard c d w fs gs nr (once_taken goes nr false x w.near.station)

@@ -131,7 +131,7 @@ added_fits k b o packet fits few = record {
   few = omega (arith, few, length-append b.queue (packet ∷ []));
 }
 
--- .. and the window is open: all was sent, so that none waits
+-- nothing may be sent though the window is open: all was sent, so that none waits
 pub record Rests (k : ℕ) (b : OutgoingCode) (o : Outgoing) : Type 0 where
   pub place : o.place ≡ o.sent
   pub none : b.queue ≡ []
@@ -153,7 +153,7 @@ rests k b o fits shut free =
       room = omega (arith, l, free);
     }
 
--- .. and it isn't
+-- nothing may be sent and the window isn't open
 pub full_shut : (k : ℕ) (b : OutgoingCode) (o : Outgoing) → FitsOutgoing k b o → is_open k o ≡ false → length (take o.sent o.given) ≡ o.acked + k → o.acked + k ≤ o.place
 full_shut k b o fits shut full = by_test (nat_lt o.place (o.acked + k)) refl
   where

@@ -113,7 +113,7 @@ fn play_world(alloc: Global, script: &Script, book: &mut Book) -> Result<(), Tro
     plays(&mut ends, script, book)
 }
 
-/// .. whose link was just set up.
+/// A world whose link was just set up.
 fn play_world_up(alloc: Global, script: &Script, book: &mut Book) -> Result<(), Trouble> {
     titled("a world: ", script, &mut book.shown)?;
     let mut ends = Worlds::establish(alloc, script.cfg, &mut book.counts)?;
@@ -125,7 +125,7 @@ fn plays_up(ends: &mut Worlds, script: &Script, book: &mut Book) -> Result<(), T
     plays(ends, script, book)
 }
 
-/// .. and behind the script the line is good for a moment.
+/// A world whose line is good for a moment behind the script.
 fn play_world_healed(alloc: Global, script: &Script, book: &mut Book) -> Result<(), Trouble> {
     titled("a world: ", script, &mut book.shown)?;
     let mut ends = Worlds::establish(alloc, script.cfg, &mut book.counts)?;

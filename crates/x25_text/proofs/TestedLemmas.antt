@@ -21,7 +21,7 @@ digits_tested (x ∷ v) h =
     let here : nat_lt (value_of x) 16 ≡ is_ascii_hexdigit x = agree_below_at (λ c. nat_lt (value_of c) 16) is_ascii_hexdigit 256 x all_tested (h 0) in
     λ i. here i && digits_tested v (λ j. h (suc j)) i
 
--- .. by marks
+-- the same, by marks from 246 up
 pub marks_tested : (f : ℕ → ℕ) (v : List ℕ) → agree_below (λ c. nat_le 246 (f c)) is_ascii_hexdigit 256 ≡ true → ((i : ℕ) → get_or v i 0 < 256)
     → list_all (nat_le 246) (map f v) ≡ list_all is_ascii_hexdigit v
 marks_tested f [] t h = refl
@@ -113,7 +113,7 @@ module _ (p : ℕ → Bool) where
       all_apart place xs ∙ ap (λ b. b && list_all p (drop place xs)) front
       ∙ ap (list_all p) (sym (take_all block (drop place xs) (omega (arith, length-drop place xs, end))))
 
-  -- .. whether it passes or not
+  -- the last block, whether those before it pass or not
   pub all_over : (count place block : ℕ) (xs : List ℕ) → place ≤ count → place + block ≡ length xs
       → (list_all p (take count xs) && list_all p (take block (drop place xs))) ≡ list_all p xs
   all_over count place block xs le end = go (list_all p (take count xs)) refl

@@ -18,7 +18,8 @@ pub const ROOM: usize = 65_536;
 /// The most octets of a frame: with 4,099 octets of information, address, control and frame check sequence.
 pub const MOST_OCTETS: usize = 4_103;
 
-/// Characters, at the front of a buffer of `ROOM` of them: no call but `new` takes memory.
+/// Characters, at the front of a buffer of `ROOM` of them or more. No call takes memory but `new` and those named
+/// `try_push`, which make it longer where it has no room.
 #[derive(Drop)]
 pub struct Text {
     buffer: Vec<u8>,
@@ -114,7 +115,7 @@ pub(crate) fn seq_digit(number: Seq) -> u8
 }
 
 impl Text {
-    /// No characters, in memory for as many as there ever are. Err: no memory.
+    /// No characters, in memory for `ROOM` of them. Err: no memory.
     pub fn new(alloc: Global) -> Result<Text, AllocError>
         ensures { IfOk result (λ text. text ≡ []) }
     {

@@ -48,7 +48,7 @@ heard_out_of Waiting from n1 xs ys c off none = none refl
 heard_out_of Up from n1 xs ys c off none = not_both true refl off
 heard_out_of Closed from n1 xs ys c off none = refl
 
--- .. is the one that the definition says
+-- the frame that is gone is the one that the definition says
 module _ (from : Role) (n1 : ℕ) where
   pub heard_removes : (p : Phase) (es : List Entry) (i : ℕ) → change_heard p from n1 es (remove es i) (removes from n1 es i) ≡ place_to_hear p from n1 (octets_of es) i
   heard_removes Down es i = refl
@@ -84,7 +84,7 @@ module _ (c d : Settings) (joined : AreJoined c d) (reads : ReadsSpelled) (laws 
       ((os : List (List ℕ)) × Leads ⊥ c d v l (taken_out gone l.back) (record v { back = os }) × AfterUa (other c.role) c.longest ys os q)
       ⊎ ((how_many ua_in (other c.role) c.longest ys ≡ 0) × (gone ≡ None))
 
-  -- .. where nothing of theirs is gone
+  -- what is left there, where nothing of theirs is gone
   none_gone : (v : Stations) (l : Line (List ℕ)) → Joint ⊥ c d v l → Leads ⊥ c d v l (taken_out None l.back) (record v { back = v.back })
   none_gone v l holds = stands_still ⊥ c d v l holds
 

@@ -297,7 +297,7 @@ counted_view Gone c e t session l h fits = counted_off c.window e.station l h.0
 abbrev pub with_machine : Standing → Line (List ℕ) → Standing
 with_machine stand m = record { near = stand.near; far = stand.far; machine = m }
 
--- .. which is the one that the definition says
+-- the machine behind these two sessions is the one that the definition says
 pub standing_after_is : (c : Settings) (station : LinkStation) (put : List (List ℕ)) (place : Option ℕ) (stand : Standing) (m : Line (List ℕ)) → m.near ≡ counted c.window station stand.machine.near → m.far ≡ stand.machine.far
     → m.out ≡ stand.machine.out ++ given m.near.acked (length m.near.taken) stand.machine.near.sent (numbered_on c.role c.longest put) → m.back ≡ taken_out place stand.machine.back
     → with_machine stand m ≡ standing_after c station put place stand

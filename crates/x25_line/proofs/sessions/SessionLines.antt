@@ -314,7 +314,7 @@ module _ (from : Role) (n1 : ℕ) where
   change_shows es fs (further e xs ys c) gs h =
       shows_behind (number_in (frame_of from n1 e.octets)) (numbers xs) (numbers ys) (change_place xs ys c) gs (λ hs k. change_shows xs ys c hs k) h
 
-  -- .. which is the one that stands at that place of the line
+  -- the frame that goes is the one that stands at that place of the line
   pub place_removes : (es : List Entry) (i : ℕ) → change_place es (remove es i) (removes es i) ≡ place_of from n1 (octets_of es) i
   unfolding change_place removes
   place_removes [] zero = refl

@@ -14,12 +14,12 @@ pub record Laws : Type 0 where
   pub disconnect_tells : DisconnectTells
   pub abandon_tells : AbandonTells
 
--- .. over set-up and re-set-up
+-- those of a link over set-up and re-set-up
 pub record SessionLaws : Type 0 where
   pub laws : Laws
   pub continues : TakeContinues
 
--- .. and of healing
+-- those of healing
 pub record HealingLaws : Type 0 where
   pub sessions : SessionLaws
   pub rest : RestLaws

@@ -66,8 +66,8 @@ place_behind_ua from n1 (octets ∷ line) zero = None
 place_behind_ua from n1 (octets ∷ line) (suc i) = by_answers (ua_in (frame_of from n1 octets))
     (place_behind_ua from n1 line i) (place_of from n1 line i)
 
--- .. of those that are for the session that stands: all where the end is Up, and those behind the UA that it awaits;
--- any other hears none
+-- Which of the frames for the session that stands is at this place of the line, where one is: they are all where the
+-- end is Up, and those behind the UA that it awaits; any other end hears none.
 abbrev pub place_to_hear : Phase → Role → ℕ → List (List ℕ) → ℕ → Option ℕ
 place_to_hear Up from n1 line i = place_of from n1 line i
 place_to_hear Waiting from n1 line i = place_behind_ua from n1 line i
@@ -98,7 +98,7 @@ standing_after c station put gone s = record {
   machine = machine_after c station put gone s.machine;
 }
 
--- .. where `v` are the sessions then
+-- the same two sessions, as they stand once `v` are the sessions
 abbrev pub same_two : Settings → Option ℕ → Sessions → Sessions → Standing → Standing
 same_two c gone w v s = standing_after c v.near.station (octets_of (drop (length w.out) v.out)) gone s
 

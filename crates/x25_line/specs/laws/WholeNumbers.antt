@@ -87,7 +87,7 @@ went_on c s put back place l =
           (other c.role) c.longest back place l.back;
     }
 
--- .. by this act, in this world
+-- the machine once its near end has done this act, in this world
 abbrev pub machine_acts : Settings → Act → Stations → Line (List ℕ) → Line (List ℕ)
 machine_acts c act w l = went_on c (acts c act w).near.station (drop (length w.out) (acts c act w).out) w.back
     (place_taken act) l
