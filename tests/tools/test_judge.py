@@ -63,7 +63,7 @@ class Runs(support.ToolCase):
 class Odd(support.ToolCase):
     def test_nothing_is_told_of_a_station_beside_an_odd_end(self):
         for seed in range(ODD_RUNS):
-            self.assertEqual(odd_runs.play(PROGRAM, seed)[1], [], f"seed {seed}")
+            self.assertEqual(odd_runs.play(PROGRAM, seed)[0], [], f"seed {seed}")
 
 
 @support.needs_program
