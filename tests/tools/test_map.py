@@ -132,6 +132,7 @@ class Lemmas(unittest.TestCase):
         ("x25_wide", "x25_packet"): {"AddressLaws"},
         ("x25_line", "x25_link"): {"EndLemmas"},
         ("x25_sim", "x25_world"): {"Established"},
+        ("x25_judge", "x25_line"): {"StationActs", "StationAway", "StationLines", "StationRuns", "StationSays", "StationSends", "StationSteps"},
         ("any", "x25_io"): {"LineLemmas", "RunLemmas", "TakerLemmas", "ToldLemmas"},
     }
 

@@ -29,7 +29,7 @@ use Rattle.x25_judge.specs.declared.sides.Sides.{Sides}
 use Rattle.x25_judge.specs.declared.way.Told.{Told}
 use Rattle.x25_judge.specs.declared.way.Way.{Way}
 use Rattle.x25_judge.specs.laws.Session.{end_of, IsSetUp, IsNumbered}
-use Rattle.x25_judge.specs.laws.Silence.{Watched, watched_from, more, IsSilent, Begins, Acts, Says, Comes}
+use Rattle.x25_judge.specs.laws.Watching.{Watched, watched_from, more, IsSilent, Begins, Acts, Says, Comes}
 use Rattle.x25_judge.specs.laws.VerdictClaims.{SilenceMeansOrder}
 use Rattle.x25_judge.proofs.verdicts.Silent.{Exact, IsNew, IsOld, IsInOrder, sent_silent, heard_silent}
 use Rattle.x25_judge.proofs.verdicts.Frames.{AreUp, AreAlike, Sees, info_sees, ready_sees, reject_sees, first_none}

@@ -12,8 +12,8 @@ use Rattle.x25_line.specs.laws.Peer.{Peer}
 use Rattle.x25_link.specs.Hearing.{other}
 use Rattle.x25_link.specs.Station.{Settings}
 use Rattle.x25_judge.specs.laws.Keeping.{MaySend, MayBe}
-use Rattle.x25_judge.specs.laws.Session.{end_of, IsSetUp, Shows, rule_of, is_of_order}
-use Rattle.x25_judge.specs.laws.Silence.{Watched, IsSilent}
+use Rattle.x25_judge.specs.laws.Session.{end_of, IsSetUp, Shows, IsNumbered, rule_of, is_of_order}
+use Rattle.x25_judge.specs.laws.Watching.{Watched, IsSilent, IsAny}
 
 -- no rule of order is told of what an end sends that keeps the rules
 abbrev pub NoInnocentIsAccused : Type 0
@@ -21,6 +21,13 @@ NoInnocentIsAccused =
     (from : Role) (j : Judge) (p q : Peer) (way : List PlainFrame) (line octets : List ℕ) (frame : PlainFrame)
     → MayBe from j p way → Shows line from octets frame → MaySend p frame q
     → is_of_order (rule_of j from frame) ≡ false
+
+-- nor of a station of ours, whatever the other end and the line do, as long as it isn't set up anew
+abbrev pub NoStationIsAccused : Type 0
+NoStationIsAccused =
+    (c : Settings) → c.window ≤ 7 → c.longest ≡ n1 → (w : Watched) → IsAny c w → w.near.came_up ≡ false
+    → (line octets : List ℕ) (frame : PlainFrame) (rest : List (List ℕ)) → w.out ≡ octets ∷ rest
+    → Shows line c.role octets frame → IsNumbered frame → is_of_order (rule_of w.judge c.role frame) ≡ false
 
 -- where nothing is told, what the station handed up is a beginning of what the trace shows
 abbrev pub SilenceMeansOrder : Type 0
