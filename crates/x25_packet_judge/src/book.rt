@@ -4,7 +4,8 @@ ghost use Rattle.x25_frame.specs.Frame.{plain as plain_frame};
 ghost use Rattle.x25_packet.specs.Packet.{plain};
 ghost use Rattle.x25_packet_judge.specs.Book as definition;
 
-use crate::layer::{Layer, Layers};
+use crate::layer::Layer;
+use crate::layers::Layers;
 use crate::packet_rule::PacketRule;
 use crate::pair::Pair;
 use crate::port::Port;
