@@ -114,7 +114,8 @@ took from t channel p b = put_by from channel p p.rule (keeps from t b)
 unfoldable pub takes_on : Role → Layers → ℕ → PlainPacket → Book → Seen
 takes_on from t channel packet b =
     if is_some t.rule then told (keeps from t b) t.rule
-    else if not (layers.are_sure t) then blind from channel (pair_of from (layers.are_level t) channel b) (keeps from t b)
+    else if not (layers.are_sure t)
+        then blind from channel (pair_of from (layers.are_level t) channel b) (keeps from t b)
     else took from t channel (sends packet (pair_of from (layers.are_level t) channel b)) b
 
 -- where no restart and confirmation went before, nothing is known of the end's channels
