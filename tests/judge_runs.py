@@ -76,6 +76,12 @@ def run(seed):
     return words, ["--k", window], "".join(line + "\n" for line in lines)
 
 
+def frames_of(program, words, script):
+    """The lines of the frames that both stations put on the line."""
+    tap = subprocess.run([program, "sim", *words], input=script, stdout=subprocess.PIPE, text=True).stdout
+    return [line for line in tap.splitlines(True) if line[:2] in ("> ", "< ")]
+
+
 def judged(program, words, frames):
     """The lines of a trace that tell of a rule, and how many frames it has."""
     done = subprocess.run([program, "judge", *words], input="".join(frames), stdout=subprocess.PIPE, text=True)
@@ -89,8 +95,7 @@ def judged(program, words, frames):
 def told(program, seed):
     """The lines that tell of a rule, of a run as a whole and from a frame in its midst on, and how many frames the whole run has."""
     words, judge_words, script = run(seed)
-    tap = subprocess.run([program, "sim", *words], input=script, stdout=subprocess.PIPE, text=True).stdout
-    frames = [line for line in tap.splitlines(True) if line[:2] in ("> ", "< ")]
+    frames = frames_of(program, words, script)
     at_fault, count = judged(program, judge_words, frames)
     midst = losses.Dice(seed).below(len(frames) + 1)
     return at_fault + [f"from frame {midst} on: {line}" for line in judged(program, judge_words, frames[midst:])[0]], count

@@ -112,7 +112,10 @@ pub(crate) fn perform<R: Source, W: Sink>(
         Task::Judge(judging) => judge_lines(
             alloc,
             judging.k,
-            judging.long,
+            Reading {
+                long: judging.long,
+                wide: judging.wide,
+            },
             judging.strict,
             reader,
             writer,

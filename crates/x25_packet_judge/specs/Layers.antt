@@ -130,12 +130,19 @@ asks_again t = with_other (asked_again t.other) t
 abbrev pub is_awaiting : Layers → Bool
 is_awaiting t = is_asking t.own.restart && (are_counted t && nat_lt 0 t.other.owed)
 
--- One that is sent again while it waits is confirmed once or twice. One behind packets that were missed may be such a
--- one; nothing is said of channels until it is confirmed.
+-- Where packets may have gone unseen: behind one of the other end it may be the answer, and then no confirmation is of
+-- either; else it may be one that is sent again. Nothing is said of channels until one is confirmed.
+abbrev pub restarts_unseen : Layers → Layers
+restarts_unseen t =
+    if is_asking t.other.restart
+    then are_unsure (asks_again (goes_to Ready (with_other (with_restart Ready t.other) t)))
+    else are_unsure (asks_again (goes_to Asking t))
+
+-- One that is sent again while it waits is confirmed once or twice.
 abbrev pub restarts : Layers → Layers
 restarts t =
     if are_lost t then goes_to Asking (with_other (owing true t.other) t)
-    else if not (are_counted t) then goes_to Asking (are_unsure (asks_again t))
+    else if not (are_counted t) then restarts_unseen t
     else if is_awaiting t then asks_again t
     else marks Asking t
 

@@ -266,6 +266,20 @@ impl Layers {
         self.own.is_asking() && (self.are_counted() && 0 < self.other.owed)
     }
 
+    /// RESTART where packets may have gone unseen: it may answer one of the other end.
+    fn restarts_unseen(self) -> Layers
+        ensures { result ≡ definition.restarts_unseen self }
+    {
+        if self.other.is_asking() {
+            self.with_other(self.other.with_restart(Restart::Ready))
+                .goes_to(Restart::Ready)
+                .asks_again()
+                .unsure()
+        } else {
+            self.goes_to(Restart::Asking).asks_again().unsure()
+        }
+    }
+
     pub(crate) fn restarts(self) -> Layers
         ensures { result ≡ definition.restarts self }
     {
@@ -273,7 +287,7 @@ impl Layers {
             self.with_other(self.other.owing(true))
                 .goes_to(Restart::Asking)
         } else if !self.are_counted() {
-            self.asks_again().unsure().goes_to(Restart::Asking)
+            self.restarts_unseen()
         } else if self.is_awaiting() {
             self.asks_again()
         } else {

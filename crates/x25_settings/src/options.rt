@@ -60,6 +60,8 @@ pub struct Judging {
     pub long: bool,
     /// What isn't judged makes the status 1 too.
     pub strict: bool,
+    /// Packets are read in all the forms that a peer may send.
+    pub wide: bool,
     /// The window of the link, 1 to 7.
     pub k: u8,
 }
@@ -72,6 +74,7 @@ enum Flag {
     SaySizes,
     Tap,
     Strict,
+    Wide,
 }
 
 /// The options that have a number.
@@ -132,6 +135,7 @@ struct Chosen {
     say_sizes: bool,
     tap: bool,
     strict: bool,
+    wide: bool,
     k: Option<u8>,
     n2: Option<u8>,
     channels: Option<u8>,
@@ -156,6 +160,8 @@ fn flag_option(word: &str) -> Option<Flag>
         Some(Flag::Tap)
     } else if is(word, "--strict") {
         Some(Flag::Strict)
+    } else if is(word, "--wide") {
+        Some(Flag::Wide)
     } else {
         None
     }
@@ -223,6 +229,7 @@ impl Chosen {
                 strict: true,
                 ..self
             }),
+            Flag::Wide if !self.wide => Some(Chosen { wide: true, ..self }),
             _ => None,
         }
     }
@@ -258,7 +265,7 @@ impl Chosen {
     fn simulated(self) -> Option<Simulation>
         ensures { result ≡ simulated self }
     {
-        if self.strict {
+        if self.strict || self.wide {
             None
         } else {
             Some(self.with_defaults())
@@ -269,7 +276,7 @@ impl Chosen {
     fn at(self, end: End) -> Option<Place>
         ensures { result ≡ placed end self }
     {
-        if (self.down || self.tap) || self.strict {
+        if (self.down || self.tap) || (self.strict || self.wide) {
             return None;
         }
         let rest = self.with_defaults();
@@ -296,6 +303,7 @@ impl Chosen {
                 Some(Judging {
                     long: rest.long,
                     strict: self.strict,
+                    wide: self.wide,
                     k: rest.k,
                 })
             }
@@ -340,6 +348,7 @@ fn choose<S: AsStr>(words: &[S]) -> Option<Chosen>
         say_sizes: false,
         tap: false,
         strict: false,
+        wide: false,
         k: None,
         n2: None,
         channels: None,

@@ -219,6 +219,7 @@ fn judge_command<'a>(alloc: Global) -> Result<Command<'a>, AllocError> {
         .after_help(JUDGE_EXAMPLE);
     let command = with_arg(Ok(command), window_option(alloc));
     let command = with_arg(command, long_option(alloc));
+    let command = with_arg(command, wide_option(alloc));
     with_arg(command, strict_option(alloc))
 }
 

@@ -483,5 +483,5 @@ beside from j q frames (Comes k p r frame way may h) = came_beside from j p q fr
 pub no_innocent_is_accused : NoInnocentIsAccused
 no_innocent_is_accused from j p q way line octets frame may shows sends_it =
     let t = seen_by j from frame in
-    told_of_order t.rule (book.sees from j.long_data frame (is_some t.rule) j.book).verdict.rule
+    told_of_order t.rule (book.sees from j.reading frame (is_some t.rule) j.book).verdict.rule
     (sends from j (answer_to j line).next p q way frame sends_it (beside from j p way may) (goes j line from octets frame shows)).quiet

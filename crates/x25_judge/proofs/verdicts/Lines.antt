@@ -22,9 +22,9 @@ other_twice Dce = refl
 
 -- ---- the answer to a line
 
-pub answered : (j : Judge) (line : List ℕ) (from : Role) (octets : List ℕ) (frame : PlainFrame) → Shows line from octets frame → answer_to j line ≡ told_frame j from frame (seen_by j from frame)
+pub answered : (j : Judge) (line : List ℕ) (from : Role) (octets : List ℕ) (frame : PlainFrame) → Shows line from octets frame → answer_to j line ≡ told_frame j from octets frame (seen_by j from frame)
 unfolding answer_to
-answered j line from octets frame shows = ap (λ (s : Option (Role × List ℕ)). sent_of j s) shows.spells ∙ ap (λ r. read_of j from r) shows.reads
+answered j line from octets frame shows = ap (λ (s : Option (Role × List ℕ)). sent_of j s) shows.spells ∙ ap (λ r. read_of j from octets r) shows.reads
 
 -- ---- the judge behind it
 
@@ -64,7 +64,7 @@ next_goes Dce j frame t s = carried_any Dce frame t.is_again s.verdict.is_judged
 pub goes : (j : Judge) (line : List ℕ) (from : Role) (octets : List ℕ) (frame : PlainFrame) → Shows line from octets frame → Goes j (answer_to j line).next from (seen_by j from frame) frame
 goes j line from octets frame shows =
     let t = seen_by j from frame in
-    subst (λ (a : Answer). Goes j a.next from t frame) (sym (answered j line from octets frame shows)) (next_goes from j frame t (book.sees from j.long_data frame (is_some t.rule) j.book))
+    subst (λ (a : Answer). Goes j a.next from t frame) (sym (answered j line from octets frame shows)) (next_goes from j frame t (book.sees from j.reading frame (is_some t.rule) j.book))
 
 -- ---- both ends before it
 
@@ -92,7 +92,7 @@ told_none None packet h = refl
 pub none_told : (j : Judge) (line : List ℕ) (from : Role) (octets : List ℕ) (frame : PlainFrame) → Shows line from octets frame → (answer_to j line).is_faulty ≡ false → (seen_by j from frame).rule ≡ None
 none_told j line from octets frame shows quiet =
     let t = seen_by j from frame in
-    let v = (book.sees from j.long_data frame (is_some t.rule) j.book).verdict in
+    let v = (book.sees from j.reading frame (is_some t.rule) j.book).verdict in
     let r = remark_of j from frame t in
     let here = sym (ap (λ (a : Answer). a.is_faulty) (answered j line from octets frame shows)) ∙ quiet in
     told_none t.rule v.rule (or_parts (is_some r.rule) (j.is_strict && not r.is_judged) here).0

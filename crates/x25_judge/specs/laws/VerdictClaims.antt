@@ -2,6 +2,7 @@
 use Rattle.std.specs.Prelude.{◌≡◌, ℕ, ◌≤◌, Bool, false, List, [], ◌∷◌}
 use Rattle.x25_bits.specs.declared.role.Role.{Role}
 use Rattle.x25_decode.specs.Decoding.{n1}
+use Rattle.x25_decode.specs.declared.answer.Reading.{Reading}
 use Rattle.x25_frame.specs.Frame.{PlainFrame, sabm, ua}
 use Rattle.x25_judge.specs.Judge.{begins, answer_to}
 use Rattle.x25_judge.specs.declared.judge.Judge.{Judge}
@@ -52,8 +53,8 @@ pub record SetsUp (j : Judge) (window : ℕ) : Type 0 where
 -- wherever a trace shows SABM of an end and then UA of the other
 abbrev pub SetUpsBegin : Type 0
 SetUpsBegin =
-    (window : ℕ) (long_data is_strict : Bool) (lines : List (List ℕ)) (from : Role)
+    (window : ℕ) (reading : Reading) (is_strict : Bool) (lines : List (List ℕ)) (from : Role)
     (asks accepts asked accepted : List ℕ) (p f : Bool)
     → Shows asks from asked (sabm p) → Shows accepts (other from) accepted (ua f)
-    → (IsAnswered (end_of from (after (begins window long_data is_strict) lines)).phase → ⊥)
-    → SetsUp (after (after (begins window long_data is_strict) lines) (asks ∷ accepts ∷ [])) window
+    → (IsAnswered (end_of from (after (begins window reading is_strict) lines)).phase → ⊥)
+    → SetsUp (after (after (begins window reading is_strict) lines) (asks ∷ accepts ∷ [])) window
