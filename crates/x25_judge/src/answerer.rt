@@ -9,7 +9,7 @@ use x25_text::{MOST_OCTETS, ROOM, Text};
 
 /// The answer to the last line, text that waits to be written, and the judge.
 ///
-/// Its buffers are made by `new`; no other call takes memory.
+/// Its buffers are made by `new`; no other call is refused for want of memory.
 #[derive(Drop)]
 pub(crate) struct Answerer {
     octets: [u8; MOST_OCTETS],

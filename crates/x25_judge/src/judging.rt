@@ -7,7 +7,7 @@ ghost use Rattle.x25_judge.specs.code.Stream.{program};
 use crate::answerer::Answerer;
 use std::alloc::Global;
 use x25_decode::Reading;
-use x25_io::{Fault, HeldLine, LineByLine, PIECE, Sink, Source, take_text};
+use x25_io::{Fault, HeldLine, LineByLine, Piece, Sink, Source, take_text};
 
 /// Answers each line of a trace that the reader gives by the line of `decode`, and behind it, where the frame breaks a
 /// rule of the link layer, or its packet one of the packet layer, by the end that sent it and the rule; and at the end
@@ -32,9 +32,9 @@ pub fn judge_lines<R: Source, W: Sink>(
         writer.old writer.new result }
     ensures memory { IsErrOf result Fault.NoMemory → (reader.new ≡ reader.old) × (writer.new ≡ writer.old) }
 {
-    let mut piece = vec![in alloc; 0u8; PIECE]?;
+    let piece = Piece::new(alloc)?;
     let held = HeldLine::new(alloc)?;
     let answerer = Answerer::new(alloc, window, reading, is_strict)?;
     let lines = LineByLine::new(held, answerer);
-    take_text(lines, piece.as_mut_slice(), reader, writer)
+    take_text(lines, piece, reader, writer)
 }
