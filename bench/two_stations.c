@@ -60,8 +60,9 @@ int main(int argc, char **argv)
     static uint8_t message[65535];
     long count = argc > 1 ? atol(argv[1]) : 1;
     size_t length = argc > 2 ? (size_t)atol(argv[2]) : 3;
-    check(x25_new(&stations[0], X25_DTE, 7, 10, 1, false));
-    check(x25_new(&stations[1], X25_DCE, 7, 10, 1, false));
+    x25_settings settings = {.k = 7, .n2 = 10, .channels = 1};
+    check(x25_new(&stations[0], X25_DTE, settings));
+    check(x25_new(&stations[1], X25_DCE, settings));
     ask(0, "connect");
     ask(0, "call 1 2 -");
     ask(1, "accept 1");

@@ -34,6 +34,15 @@ typedef struct {
     bool is_open;
 } x25_station;
 
+/* The settings of a station, for x25_new. One that is left out in braces, as in {.k = 7, .n2 = 10, .channels = 1}, is off. */
+typedef struct {
+    uint8_t k;        /* the window of the link, 1 to 7 */
+    uint8_t n2;       /* how often a command of the link is sent again, 1 to 255 */
+    uint8_t channels; /* logical channels, 1 to 16 */
+    bool long_data;   /* a call may have up to 128 octets of user data, in place of up to 16; the same at both ends */
+    bool say_sizes;   /* each CALL and CALL ACCEPTED says packet sizes and windows, as X.25 over TCP asks for */
+} x25_settings;
+
 /* The name of a stretch of a channel, as an entry has it behind "at": the restarts done since link set-up, the clears done since
    the last of these, and the resets done since the last of all these. */
 typedef struct {
@@ -77,9 +86,8 @@ enum {
     X25_NO_MEMORY = 70           /* memory was refused; the call may be made again */
 };
 
-/* Makes a station whose link is down. end: X25_DTE or X25_DCE; k: the window, 1 to 7; n2: how often a command is sent again,
-   1 to 255; channels: 1 to 16; long_data: whether a call may have 128 octets of user data in place of 16. */
-uint32_t x25_new(x25_station *station, uint8_t end, uint8_t k, uint8_t n2, uint8_t channels, bool long_data);
+/* Makes a station whose link is down. end: X25_DTE or X25_DCE. */
+uint32_t x25_new(x25_station *station, uint8_t end, x25_settings settings);
 /* Lets the station go, where there is one. */
 void x25_free(x25_station *station);
 

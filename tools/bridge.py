@@ -498,7 +498,7 @@ def station_of(options):
     import linked
 
     given = {name: getattr(options, name) for name in ("k", "n2", "channels") if getattr(options, name) is not None}
-    return linked.Station(options.library, options.end, long_data=options.long, **given)
+    return linked.Station(options.library, options.end, long_data=options.long, say_sizes=is_xot(options), **given)
 
 
 def add_line_words(parser):
@@ -541,8 +541,6 @@ def words():
         parser.error("the two probabilities come to more than 1")
     if is_xot(options) and options.lose + options.damage > 0:
         parser.error("XOT loses and damages nothing")
-    if is_xot(options) and options.library:
-        parser.error("XOT is for the program, not for --library, which has no --say-sizes")
     if options.retry and not options.connect:
         parser.error("--retry is for --connect")
     return options

@@ -99,6 +99,10 @@ class _Slot(ctypes.Structure):
     _fields_ = [("at", ctypes.c_void_p), ("is_open", ctypes.c_bool)]
 
 
+class _Settings(ctypes.Structure):
+    _fields_ = [(name, ctypes.c_uint8) for name in ("k", "n2", "channels")] + [(name, ctypes.c_bool) for name in ("long_data", "say_sizes")]
+
+
 class _StretchName(ctypes.Structure):
     _fields_ = [("restarts", ctypes.c_uint64), ("clears", ctypes.c_uint64), ("resets", ctypes.c_uint64)]
 
@@ -106,7 +110,7 @@ class _StretchName(ctypes.Structure):
 _STATION = ctypes.POINTER(_Slot)
 # The functions of x25.h: parameters and result.
 _FUNCTIONS = {
-    "new": ([_STATION, *[ctypes.c_uint8] * 4, ctypes.c_bool], ctypes.c_uint32),
+    "new": ([_STATION, ctypes.c_uint8, _Settings], ctypes.c_uint32),
     "free": ([_STATION], None),
     "connect": ([_STATION], ctypes.c_uint32),
     "t1": ([_STATION], ctypes.c_uint32),
@@ -148,15 +152,23 @@ def load(path: str | None = None) -> ctypes.PyDLL:
 
 
 class Station:
-    """A station, DTE or DCE: window k, n2 tries of a command, 1 to 16 channels, and whether a call may have 128 octets of user data."""
+    """A station, DTE or DCE: window k, n2 tries of a command, 1 to 16 channels, whether a call may have 128 octets of user data, and
+    whether calls and acceptances say packet sizes and windows, as X.25 over TCP asks for."""
 
     def __init__(
-        self, end: int, k: int = 7, n2: int = 10, channels: int = 1, long_data: bool = False, library: str | None = None
+        self,
+        end: int,
+        k: int = 7,
+        n2: int = 10,
+        channels: int = 1,
+        long_data: bool = False,
+        say_sizes: bool = False,
+        library: str | None = None,
     ) -> None:
         self._library, self._slot = load(library), _Slot()
         self._room = ctypes.create_string_buffer(1 << 18)
         self._check(0 if all(0 <= setting < 256 for setting in (end, k, n2, channels)) else 14)
-        self._check(self._library.x25_new(self._slot, end, k, n2, channels, long_data))
+        self._check(self._library.x25_new(self._slot, end, _Settings(k, n2, channels, long_data, say_sizes)))
 
     def __enter__(self) -> Station:
         return self

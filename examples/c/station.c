@@ -149,7 +149,8 @@ int main(int argc, char **argv)
         stop("the words are dte or dce, a host and a port");
     bool is_dte = strcmp(argv[1], "dte") == 0;
     mark = is_dte ? '>' : '<';
-    if (x25_new(&station, is_dte ? X25_DTE : X25_DCE, 7, 10, 1, false))
+    x25_settings settings = {.k = 7, .n2 = 10, .channels = 1};
+    if (x25_new(&station, is_dte ? X25_DTE : X25_DCE, settings))
         stop("no memory");
     line = connected(argv[2], argv[3]);
     static reader heard, commands = {.file = STDIN_FILENO};

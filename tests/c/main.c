@@ -65,11 +65,11 @@ static void try_refusals(void)
     expect("none is idle", x25_idle(station), false);
     expect("none waits", x25_waits(station), false);
     expect("stretch of none", x25_stretch(station, 1, &(x25_stretch_name){0}), false);
-    expect("a bad end", x25_new(station, 2, 7, 10, 1, false), X25_BAD_SETTING);
-    expect("a bad window", x25_new(station, X25_DTE, 8, 10, 1, false), X25_BAD_SETTING);
-    expect("no channel", x25_new(station, X25_DTE, 7, 10, 0, false), X25_BAD_SETTING);
-    expect("new", x25_new(station, X25_DTE, 7, 10, 1, false), 0);
-    expect("new again", x25_new(station, X25_DTE, 7, 10, 1, false), X25_IN_USE);
+    expect("a bad end", x25_new(station, 2, one_channel), X25_BAD_SETTING);
+    expect("a bad window", x25_new(station, X25_DTE, (x25_settings){.k = 8, .n2 = 10, .channels = 1}), X25_BAD_SETTING);
+    expect("no channel", x25_new(station, X25_DTE, (x25_settings){.k = 7, .n2 = 10}), X25_BAD_SETTING);
+    expect("new", x25_new(station, X25_DTE, one_channel), 0);
+    expect("new again", x25_new(station, X25_DTE, one_channel), X25_IN_USE);
     expect("sing", x25_command(station, (const uint8_t *)"sing 1", 6), X25_NO_COMMAND);
     expect("a call while the link is down", x25_command(station, (const uint8_t *)"call 123 4567 41", 16), X25_LINK_NOT_UP);
     expect("T1 that doesn't run", x25_t1(station), X25_TIMER_NOT_RUNNING);
@@ -112,11 +112,31 @@ static void try_stretch(uint16_t channel, bool is_open)
     expect("its resets", (uint32_t)name.resets, is_open ? 0 : 9);
 }
 
+/* A call between two new stations, of which the DTE says sizes: its facilities are packet sizes of 128 octets and windows of 2. */
+static void try_sizes(void)
+{
+    static const uint8_t call[] = {0x10, 0x01, 0x0b, 0x11, 0x12, 0x06, 0x42, 0x07, 0x07, 0x43, 0x02, 0x02};
+    x25_settings says_sizes = one_channel;
+    says_sizes.say_sizes = true;
+    expect("new", x25_new(&dte.station, X25_DTE, says_sizes), 0);
+    expect("new", x25_new(&dce.station, X25_DCE, one_channel), 0);
+    expect("connect", x25_connect(&dte.station), 0);
+    take(&dte);
+    deliver_all();
+    ask(&dte, "call 1 2 -");
+    size_t count = 0;
+    uint8_t *octets = next_frame(&dte, &count);
+    expect("a call, its length", (uint32_t)count, sizeof call + 4);
+    expect("its octets", memcmp(octets + 2, call, sizeof call) != 0, 0);
+    x25_free(&dte.station);
+    x25_free(&dce.station);
+}
+
 int main(void)
 {
     try_texts();
     try_refusals();
-    expect("new", x25_new(&dce.station, X25_DCE, 7, 10, 1, false), 0);
+    expect("new", x25_new(&dce.station, X25_DCE, one_channel), 0);
     expect("connect", x25_connect(&dte.station), 0);
     try_rooms();
     take(&dte);
@@ -146,5 +166,6 @@ int main(void)
     expect("held", dte.station.is_open || dce.station.is_open, false);
     fwrite(dte.told, 1, dte.length, stdout);
     fwrite(dce.told, 1, dce.length, stdout);
+    try_sizes();
     return 0;
 }

@@ -49,8 +49,10 @@ int main(int argc, char **argv)
 {
     long did = 0, refused = 0, calls = argc > 2 ? atol(argv[2]) : 100000;
     state = argc > 1 ? strtoull(argv[1], NULL, 10) : 1;
-    expect("new", x25_new(&dte.station, X25_DTE, 7, 10, 2, false), 0);
-    expect("new", x25_new(&dce.station, X25_DCE, 7, 10, 2, false), 0);
+    x25_settings settings = {.k = 7, .n2 = 10, .channels = 2};
+    expect("new", x25_new(&dte.station, X25_DTE, settings), 0);
+    settings.say_sizes = true;
+    expect("new", x25_new(&dce.station, X25_DCE, settings), 0);
     for (long i = 0; i < calls; i++) {
         end_t *end = draw(2) ? &dte : &dce;
         if (call(end, end == &dte ? &dce : &dte))

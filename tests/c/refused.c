@@ -69,14 +69,15 @@ static void deliver_all(void)
 
 static void play(void)
 {
+    static const x25_settings settings = {.k = 7, .n2 = 10, .channels = 1, .long_data = true};
     static uint8_t message[3000];
     uint32_t number;
     asked = 0;
     dte.first = dte.next = dce.first = dce.next = dte.length = dce.length = 0;
     for (size_t i = 0; i < sizeof message; i++)
         message[i] = (uint8_t)i;
-    expect("new", AGAIN(x25_new(&dte.station, X25_DTE, 7, 10, 1, true)), 0);
-    expect("new", AGAIN(x25_new(&dce.station, X25_DCE, 7, 10, 1, true)), 0);
+    expect("new", AGAIN(x25_new(&dte.station, X25_DTE, settings)), 0);
+    expect("new", AGAIN(x25_new(&dce.station, X25_DCE, settings)), 0);
     expect("connect", AGAIN(x25_connect(&dte.station)), 0);
     take(&dte);
     deliver_all();

@@ -22,6 +22,8 @@ typedef struct {
 
 static end_t dte, dce;
 
+static const x25_settings one_channel = {.k = 7, .n2 = 10, .channels = 1};
+
 static void fail(const char *what, uint32_t number)
 {
     fprintf(stderr, "%s: %u\n", what, (unsigned)number);

@@ -24,6 +24,8 @@ def parameter(text):
         return None
     if kind == "&mut Slot":
         return "x25_station *station"
+    if kind == "Settings":
+        return f"x25_settings {name}"
     if kind == "&[u8]":
         return f"const uint8_t *{name}, size_t count"
     if kind == "&mut [u8]":
@@ -55,13 +57,18 @@ class Header(unittest.TestCase):
     def test_it_declares_what_the_crate_exports_in_its_order(self):
         found = [" ".join(text.split()) for text in PROTOTYPE.findall(self.HEADER)]
         self.assertEqual(found, exported())
-        self.assertIn("uint32_t x25_new(x25_station *station, uint8_t end, uint8_t k, uint8_t n2, uint8_t channels, bool long_data);", found)
+        self.assertIn("uint32_t x25_new(x25_station *station, uint8_t end, x25_settings settings);", found)
 
     def test_its_structures_are_those_of_the_crate(self):
         handle, slot = (support.read(f"crates/x25_c/src/{name}.rt").decode() for name in ("handle", "slot"))
         self.assertRegex(handle, r"pub struct Handle \{\n    at: \*mut u8,\n    alloc: Global,\n    pub ghost held:")
         self.assertRegex(slot, r"pub struct Slot \{\n    pub\(crate\) handle: Handle,\n    pub\(crate\) is_open: bool,\n    pub\(crate\) ghost")
         self.assertIn("typedef struct {\n    void *at;\n    bool is_open;\n} x25_station;", self.HEADER)
+
+        settings = support.read("crates/x25_c/src/settings.rt").decode()
+        fields = re.findall(r"pub (\w+): (\w+),", re.search(r"#\[repr\(C\)\]\n.*\npub struct Settings \{\n([^}]*)\}", settings)[1])
+        declared = re.search(r"typedef struct \{\n([^}]*)\} x25_settings;", self.HEADER)[1]
+        self.assertEqual(re.findall(r"^    (\w+) (\w+);", declared, re.MULTILINE), [(NUMBERS[kind], name) for name, kind in fields])
 
         name = support.read("crates/x25_c/src/stretch_name.rt").decode()
         self.assertIn("#[repr(C)]\n#[derive(Clone, Copy)]\npub struct StretchName {\n" + "".join(f"    pub {count}: u64,\n" for count in COUNTS) + "}", name)

@@ -14,6 +14,7 @@ import unittest
 import samples
 import support
 from support import ToolCase
+from program import find_library
 
 import xot_wire
 
@@ -21,6 +22,7 @@ CALL = bytes.fromhex("10010b431234567000c0ffee")
 IN_FULL = bytes.fromhex("10010b431234567006420707430202c0ffee")
 ACCEPT = bytes.fromhex("10010f0006420707430202")
 SECONDS = 120
+LIBRARY = find_library("so")
 
 
 @support.needs_station
@@ -185,6 +187,23 @@ class Circuits(ToolCase):
         self.asks(child, "dte disconnect", "wait dte linkdown", "dte connect")
         self.hears(child, "dte linkup")
         self.hears(child, "dte restarted")
+
+    @unittest.skipUnless(LIBRARY, "the library for C isn't built")
+    def test_stations_of_the_library(self):
+        with socket.create_server(("127.0.0.1", 0)) as server:
+            server.settimeout(30)
+            child = self.begin("dte", "--xot", "127.0.0.1:{}".format(server.getsockname()[1]), "--library", LIBRARY, "--stay")
+            self.asks(child, "wait dte restarted", "dte call 123 4567 c0ffee")
+            line = server.accept()[0]
+        self.addCleanup(line.close)
+        line.settimeout(30)
+        self.assertEqual(self.takes(line)[2:], IN_FULL[2:])
+        child, port = self.listening("--library", LIBRARY)
+        line = self.client(port)
+        line.sendall(samples.xot(CALL))
+        self.hears(child, "dce incoming ch=1 at 1.0.0 called=123 calling=4567 data=c0ffee")
+        self.asks(child, "dce accept 1")
+        self.assertEqual(self.takes(line), ACCEPT)
 
     def test_nobody_is_there(self):
         child = self.begin("dte", "--xot", "127.0.0.1:1", "--stay")

@@ -21,7 +21,7 @@ struct Slot {
 }
 
 extern "C" {
-    fn x25_new(slot: *mut Slot, end: u8, k: u8, n2: u8, channels: u8, long_data: bool) -> u32;
+    fn x25_new(slot: *mut Slot, end: u8, settings: Settings) -> u32;
     fn x25_free(slot: *mut Slot);
     fn x25_connect(slot: *mut Slot) -> u32;
     fn x25_t1(slot: *mut Slot) -> u32;
@@ -46,14 +46,17 @@ pub enum End {
     Dce,
 }
 
-/// The window, 1 to 7; how often a command is sent again, 1 to 255; how many channels there are, 1 to 16; and whether a call may
-/// have 128 octets of user data in place of 16.
+/// The window, 1 to 7; how often a command is sent again, 1 to 255; how many channels there are, 1 to 16; whether a call may have
+/// 128 octets of user data in place of 16; and whether calls and acceptances say packet sizes and windows, as X.25 over TCP asks
+/// for.
+#[repr(C)]
 #[derive(Clone, Copy, Debug, PartialEq, Eq)]
 pub struct Settings {
     pub k: u8,
     pub n2: u8,
     pub channels: u8,
     pub long_data: bool,
+    pub say_sizes: bool,
 }
 
 impl Default for Settings {
@@ -63,6 +66,7 @@ impl Default for Settings {
             n2: 10,
             channels: 1,
             long_data: false,
+            say_sizes: false,
         }
     }
 }
@@ -152,13 +156,7 @@ impl Station {
             },
             room: vec![0; 1 << 18],
         };
-        let Settings {
-            k,
-            n2,
-            channels,
-            long_data,
-        } = settings;
-        checked(unsafe { x25_new(&mut station.slot, end as u8, k, n2, channels, long_data) })?;
+        checked(unsafe { x25_new(&mut station.slot, end as u8, settings) })?;
         Ok(station)
     }
 

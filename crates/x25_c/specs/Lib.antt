@@ -4,6 +4,7 @@ pub mod Happening
 pub mod Held
 pub mod Making
 pub mod RefusalText
+pub mod Settings
 pub mod Slot
 pub mod StretchName
 pub mod code

@@ -9,6 +9,7 @@ mod happening;
 mod held;
 mod making;
 mod refusal_text;
+mod settings;
 mod slot;
 mod stretch_name;
 mod unboxed;
@@ -18,7 +19,7 @@ ghost use Rattle.x25_circuit.specs.Calling.{Sends};
 ghost use Rattle.x25_layer.specs.Calls.{Asks as OnChannel};
 ghost use Rattle.x25_script.specs.Reading.{command_in};
 ghost use Rattle.x25_station.specs.Command.{Connects, Requests};
-ghost use Rattle.x25_station.specs.Config.{Settings};
+ghost use Rattle.x25_station.specs.Config.{Settings as StationSettings};
 ghost use Rattle.x25_station.specs.Station.{Station as State};
 ghost use Rattle.x25_station.specs.Station.Told.{is_idle, stretch};
 ghost use Rattle.x25_station.specs.laws.TimerLaw.{Asks, Comes, Fires};
@@ -26,6 +27,7 @@ ghost use Rattle.x25_station.specs.code.FitsStation.{FitsStation};
 ghost use Rattle.x25_c.specs.Copying.{Copies};
 ghost use Rattle.x25_c.specs.Held.{AreSame, frames_of, in_place, lines_of};
 ghost use Rattle.x25_c.specs.RefusalText.{text_of};
+ghost use Rattle.x25_c.specs.Settings.{cfg_of};
 ghost use Rattle.x25_c.specs.Slot.{Answers, Commands, Makes, number_in, number_of_timer};
 ghost use Rattle.x25_c.specs.StretchName.{Names};
 
@@ -33,10 +35,11 @@ use crate::copying::copy;
 use crate::happening::Happening;
 use crate::making::make;
 use crate::refusal_text::refusal_text;
+use crate::settings::Settings;
 use crate::slot::Slot;
 use crate::stretch_name::{StretchName, tell_name};
 use std::alloc::Global;
-use x25_station::{Cfg, Cmd, StationError, Timer};
+use x25_station::{Cmd, StationError, Timer};
 
 /// The slot holds no station.
 const NO_STATION: u32 = 16;
@@ -74,29 +77,13 @@ fn timer_number(timer: Timer) -> u32
 /// 17 where the slot holds a station, else 14 where a setting is out of its range, and else 70 alone; the slot is then
 /// as before.
 #[unsafe(no_mangle)]
-pub extern "C" fn x25_new(
-    alloc: Global,
-    slot: &mut Slot,
-    end: u8,
-    k: u8,
-    n2: u8,
-    channels: u8,
-    long_data: bool,
-) -> u32
-    ensures { Makes slot.old.handle.held slot.new.handle.held result end
-        (record { k = k; n2 = n2; channels = channels; long_data = long_data; say_sizes = false }) }
+pub extern "C" fn x25_new(alloc: Global, slot: &mut Slot, end: u8, settings: Settings) -> u32
+    ensures { Makes slot.old.handle.held slot.new.handle.held result end (cfg_of settings) }
 {
     if slot.is_open {
         return IN_USE;
     }
-    let cfg = Cfg {
-        k,
-        n2,
-        channels,
-        long_data,
-        say_sizes: false,
-    };
-    match make(alloc, end, cfg) {
+    match make(alloc, end, settings.cfg()) {
         Ok(held) => {
             slot.put(held);
             0
@@ -314,7 +301,7 @@ pub extern "C" fn x25_waits(alloc: Global, slot: &mut Slot) -> bool
 #[unsafe(no_mangle)]
 pub extern "C" fn x25_idle(alloc: Global, slot: &mut Slot) -> bool
     ensures kept { slot.new.handle.held ≡ slot.old.handle.held }
-    ensures idle { (c : Settings) (s : State) →
+    ensures idle { (c : StationSettings) (s : State) →
         IfSome slot.old.handle.held (λ h. FitsStation c h.station s → result ≡ is_idle c s) }
     ensures none { IfNone slot.old.handle.held (result ≡ false) }
 {
@@ -335,7 +322,7 @@ pub extern "C" fn x25_stretch(
     name: &mut StretchName,
 ) -> bool
     ensures kept { slot.new.handle.held ≡ slot.old.handle.held }
-    ensures named { (c : Settings) (s : State) → IfSome slot.old.handle.held
+    ensures named { (c : StationSettings) (s : State) → IfSome slot.old.handle.held
         (λ h. FitsStation c h.station s → Names (stretch c s channel) result name.old name.new) }
     ensures none { IfNone slot.old.handle.held (Names None result name.old name.new) }
 {

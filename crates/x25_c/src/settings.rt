@@ -1,0 +1,30 @@
+//! The settings of a station, as a C program hands them over.
+ghost use Rattle.std.specs.Prelude.{◌≡◌};
+ghost use Rattle.x25_c.specs.Settings.{cfg_of};
+
+use x25_station::Cfg;
+
+/// The settings of a station, each as `Cfg` has it.
+#[repr(C)]
+#[derive(Clone, Copy)]
+pub struct Settings {
+    pub k: u8,
+    pub n2: u8,
+    pub channels: u8,
+    pub long_data: bool,
+    pub say_sizes: bool,
+}
+
+impl Settings {
+    pub(crate) fn cfg(self) -> Cfg
+        ensures { result ≡ cfg_of self }
+    {
+        Cfg {
+            k: self.k,
+            n2: self.n2,
+            channels: self.channels,
+            long_data: self.long_data,
+            say_sizes: self.say_sizes,
+        }
+    }
+}
