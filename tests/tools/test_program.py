@@ -1,4 +1,5 @@
-"""What a golden case can't say of the program: devices that fail, answers before the input ends, memory that doesn't grow."""
+"""What a golden case can't say of the program: devices that fail, answers before the input ends, lines as long as may be, memory that
+doesn't grow."""
 
 import os
 import resource
@@ -6,6 +7,8 @@ import subprocess
 import unittest
 
 import support
+
+import x25lines
 
 MEMORY = 64 << 20
 
@@ -82,6 +85,68 @@ class Program(unittest.TestCase):
                 done = subprocess.run([support.PROGRAM, word], input=whole, capture_output=True, timeout=60, preexec_fn=few_megabytes)
                 answers = b"".join(line for line in done.stdout.splitlines(keepends=True) if not line.startswith(b"# "))
                 self.assertEqual((done.returncode, answers, done.stderr), (1, b"? 60\n> SABM cmd P=1\n", b""))
+
+
+def line(mark, octets):
+    """The line of a frame of these octets and their frame check sequence."""
+    return f"{mark} {(octets + x25lines.fcs(octets)).hex()}"
+
+
+@support.needs_program
+class Lines(unittest.TestCase):
+    MOST_OF_SCRIPT = 131_200
+
+    def answer(self, words, given):
+        done = subprocess.run([support.PROGRAM, *words], input=given.encode(), capture_output=True, timeout=60)
+        return done.stdout.decode(), done.returncode
+
+    def test_decode_in_each_reading(self):
+        restart = "> 01001000fb00007702"
+        rows = [
+            ("> 013febdf\n< 01738357\n", "> SABM cmd P=1\n< UA rsp F=1\n", 0),
+            ("> 033f5bec", "> fault 4 undefined ctl=3f\n", 0),
+            (restart, "> I cmd P=0 S=0 R=0 | RESTART cause=0 diag=0\n", 0),
+            ("> \n> 0101\n", "> fault 1 short\n> fault 1 short\n", 0),
+            ("> 013febde\nx\n\n", "> fault 2 fcs\n? 60\n? 60\n", 1),
+            ("> 013FEBDF\n>013febdf\n> 013febd\n> 013febdf \r\n", "> SABM cmd P=1\n? 60\n? 60\n? 60\n", 1),
+            ("", "", 0),
+            (f"{restart}\nx\n> 0101\n", "> I cmd P=0 S=0 R=0 | RESTART cause=0 diag=0\n? 60\n> fault 1 short\n", 1),
+        ]
+        for words in (["decode"], ["decode", "--long"], ["decode", "--wide"], ["decode", "--long", "--wide"]):
+            for given, output, status in rows:
+                self.assertEqual(self.answer(words, given), (output, status))
+
+    def test_the_longest_lines_of_a_trace(self):
+        octets = bytes.fromhex("0310100100") + b"\xa5" * 4096
+        longest = line("<", octets)
+        self.assertEqual(len(longest), 2 + 8206)
+        shown = "< I cmd P=1 S=0 R=0 | DATA ch=1 S=0 R=0 M=0 Q=0 data=" + "a5" * 4096
+        given = f"{longest}\n>{longest[1:]}00\n> 013febdf\n>{longest[1:]}0\n{longest}"
+        self.assertEqual(self.answer(["decode"], given), (f"{shown}\n? 60\n> SABM cmd P=1\n? 60\n{shown}\n", 1))
+
+    def test_the_longest_user_data_of_a_call(self):
+        for words, most in ((["decode"], 16), (["decode", "--long"], 128)):
+            for count in (16, 17, 128, 129):
+                told = f"CALL ch=1 called=- calling=- fac=- data={'a5' * count}" if count <= most else "fault 23 diag=39"
+                given = line(">", bytes.fromhex("010010010b0000") + b"\xa5" * count)
+                self.assertEqual(self.answer(words, given), (f"> I cmd P=0 S=0 R=0 | {told}\n", 0))
+
+    def test_the_longest_lines_of_a_script(self):
+        for front, length, told in (
+            ("dte int 1 ", self.MOST_OF_SCRIPT, "! 40"),
+            ("damage > 0 ", self.MOST_OF_SCRIPT + 1, "? 60"),
+            ("damage > 0 ", 3 * self.MOST_OF_SCRIPT, "? 60"),
+        ):
+            given = f"lose > 0\n{front.ljust(length, '0')}\ndeliver >\n"
+            self.assertEqual(self.answer(["sim"], given), (f"dce linkup\ndte linkup\n{told}\n! 50\n", 1))
+
+    def test_the_longest_message(self):
+        """Its line is longer than the text that waits to be written."""
+        user = "a" * 131_070
+        opening = "drain 100\ndte call 1 2 -\ndrain 100\ndce accept 1\ndrain 100\n"
+        output, status = self.answer(["sim"], f"{opening}dte send 1 0 {user}\ndrain 65535\n")
+        self.assertEqual(status, 0)
+        self.assertTrue(output.endswith(f"\ndce message ch=1 at 1.0.0 q=0 data={user}\n"))
 
 
 if __name__ == "__main__":

@@ -1,7 +1,6 @@
 //! Bits that come in the place of those between the flags of a frame.
 
-use crate::calls::{damage_bits, establish, number_of, step};
-use crate::play::USUAL;
+use crate::calls::{USUAL, damage_bits, establish, number_of, step};
 use std::alloc::Global;
 use std::process::Abort;
 use std::test::Fail;

@@ -2,7 +2,15 @@
 
 use std::alloc::Global;
 use x25_station::{Cfg, Step};
-use x25_world::{Bits, Direction, Entered, Event, Healed, Role, World, WorldError};
+use x25_world::{Bits, Direction, Entered, Event, Healed, World, WorldError};
+
+pub const USUAL: Cfg = Cfg {
+    k: 7,
+    n2: 10,
+    channels: 1,
+    long_data: false,
+    say_sizes: false,
+};
 
 /// The number of a refusal, that of the station where it refuses.
 pub fn number_of(error: WorldError) -> u8 {
@@ -12,28 +20,25 @@ pub fn number_of(error: WorldError) -> u8 {
     }
 }
 
-// A world in a place of its own: a body that holds the box lets go of it by one call, and not of each part of the
-// world.
-fn boxed(alloc: Global, world: World) -> Result<Box<World>, WorldError> {
-    match Box::new(alloc, world) {
-        Ok(boxed) => Ok(boxed),
-        Err(_) => Err(WorldError::NoMemory),
-    }
+// A value in a place of its own: a body that holds the box lets go of it by one call, and not of each part of the
+// value, and so does one that doesn't know what it is.
+fn boxed<T: Drop>(alloc: Global, value: T) -> Option<Box<T>> {
+    Box::new(alloc, value).ok()
 }
 
 /// A world whose links are down.
 pub fn start(alloc: Global, cfg: Cfg) -> Result<Box<World>, WorldError> {
-    boxed(alloc, World::start(alloc, cfg)?)
+    boxed(alloc, World::start(alloc, cfg)?).ok_or(WorldError::NoMemory)
 }
 
 /// A world whose links are down, and the DTE has asked that the link be set up.
 pub fn connecting(alloc: Global, cfg: Cfg) -> Result<Box<World>, WorldError> {
-    boxed(alloc, World::connecting(alloc, cfg)?)
+    boxed(alloc, World::connecting(alloc, cfg)?).ok_or(WorldError::NoMemory)
 }
 
 /// A world whose link was just set up.
 pub fn establish(alloc: Global, cfg: Cfg) -> Result<Box<World>, WorldError> {
-    boxed(alloc, World::establish(alloc, cfg)?)
+    boxed(alloc, World::establish(alloc, cfg)?).ok_or(WorldError::NoMemory)
 }
 
 /// The event happens, and its entries come into the step.
@@ -55,19 +60,7 @@ pub fn heal(world: &mut World, told: &mut Vec<Entered>) -> Result<Healed, WorldE
     world.heal(told)
 }
 
-/// How many frames are on the line, those to the DCE first.
-pub fn on_line(world: &World) -> (usize, usize) {
-    let to_dce = world.on_line(Direction::ToDce);
-    let to_dte = world.on_line(Direction::ToDte);
-    (to_dce, to_dte)
-}
-
 /// The frame at this place on the line in this direction.
 pub fn frame(world: &World, direction: Direction, place: usize) -> Option<&[u8]> {
     world.frame(direction, place)
-}
-
-/// Whether timer T1 runs at this end.
-pub fn timer_runs(world: &World, role: Role) -> bool {
-    world.station(role).timer_runs()
 }

@@ -1,4 +1,4 @@
-//! Tests of `x25_world`: worked runs of two stations over a line, refusals, and many lists of events.
+//! Tests of `x25_world`: what no script of `sim` shows of it; `tests/golden` and `tests/tools` have the others.
 #![tactic(auto)]
 
 #[cfg(test)]
@@ -6,18 +6,8 @@ mod bit_damage;
 #[cfg(test)]
 mod calls;
 #[cfg(test)]
-mod handed;
-#[cfg(test)]
 mod healing;
-#[cfg(test)]
-mod kept;
-#[cfg(test)]
-mod lists;
-#[cfg(test)]
-mod play;
 #[cfg(test)]
 mod refusals;
 #[cfg(test)]
-mod rows;
-#[cfg(test)]
-mod set_ups;
+mod set_up;

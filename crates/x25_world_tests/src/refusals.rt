@@ -1,7 +1,6 @@
 //! Refusals: their numbers, settings, and which event of a list is refused.
 
-use crate::calls::{establish, number_of, start, step};
-use crate::play::USUAL;
+use crate::calls::{USUAL, establish, number_of, start, step};
 use std::alloc::Global;
 use std::process::Abort;
 use std::test::Fail;

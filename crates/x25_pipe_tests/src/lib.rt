@@ -1,7 +1,0 @@
-//! Tests of `x25_pipe`, over readers and writers in memory.
-#![tactic(auto)]
-
-#[cfg(test)]
-mod faults;
-#[cfg(test)]
-mod sessions;
