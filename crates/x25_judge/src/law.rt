@@ -20,8 +20,8 @@ pub fn set_ups_begin()
 /// An end that keeps the rules of docs/PEER.md, and whose numbers go one by one when they go for the first time, is
 /// told of by no rule of order of the link layer: an N(R) that acknowledges what was never sent or falls, other octets
 /// in an I frame that goes again, more than seven I frames unacknowledged. That holds whatever the other end sends,
-/// whether it keeps any rule or not, and whatever of it comes, is heard or taken, from a set-up on to the next frame
-/// without a number, where no line is damaged.
+/// whether it keeps any rule or not, whatever of it comes, is heard or taken, and whichever of its lines are damaged,
+/// from a set-up on to the next frame without a number.
 pub fn innocents_stay_untold()
     ensures { NoInnocentIsAccused }
 {}
@@ -35,9 +35,10 @@ pub fn stations_stay_untold()
     innocents_stay_untold();
 }
 
-/// From a set-up on to the next frame without a number, of a trace taken in front of a station: as long as no rule is
-/// told of either end, what the station handed up is a beginning of what the I frames of the other end carry, each
-/// number once. That end may be any, and anything may be lost or damaged between the trace and the station.
+/// From a set-up on to the next frame without a number, of a trace taken in front of a station: as long as no line is
+/// damaged and no rule is told of either end, what the station handed up is a beginning of what the I frames of the
+/// other end carry, each number once. That end may be any, and anything may be lost or damaged between the trace and
+/// the station.
 pub fn silence_means_order()
     ensures { SilenceMeansOrder }
 {

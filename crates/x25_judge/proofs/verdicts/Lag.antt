@@ -141,6 +141,12 @@ one_more from left back frame octets reads (lost f l b h) = lost f (l ++ frame �
 one_more from left back frame octets reads (there f l o b is h) = there f (l ++ frame ∷ []) o (b ++ octets ∷ []) is (one_more from l b frame octets reads h)
 one_more from left back frame octets reads (damaged l o b e is h) = damaged (left ++ frame ∷ []) o (b ++ octets ∷ []) e is (one_more from left b frame octets reads h)
 
+pub one_failed : (from : Role) (left : List PlainFrame) (back : List (List ℕ)) (octets : List ℕ) (e : FrameError) → frame_of from n1 octets ≡ Err e → OnLine from left back → OnLine from left (back ++ octets ∷ [])
+one_failed from left back octets e reads empty = damaged [] octets [] e reads empty
+one_failed from left back octets e reads (lost f l b h) = lost f l (back ++ octets ∷ []) (one_failed from l back octets e reads h)
+one_failed from left back octets e reads (there f l o b is h) = there f l o (b ++ octets ∷ []) is (one_failed from l b octets e reads h)
+one_failed from left back octets e reads (damaged l o b x is h) = damaged left o (b ++ octets ∷ []) x is (one_failed from left b octets e reads h)
+
 pub one_lost : (from : Role) (left : List PlainFrame) (back : List (List ℕ)) (i : ℕ) → OnLine from left back → OnLine from left (remove back i)
 one_lost from left back zero empty = empty
 one_lost from left back (suc i) empty = empty
@@ -165,6 +171,9 @@ one_damaged from left back i octets visible h = go (visible_reads from n1 octets
     go : ((frame_of from n1 octets ≡ Err Short) ⊎ (frame_of from n1 octets ≡ Err BadFcs)) → OnLine from left (replaced back i octets)
     go (inl short) = one_replaced from octets Short short left back i h
     go (inr bad) = one_replaced from octets BadFcs bad left back i h
+
+pub one_more_damaged : (from : Role) (left : List PlainFrame) (back : List (List ℕ)) (octets : List ℕ) → is_visible octets ≡ true → OnLine from left back → OnLine from left (back ++ octets ∷ [])
+one_more_damaged from left back octets visible h = elim (visible_reads from n1 octets visible) [ inl short ↦ one_failed from left back octets Short short h | inr bad ↦ one_failed from left back octets BadFcs bad h ]
 
 -- ---- the front octets come to it
 

@@ -32,10 +32,10 @@ use Rattle.x25_line.proofs.StationSays.{machine_of, AllFree, parting_free, frmr_
 use Rattle.x25_line.proofs.StationSends.{AllWithin, within_push, Item, item_at, tell_good, send_good, not_none}
 use Rattle.x25_line.proofs.StationSteps.{MayBeAway, AsUp, IsAway, FitsEnd, Leaves, empty_lists}
 use Rattle.x25_judge.specs.declared.judge.Judge.{Judge}
-use Rattle.x25_judge.specs.laws.Keeping.{MaySend, MayBe, Begins as first, Sends, Shown}
+use Rattle.x25_judge.specs.laws.Keeping.{MaySend, MayBe, Begins as first, Sends, Shown, Fails as Missed}
 use Rattle.x25_judge.specs.laws.VerdictClaims.{NoInnocentIsAccused, NoStationIsAccused}
-use Rattle.x25_judge.specs.laws.Watching.{Watched, our_end, IsAny, Begins, Acts, Says, Comes}
-use Rattle.x25_judge.proofs.verdicts.Lag.{Did, did_nothing, was_given, said, freed, comes_behind, front, OnLine, empty, one_more, one_lost, one_damaged, passes, taken}
+use Rattle.x25_judge.specs.laws.Watching.{Watched, our_end, IsAny, Begins, Acts, Says, Comes, Fails}
+use Rattle.x25_judge.proofs.verdicts.Lag.{Did, did_nothing, was_given, said, freed, comes_behind, front, OnLine, empty, one_more, one_more_damaged, one_lost, one_damaged, passes, taken}
 
 -- the frame of the machine is shown by one frame alone
 record Single (fs : List PlainFrame) (g : Frame (List ℕ)) : Type 0 where
@@ -461,6 +461,21 @@ module _ (c : Settings) (high : c.window ≤ 7) (longest : c.longest ≡ n1) (re
         left = k.left ++ frame ∷ [];
         did = comes_behind c.role k.before k.way k.peer k.left v.out frame k.did;
         line = one_more (other c.role) k.left v.back frame octets shows.reads k.line;
+        fits = k.fits;
+        room = k.room;
+        told = k.told;
+        within = k.within;
+      }
+  watched w (Fails v line octets damage broken passes h) once =
+      let k = watched v h once in
+      record {
+        before = k.before;
+        way = k.way;
+        may = Missed v.judge k.before k.way line octets broken k.may;
+        peer = k.peer;
+        left = k.left;
+        did = k.did;
+        line = one_more_damaged (other c.role) k.left v.back octets broken.visible k.line;
         fits = k.fits;
         room = k.room;
         told = k.told;
