@@ -84,7 +84,7 @@ pub extern "C" fn x25_new(
     long_data: bool,
 ) -> u32
     ensures { Makes slot.old.handle.held slot.new.handle.held result end
-        (record { k = k; n2 = n2; channels = channels; long_data = long_data; say_sizes = false }) }
+        (record { k = k; n2 = n2; channels = channels; long_data = long_data; say_sizes = false; wide = false }) }
 {
     if slot.is_open {
         return IN_USE;
@@ -95,6 +95,7 @@ pub extern "C" fn x25_new(
         channels,
         long_data,
         say_sizes: false,
+        wide: false,
     };
     match make(alloc, end, cfg) {
         Ok(held) => {

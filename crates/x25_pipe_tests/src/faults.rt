@@ -8,6 +8,7 @@ const USUAL: Cfg = Cfg {
     channels: 1,
     long_data: false,
     say_sizes: false,
+    wide: false,
 };
 
 const INPUT: &str = "dte connect\nx\n< 01738357\nx\n";

@@ -10,6 +10,7 @@ const USUAL: Cfg = Cfg {
     channels: 1,
     long_data: false,
     say_sizes: false,
+    wide: false,
 };
 
 const ROWS: [Row; 5] = [

@@ -8,6 +8,7 @@ const USUAL: Cfg = Cfg {
     channels: 1,
     long_data: false,
     say_sizes: false,
+    wide: false,
 };
 
 const SCRIPT: &str = "drain 9\nx\ndte call 1 2 -\ndte accept 1\n";

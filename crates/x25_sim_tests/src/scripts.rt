@@ -10,6 +10,7 @@ const USUAL: Cfg = Cfg {
     channels: 1,
     long_data: false,
     say_sizes: false,
+    wide: false,
 };
 
 const ROWS: [Row; 5] = [
@@ -99,6 +100,7 @@ fn keeps_to_its_settings(rt: HostRuntime) -> Result<(), Fail> {
         channels: 1,
         long_data: false,
         say_sizes: false,
+        wide: false,
     };
     let script = "lose > 0\nt1 dte\nt1 dte\ndte call 1 2 -\n";
     let mut reader = Device::new(script.as_bytes());

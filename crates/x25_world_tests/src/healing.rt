@@ -18,6 +18,7 @@ const WINDOW_OF_ONE: Cfg = Cfg {
     channels: 1,
     long_data: false,
     say_sizes: false,
+    wide: false,
 };
 
 const FIVE_CHANNELS: Cfg = Cfg {
@@ -26,6 +27,7 @@ const FIVE_CHANNELS: Cfg = Cfg {
     channels: 5,
     long_data: false,
     say_sizes: false,
+    wide: false,
 };
 
 const CALLS: Event = Command(

@@ -72,6 +72,7 @@ fn settings(numbers: &mut Numbers) -> Cfg {
         channels: numbers.up_to(3),
         long_data: false,
         say_sizes: false,
+        wide: false,
     }
 }
 

@@ -15,6 +15,7 @@ pub const USUAL: Cfg = Cfg {
     channels: 1,
     long_data: false,
     say_sizes: false,
+    wide: false,
 };
 
 pub const ONE_TRY: Cfg = Cfg {
@@ -23,6 +24,7 @@ pub const ONE_TRY: Cfg = Cfg {
     channels: 1,
     long_data: false,
     say_sizes: false,
+    wide: false,
 };
 
 /// What is played.

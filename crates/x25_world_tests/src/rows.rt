@@ -18,6 +18,7 @@ const THREE_CHANNELS: Cfg = Cfg {
     channels: 3,
     long_data: false,
     say_sizes: false,
+    wide: false,
 };
 
 const CALLS: Act = Do(Command(

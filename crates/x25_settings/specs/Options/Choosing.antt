@@ -7,7 +7,7 @@ use Rattle.x25_settings.specs.declared.options.Chosen.{Chosen}
 use Rattle.x25_settings.specs.declared.options.End.{End}
 use Rattle.x25_settings.specs.declared.options.End.TheVariants.{Dte, Dce}
 use Rattle.x25_settings.specs.declared.options.Flag.{Flag}
-use Rattle.x25_settings.specs.declared.options.Flag.TheVariants.{Down, Long, SaySizes, Tap, Strict}
+use Rattle.x25_settings.specs.declared.options.Flag.TheVariants.{Down, Long, SaySizes, Tap, Strict, Wide}
 use Rattle.x25_settings.specs.declared.options.Numbered.{Numbered}
 use Rattle.x25_settings.specs.declared.options.Numbered.TheVariants.{Window, Tries, Channels}
 use Rattle.x25_settings.specs.declared.options.Judging.{Judging}
@@ -23,7 +23,8 @@ flag_in word = if bytes_eq word (codes "--down") then Some Down
     else if bytes_eq word (codes "--long") then Some Long
     else if bytes_eq word (codes "--say-sizes") then Some SaySizes
     else if bytes_eq word (codes "--tap") then Some Tap
-    else if bytes_eq word (codes "--strict") then Some Strict else None
+    else if bytes_eq word (codes "--strict") then Some Strict
+    else if bytes_eq word (codes "--wide") then Some Wide else None
 
 abbrev pub numbered_in : List ℕ → Option Numbered
 numbered_in word = if bytes_eq word (codes "--k") then Some Window
@@ -90,8 +91,8 @@ station_in (word ∷ words) = place_in words (end_in word)
 
 -- `--k`, `--long` and `--strict` alone are of `judge`
 abbrev pub judging_of : Chosen → Option Judging
-judging_of c = if (c.down || c.tap) || c.say_sizes then None else if is_some c.n2 || is_some c.channels then None
-    else Some (judging_in c)
+judging_of c = if (c.down || c.tap) || (c.say_sizes || c.wide) then None
+    else if is_some c.n2 || is_some c.channels then None else Some (judging_in c)
 
 -- the words behind `judge`
 abbrev pub judge_in : List (List ℕ) → Option Judging
