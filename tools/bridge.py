@@ -41,7 +41,8 @@ that probability; without frame check sequence a damaged frame can't be sent, an
 command is left: what was sent arrives then, as long as T1 has tries left, which --n2 gives. --short-accept reads a CALL ACCEPTED with
 both of its lengths, 0, as the same without them, which is all that `x25` takes; Linux writes it so. --trace has frames as the line has
 them: those that the station sent, before they are lost here, and those that came, before that and before --short-accept. So where one of
-two bridges alone has --lose, its trace is whole.
+two bridges alone has --lose, its trace is whole. The station reads packets in other forms than it writes too (`x25 station --wide`), as
+other equipment sends them; with --no-wide it doesn't, nor with --library.
 
 Exit status: 0; 1 where a command was refused or was none, the line ended before all was done, or nobody reads notices any more; 2 for
 bad words, or anything else that stops the bridge, which standard error names; 130 behind CTRL-C and 143 behind SIGTERM.
@@ -481,13 +482,14 @@ def add_station_words(parser):
     parser.add_argument("--n2", type=within(int, 1, 255), metavar="N", help="how often a command is sent again, 1 to 255 (10)")
     parser.add_argument("--channels", type=within(int, 1, MOST_CHANNELS), default=1, metavar="N", help="logical channels, 1 to 16 (1)")
     parser.add_argument("--long", action="store_true", help="a call may have up to 128 octets of user data")
+    parser.add_argument("--no-wide", dest="wide", action="store_false", help="read packets only in the form that a station writes")
     decoding.add_program(parser)
 
 
 def station_words(options):
     """The words that the station gets behind its end."""
     given = [(f"--{name}", str(getattr(options, name))) for name in ("k", "n2", "channels") if getattr(options, name) is not None]
-    flags = {"--long": options.long, "--say-sizes": is_xot(options)}
+    flags = {"--long": options.long, "--say-sizes": is_xot(options), "--wide": options.wide}
     return [word for pair in given for word in pair] + [word for word, is_asked in flags.items() if is_asked]
 
 

@@ -495,6 +495,13 @@ class Joined(ToolCase):
         self.sends(line(sealed(LONG)))
         self.assertEqual(self.end()[0], 0)
 
+    def test_words_of_the_station(self):
+        for words, given in ((["--k", "3", "--long"], ["--k", "3", "--channels", "1", "--long", "--wide"]), (["--no-wide"], ["--channels", "1"])):
+            parser = argparse.ArgumentParser()
+            bridge.add_station_words(parser)
+            bridge.add_line_words(parser)
+            self.assertEqual(bridge.station_words(parser.parse_args(["dte", *words])), given)
+
     def test_trace_and_stats(self):
         trace = os.path.join(self.folder, "trace")
         self.begin(f". off busy\n= dte connect\n{SABM}\n. start busy\n= {UA}\ndte linkup\n. off idle\n", "--trace", trace, "--stats", "--t1", "60", user=b"dte connect\n")

@@ -49,9 +49,10 @@ again_place words p say =
 again_judging : (words : List (List ℕ)) (g : Judging) → SayJudging words g → judge_in words ≡ Some g
 again_judging words g say =
     ap (option_and_then judging_of) (read words say.end say.choose)
-    ∙ ap (λ b. cond ((b || say.end.tap) || say.end.say_sizes) None (cond (is_some say.end.n2 || is_some say.end.channels) None (Some (judging_in say.end)))) say.no_down
-    ∙ ap (λ b. cond (b || say.end.say_sizes) None (cond (is_some say.end.n2 || is_some say.end.channels) None (Some (judging_in say.end)))) say.no_tap
-    ∙ ap (λ b. cond b None (cond (is_some say.end.n2 || is_some say.end.channels) None (Some (judging_in say.end)))) say.no_say
+    ∙ ap (λ b. cond ((b || say.end.tap) || (say.end.say_sizes || say.end.wide)) None (cond (is_some say.end.n2 || is_some say.end.channels) None (Some (judging_in say.end)))) say.no_down
+    ∙ ap (λ b. cond (b || (say.end.say_sizes || say.end.wide)) None (cond (is_some say.end.n2 || is_some say.end.channels) None (Some (judging_in say.end)))) say.no_tap
+    ∙ ap (λ b. cond (b || say.end.wide) None (cond (is_some say.end.n2 || is_some say.end.channels) None (Some (judging_in say.end)))) say.no_say
+    ∙ ap (λ b. cond b None (cond (is_some say.end.n2 || is_some say.end.channels) None (Some (judging_in say.end)))) say.no_wide
     ∙ ap (λ n. cond (is_some n || is_some say.end.channels) None (Some (judging_in say.end))) say.no_tries
     ∙ ap (λ n. cond (is_some n) None (Some (judging_in say.end))) say.no_channels
     ∙ ap (λ q. Some q) (sym say.same)
@@ -167,20 +168,21 @@ found_station : (word : List ℕ) (words : List (List ℕ)) (task : Task) → wo
 found_station word words task is None reads e = absurd (cc)
 found_station word words task is (Some p) reads e = given (word ∷ words) (Station p) task e (words, ap (λ w. w ∷ words) is, found_place words p reads)
 
-judging_found : (words : List (List ℕ)) (c : Chosen) (g : Judging) → Choose words c → (down tap say : Bool) (n2 channels : Option ℕ) → c.down ≡ down → c.tap ≡ tap → c.say_sizes ≡ say → c.n2 ≡ n2
-    → c.channels ≡ channels → cond ((down || tap) || say) None (cond (is_some n2 || is_some channels) None (Some (judging_in c))) ≡ Some g → SayJudging words g
-judging_found words c g chosen true tap say n2 channels no_down no_tap no_say no_tries no_channels e = absurd (cc)
-judging_found words c g chosen false true say n2 channels no_down no_tap no_say no_tries no_channels e = absurd (cc)
-judging_found words c g chosen false false true n2 channels no_down no_tap no_say no_tries no_channels e = absurd (cc)
-judging_found words c g chosen false false false (Some n) channels no_down no_tap no_say no_tries no_channels e = absurd (cc)
-judging_found words c g chosen false false false None (Some n) no_down no_tap no_say no_tries no_channels e = absurd (cc)
-judging_found words c g chosen false false false None None no_down no_tap no_say no_tries no_channels e =
+judging_found : (words : List (List ℕ)) (c : Chosen) (g : Judging) → Choose words c → (down tap say wide : Bool) (n2 channels : Option ℕ) → c.down ≡ down → c.tap ≡ tap → c.say_sizes ≡ say → c.wide ≡ wide → c.n2 ≡ n2
+    → c.channels ≡ channels → cond ((down || tap) || (say || wide)) None (cond (is_some n2 || is_some channels) None (Some (judging_in c))) ≡ Some g → SayJudging words g
+judging_found words c g chosen true tap say wide n2 channels no_down no_tap no_say no_wide no_tries no_channels e = absurd (cc)
+judging_found words c g chosen false true say wide n2 channels no_down no_tap no_say no_wide no_tries no_channels e = absurd (cc)
+judging_found words c g chosen false false true wide n2 channels no_down no_tap no_say no_wide no_tries no_channels e = absurd (cc)
+judging_found words c g chosen false false false true n2 channels no_down no_tap no_say no_wide no_tries no_channels e = absurd (cc)
+judging_found words c g chosen false false false false (Some n) channels no_down no_tap no_say no_wide no_tries no_channels e = absurd (cc)
+judging_found words c g chosen false false false false None (Some n) no_down no_tap no_say no_wide no_tries no_channels e = absurd (cc)
+judging_found words c g chosen false false false false None None no_down no_tap no_say no_wide no_tries no_channels e =
     subst (SayJudging words) (same_Some (judging_in c) g e)
-    (record { end = c; choose = chosen; no_down = no_down; no_tap = no_tap; no_say = no_say; no_tries = no_tries; no_channels = no_channels; same = refl })
+    (record { end = c; choose = chosen; no_down = no_down; no_tap = no_tap; no_say = no_say; no_wide = no_wide; no_tries = no_tries; no_channels = no_channels; same = refl })
 
 judging_chosen : (words : List (List ℕ)) (g : Judging) → (o : Option Chosen) → chosen_in nothing words ≡ o → option_and_then judging_of o ≡ Some g → SayJudging words g
 judging_chosen words g None reads e = absurd (cc)
-judging_chosen words g (Some c) reads e = judging_found words c g (found words c reads) c.down c.tap c.say_sizes c.n2 c.channels refl refl refl refl refl e
+judging_chosen words g (Some c) reads e = judging_found words c g (found words c reads) c.down c.tap c.say_sizes c.wide c.n2 c.channels refl refl refl refl refl refl e
 
 found_judge : (word : List ℕ) (words : List (List ℕ)) (task : Task) → word ≡ codes "judge" → (o : Option Judging) → judge_in words ≡ o
     → option_map (λ g. Judge g) o ≡ Some task → Say (word ∷ words) task

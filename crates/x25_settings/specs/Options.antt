@@ -203,6 +203,7 @@ settled c = record {
   down = c.down;
   long = c.long;
   say_sizes = c.say_sizes;
+  wide = c.wide;
   tap = c.tap;
   k = chosen_or_default c Window;
   n2 = chosen_or_default c Tries;
@@ -214,6 +215,7 @@ settled_at end c = record {
   end = end;
   long = c.long;
   say_sizes = c.say_sizes;
+  wide = c.wide;
   k = chosen_or_default c Window;
   n2 = chosen_or_default c Tries;
   channels = chosen_or_default c Channels;
@@ -254,6 +256,7 @@ pub record SayJudging (words : List (List ℕ)) (g : Judging) : Type 0 where
   pub no_down : end.down ≡ false
   pub no_tap : end.tap ≡ false
   pub no_say : end.say_sizes ≡ false
+  pub no_wide : end.wide ≡ false
   pub no_tries : end.n2 ≡ None
   pub no_channels : end.channels ≡ None
   pub same : g ≡ judging_in end

@@ -19,6 +19,8 @@ pub struct Simulation {
     pub long: bool,
     /// Calls and acceptances say packet sizes and windows also where they are the default.
     pub say_sizes: bool,
+    /// Packets are read in all the forms that a peer may send.
+    pub wide: bool,
     /// The frames of each step are written behind its entries.
     pub tap: bool,
     /// The window of the link, 1 to 7.
@@ -45,6 +47,8 @@ pub struct Place {
     pub long: bool,
     /// Calls and acceptances say packet sizes and windows also where they are the default.
     pub say_sizes: bool,
+    /// Packets are read in all the forms that a peer may send.
+    pub wide: bool,
     /// The window of the link, 1 to 7.
     pub k: u8,
     /// How often a command of the link that isn't answered is sent again, 1 to 255.
@@ -284,6 +288,7 @@ impl Chosen {
             end,
             long: rest.long,
             say_sizes: rest.say_sizes,
+            wide: rest.wide,
             k: rest.k,
             n2: rest.n2,
             channels: rest.channels,
@@ -294,7 +299,7 @@ impl Chosen {
     fn judging(self) -> Option<Judging>
         ensures { result ≡ judging_of self }
     {
-        if (self.down || self.tap) || self.say_sizes {
+        if (self.down || self.tap) || (self.say_sizes || self.wide) {
             return None;
         }
         match (self.n2, self.channels) {
@@ -319,6 +324,7 @@ impl Chosen {
             down: self.down,
             long: self.long,
             say_sizes: self.say_sizes,
+            wide: self.wide,
             tap: self.tap,
             k: self.k.unwrap_or(Numbered::Window.usual()),
             n2: self.n2.unwrap_or(Numbered::Tries.usual()),

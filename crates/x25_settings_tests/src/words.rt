@@ -5,6 +5,7 @@ const DEFAULTS: Simulation = Simulation {
     down: false,
     long: false,
     say_sizes: false,
+    wide: false,
     tap: false,
     k: 7,
     n2: 10,
@@ -15,6 +16,7 @@ const PLACE: Place = Place {
     end: End::Dte,
     long: false,
     say_sizes: false,
+    wide: false,
     k: 7,
     n2: 10,
     channels: 1,
@@ -22,7 +24,7 @@ const PLACE: Place = Place {
 
 #[test]
 fn takes_plain_words_alone(rt: HostRuntime) {
-    let plain: [(&[&str], Task); 24] = [
+    let plain: [(&[&str], Task); 26] = [
         (
             &["decode"],
             Task::Decode {
@@ -82,6 +84,13 @@ fn takes_plain_words_alone(rt: HostRuntime) {
             }),
         ),
         (
+            &["sim", "--wide"],
+            Task::Sim(Simulation {
+                wide: true,
+                ..DEFAULTS
+            }),
+        ),
+        (
             &["sim", "--n2", "1"],
             Task::Sim(Simulation { n2: 1, ..DEFAULTS }),
         ),
@@ -102,6 +111,7 @@ fn takes_plain_words_alone(rt: HostRuntime) {
                 down: true,
                 long: true,
                 say_sizes: false,
+                wide: false,
                 tap: true,
                 k: 1,
                 n2: 255,
@@ -159,6 +169,13 @@ fn takes_plain_words_alone(rt: HostRuntime) {
             &["station", "dte", "--say-sizes"],
             Task::Station(Place {
                 say_sizes: true,
+                ..PLACE
+            }),
+        ),
+        (
+            &["station", "dte", "--wide"],
+            Task::Station(Place {
+                wide: true,
                 ..PLACE
             }),
         ),

@@ -288,9 +288,9 @@ impl Station {
             ≡ requests c s (Asks channel (Accepts result)) }
     {
         if let Some(params) = params {
-            return Some(Proposal::new(params, self.say_sizes));
+            return Some(Proposal::new(params, self.manner.say_sizes));
         }
-        if !self.say_sizes {
+        if !self.manner.say_sizes {
             return None;
         }
         let Some(proposed) = self.layer.params(channel) else {
@@ -321,7 +321,7 @@ impl Station {
         ensures { (c : Settings) (s : State) → FitsStation c self.now s
             → proposal_said c.say_sizes (in_brief params) ≡ result }
     {
-        Proposal::new(params, self.say_sizes)
+        Proposal::new(params, self.manner.say_sizes)
     }
 
     // A call, on a channel that is free.

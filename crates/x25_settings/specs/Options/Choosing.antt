@@ -91,8 +91,8 @@ station_in (word ∷ words) = place_in words (end_in word)
 
 -- `--k`, `--long`, `--strict` and `--wide` alone are of `judge`
 abbrev pub judging_of : Chosen → Option Judging
-judging_of c = if (c.down || c.tap) || c.say_sizes then None else if is_some c.n2 || is_some c.channels then None
-    else Some (judging_in c)
+judging_of c = if (c.down || c.tap) || (c.say_sizes || c.wide) then None
+    else if is_some c.n2 || is_some c.channels then None else Some (judging_in c)
 
 -- the words behind `judge`
 abbrev pub judge_in : List (List ℕ) → Option Judging
