@@ -7,6 +7,7 @@ ghost use Rattle.x25_world.specs.laws.SessionClaims.{SessionsKeepOrder};
 ghost use Rattle.x25_joined.specs.laws.BesidePeerClaims.{OfProgram};
 ghost use Rattle.x25_joined.specs.laws.JoinedClaims.{AreLawful, AreWorlds, Arrive, OfPrograms, OfProgramsUpOnce};
 ghost use Rattle.x25_joined.specs.laws.JoinedClaims.{UntilSecondUp};
+ghost use Rattle.x25_joined.specs.rows.BesidePeerRows.{CallIsReported};
 ghost use Rattle.x25_joined.specs.rows.JoinedRows.{FiringHasToWait, LinkIsSetUp, LostSabmGoesAgain, MessageArrives};
 ghost use Rattle.x25_joined.specs.rows.JoinedRows.{OtherLinesDoNothing};
 
@@ -84,6 +85,11 @@ pub fn any_peer_keeps_programs()
     lines_are_in_octets();
     any_peer_keeps_stations_over_sessions();
 }
+
+/// A worked row: a program and a peer set the link up, the peer confirms its RESTART and calls, and that is reported.
+pub fn programs_move_beside_peers()
+    ensures { CallIsReported }
+{}
 
 /// Worked rows, each a history that may happen: what two programs read and write as the link is set up, and as SABM is
 /// lost, or damaged, and goes again when timer T1 runs out, which has to wait while SABM is on the line; lines that do

@@ -7,6 +7,6 @@
 mod law;
 
 pub use law::{
-    any_peer_keeps_programs, programs_meet_in_sessions, programs_move, two_programs_are_a_world,
-    two_programs_keep_order,
+    any_peer_keeps_programs, programs_meet_in_sessions, programs_move, programs_move_beside_peers,
+    two_programs_are_a_world, two_programs_keep_order,
 };
