@@ -1,4 +1,4 @@
-use Rattle.std.proofs.Common.{◌+◌, ◌≤◌, arith}
+use Rattle.std.proofs.Common.{◌≤◌, arith}
 use Rattle.x25_station.specs.laws.OctetLaw.{octets_held}
 use Rattle.x25_world.proofs.law.worlds_hold_few.Goals as goal
 
