@@ -1,11 +1,10 @@
 -- What a station answers to a command, by what its layer answers.
-use Rattle.std.proofs.Common.{◌≡◌, ℕ, List, [], map, Option, Some, None, Result, Ok, Err, Bool, true, false, ◌==◌, if◌then◌else◌, IfSome, inl, refl, ap, sym, subst, ◌∙◌}
+use Rattle.std.proofs.Common.{◌≡◌, ℕ, List, [], map, Option, Some, None, Result, Ok, Err, Bool, true, false, ◌==◌, if◌then◌else◌, inl, refl, ap, sym, subst, ◌∙◌}
 use Rattle.x25_circuit.specs.Params.{Proposal}
 use Rattle.x25_packet.specs.Packet.{PlainPacket}
 use Rattle.x25_link.specs.Station.{Settings as LinkSettings, LinkStation, Side}
 use Rattle.x25_link.specs.Link.{alone}
 use Rattle.x25_link.specs.code.FitsLink.{ShownLink, LinkState, FitsWhole, FitsLink, up_at, waits_of, after_put_to}
-use Rattle.x25_circuit.specs.declared.params.Params.{Params}
 use Rattle.x25_circuit.specs.Circuit.{Circuit}
 use Rattle.x25_circuit.specs.Calling as circuit
 use Rattle.x25_layer.specs.declared.layer.Layer as layer_code
@@ -13,7 +12,7 @@ use Rattle.x25_layer.specs.declared.error.LayerError.{LayerError}
 use Rattle.x25_layer.specs.declared.error.LayerError.TheVariants as layer_error
 use Rattle.x25_layer.specs.Layer.{LayerSettings, Layer, is_channel}
 use Rattle.x25_layer.specs.Calls.{LayerRequest, Asks, Dials, Restarts, PullsAll, LayerOutcome, Accepted, Declined, layer_outcome, outcome_in, outcome_ready, outcome_on, where_room, if_at_once, puts_at_once, dialled, free_channel}
-use Rattle.x25_layer.specs.Rounds.{LinkView, Putting, Answered, Went, Refuses, went, calls}
+use Rattle.x25_layer.specs.Rounds.{LinkView, Putting, Answered, Went, Refuses, went, calls, refusal_of}
 use Rattle.x25_layer.specs.code.OverLink as over
 use Rattle.x25_layer.specs.code.OverLink.{after_all, LayerGives, LinkGives}
 use Rattle.x25_layer.specs.code.FitsLayer.{FitsLayer}
@@ -24,7 +23,7 @@ use Rattle.x25_station.specs.Error.{of_layer}
 use Rattle.x25_station.specs.Config.{Settings, link_settings, layer_settings}
 use Rattle.x25_station.specs.Entry.{StationEntry}
 use Rattle.x25_station.specs.Station.{Station, all_put, view_of, waiting_after}
-use Rattle.x25_station.specs.Step.{Outcome, Refused, did, requests, entries_of_outcome}
+use Rattle.x25_station.specs.Step.{Outcome, did, requests, entries_of_outcome}
 use Rattle.x25_station.specs.laws.KeepLaw.{KeptBy}
 use Rattle.x25_station.specs.code.PlainEntry.{plain_entry}
 use Rattle.x25_station.specs.code.FitsParts.{FitsParts}
@@ -134,6 +133,12 @@ calls_named view c l request = test view.is_up
     test : (b : Bool) → IsNamed (if b then went view c (layer_outcome c (view.waits [] == 256) l request) else Refuses layer_error.NotUp)
     test true = goes (layer_outcome c (view.waits [] == 256) l request) (outcome_named c (view.waits [] == 256) l.restarting l.restarts l.circuits request)
     test false = refl
+
+-- ---- a call that the layer would refuse
+
+pub refuses_early : (T : Type 0) (c : LayerSettings) (z : layer_code.Layer) (e : LayerError) (a : Answered) → Some e ≡ refusal_of a → LayerGives {T = T} c z (Err e) a
+refuses_early T c z e (Went p) is = cc
+refuses_early T c z e (Refuses f) is = cc
 
 -- ---- the calls, by the layer's clauses
 
