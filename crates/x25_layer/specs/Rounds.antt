@@ -74,6 +74,11 @@ abbrev pub calls : LinkView → LayerSettings → Layer → LayerRequest → Ans
 calls link c l request = if link.is_up then went link c (layer_outcome c (link.waits [] == 256) l request)
     else Refuses error.NotUp
 
+-- why it is refused, if it is
+abbrev pub refusal_of : Answered → Option LayerError
+refusal_of (Went step) = None
+refusal_of (Refuses e) = Some e
+
 -- ---- what the link hands up or notes
 
 pub record Heard : Type 0 where

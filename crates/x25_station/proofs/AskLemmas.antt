@@ -12,7 +12,7 @@ use Rattle.x25_layer.specs.declared.error.LayerError.{LayerError}
 use Rattle.x25_layer.specs.declared.error.LayerError.TheVariants as layer_error
 use Rattle.x25_layer.specs.Layer.{LayerSettings, Layer, is_channel}
 use Rattle.x25_layer.specs.Calls.{LayerRequest, Asks, Dials, Restarts, PullsAll, LayerOutcome, Accepted, Declined, layer_outcome, outcome_in, outcome_ready, outcome_on, where_room, if_at_once, puts_at_once, dialled, free_channel}
-use Rattle.x25_layer.specs.Rounds.{LinkView, Putting, Answered, Went, Refuses, went, calls}
+use Rattle.x25_layer.specs.Rounds.{LinkView, Putting, Answered, Went, Refuses, went, calls, refusal_of}
 use Rattle.x25_layer.specs.code.OverLink as over
 use Rattle.x25_layer.specs.code.OverLink.{after_all, LayerGives, LinkGives}
 use Rattle.x25_layer.specs.code.FitsLayer.{FitsLayer}
@@ -134,6 +134,12 @@ calls_named view c l request = test view.is_up
     test : (b : Bool) → IsNamed (if b then went view c (layer_outcome c (view.waits [] == 256) l request) else Refuses layer_error.NotUp)
     test true = goes (layer_outcome c (view.waits [] == 256) l request) (outcome_named c (view.waits [] == 256) l.restarting l.restarts l.circuits request)
     test false = refl
+
+-- ---- a call that the layer would refuse
+
+pub refuses_early : (T : Type 0) (c : LayerSettings) (z : layer_code.Layer) (e : LayerError) (a : Answered) → Some e ≡ refusal_of a → LayerGives {T = T} c z (Err e) a
+refuses_early T c z e (Went p) is = cc
+refuses_early T c z e (Refuses f) is = cc
 
 -- ---- the calls, by the layer's clauses
 

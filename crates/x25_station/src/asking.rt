@@ -339,6 +339,12 @@ impl Station {
     {
         steps_keep_bounds();
         holds_few();
+        if let Some(error) = self
+            .layer
+            .call_refusal(&self.link, called, calling, user, proposal)
+        {
+            return Err(StationError::of_layer(error));
+        }
         let asked = asked_call(self.alloc, called, calling, user, proposal.params())?;
         out.make_room()?;
         match self
@@ -368,6 +374,9 @@ impl Station {
     {
         steps_keep_bounds();
         holds_few();
+        if let Some(error) = self.layer.refusal(&self.link, channel, &request) {
+            return Err(StationError::of_layer(error));
+        }
         out.make_room()?;
         let asked = asked_of(self.alloc, &mut self.messages, &request)?;
         match self.layer.ask(&mut self.link, channel, request) {
