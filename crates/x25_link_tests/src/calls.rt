@@ -4,12 +4,10 @@ use std::alloc::Global;
 use x25_bits::Role;
 use x25_link::{Heard, Link, LinkError, OrderedLink, PlainLink};
 
-// A link in a place of its own: a body that holds the box lets go of it by one call, and not of each part of the link.
-fn boxed(alloc: Global, link: Link) -> Result<Box<Link>, LinkError> {
-    match Box::new(alloc, link) {
-        Ok(boxed) => Ok(boxed),
-        Err(_) => Err(LinkError::NoMemory),
-    }
+// A value in a place of its own: a body that holds the box lets go of it by one call, and not of each part of the
+// value, and so does one that doesn't know what it is.
+fn boxed<T: Drop>(alloc: Global, value: T) -> Option<Box<T>> {
+    Box::new(alloc, value).ok()
 }
 
 /// A link just made, for packets of at most so many octets.
@@ -20,7 +18,7 @@ pub fn link_for(
     longest: usize,
     n2: u8,
 ) -> Result<Box<Link>, LinkError> {
-    boxed(alloc, Link::new(alloc, role, k, longest, n2)?)
+    boxed(alloc, Link::new(alloc, role, k, longest, n2)?).ok_or(LinkError::NoMemory)
 }
 
 /// A link just made, for packets of at most 4,099 octets.

@@ -4,18 +4,15 @@
 use std::alloc::Global;
 use x25_station::{Cfg, Cmd, Role, Station, StationError, Step};
 
-// A station in a place of its own: a body that holds the box lets go of it by one call, and not of each part of the
-// station.
-fn boxed(alloc: Global, station: Station) -> Result<Box<Station>, StationError> {
-    match Box::new(alloc, station) {
-        Ok(boxed) => Ok(boxed),
-        Err(_) => Err(StationError::NoMemory),
-    }
+// A value in a place of its own: a body that holds the box lets go of it by one call, and not of each part of the
+// value, and so does one that doesn't know what it is.
+fn boxed<T: Drop>(alloc: Global, value: T) -> Option<Box<T>> {
+    Box::new(alloc, value).ok()
 }
 
 /// A station just made.
 pub fn station(alloc: Global, role: Role, cfg: Cfg) -> Result<Box<Station>, StationError> {
-    boxed(alloc, Station::new(alloc, role, cfg)?)
+    boxed(alloc, Station::new(alloc, role, cfg)?).ok_or(StationError::NoMemory)
 }
 
 pub fn connect(station: &mut Station, out: &mut Step) -> Result<(), StationError> {
