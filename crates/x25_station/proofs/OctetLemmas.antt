@@ -1,13 +1,11 @@
 -- How many octets a station holds at most: a sum of what its parts hold.
-use Rattle.std.proofs.Common.{◌≡◌, ℕ, ◌+◌, ◌*◌, ◌≤◌, List, [], ◌∷◌, length, take, drop, max, ap, arith}
+use Rattle.std.proofs.Common.{◌≡◌, ◌+◌, ◌*◌, ◌≤◌, List, [], ◌∷◌, length, take, ap, arith}
 use Rattle.std.proofs.Math.Logic.{∥∥₁_elim}
 use Rattle.std.proofs.Props.{props}
 use Rattle.std.specs.List.{sum_by}
 use Rattle.std.proofs.lemmas.List.{length-drop, length-take-le}
 use Rattle.std.proofs.lemmas.List.Sums.{sum_by-cons}
 use Rattle.x25_circuit.specs.declared.circuit.Circuit as circuit_code
-use Rattle.x25_link.specs.code.Bounds.{FewStand as LinkStands, WindowIsSmall}
-use Rattle.x25_link.specs.code.FitsLink.{ShownLink}
 use Rattle.x25_station.specs.declared.station.Station as code
 use Rattle.x25_station.specs.code.FitsStation.{FitsStation}
 use Rattle.x25_station.specs.Station.{Station}
@@ -15,7 +13,6 @@ use Rattle.x25_station.specs.Config.{Settings}
 use Rattle.x25_station.specs.laws.HoldLaw.{FewStand}
 use Rattle.x25_station.specs.laws.OctetLaw.{circuit_octets, octets_held}
 use Rattle.x25_station.specs.laws.OctetLaw as law
-use Rattle.x25_station.proofs.HoldLemmas.{few_stand}
 
 -- packets that were sent and aren't acknowledged, and that wait
 packets : FewStand → (c : Settings) (v : code.Station) (s : Station) → FitsStation c v s
