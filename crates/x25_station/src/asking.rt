@@ -374,7 +374,9 @@ impl Station {
     {
         steps_keep_bounds();
         holds_few();
-        if let Some(error) = self.layer.refusal(&self.link, channel, &request) {
+        // A copy is lent, so that the kind of the request itself stays known where this stands in its callers' place.
+        let judged = request;
+        if let Some(error) = self.layer.refusal(&self.link, channel, &judged) {
             return Err(StationError::of_layer(error));
         }
         out.make_room()?;
