@@ -289,8 +289,10 @@ module _ (c : Settings) (p : Program) (k : Kept c p) where
   elsewhere v (beside.AnswersByUa e rest octets f q front is may) there = passes (record w { peer = v.peer; out = v.out; back = v.back }) (beside.AnswersByUa e rest octets f q front is may) refl refl refl
   elsewhere v (beside.LayerDoes deed packet octets stand may is configured reads) there =
       passes (record w { theirs = v.theirs; peer = v.peer }) (beside.LayerDoes deed packet octets stand may is configured reads) refl refl refl
-  elsewhere v (beside.LayerHears octets packet packets all stand at reads answered read_all) there =
-      passes (record w { theirs = v.theirs; peer = v.peer }) (beside.LayerHears octets packet packets all stand at reads answered read_all) refl refl refl
+  elsewhere v (beside.LayerHears packet read behind packets all stand reads waits answered read_all) there =
+      passes (record w { theirs = v.theirs; peer = v.peer }) (beside.LayerHears packet read behind packets all stand reads waits answered read_all) refl refl refl
+  elsewhere v (beside.LayerHearsChannel y packet read passed behind packets all stand live has apart reads waits answered read_all) there =
+      passes (record w { theirs = v.theirs; peer = v.peer }) (beside.LayerHearsChannel y packet read passed behind packets all stand live has apart reads waits answered read_all) refl refl refl
 
 -- ---- all that happens
 

@@ -98,15 +98,15 @@ next_read most [] o rest (p ∷ ps) h = record { packet = p; front = refl; reads
 next_read most (u ∷ up) o rest [] h = absurd h
 next_read most (u ∷ up) o rest (p ∷ ps) h = next_read most up o rest ps h.1
 
-ok_same : {E : Type 0} (p q : PlainPacket) (x : Result PlainPacket E) → x ≡ Ok p → x ≡ Ok q → p ≡ q
+pub ok_same : {E : Type 0} (p q : PlainPacket) (x : Result PlainPacket E) → x ≡ Ok p → x ≡ Ok q → p ≡ q
 ok_same p q x e f = cc
 
 -- the next of what was taken
-pub record Taken (p : PlainPacket) (given : List PlainPacket) (n : ℕ) : Type 0 where
-  pub front : drop n given ≡ p ∷ drop (n + 1) given
-  pub few : n + 1 ≤ length given
+record Taken (p : PlainPacket) (given : List PlainPacket) (n : ℕ) : Type 0 where
+  front : drop n given ≡ p ∷ drop (n + 1) given
+  few : n + 1 ≤ length given
 
-pub taken_next : (b : Bool) (given : List PlainPacket) (taken rest : List (List ℕ)) (n : ℕ) (o : List ℕ) (p : PlainPacket) → AreReadable b given → taken ++ rest ≡ spelled given → slice_get taken n ≡ Some o
+taken_next : (b : Bool) (given : List PlainPacket) (taken rest : List (List ℕ)) (n : ℕ) (o : List ℕ) (p : PlainPacket) → AreReadable b given → taken ++ rest ≡ spelled given → slice_get taken n ≡ Some o
     → packet_of (longest_user b) o ≡ Ok p → Taken p given n
 taken_next b given [] rest n o p readable is at reads = absurd (cc)
 taken_next b [] (t ∷ taken) rest n o p readable is at reads = absurd (cc)

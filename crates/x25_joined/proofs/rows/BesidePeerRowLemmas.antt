@@ -34,7 +34,7 @@ use Rattle.x25_station.specs.Config.{Settings, settings_from}
 use Rattle.x25_pipe.specs.Pipe.{saying_line, event_in, event_turn, turn, turns, piped}
 use Rattle.x25_world.specs.laws.TapOctets.{AreOfFrame}
 use Rattle.x25_peer.specs.laws.BesideSessions as beside
-use Rattle.x25_peer.specs.laws.BesideSessions.{BesideSessions, their_layer, layer_went}
+use Rattle.x25_peer.specs.laws.BesideSessions.{BesideSessions, their_now, their_layer, layer_went, layer_heard}
 use Rattle.x25_joined.specs.laws.BesidePeer.{Program, nothing_read, bare, reads, IsReached, at_start, goes_on, Reads, Takes, Elsewhere}
 use Rattle.x25_joined.specs.rows.JoinedRows.{usual}
 use Rattle.x25_joined.specs.rows.BesidePeerRows.{CallIsReported}
@@ -145,11 +145,11 @@ call_is_reported =
     let p4 : Program = record p3 { peer = e4; out = []; met = met ∷ [] } in
     let r4 : IsReached ours p4 = goes_on p3 p4 r3 (Elsewhere (record (bare ours p3) { peer = e4; out = []; met = met ∷ [] })
     (beside.Hears (sent 1 restart_octets) [] e4 refl (hears x4 refl (subst (λ (r : Result PlainFrame FrameError). once.MayHear (now e2) r x4) (sym restart_reads) (true, true, refl, refl)))) tt) in
-    let v5 : BesideSessions = layer_went (bare ours p4) (layer_after ours p4) 1 (confirmation_packet ∷ []) in
+    let v5 : BesideSessions = layer_heard (bare ours p4) (layer_after ours p4) [] (confirmation_packet ∷ []) in
     let p5 : Program = record p4 { peer = v5.peer; theirs = v5.theirs } in
-    let r5 : IsReached ours p5 = goes_on p4 p5 r4 (Elsewhere v5 (beside.LayerHears restart_packet (restart 0 0) (restart_conf ∷ []) (confirmation_packet ∷ []) refl refl refl (record { are = refl; configured = (λ has. absurd has, tt) }) (refl, tt)) tt) in
+    let r5 : IsReached ours p5 = goes_on p4 p5 r4 (Elsewhere v5 (beside.LayerHears (restart 0 0) (restart 0 0 ∷ []) [] (restart_conf ∷ []) (confirmation_packet ∷ []) refl (refl, tt) refl (record { are = refl; configured = (λ has. absurd has, tt) }) (refl, tt)) tt) in
     let deed : LayerDeed = InChannel 1 (InCall (PlacesCall (request_in [] [] [] []))) in
-    let v6 : BesideSessions = layer_went (bare ours p5) (layer_does ours p5 deed) 1 (call_packet ∷ []) in
+    let v6 : BesideSessions = layer_went (bare ours p5) (record (their_now (bare ours p5)) { layer = layer_does ours p5 deed }) (call_packet ∷ []) in
     let p6 : Program = record p5 { peer = v6.peer; theirs = v6.theirs } in
     let r6 : IsReached ours p6 = goes_on p5 p6 r5 (Elsewhere v6 (beside.LayerDoes deed (call 1 [] [] [] []) call_packet refl refl refl (λ has. refl) refl) tt) in
     let x7 : Peer = told_to 1 (numbered_to 0 (now p6.peer)) in

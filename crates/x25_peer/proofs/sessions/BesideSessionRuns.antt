@@ -15,7 +15,7 @@ use Rattle.x25_station.specs.Config.{Settings, link_settings, layer_settings}
 use Rattle.x25_station.specs.Entry.{layer_entries}
 use Rattle.x25_station.specs.laws.ReadLaw.{IsReachedByOctets}
 use Rattle.x25_station.specs.laws.ReadLaw as reached
-use Rattle.x25_peer.specs.laws.BesideSessions.{Own, Theirs, BesideSessions, start, Happens, Asks, Connects, Disconnects, Fires, Receives, Abandons, Loses, Damages, LosesThere, DamagesThere, Leaves, Sends, Hears, AnswersByUa, LayerDoes, LayerHears, IsReached}
+use Rattle.x25_peer.specs.laws.BesideSessions.{Own, Theirs, BesideSessions, start, Happens, Asks, Connects, Disconnects, Fires, Receives, Abandons, Loses, Damages, LosesThere, DamagesThere, Leaves, Sends, Hears, AnswersByUa, LayerDoes, LayerHears, LayerHearsChannel, IsReached}
 use Rattle.x25_peer.specs.laws.BesideSessions as beside
 use Rattle.x25_peer.specs.laws.BesideSessionClaims.{WithAnyPeer, MeetInStep, IsInOrder, MetAreInOrder, UnmetAreToldNothing, EachMeetsLatest, UpIsLatest, FindsNoError}
 use Rattle.x25_peer.proofs.LinkPart.{spelled}
@@ -23,7 +23,7 @@ use Rattle.x25_peer.proofs.sessions.Meetings.{CanMeet, all_map, met_can_meet, co
 use Rattle.x25_peer.proofs.sessions.SessionLinks.{links_with}
 use Rattle.x25_peer.proofs.sessions.Standing.{Below, Known, Stands}
 use Rattle.x25_peer.proofs.sessions.StationActs.{asks, connects, disconnects, fires, abandons_it, comes}
-use Rattle.x25_peer.proofs.sessions.PeerActs.{loses, damages, loses_there, damages_there, leaves, sends, hears_it, answers, layer_does, layer_hears}
+use Rattle.x25_peer.proofs.sessions.PeerActs.{loses, damages, loses_there, damages_there, leaves, sends, hears_it, answers, layer_does, layer_hears, layer_hears_channel}
 
 forget : (c : Settings) (w : layer_peer.Joined) → IsReachedByOctets c.role c.long_data c.channels w → layer_peer.IsReached c.role c.long_data c.channels w
 forget c w reached.at_start = layer_peer.at_start
@@ -57,7 +57,9 @@ module _ (below : Below) (c : Settings) (low : 1 ≤ c.window) (high : c.window 
   step_on w v h (Hears e rest q front may) = hears_it below c low high few w h e rest q front may
   step_on w v h (AnswersByUa e rest octets f q front is may) = answers below c low high few w h e rest octets f q front is may
   step_on w v h (LayerDoes deed p octets stand may is configured reads) = layer_does below c low high few w h deed p octets stand may is configured reads
-  step_on w v h (LayerHears octets p packets all stand at reads answered read_all) = layer_hears below c low high few w h octets p packets all stand at reads answered read_all
+  step_on w v h (LayerHears p read behind packets all stand reads waits answered read_all) = layer_hears below c low high few w h p read behind packets all stand reads waits answered read_all
+  step_on w v h (LayerHearsChannel y p read passed behind packets all stand live has apart reads waits answered read_all) =
+      layer_hears_channel below c low high few w h y p read passed behind packets all stand live has apart reads waits answered read_all
 
   -- ---- the beginning
 

@@ -1,13 +1,14 @@
 -- What happens on the line and at the peer, beside a station over sessions.
-use Rattle.std.proofs.Common.{◌≡◌, ℕ, suc, ◌+◌, ◌==◌, ◌≤◌, ◌<◌, List, [], ◌∷◌, ◌++◌, length, drop, Bool, true, false, if◌then◌else◌, Some, Ok, Result, refl, sym, ap, subst, ◌∙◌, append_assoc, append-nil, eq-eqb, arith}
+use Rattle.std.proofs.Common.{◌≡◌, ℕ, zero, suc, ◌==◌, ◌≤◌, ◌<◌, List, [], ◌∷◌, ◌++◌, length, drop, Bool, true, false, if◌then◌else◌, Ok, Result, refl, sym, ap, subst, ◌∙◌, append_assoc, append-nil, eq-eqb, arith}
 use Rattle.std.proofs.lemmas.Bool.{eqb-true}
 use Rattle.std.proofs.lemmas.List.{drop-append-le}
-use Rattle.std.specs.Prelude.{remove, slice_get}
+use Rattle.std.specs.Prelude.{remove}
 use Rattle.x25_frame.specs.Frame.{PlainFrame, ua}
 use Rattle.x25_frame.specs.Reading.{frame_of}
 use Rattle.x25_frame.specs.declared.error.FrameError.{FrameError}
 use Rattle.x25_packet.specs.Packet.{PlainPacket}
-use Rattle.x25_packet.specs.Spelling.{longest_user}
+use Rattle.x25_packet.specs.Spelling as packet
+use Rattle.x25_packet.specs.Spelling.{longest_user, channel_of, HasChannel}
 use Rattle.x25_packet.specs.Reading.{packet_of}
 use Rattle.x25_link.specs.Station.{Settings as LinkSettings, LinkStation}
 use Rattle.x25_link.specs.Hearing.{other}
@@ -18,21 +19,23 @@ use Rattle.x25_line.specs.laws.Sessions.{Entry, Meeting, Sessions, acts, replace
 use Rattle.x25_line.specs.laws.Peer.{Peer, fresh_peer}
 use Rattle.x25_sessions.specs.laws.PeerSessions.{PeerEnd, PeerSessions, Out, Asking, In, is_in, now, with_now, put_for, begins, stands, entry, heard_by, MaySend, numbered, asks, closes, free, MayHear, passes_over, hears, takes_ua, MayAnswer, takes_sabm, waits_on, takes_disc, IsPatient, IsReached, goes_on, Ours, HandsDown, both_ends, with_peer}
 use Rattle.x25_sessions.specs.laws.PeerSessions as peers
-use Rattle.x25_handshakes.specs.laws.Handshake.{At}
-use Rattle.x25_handshakes.specs.laws.PeerLayer.{PeerChannels, LayerDeed, MayDoLayer, does_layer, layer_packet_of, layer_taking}
-use Rattle.x25_handshakes.specs.laws.PeerLayers.{other_role}
-use Rattle.x25_layer.specs.laws.Bare.{bare_layer}
+use Rattle.x25_handshakes.specs.laws.Handshake.{Live}
+use Rattle.x25_handshakes.specs.laws.Layers.{On}
+use Rattle.x25_handshakes.specs.laws.PeerLayer.{PeerChannels, LayerDeed, MayDoLayer, does_layer, layer_packet_of, layer_taking, ready_taking}
+use Rattle.x25_handshakes.specs.laws.PeerLayers.{other_role, AreElsewhere}
+use Rattle.x25_layer.specs.laws.Bare.{bare, bare_layer, bare_layers}
 use Rattle.x25_layer.specs.laws.PeerJoined as layer_peer
 use Rattle.x25_layer.specs.laws.PeerJoined.{Joined, IsConfigured, Answers}
 use Rattle.x25_station.specs.Config.{Settings, link_settings, longest_packet}
 use Rattle.x25_station.specs.laws.ReadLaw.{AreReadable, IsReachedByOctets}
 use Rattle.x25_station.specs.laws.ReadLaw as reached
 use Rattle.x25_peer.specs.laws.Beside.{ReadAs}
-use Rattle.x25_peer.specs.laws.BesideSessions.{Theirs, BesideSessions, in_session, links_of, handed_down, their_layer, layer_went}
-use Rattle.x25_peer.proofs.BesideRuns.{read_append, taken_next, sent_same, heard_same}
+use Rattle.x25_peer.specs.laws.BesideSessions.{Theirs, BesideSessions, in_session, links_of, handed_down, their_now, their_layer, coming, layer_went, layer_heard}
+use Rattle.x25_peer.proofs.LinkPart.{spelled}
+use Rattle.x25_peer.proofs.BesideRuns.{read_append, ok_same, sent_same, heard_same}
 use Rattle.x25_peer.proofs.sessions.Meetings.{CanMeet, could_meet}
 use Rattle.x25_peer.proofs.sessions.SessionLinks.{links_with, LinkReached}
-use Rattle.x25_peer.proofs.sessions.Standing.{Below, in_other, both_cases, PairReached, IsRead, AreAnew, downs_of, ups_of, Stands, taken_begins, up_few, place_within}
+use Rattle.x25_peer.proofs.sessions.Standing.{Below, in_other, both_cases, PairReached, IsRead, AreAnew, downs_of, ups_of, Stands, way, taken_begins, up_few}
 
 -- ---- the peer's link goes on
 
@@ -113,6 +116,31 @@ may_send c link begun down up down₂ up₂ peer out back met r q (numbered fram
 may_send c link begun down up down₂ up₂ peer out back met r q (asks p is patient) = asks p is (record { sabm = patient.sabm; disc = patient.disc; ua = patient.ua })
 may_send c link begun down up down₂ up₂ peer out back met r q (closes p is) = closes p is
 may_send c link begun down up down₂ up₂ peer out back met r q (free may) = free may
+
+-- ---- what it is read as
+
+-- what its link took from here on, as it is read, is in front of what our layer put from here on
+read_front : (long_data : Bool) (given : List PlainPacket) (taken rest : List (List ℕ)) (n : ℕ) (read : List PlainPacket) → AreReadable long_data given → taken ++ rest ≡ spelled given → n ≤ length taken
+    → ReadAs (longest_user long_data) (drop n taken) read → drop n given ≡ read ++ drop (length taken) given
+read_front long_data given [] rest zero [] readable is few reads = refl
+read_front long_data given [] rest zero (r ∷ read) readable is few reads = absurd reads
+read_front long_data given [] rest (suc n) read readable is few reads = absurd (never few)
+  where
+    never : suc n ≤ 0 → ⊥
+    never low = omega (arith, low)
+read_front long_data [] (t ∷ taken) rest n read readable is few reads = absurd (cc)
+read_front long_data (g ∷ given) (t ∷ taken) rest zero [] readable is few reads = absurd reads
+read_front long_data (g ∷ given) (t ∷ taken) rest zero (r ∷ read) readable is few reads =
+    let same : t ≡ packet.spelling_of g = cc in
+    let one : g ≡ r = ok_same g r (packet_of (longest_user long_data) t) (ap (λ (x : List ℕ). packet_of (longest_user long_data) x) same ∙ readable.0.reads) reads.0 in
+    let more : given ≡ read ++ drop (length taken) given = read_front long_data given taken rest 0 read readable.1 (cc) (omega (arith)) reads.1 in
+    ap (λ (l : List PlainPacket). g ∷ l) more ∙ ap (λ (x : PlainPacket). x ∷ (read ++ drop (length taken) given)) one
+read_front long_data (g ∷ given) (t ∷ taken) rest (suc n) read readable is few reads =
+    let low : n ≤ length taken = fewer few in
+    read_front long_data given taken rest n read readable.1 (cc) low reads
+  where
+    fewer : suc n ≤ suc (length taken) → n ≤ length taken
+    fewer low = omega (arith, low)
 
 -- ---- packets go down to it
 
@@ -250,31 +278,31 @@ module _ (below : Below) (c : Settings) (low : 1 ≤ c.window) (high : c.window 
   b = w.peer.begun
 
   -- it puts these packets in this session, and has come to this
-  layer_goes : (layer : At PeerChannels) (heard : ℕ) (ps : List PlainPacket) (all : List (List ℕ)) → w.peer.stand ≡ In → ReadAs (longest_user c.long_data) all ps → heard ≤ length (now w.peer).taken
+  layer_goes : (t : Theirs) (ps : List PlainPacket) (all : List (List ℕ)) → w.peer.stand ≡ In → ReadAs (longest_user c.long_data) all ps → t.heard ≤ length (now w.peer).taken
       → ((n : ℕ) → CanMeet n b w.met
-      → IsReachedByOctets c.role c.long_data c.channels (record { near = (h.known n).end; peer = layer; out = drop heard (h.known n).end.given; back = drop (length (h.known n).up) (h.puts b) ++ ps }))
-      → Stands c (layer_went w layer heard all)
-  layer_goes layer heard ps all stand reads most pair = record {
+      → IsReachedByOctets c.role c.long_data c.channels (record { near = (h.known n).end; peer = t.layer; out = way t (h.known n).end.given; back = drop (length (h.known n).up) (h.puts b) ++ ps }))
+      → Stands c (layer_went w t all)
+  layer_goes t ps all stand reads most pair = record {
     known = h.known;
     puts = in_session b (h.puts b ++ ps) h.puts;
     link = hand_down (link_settings c) w.near.link w.begun (downs_of h.known) (ups_of h.known) w.peer w.out w.back w.met all stand h.link;
     now = h.now;
     each = h.each;
     later = h.later;
-    peers = both_cases (λ (m : ℕ) (t : Theirs) (ps : List PlainPacket). IsRead (longest_user c.long_data) ((handed_down all w.peer).of_session m) t ps) b (record { layer = layer; heard = heard }) w.theirs (h.puts b ++ ps) h.puts
+    peers = both_cases (λ (m : ℕ) (t : Theirs) (ps : List PlainPacket). IsRead (longest_user c.long_data) ((handed_down all w.peer).of_session m) t ps) b t w.theirs (h.puts b ++ ps) h.puts
         (record {
           reads = subst (λ (g : List (List ℕ)). ReadAs (longest_user c.long_data) g (h.puts b ++ ps)) (sym (given_here b b refl)) (read_append (longest_user c.long_data) (now w.peer).given all (h.puts b) ps (h.peers b).reads reads);
-          heard = subst (λ (t : List (List ℕ)). heard ≤ length t) (sym (handed_taken all w.peer b)) most;
+          heard = subst (λ (taken : List (List ℕ)). t.heard ≤ length taken) (sym (handed_taken all w.peer b)) most;
         })
         (λ m differs. record {
           reads = subst (λ (g : List (List ℕ)). ReadAs (longest_user c.long_data) g (h.puts m)) (sym (given_there m differs)) (h.peers m).reads;
-          heard = subst (λ (t : List (List ℕ)). (w.theirs m).heard ≤ length t) (sym (handed_taken all w.peer m)) (h.peers m).heard;
+          heard = subst (λ (taken : List (List ℕ)). (w.theirs m).heard ≤ length taken) (sym (handed_taken all w.peer m)) (h.peers m).heard;
         });
     anew = λ m over. (let above : b < m = subst (λ (i : ℕ). i < m) (handed_begun all w.peer) over in
         let differs : (m ≡ b → ⊥) = λ is. (omega (arith, above, is)) in
         (given_there m differs ∙ (h.anew m above).0, handed_taken all w.peer m ∙ (h.anew m above).1));
-    pairs = λ n m can. both_cases (λ (m : ℕ) (t : Theirs) (ps : List PlainPacket). CanMeet n m w.met → PairReached c (h.known n) t ps) b (record { layer = layer; heard = heard }) w.theirs (h.puts b ++ ps) h.puts
-        (λ yes. subst (λ (x : List PlainPacket). IsReachedByOctets c.role c.long_data c.channels (record { near = (h.known n).end; peer = layer; out = drop heard (h.known n).end.given; back = x }))
+    pairs = λ n m can. both_cases (λ (m : ℕ) (t : Theirs) (ps : List PlainPacket). CanMeet n m w.met → PairReached c (h.known n) t ps) b t w.theirs (h.puts b ++ ps) h.puts
+        (λ yes. subst (λ (x : List PlainPacket). IsReachedByOctets c.role c.long_data c.channels (record { near = (h.known n).end; peer = t.layer; out = way t (h.known n).end.given; back = x }))
         (sym (drop-append-le (length (h.known n).up) (h.puts b) ps (up_few below c low high w h n b yes))) (pair n yes))
         (λ m differs yes. h.pairs n m yes) m can;
     kept = h.kept;
@@ -292,24 +320,50 @@ module _ (below : Below) (c : Settings) (low : 1 ≤ c.window) (high : c.window 
 
   -- two sessions by their layers
   abbrev layers : ℕ → Joined
-  layers n = record { near = (h.known n).end; peer = their_layer w; out = drop (w.theirs b).heard (h.known n).end.given; back = drop (length (h.known n).up) (h.puts b) }
+  layers n = record { near = (h.known n).end; peer = their_layer w; out = way (their_now w) (h.known n).end.given; back = drop (length (h.known n).up) (h.puts b) }
 
   pub layer_does : (deed : LayerDeed) (p : PlainPacket) (octets : List ℕ) → w.peer.stand ≡ In → MayDoLayer (their_layer w).side deed → bare_layer p ≡ layer_packet_of (their_layer w).side deed
-      → IsConfigured c.channels p → packet_of (longest_user c.long_data) octets ≡ Ok p → Stands c (layer_went w (does_layer (their_layer w).epoch (their_layer w).side deed) (w.theirs b).heard (octets ∷ []))
+      → IsConfigured c.channels p → packet_of (longest_user c.long_data) octets ≡ Ok p → Stands c (layer_went w (record (their_now w) { layer = does_layer (their_layer w).epoch (their_layer w).side deed }) (octets ∷ []))
   layer_does deed p octets stand may is configured reads =
-      layer_goes (does_layer (their_layer w).epoch (their_layer w).side deed) (w.theirs b).heard (p ∷ []) (octets ∷ []) stand (reads, tt) (h.peers b).heard
-      (λ n can. reached.goes_on (layers n) (record { near = (h.known n).end; peer = does_layer (their_layer w).epoch (their_layer w).side deed; out = drop (w.theirs b).heard (h.known n).end.given; back = drop (length (h.known n).up) (h.puts b) ++ p ∷ [] })
+      layer_goes (record (their_now w) { layer = does_layer (their_layer w).epoch (their_layer w).side deed }) (p ∷ []) (octets ∷ []) stand (reads, tt) (h.peers b).heard
+      (λ n can. reached.goes_on (layers n) (record { near = (h.known n).end; peer = does_layer (their_layer w).epoch (their_layer w).side deed; out = way (their_now w) (h.known n).end.given; back = drop (length (h.known n).up) (h.puts b) ++ p ∷ [] })
       (h.pairs n b can) (layer_peer.Does deed p may is configured) tt)
 
-  pub layer_hears : (octets : List ℕ) (p : PlainPacket) (packets : List PlainPacket) (all : List (List ℕ)) → w.peer.stand ≡ In → slice_get (now w.peer).taken (w.theirs b).heard ≡ Some octets → packet_of (longest_user c.long_data) octets ≡ Ok p
+  -- what waits, and what came since, is in front of what is on the way
+  module _ (read front behind : List PlainPacket) (p : PlainPacket) (reads : ReadAs (longest_user c.long_data) (coming w) read) (waits : (their_now w).passed ++ read ≡ front ++ p ∷ behind) (n : ℕ) (can : CanMeet n b w.met) where
+    abbrev given : List PlainPacket
+    given = (h.known n).end.given
+
+    abbrev rest : List PlainPacket
+    rest = drop (length (now w.peer).taken) given
+
+    in_front : way (their_now w) given ≡ front ++ p ∷ (behind ++ rest)
+    in_front =
+        let readable : AreReadable c.long_data given = below.readable c.role c.long_data c.channels few (layers n) (h.pairs n b can) in
+        let there = taken_begins below c low high w h n b can in
+        let came : drop (their_now w).heard given ≡ read ++ rest = read_front c.long_data given (now w.peer).taken there.0 (their_now w).heard read readable there.1 (h.peers b).heard reads in
+        ap (λ (l : List PlainPacket). (their_now w).passed ++ l) came ∙ sym (append_assoc (their_now w).passed read rest) ∙ ap (λ (l : List PlainPacket). l ++ rest) waits ∙ append_assoc front (p ∷ behind) rest
+
+  pub layer_hears : (p : PlainPacket) (read behind packets : List PlainPacket) (all : List (List ℕ)) → w.peer.stand ≡ In → ReadAs (longest_user c.long_data) (coming w) read → (their_now w).passed ++ read ≡ p ∷ behind
       → Answers c.channels packets (layer_taking (other_role c.role) (their_layer w).epoch (their_layer w).side (bare_layer p)) → ReadAs (longest_user c.long_data) all packets
-      → Stands c (layer_went w (layer_taking (other_role c.role) (their_layer w).epoch (their_layer w).side (bare_layer p)).next ((w.theirs b).heard + 1) all)
-  layer_hears octets p packets all stand at reads answered read_all =
+      → Stands c (layer_heard w (layer_taking (other_role c.role) (their_layer w).epoch (their_layer w).side (bare_layer p)).next behind all)
+  layer_hears p read behind packets all stand reads waits answered read_all =
       let s = layer_taking (other_role c.role) (their_layer w).epoch (their_layer w).side (bare_layer p) in
-      layer_goes s.next ((w.theirs b).heard + 1) packets all stand read_all (place_within (now w.peer).taken (w.theirs b).heard octets at)
+      layer_goes (record { layer = s.next; heard = length (now w.peer).taken; passed = behind }) packets all stand read_all (omega (arith))
       (λ n can. (
-      let given : List PlainPacket = (h.known n).end.given in
-      let readable : AreReadable c.long_data given = below.readable c.role c.long_data c.channels few (layers n) (h.pairs n b can) in
-      let there = taken_begins below c low high w h n b can in
-      let t = taken_next c.long_data given (now w.peer).taken there.0 (w.theirs b).heard octets p readable there.1 at reads in
-      reached.goes_on (layers n) (layer_peer.peer_stepped (layers n) (drop ((w.theirs b).heard + 1) given) packets s) (h.pairs n b can) (layer_peer.Hears p (drop ((w.theirs b).heard + 1) given) packets t.front answered) tt))
+      let after : List PlainPacket = behind ++ drop (length (now w.peer).taken) (h.known n).end.given in
+      reached.goes_on (layers n) (layer_peer.peer_stepped (layers n) after packets s) (h.pairs n b can) (layer_peer.Hears p after packets (in_front read [] behind p reads waits n can) answered) tt))
+
+  pub layer_hears_channel : (y : PeerChannels) (p : PlainPacket) (read passed behind packets : List PlainPacket) (all : List (List ℕ)) → w.peer.stand ≡ In → (their_layer w).side ≡ Live y → HasChannel p
+      → AreElsewhere (channel_of p) (bare_layers passed) → ReadAs (longest_user c.long_data) (coming w) read → (their_now w).passed ++ read ≡ passed ++ p ∷ behind
+      → Answers c.channels packets (ready_taking (other_role c.role) (their_layer w).epoch y (On (channel_of p) (bare p))) → ReadAs (longest_user c.long_data) all packets
+      → Stands c (layer_heard w (ready_taking (other_role c.role) (their_layer w).epoch y (On (channel_of p) (bare p))).next (passed ++ behind) all)
+  layer_hears_channel y p read passed behind packets all stand live has apart reads waits answered read_all =
+      let s = ready_taking (other_role c.role) (their_layer w).epoch y (On (channel_of p) (bare p)) in
+      layer_goes (record { layer = s.next; heard = length (now w.peer).taken; passed = passed ++ behind }) packets all stand read_all (omega (arith))
+      (λ n can. (
+      let rest : List PlainPacket = drop (length (now w.peer).taken) (h.known n).end.given in
+      let after : List PlainPacket = behind ++ rest in
+      subst (λ (l : List PlainPacket). IsReachedByOctets c.role c.long_data c.channels (layer_peer.peer_stepped (layers n) l packets s)) (sym (append_assoc passed behind rest))
+      (reached.goes_on (layers n) (layer_peer.peer_stepped (layers n) (passed ++ after) packets s) (h.pairs n b can)
+      (layer_peer.HearsChannel y passed p after packets live has apart (in_front read passed behind p reads waits n can) answered) tt)))

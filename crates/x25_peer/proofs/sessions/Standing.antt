@@ -1,9 +1,8 @@
 -- What stands of a station and a peer over sessions: their links are joined as `x25_sessions` has it, and the layers of each session of the one and
 -- each of the other that it met, or may meet yet, as `x25_layer` has it.
-use Rattle.std.proofs.Common.{◌≡◌, ℕ, zero, suc, ◌+◌, ◌==◌, ◌≤◌, ◌<◌, inl, inr, List, [], ◌∷◌, ◌++◌, length, drop, Bool, true, false, if◌then◌else◌, Some, refl, sym, ap, subst, ◌∙◌, append_assoc, eq-eqb, arith}
+use Rattle.std.proofs.Common.{◌≡◌, ℕ, suc, ◌==◌, ◌≤◌, ◌<◌, inl, inr, List, [], ◌∷◌, ◌++◌, length, drop, Bool, true, false, if◌then◌else◌, refl, sym, ap, subst, ◌∙◌, append_assoc, eq-eqb, arith}
 use Rattle.std.proofs.lemmas.Bool.{eqb-true}
-use Rattle.std.proofs.lemmas.List.{length-append}
-use Rattle.std.specs.Prelude.{slice_get}
+use Rattle.std.proofs.lemmas.List.{length-append, drop-append-le}
 use Rattle.x25_packet.specs.Packet.{PlainPacket}
 use Rattle.x25_packet.specs.Spelling.{longest_user}
 use Rattle.x25_link.specs.Station.{Settings as LinkSettings, LinkStation, is_up}
@@ -121,9 +120,16 @@ pub record IsNotBegun (c : Settings) (k : Known) : Type 0 where
   pub down : k.down ≡ []
   pub up : k.up ≡ []
 
+-- on the way to the peer's layer, of what our layer put
+abbrev pub way : Theirs → List PlainPacket → List PlainPacket
+way t given = t.passed ++ drop t.heard given
+
+pub way_more : (t : Theirs) (given more : List PlainPacket) → t.heard ≤ length given → way t given ++ more ≡ way t (given ++ more)
+way_more t given more few = append_assoc t.passed (drop t.heard given) more ∙ ap (λ (l : List PlainPacket). t.passed ++ l) (sym (drop-append-le t.heard given more few))
+
 -- a session of the station and one of the peer, whose layer put these packets, as they are read
 abbrev pub PairReached : Settings → Known → Theirs → List PlainPacket → Type 0
-PairReached c k t puts = IsReachedByOctets c.role c.long_data c.channels (record { near = k.end; peer = t.layer; out = drop t.heard k.end.given; back = drop (length k.up) puts })
+PairReached c k t puts = IsReachedByOctets c.role c.long_data c.channels (record { near = k.end; peer = t.layer; out = way t k.end.given; back = drop (length k.up) puts })
 
 -- of the peer's sessions
 pub record IsRead (most : ℕ) (p : Peer) (t : Theirs) (puts : List PlainPacket) : Type 0 where
@@ -223,9 +229,3 @@ module _ (below : Below) (c : Settings) (low : 1 ≤ c.window) (high : c.window 
   up_few =
       let prefix = pair_begins.back in
       read_length (longest_user c.long_data) (h.known n).up prefix.0 (h.puts m) (subst (λ (g : List (List ℕ)). ReadAs (longest_user c.long_data) g (h.puts m)) (sym prefix.1) (h.peers m).reads)
-
--- what is at a place is within
-pub place_within : {T : Type 0} (xs : List T) (n : ℕ) (x : T) → slice_get xs n ≡ Some x → n + 1 ≤ length xs
-place_within {T} [] n x at = absurd (cc)
-place_within {T} (y ∷ ys) zero x at = omega (arith)
-place_within {T} (y ∷ ys) (suc n) x at = (let less : n + 1 ≤ length ys = place_within ys n x at in omega (arith, less))

@@ -1,6 +1,5 @@
 -- What the station does beside a peer over sessions, act by act.
 use Rattle.std.proofs.Common.{◌≡◌, ℕ, ◌==◌, ◌≤◌, inl, inr, List, [], ◌∷◌, ◌++◌, length, drop, Bool, true, false, ◌&&◌, if◌then◌else◌, Option, Some, None, option_to_list, refl, sym, ap, subst, ◌∙◌, append-nil, eq-eqb}
-use Rattle.std.proofs.lemmas.List.{drop-append-le}
 use Rattle.std.specs.Prelude.{remove}
 use Rattle.x25_frame.specs.Frame.{PlainFrame}
 use Rattle.x25_frame.specs.Reading.{frame_of}
@@ -45,7 +44,7 @@ use Rattle.x25_peer.proofs.BesideRuns.{Next, next_read, timer_packet}
 use Rattle.x25_peer.proofs.sessions.Meetings.{CanMeet, could_meet, all_some, all_both, met_can_meet, could_meet_some}
 use Rattle.x25_peer.proofs.sessions.SessionLinks.{links_with, LinkReached, extended_none, by_lists, link_steps}
 use Rattle.x25_peer.proofs.sessions.SessionLayers.{alone_at, AreAsked, pulls_asked, asked_reached, asked_tells}
-use Rattle.x25_peer.proofs.sessions.Standing.{Below, Known, PairReached, downs_of, ups_of, Stands, both_begin, heard_few}
+use Rattle.x25_peer.proofs.sessions.Standing.{Below, Known, PairReached, downs_of, ups_of, Stands, both_begin, heard_few, way, way_more}
 use Rattle.x25_peer.proofs.sessions.StationSteps.{AreSilent, goes, follows_on}
 
 -- a link that isn't up refuses a command to the layer
@@ -115,9 +114,9 @@ module _ (below : Below) (c : Settings) (low : 1 ≤ c.window) (high : c.window 
       let pair : (m : ℕ) → CanMeet b m w.met → PairReached c (record { end = v.near; down = []; up = known_now.up }) (w.theirs m) (h.puts m) =
       (λ m can. (
       let t : Theirs = w.theirs m in
-      let r = asked_reached c.role c.long_data c.channels t.layer e (drop t.heard e.given) (drop (length known_now.up) (h.puts m)) ms asked stay (h.pairs b m can) in
-      let line : drop t.heard e.given ++ v.out ≡ drop t.heard v.near.given =
-      ap (λ (l : List PlainPacket). drop t.heard e.given ++ l) j.2.layer.out ∙ sym (drop-append-le t.heard e.given ps (heard_few below c low high w h b m can)) ∙ ap (λ (l : List PlainPacket). drop t.heard l) (sym j.2.layer.given) in
+      let r = asked_reached c.role c.long_data c.channels t.layer e (way t e.given) (drop (length known_now.up) (h.puts m)) ms asked stay (h.pairs b m can) in
+      let line : way t e.given ++ v.out ≡ way t v.near.given =
+      ap (λ (l : List PlainPacket). way t e.given ++ l) j.2.layer.out ∙ way_more t e.given ps (heard_few below c low high w h b m can) ∙ ap (way t) (sym j.2.layer.given) in
       subst (λ (o : List PlainPacket). IsReachedByOctets c.role c.long_data c.channels (record { near = v.near; peer = t.layer; out = o; back = drop (length known_now.up) (h.puts m) })) line r)) in
       let some = could_meet_some b w.met (below.step (link_settings c) low high (links_with w.near.link b h.link.downs h.link.ups w.peer w.out w.back w.met) h.link.reached) in
       let readable : AreReadable c.long_data v.near.given = below.readable c.role c.long_data c.channels few _ (pair some.0 some.1) in
@@ -277,7 +276,7 @@ module _ (below : Below) (c : Settings) (low : 1 ≤ c.window) (high : c.window 
         behind = drop (length up) (h.puts there)
 
         abbrev two : TwoLayers
-        two = record { near = ours; far = ours; out = drop theirs.heard ours.given; back = drop (length known_now.up) (h.puts there) }
+        two = record { near = ours; far = ours; out = way theirs ours.given; back = drop (length known_now.up) (h.puts there) }
 
         pub handed : Stands c (stepped c w b rest met (follows c w.near.layer k))
         handed =
@@ -290,12 +289,12 @@ module _ (below : Below) (c : Settings) (low : 1 ≤ c.window) (high : c.window 
             subst (λ (s : Step). IsJoined c two v k.side behind s) (ap (λ (l : Layer). receives c (station_with w.near.link l) e.octets) at ∙ same) j₀.2 in
             let ps : List PlainPacket = j.packets in
             let moved = moves_reached c.role c.long_data c.channels theirs.layer two ms (tt, tt, pulls_stay j₀.0) (h.pairs b there (could b there partner.1)) in
-            let line : v.out ≡ drop theirs.heard v.near.given =
-            j.layer.out ∙ sym (drop-append-le theirs.heard ours.given ps (heard_few below c low high w h b there (could b there partner.1))) ∙ ap (λ (l : List PlainPacket). drop theirs.heard l) (sym j.layer.given) in
+            let line : v.out ≡ way theirs v.near.given =
+            j.layer.out ∙ way_more theirs ours.given ps (heard_few below c low high w h b there (could b there partner.1)) ∙ ap (way theirs) (sym j.layer.given) in
             let pair : PairReached c (record { end = v.near; down = []; up = up }) theirs (h.puts there) =
-            subst (λ (x : List PlainPacket). IsReachedByOctets c.role c.long_data c.channels (record { near = v.near; peer = theirs.layer; out = drop theirs.heard v.near.given; back = x })) j.back
+            subst (λ (x : List PlainPacket). IsReachedByOctets c.role c.long_data c.channels (record { near = v.near; peer = theirs.layer; out = way theirs v.near.given; back = x })) j.back
             (subst (λ (x : List PlainPacket). IsReachedByOctets c.role c.long_data c.channels (record { near = v.near; peer = theirs.layer; out = x; back = v.back })) line moved) in
-            goes below c few w h ours (drop theirs.heard ours.given) (drop (length known_now.up) (h.puts there)) v k.side behind (follows c w.near.layer k) (o ∷ []) rest met still_up was_up j
+            goes below c few w h ours (way theirs ours.given) (drop (length known_now.up) (h.puts there)) v k.side behind (follows c w.near.layer k) (o ∷ []) rest met still_up was_up j
             (below.readable c.role c.long_data c.channels few _ pair) link (λ nothing. absurd (never known_now.up nothing)) could
             (λ m can. subst (λ (i : ℕ). PairReached c (record { end = v.near; down = []; up = up }) (w.theirs i) (h.puts i)) (alone_there m can) pair) kept
           where

@@ -2,12 +2,12 @@
 -- any frame (profile: the line), set up and set up again by either end at any moment. A session of the station begins
 -- as it notes LinkUp, one of the peer by its rules of set-up, and each lasts until the next begins; with each its
 -- packet layer begins anew. docs/PEER.md has the peer's rules.
-use Rattle.std.specs.Prelude.{◌≡◌, ℕ, ◌+◌, ◌==◌, true, false, if◌then◌else◌, List, [], ◌∷◌, ◌++◌, remove, slice_get}
-use Rattle.std.specs.Prelude.{Bool, Some, None, Ok}
+use Rattle.std.specs.Prelude.{◌≡◌, ℕ, ◌==◌, true, false, if◌then◌else◌, List, [], ◌∷◌, ◌++◌, length, drop, remove}
+use Rattle.std.specs.Prelude.{Bool, None, Ok}
 use Rattle.x25_frame.specs.Frame.{ua}
 use Rattle.x25_frame.specs.Reading.{frame_of}
 use Rattle.x25_packet.specs.Packet.{PlainPacket}
-use Rattle.x25_packet.specs.Spelling.{longest_user}
+use Rattle.x25_packet.specs.Spelling.{longest_user, channel_of, HasChannel}
 use Rattle.x25_packet.specs.Reading.{packet_of}
 use Rattle.x25_link.specs.declared.phase.Phase.TheVariants.{Waiting}
 use Rattle.x25_link.specs.Station.{is_up}
@@ -20,13 +20,14 @@ use Rattle.x25_line.specs.laws.Sessions.{Entry, Meeting, heard, replaced, sent_i
 use Rattle.x25_line.specs.laws.Peer.{fresh_peer}
 use Rattle.x25_sessions.specs.laws.PeerSessions.{PeerEnd, PeerSessions, Out, In, now, with_now, stands, entry, heard_by}
 use Rattle.x25_sessions.specs.laws.PeerSessions.{IsDue, MaySend, MayHear, MayAnswer}
-use Rattle.x25_handshakes.specs.laws.Handshake.{At}
+use Rattle.x25_handshakes.specs.laws.Handshake.{At, Live}
+use Rattle.x25_handshakes.specs.laws.Layers.{On}
 use Rattle.x25_handshakes.specs.laws.PeerLayer.{PeerChannels, peer_fresh, peer_ready, LayerDeed, MayDoLayer, does_layer}
-use Rattle.x25_handshakes.specs.laws.PeerLayer.{layer_packet_of, layer_taking}
-use Rattle.x25_handshakes.specs.laws.PeerLayers.{other_role}
+use Rattle.x25_handshakes.specs.laws.PeerLayer.{layer_packet_of, layer_taking, ready_taking}
+use Rattle.x25_handshakes.specs.laws.PeerLayers.{other_role, AreElsewhere}
 use Rattle.x25_layer.specs.Layer.{Layer, goes_up}
 use Rattle.x25_layer.specs.Calls.{LayerRequest}
-use Rattle.x25_layer.specs.laws.Bare.{bare_layer}
+use Rattle.x25_layer.specs.laws.Bare.{bare, bare_layer, bare_layers}
 use Rattle.x25_layer.specs.laws.PeerJoined.{IsConfigured, Answers}
 use Rattle.x25_station.specs.Config.{Settings, longest_packet, link_settings, layer_settings}
 use Rattle.x25_station.specs.Entry.{StationEntry, connect_asked, disconnect_asked}
@@ -41,10 +42,12 @@ pub record Own : Type 0 where
   pub layer : Layer
   pub entries : List StationEntry
 
--- of a session of the peer: its packet layer, and how many of the packets that its link took in it that took
+-- of a session of the peer: its packet layer, how many of the packets that its link took in it came to that, and those
+-- of them that it passed over, so that they wait
 pub record Theirs : Type 0 where
   pub layer : At PeerChannels
   pub heard : ℕ
+  pub passed : List PlainPacket
 
 -- The station, how many sessions it began, and what is known of each, by its number, the first being 1; the peer's
 -- link, and its packet layer in each of its sessions; the line from the station and the line to it, front first; and
@@ -64,7 +67,7 @@ abbrev pub own_anew : Settings → Own
 own_anew c = record { layer = (goes_up (layer_settings c)).next; entries = [] }
 
 abbrev pub theirs_anew : Theirs
-theirs_anew = record { layer = peer_ready 0 peer_fresh; heard = 0 }
+theirs_anew = record { layer = peer_ready 0 peer_fresh; heard = 0; passed = [] }
 
 -- nothing was set up yet
 abbrev pub start : Settings → BesideSessions
@@ -127,15 +130,24 @@ handed_down [] p = p
 handed_down (octets ∷ all) p =
     handed_down all (with_now (record (now p) { given = (now p).given ++ octets ∷ [] }) p)
 
+abbrev pub their_now : BesideSessions → Theirs
+their_now w = w.theirs w.peer.begun
+
 abbrev pub their_layer : BesideSessions → At PeerChannels
-their_layer w = (w.theirs w.peer.begun).layer
+their_layer w = (their_now w).layer
+
+-- the packets that its link took in the latest session and that didn't come to its packet layer yet
+abbrev pub coming : BesideSessions → List (List ℕ)
+coming w = drop (their_now w).heard (now w.peer).taken
 
 -- its packet layer goes on to this in the latest session, and puts these octets
-abbrev pub layer_went : BesideSessions → At PeerChannels → ℕ → List (List ℕ) → BesideSessions
-layer_went w layer heard all = record w {
-  theirs = in_session w.peer.begun (record { layer = layer; heard = heard }) w.theirs;
-  peer = handed_down all w.peer;
-}
+abbrev pub layer_went : BesideSessions → Theirs → List (List ℕ) → BesideSessions
+layer_went w t all = record w { theirs = in_session w.peer.begun t w.theirs; peer = handed_down all w.peer }
+
+-- all that its link took came to it, and of these packets wait
+abbrev pub layer_heard : BesideSessions → At PeerChannels → List PlainPacket → List (List ℕ) → BesideSessions
+layer_heard w layer passed all =
+    layer_went w (record { layer = layer; heard = length (now w.peer).taken; passed = passed }) all
 
 -- ---- What may happen next, with these settings of the station.
 
@@ -183,18 +195,27 @@ pub data Happens (c : Settings) (w : BesideSessions) : BesideSessions → Type 0
   LayerDoes : (deed : LayerDeed) (p : PlainPacket) (octets : List ℕ) → w.peer.stand ≡ In
       → MayDoLayer (their_layer w).side deed → bare_layer p ≡ layer_packet_of (their_layer w).side deed
       → IsConfigured c.channels p → packet_of (longest_user c.long_data) octets ≡ Ok p
-      → Happens c w (layer_went w (does_layer (their_layer w).epoch (their_layer w).side deed)
-      (w.theirs w.peer.begun).heard (octets ∷ []))
-  -- it takes the next of the packets that its link took in this session, as they are read, and puts what answers it
-  LayerHears : (octets : List ℕ) (p : PlainPacket) (packets : List PlainPacket) (all : List (List ℕ))
-      → w.peer.stand ≡ In → slice_get (now w.peer).taken (w.theirs w.peer.begun).heard ≡ Some octets
-      → packet_of (longest_user c.long_data) octets ≡ Ok p
+      → Happens c w (layer_went w
+      (record (their_now w) { layer = does_layer (their_layer w).epoch (their_layer w).side deed }) (octets ∷ []))
+  -- of the packets that its link took in this session, as they are read, it takes the next, and puts what answers it
+  LayerHears : (p : PlainPacket) (read behind packets : List PlainPacket) (all : List (List ℕ)) → w.peer.stand ≡ In
+      → ReadAs (longest_user c.long_data) (coming w) read → (their_now w).passed ++ read ≡ p ∷ behind
       → Answers c.channels packets
       (layer_taking (other_role c.role) (their_layer w).epoch (their_layer w).side (bare_layer p))
       → ReadAs (longest_user c.long_data) all packets
-      → Happens c w (layer_went w
-      (layer_taking (other_role c.role) (their_layer w).epoch (their_layer w).side (bare_layer p)).next
-      ((w.theirs w.peer.begun).heard + 1) all)
+      → Happens c w (layer_heard w
+      (layer_taking (other_role c.role) (their_layer w).epoch (their_layer w).side (bare_layer p)).next behind all)
+  -- or the first of a channel before those of other channels that stand in front of it
+  LayerHearsChannel : (y : PeerChannels) (p : PlainPacket) (read passed behind packets : List PlainPacket)
+      (all : List (List ℕ)) → w.peer.stand ≡ In → (their_layer w).side ≡ Live y → HasChannel p
+      → AreElsewhere (channel_of p) (bare_layers passed)
+      → ReadAs (longest_user c.long_data) (coming w) read → (their_now w).passed ++ read ≡ passed ++ p ∷ behind
+      → Answers c.channels packets
+      (ready_taking (other_role c.role) (their_layer w).epoch y (On (channel_of p) (bare p)))
+      → ReadAs (longest_user c.long_data) all packets
+      → Happens c w (layer_heard w
+      (ready_taking (other_role c.role) (their_layer w).epoch y (On (channel_of p) (bare p))).next (passed ++ behind)
+      all)
 
 -- what is reached, event by event
 pub data IsReached (c : Settings) : BesideSessions → Type 0 where
