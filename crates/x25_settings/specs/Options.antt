@@ -228,16 +228,15 @@ judging_in c = record { long = c.long; strict = c.strict; wide = c.wide; k = cho
 abbrev pub Choose : List (List ℕ) → Chosen → Type 0
 Choose words end = (choices : List Choice) × (words ≡ flat_map words_of choices) × Leads nothing choices end
 
--- the words are plain, and they say this; of the options `--strict` and `--wide` are none
+-- the words are plain, and they say this; of the options `--strict` is none
 abbrev pub SaySimulation : List (List ℕ) → Simulation → Type 0
-SaySimulation words s = (end : Chosen) × Choose words end × (end.strict ≡ false) × (end.wide ≡ false)
-    × (s ≡ settled end)
+SaySimulation words s = (end : Chosen) × Choose words end × (end.strict ≡ false) × (s ≡ settled end)
 
 abbrev pub end_word : End → List ℕ
 end_word Dte = codes "dte"
 end_word Dce = codes "dce"
 
--- the first word is the end, and of the options `--down`, `--tap`, `--strict` and `--wide` are none
+-- the first word is the end, and of the options `--down`, `--tap` and `--strict` are none
 pub record SayPlace (words : List (List ℕ)) (p : Place) : Type 0 where
   pub rest : List (List ℕ)
   pub end : Chosen
@@ -246,7 +245,6 @@ pub record SayPlace (words : List (List ℕ)) (p : Place) : Type 0 where
   pub no_down : end.down ≡ false
   pub no_tap : end.tap ≡ false
   pub no_strict : end.strict ≡ false
-  pub no_wide : end.wide ≡ false
   pub same : p ≡ settled_at p.end end
 
 -- of the options `--k`, `--long`, `--strict` and `--wide` are there alone
@@ -256,7 +254,6 @@ pub record SayJudging (words : List (List ℕ)) (g : Judging) : Type 0 where
   pub no_down : end.down ≡ false
   pub no_tap : end.tap ≡ false
   pub no_say : end.say_sizes ≡ false
-  pub no_wide : end.wide ≡ false
   pub no_tries : end.n2 ≡ None
   pub no_channels : end.channels ≡ None
   pub same : g ≡ judging_in end

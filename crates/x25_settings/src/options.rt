@@ -269,7 +269,7 @@ impl Chosen {
     fn simulated(self) -> Option<Simulation>
         ensures { result ≡ simulated self }
     {
-        if self.strict || self.wide {
+        if self.strict {
             None
         } else {
             Some(self.with_defaults())
@@ -280,7 +280,7 @@ impl Chosen {
     fn at(self, end: End) -> Option<Place>
         ensures { result ≡ placed end self }
     {
-        if (self.down || self.tap) || (self.strict || self.wide) {
+        if (self.down || self.tap) || self.strict {
             return None;
         }
         let rest = self.with_defaults();
@@ -299,7 +299,7 @@ impl Chosen {
     fn judging(self) -> Option<Judging>
         ensures { result ≡ judging_of self }
     {
-        if (self.down || self.tap) || (self.say_sizes || self.wide) {
+        if (self.down || self.tap) || self.say_sizes {
             return None;
         }
         match (self.n2, self.channels) {

@@ -66,9 +66,9 @@ chosen_in c (word ∷ text ∷ rest) = if is_some (flag_in word)
     then option_and_then (λ c. chosen_in c (text ∷ rest)) (put_word c word)
     else option_and_then (λ c. chosen_in c rest) (put_number c word text)
 
--- `--strict` and `--wide` are of `judge` alone
+-- `--strict` is of `judge` alone
 abbrev pub simulated : Chosen → Option Simulation
-simulated c = if c.strict || c.wide then None else Some (settled c)
+simulated c = if c.strict then None else Some (settled c)
 
 abbrev pub simulation_in : List (List ℕ) → Option Simulation
 simulation_in words = option_and_then simulated (chosen_in nothing words)
@@ -78,7 +78,7 @@ end_in word = if bytes_eq word (codes "dte") then Some Dte else if bytes_eq word
 
 -- `--down` and `--tap` are of `sim` alone
 abbrev pub placed : End → Chosen → Option Place
-placed end c = if (c.down || c.tap) || (c.strict || c.wide) then None else Some (settled_at end c)
+placed end c = if (c.down || c.tap) || c.strict then None else Some (settled_at end c)
 
 abbrev pub place_in : List (List ℕ) → Option End → Option Place
 place_in words None = None
@@ -91,7 +91,7 @@ station_in (word ∷ words) = place_in words (end_in word)
 
 -- `--k`, `--long`, `--strict` and `--wide` alone are of `judge`
 abbrev pub judging_of : Chosen → Option Judging
-judging_of c = if (c.down || c.tap) || (c.say_sizes || c.wide) then None
+judging_of c = if (c.down || c.tap) || c.say_sizes then None
     else if is_some c.n2 || is_some c.channels then None else Some (judging_in c)
 
 -- the words behind `judge`
