@@ -1,7 +1,7 @@
 -- The data packets of one end on a channel, and the P(R)s that answer them, modulo 8, and the rules on them.
 -- ITU-T X.25 (10/96), section 4.4.1. What is said behind a fault is profile.
-use Rattle.std.specs.Prelude.{ℕ, ◌+◌, ◌-◌, ◌%◌, ◌==◌, nat_lt, nat_le, Bool, true, false, ◌&&◌, ◌||◌, if◌then◌else◌, min}
-use Rattle.std.specs.Prelude.{Some, None}
+use Rattle.std.specs.Prelude.{ℕ, ◌+◌, ◌-◌, ◌%◌, ◌==◌, nat_lt, nat_le, Bool, true, false, ◌&&◌, if◌then◌else◌, min, Some}
+use Rattle.std.specs.Prelude.{None}
 use Rattle.x25_packet_judge.specs.Numbers.{apart}
 use Rattle.x25_packet_judge.specs.declared.flow.Flow.{Flow}
 use Rattle.x25_packet_judge.specs.declared.flow.FlowTold.{FlowTold}
@@ -26,11 +26,11 @@ awaited f = apart f.next f.pending
 abbrev pub invalid : ℕ → Flow → PacketRule
 invalid ahead f = if nat_lt (8 - ahead) (ahead - f.pending) then PacketFalls (awaited f) else PacketUnsent f.next
 
--- all below is acknowledged; where nothing is left, no more is unsure
+-- all below is acknowledged
 abbrev pub acknowledged : ℕ → Flow → Flow
-acknowledged ahead f = record { is_sure = f.is_sure || ahead == f.pending; next = f.next; pending = f.pending - ahead }
+acknowledged ahead f = record { is_sure = f.is_sure; next = f.next; pending = f.pending - ahead }
 
--- no further one is judged until all is acknowledged
+-- no further one is judged until the numbers begin anew, since the end may have heard it or not
 abbrev pub strayed : ℕ → Flow → FlowTold
 strayed ahead f = if f.is_sure
     then record { flow = record { is_sure = false; next = f.next; pending = f.pending }; rule = Some (invalid ahead f) }

@@ -63,12 +63,12 @@ impl Flow {
         }
     }
 
-    /// All below a P(R) is acknowledged; where nothing is left, its numbers are sure again.
+    /// All below a P(R) is acknowledged.
     fn acknowledged(self, ahead: u8) -> Flow
         ensures { result ≡ definition.acknowledged ahead self }
     {
         Flow {
-            is_sure: self.is_sure || ahead == self.pending,
+            is_sure: self.is_sure,
             next: self.next,
             pending: self.pending.saturating_sub(ahead),
         }
