@@ -42,7 +42,7 @@ command is left: what was sent arrives then, as long as T1 has tries left, which
 both of its lengths, 0, as the same without them, which is all that `x25` takes; Linux writes it so. --trace has frames as the line has
 them: those that the station sent, before they are lost here, and those that came, before that and before --short-accept. So where one of
 two bridges alone has --lose, its trace is whole. The station reads packets in other forms than it writes too (`x25 station --wide`), as
-other equipment sends them; with --no-wide it doesn't, nor with --library.
+other equipment sends them; with --no-wide it doesn't.
 
 Exit status: 0; 1 where a command was refused or was none, the line ended before all was done, or nobody reads notices any more; 2 for
 bad words, or anything else that stops the bridge, which standard error names; 130 behind CTRL-C and 143 behind SIGTERM.
@@ -500,7 +500,7 @@ def station_of(options):
     import linked
 
     given = {name: getattr(options, name) for name in ("k", "n2", "channels") if getattr(options, name) is not None}
-    return linked.Station(options.library, options.end, long_data=options.long, say_sizes=is_xot(options), **given)
+    return linked.Station(options.library, options.end, long_data=options.long, say_sizes=is_xot(options), wide=options.wide, **given)
 
 
 def add_line_words(parser):
