@@ -35,11 +35,8 @@ struct End {
 }
 
 // A station is large: in a box it is let go of by one call, which is lighter for the prover.
-fn boxed(alloc: Global, station: Station) -> Result<Box<Station>, StationError> {
-    match Box::new(alloc, station) {
-        Ok(boxed) => Ok(boxed),
-        Err(_) => Err(StationError::NoMemory),
-    }
+fn boxed<T: Drop>(alloc: Global, value: T) -> Option<Box<T>> {
+    Box::new(alloc, value).ok()
 }
 
 impl End {
@@ -47,7 +44,8 @@ impl End {
         let Ok(told) = Told::new(alloc, role) else {
             return Err(StationError::NoMemory);
         };
-        let station = boxed(alloc, Station::new(alloc, role, SETTINGS)?)?;
+        let station = boxed(alloc, Station::new(alloc, role, SETTINGS)?);
+        let station = station.ok_or(StationError::NoMemory)?;
         Ok(End {
             station,
             step: Step::new(alloc),
