@@ -9,15 +9,15 @@ import subprocess
 import sys
 import tempfile
 
+from building import TOP
 from timing import timed
 
-here = os.path.dirname(os.path.abspath(__file__))
-program = os.path.join(os.path.dirname(here), "build", "x25")
+program = os.path.join(TOP, "build", "x25")
 lines = int(sys.argv[1]) if len(sys.argv) > 1 else 300_000
 runs = int(sys.argv[2]) if len(sys.argv) > 2 else 3
 
 with tempfile.TemporaryFile() as trace:
-    subprocess.run([sys.executable, os.path.join(here, "make_trace.py"), str(lines)], stdout=trace, check=True)
+    subprocess.run([sys.executable, os.path.join(TOP, "bench", "make_trace.py"), str(lines)], stdout=trace, check=True)
     size = trace.tell()
     for _ in range(runs):
         reading, _, _ = timed(["wc", "-l"], trace)

@@ -10,48 +10,24 @@ done once isn't in it. With `--functions` the loads are also told by function. I
 import bisect
 import collections
 import os
-import random
 import subprocess
 import sys
 import tempfile
 
+from building import TOP
+from scripts import POLLING, SIM, both_ways, chance, one_octet, refused, set_up, undelivered
 from timing import instructions
 
-root = os.path.dirname(os.path.dirname(os.path.abspath(__file__)))
 given = [word for word in sys.argv[1:] if not word.startswith("--")]
-program = given[0] if given else os.path.join(root, "build", "x25")
+program = given[0] if given else os.path.join(TOP, "build", "x25")
 
-WORDS = ["sim", "--n2", "255"]
-SET_UP = "drain 100\ndte call 100 99 -\ndrain 1000\ndce accept 1\ndrain 1000\n"
 STORES, REACH = 40, 120
-numbers = random.Random(7)
-
-
-def user_data(count):
-    return numbers.randbytes(count).hex()
-
-
-def one_octet():
-    return f"dte send 1 0 {user_data(1)}\ndeliver >\ndeliver <\ndeliver <\n"
-
-
-def both_ways():
-    return f"dte send 1 0 {user_data(128)}\ndce send 1 0 {user_data(128)}\ndrain 50\n"
-
-
-def refused():
-    return f"dte accept {numbers.randint(1, 16)}\n"
-
-
-def undelivered():
-    return "t1 dte\ndeliver >\n" * 240 + "deliver <\nlose > 0\n"
-
 
 KINDS = {
     "messages of one octet": ("", one_octet, 200),
     "messages of 128 octets both ways": ("", both_ways, 100),
     "refusals": ("", refused, 400),
-    "frames that aren't delivered": ("dte send 1 0 61\nlose > 0\n", undelivered, 1),
+    "frames that aren't delivered": (POLLING, undelivered, 1),
 }
 
 
@@ -92,7 +68,7 @@ def loads(path):
     """The loads of a run on a script that couldn't be forwarded."""
     counted = Loads()
     reading, writing = os.pipe()
-    words = ["valgrind", "--tool=lackey", "--trace-mem=yes", f"--log-fd={writing}", program, *WORDS]
+    words = ["valgrind", "--tool=lackey", "--trace-mem=yes", f"--log-fd={writing}", program, *SIM]
     with open(path, encoding="ascii") as script:
         run = subprocess.Popen(words, stdin=script, stdout=subprocess.DEVNULL, pass_fds=[writing])
     os.close(writing)
@@ -123,8 +99,8 @@ class Functions:
 def script_of(kind, rounds, path):
     """Writes a script of so many rounds, and says how many lines it has."""
     begun, round_of, _ = KINDS[kind]
-    numbers.seed(kind)
-    text = SET_UP + begun + "".join(round_of() for _ in range(rounds))
+    chance.seed(kind)
+    text = set_up(1) + begun + "".join(round_of() for _ in range(rounds))
     with open(path, "w", encoding="ascii") as file:
         file.write(text)
     return text.count("\n")
@@ -134,7 +110,7 @@ def counted(kind, rounds, path):
     """Lines, instructions and loads of a run on so many rounds."""
     lines = script_of(kind, rounds, path)
     with open(path, encoding="ascii") as script:
-        taken = instructions([program, *WORDS], script, statuses=(0, 1))
+        taken = instructions([program, *SIM], script, statuses=(0, 1))
     return lines, taken, loads(path)
 
 

@@ -5,28 +5,19 @@
 
 The same numbers give the same trace.
 """
+import os
 import random
 import sys
 
+from building import TOP
 
-def fcs_table():
-    table = []
-    for octet in range(256):
-        register = octet
-        for _ in range(8):
-            register = register >> 1 ^ 0x8408 if register & 1 else register >> 1
-        table.append(register)
-    return table
+sys.path.insert(0, os.path.join(TOP, "tools"))
 
-
-TABLE = fcs_table()
+from x25lines import fcs  # noqa: E402
 
 
 def sealed(octets):
-    register = 0xFFFF
-    for octet in octets:
-        register = register >> 8 ^ TABLE[(register ^ octet) & 0xFF]
-    return octets + (register ^ 0xFFFF).to_bytes(2, "little")
+    return octets + fcs(octets)
 
 
 def data_frame(random, to_dce):

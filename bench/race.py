@@ -10,17 +10,17 @@ repository: the program whose SHA-256 begins with f4f7c8b3042eccdc.
 """
 import hashlib
 import os
-import random
 import statistics
 import subprocess
 import sys
 import tempfile
 
+from building import TOP
 from make_trace import sealed
+from scripts import POLLING, SIM, both_ways, chance, one_octet, refused, set_up, undelivered, user
 from timing import timed
 
-OURS = os.path.join(os.path.dirname(os.path.dirname(os.path.abspath(__file__))), "build", "x25")
-chance = random.Random()
+OURS = os.path.join(TOP, "build", "x25")
 
 
 def line(is_dte, octets):
@@ -70,16 +70,6 @@ def trace(one, lines):
     return "".join(lines_made[place % len(lines_made)] for place in range(lines))
 
 
-def user(length):
-    return chance.randbytes(length).hex() or "-"
-
-
-def set_up(channels):
-    calls = "".join(f"dte call {100 + channel} 99 -\n" for channel in range(channels))
-    accepts = "".join(f"dce accept {channel}\n" for channel in range(1, channels + 1))
-    return f"drain 100\n{calls}drain 1000\n{accepts}drain 1000\n"
-
-
 def random_line():
     end, channel = chance.choice(("dte", "dce")), chance.randint(1, 4)
     kinds = {
@@ -97,12 +87,8 @@ def random_line():
     return chance.choices(list(kinds), list(kinds.values()))[0] + "\n"
 
 
-def repeated(one, times):
-    return "".join(one() for _ in range(times))
-
-
-def script(channels, one, times):
-    return set_up(channels) + repeated(one, times)
+def script(channels, one, times, begun=""):
+    return set_up(channels) + begun + "".join(one() for _ in range(times))
 
 
 def round_of_16():
@@ -110,12 +96,7 @@ def round_of_16():
     return "".join(sends) + "drain 200\n"
 
 
-def undelivered():
-    polls = "t1 dte\ndeliver >\n" * 240 + "deliver <\nlose > 0\n"
-    return set_up(1) + "dte send 1 0 61\nlose > 0\n" + polls * 60
-
-
-DECODE, SIM = ["decode"], ["sim", "--n2", "255"]
+DECODE = ["decode"]
 CASES = {
     "decode mix": (DECODE, lambda: trace(mixed, 500_000)),
     "decode DATA 3": (DECODE, lambda: trace(lambda: data(3), 600_000)),
@@ -127,11 +108,11 @@ CASES = {
     "sim random": ([*SIM, "--channels", "4"], lambda: script(4, random_line, 100_000)),
     "sim random, --tap": ([*SIM, "--channels", "4", "--tap"], lambda: script(4, random_line, 100_000)),
     "sim 65,535 octets": (SIM, lambda: script(1, lambda: f"dte send 1 0 {user(65_535)}\ndrain 65535\n", 30)),
-    "sim 128, both ways": (SIM, lambda: script(1, lambda: f"dte send 1 0 {user(128)}\ndce send 1 0 {user(128)}\ndrain 50\n", 20_000)),
-    "sim one octet": (SIM, lambda: script(1, lambda: f"dte send 1 0 {user(1)}\ndeliver >\ndeliver <\ndeliver <\n", 60_000)),
+    "sim 128, both ways": (SIM, lambda: script(1, both_ways, 20_000)),
+    "sim one octet": (SIM, lambda: script(1, one_octet, 60_000)),
     "sim 16 channels": ([*SIM, "--channels", "16"], lambda: script(16, round_of_16, 1_500)),
-    "sim undelivered": (SIM, undelivered),
-    "sim refusals": (SIM, lambda: script(1, lambda: f"dte accept {chance.randint(1, 16)}\n", 300_000)),
+    "sim undelivered": (SIM, lambda: script(1, undelivered, 60, POLLING)),
+    "sim refusals": (SIM, lambda: script(1, refused, 300_000)),
 }
 
 

@@ -8,35 +8,25 @@ The kinds: a random script that `tools/losses.py` writes; one that leaves its fr
 them from the middle of the line, or damages the one in the middle.
 """
 import os
-import subprocess
 import sys
 import tempfile
 
+from building import TOP
+from scripts import SET_UP_OF_THREE, SIM_OF_THREE, of_losses
 from timing import timed
 
-here = os.path.dirname(os.path.abspath(__file__))
-root = os.path.dirname(here)
 lines = int(sys.argv[1]) if len(sys.argv) > 1 else 100_000
 runs = int(sys.argv[2]) if len(sys.argv) > 2 else 3
-program = sys.argv[3] if len(sys.argv) > 3 else os.path.join(root, "build", "x25")
+program = sys.argv[3] if len(sys.argv) > 3 else os.path.join(TOP, "build", "x25")
 
-# N2 is at its most, so that the link stays up however many frames are lost.
-WORDS = ["sim", "--n2", "255", "--channels", "3"]
-# A call takes the highest channel that is free.
-SET_UP = "drain 100\ndte call 1 2 -\ndrain 100\ndce accept 3\ndrain 100\n"
 POLLS = 240
-
-
-def random_script(count):
-    writer = [sys.executable, os.path.join(root, "tools", "losses.py"), "1", str(count), "--channels", "3"]
-    return subprocess.run(writer, check=True, stdout=subprocess.PIPE, text=True).stdout
 
 
 def frames_left(count):
     """A script of about so many lines, and how many frames it leaves on the line to the DTE: answers to polls, one of POLLS delivered."""
     rounds = max(1, count // (2 * POLLS + 2))
     polled = "t1 dte\ndeliver >\n" * POLLS + "deliver <\nlose > 0\n"
-    return SET_UP + "dte send 3 0 61\nlose > 0\n" + polled * rounds, rounds * (POLLS - 1)
+    return SET_UP_OF_THREE + "dte send 3 0 61\nlose > 0\n" + polled * rounds, rounds * (POLLS - 1)
 
 
 def lost_from_the_middle(count):
@@ -50,7 +40,7 @@ def damaged_in_the_middle(count):
 
 
 KINDS = {
-    "random": random_script,
+    "random": of_losses,
     "frames left on the line": lambda count: frames_left(count)[0],
     "lost from the middle": lost_from_the_middle,
     "damaged in the middle": damaged_in_the_middle,
@@ -63,7 +53,7 @@ for kind, script_of in KINDS.items():
         script.write(text.encode())
         for _ in range(runs):
             # Status 1: some lines of a random script are refused.
-            used, seconds, peak = timed([program, *WORDS], script, statuses=(0, 1) if kind == "random" else (0,))
+            used, seconds, peak = timed([program, *SIM_OF_THREE], script, statuses=(0, 1) if kind == "random" else (0,))
             print(
                 f"{kind}: {count:,} lines, {used:.3f} s of processor time, {count / used:,.0f} lines a second; "
                 f"{seconds:.3f} s on the clock; peak memory {peak / 1024:.1f} MB"

@@ -19,14 +19,15 @@ import sys
 import tempfile
 import time
 
-ROOT = os.path.dirname(os.path.dirname(os.path.abspath(__file__)))
-TOOLS = os.path.join(ROOT, "tools")
+from building import TOP
+
+TOOLS = os.path.join(TOP, "tools")
 sys.path.insert(0, TOOLS)
 
 import captures  # noqa: E402
 import x25lines  # noqa: E402
 
-PROGRAM = os.environ.get("X25") or os.path.join(ROOT, "build", "x25")
+PROGRAM = os.environ.get("X25") or os.path.join(TOP, "build", "x25")
 SITA, ETHERNET = 196, 1
 DATA_OCTETS = 58
 CHANNELS = 4

@@ -10,10 +10,10 @@ _x25() {
             sim:--k | station:--k | judge:--k) words="1 2 3 4 5 6 7" ;;
             sim:--n2 | station:--n2) words="1 10 255" ;;
             sim:--channels | station:--channels) words="1 2 3 4 5 6 7 8 9 10 11 12 13 14 15 16" ;;
-            sim:*) words="--tap --down --long --say-sizes --k --n2 --channels --help" ;;
+            sim:*) words="--tap --down --long --say-sizes --wide --k --n2 --channels --help" ;;
             station:station) words="dte dce --help" ;;
-            station:*) words="--long --say-sizes --k --n2 --channels --help" ;;
-            judge:*) words="--k --long --strict --help" ;;
+            station:*) words="--long --say-sizes --wide --k --n2 --channels --help" ;;
+            judge:*) words="--k --long --wide --strict --help" ;;
             deframe:deframe) words="dte dce --help" ;;
             deframe:*) words="--help" ;;
             decode:*) words="--long --wide --help" ;;

@@ -9,16 +9,12 @@ puts on the line goes through `judge`, whole, and again from a frame in its mids
 Exit status: 0; 1 where a rule was told, with the seed of that run; 2 for bad words, or where there is no program.
 """
 
-import argparse
-import os
 import subprocess
 import sys
 
-ROOT = os.path.dirname(os.path.dirname(os.path.abspath(__file__)))
-sys.path[:0] = [os.path.dirname(os.path.abspath(__file__)), os.path.join(ROOT, "tools")]
+import runs
 
-import losses  # noqa: E402
-from program import find_program  # noqa: E402
+import losses  # where runs finds it
 
 LINES = 150
 MOST_LOSS, MOST_DAMAGE, MOST_T1 = 0.2, 0.1, 0.4
@@ -77,46 +73,37 @@ def run(seed):
     if dice.chance(0.3):
         lines = [f"{dice.one_of(losses.ENDS)} connect", f"{dice.one_of(losses.ENDS)} connect", *lines]
         words.append("--down")
-    return words, ["--k", window], "".join(line + "\n" for line in lines).encode()
+    return words, ["--k", window], "".join(line + "\n" for line in lines)
+
+
+def frames_of(program, words, script):
+    """The lines of the frames that both stations put on the line."""
+    tap = subprocess.run([program, "sim", *words], input=script, stdout=subprocess.PIPE, text=True).stdout
+    return [line for line in tap.splitlines(True) if line[:2] in ("> ", "< ")]
 
 
 def judged(program, words, frames):
     """The lines of a trace that tell of a rule, and how many frames it has."""
-    done = subprocess.run([program, "judge", *words], input=b"".join(frames), stdout=subprocess.PIPE)
+    done = subprocess.run([program, "judge", *words], input="".join(frames), stdout=subprocess.PIPE, text=True)
     lines = done.stdout.splitlines()
-    at_fault = [line for line in lines if b" ! " in line or line == b"? 60"]
+    at_fault = [line for line in lines if " ! " in line or line == "? 60"]
     if done.returncode != 0 and not at_fault:
-        at_fault = [f"judge ended with status {done.returncode}".encode()]
+        at_fault = [f"judge ended with status {done.returncode}"]
     return at_fault, len(lines)
 
 
 def told(program, seed):
     """The lines that tell of a rule, of a run as a whole and from a frame in its midst on, and how many frames the whole run has."""
     words, judge_words, script = run(seed)
-    tap = subprocess.run([program, "sim", *words], input=script, stdout=subprocess.PIPE).stdout
-    frames = [line for line in tap.splitlines(True) if line[:2] in (b"> ", b"< ")]
+    frames = frames_of(program, words, script)
     at_fault, count = judged(program, judge_words, frames)
     midst = losses.Dice(seed).below(len(frames) + 1)
-    return at_fault + [b"from frame %d on: %s" % (midst, line) for line in judged(program, judge_words, frames[midst:])[0]], count
+    return at_fault + [f"from frame {midst} on: {line}" for line in judged(program, judge_words, frames[midst:])[0]], count
 
 
 def main():
-    parser = argparse.ArgumentParser(description=__doc__, formatter_class=argparse.RawDescriptionHelpFormatter)
-    parser.add_argument("runs", metavar="RUNS", type=int, nargs="?", default=10_000, help="how many runs (10,000)")
-    parser.add_argument("--from", dest="first", metavar="SEED", type=int, default=0, help="the seed of the first run (0)")
-    parser.add_argument("--program", default=find_program(), help="the program")
-    options = parser.parse_args()
-    if options.program is None:
-        parser.error("there is no program: make x25")
-    frames = faults = 0
-    for seed in range(options.first, options.first + options.runs):
-        at_fault, count = told(options.program, seed)
-        frames += count
-        for line in at_fault[:1]:
-            faults += 1
-            print(f"seed {seed}: {line.decode()}")
-    print(f"{options.runs} runs, {frames} frames, {faults} told of")
-    return 1 if faults else 0
+    options = runs.options_of(runs.words(__doc__, 10_000))
+    return runs.tell(options, lambda seed: told(options.program, seed))
 
 
 if __name__ == "__main__":

@@ -11,26 +11,20 @@ station may be told of at times.
 Exit status: 0; 1 where a rule was told of the station, with the seed of that run; 2 for bad words, or where there is no program.
 """
 
-import argparse
-import os
 import subprocess
 import sys
 
-ROOT = os.path.dirname(os.path.dirname(os.path.abspath(__file__)))
-sys.path[:0] = [os.path.dirname(os.path.abspath(__file__)), os.path.join(ROOT, "tools")]
+import runs
+from runs import ACCEPTED, CALL, CLEAR, CLEAR_CONFIRMATION, INTERRUPT, INTERRUPT_CONFIRMATION
+from runs import RESET, RESET_CONFIRMATION, RESTART, RESTART_CONFIRMATION, RNR, RR
 
-import losses  # noqa: E402
-from program import find_program  # noqa: E402
-from x25lines import fcs  # noqa: E402
+import losses  # where runs finds it
+from x25lines import fcs
 
 STEPS, MOST_OUT = 80, 6
 MARKS = {"dte": ">", "dce": "<"}
 OTHERS = {"dte": "dce", "dce": "dte"}
-SABM, RR = 0x3F, 0x01
-RESTART, RESTART_CONFIRMATION = 0xFB, 0xFF
-CALL, ACCEPTED, CLEAR, CLEAR_CONFIRMATION, RESET, RESET_CONFIRMATION = 0x0B, 0x0F, 0x13, 0x17, 0x1B, 0x1F
-INTERRUPT, INTERRUPT_CONFIRMATION = 0x23, 0x27
-PACKET_RR, PACKET_RNR = 0x01, 0x05
+SABM = 0x3F
 # What a request is answered by.
 ANSWERS = {CALL: ACCEPTED, CLEAR: CLEAR_CONFIRMATION, RESET: RESET_CONFIRMATION, INTERRUPT: INTERRUPT_CONFIRMATION, RESTART: RESTART_CONFIRMATION}
 
@@ -131,7 +125,7 @@ class Packets:
         if chance < 0.35:
             return [0x90 if self.dice.chance(0.03) else 0x10, number] + self.data(channel)
         if chance < 0.5:
-            return [0x10, number, self.right(channel.wanted) << 5 | self.dice.one_of((PACKET_RR, PACKET_RR, PACKET_RNR))]
+            return [0x10, number, self.right(channel.wanted) << 5 | self.dice.one_of((RR, RR, RNR))]
         return self.any_of(chance, number, channel)
 
     def any_of(self, chance, number, channel):
@@ -242,31 +236,18 @@ def told(program, frames, end):
 
 
 def play(program, seed, from_midst=False):
-    """How many frames a run has, and the lines that tell of its station: of the whole trace, or of it from a frame in its midst on."""
+    """The lines that tell of the station of a run, of the whole trace or of it from a frame in its midst on, and how many frames it has."""
     run = Run(program, seed)
     run.play()
     midst = losses.Dice(seed).below(len(run.trace)) if from_midst else 0
-    return len(run.trace), told(program, run.trace[midst:], run.end)
+    return told(program, run.trace[midst:], run.end), len(run.trace)
 
 
 def main():
-    parser = argparse.ArgumentParser(description=__doc__, formatter_class=argparse.RawDescriptionHelpFormatter)
-    parser.add_argument("runs", metavar="RUNS", type=int, nargs="?", default=5_000, help="how many runs (5,000)")
-    parser.add_argument("--from", dest="first", metavar="SEED", type=int, default=0, help="the seed of the first run (0)")
+    parser = runs.words(__doc__, 5_000)
     parser.add_argument("--midst", action="store_true", help="judge each trace from a frame in its midst on")
-    parser.add_argument("--program", default=find_program(), help="the program")
-    options = parser.parse_args()
-    if options.program is None:
-        parser.error("there is no program: make x25")
-    frames = faults = 0
-    for seed in range(options.first, options.first + options.runs):
-        count, lines = play(options.program, seed, options.midst)
-        frames += count
-        for line in lines[:1]:
-            faults += 1
-            print(f"seed {seed}: {line}")
-    print(f"{options.runs} runs, {frames} frames, {faults} told of")
-    return 1 if faults else 0
+    options = runs.options_of(parser)
+    return runs.tell(options, lambda seed: play(options.program, seed, options.midst))
 
 
 if __name__ == "__main__":

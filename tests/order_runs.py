@@ -16,26 +16,21 @@ up to there, whatever the other end broke.
 Exit status: 0; 1 where one was missed or accused, with the seed; 2 for bad words, or where there is no program.
 """
 
-import argparse
-import os
 import re
 import subprocess
 import sys
 from typing import NamedTuple
 
-ROOT = os.path.dirname(os.path.dirname(os.path.abspath(__file__)))
-sys.path[:0] = [os.path.dirname(os.path.abspath(__file__)), os.path.join(ROOT, "tools")]
+import judge_runs
+import runs
+from runs import ACCEPTED, CALL, RESTART, RESTART_CONFIRMATION, RNR, RR
 
-import judge_runs  # noqa: E402
-import losses  # noqa: E402
-from program import find_program  # noqa: E402
-from x25lines import fcs  # noqa: E402
+import losses  # where runs finds it
+from x25lines import fcs
 
 COPIES = 10
 LINES = 120
 SABM, UA = 0x2F, 0x63
-CALL, ACCEPTED, READY = 0x0B, 0x0F, (0x01, 0x05)
-RESTARTS = (0xFB, 0xFF)
 
 # What `judge` says of an end that breaks a rule of order.
 OF_ORDER = re.compile(
@@ -78,7 +73,7 @@ class Frame(NamedTuple):
         return self.kind() is not None and not self.kind() & 1 and self.packet()[0] & 0x70 == 0x10
 
     def has_pr(self):
-        return self.is_data() or (len(self.packet()) == 3 and self.kind() & 0x1F in READY and self.packet()[0] & 0xF0 == 0x10)
+        return self.is_data() or (len(self.packet()) == 3 and self.kind() & 0x1F in (RR, RNR) and self.packet()[0] & 0xF0 == 0x10)
 
     def line(self):
         return f"{self.end} {(self.octets + fcs(self.octets)).hex()}\n"
@@ -162,7 +157,7 @@ class Calls:
     def passes(self, frame):
         """A packet goes for the first time: the rule that is broken, if any, and whether it is told of here."""
         kind = frame.kind()
-        if kind is None or kind in RESTARTS:
+        if kind is None or kind in (RESTART, RESTART_CONFIRMATION):
             self.__init__()
             return None, False
         channel = frame.channel()
@@ -351,15 +346,9 @@ def play(program, seed):
 
 
 def main():
-    parser = argparse.ArgumentParser(description=__doc__, formatter_class=argparse.RawDescriptionHelpFormatter)
-    parser.add_argument("runs", metavar="RUNS", type=int, nargs="?", default=3_600, help="how many runs (3,600)")
-    parser.add_argument("--from", dest="first", metavar="SEED", type=int, default=0, help="the seed of the first run (0)")
-    parser.add_argument("--program", default=find_program(), help="the program")
-    options = parser.parse_args()
-    if options.program is None:
-        parser.error("there is no program: make x25")
+    options = runs.options_of(runs.words(__doc__, 3_600))
     played = []
-    for seed in range(options.first, options.first + options.runs):
+    for seed in options.seeds:
         played.append(play(options.program, seed))
         for line in played[-1].wrong:
             print(line)

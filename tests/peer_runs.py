@@ -10,20 +10,17 @@ down at the other, after each step; no FRMR may be sent. At the end the line is 
 Exit status: 0; 1 where a run fails, with its seed; 2 for bad words, or where there is no program.
 """
 
-import argparse
-import os
 import random
 import subprocess
 import sys
 
-ROOT = os.path.dirname(os.path.dirname(os.path.abspath(__file__)))
-sys.path[:0] = [os.path.dirname(os.path.abspath(__file__)), os.path.join(ROOT, "tools")]
+import runs
+from runs import RNR, RR
 
-from program import find_program  # noqa: E402
-from x25lines import fcs  # noqa: E402
+from x25lines import fcs  # where runs finds it
 
 STEPS, MESSAGES = 250, 12
-INFORMATION, RR, RNR, REJ = 0, 1, 5, 9
+REJ = 0x09
 COMMAND, RESPONSE = 3, 1
 
 
@@ -286,19 +283,13 @@ def outcome(run):
 
 
 def main(play, held, about):
-    parser = argparse.ArgumentParser(description=about.splitlines()[0])
-    parser.add_argument("--program", default=find_program())
-    parser.add_argument("--from", dest="first", type=int, default=1, metavar="SEED")
-    parser.add_argument("runs", nargs="?", type=int, default=10000, metavar="RUNS")
-    words = parser.parse_args()
-    if not words.program or words.runs < 1:
-        parser.error("there is no program" if not words.program else "RUNS is 1 or more")
-    for seed in range(words.first, words.first + words.runs):
-        why = play(words.program, seed)
+    options = runs.options_of(runs.words(about, 10_000))
+    for seed in options.seeds:
+        why = play(options.program, seed)
         if why:
             print(f"seed {seed}: {why}")
             return 1
-    print(f"{words.runs} runs: {held}")
+    print(f"{options.runs} runs: {held}")
     return 0
 
 

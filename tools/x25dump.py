@@ -20,7 +20,7 @@ aren't shown, their packets are.
               end it says how many frames and packets there were, and how many of them were judged; with --strict the status is 1 too where
               one wasn't
   --channel   shows the packets of a channel alone; 0 is that of RESTART. With --stats it counts them
-  --no-wide   reads as `x25 decode` does, which has `fault` for packets in another form than a station writes; --judge always reads so
+  --no-wide   reads as `x25 decode` does, which has `fault` for packets in another form than a station writes
 
 The program is the one that --x25 or the variable X25 names, or `x25` of the PATH, or else the one that was built or
 installed with this script. Colours are for a terminal alone, and not where the variable NO_COLOR is set.
@@ -317,7 +317,8 @@ def words():
 def asked(options):
     """What is asked for the text of a frame."""
     long, wide = ["--long"] if options.long else [], ["--wide"] if options.wide else []
-    return decoding.Judge(options.x25, options.k, long) if options.judge else decoding.Decoder(options.x25, [*long, *wide])
+    reading = [*long, *wide]
+    return decoding.Judge(options.x25, options.k, reading) if options.judge else decoding.Decoder(options.x25, reading)
 
 
 def show(view, blocks, out):

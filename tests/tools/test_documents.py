@@ -13,7 +13,7 @@ from glob import glob
 import support
 
 WIDTH = 100
-LENGTHS = {"README.md": 100, "docs/ARCHITECTURE.md": 125, "docs/PROOFS.md": 175, "docs/DECISIONS.md": 230, "docs/PERFORMANCE.md": 110, "CONTRIBUTING.md": 130}
+LENGTHS = {"README.md": 100, "docs/ARCHITECTURE.md": 110, "docs/PROOFS.md": 165, "docs/DECISIONS.md": 200, "docs/PERFORMANCE.md": 92, "CONTRIBUTING.md": 126}
 CRATES = os.path.join(support.ROOT, "crates")
 # What is named and stands elsewhere: what commands leave behind, the sources of Linux, what whoever races decoders has.
 ELSEWHERE = ("build/*", "out/*", "/*", "../x25_*", "net/*", "AnswersOffered.antt")

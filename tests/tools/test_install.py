@@ -107,8 +107,17 @@ class Installed(ToolCase):
         self.assertEqual(left, [])
 
     def test_the_sources_bear_the_version_of_the_program(self):
-        version = subprocess.run([support.PROGRAM, "--version"], capture_output=True, text=True, timeout=60).stdout.strip()
-        self.assertIn(f"build/{version.replace(' ', '-')}.tar.gz", make("-n", "dist").stdout)
+        said = subprocess.run([support.PROGRAM, "--version"], capture_output=True, text=True, timeout=60).stdout.strip()
+        self.assertIn(f"build/{said.replace(' ', '-')}.tar.gz", make("-n", "dist").stdout)
+
+
+class Version(unittest.TestCase):
+    def test_it_is_the_same_everywhere(self):
+        version = re.search(r'\.version\("(.*)"\)', support.read("crates/x25_settings/src/parser.rt").decode())[1]
+        places = ("CHANGELOG.md", r"^## (\S+?),?( |$)"), ("debian/changelog", r"^x25 \((.*)-1\)"), ("bindings/rust/Cargo.toml", r'^version = "(.*)"')
+        for path, pattern in places:
+            with self.subTest(path):
+                self.assertEqual(re.search(pattern, support.read(path).decode(), re.MULTILINE)[1], version)
 
 
 class NotBuilt(unittest.TestCase):

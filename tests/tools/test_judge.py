@@ -12,11 +12,41 @@ import golden
 import judge_runs
 import odd_runs
 import order_runs
+from x25lines import fcs, is_sealed
 
 # In the gate; `make judge-runs` plays 10,000, 5,000 and 3,600.
 RUNS = 300
 ODD_RUNS = 100
 ORDER_RUNS = 20
+
+
+def in_another_form(packet):
+    """A packet of the form that a station writes in another one that X.25 lets equipment send."""
+    head, kind, rest = packet[:2], packet[2:3], packet[3:]
+    if kind in b"\x13\x1b\xfb" and len(rest) == 2:
+        return packet[:4]
+    if kind == b"\x17" and not rest:
+        return packet + b"\0\0"
+    if kind == b"\x0f":
+        return head + kind + b"\x11\x12" + (rest[1:] or b"\0")
+    if kind == b"\x0b":
+        place = 1 + (rest[0] % 16 + rest[0] // 16 + 1) // 2
+        return head + kind + rest[:place] + bytes([rest[place] + 2]) + b"\1\1" + rest[place + 1 :]
+    if not kind[0] & 1:
+        return bytes([head[0] | 0x40]) + packet[1:]
+    return packet
+
+
+def in_other_forms(trace):
+    """A trace with each packet in another form, where it has one."""
+    made = []
+    for line in trace.splitlines():
+        octets = bytes.fromhex(line[2:].decode())
+        if is_sealed(octets) and not octets[1] & 1 and octets[2] & 0xF0 in (0x10, 0x90):
+            octets = octets[:2] + in_another_form(octets[2:-2])
+            octets += fcs(octets)
+        made.append(b"%s %s\n" % (line[:1], octets.hex().encode()))
+    return b"".join(made)
 
 
 def remarks(mark, output):
@@ -53,6 +83,27 @@ class Cases(unittest.TestCase):
 
 
 @support.needs_program
+class Forms(support.ToolCase):
+    """With --wide a packet in another form is judged as the one that a station writes for it."""
+
+    def judged(self, trace, *words):
+        """What is told and noted line by line, and how much was judged."""
+        done = subprocess.run([PROGRAM, "judge", *words], input=trace, stdout=subprocess.PIPE, timeout=60)
+        return done.returncode, [re.sub(rb"^[<>].*?(?= ! | ~ note: |$)", b"", line).replace(b" ~ wide", b"") for line in done.stdout.splitlines()]
+
+    def test_each_is_judged_as_the_one_that_a_station_writes(self):
+        changed = 0
+        for seed in range(RUNS // 10):
+            words, judge_words, script = judge_runs.run(seed)
+            trace = "".join(judge_runs.frames_of(PROGRAM, words, script)).encode()
+            wide, told = in_other_forms(trace), self.judged(trace, *judge_words)
+            changed += wide != trace
+            self.assertEqual(self.judged(wide, "--wide", *judge_words), told, f"seed {seed}")
+            self.assertEqual(self.judged(trace, "--wide", *judge_words), told, f"seed {seed}")
+        self.assertGreater(changed, RUNS // 20)
+
+
+@support.needs_program
 class Runs(support.ToolCase):
     def test_nothing_is_told(self):
         for seed in range(RUNS):
@@ -63,7 +114,7 @@ class Runs(support.ToolCase):
 class Odd(support.ToolCase):
     def test_nothing_is_told_of_a_station_beside_an_odd_end(self):
         for seed in range(ODD_RUNS):
-            self.assertEqual(odd_runs.play(PROGRAM, seed)[1], [], f"seed {seed}")
+            self.assertEqual(odd_runs.play(PROGRAM, seed)[0], [], f"seed {seed}")
 
 
 @support.needs_program

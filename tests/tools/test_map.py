@@ -8,6 +8,7 @@ import fnmatch
 import os
 import re
 import unittest
+from collections import defaultdict
 from glob import glob
 
 import support
@@ -125,19 +126,25 @@ class Map(unittest.TestCase):
 
 
 class Lemmas(unittest.TestCase):
-    """A crate is for those above it by its contracts: none cites lemmas of a lower crate, but for those that docs/ARCHITECTURE.md names."""
+    """A crate is for those above it by its contracts: none cites lemmas of a lower crate, but x25_sessions those of x25_line, and these."""
+
+    CITED = {
+        ("x25_wide", "x25_packet"): {"AddressLaws"},
+        ("x25_line", "x25_link"): {"EndLemmas"},
+        ("x25_sim", "x25_world"): {"Established"},
+        ("x25_judge", "x25_line"): {"StationActs", "StationAway", "StationLines", "StationRuns", "StationSays", "StationSends", "StationSteps"},
+        ("any", "x25_io"): {"LineLemmas", "RunLemmas", "TakerLemmas", "ToldLemmas"},
+    }
 
     def test_none_of_a_lower_crate_is_cited(self):
-        text = support.read(os.path.join(support.ROOT, "docs", "ARCHITECTURE.md")).decode()
-        item = re.search(r"^- \*\*A crate is for those above.*?\n(?=- )", text, re.MULTILINE | re.DOTALL)[0]
-        cited = set()
+        cited = defaultdict(set)
         for folder, ending in (("src", "rt"), ("specs", "antt"), ("proofs", "antt")):
             for path in glob(os.path.join(CRATES, "*", folder, "**", f"*.{ending}"), recursive=True):
                 crate = os.path.relpath(path, CRATES).split(os.sep)[0]
-                found = re.findall(r"\bRattle\.(x25\w*)\.proofs\.(?:[a-z]\w*\.)*(\w+)", support.read(path).decode())
-                cited |= {(low, lemmas) for low, lemmas in found if low != crate}
-        self.assertEqual({lemmas for _, lemmas in cited}, {name for name in re.findall(r"`([A-Z]\w+)`", item)})
-        self.assertEqual({low for low, _ in cited} - set(re.findall(r"`(x25\w*)`", item)), set())
+                for low, lemmas in re.findall(r"\bRattle\.(x25\w*)\.proofs\.(?:[a-z]\w*\.)*(\w+)", support.read(path).decode()):
+                    if low != crate and (crate, low) != ("x25_sessions", "x25_line"):
+                        cited["any" if low == "x25_io" else crate, low].add(lemmas)
+        self.assertEqual(cited, self.CITED)
 
 
 class Stems(unittest.TestCase):

@@ -62,8 +62,7 @@ FIELD = re.compile(r"(\w+)=(\S+)")
 S_FRAMES = {"RR": 0, "RNR": 1, "REJ": 2, "SREJ": 3}
 U_COMMANDS = {"SABM": 0x0B, "DISC": 0x10, "SABME": 0x1B, "SARM": 0x03, "XID": 0x2B, "TEST": 0x38, "UI": 0x00}
 U_RESPONSES = {"UA": 0x18, "DM": 0x03, "FRMR": 0x21, "XID": 0x2B, "TEST": 0x38, "UI": 0x00}
-PACKETS = {"CALL": 0x0B, "ACCEPT": 0x0F, "CLEAR": 0x13, "CLEARCONF": 0x17, "DATA": 0x00, "RR": 0x01, "RNR": 0x05, "REJ": 0x09, "INT": 0x23, "INTCONF": 0x27}
-PACKETS |= {"RESET": 0x1B, "RESETCONF": 0x1F, "RESTART": 0xFB, "RESTARTCONF": 0xFF, "DIAG": 0xF1, "REG": 0xF3, "REGCONF": 0xF7}
+PACKETS = {"DATA": 0x00, **test_wide.CODES}
 CAUSES = {"CLEAR": "x25.clear_cause", "RESET": "x25.reset_cause", "RESTART": "x25.restart_cause"}
 
 

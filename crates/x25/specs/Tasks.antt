@@ -25,7 +25,14 @@ use Rattle.x25_station.specs.Config.{settings_from}
 
 -- the settings of both stations
 abbrev pub settings_in : Simulation → Cfg
-settings_in s = record { k = s.k; n2 = s.n2; channels = s.channels; long_data = s.long; say_sizes = s.say_sizes }
+settings_in s = record {
+  k = s.k;
+  n2 = s.n2;
+  channels = s.channels;
+  long_data = s.long;
+  say_sizes = s.say_sizes;
+  wide = s.wide;
+}
 
 -- an end, and the settings of a station there
 abbrev pub role_in : End → Role
@@ -33,7 +40,14 @@ role_in Dte = role.Dte
 role_in Dce = role.Dce
 
 abbrev pub cfg_in : Place → Cfg
-cfg_in p = record { k = p.k; n2 = p.n2; channels = p.channels; long_data = p.long; say_sizes = p.say_sizes }
+cfg_in p = record {
+  k = p.k;
+  n2 = p.n2;
+  channels = p.channels;
+  long_data = p.long;
+  say_sizes = p.say_sizes;
+  wide = p.wide;
+}
 
 -- the program that does a task; `vectors` reads nothing
 abbrev pub program_of : Task → Program
@@ -45,7 +59,7 @@ program_of Vectors = record {
 }
 program_of (Sim s) = simulating.program (settings_in s) s.down s.tap
 program_of (Station p) = piping.program (settings_from (role_in p.end) (cfg_in p))
-program_of (Judge g) = judging.program (begins g.k g.long g.strict)
+program_of (Judge g) = judging.program (begins g.k (record { long = g.long; wide = g.wide }) g.strict)
 program_of (Deframe end) = deframing.program (role_in end)
 program_of Frame = framing.program
 

@@ -28,6 +28,7 @@ fn settings_of(simulation: Simulation) -> Cfg
         channels: simulation.channels,
         long_data: simulation.long,
         say_sizes: simulation.say_sizes,
+        wide: simulation.wide,
     }
 }
 
@@ -51,6 +52,7 @@ fn cfg_of(place: Place) -> Cfg
         channels: place.channels,
         long_data: place.long,
         say_sizes: place.say_sizes,
+        wide: place.wide,
     }
 }
 
@@ -112,7 +114,10 @@ pub(crate) fn perform<R: Source, W: Sink>(
         Task::Judge(judging) => judge_lines(
             alloc,
             judging.k,
-            judging.long,
+            Reading {
+                long: judging.long,
+                wide: judging.wide,
+            },
             judging.strict,
             reader,
             writer,

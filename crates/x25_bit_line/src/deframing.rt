@@ -7,7 +7,7 @@ use crate::finder::Finder;
 use crate::span_lines::SpanLines;
 use std::alloc::Global;
 use x25_bits::{Deframer, Role};
-use x25_io::{Fault, PIECE, Sink, Source, take_text};
+use x25_io::{Fault, Piece, Sink, Source, take_text};
 
 /// Reads octets of a synchronous line on which an end sends, each lowest bit first, and writes a line for each span
 /// between two flags: of a content its line of a trace, for `decode`, and for others a comment, `# abort`, `# short`,
@@ -26,9 +26,9 @@ pub fn deframe<R: Source, W: Sink>(
     ensures runs { Runs R.Source W.Sink (program from) reader.old reader.new writer.old writer.new result }
     ensures memory { IsErrOf result Fault.NoMemory → (reader.new ≡ reader.old) × (writer.new ≡ writer.old) }
 {
-    let mut piece = vec![in alloc; 0u8; PIECE]?;
+    let piece = Piece::new(alloc)?;
     let deframer = Deframer::new(alloc)?;
     let lines = SpanLines::new(alloc, from)?;
     let finder = Finder::new(deframer, lines);
-    take_text(finder, piece.as_mut_slice(), reader, writer)
+    take_text(finder, piece, reader, writer)
 }

@@ -4,7 +4,7 @@ ghost use Rattle.x25_io.specs.code.Runs.{Runs};
 
 use crate::frame_sender::FrameSender;
 use std::alloc::Global;
-use x25_io::{Fault, HeldLine, LineByLine, PIECE, Sink, Source, take_text};
+use x25_io::{Fault, HeldLine, LineByLine, Piece, Sink, Source, take_text};
 
 /// Reads lines of a trace, and writes the octets of a synchronous line, each lowest bit first, that carries their
 /// frames in order, whichever end sent them: of each a flag, its octets' stuffed bits and a flag, without bits between
@@ -18,9 +18,9 @@ use x25_io::{Fault, HeldLine, LineByLine, PIECE, Sink, Source, take_text};
 pub fn frame<R: Source, W: Sink>(alloc: Global, reader: &mut R, writer: &mut W) -> Result<u8, Fault>
     ensures { Runs R.Source W.Sink program reader.old reader.new writer.old writer.new result }
 {
-    let mut piece = vec![in alloc; 0u8; PIECE]?;
+    let piece = Piece::new(alloc)?;
     let held = HeldLine::new(alloc)?;
     let sender = FrameSender::new(alloc)?;
     let lines = LineByLine::new(held, sender);
-    take_text(lines, piece.as_mut_slice(), reader, writer)
+    take_text(lines, piece, reader, writer)
 }

@@ -7,7 +7,7 @@ use x25_text::{MOST_OCTETS, Text};
 
 /// The lines for spans of the line on which an end sends: those that wait to be written.
 ///
-/// Its buffers are made by `new`; no other call takes memory.
+/// Its buffers are made by `new`; no other call is refused for want of memory.
 #[derive(Drop)]
 pub(crate) struct SpanLines {
     from: Role,

@@ -8,7 +8,7 @@ use x25_text::MOST_OCTETS;
 
 /// The line that has begun, and the answers that wait to be written.
 ///
-/// Its buffers are made by `new`; no other call takes memory.
+/// Its buffers are made by `new`; no other call is refused for want of memory.
 #[derive(Drop)]
 pub struct Decoder {
     held: HeldLine,

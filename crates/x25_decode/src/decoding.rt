@@ -6,7 +6,7 @@ ghost use Rattle.x25_io.specs.code.Runs.{Runs};
 use crate::answer::Reading;
 use crate::decoder::Decoder;
 use std::alloc::Global;
-use x25_io::{Fault, PIECE, Sink, Source, take_text};
+use x25_io::{Fault, Piece, Sink, Source, take_text};
 
 /// Answers each line that the reader gives by a line to the writer, and answers the status: 1 where a line was refused,
 /// else 0.
@@ -24,7 +24,7 @@ pub fn decode_lines<R: Source, W: Sink>(
     ensures runs { Runs R.Source W.Sink (program reading) reader.old reader.new writer.old writer.new result }
     ensures memory { IsErrOf result Fault.NoMemory → (reader.new ≡ reader.old) × (writer.new ≡ writer.old) }
 {
-    let mut piece = vec![in alloc; 0u8; PIECE]?;
+    let piece = Piece::new(alloc)?;
     let decoder = Decoder::new(alloc, reading)?;
-    take_text(decoder, piece.as_mut_slice(), reader, writer)
+    take_text(decoder, piece, reader, writer)
 }

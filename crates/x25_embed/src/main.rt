@@ -21,6 +21,7 @@ const SETTINGS: Cfg = Cfg {
     channels: 1,
     long_data: false,
     say_sizes: false,
+    wide: false,
 };
 
 /// One end: its station, and what a program keeps beside it.

@@ -8,6 +8,7 @@ pub const USUAL: Cfg = Cfg {
     channels: 1,
     long_data: false,
     say_sizes: false,
+    wide: false,
 };
 
 /// What a run ends with: the fault, where the failing call comes, and else the status 1 for the refused lines.

@@ -2,6 +2,7 @@
 ghost use Rattle.std.specs.Prelude.{◌≡◌, ◌≤◌, ◌+◌, ◌++◌, length, vec_len, vec_capacity};
 
 use std::alloc::{AllocError, Global};
+use std::mem;
 
 /// The most characters of a line, without its line feed.
 const MOST_LINE: usize = 131_200;
@@ -16,16 +17,18 @@ pub struct HeldLine {
     ghost room: { vec_capacity characters ≡ 131200 },
 }
 
-// These come behind the others, in room that there is.
-fn append(characters: &mut Vec<u8>, part: &[u8])
-    requires { vec_len characters.old + length part.now ≤ vec_capacity characters.old }
-    ensures items { characters.new.items ≡ characters.old.items ++ part.now }
-    ensures len { vec_len characters.new ≡ vec_len characters.old + length part.now }
-    ensures capacity { vec_capacity characters.new ≡ vec_capacity characters.old }
+// The characters, and these behind them, in room that there is. It owns them, so that they are copied as a block.
+fn with_part(characters: Vec<u8>, part: &[u8]) -> Vec<u8>
+    requires { vec_len characters + length part.now ≤ vec_capacity characters }
+    ensures items { result.items ≡ characters.items ++ part.now }
+    ensures len { vec_len result ≡ vec_len characters + length part.now }
+    ensures capacity { vec_capacity result ≡ vec_capacity characters }
 {
+    let mut all = characters;
     for character in part {
-        characters.push_reserved(*character);
+        all.push_reserved(*character);
     }
+    all
 }
 
 impl HeldLine {
@@ -54,7 +57,9 @@ impl HeldLine {
         if MOST_LINE - self.characters.len() < part.len() {
             self.is_long = true;
         } else {
-            append(&mut self.characters, part);
+            let none = Vec::new(*self.characters.allocator());
+            let characters = mem::replace(&mut self.characters, none);
+            self.characters = with_part(characters, part);
         }
     }
 

@@ -17,5 +17,5 @@ pub use held_line::HeldLine;
 pub use line_taker::{LineByLine, LineTaker};
 pub use lines::split_line;
 pub use output::Output;
-pub use pieces::{PIECE, TextTaker, take_text};
+pub use pieces::{PIECE, Piece, TextTaker, take_text};
 pub use status::exit_status;

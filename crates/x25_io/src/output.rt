@@ -8,7 +8,7 @@ use std::alloc::{AllocError, Global};
 use std::marker::Model;
 use x25_text::{ROOM, Text};
 
-/// Text that waits to be written, in a buffer. No call but `new` takes memory.
+/// Text that waits to be written, in a buffer. No call but `new` is refused for want of memory.
 #[derive(Drop)]
 pub struct Output {
     text: Text,

@@ -1,15 +1,44 @@
 //! A text that is read, taken and answered a piece at a time.
 ghost use Rattle.std.specs.Prelude.{◌≡◌, ◌≢◌, ◌<◌, ◌≤◌, ◌-◌, ◌^◌, ◌++◌, [], ℕ, true, List, Option, Some, IfOk, OnOk};
-ghost use Rattle.std.specs.Prelude.{OnErr, IfSome, IsErrOf, MatchResult, length};
+ghost use Rattle.std.specs.Prelude.{OnErr, IfSome, IsErrOf, MatchResult, length, vec_len, vec_capacity};
 ghost use Rattle.std.specs.Io.KnownBytes.{Appends};
 ghost use Rattle.x25_io.specs.code.Runs.{Answers, MarksDevices};
 ghost use Rattle.x25_io.specs.code.Written.{AppendsPrefix};
 
 use crate::device::{Sink, Source};
 use crate::fault::Fault;
+use std::alloc::{AllocError, Global};
 
 /// The most octets that are read at once.
 pub const PIECE: usize = 65_536;
+
+/// Memory for the octets that are read at once, 65,536 and no more.
+#[derive(Drop)]
+pub struct Piece {
+    octets: Vec<u8>,
+    ghost places: { vec_len octets ≡ 65536 },
+    ghost room: { vec_capacity octets ≡ 65536 },
+}
+
+// 65,536 octets, in memory for them and no more. What std fills by itself may take more.
+fn blank_octets(alloc: Global) -> Result<Vec<u8>, AllocError>
+    ensures places { IfOk result (λ octets. vec_len octets ≡ 65536) }
+    ensures room { IfOk result (λ octets. vec_capacity octets ≡ 65536) }
+{
+    let mut octets = Vec::with_capacity(alloc, PIECE)?;
+    for _place in 0..PIECE {
+        octets.push_reserved(0u8);
+    }
+    Ok(octets)
+}
+
+impl Piece {
+    /// Nothing is read into it. Err: no memory.
+    pub fn new(alloc: Global) -> Result<Piece, AllocError> {
+        let octets = blank_octets(alloc)?;
+        Ok(Piece { octets })
+    }
+}
 
 /// What takes a text in pieces, and writes the answer to it.
 pub trait TextTaker: Drop {
@@ -66,17 +95,16 @@ pub trait TextTaker: Drop {
         ensures marked { result ≡ Fault.Write → W.is_marked writer.new ≡ true };
 }
 
-/// Reads octets into `piece` until the reader's end, has each piece of them taken, and answers the status.
+/// Reads octets until the reader's end, into one piece of memory, has each piece of them taken, and answers the status.
 ///
 /// A failed read is answered by `Read`, a failed write by `Write`, and `NoMemory` comes only from a taker that may want
 /// memory. A reader is called at most 2^64 - 1 times; then its text counts as ended. Profile.
 pub fn take_text<T: TextTaker, R: Source, W: Sink>(
     mut taker: T,
-    piece: &mut [u8],
+    mut piece: Piece,
     reader: &mut R,
     writer: &mut W,
 ) -> Result<u8, Fault>
-    requires room { 0 < length piece.old }
     ensures zero_or_one { IfOk result (λ status. status ≤ 1) }
     ensures answers { (setting : T.Setting) (old : Option (List ℕ))
         → ((text : List ℕ) → T.leads setting taker old (W.contents writer.old) text text)
@@ -85,14 +113,15 @@ pub fn take_text<T: TextTaker, R: Source, W: Sink>(
     ensures marks { MarksDevices R.Source W.Sink reader.old reader.new writer.old writer.new result }
     ensures memory { IsErrOf result Fault.NoMemory → T.may_want }
 {
+    let octets = piece.octets.as_mut_slice();
     for _ in 0..u64::MAX {
-        let Ok(count) = reader.read(piece) else {
+        let Ok(count) = reader.read(octets) else {
             return Err(taker.give_up(writer));
         };
         if count == 0 {
             return taker.end(writer);
         }
-        taker.take_piece(&piece[..count], writer)?;
+        taker.take_piece(&octets[..count], writer)?;
     }
     taker.end(writer)
 }

@@ -4,4 +4,6 @@ pub mod Turns
 pub mod AskedOctets
 pub mod JoinedShows
 pub mod JoinedRuns
+pub mod PeerEntries
+pub mod PeerShows
 pub mod rows

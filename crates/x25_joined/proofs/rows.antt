@@ -1,2 +1,3 @@
 -- Worked rows, by computing.
 pub mod JoinedRowLemmas
+pub mod BesidePeerRowLemmas

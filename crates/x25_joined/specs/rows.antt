@@ -1,2 +1,3 @@
 -- Worked rows.
 pub mod JoinedRows
+pub mod BesidePeerRows

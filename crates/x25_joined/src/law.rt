@@ -1,12 +1,17 @@
-//! Two programs `x25 station` joined by a line, as laws about what they read and write. Each is the contract of a
-//! function that does nothing.
+//! Two programs `x25 station`, or one and any peer, joined by a line, as laws about what they read and write. Each is
+//! the contract of a function that does nothing.
+ghost use Rattle.x25_peer.specs.laws.BesideSessionClaims.{MeetInStep, MetAreInOrder, UnmetAreToldNothing};
+ghost use Rattle.x25_peer.specs.laws.BesideSessionClaims.{EachMeetsLatest, UpIsLatest, FindsNoError};
 ghost use Rattle.x25_world.specs.laws.Claims.{HasNoProcedureError, IsNamed};
 ghost use Rattle.x25_world.specs.laws.SessionClaims.{SessionsKeepOrder};
+ghost use Rattle.x25_joined.specs.laws.BesidePeerClaims.{OfProgram};
 ghost use Rattle.x25_joined.specs.laws.JoinedClaims.{AreLawful, AreWorlds, Arrive, OfPrograms, OfProgramsUpOnce};
 ghost use Rattle.x25_joined.specs.laws.JoinedClaims.{UntilSecondUp};
+ghost use Rattle.x25_joined.specs.rows.BesidePeerRows.{CallIsReported};
 ghost use Rattle.x25_joined.specs.rows.JoinedRows.{FiringHasToWait, LinkIsSetUp, LostSabmGoesAgain, MessageArrives};
 ghost use Rattle.x25_joined.specs.rows.JoinedRows.{OtherLinesDoNothing};
 
+use x25_peer::any_peer_keeps_stations_over_sessions;
 use x25_script::lines_are_in_octets;
 use x25_world::{stations_meet_in_sessions, two_stations_keep_order};
 
@@ -58,6 +63,33 @@ pub fn programs_meet_in_sessions()
     two_programs_are_a_world();
     stations_meet_in_sessions();
 }
+
+/// One program, and any peer that keeps the rules of docs/PEER.md in place of the other: it reads lines of its user,
+/// firings of its timer T1, and the frames on the line to it, in any interleaving. What `station` writes for all that
+/// it read, by its clause `text`, is told by a station beside that peer, set up and set up again at any moment: its
+/// entries are those of its sessions, one after another, its frames what it put on the line, each in the session that
+/// the last `linkup` began, and the station and the frames on the line are those where that leads. A line that is
+/// refused, and one that names the other end's user, is nothing of it. Of that station the clauses say what those of
+/// `any_peer_keeps_stations_over_sessions` do.
+///
+/// Premises: k is 1 to 7, N2 1 to 255, channels 1 to 16; a user's line is no frame of the other end; a frame that comes
+/// is at most 4,103 octets; timer T1 of a station that awaits UA runs out where it is due.
+pub fn any_peer_keeps_programs()
+    ensures step { OfProgram MeetInStep }
+    ensures order { OfProgram MetAreInOrder }
+    ensures unmet { OfProgram UnmetAreToldNothing }
+    ensures agree { OfProgram EachMeetsLatest }
+    ensures latest { OfProgram UpIsLatest }
+    ensures quiet { OfProgram FindsNoError }
+{
+    lines_are_in_octets();
+    any_peer_keeps_stations_over_sessions();
+}
+
+/// A worked row: a program and a peer set the link up, the peer confirms its RESTART and calls, and that is reported.
+pub fn programs_move_beside_peers()
+    ensures { CallIsReported }
+{}
 
 /// Worked rows, each a history that may happen: what two programs read and write as the link is set up, and as SABM is
 /// lost, or damaged, and goes again when timer T1 runs out, which has to wait while SABM is on the line; lines that do

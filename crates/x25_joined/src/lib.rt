@@ -1,5 +1,5 @@
-//! Two programs `x25 station` joined by a line that keeps order and may lose or visibly damage any frame: what they
-//! write is a run of two stations, and what holds of it.
+//! Two programs `x25 station`, or one and any peer, joined by a line that keeps order and may lose or visibly damage
+//! any frame: what they write is a run of two stations, or of one beside that peer, and what holds of it.
 //!
 //! It runs nothing: its public functions state laws as their contracts.
 #![tactic(auto)]
@@ -7,5 +7,6 @@
 mod law;
 
 pub use law::{
-    programs_meet_in_sessions, programs_move, two_programs_are_a_world, two_programs_keep_order,
+    any_peer_keeps_programs, programs_meet_in_sessions, programs_move, programs_move_beside_peers,
+    two_programs_are_a_world, two_programs_keep_order,
 };

@@ -7,4 +7,6 @@ pub mod Lines
 pub mod Octets
 pub mod Innocents
 pub mod Silences
+pub mod Lag
+pub mod Stations
 pub mod SetUps

@@ -4,14 +4,14 @@ use Rattle.std.specs.Prelude.{ℕ, Bool, true, false, not, ◌&&◌, ◌||◌, L
 use Rattle.std.specs.Prelude.{Some, None, is_some, Result, Ok, Err}
 use Rattle.x25_bits.specs.declared.role.Role.{Role}
 use Rattle.x25_bits.specs.declared.role.Role.TheVariants.{Dte, Dce}
-use Rattle.x25_decode.specs.Decoding.{mark_of, n1, sent_in}
+use Rattle.x25_decode.specs.Decoding.{line_text, mark_of, n1, sent_in}
+use Rattle.x25_decode.specs.declared.answer.Reading.{Reading}
 use Rattle.x25_frame.specs.Frame.{PlainFrame, info}
 use Rattle.x25_frame.specs.Reading.{frame_of}
 use Rattle.x25_frame.specs.declared.error.FrameError.{FrameError}
 use Rattle.x25_frame.specs.declared.error.FrameError.TheVariants.{Short, BadFcs, BadAddress, Undefined, NoInfoAllowed}
 use Rattle.x25_frame.specs.declared.error.FrameError.TheVariants.{TooLong}
 use Rattle.x25_io.specs.Lines.{lines_of}
-use Rattle.x25_text.specs.FrameText.{reading_text}
 use Rattle.x25_packet_judge.specs.Book as book
 use Rattle.x25_judge.specs.Counts.{counted, end_text, more, no_counts, none}
 use Rattle.x25_judge.specs.Held.{none_held, is_same, keeps}
@@ -30,12 +30,11 @@ use Rattle.x25_judge.specs.declared.rule.Rule.{Rule}
 use Rattle.x25_judge.specs.declared.rule.Rule.TheVariants.{NoFrame, Packet}
 use Rattle.x25_judge.specs.declared.sides.Sides.{Sides}
 
--- before anything was sent: k, whether the user data of a CALL may be long, and whether what isn't judged counts as
--- faulty
-abbrev pub begins : ℕ → Bool → Bool → Judge
-begins window long_data is_strict = record {
+-- before anything was sent: k, how octets are read, and whether what isn't judged counts as faulty
+abbrev pub begins : ℕ → Reading → Bool → Judge
+begins window reading is_strict = record {
   window = window;
-  long_data = long_data;
+  reading = reading;
   is_strict = is_strict;
   dte = no_end;
   dce = no_end;
@@ -140,10 +139,10 @@ no_frame TooLong = Some NoFrame
 abbrev pub is_faulty_by : Bool → Remark → Bool
 is_faulty_by is_strict r = is_some r.rule || (is_strict && not r.is_judged)
 
-abbrev pub told_of : Judge → Role → Result PlainFrame FrameError → Remark → Judge → Answer
-told_of j from read r next = record {
+abbrev pub told_of : Judge → Role → List ℕ → Remark → Judge → Answer
+told_of j from octets r next = record {
   next = next;
-  text = mark_of from ++ reading_text j.long_data read ++ remark_text from r.rule r.note ++ codes "\n";
+  text = mark_of from ++ line_text j.reading from octets ++ remark_text from r.rule r.note ++ codes "\n";
   is_faulty = is_faulty_by j.is_strict r;
 }
 
@@ -160,14 +159,16 @@ next_by j from frame t s = counts_carried from frame t.is_again s.verdict.is_jud
     (counts_frame from (is_judged frame (sides_of from j))
     (behind from t s.book (holding from (keeps (held_of from j) frame) j)))
 
-abbrev pub told_seen : Judge → Role → PlainFrame → Sides → book.Seen → Answer
-told_seen j from frame t s = told_of j from (Ok frame) (remark_by j from frame t s.verdict) (next_by j from frame t s)
+abbrev pub told_seen : Judge → Role → List ℕ → PlainFrame → Sides → book.Seen → Answer
+told_seen j from octets frame t s =
+    told_of j from octets (remark_by j from frame t s.verdict) (next_by j from frame t s)
 
-abbrev pub told_frame : Judge → Role → PlainFrame → Sides → Answer
-told_frame j from frame t = told_seen j from frame t (book.sees from j.long_data frame (is_some t.rule) j.book)
+abbrev pub told_frame : Judge → Role → List ℕ → PlainFrame → Sides → Answer
+told_frame j from octets frame t = told_seen j from octets frame t
+    (book.sees from j.reading frame (is_some t.rule) j.book)
 
 abbrev pub remark_of : Judge → Role → PlainFrame → Sides → Remark
-remark_of j from frame t = remark_by j from frame t (book.sees from j.long_data frame (is_some t.rule) j.book).verdict
+remark_of j from frame t = remark_by j from frame t (book.sees from j.reading frame (is_some t.rule) j.book).verdict
 
 -- octets that spell no frame are judged where they aren't damaged
 abbrev pub remark_missed : FrameError → Remark
@@ -180,14 +181,15 @@ next_missed from e j = counts_frame from (is_some (no_frame e))
 abbrev pub seen_by : Judge → Role → PlainFrame → Sides
 seen_by j from frame = sees j.window (is_same (held_of from j) frame) frame (sides_of from j)
 
-abbrev pub read_of : Judge → Role → Result PlainFrame FrameError → Answer
-read_of j from (Ok frame) = told_frame j from frame (seen_by j from frame)
-read_of j from (Err e) = told_of j from (Err e) (remark_missed e) (next_missed from e j)
+-- octets, by what they spell
+abbrev pub read_of : Judge → Role → List ℕ → Result PlainFrame FrameError → Answer
+read_of j from octets (Ok frame) = told_frame j from octets frame (seen_by j from frame)
+read_of j from octets (Err e) = told_of j from octets (remark_missed e) (next_missed from e j)
 
 -- a line that is none of a trace counts as faulty
 abbrev pub sent_of : Judge → Option (Role × List ℕ) → Answer
 sent_of j None = record { next = j; text = codes "? 60\n"; is_faulty = true }
-sent_of j (Some sent) = read_of j sent.0 (frame_of sent.0 n1 sent.1)
+sent_of j (Some sent) = read_of j sent.0 sent.1 (frame_of sent.0 n1 sent.1)
 
 unfoldable pub answer_to : Judge → List ℕ → Answer
 answer_to j line = sent_of j (sent_in line)

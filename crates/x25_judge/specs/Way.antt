@@ -131,11 +131,11 @@ invalid ahead w = if nat_le (8 - ahead) (w.ever - w.pending) && nat_lt (8 - ahea
 abbrev pub acknowledged : ℕ → Way → Way
 acknowledged ahead w = record w { sight = Sure; pending = w.pending - ahead; is_rejected = w.is_rejected && ahead == 0 }
 
--- No further one is judged: until one is valid where a frame that was missed may explain it, else until the next
--- set-up, since the end may have heard it or not.
+-- No further one is judged: until one is valid where a frame of the end that was missed may explain it, else until the
+-- next set-up, since the end may have heard it or not.
 abbrev pub strayed : ℕ → Way → Told
 strayed ahead w =
-    if not (is_sure w) then quiet (astray w)
+    if not (is_sure w) then (if w.is_missed then quiet (astray w) else quiet (deaf w))
     else if w.is_missed then notes HeardBehindDamage (astray w)
     else breaks (invalid ahead w) (deaf w)
 

@@ -1,5 +1,5 @@
 -- What the laws of this crate say (src/law.rt), and the traces that they are about.
 pub mod Keeping
 pub mod Session
-pub mod Silence
+pub mod Watching
 pub mod VerdictClaims

@@ -3,13 +3,13 @@ ghost use Rattle.std.specs.Prelude.{length};
 
 use crate::judge::{Judge, MOST_ANSWER};
 use std::alloc::{AllocError, Global};
-use x25_decode::long_lines_send_nothing;
+use x25_decode::{Reading, long_lines_send_nothing};
 use x25_io::{Failed, Fault, LineTaker, Output, Sink};
 use x25_text::{MOST_OCTETS, ROOM, Text};
 
 /// The answer to the last line, text that waits to be written, and the judge.
 ///
-/// Its buffers are made by `new`; no other call takes memory.
+/// Its buffers are made by `new`; no other call is refused for want of memory.
 #[derive(Drop)]
 pub(crate) struct Answerer {
     octets: [u8; MOST_OCTETS],
@@ -30,16 +30,16 @@ impl Answerer {
     pub(crate) fn new(
         alloc: Global,
         window: u8,
-        long_data: bool,
+        reading: Reading,
         is_strict: bool,
     ) -> Result<Answerer, AllocError>
-        ensures judge { IfOk result (λ a. a.judge ≡ begins window long_data is_strict) }
+        ensures judge { IfOk result (λ a. a.judge ≡ begins window reading is_strict) }
         ensures empty { IfOk result (λ a. a.output ≡ []) }
         ensures faultless { IfOk result (λ a. a.is_faulty ≡ false) }
     {
         let answer = Text::new(alloc)?;
         let output = Output::new(alloc)?;
-        let judge = Judge::new(alloc, window, long_data, is_strict)?;
+        let judge = Judge::new(alloc, window, reading, is_strict)?;
         Ok(Answerer {
             octets: [0; MOST_OCTETS],
             answer,

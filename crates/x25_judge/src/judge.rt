@@ -1,9 +1,13 @@
 //! What answers a line.
 ghost use Rattle.std.specs.Prelude.{◌≡◌, ◌+◌, ◌≤◌, ◌++◌, ℕ, List, Option, true, length, codes, is_some, IfOk, OnOk};
+ghost use Rattle.std.specs.Prelude.{Err, if◌then◌else◌};
 ghost use Rattle.std.specs.Prelude.{OnErr, MatchResult};
 ghost use Rattle.x25_io.specs.code.Written.{AppendsPrefix, Tells, TellsMore};
 ghost use Rattle.x25_decode.specs.Decoding.{mark_of, n1};
+ghost use Rattle.x25_frame.specs.Error.{IsFirstError};
 ghost use Rattle.x25_frame.specs.Reading.{frame_of};
+ghost use Rattle.x25_text.specs.FrameText.{frame_text, reading_text};
+ghost use Rattle.x25_text.specs.WideFrameText.{wide_frame_text, wide_reading_text};
 ghost use Rattle.x25_frame.specs.Frame.{plain};
 ghost use Rattle.x25_packet_judge.specs.Book.{sees as book_sees};
 ghost use Rattle.x25_judge.specs.Held.{is_same, keeps};
@@ -19,12 +23,14 @@ use crate::rule::Rule;
 use crate::rule_text::{MOST_RULE, push_rule};
 use crate::sides::{End, Sides};
 use std::alloc::{AllocError, Global};
-use x25_decode::read_sent;
+use x25_decode::{Reading, read_sent};
 use x25_frame::{Frame, FrameError, N1, Role, decode};
 use x25_io::{Failed, Output, Sink};
 use x25_packet::channel;
 use x25_packet_judge::{Book, PacketRule};
-use x25_text::{MOST_OCTETS, MOST_TEXT, ROOM, Text, push_fault, push_frame};
+use x25_text::{
+    MOST_OCTETS, MOST_TEXT, ROOM, Text, push_fault, push_frame, push_other_frame, push_wide_frame,
+};
 
 /// The most characters of the rule that a frame breaks, and of the end in front of it; no note has as many.
 const MOST_REMARK: usize = MOST_RULE + 8;
@@ -36,7 +42,7 @@ pub(crate) const MOST_ANSWER: usize = MOST_TEXT + MOST_REMARK + 3;
 #[derive(Drop)]
 pub(crate) struct Judge {
     pub(crate) window: u8,
-    pub(crate) long_data: bool,
+    pub(crate) reading: Reading,
     /// A frame or packet that isn't judged counts as faulty.
     pub(crate) is_strict: bool,
     pub(crate) dte: End,
@@ -100,6 +106,37 @@ fn covers(frame: &Frame, is_again: bool, is_judged: bool) -> bool
     }
 }
 
+/// Appends a frame, as it is read.
+fn push_seen(reading: Reading, frame: &Frame, text: &mut Text)
+    requires { length text.old + MOST_TEXT ≤ ROOM }
+    ensures text { text.new ≡ text.old ++ (if reading.wide then wide_frame_text reading.long (plain frame.now)
+        else frame_text reading.long (plain frame.now)) }
+    ensures size { length text.new ≤ length text.old + MOST_TEXT }
+{
+    if reading.wide {
+        push_wide_frame(reading.long, frame, text);
+    } else {
+        push_frame(reading.long, frame, text);
+    }
+}
+
+/// Appends what octets are that spell no frame.
+fn push_missed(reading: Reading, from: Role, octets: &[u8], error: FrameError, text: &mut Text)
+    requires error { IsFirstError from n1 octets.now error }
+    requires few { length octets.now ≤ MOST_OCTETS }
+    requires room { length text.old + MOST_TEXT ≤ ROOM }
+    ensures text { text.new ≡ text.old ++ (if reading.wide
+        then wide_reading_text reading.long from octets.now (Err error) else reading_text reading.long (Err error)) }
+    ensures size { length text.new ≤ length text.old + MOST_TEXT }
+{
+    match error {
+        FrameError::Undefined { control } if reading.wide => push_other_frame(
+            from, octets, control, text,
+        ),
+        _ => push_fault(error, text),
+    }
+}
+
 /// Appends the rule that was broken, where one was, or what is noted, and a line feed; whether the frame counts as
 /// faulty is answered.
 fn tell(from: Role, is_strict: bool, remark: Remark, text: &mut Text) -> bool
@@ -147,10 +184,10 @@ impl Judge {
     pub(crate) fn new(
         alloc: Global,
         window: u8,
-        long_data: bool,
+        reading: Reading,
         is_strict: bool,
     ) -> Result<Judge, AllocError>
-        ensures { IfOk result (λ judge. judge ≡ begins window long_data is_strict) }
+        ensures { IfOk result (λ judge. judge ≡ begins window reading is_strict) }
     {
         let dte_held = Held::new(alloc)?;
         let dce_held = Held::new(alloc)?;
@@ -159,7 +196,7 @@ impl Judge {
         let dce_packets = Counts::new(alloc)?;
         Ok(Judge {
             window,
-            long_data,
+            reading,
             is_strict,
             dte: End::new(),
             dce: End::new(),
@@ -269,7 +306,7 @@ impl Judge {
     /// The rule that a frame breaks, and what is noted of it.
     fn sees(&mut self, from: Role, frame: &Frame) -> Remark
         ensures next { self.new ≡ next_by self.old from (plain frame.now) (seen_by self.old from (plain frame.now))
-            (book_sees from self.old.long_data (plain frame.now)
+            (book_sees from self.old.reading (plain frame.now)
             (is_some (seen_by self.old from (plain frame.now)).rule) self.old.book) }
         ensures remark { result ≡ remark_of self.old from (plain frame.now) (seen_by self.old from (plain frame.now)) }
     {
@@ -280,7 +317,7 @@ impl Judge {
         self.hold(from, frame);
         let verdict = self
             .book
-            .sees(from, self.long_data, frame, sides.rule.is_some());
+            .sees(from, self.reading, frame, sides.rule.is_some());
         self.keep(from, sides);
         self.count_frame(from, is_judged);
         self.count_carried(from, frame, sides.is_again, verdict.is_judged);
@@ -310,10 +347,11 @@ impl Judge {
 
     /// Appends what the octets read as, and the rule that they break; whether they break one is answered.
     fn read(&mut self, from: Role, octets: &[u8], text: &mut Text) -> bool
-        requires { length text.old + MOST_ANSWER ≤ ROOM }
-        ensures text { text.new ≡ text.old ++ (read_of self.old from (frame_of from n1 octets.now)).text }
-        ensures next { self.new ≡ (read_of self.old from (frame_of from n1 octets.now)).next }
-        ensures is_faulty { result ≡ (read_of self.old from (frame_of from n1 octets.now)).is_faulty }
+        requires few { length octets.now ≤ MOST_OCTETS }
+        requires room { length text.old + MOST_ANSWER ≤ ROOM }
+        ensures text { text.new ≡ text.old ++ (read_of self.old from octets.now (frame_of from n1 octets.now)).text }
+        ensures next { self.new ≡ (read_of self.old from octets.now (frame_of from n1 octets.now)).next }
+        ensures is_faulty { result ≡ (read_of self.old from octets.now (frame_of from n1 octets.now)).is_faulty }
     {
         let is_strict = self.is_strict;
         match from {
@@ -322,12 +360,12 @@ impl Judge {
         }
         match decode(from, N1, octets) {
             Ok(frame) => {
-                push_frame(self.long_data, &frame, text);
+                push_seen(self.reading, &frame, text);
                 let remark = self.sees(from, &frame);
                 tell(from, is_strict, remark, text)
             }
             Err(error) => {
-                push_fault(error, text);
+                push_missed(self.reading, from, octets, error, text);
                 let remark = self.misses(from, error);
                 tell(from, is_strict, remark, text)
             }

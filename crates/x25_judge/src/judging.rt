@@ -6,7 +6,8 @@ ghost use Rattle.x25_judge.specs.code.Stream.{program};
 
 use crate::answerer::Answerer;
 use std::alloc::Global;
-use x25_io::{Fault, HeldLine, LineByLine, PIECE, Sink, Source, take_text};
+use x25_decode::Reading;
+use x25_io::{Fault, HeldLine, LineByLine, Piece, Sink, Source, take_text};
 
 /// Answers each line of a trace that the reader gives by the line of `decode`, and behind it, where the frame breaks a
 /// rule of the link layer, or its packet one of the packet layer, by the end that sent it and the rule; and at the end
@@ -14,25 +15,26 @@ use x25_io::{Fault, HeldLine, LineByLine, PIECE, Sink, Source, take_text};
 /// a rule was broken or a line was refused, or where it `is_strict` and anything wasn't judged, else 0.
 ///
 /// The trace has what both ends sent, in the order in which it passed. At most `window` I frames may be unacknowledged;
-/// of data packets on a channel as many as its call and the acceptance say. With `long` the user data of a CALL has at
-/// most 128 octets, else at most 16. At most one line is held, and after each read the answers to the lines that have
-/// ended are written. The buffers are made first: `NoMemory` comes with nothing read and nothing written. A reader is
-/// called at most 2^64 - 1 times; the clauses on the text speak of inputs of fewer octets than that. Profile.
+/// of data packets on a channel as many as its call and the acceptance say. `reading` says how octets are read: with
+/// `wide` a packet in any form is judged as the one that a station takes it for. At most one line is held, and after
+/// each read the answers to the lines that have ended are written. The buffers are made first: `NoMemory` comes with
+/// nothing read and nothing written. A reader is called at most 2^64 - 1 times; the clauses on the text speak of inputs
+/// of fewer octets than that. Profile.
 pub fn judge_lines<R: Source, W: Sink>(
     alloc: Global,
     window: u8,
-    long: bool,
+    reading: Reading,
     is_strict: bool,
     reader: &mut R,
     writer: &mut W,
 ) -> Result<u8, Fault>
-    ensures runs { Runs R.Source W.Sink (program (begins window long is_strict)) reader.old reader.new
+    ensures runs { Runs R.Source W.Sink (program (begins window reading is_strict)) reader.old reader.new
         writer.old writer.new result }
     ensures memory { IsErrOf result Fault.NoMemory → (reader.new ≡ reader.old) × (writer.new ≡ writer.old) }
 {
-    let mut piece = vec![in alloc; 0u8; PIECE]?;
+    let piece = Piece::new(alloc)?;
     let held = HeldLine::new(alloc)?;
-    let answerer = Answerer::new(alloc, window, long, is_strict)?;
+    let answerer = Answerer::new(alloc, window, reading, is_strict)?;
     let lines = LineByLine::new(held, answerer);
-    take_text(lines, piece.as_mut_slice(), reader, writer)
+    take_text(lines, piece, reader, writer)
 }

@@ -1,11 +1,15 @@
 //! What a verdict means: no end that keeps the rules is told of by a rule of order, and where nothing is told order is
 //! kept. Each law is the contract of a function that does nothing.
-ghost use Rattle.x25_frame.specs.laws.ReadingLaw.{ReadsWhatIsSpelled};
-ghost use Rattle.x25_judge.specs.laws.VerdictClaims.{NoInnocentIsAccused, SilenceMeansOrder, SetUpsBegin};
+ghost use Rattle.x25_frame.specs.laws.ReadingLaw.{ReadsSpelled, ReadsWhatIsSpelled};
+ghost use Rattle.x25_judge.specs.laws.VerdictClaims.{NoInnocentIsAccused, NoStationIsAccused};
+ghost use Rattle.x25_judge.specs.laws.VerdictClaims.{SilenceMeansOrder, SetUpsBegin};
+ghost use Rattle.x25_line.specs.laws.LawsBelow.{Laws};
 ghost use Rattle.x25_line.specs.laws.PeerClaims.{KeepsOrder, OnAnySilentTape};
+ghost use Rattle.x25_line.specs.laws.StationClaims.{EachEventHandsOne};
 
-use x25_frame::reading_is_the_grammar;
-use x25_line::silent_tape_keeps_order;
+use x25_frame::{reading_is_the_grammar, reads_what_is_spelled};
+use x25_line::{each_event_hands_one, silent_tape_keeps_order};
+use x25_link::{follows_the_window, notes_what_changes, sets_up_by_rows};
 
 /// SABM of an end and UA of the other, anywhere in a trace, begin the session that the two laws below are about; but
 /// not where UA answered a SABM of that end already, and it has sent no frame with a number since.
@@ -16,15 +20,25 @@ pub fn set_ups_begin()
 /// An end that keeps the rules of docs/PEER.md, and whose numbers go one by one when they go for the first time, is
 /// told of by no rule of order of the link layer: an N(R) that acknowledges what was never sent or falls, other octets
 /// in an I frame that goes again, more than seven I frames unacknowledged. That holds whatever the other end sends,
-/// whether it keeps any rule or not, and whatever of it comes, is heard or taken, from a set-up on to the next frame
-/// without a number, where no line is damaged.
+/// whether it keeps any rule or not, whatever of it comes, is heard or taken, and whichever of its lines are damaged,
+/// from a set-up on to the next frame without a number.
 pub fn innocents_stay_untold()
     ensures { NoInnocentIsAccused }
 {}
 
-/// From a set-up on to the next frame without a number, of a trace taken in front of a station: as long as no rule is
-/// told of either end, what the station handed up is a beginning of what the I frames of the other end carry, each
-/// number once. That end may be any, and anything may be lost or damaged between the trace and the station.
+/// A station of ours is such an end: whatever the other end sends, and whatever the line does, no rule of order is told
+/// of a frame of it, in a trace taken in front of it, from a set-up on to the next frame without a number.
+pub fn stations_stay_untold()
+    ensures { NoStationIsAccused }
+{
+    laws_below();
+    innocents_stay_untold();
+}
+
+/// From a set-up on to the next frame without a number, of a trace taken in front of a station: as long as no line is
+/// damaged and no rule is told of either end, what the station handed up is a beginning of what the I frames of the
+/// other end carry, each number once. That end may be any, and anything may be lost or damaged between the trace and
+/// the station.
 pub fn silence_means_order()
     ensures { SilenceMeansOrder }
 {
@@ -33,8 +47,16 @@ pub fn silence_means_order()
 
 fn laws_below()
     ensures reads { ReadsWhatIsSpelled }
+    ensures spelled { ReadsSpelled }
     ensures order { OnAnySilentTape KeepsOrder }
+    ensures station { Laws }
+    ensures hands { EachEventHandsOne }
 {
     reading_is_the_grammar();
+    reads_what_is_spelled();
     silent_tape_keeps_order();
+    follows_the_window();
+    sets_up_by_rows();
+    notes_what_changes();
+    each_event_hands_one();
 }

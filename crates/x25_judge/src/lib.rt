@@ -17,4 +17,4 @@ mod sides;
 mod way;
 
 pub use judging::judge_lines;
-pub use law::{innocents_stay_untold, set_ups_begin, silence_means_order};
+pub use law::{innocents_stay_untold, set_ups_begin, silence_means_order, stations_stay_untold};

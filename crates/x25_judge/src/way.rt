@@ -275,7 +275,11 @@ impl Way {
         ensures { result ≡ definition.strayed ahead self }
     {
         if !self.is_sure() {
-            quiet(self.astray())
+            if self.is_missed {
+                quiet(self.astray())
+            } else {
+                quiet(self.deaf())
+            }
         } else if self.is_missed {
             notes(Note::HeardBehindDamage, self.astray())
         } else {

@@ -8,8 +8,7 @@ use Rattle.x25_circuit.specs.Params.{Proposal}
 use Rattle.x25_circuit.specs.declared.circuit.Circuit as circuit_code
 use Rattle.x25_circuit.specs.declared.error.CircuitError.{CircuitError}
 use Rattle.x25_circuit.specs.declared.error.CircuitError.TheVariants as circuit_error
-use Rattle.x25_circuit.specs.Circuit.{Settings, Circuit, waits}
-use Rattle.x25_circuit.specs.declared.params.Params.{Params}
+use Rattle.x25_circuit.specs.Circuit.{Circuit}
 use Rattle.x25_circuit.specs.Calling.{Outcome, Done, Refused, Request, Calls, outcome}
 use Rattle.x25_circuit.specs.code.Replies.{plain_sent}
 use Rattle.x25_circuit.specs.Request.{refusal_of, AnswersRequest}
@@ -21,10 +20,11 @@ use Rattle.x25_layer.specs.Error.{of_circuit}
 use Rattle.x25_layer.specs.Layer.{LayerSettings, Layer, is_channel, put_at, packet_on, is_ready}
 use Rattle.x25_layer.specs.Calls.{Asks, Dials, LayerOutcome, Accepted, Declined, free_channel, puts_at_once, where_room, if_at_once, dialled, outcome_in, layer_outcome, outcome_on}
 use Rattle.x25_layer.specs.Rounds.{LinkView, Answered, Went, Refuses, went, calls}
+use Rattle.x25_layer.specs.Rounds.{refusal_of as answered_refusal}
 use Rattle.x25_layer.specs.code.FitsLayer.{FitsCircuits, FitsLayer}
 use Rattle.x25_link.specs.declared.ordered_link.OrderedLink.{Ghosts}
 use Rattle.x25_layer.specs.code.OverLink.{LayerGives, LinkGives, LacksMemory, MayLack, Does, view_of}
-use Rattle.x25_layer.specs.Asking.{with_circuit, AsksCircuit, error_without_memory}
+use Rattle.x25_layer.specs.Asking.{with_circuit, AsksCircuit, error_without_memory, refusal_on}
 use Rattle.x25_layer.proofs.FitLemmas.{read_at}
 use Rattle.x25_layer.proofs.PullLemmas.{fits_put, fits_same}
 use Rattle.x25_layer.proofs.SettleLemmas.{not_same}
@@ -139,13 +139,31 @@ declined_link (Err f) fits after x c view v l h e (Done next p) a is = tt
 declined_link (Err f) fits after x c view v l h e (Refused d) a is = cc
 
 -- where memory is missing
-pub refused_short : (o : Outcome) (e : CircuitError) → Some e ≡ refusal_of o → error.Circuit e ≡ error_without_memory o
+pub refused_short : (o : Outcome) (e : LayerError) → Some e ≡ refusal_on o → e ≡ error_without_memory o
 refused_short (Done next p) e is = cc
 refused_short (Refused f) e is = cc
 
-pub accepted_short : (o : Outcome) → None ≡ refusal_of o → error.NoMemory ≡ error_without_memory o
+pub accepted_short : (o : Outcome) → None ≡ refusal_on o → error.NoMemory ≡ error_without_memory o
 accepted_short (Done next p) is = refl
 accepted_short (Refused f) is = cc
+
+-- a refusal of the circuit, as one of the layer
+pub refused_on : (o : Outcome) (e : CircuitError) → Some e ≡ refusal_of o → Some (error.Circuit e) ≡ refusal_on o
+refused_on (Done next p) e is = cc
+refused_on (Refused f) e is = cc
+
+pub accepted_on : (o : Outcome) → None ≡ refusal_of o → None ≡ refusal_on o
+accepted_on (Done next p) is = refl
+accepted_on (Refused f) is = cc
+
+-- what the circuit refuses the layer does
+pub refusal_goes : (view : LinkView) (c : LayerSettings) (restarts : ℕ) (circuits : ℕ → Circuit) (h : ℕ) (o : Outcome) → refusal_on o ≡ answered_refusal (went view c (outcome_on restarts circuits h o))
+refusal_goes view c restarts circuits h (Done next p) = refl
+refusal_goes view c restarts circuits h (Refused e) = refl
+
+-- a refusal that is known, as what is answered
+pub refused_as : (a : Answered) (e : LayerError) → a ≡ Refuses e → Some e ≡ answered_refusal a
+refused_as a e is = sym (ap answered_refusal is)
 
 pub short_layer : (T : Type 0) (c : LayerSettings) (view : LinkView) (v : code.Layer) (l : Layer) (h : ℕ) (e : LayerError) (o : Outcome) → e ≡ error_without_memory o → LayerGives {T = T} c v (Err e) (went view c (outcome_on l.restarts l.circuits h o))
 short_layer t c view v l h e (Done next p) is = is

@@ -5,7 +5,6 @@ use Rattle.x25_bits.specs.declared.role.Role.TheVariants.{Dte, Dce}
 use Rattle.x25_packet.specs.Packet.{PlainPacket, clear, restart, restart_conf}
 use Rattle.x25_packet.specs.Spelling.{channel_of}
 use Rattle.x25_circuit.specs.Params.{Proposal}
-use Rattle.x25_circuit.specs.declared.params.Params.{Params}
 use Rattle.x25_circuit.specs.Circuit.{Circuit}
 use Rattle.x25_circuit.specs.Notice.{PlainNotice}
 use Rattle.x25_circuit.specs.Hearing.{Answer, answers}

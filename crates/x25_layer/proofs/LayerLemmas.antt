@@ -7,7 +7,6 @@ use Rattle.x25_bits.specs.declared.role.Role.TheVariants.{Dte, Dce}
 use Rattle.x25_packet.specs.Packet.{PlainPacket, call, accept, clear, clear_conf, user_data, rr, rnr, interrupt, interrupt_conf, reset, reset_conf, restart, restart_conf}
 use Rattle.x25_packet.specs.Spelling.{channel_of, HasChannel, moved_to}
 use Rattle.x25_circuit.specs.Params.{Proposal}
-use Rattle.x25_circuit.specs.declared.params.Params.{Params}
 use Rattle.x25_circuit.specs.Circuit.{Circuit, begun, forgotten, is_free}
 use Rattle.x25_circuit.specs.Notice.{PlainNotice}
 use Rattle.x25_circuit.specs.Hearing.{Answer, answers}

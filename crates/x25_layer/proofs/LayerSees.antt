@@ -2,7 +2,6 @@
 use Rattle.std.proofs.Common.{◌≡◌, ℕ, ◌<◌, List, Option, None, Some, if◌then◌else◌, option_to_list}
 use Rattle.x25_packet.specs.Packet.{PlainPacket}
 use Rattle.x25_circuit.specs.Params.{Proposal}
-use Rattle.x25_circuit.specs.declared.params.Params.{Params}
 use Rattle.x25_circuit.specs.Circuit.{Circuit, forgotten}
 use Rattle.x25_circuit.specs.Calling.{Calls}
 use Rattle.x25_handshakes.specs.laws.Handshake.{Side, Live, Left, has_left, At}

@@ -13,7 +13,7 @@ use Rattle.x25_circuit.specs.Message.{Piece, piece_of, no_part, joining, complet
 use Rattle.x25_circuit.specs.Circuit.{Settings, Talk, Circuit, outgoing, incoming as terms_in, is_free, is_free_in, waits}
 use Rattle.x25_circuit.specs.Notice.{CallRequest, PlainNotice, connected, deliveries}
 use Rattle.x25_circuit.specs.Hearing.{Answer, answers, goes, clears_for, request_in, collides, connects, row_call, row_accept, row_clear, row_clear_conf, row_reset, row_reset_conf, unless, takes, hears_status, confirms, row_open, row_data, data_ground, number_ground}
-use Rattle.x25_circuit.specs.Calling.{Outcome, Done, Refused, Request, Calls, Accepts, Clears, Sends, Interrupts, Resets, SaysReady, SaysNotReady, does, keeps_on, request_of, call_sent, may_call, call_in, accept_with, accept_in, clear_in, send_in, interrupt_in, reset_in, ready_in, outcome, Pulled, pull_open, pull_in, pulled}
+use Rattle.x25_circuit.specs.Calling.{Outcome, Done, Refused, Request, Calls, Accepts, Clears, Sends, Interrupts, Resets, SaysReady, SaysNotReady, does, keeps_on, call_sent, may_call, call_in, accept_with, accept_in, clear_in, send_in, interrupt_in, reset_in, ready_in, outcome, Pulled, pull_open, pull_in, pulled}
 use Rattle.x25_handshakes.specs.laws.Names.{Name}
 use Rattle.x25_layer.specs.laws.NameLaw.{named_by}
 

@@ -184,7 +184,7 @@ calls_run link c w request s up is = up_link link.is_up is
     up_link false answer = absurd (refuses_went error.NotUp s answer)
 
 pub hears_run : HearsRun
-hears_run link c w packet back octets up front reads =
+hears_run link c wide w packet back octets up front reads =
     let a : LayerAnswer = layer_answers c w.near.layer packet in
     let all : moves c w HandsUp ≡ answered w packet back a = ap (λ (o : Bool). moves_in c w o HandsUp) up ∙ ap (λ (l : List PlainPacket). handed_up c w l) front in
     subst (λ (r : _). (pulled : List ℕ) × AreChannels c.channels pulled × IsRun c w (HandsUp ∷ pulls_of pulled) (moves c w HandsUp) (heard link c (answer_to c w.near.layer octets r)).step back) (sym reads)

@@ -1,9 +1,12 @@
 -- Data packets, RR and RNR with which nothing is wrong: how they are read, and what the layer answers.
-use Rattle.std.proofs.Common.{◌≡◌, ◌⊎◌, inl, inr, ℕ, ◌%◌, ◌∙◌, List, true, false, Option, Some, None, IfNone, Result, Ok, refl, ap, arith}
+use Rattle.std.proofs.Common.{◌≡◌, ◌⊎◌, inl, inr, ℕ, ◌%◌, ◌∙◌, Bool, List, true, false, Option, Some, None, IfNone, Result, Ok, refl, ap, arith}
 use Rattle.x25_packet.specs.declared.error.PacketError.{PacketError}
 use Rattle.x25_packet.specs.Packet.{PlainPacket}
 use Rattle.x25_packet.specs.Reading.{packet_of, channelled, flow_control_of}
 use Rattle.x25_packet.specs.Spelling.{HasChannel, channel_of}
+use Rattle.x25_wide.specs.Narrowing.{taken_of}
+use Rattle.x25_wide.specs.Reading.{wide_of}
+use Rattle.x25_wide.specs.Taking.{or_taken, read_in}
 use Rattle.x25_circuit.specs.declared.taking.Flow.{Flow}
 use Rattle.x25_circuit.specs.declared.taking.Flow.TheVariants as code
 use Rattle.x25_circuit.specs.Hearing.{answers}
@@ -21,6 +24,11 @@ is_status most channel kind body (inl is) =
 is_status most channel kind body (inr is) =
     rw (not_same kind 11 (λ e. omega (arith, e, is)), not_same kind 15 (λ e. omega (arith, e, is)), not_same kind 19 (λ e. omega (arith, e, is)), not_same kind 23 (λ e. omega (arith, e, is)), not_same kind 35 (λ e. omega (arith, e, is)), not_same kind 39 (λ e. omega (arith, e, is)), not_same kind 27 (λ e. omega (arith, e, is)), not_same kind 31 (λ e. omega (arith, e, is))) refl
 
+-- in all forms it is read as in the one that a station writes
+read_alike : (wide : Bool) (most : ℕ) (octets : List ℕ) (v : PlainPacket) → packet_of most octets ≡ Ok v → read_in wide most octets ≡ Ok v
+read_alike false most octets v read = read
+read_alike true most octets v read = ap (λ (r : Result PlainPacket PacketError). or_taken r (taken_of (wide_of most octets))) read
+
 -- ---- the answer
 
 has_channel : (h : ℕ) (flow : Flow) → HasChannel (plain_flow h flow)
@@ -34,10 +42,10 @@ channel_is h (code.Rr pr) = refl
 channel_is h (code.Rnr pr) = refl
 
 -- of the circuit of its channel, in a layer that is ready
-pub flow_answer : (most : ℕ) (c : LayerSettings) (l : Layer) (octets : List ℕ) (h : ℕ) (flow : Flow) → packet_of most octets ≡ Ok (plain_flow h flow) → l.restarting ≡ false → is_channel c.channels h ≡ true
-    → answer_to c l octets (packet_of most octets) ≡ answers_on l.restarts l.circuits h (answers c.circuit (l.circuits h) (plain_flow h flow))
-flow_answer most c l octets h flow read ready is =
-    ap (λ (r : Result PlainPacket PacketError). answer_to c l octets r) read
+pub flow_answer : (wide : Bool) (most : ℕ) (c : LayerSettings) (l : Layer) (octets : List ℕ) (h : ℕ) (flow : Flow) → packet_of most octets ≡ Ok (plain_flow h flow) → l.restarting ≡ false → is_channel c.channels h ≡ true
+    → answer_to c l octets (read_in wide most octets) ≡ answers_on l.restarts l.circuits h (answers c.circuit (l.circuits h) (plain_flow h flow))
+flow_answer wide most c l octets h flow read ready is =
+    ap (λ (r : Result PlainPacket PacketError). answer_to c l octets r) (read_alike wide most octets (plain_flow h flow) read)
     ∙ ready_hears c l (plain_flow h flow) (has_channel h flow) l.restarting
     ∙ ap (λ (k : ℕ). hears_on c l l.restarting k (Ok (plain_flow h flow))) (channel_is h flow)
     ∙ hears_there c l h (Ok (plain_flow h flow)) ready is

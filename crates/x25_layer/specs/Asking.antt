@@ -1,5 +1,5 @@
 -- What the circuit of a channel answers to the user of its layer.
-use Rattle.std.specs.Prelude.{◌≡◌, ℕ, Option, Result, Err, MatchResult, if◌then◌else◌}
+use Rattle.std.specs.Prelude.{◌≡◌, ℕ, Option, Some, None, Result, Err, MatchResult}
 use Rattle.x25_packet.specs.declared.packet.Packet.{Packet}
 use Rattle.x25_circuit.specs.Circuit.{Circuit}
 use Rattle.x25_circuit.specs.Calling.{Outcome, Done, Refused}
@@ -8,7 +8,6 @@ use Rattle.x25_layer.specs.declared.error.LayerError.{LayerError}
 use Rattle.x25_layer.specs.declared.error.LayerError.TheVariants as error
 use Rattle.x25_layer.specs.declared.layer.Layer as code
 use Rattle.x25_layer.specs.Layer.{LayerSettings, Layer, put_at}
-use Rattle.x25_layer.specs.Rounds.{Answered, Went, Refuses}
 use Rattle.x25_layer.specs.code.FitsLayer.{FitsLayer}
 
 -- the layer with another circuit on one channel
@@ -25,3 +24,8 @@ AsksCircuit c v result l h (Refused e) = result ≡ Err (error.Circuit e)
 abbrev pub error_without_memory : Outcome → LayerError
 error_without_memory (Done next packet) = error.NoMemory
 error_without_memory (Refused e) = error.Circuit e
+
+-- why the circuit refuses it, if it does, as an error of the layer
+abbrev pub refusal_on : Outcome → Option LayerError
+refusal_on (Done next packet) = None
+refusal_on (Refused e) = Some (error.Circuit e)

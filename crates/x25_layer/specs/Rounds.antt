@@ -4,8 +4,9 @@ use Rattle.std.specs.Prelude.{ℕ, zero, suc, ◌+◌, List, [], ◌∷◌, ◌+
 use Rattle.std.specs.Prelude.{Result, Ok, Err, Bool, nat_lt, ◌==◌, if◌then◌else◌}
 use Rattle.x25_packet.specs.declared.error.PacketError.{PacketError}
 use Rattle.x25_packet.specs.Packet.{PlainPacket}
-use Rattle.x25_packet.specs.Reading.{packet_of, channel_in}
+use Rattle.x25_packet.specs.Reading.{channel_in}
 use Rattle.x25_packet.specs.Spelling.{longest_user}
+use Rattle.x25_wide.specs.Taking.{read_in}
 use Rattle.x25_circuit.specs.Circuit.{Circuit}
 use Rattle.x25_layer.specs.declared.error.LayerError.{LayerError}
 use Rattle.x25_layer.specs.declared.error.LayerError.TheVariants as error
@@ -73,6 +74,11 @@ abbrev pub calls : LinkView → LayerSettings → Layer → LayerRequest → Ans
 calls link c l request = if link.is_up then went link c (layer_outcome c (link.waits [] == 256) l request)
     else Refuses error.NotUp
 
+-- why it is refused, if it is
+abbrev pub refusal_of : Answered → Option LayerError
+refusal_of (Went step) = None
+refusal_of (Refuses e) = Some e
+
 -- ---- what the link hands up or notes
 
 pub record Heard : Type 0 where
@@ -90,9 +96,10 @@ answer_to c l octets (Err e) = undecoded_at c l e (channel_in octets)
 abbrev pub heard : LinkView → LayerSettings → LayerAnswer → Heard
 heard link c a = record { step = rounds link c (begin a.next a.owed); notices = a.notices }
 
--- octets that the link handed up, read with as much user data as a CALL of this end may have
-abbrev pub hears : LinkView → LayerSettings → Layer → List ℕ → Heard
-hears link c l octets = heard link c (answer_to c l octets (packet_of (longest_user c.circuit.long_data) octets))
+-- octets that the link handed up, read in one form or in all, with as much user data as a CALL of this end may have
+abbrev pub hears : LinkView → LayerSettings → Bool → Layer → List ℕ → Heard
+hears link c wide l octets =
+    heard link c (answer_to c l octets (read_in wide (longest_user c.circuit.long_data) octets))
 
 -- the link came up
 abbrev pub comes_up : LinkView → LayerSettings → Heard

@@ -6,11 +6,11 @@ ghost use Rattle.x25_circuit.specs.code.Replies.{IsSendable, plain_sent};
 ghost use Rattle.x25_circuit.specs.Request.{plain_request, is_message, MayPut};
 ghost use Rattle.x25_layer.specs.Layer.{LayerSettings, is_channel};
 ghost use Rattle.x25_layer.specs.Layer.{Layer as State};
-ghost use Rattle.x25_layer.specs.Calls.{LayerRequest, puts_at_once, outcome_on};
+ghost use Rattle.x25_layer.specs.Calls.{LayerRequest, Asks, puts_at_once, outcome_on};
 ghost use Rattle.x25_layer.specs.Rounds.{Refuses, calls, went};
 ghost use Rattle.x25_layer.specs.code.FitsLayer.{FitsLayer};
 ghost use Rattle.x25_layer.specs.code.OverLink.{Does, view_of};
-ghost use Rattle.x25_layer.specs.Asking.{AsksCircuit, error_without_memory};
+ghost use Rattle.x25_layer.specs.Asking.{AsksCircuit, error_without_memory, refusal_on};
 ghost use Rattle.x25_layer.specs.Room.{HaveRoom};
 
 use crate::error::LayerError;
@@ -74,17 +74,59 @@ impl Layer {
         }
     }
 
+    /// Why no request to the circuit of a channel is accepted now, whatever the circuit says: as `unready`, then 42
+    /// NoSuchChannel, then 10 QueueFull but for a message.
+    #[inline(always)]
+    pub(crate) fn closed<L: OrderedLink>(
+        &self,
+        link: &L,
+        channel: u16,
+        request: &Request<'_>,
+    ) -> Option<LayerError>
+        ensures refused { (c : LayerSettings) (l : State) (x : L.State) → FitsLayer c self.now l → L.fits link.now x
+            → IfSome result (λ e. calls (view_of L.up_in L.waits_in L.after_put x) c l
+            (Asks channel (plain_request request.now)) ≡ Refuses e) }
+        ensures kinds { IfSome result (λ e. e ≢ LayerError.NoMemory) }
+        ensures channel { IfNone result (is_channel (length self.now.circuits.items) channel ≡ true) }
+        ensures ready { IfNone result (self.now.restarting ≡ false) }
+        ensures up { IfNone result (L.up link.now ≡ true) }
+        ensures free { IfNone result (puts_at_once (plain_request request.now) ≡ true → L.waits link.now < 256) }
+    {
+        if let Some(error) = self.unready(link) {
+            return Some(error);
+        }
+        if self.circuit(channel).is_none() {
+            return Some(LayerError::NoSuchChannel);
+        }
+        if puts_at_once(request) && link.waiting() == 256 {
+            return Some(LayerError::QueueFull);
+        }
+        None
+    }
+
+    /// Why the circuit of a configured channel would refuse this now, if it would.
+    pub(crate) fn circuit_refusal(&self, channel: u16, request: &Request<'_>) -> Option<LayerError>
+        requires { is_channel (length self.now.circuits.items) channel ≡ true }
+        ensures { (c : LayerSettings) (l : State) → FitsLayer c self.now l
+            → result ≡ refusal_on (outcome c.circuit (l.circuits channel) (plain_request request.now)) }
+    {
+        let Some(circuit) = self.circuit(channel) else {
+            unreachable!();
+        };
+        match circuit.refusal(request) {
+            Some(error) => Some(LayerError::Circuit(error)),
+            None => None,
+        }
+    }
+
     // Where memory is missing for a call, a refusal of its circuit goes before 70.
     fn without_memory(&self, channel: u16, request: &Request<'_>) -> LayerError
         requires { is_channel (length self.now.circuits.items) channel ≡ true }
         ensures { (c : LayerSettings) (l : State) → FitsLayer c self.now l
             → result ≡ error_without_memory (outcome c.circuit (l.circuits channel) (plain_request request.now)) }
     {
-        let Some(circuit) = self.circuit(channel) else {
-            unreachable!();
-        };
-        match circuit.refusal(request) {
-            Some(error) => LayerError::Circuit(error),
+        match self.circuit_refusal(channel, request) {
+            Some(error) => error,
             None => LayerError::NoMemory,
         }
     }

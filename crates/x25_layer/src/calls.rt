@@ -13,10 +13,10 @@ ghost use Rattle.x25_circuit.specs.Request.{plain_request};
 ghost use Rattle.x25_layer.specs.Layer.{LayerSettings};
 ghost use Rattle.x25_layer.specs.Layer.{Layer as State};
 ghost use Rattle.x25_layer.specs.code.FitsLayer.{FitsLayer};
-ghost use Rattle.x25_layer.specs.code.OverLink.{Answers};
+ghost use Rattle.x25_layer.specs.Rounds.{calls, refusal_of};
+ghost use Rattle.x25_layer.specs.code.OverLink.{Answers, view_of};
 ghost use Rattle.x25_layer.specs.Calls.{Asks, Dials, free_channel};
 
-use crate::asking::puts_at_once;
 use crate::error::LayerError;
 use crate::layer::Layer;
 use x25_circuit::{Proposal, Request};
@@ -40,16 +40,28 @@ impl Layer {
         ensures { Answers L.OrderedLink self.old link.old self.new link.new result 16
             (Asks channel (plain_request request.entry)) }
     {
-        if let Some(error) = self.unready(link) {
+        if let Some(error) = self.closed(link, channel, &request) {
             return Err(error);
         }
-        if self.circuit(channel).is_none() {
-            return Err(LayerError::NoSuchChannel);
-        }
-        if puts_at_once(&request) && link.waiting() == 256 {
-            return Err(LayerError::QueueFull);
-        }
         self.ask_ready(link, channel, request)
+    }
+
+    /// Why `ask` would refuse this now, if it would, but for want of memory.
+    #[inline(always)]
+    pub fn refusal<L: OrderedLink>(
+        &self,
+        link: &L,
+        channel: u16,
+        request: &Request<'_>,
+    ) -> Option<LayerError>
+        ensures { (c : LayerSettings) (l : State) (x : L.State) → FitsLayer c self.now l → L.fits link.now x
+            → result ≡ refusal_of (calls (view_of L.up_in L.waits_in L.after_put x) c l
+            (Asks channel (plain_request request.now))) }
+    {
+        if let Some(error) = self.closed(link, channel, request) {
+            return Some(error);
+        }
+        self.circuit_refusal(channel, request)
     }
 
     /// Calls the other end, with addresses of 0 to 15 digits and at most 16 octets of user data (128 where it may be
@@ -90,5 +102,36 @@ impl Layer {
         };
         self.ask_ready(link, channel, request)?;
         Ok(channel)
+    }
+
+    /// Why `call` would refuse this now, if it would, but for want of memory.
+    pub fn call_refusal<L: OrderedLink>(
+        &self,
+        link: &L,
+        called: &str,
+        calling: &str,
+        user: &[u8],
+        proposal: &Proposal,
+    ) -> Option<LayerError>
+        ensures { (c : LayerSettings) (l : State) (x : L.State) → FitsLayer c self.now l → L.fits link.now x
+            → result ≡ refusal_of (calls (view_of L.up_in L.waits_in L.after_put x) c l
+            (Dials called.now calling.now user.now proposal.now)) }
+    {
+        if let Some(error) = self.unready(link) {
+            return Some(error);
+        }
+        let Some(channel) = self.free_channel() else {
+            return Some(LayerError::NoFreeChannel);
+        };
+        if link.waiting() == 256 {
+            return Some(LayerError::QueueFull);
+        }
+        let request = Request::Call {
+            called,
+            calling,
+            user,
+            proposal,
+        };
+        self.circuit_refusal(channel, &request)
     }
 }

@@ -1,8 +1,8 @@
 //! Octets that the link handed up. ITU-T X.25 (10/96), sections 3.3 and 4, and Annex C.
 ghost use Rattle.std.specs.Prelude.{◌≡◌, ℕ, ◌+◌, ◌-◌, ◌^◌, ◌<◌, ◌≤◌, [], length, max, min, true, IfErr, IfOk, IfNone};
-ghost use Rattle.std.specs.Prelude.{IsOk, OnOk, OnErr, option_to_list};
-ghost use Rattle.x25_packet.specs.Reading.{packet_of};
+ghost use Rattle.std.specs.Prelude.{IsOk, is_some, OnOk, OnErr, option_to_list};
 ghost use Rattle.x25_packet.specs.Spelling.{longest_user};
+ghost use Rattle.x25_wide.specs.Taking.{read_in};
 ghost use Rattle.x25_circuit.specs.Circuit.{Settings};
 ghost use Rattle.x25_circuit.specs.Circuit.{Circuit as Channel};
 ghost use Rattle.x25_circuit.specs.code.FitsCircuit.{FitsCircuit, room_of};
@@ -23,7 +23,8 @@ use crate::putting::MOST_PUT;
 use crate::told::Told;
 use x25_circuit::{Circuit, CircuitError, Notice, Reply};
 use x25_link::OrderedLink;
-use x25_packet::{Packet, PacketError, channel, decode_within, longest_user};
+use x25_packet::{Packet, PacketError, channel, longest_user};
+use x25_wide::{NarrowField, read, taking_keeps_octets};
 
 // The circuit takes a packet, or octets that spell none, by their error.
 fn hear_circuit<'a>(
@@ -165,11 +166,13 @@ impl Layer {
         Ok(told_on(channel, collided, notice))
     }
 
-    // Octets that the link handed up, whatever they are. The packet that is owed for them is put.
+    // Octets that the link handed up, whatever they are. The packet that is owed for them is put. Where a field is lent
+    // they are read in all forms.
     fn hear<'a, L: OrderedLink>(
         &mut self,
         link: &mut L,
         octets: &'a [u8],
+        field: Option<&'a mut NarrowField>,
     ) -> Result<Told<'a>, LayerError>
         requires left { IsNotFull self.old }
         requires memory { 0 < self.old.memory }
@@ -179,14 +182,15 @@ impl Layer {
         requires longest { 4099 ≤ L.longest link.old }
         ensures layer { (c : LayerSettings) (l : State) → FitsLayer c self.old l
             → OnOk result (FitsLayer c self.new
-            (answer_to c l octets.now (packet_of (longest_user self.old.long_data) octets.now)).next) }
+            (answer_to c l octets.now
+            (read_in (is_some field.entry) (longest_user self.old.long_data) octets.now)).next) }
         ensures link { (c : LayerSettings) (l : State) (x : L.State) → FitsLayer c self.old l → L.fits link.old x
             → OnOk result (L.fits link.new (after_all L.after_put x
             (option_to_list (answer_to c l octets.now
-            (packet_of (longest_user self.old.long_data) octets.now)).owed))) }
+            (read_in (is_some field.entry) (longest_user self.old.long_data) octets.now)).owed))) }
         ensures told { (c : LayerSettings) (l : State) → FitsLayer c self.old l
-            → IfOk result (λ told. plain_told told
-            ≡ (answer_to c l octets.now (packet_of (longest_user self.old.long_data) octets.now)).notices) }
+            → IfOk result (λ told. plain_told told ≡ (answer_to c l octets.now
+            (read_in (is_some field.entry) (longest_user self.old.long_data) octets.now)).notices) }
         ensures nothing { IfOk result (λ told. plain_told told ≡ [] → told ≡ Told.Nothing) }
         ensures memory { OnOk result (self.old.memory ≤ self.new.memory + 1) }
         ensures spares { OnOk result (L.spares link.old ≤ L.spares link.new + 1) }
@@ -210,7 +214,8 @@ impl Layer {
         let Some(channel) = channel(octets) else {
             return Ok(Told::Nothing);
         };
-        let read = decode_within(longest_user(self.long_data), octets);
+        taking_keeps_octets();
+        let read = read(longest_user(self.long_data), octets, field);
         match &read {
             Ok(Packet::Restart { cause, diagnostic }) => Ok(self.hear_restart(
                 link,
@@ -226,6 +231,9 @@ impl Layer {
     /// what is reported to the users, `Told::Nothing` exactly where that is nothing; a stretch has its name after the
     /// call.
     ///
+    /// Without `field` they are read in the form that a station writes alone. With it they are read in any form that
+    /// X.25 has, and taken for a packet of that form (`take` of `x25_wide`), whose facilities are put into the field.
+    ///
     /// No count is full, the link is up, fewer than 256 packets wait in it, and it takes packets of 4,099 octets.
     /// Octets that spell no packet go to the channel that the first two name. They are dropped where they name no
     /// configured channel, and, but for RESTART and its confirmation, while this end's restart isn't confirmed.
@@ -237,6 +245,7 @@ impl Layer {
         &mut self,
         link: &mut L,
         octets: &'a [u8],
+        field: Option<&'a mut NarrowField>,
     ) -> Result<Told<'a>, LayerError>
         requires left { IsNotFull self.old }
         requires up { L.up link.old ≡ true }
@@ -244,12 +253,12 @@ impl Layer {
         requires longest { 4099 ≤ L.longest link.old }
         ensures layer { (c : LayerSettings) (l : State) (x : L.State) → FitsLayer c self.old l → L.fits link.old x
             → OnOk result (FitsLayer c self.new
-            (hears (view_of L.up_in L.waits_in L.after_put x) c l octets.now).step.layer) }
+            (hears (view_of L.up_in L.waits_in L.after_put x) c (is_some field.entry) l octets.now).step.layer) }
         ensures link { (c : LayerSettings) (l : State) (x : L.State) → FitsLayer c self.old l → L.fits link.old x
             → OnOk result (L.fits link.new (after_all L.after_put x
-            (hears (view_of L.up_in L.waits_in L.after_put x) c l octets.now).step.put)) }
+            (hears (view_of L.up_in L.waits_in L.after_put x) c (is_some field.entry) l octets.now).step.put)) }
         ensures told { (c : LayerSettings) (l : State) (view : LinkView) → FitsLayer c self.old l
-            → IfOk result (λ told. plain_told told ≡ (hears view c l octets.now).notices) }
+            → IfOk result (λ told. plain_told told ≡ (hears view c (is_some field.entry) l octets.now).notices) }
         ensures nothing { IfOk result (λ told. plain_told told ≡ [] → told ≡ Told.Nothing) }
         ensures longest { L.longest link.new ≡ L.longest link.old }
         ensures err { IfErr result (λ e. e ≡ LayerError.NoMemory) }
@@ -267,7 +276,7 @@ impl Layer {
             → OnErr result (HasRoom len self.new (L.spares link.new)) }
     {
         self.set_aside(link, MOST_PUT)?;
-        let told = self.hear(link, octets)?;
+        let told = self.hear(link, octets, field)?;
         self.pull_all(link);
         Ok(told)
     }

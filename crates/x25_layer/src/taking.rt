@@ -1,6 +1,6 @@
 //! Data packets, RR and RNR with which nothing is wrong, which most packets are: read and taken by themselves, without
 //! the types that have place for any packet and any notice. ITU-T X.25 (10/96), sections 4.3 and 4.4.1.
-ghost use Rattle.std.specs.Prelude.{◌≡◌, ℕ, ◌+◌, ◌<◌, ◌≤◌, length, true, false, Ok, OnSome, IfSome, IfNone};
+ghost use Rattle.std.specs.Prelude.{◌≡◌, ℕ, Bool, ◌+◌, ◌<◌, ◌≤◌, length, true, false, Ok, OnSome, IfSome, IfNone};
 ghost use Rattle.std.specs.Prelude.{option_to_list};
 ghost use Rattle.x25_packet.specs.Reading.{packet_of, data_of, channelled};
 ghost use Rattle.x25_circuit.specs.Notice.{deliveries};
@@ -134,15 +134,17 @@ impl Layer {
         requires up { L.up link.old ≡ true }
         requires free { L.waits link.old < 256 }
         requires longest { 4099 ≤ L.longest link.old }
-        ensures layer { (c : LayerSettings) (l : State) (x : L.State) → FitsLayer c self.old l → L.fits link.old x
+        ensures layer { (wide : Bool) (c : LayerSettings) (l : State) (x : L.State)
+            → FitsLayer c self.old l → L.fits link.old x
             → OnSome result (FitsLayer c self.new
-            (hears (view_of L.up_in L.waits_in L.after_put x) c l octets.now).step.layer) }
-        ensures link { (c : LayerSettings) (l : State) (x : L.State) → FitsLayer c self.old l → L.fits link.old x
+            (hears (view_of L.up_in L.waits_in L.after_put x) c wide l octets.now).step.layer) }
+        ensures link { (wide : Bool) (c : LayerSettings) (l : State) (x : L.State)
+            → FitsLayer c self.old l → L.fits link.old x
             → OnSome result (L.fits link.new (after_all L.after_put x
-            (hears (view_of L.up_in L.waits_in L.after_put x) c l octets.now).step.put)) }
-        ensures told { (c : LayerSettings) (l : State) (view : LinkView) → FitsLayer c self.old l
+            (hears (view_of L.up_in L.waits_in L.after_put x) c wide l octets.now).step.put)) }
+        ensures told { (wide : Bool) (c : LayerSettings) (l : State) (view : LinkView) → FitsLayer c self.old l
             → IfSome result (λ delivery. notices_on delivery.channel (deliveries (option_to_list delivery.message))
-            ≡ (hears view c l octets.now).notices) }
+            ≡ (hears view c wide l octets.now).notices) }
         ensures channel { (c : LayerSettings) (l : State) → FitsLayer c self.old l
             → IfSome result (λ delivery. is_channel c.channels delivery.channel ≡ true) }
         ensures longest { L.longest link.new ≡ L.longest link.old }

@@ -6,7 +6,9 @@ use crate::play::Event::{
 };
 use crate::play::{Row, STAY, play};
 use std::test::Fail;
-use x25_layer::Role;
+use x25_circuit::{CircuitError, Request};
+use x25_layer::{Layer, LayerError, Params, Proposal, Role};
+use x25_link::PlainLink;
 
 static RESTARTING: [Row; 11] = [
     (Restart, "ok", "1000fb0000"),
@@ -97,6 +99,27 @@ static NOT_ALLOWED: [Row; 10] = [
 #[test]
 fn the_circuit_refuses_what_its_state_does_not_allow(rt: HostRuntime) -> Result<(), Fail> {
     play(&rt, rt.alloc(), Role::Dte, 3, &[NOT_ALLOWED.as_slice()])
+}
+
+#[test]
+fn refusals_are_told_beforehand(rt: HostRuntime) -> Result<(), Fail> {
+    let layer = Layer::with(rt.alloc(), Role::Dte, 1, false)?;
+    let link = PlainLink::new(rt.alloc())?;
+    let proposal = Proposal::new(Params::default(), false);
+    let clear = Request::Clear;
+    let state = LayerError::Circuit(CircuitError::WrongState);
+    let parameter = LayerError::Circuit(CircuitError::BadParameter);
+    assert_eq!(rt; layer.refusal(&link, 1, &clear), Some(state));
+    assert_eq!(rt;
+        layer.refusal(&link, 2, &clear),
+        Some(LayerError::NoSuchChannel)
+    );
+    assert_eq!(rt;
+        layer.call_refusal(&link, "x", "", &[], &proposal),
+        Some(parameter)
+    );
+    assert_eq!(rt; layer.call_refusal(&link, "1", "2", &[], &proposal), None);
+    Ok(())
 }
 
 static DTE_CALLS: [Row; 4] = [

@@ -1,6 +1,8 @@
 //! Octets that the link handed up: what the users are told, and what is owed.
 
-use crate::play::Event::{Accept, Call, Full, Restart, Room, Send, State, Take, Transfer};
+use crate::play::Event::{
+    Accept, Call, Full, Restart, Room, Send, State, Take, TakeWide, Transfer,
+};
 use crate::play::{Row, play};
 use std::test::Fail;
 use x25_layer::Role;
@@ -81,4 +83,30 @@ static TRANSFERS: [Row; 16] = [
 #[test]
 fn packets_of_data_transfer_are_taken_by_themselves(rt: HostRuntime) -> Result<(), Fail> {
     play(&rt, rt.alloc(), Role::Dte, 2, &[TRANSFERS.as_slice()])
+}
+
+static IN_ALL_FORMS: [Row; 12] = [
+    (Take("1000fb07"), "nothing", ""),
+    (TakeWide("1000fb07"), "restarted 7 0", "1000ff"),
+    // A facility that a layer doesn't know, and D.
+    (TakeWide("50010b111205010143020241"), "1: incoming", ""),
+    (Accept(1), "ok", "10010f"),
+    (TakeWide("50010068"), "1: message 1", "100121"),
+    (TakeWide("10011b05"), "1: reset 5 0", "10011f"),
+    (Take("10011b05"), "1: fault 38", "10011b8026"),
+    (TakeWide("10011f"), "1: reset done", ""),
+    (
+        TakeWide("1001130541000201ffc0"),
+        "1: cleared 5 65",
+        "100117",
+    ),
+    // REJ and DIAGNOSTIC have no place in it.
+    (TakeWide("100109"), "1: fault 33", "1001138021"),
+    (TakeWide("1001170000"), "1: clear done", ""),
+    (TakeWide("1000f121"), "nothing", ""),
+];
+
+#[test]
+fn packets_in_all_forms(rt: HostRuntime) -> Result<(), Fail> {
+    play(&rt, rt.alloc(), Role::Dte, 1, &[IN_ALL_FORMS.as_slice()])
 }

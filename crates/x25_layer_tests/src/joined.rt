@@ -45,7 +45,7 @@ fn crosses(alloc: Global, from: &mut End, to: &mut End) -> Result<String, Fail> 
     let Some(packet) = from.link.out() else {
         return Err("no packet waits")?;
     };
-    let told = hand_up(alloc, &mut to.layer, &mut to.link, packet.as_slice())?;
+    let told = hand_up(alloc, &mut to.layer, &mut to.link, packet.as_slice(), None)?;
     let packet = packet_text(alloc, packet.as_slice())?;
     Ok(format!(in alloc; "{packet}: {told}")?)
 }

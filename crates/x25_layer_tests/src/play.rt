@@ -8,6 +8,7 @@ use std::test::Fail;
 use x25_circuit::Request;
 use x25_layer::{Delivery, Layer, LayerError, Params, Proposal, Role};
 use x25_link::{OrderedLink, PlainLink};
+use x25_wide::NarrowField;
 
 /// Packet sizes of the called and of the calling end, and then windows.
 type Values = [u8; 4];
@@ -38,6 +39,8 @@ pub enum Event<'a> {
     NotReady(u16),
     /// Octets, in hexadecimal, are handed up by the link.
     Take(&'a str),
+    /// The same, where they are read in all forms.
+    TakeWide(&'a str),
     /// The same, by the call that takes packets of data transfer alone. The text is the channel and how many octets the
     /// message has that ends with the packet, or 'none'.
     Transfer(&'a str),
@@ -61,7 +64,8 @@ pub enum Event<'a> {
 
 use Event::{
     Accept, AcceptWith, Agreed, Call, CallWith, Clear, Down, Fill, Full, Interrupt, Joined,
-    NotReady, Pull, Ready, Reset, Restart, Room, Send, State, Take, Transfer, Up, Waiting, Waits,
+    NotReady, Pull, Ready, Reset, Restart, Room, Send, State, Take, TakeWide, Transfer, Up,
+    Waiting, Waits,
 };
 
 /// What happens, and what it shows.
@@ -106,17 +110,18 @@ fn fill<L: OrderedLink>(alloc: Global, link: &mut L, count: usize) -> Result<Str
     Ok(String::new(alloc))
 }
 
-/// Hands octets up to a layer that may take them.
+/// Hands octets up to a layer that may take them, and reads them in all forms where a field is lent.
 pub fn hand_up<L: OrderedLink>(
     alloc: Global,
     layer: &mut Layer,
     link: &mut L,
     octets: &[u8],
+    field: Option<&mut NarrowField>,
 ) -> Result<String, Fail> {
     if !link.is_up() || link.waiting() == 256 || link.limit() < 4099 || layer.full() {
         return Err("the layer takes no packet")?;
     }
-    let told = layer.packet(link, octets)?;
+    let told = layer.packet(link, octets, field)?;
     Ok(told_text(alloc, &told)?)
 }
 
@@ -125,9 +130,10 @@ fn take<L: OrderedLink>(
     layer: &mut Layer,
     link: &mut L,
     octets: &str,
+    field: Option<&mut NarrowField>,
 ) -> Result<String, Fail> {
     let octets = hex::decode(alloc, octets)?;
-    hand_up(alloc, layer, link, octets.as_slice())
+    hand_up(alloc, layer, link, octets.as_slice(), field)
 }
 
 fn delivery_text(alloc: Global, delivery: Option<Delivery>) -> Result<String, AllocError> {
@@ -228,7 +234,11 @@ pub fn happens<L: OrderedLink>(
         return Err("the link takes no packet of 4,099 octets")?;
     }
     let text = match event {
-        Take(octets) => return take(alloc, layer, link, octets),
+        Take(octets) => return take(alloc, layer, link, octets, None),
+        TakeWide(octets) => {
+            let mut field = NarrowField::none();
+            return take(alloc, layer, link, octets, Some(&mut field));
+        }
         Transfer(octets) => return transfer(alloc, layer, link, octets),
         Fill(count) => return fill(alloc, link, count),
         Room => return room(alloc, layer, link),

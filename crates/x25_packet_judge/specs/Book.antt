@@ -9,16 +9,22 @@ use Rattle.x25_packet.specs.Packet.{PlainPacket, restart, restart_conf}
 use Rattle.x25_packet.specs.Reading.{channel_in, packet_of}
 use Rattle.x25_packet.specs.Spelling.{longest_user}
 use Rattle.x25_packet.specs.declared.error.PacketError.{PacketError}
-use Rattle.x25_packet_judge.specs.Layer as layer
+use Rattle.x25_decode.specs.declared.answer.Reading.{Reading}
+use Rattle.x25_packet_judge.specs.Layer.{unseen}
+use Rattle.x25_packet_judge.specs.Layers as layers
 use Rattle.x25_packet_judge.specs.Packets.{sends}
 use Rattle.x25_packet_judge.specs.Pair.{is_known, noted, unknown}
 use Rattle.x25_packet_judge.specs.Port.{all_alike, blank, fresh}
 use Rattle.x25_packet_judge.specs.declared.book.Book.{Book}
 use Rattle.x25_packet_judge.specs.declared.book.Verdict.{Verdict}
-use Rattle.x25_packet_judge.specs.declared.layer.Layers.{Layers}
+use Rattle.x25_packet_judge.specs.declared.layers.Layers.{Layers}
 use Rattle.x25_packet_judge.specs.declared.packet_rule.PacketRule.{PacketRule}
 use Rattle.x25_packet_judge.specs.declared.pair.Pair.{Pair}
 use Rattle.x25_packet_judge.specs.declared.port.Port.{Port}
+use Rattle.x25_wide.specs.Packet as wide_packet
+use Rattle.x25_wide.specs.Packet.{PlainKind, PlainWide}
+use Rattle.x25_wide.specs.Reading.{wide_of}
+use Rattle.x25_wide.specs.Taking.{taken_in}
 
 abbrev pub other : Role → Role
 other Dte = Dce
@@ -26,7 +32,7 @@ other Dce = Dte
 
 -- nothing was sent
 abbrev pub empty : Book
-empty = record { dte = layer.unseen; dce = layer.unseen; dte_ports = all_alike blank; dce_ports = all_alike blank }
+empty = record { dte = unseen; dce = unseen; dte_ports = all_alike blank; dce_ports = all_alike blank }
 
 -- ---- parts: the end that sends comes first
 
@@ -113,15 +119,16 @@ took from t channel p b = put_by from channel p p.rule (keeps from t b)
 unfoldable pub takes_on : Role → Layers → ℕ → PlainPacket → Book → Seen
 takes_on from t channel packet b =
     if is_some t.rule then told (keeps from t b) t.rule
-    else if not (layer.are_sure t) then blind from channel (pair_of from (layer.are_level t) channel b) (keeps from t b)
-    else took from t channel (sends packet (pair_of from (layer.are_level t) channel b)) b
+    else if not (layers.are_sure t)
+    then blind from channel (pair_of from (layers.are_level t) channel b) (keeps from t b)
+    else took from t channel (sends packet (pair_of from (layers.are_level t) channel b)) b
 
 -- where no restart and confirmation went before, nothing is known of the end's channels
 unfoldable pub runs : Role → ℕ → PlainPacket → Book → Seen
 runs from channel packet b =
-    if layer.runs_early (layers_of from b)
-    then takes_on from (layer.runs (layers_of from b)) channel packet (fills from blank b)
-    else takes_on from (layer.runs (layers_of from b)) channel packet b
+    if layers.runs_early (layers_of from b)
+    then takes_on from (layers.runs (layers_of from b)) channel packet (fills from blank b)
+    else takes_on from (layers.runs (layers_of from b)) channel packet b
 
 -- RESTART and its confirmation: all channels of the end that sends begin anew
 unfoldable pub restarts : Role → Layers → Book → Seen
@@ -129,75 +136,99 @@ restarts from t b = told (keeps from t (fills from fresh b)) t.rule
 
 -- all channels of both ends do
 abbrev pub refinds : Role → Layers → Book → Seen
-refinds from t b = told (keeps from (layer.refinds t) (fills_both fresh b)) None
+refinds from t b = told (keeps from (layers.refinds t) (fills_both fresh b)) None
 
 -- a confirmation of a RESTART behind a fault of restarts
 abbrev pub confirms_lost : Role → Layers → Book → Seen
-confirms_lost from t b = if layer.is_sure_answer t then refinds from t b
-    else quiet (keeps from (layer.confirms_lost t) b)
+confirms_lost from t b = if layers.is_sure_answer t then refinds from t b
+    else quiet (keeps from (layers.confirms_lost t) b)
 
 -- a confirmation of a RESTART that was seen
 abbrev pub answers : Role → Layers → Book → Seen
-answers from t b = if layer.are_counted t then restarts from (layer.answers_restart t) b else refinds from t b
+answers from t b = if layers.are_counted t then restarts from (layers.answers_restart t) b else refinds from t b
 
 -- A confirmation of none that was seen, or again of one that was sent again: of the channels of its sender nothing is
 -- known, and of the other end's what was followed.
 unfoldable pub confirms : Role → Layers → Book → Seen
 confirms from t b =
-    if layer.are_lost t then confirms_lost from t b
-    else if layer.is_answer t then answers from t b
-    else if layer.is_second_answer t then told (keeps from (layer.confirms_again t) (fills from blank b)) None
-    else if layer.are_counted t
-    then told (keeps from (layer.confirms_unseen t) (fills from blank b)) (layer.confirms_unseen t).rule
-    else if layer.are_sure t then quiet (keeps from (layer.confirms_unseen t) (fills from blank b))
-    else quiet (keeps from (layer.confirms_unseen t) (fills_both blank b))
+    if layers.are_lost t then confirms_lost from t b
+    else if layers.is_answer t then answers from t b
+    else if layers.is_second_answer t then told (keeps from (layers.confirms_again t) (fills from blank b)) None
+    else if layers.are_counted t
+    then told (keeps from (layers.confirms_unseen t) (fills from blank b)) (layers.confirms_unseen t).rule
+    else if layers.are_sure t then quiet (keeps from (layers.confirms_unseen t) (fills from blank b))
+    else quiet (keeps from (layers.confirms_unseen t) (fills_both blank b))
 
 unfoldable pub takes : Role → ℕ → PlainPacket → Book → Seen
-takes from channel (restart cause diagnostic) b = restarts from (layer.restarts (layers_of from b)) b
+takes from channel (restart cause diagnostic) b = restarts from (layers.restarts (layers_of from b)) b
 takes from channel restart_conf b = confirms from (layers_of from b) b
 takes from channel packet b = runs from channel packet b
 
 -- octets that spell none: nothing may be said of their channel, or of restarts where they name none
 abbrev pub misses_on : Role → ℕ → Book → Seen
 misses_on from channel b =
-    if channel == 0 then passed (keeps from (layer.are_unsure (layers_of from b)) b) (Some 0)
-    else blind from channel (unknown (pair_of from (layer.are_level (layers_of from b)) channel b)) b
+    if channel == 0 then passed (keeps from (layers.are_unsure (layers_of from b)) b) (Some 0)
+    else blind from channel (unknown (pair_of from (layers.are_level (layers_of from b)) channel b)) b
+
+-- DIAGNOSTIC changes nothing of calls and restarts
+abbrev pub diagnoses : PlainKind → Bool
+diagnoses (wide_packet.diagnostic number explanation) = true
+diagnoses kind = false
+
+abbrev pub is_diagnostic : Result PlainWide PacketError → Bool
+is_diagnostic (Ok w) = diagnoses w.kind
+is_diagnostic (Err e) = false
 
 abbrev pub takes_read : Role → ℕ → Result PlainPacket PacketError → Book → Seen
 takes_read from channel (Ok packet) b = takes from channel packet b
 takes_read from channel (Err e) b = misses_on from channel b
 
-abbrev pub reads_on : Role → Bool → List ℕ → Option ℕ → Book → Seen
-reads_on from long_data octets None b = quiet b
-reads_on from long_data octets (Some channel) b = takes_read from channel (packet_of (longest_user long_data) octets) b
+-- in the form that a station writes
+abbrev pub reads_written : Role → ℕ → ℕ → List ℕ → Book → Seen
+reads_written from channel most octets b = takes_read from channel (packet_of most octets) b
+
+-- in any form: as the packet that a station takes it for
+abbrev pub takes_any : Role → ℕ → Bool → Result PlainPacket PacketError → Book → Seen
+takes_any from channel diagnoses (Ok packet) b = takes from channel packet b
+takes_any from channel diagnoses (Err e) b = if diagnoses then quiet b else misses_on from channel b
+
+abbrev pub reads_any : Role → ℕ → ℕ → List ℕ → Book → Seen
+reads_any from channel most octets b =
+    takes_any from channel (is_diagnostic (wide_of most octets)) (taken_in most octets) b
+
+abbrev pub reads_on : Role → Reading → List ℕ → Option ℕ → Book → Seen
+reads_on from reading octets None b = quiet b
+reads_on from reading octets (Some channel) b =
+    if reading.wide then reads_any from channel (longest_user reading.long) octets b
+    else reads_written from channel (longest_user reading.long) octets b
 
 -- the information of an I frame
-unfoldable pub reads : Role → Bool → List ℕ → Book → Seen
-reads from long_data octets b = reads_on from long_data octets (channel_in octets) b
+unfoldable pub reads : Role → Reading → List ℕ → Book → Seen
+reads from reading octets b = reads_on from reading octets (channel_in octets) b
 
 -- ---- a frame
 
 -- an N(R): where it shows that packets of the other end weren't seen, nothing is known of its channels
 unfoldable pub hears : Role → ℕ → Book → Book
 hears from number b =
-    if layer.finds_other number (layers_of from b)
-    then keeps from (layer.hears number (layers_of from b)) (fills (other from) blank b)
-    else keeps from (layer.hears number (layers_of from b)) b
+    if layers.finds_other number (layers_of from b)
+    then keeps from (layers.hears number (layers_of from b)) (fills (other from) blank b)
+    else keeps from (layers.hears number (layers_of from b)) b
 
-abbrev pub reads_if : Bool → Role → Bool → List ℕ → Book → Seen
-reads_if may from long_data octets b = if may then reads from long_data octets b else quiet b
+abbrev pub reads_if : Bool → Role → Reading → List ℕ → Book → Seen
+reads_if may from reading octets b = if may then reads from reading octets b else quiet b
 
 -- an I frame, by N(S)
-unfoldable pub moves : Role → Bool → ℕ → List ℕ → Book → Seen
-moves from long_data number octets b =
-    reads_if (layer.may_judge number (layers_of from b)) from long_data octets
-    (keeps from (layer.moves number (layers_of from b)) b)
+unfoldable pub moves : Role → Reading → ℕ → List ℕ → Book → Seen
+moves from reading number octets b =
+    reads_if (layers.may_judge number (layers_of from b)) from reading octets
+    (keeps from (layers.moves number (layers_of from b)) b)
 
 -- one that breaks a rule of the link layer may hide packets
-unfoldable pub sends_info : Role → Bool → ℕ → ℕ → List ℕ → Bool → Book → Seen
-sends_info from long_data ns nr octets is_broken b =
-    if is_broken then quiet (keeps from (layer.loses (layers_of from b)) b)
-    else moves from long_data ns octets (hears from nr b)
+unfoldable pub sends_info : Role → Reading → ℕ → ℕ → List ℕ → Bool → Book → Seen
+sends_info from reading ns nr octets is_broken b =
+    if is_broken then quiet (keeps from (layers.loses (layers_of from b)) b)
+    else moves from reading ns octets (hears from nr b)
 
 -- the channels of both ends begin anew: of an end that is followed on, nothing was seen of them yet
 unfoldable pub begins : Role → Layers → Book → Book
@@ -205,24 +236,24 @@ begins from t b = keeps from t (fills_both fresh b)
 
 -- UA; behind frames of the other end, which is up, it comes again, and nothing is known of channels
 unfoldable pub accepts : Role → Layers → Book → Book
-accepts from t b = if t.other.is_fresh then begins from (layer.accepts t) b
-    else keeps from (layer.accepts t) (fills_both blank b)
+accepts from t b = if t.other.is_fresh then begins from (layers.accepts t) b
+    else keeps from (layers.accepts t) (fills_both blank b)
 
 unfoldable pub accepts_if : Role → Bool → Layers → Book → Book
-accepts_if from is_broken t b = if is_broken && layer.is_unasked t then b else accepts from t b
+accepts_if from is_broken t b = if is_broken && layers.is_unasked t then b else accepts from t b
 
 -- by whether it breaks a rule of the link layer
-unfoldable pub sees : Role → Bool → PlainFrame → Bool → Book → Seen
-sees from long_data (info ns nr p octets) is_broken b = sends_info from long_data ns nr octets is_broken b
-sees from long_data (rr command nr pf) is_broken b = quiet (hears from nr b)
-sees from long_data (rnr command nr pf) is_broken b = quiet (hears from nr b)
-sees from long_data (rej command nr pf) is_broken b = quiet (hears from nr b)
-sees from long_data (sabm p) is_broken b = quiet (begins from (layer.asks (layers_of from b)) b)
-sees from long_data (ua f) is_broken b = quiet (accepts_if from is_broken (layers_of from b) b)
-sees from long_data (dm f) is_broken b = quiet (keeps from (layer.declines (layers_of from b)) b)
-sees from long_data (disc p) is_broken b = quiet (keeps from (layer.leaves (layers_of from b)) b)
-sees from long_data (frmr f why) is_broken b = quiet b
+unfoldable pub sees : Role → Reading → PlainFrame → Bool → Book → Seen
+sees from reading (info ns nr p octets) is_broken b = sends_info from reading ns nr octets is_broken b
+sees from reading (rr command nr pf) is_broken b = quiet (hears from nr b)
+sees from reading (rnr command nr pf) is_broken b = quiet (hears from nr b)
+sees from reading (rej command nr pf) is_broken b = quiet (hears from nr b)
+sees from reading (sabm p) is_broken b = quiet (begins from (layers.asks (layers_of from b)) b)
+sees from reading (ua f) is_broken b = quiet (accepts_if from is_broken (layers_of from b) b)
+sees from reading (dm f) is_broken b = quiet (keeps from (layers.declines (layers_of from b)) b)
+sees from reading (disc p) is_broken b = quiet (keeps from (layers.leaves (layers_of from b)) b)
+sees from reading (frmr f why) is_broken b = quiet b
 
 -- octets that are no frame
 abbrev pub misses : Role → Book → Book
-misses from b = keeps from (layer.misses (layers_of from b)) b
+misses from b = keeps from (layers.misses (layers_of from b)) b

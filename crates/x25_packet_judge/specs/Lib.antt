@@ -9,5 +9,6 @@ pub mod Pair
 pub mod Talking
 pub mod Packets
 pub mod Layer
+pub mod Layers
 pub mod Book
 pub mod code

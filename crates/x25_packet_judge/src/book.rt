@@ -3,15 +3,19 @@ ghost use Rattle.std.specs.Prelude.{◌≡◌, IfOk, None, true, false};
 ghost use Rattle.x25_frame.specs.Frame.{plain as plain_frame};
 ghost use Rattle.x25_packet.specs.Packet.{plain};
 ghost use Rattle.x25_packet_judge.specs.Book as definition;
+ghost use Rattle.x25_wide.specs.Reading.{wide_of};
 
-use crate::layer::{Layer, Layers};
+use crate::layer::Layer;
+use crate::layers::Layers;
 use crate::packet_rule::PacketRule;
 use crate::pair::Pair;
 use crate::port::Port;
 use crate::ports::Ports;
 use std::alloc::{AllocError, Global};
+use x25_decode::Reading;
 use x25_frame::{Frame, Role};
 use x25_packet::{Packet, channel, decode_within, longest_user};
+use x25_wide::{Kind, NarrowField, decode, take};
 
 /// Both packet layers, and the ends of the channels.
 #[derive(Drop)]
@@ -49,6 +53,16 @@ fn passed(unjudged: Option<u16>) -> Verdict
         rule: None,
         unjudged,
         is_judged: false,
+    }
+}
+
+/// Whether octets are a DIAGNOSTIC in any form.
+fn is_diagnostic(most: usize, octets: &[u8]) -> bool
+    ensures { result ≡ definition.is_diagnostic (wide_of most octets.now) }
+{
+    match decode(most, octets) {
+        Ok(packet) => matches!(packet.kind, Kind::Diagnostic { .. }),
+        Err(_) => false,
     }
 }
 
@@ -340,18 +354,45 @@ impl Book {
         self.blind(from, channel, pair)
     }
 
+    /// A packet in the form that a station writes.
+    fn reads_written(&mut self, from: Role, channel: u16, most: usize, octets: &[u8]) -> Verdict
+        ensures book { self.new ≡ (definition.reads_written from channel most octets.now self.old).book }
+        ensures verdict { result ≡ (definition.reads_written from channel most octets.now self.old).verdict }
+    {
+        match decode_within(most, octets) {
+            Ok(packet) => self.takes(from, channel, &packet),
+            Err(_) => self.misses_on(from, channel),
+        }
+    }
+
+    /// A packet in any form, which is judged as the one that a station takes it for.
+    #[inline(never)]
+    fn reads_any(&mut self, from: Role, channel: u16, most: usize, octets: &[u8]) -> Verdict
+        ensures book { self.new ≡ (definition.reads_any from channel most octets.now self.old).book }
+        ensures verdict { result ≡ (definition.reads_any from channel most octets.now self.old).verdict }
+    {
+        let mut field = NarrowField::none();
+        match take(most, octets, &mut field) {
+            Ok(taken) => self.takes(from, channel, &taken),
+            Err(_) if is_diagnostic(most, octets) => passed(None),
+            Err(_) => self.misses_on(from, channel),
+        }
+    }
+
     /// The information of an I frame; what is told of it is answered.
     #[tactic(auto, unfolding(crate::specs::Book::reads))]
-    fn reads(&mut self, from: Role, long_data: bool, octets: &[u8]) -> Verdict
-        ensures book { self.new ≡ (definition.reads from long_data octets.now self.old).book }
-        ensures verdict { result ≡ (definition.reads from long_data octets.now self.old).verdict }
+    fn reads(&mut self, from: Role, reading: Reading, octets: &[u8]) -> Verdict
+        ensures book { self.new ≡ (definition.reads from reading octets.now self.old).book }
+        ensures verdict { result ≡ (definition.reads from reading octets.now self.old).verdict }
     {
         let Some(channel) = channel(octets) else {
             return passed(None);
         };
-        match decode_within(longest_user(long_data), octets) {
-            Ok(packet) => self.takes(from, channel, &packet),
-            Err(_) => self.misses_on(from, channel),
+        let most = longest_user(reading.long);
+        if reading.wide {
+            self.reads_any(from, channel, most, octets)
+        } else {
+            self.reads_written(from, channel, most, octets)
         }
     }
 
@@ -371,14 +412,14 @@ impl Book {
 
     /// An I frame that breaks no rule of the link layer; what is told of its packet is answered.
     #[tactic(auto, unfolding(crate::specs::Book::moves))]
-    fn moves(&mut self, from: Role, long_data: bool, number: u8, octets: &[u8]) -> Verdict
-        ensures book { self.new ≡ (definition.moves from long_data number octets.now self.old).book }
-        ensures verdict { result ≡ (definition.moves from long_data number octets.now self.old).verdict }
+    fn moves(&mut self, from: Role, reading: Reading, number: u8, octets: &[u8]) -> Verdict
+        ensures book { self.new ≡ (definition.moves from reading number octets.now self.old).book }
+        ensures verdict { result ≡ (definition.moves from reading number octets.now self.old).verdict }
     {
         let layers = self.layers(from);
         self.keep(from, layers.moves(number));
         if layers.may_judge(number) {
-            self.reads(from, long_data, octets)
+            self.reads(from, reading, octets)
         } else {
             passed(None)
         }
@@ -423,36 +464,36 @@ impl Book {
     fn info(
         &mut self,
         from: Role,
-        long_data: bool,
+        reading: Reading,
         numbers: (u8, u8),
         octets: &[u8],
         is_broken: bool,
     ) -> Verdict
         ensures book { self.new
-            ≡ (definition.sends_info from long_data numbers.0 numbers.1 octets.now is_broken self.old).book }
+            ≡ (definition.sends_info from reading numbers.0 numbers.1 octets.now is_broken self.old).book }
         ensures verdict { result
-            ≡ (definition.sends_info from long_data numbers.0 numbers.1 octets.now is_broken self.old).verdict }
+            ≡ (definition.sends_info from reading numbers.0 numbers.1 octets.now is_broken self.old).verdict }
     {
         if is_broken {
             self.keep(from, self.layers(from).lost());
             passed(None)
         } else {
             self.hears(from, numbers.1);
-            self.moves(from, long_data, numbers.0, octets)
+            self.moves(from, reading, numbers.0, octets)
         }
     }
 
     /// The end sends a frame, which breaks a rule of the link layer where `is_broken`; what is told of its packet is
     /// answered.
     #[tactic(auto, unfolding(crate::specs::Book::sees))]
-    pub fn sees(&mut self, from: Role, long_data: bool, frame: &Frame, is_broken: bool) -> Verdict
-        ensures book { self.new ≡ (definition.sees from long_data (plain_frame frame.now) is_broken self.old).book }
-        ensures verdict { result ≡ (definition.sees from long_data (plain_frame frame.now) is_broken self.old).verdict }
+    pub fn sees(&mut self, from: Role, reading: Reading, frame: &Frame, is_broken: bool) -> Verdict
+        ensures book { self.new ≡ (definition.sees from reading (plain_frame frame.now) is_broken self.old).book }
+        ensures verdict { result ≡ (definition.sees from reading (plain_frame frame.now) is_broken self.old).verdict }
     {
         match frame {
             Frame::I { ns, nr, info, .. } => self.info(
                 from,
-                long_data,
+                reading,
                 (ns.get(), nr.get()),
                 info,
                 is_broken,

@@ -6,6 +6,7 @@
 mod book;
 mod flow;
 mod layer;
+mod layers;
 mod message;
 mod numbers;
 mod packet_rule;

@@ -40,7 +40,6 @@ use Rattle.x25_layer.specs.laws.PeerClaims as layer_claims
 use Rattle.x25_station.specs.Config.{Settings, link_settings, layer_settings, longest_packet}
 use Rattle.x25_station.specs.Entry.{StationEntry, in_layer, notice_in, layer_entries, layer_notices}
 use Rattle.x25_station.specs.Station.{all_put}
-use Rattle.x25_station.specs.Command.{Requests as Commanded}
 use Rattle.x25_station.specs.Step.{Step, unless, follows, abandons, receives}
 use Rattle.x25_station.specs.laws.JoinLaw.{station_with, IsJoined, RequestIsJoined, ReceiveIsJoined, QuietIsJoined}
 use Rattle.x25_station.specs.laws.KeepLaw.{IsKept, KeptBy, TimerKeeps, RequestKeeps, ReceiveKeeps}
@@ -63,37 +62,37 @@ pub record Below : Type 0 where
 
 -- ---- lists
 
-layer_append : (xs ys : List StationEntry) → layer_entries (xs ++ ys) ≡ layer_entries xs ++ layer_entries ys
+pub layer_append : (xs ys : List StationEntry) → layer_entries (xs ++ ys) ≡ layer_entries xs ++ layer_entries ys
 layer_append [] ys = refl
 layer_append (x ∷ xs) ys = ap (λ (es : List Entry). in_layer x ++ es) (layer_append xs ys) ∙ sym (append_assoc (in_layer x) (layer_entries xs) (layer_entries ys))
 
-notices_append : (xs ys : List StationEntry) → layer_notices (xs ++ ys) ≡ layer_notices xs ++ layer_notices ys
+pub notices_append : (xs ys : List StationEntry) → layer_notices (xs ++ ys) ≡ layer_notices xs ++ layer_notices ys
 notices_append [] ys = refl
 notices_append (x ∷ xs) ys = ap (λ (ns : List LayerNotice). notice_in x ++ ns) (notices_append xs ys) ∙ sym (append_assoc (notice_in x) (layer_notices xs) (layer_notices ys))
 
-readable_behind : (b : Bool) (xs ys : List PlainPacket) → AreReadable b (xs ++ ys) → AreReadable b ys
+pub readable_behind : (b : Bool) (xs ys : List PlainPacket) → AreReadable b (xs ++ ys) → AreReadable b ys
 readable_behind b [] ys h = h
 readable_behind b (x ∷ xs) ys h = readable_behind b xs ys h.1
 
-read_append : (most : ℕ) (os qs : List (List ℕ)) (ps rs : List PlainPacket) → ReadAs most os ps → ReadAs most qs rs → ReadAs most (os ++ qs) (ps ++ rs)
+pub read_append : (most : ℕ) (os qs : List (List ℕ)) (ps rs : List PlainPacket) → ReadAs most os ps → ReadAs most qs rs → ReadAs most (os ++ qs) (ps ++ rs)
 read_append most [] qs [] rs h g = g
 read_append most [] qs (p ∷ ps) rs h g = absurd h
 read_append most (o ∷ os) qs [] rs h g = absurd h
 read_append most (o ∷ os) qs (p ∷ ps) rs h g = (h.0, read_append most os qs ps rs h.1 g)
 
 -- of what is read, this much came up
-read_length : (most : ℕ) (up rest : List (List ℕ)) (ps : List PlainPacket) → ReadAs most (up ++ rest) ps → length up ≤ length ps
+pub read_length : (most : ℕ) (up rest : List (List ℕ)) (ps : List PlainPacket) → ReadAs most (up ++ rest) ps → length up ≤ length ps
 read_length most [] rest ps h = omega (arith)
 read_length most (u ∷ up) rest [] h = absurd h
 read_length most (u ∷ up) rest (p ∷ ps) h = let low : length up ≤ length ps = read_length most up rest ps h.1 in omega (arith, low)
 
 -- the next of what is read
-record Next (most : ℕ) (o : List ℕ) (ahead behind : List PlainPacket) : Type 0 where
-  packet : PlainPacket
-  front : ahead ≡ packet ∷ behind
-  reads : packet_of most o ≡ Ok packet
+pub record Next (most : ℕ) (o : List ℕ) (ahead behind : List PlainPacket) : Type 0 where
+  pub packet : PlainPacket
+  pub front : ahead ≡ packet ∷ behind
+  pub reads : packet_of most o ≡ Ok packet
 
-next_read : (most : ℕ) (up : List (List ℕ)) (o : List ℕ) (rest : List (List ℕ)) (ps : List PlainPacket) → ReadAs most ((up ++ o ∷ []) ++ rest) ps → Next most o (drop (length up) ps) (drop (length (up ++ o ∷ [])) ps)
+pub next_read : (most : ℕ) (up : List (List ℕ)) (o : List ℕ) (rest : List (List ℕ)) (ps : List PlainPacket) → ReadAs most ((up ++ o ∷ []) ++ rest) ps → Next most o (drop (length up) ps) (drop (length (up ++ o ∷ [])) ps)
 next_read most [] o rest [] h = absurd h
 next_read most [] o rest (p ∷ ps) h = record { packet = p; front = refl; reads = h.0 }
 next_read most (u ∷ up) o rest [] h = absurd h
@@ -103,11 +102,11 @@ ok_same : {E : Type 0} (p q : PlainPacket) (x : Result PlainPacket E) → x ≡ 
 ok_same p q x e f = cc
 
 -- the next of what was taken
-record Taken (p : PlainPacket) (given : List PlainPacket) (n : ℕ) : Type 0 where
-  front : drop n given ≡ p ∷ drop (n + 1) given
-  few : n + 1 ≤ length given
+pub record Taken (p : PlainPacket) (given : List PlainPacket) (n : ℕ) : Type 0 where
+  pub front : drop n given ≡ p ∷ drop (n + 1) given
+  pub few : n + 1 ≤ length given
 
-taken_next : (b : Bool) (given : List PlainPacket) (taken rest : List (List ℕ)) (n : ℕ) (o : List ℕ) (p : PlainPacket) → AreReadable b given → taken ++ rest ≡ spelled given → slice_get taken n ≡ Some o
+pub taken_next : (b : Bool) (given : List PlainPacket) (taken rest : List (List ℕ)) (n : ℕ) (o : List ℕ) (p : PlainPacket) → AreReadable b given → taken ++ rest ≡ spelled given → slice_get taken n ≡ Some o
     → packet_of (longest_user b) o ≡ Ok p → Taken p given n
 taken_next b given [] rest n o p readable is at reads = absurd (cc)
 taken_next b [] (t ∷ taken) rest n o p readable is at reads = absurd (cc)
@@ -123,43 +122,51 @@ taken_next b (g ∷ given) (t ∷ taken) rest (suc n) o p readable is at reads =
 
 -- ---- the peer's link sends and hears what it was handed down
 
-sent_same : (p q : Peer) (r : Result PlainFrame FrameError) → MaySend (Unit {0}) p r q → q.given ≡ p.given
+pub sent_same : (p q : Peer) (r : Result PlainFrame FrameError) → MaySend (Unit {0}) p r q → (q.given ≡ p.given) × (q.taken ≡ p.taken)
 sent_same p q r may = by r may
   where
-    is : (x : Peer) → x.given ≡ p.given → q ≡ x → q.given ≡ p.given
-    is x same e = ap (λ (y : Peer). y.given) e ∙ same
+    is : (x : Peer) → x.given ≡ p.given → x.taken ≡ p.taken → q ≡ x → (q.given ≡ p.given) × (q.taken ≡ p.taken)
+    is x given taken e = (ap (λ (y : Peer). y.given) e ∙ given, ap (λ (y : Peer). y.taken) e ∙ taken)
 
-    by : (r : Result PlainFrame FrameError) → MaySend (Unit {0}) p r q → q.given ≡ p.given
-    by (Ok (info ns nr pf packet)) m = is _ refl m.4
-    by (Ok (rr command nr pf)) m = is _ refl m.2
-    by (Ok (rnr command nr pf)) m = is _ refl m.2
-    by (Ok (rej command nr pf)) m = is _ refl m.2
-    by (Ok frame) m = is _ refl m
-    by (Err Short) m = is _ refl m
-    by (Err BadFcs) m = is _ refl m
-    by (Err BadAddress) m = is _ refl m
-    by (Err (Undefined control)) m = is _ refl m.1
-    by (Err (NoInfoAllowed control)) m = is _ refl m.1
-    by (Err TooLong) m = is _ refl m.1
+    by : (r : Result PlainFrame FrameError) → MaySend (Unit {0}) p r q → (q.given ≡ p.given) × (q.taken ≡ p.taken)
+    by (Ok (info ns nr pf packet)) m = is _ refl refl m.4
+    by (Ok (rr command nr pf)) m = is _ refl refl m.2
+    by (Ok (rnr command nr pf)) m = is _ refl refl m.2
+    by (Ok (rej command nr pf)) m = is _ refl refl m.2
+    by (Ok frame) m = is _ refl refl m
+    by (Err Short) m = is _ refl refl m
+    by (Err BadFcs) m = is _ refl refl m
+    by (Err BadAddress) m = is _ refl refl m
+    by (Err (Undefined control)) m = is _ refl refl m.1
+    by (Err (NoInfoAllowed control)) m = is _ refl refl m.1
+    by (Err TooLong) m = is _ refl refl m.1
 
-hearing_same : (b : Bool) (nr : ℕ) (p : Peer) → (hearing b nr p).given ≡ p.given
-hearing_same true nr p = refl
-hearing_same false nr p = refl
+-- it takes no fewer
+pub record HearsMore (p q : Peer) : Type 0 where
+  pub given : q.given ≡ p.given
+  pub taken : length p.taken ≤ length q.taken
 
-taking_same : (b : Bool) (packet : List ℕ) (p : Peer) → (taking b packet p).given ≡ p.given
-taking_same true packet p = refl
-taking_same false packet p = refl
+hears_more : (p : Peer) (hears takes : Bool) (nr : ℕ) (packet : List ℕ) → HearsMore p (taking takes packet (hearing hears nr p))
+hears_more p true true nr packet = (let longer = length-append p.taken (packet ∷ []) in record { given = refl; taken = omega (arith, longer) })
+hears_more p true false nr packet = record { given = refl; taken = omega (arith) }
+hears_more p false true nr packet = (let longer = length-append p.taken (packet ∷ []) in record { given = refl; taken = omega (arith, longer) })
+hears_more p false false nr packet = record { given = refl; taken = omega (arith) }
 
-heard_same : (p q : Peer) (r : Result PlainFrame FrameError) → MayHear p r q → q.given ≡ p.given
-heard_same p q (Ok (info ns nr pf packet)) m =
-    ap (λ (y : Peer). y.given) m.3 ∙ taking_same m.1 packet (hearing m.0 nr p) ∙ hearing_same m.0 nr p
-heard_same p q (Ok (rr command nr pf)) m = ap (λ (y : Peer). y.given) m.1 ∙ hearing_same m.0 nr p
-heard_same p q (Ok (rnr command nr pf)) m = ap (λ (y : Peer). y.given) m.1 ∙ hearing_same m.0 nr p
-heard_same p q (Ok (rej command nr pf)) m = ap (λ (y : Peer). y.given) m.1 ∙ hearing_same m.0 nr p
-heard_same p q (Ok frame) m = ap (λ (y : Peer). y.given) m
-heard_same p q (Err e) m = ap (λ (y : Peer). y.given) m
+pub heard_same : (p q : Peer) (r : Result PlainFrame FrameError) → MayHear p r q → HearsMore p q
+heard_same p q r m = by r m
+  where
+    is : (x : Peer) → HearsMore p x → q ≡ x → HearsMore p q
+    is x more e = subst (HearsMore p) (sym e) more
 
-timer_packet : (c : LinkSettings) (s : LinkStation) → (timer_step c s).packet ≡ None
+    by : (r : Result PlainFrame FrameError) → MayHear p r q → HearsMore p q
+    by (Ok (info ns nr pf packet)) m = is _ (hears_more p m.0 m.1 nr packet) m.3
+    by (Ok (rr command nr pf)) m = is _ (hears_more p m.0 false nr []) m.1
+    by (Ok (rnr command nr pf)) m = is _ (hears_more p m.0 false nr []) m.1
+    by (Ok (rej command nr pf)) m = is _ (hears_more p m.0 false nr []) m.1
+    by (Ok frame) m = is p (hears_more p false false 0 []) m
+    by (Err e) m = is p (hears_more p false false 0 []) m
+
+pub timer_packet : (c : LinkSettings) (s : LinkStation) → (timer_step c s).packet ≡ None
 timer_packet c s = by (nat_lt s.tries c.retries)
   where
     by : (b : Bool)
@@ -375,9 +382,9 @@ module _ (below : Below) (c : Settings) (low : 1 ≤ c.window) (high : c.window 
   step_on w v h (DamagesThere place octets visible) =
       relinked w h w.peer (replaced w.out place octets) w.back refl (link_goes w h w.peer (replaced w.out place octets) w.back (line_peer.Damages place octets visible))
   step_on w v h (Sends octets q may) =
-      relinked w h q w.out (w.back ++ octets ∷ []) (sent_same w.peer q (frame_of (other c.role) longest_packet octets) may) (link_goes w h q w.out (w.back ++ octets ∷ []) (line_peer.Sends octets q may))
+      relinked w h q w.out (w.back ++ octets ∷ []) (sent_same w.peer q (frame_of (other c.role) longest_packet octets) may).0 (link_goes w h q w.out (w.back ++ octets ∷ []) (line_peer.Sends octets q may))
   step_on w v h (Hears octets rest q front may) =
-      relinked w h q rest w.back (heard_same w.peer q (frame_of c.role longest_packet octets) may) (link_goes w h q rest w.back (line_peer.Hears octets rest q front may))
+      relinked w h q rest w.back (heard_same w.peer q (frame_of c.role longest_packet octets) may).given (link_goes w h q rest w.back (line_peer.Hears octets rest q front may))
   step_on w v h (LayerDoes deed p octets may is configured reads) =
       layer_goes w h (does_layer w.layer.epoch w.layer.side deed) w.heard (p ∷ []) (octets ∷ []) (reads, tt) h.few
       (goes_on (layers w h) (record { near = (layers w h).near; peer = does_layer w.layer.epoch w.layer.side deed; out = drop w.heard h.given; back = drop (length h.up) h.puts ++ p ∷ [] }) h.layer.reached (layer_peer.Does deed p may is configured) tt)

@@ -1,3 +1,4 @@
 pub mod LinkPart
 pub mod LayerPart
 pub mod BesideRuns
+pub mod sessions

@@ -1,3 +1,5 @@
 -- What the law of this crate says (src/law.rt), and the world that it is about.
 pub mod Beside
 pub mod BesideClaims
+pub mod BesideSessions
+pub mod BesideSessionClaims

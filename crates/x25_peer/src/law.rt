@@ -1,7 +1,12 @@
 ghost use Rattle.x25_peer.specs.laws.BesideClaims.{WithAnyPeer, FindsNoError, IsAllInOrder};
+ghost use Rattle.x25_peer.specs.laws.BesideSessionClaims as over_sessions;
+ghost use Rattle.x25_peer.specs.laws.BesideSessionClaims.{MeetInStep, MetAreInOrder, UnmetAreToldNothing};
+ghost use Rattle.x25_peer.specs.laws.BesideSessionClaims.{EachMeetsLatest, UpIsLatest};
 
 use x25_layer::any_peer_keeps_transcripts;
 use x25_line::any_peer_keeps_order;
+use x25_link::notes_what_changes;
+use x25_sessions::any_peer_keeps_sessions;
 use x25_station::{puts_beside_peers_are_readable, steps_are_joined, steps_keep_bounds};
 
 /// A station, by the definition that it meets call by call, and any peer that keeps the rules of docs/PEER.md, link
@@ -26,4 +31,32 @@ pub fn any_peer_keeps_stations()
     puts_beside_peers_are_readable();
     steps_are_joined();
     steps_keep_bounds();
+}
+
+/// The same over set-up and re-set-up by either end at any moment, from nothing, where timer T1 of the station, as it
+/// awaits UA, doesn't run out while its SABM, a UA to it or a SABM that crossed it is on the line. A session of the
+/// station begins as it notes LinkUp, and one of the peer as its rules say, and with each its packet layer begins anew;
+/// two sessions meet where one hears a frame with an N(R) that was sent in the other. After all that happens:
+///
+/// - sessions meet one to one, and in order at both ends;
+/// - of two that meet, on each channel, what is said above of the one session of each: where both ends count the
+///   restarts, clears and resets in it alike, what was reported and what the peer took come in order;
+/// - in a session that meets none nothing is reported to the user, and the peer's packet layer takes nothing;
+/// - the session of an end that is in one meets no other than the latest of the other end, and of the station it is
+///   the one whose layer is that of the station as it is;
+/// - the station reports no error of procedure, in no session.
+pub fn any_peer_keeps_stations_over_sessions()
+    ensures step { over_sessions.WithAnyPeer MeetInStep }
+    ensures order { over_sessions.WithAnyPeer MetAreInOrder }
+    ensures unmet { over_sessions.WithAnyPeer UnmetAreToldNothing }
+    ensures agree { over_sessions.WithAnyPeer EachMeetsLatest }
+    ensures latest { over_sessions.WithAnyPeer UpIsLatest }
+    ensures quiet { over_sessions.WithAnyPeer over_sessions.FindsNoError }
+{
+    any_peer_keeps_sessions();
+    any_peer_keeps_transcripts();
+    puts_beside_peers_are_readable();
+    steps_are_joined();
+    steps_keep_bounds();
+    notes_what_changes();
 }

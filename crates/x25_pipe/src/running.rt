@@ -6,7 +6,7 @@ ghost use Rattle.x25_station.specs.Config.{config_refusal, settings_from};
 
 use crate::pipe::Pipe;
 use std::alloc::Global;
-use x25_io::{Fault, HeldLine, LineByLine, PIECE, Sink, Source, take_text};
+use x25_io::{Fault, HeldLine, LineByLine, Piece, Sink, Source, take_text};
 use x25_station::{Cfg, Role};
 
 /// Writes the first mark, has the station at an end do what each line that the reader gives asks for, and answers each
@@ -29,7 +29,7 @@ pub fn station<R: Source, W: Sink>(
     ensures { Runs R.Source W.Sink (program (settings_from end cfg)) reader.old reader.new
         writer.old writer.new result }
 {
-    let mut piece = vec![in alloc; 0u8; PIECE]?;
+    let piece = Piece::new(alloc)?;
     let held = HeldLine::new(alloc)?;
     let mut pipe = Pipe::new(alloc, end, cfg)?;
     if let Err(fault) = pipe.mark_standing(writer) {
@@ -38,5 +38,5 @@ pub fn station<R: Source, W: Sink>(
         return Err(fault);
     }
     let lines = LineByLine::new(held, pipe);
-    take_text(lines, piece.as_mut_slice(), reader, writer)
+    take_text(lines, piece, reader, writer)
 }

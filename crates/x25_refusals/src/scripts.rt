@@ -31,6 +31,7 @@ const USUAL: Cfg = Cfg {
     channels: 1,
     long_data: false,
     say_sizes: false,
+    wide: false,
 };
 
 const ONE_TRY: Cfg = Cfg {
@@ -39,6 +40,7 @@ const ONE_TRY: Cfg = Cfg {
     channels: 1,
     long_data: false,
     say_sizes: false,
+    wide: false,
 };
 
 const WINDOW_OF_ONE: Cfg = Cfg {
@@ -47,6 +49,7 @@ const WINDOW_OF_ONE: Cfg = Cfg {
     channels: 1,
     long_data: false,
     say_sizes: false,
+    wide: false,
 };
 
 const CONNECTS: Act = Do(Command(Dte, Cmd::Connect));

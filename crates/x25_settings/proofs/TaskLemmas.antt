@@ -30,7 +30,8 @@ said_behind words word behind e = sym (ap task_in e)
 
 again_simulation : (words : List (List ℕ)) (s : Simulation) → SaySimulation words s → simulation_in words ≡ Some s
 again_simulation words s say =
-    ap (option_and_then simulated) (read words say.0 say.1) ∙ ap (λ b. cond b None (Some (settled say.0))) say.2 ∙ ap (λ x. Some x) (sym say.3)
+    ap (option_and_then simulated) (read words say.0 say.1) ∙ ap (λ b. cond (b || say.0.wide) None (Some (settled say.0))) say.2
+    ∙ ap (λ b. cond b None (Some (settled say.0))) say.3 ∙ ap (λ x. Some x) (sym say.4)
 
 again_end : (end : End) → end_in (end_word end) ≡ Some end
 again_end Dte = refl
@@ -39,17 +40,19 @@ again_end Dce = refl
 again_place : (words : List (List ℕ)) (p : Place) → SayPlace words p → station_in words ≡ Some p
 again_place words p say =
     ap station_in say.words_are ∙ ap (place_in say.rest) (again_end p.end) ∙ ap (option_and_then (placed p.end)) (read say.rest say.end say.choose)
-    ∙ ap (λ b. cond ((b || say.end.tap) || say.end.strict) None (Some (settled_at p.end say.end))) say.no_down
-    ∙ ap (λ b. cond (b || say.end.strict) None (Some (settled_at p.end say.end))) say.no_tap
-    ∙ ap (λ b. cond b None (Some (settled_at p.end say.end))) say.no_strict
+    ∙ ap (λ b. cond ((b || say.end.tap) || (say.end.strict || say.end.wide)) None (Some (settled_at p.end say.end))) say.no_down
+    ∙ ap (λ b. cond (b || (say.end.strict || say.end.wide)) None (Some (settled_at p.end say.end))) say.no_tap
+    ∙ ap (λ b. cond (b || say.end.wide) None (Some (settled_at p.end say.end))) say.no_strict
+    ∙ ap (λ b. cond b None (Some (settled_at p.end say.end))) say.no_wide
     ∙ ap (λ q. Some q) (sym say.same)
 
 again_judging : (words : List (List ℕ)) (g : Judging) → SayJudging words g → judge_in words ≡ Some g
 again_judging words g say =
     ap (option_and_then judging_of) (read words say.end say.choose)
-    ∙ ap (λ b. cond ((b || say.end.tap) || say.end.say_sizes) None (cond (is_some say.end.n2 || is_some say.end.channels) None (Some (judging_in say.end)))) say.no_down
-    ∙ ap (λ b. cond (b || say.end.say_sizes) None (cond (is_some say.end.n2 || is_some say.end.channels) None (Some (judging_in say.end)))) say.no_tap
-    ∙ ap (λ b. cond b None (cond (is_some say.end.n2 || is_some say.end.channels) None (Some (judging_in say.end)))) say.no_say
+    ∙ ap (λ b. cond ((b || say.end.tap) || (say.end.say_sizes || say.end.wide)) None (cond (is_some say.end.n2 || is_some say.end.channels) None (Some (judging_in say.end)))) say.no_down
+    ∙ ap (λ b. cond (b || (say.end.say_sizes || say.end.wide)) None (cond (is_some say.end.n2 || is_some say.end.channels) None (Some (judging_in say.end)))) say.no_tap
+    ∙ ap (λ b. cond (b || say.end.wide) None (cond (is_some say.end.n2 || is_some say.end.channels) None (Some (judging_in say.end)))) say.no_say
+    ∙ ap (λ b. cond b None (cond (is_some say.end.n2 || is_some say.end.channels) None (Some (judging_in say.end)))) say.no_wide
     ∙ ap (λ n. cond (is_some n || is_some say.end.channels) None (Some (judging_in say.end))) say.no_tries
     ∙ ap (λ n. cond (is_some n) None (Some (judging_in say.end))) say.no_channels
     ∙ ap (λ q. Some q) (sym say.same)
@@ -69,15 +72,16 @@ again words Frame e = ap task_in e
 
 -- ---- what is read is plain
 
-by_strict : (words : List (List ℕ)) (s : Simulation) (end : Chosen) → Choose words end → (strict : Bool) → end.strict ≡ strict
-    → cond strict None (Some (settled end)) ≡ Some s → SaySimulation words s
-by_strict words s end chosen true is e = absurd (cc)
-by_strict words s end chosen false is e = (end, chosen, is, sym (same_Some (settled end) s e))
+by_flags : (words : List (List ℕ)) (s : Simulation) (end : Chosen) → Choose words end → (strict wide : Bool) → end.strict ≡ strict → end.wide ≡ wide
+    → cond (strict || wide) None (Some (settled end)) ≡ Some s → SaySimulation words s
+by_flags words s end chosen true wide no_strict no_wide e = absurd (cc)
+by_flags words s end chosen false true no_strict no_wide e = absurd (cc)
+by_flags words s end chosen false false no_strict no_wide e = (end, chosen, no_strict, no_wide, sym (same_Some (settled end) s e))
 
 by_chosen : (words : List (List ℕ)) (s : Simulation) (o : Option Chosen) → chosen_in nothing words ≡ o → option_and_then simulated o ≡ Some s
     → SaySimulation words s
 by_chosen words s None is e = absurd (cc)
-by_chosen words s (Some end) is e = by_strict words s end (found words end is) end.strict refl e
+by_chosen words s (Some end) is e = by_flags words s end (found words end is) end.strict end.wide refl refl e
 
 found_simulation : (words : List (List ℕ)) (s : Simulation) → simulation_in words ≡ Some s → SaySimulation words s
 found_simulation words s e = by_chosen words s (chosen_in nothing words) refl e
@@ -136,19 +140,20 @@ end_found word end e = go (bytes_eq word (codes "dte")) (bytes_eq word (codes "d
     go false false _ _ e = absurd (cc)
 
 place_found : (word : List ℕ) (words : List (List ℕ)) (end : End) (c : Chosen) (p : Place) → word ≡ end_word end → Choose words c
-    → (down tap strict : Bool) → c.down ≡ down → c.tap ≡ tap → c.strict ≡ strict
-    → cond ((down || tap) || strict) None (Some (settled_at end c)) ≡ Some p → SayPlace (word ∷ words) p
-place_found word words end c p is chosen true tap strict no_down no_tap no_strict e = absurd (cc)
-place_found word words end c p is chosen false true strict no_down no_tap no_strict e = absurd (cc)
-place_found word words end c p is chosen false false true no_down no_tap no_strict e = absurd (cc)
-place_found word words end c p is chosen false false false no_down no_tap no_strict e =
+    → (down tap strict wide : Bool) → c.down ≡ down → c.tap ≡ tap → c.strict ≡ strict → c.wide ≡ wide
+    → cond ((down || tap) || (strict || wide)) None (Some (settled_at end c)) ≡ Some p → SayPlace (word ∷ words) p
+place_found word words end c p is chosen true tap strict wide no_down no_tap no_strict no_wide e = absurd (cc)
+place_found word words end c p is chosen false true strict wide no_down no_tap no_strict no_wide e = absurd (cc)
+place_found word words end c p is chosen false false true wide no_down no_tap no_strict no_wide e = absurd (cc)
+place_found word words end c p is chosen false false false true no_down no_tap no_strict no_wide e = absurd (cc)
+place_found word words end c p is chosen false false false false no_down no_tap no_strict no_wide e =
     subst (SayPlace (word ∷ words)) (same_Some (settled_at end c) p e)
-    (record { rest = words; end = c; words_are = ap (λ w. w ∷ words) is; choose = chosen; no_down = no_down; no_tap = no_tap; no_strict = no_strict; same = refl })
+    (record { rest = words; end = c; words_are = ap (λ w. w ∷ words) is; choose = chosen; no_down = no_down; no_tap = no_tap; no_strict = no_strict; no_wide = no_wide; same = refl })
 
 place_chosen : (word : List ℕ) (words : List (List ℕ)) (end : End) (p : Place) → word ≡ end_word end → (o : Option Chosen) → chosen_in nothing words ≡ o
     → option_and_then (placed end) o ≡ Some p → SayPlace (word ∷ words) p
 place_chosen word words end p is None reads e = absurd (cc)
-place_chosen word words end p is (Some c) reads e = place_found word words end c p is (found words c reads) c.down c.tap c.strict refl refl refl e
+place_chosen word words end p is (Some c) reads e = place_found word words end c p is (found words c reads) c.down c.tap c.strict c.wide refl refl refl refl e
 
 place_at : (word : List ℕ) (words : List (List ℕ)) (p : Place) → (o : Option End) → end_in word ≡ o → place_in words o ≡ Some p → SayPlace (word ∷ words) p
 place_at word words p None reads e = absurd (cc)
@@ -163,20 +168,21 @@ found_station : (word : List ℕ) (words : List (List ℕ)) (task : Task) → wo
 found_station word words task is None reads e = absurd (cc)
 found_station word words task is (Some p) reads e = given (word ∷ words) (Station p) task e (words, ap (λ w. w ∷ words) is, found_place words p reads)
 
-judging_found : (words : List (List ℕ)) (c : Chosen) (g : Judging) → Choose words c → (down tap say : Bool) (n2 channels : Option ℕ) → c.down ≡ down → c.tap ≡ tap → c.say_sizes ≡ say → c.n2 ≡ n2
-    → c.channels ≡ channels → cond ((down || tap) || say) None (cond (is_some n2 || is_some channels) None (Some (judging_in c))) ≡ Some g → SayJudging words g
-judging_found words c g chosen true tap say n2 channels no_down no_tap no_say no_tries no_channels e = absurd (cc)
-judging_found words c g chosen false true say n2 channels no_down no_tap no_say no_tries no_channels e = absurd (cc)
-judging_found words c g chosen false false true n2 channels no_down no_tap no_say no_tries no_channels e = absurd (cc)
-judging_found words c g chosen false false false (Some n) channels no_down no_tap no_say no_tries no_channels e = absurd (cc)
-judging_found words c g chosen false false false None (Some n) no_down no_tap no_say no_tries no_channels e = absurd (cc)
-judging_found words c g chosen false false false None None no_down no_tap no_say no_tries no_channels e =
+judging_found : (words : List (List ℕ)) (c : Chosen) (g : Judging) → Choose words c → (down tap say wide : Bool) (n2 channels : Option ℕ) → c.down ≡ down → c.tap ≡ tap → c.say_sizes ≡ say → c.wide ≡ wide → c.n2 ≡ n2
+    → c.channels ≡ channels → cond ((down || tap) || (say || wide)) None (cond (is_some n2 || is_some channels) None (Some (judging_in c))) ≡ Some g → SayJudging words g
+judging_found words c g chosen true tap say wide n2 channels no_down no_tap no_say no_wide no_tries no_channels e = absurd (cc)
+judging_found words c g chosen false true say wide n2 channels no_down no_tap no_say no_wide no_tries no_channels e = absurd (cc)
+judging_found words c g chosen false false true wide n2 channels no_down no_tap no_say no_wide no_tries no_channels e = absurd (cc)
+judging_found words c g chosen false false false true n2 channels no_down no_tap no_say no_wide no_tries no_channels e = absurd (cc)
+judging_found words c g chosen false false false false (Some n) channels no_down no_tap no_say no_wide no_tries no_channels e = absurd (cc)
+judging_found words c g chosen false false false false None (Some n) no_down no_tap no_say no_wide no_tries no_channels e = absurd (cc)
+judging_found words c g chosen false false false false None None no_down no_tap no_say no_wide no_tries no_channels e =
     subst (SayJudging words) (same_Some (judging_in c) g e)
-    (record { end = c; choose = chosen; no_down = no_down; no_tap = no_tap; no_say = no_say; no_tries = no_tries; no_channels = no_channels; same = refl })
+    (record { end = c; choose = chosen; no_down = no_down; no_tap = no_tap; no_say = no_say; no_wide = no_wide; no_tries = no_tries; no_channels = no_channels; same = refl })
 
 judging_chosen : (words : List (List ℕ)) (g : Judging) → (o : Option Chosen) → chosen_in nothing words ≡ o → option_and_then judging_of o ≡ Some g → SayJudging words g
 judging_chosen words g None reads e = absurd (cc)
-judging_chosen words g (Some c) reads e = judging_found words c g (found words c reads) c.down c.tap c.say_sizes c.n2 c.channels refl refl refl refl refl e
+judging_chosen words g (Some c) reads e = judging_found words c g (found words c reads) c.down c.tap c.say_sizes c.wide c.n2 c.channels refl refl refl refl refl refl e
 
 found_judge : (word : List ℕ) (words : List (List ℕ)) (task : Task) → word ≡ codes "judge" → (o : Option Judging) → judge_in words ≡ o
     → option_map (λ g. Judge g) o ≡ Some task → Say (word ∷ words) task
@@ -226,7 +232,7 @@ found_task (word ∷ words) task e = found_behind word words task e
 pub within : (words : List (List ℕ)) (task : Task) → Say words task → AreInRange task
 within words (Decode long wide) say = tt
 within words Vectors say = tt
-within words (Sim s) say = subst simulation.AreInRange (sym say.2.3) (in_range say.0 say.2.0 say.2.1)
+within words (Sim s) say = subst simulation.AreInRange (sym say.2.4) (in_range say.0 say.2.0 say.2.1)
 within words (Station p) say = subst PlaceIsInRange (sym say.2.same) (in_range say.2.rest say.2.end say.2.choose)
 within words (Judge g) say = subst JudgingIsInRange (sym say.2.same) (in_range say.0 say.2.end say.2.choose).0
 within words (Deframe end) say = tt

@@ -9,7 +9,7 @@ use Rattle.x25_settings.specs.declared.options.Judging.{Judging}
 use Rattle.x25_settings.specs.declared.options.Place.{Place}
 use Rattle.x25_settings.specs.declared.options.Chosen.{Chosen}
 use Rattle.x25_settings.specs.declared.options.Flag.{Flag}
-use Rattle.x25_settings.specs.declared.options.Flag.TheVariants.{Down, Long, SaySizes, Tap, Strict}
+use Rattle.x25_settings.specs.declared.options.Flag.TheVariants.{Down, Long, SaySizes, Tap, Strict, Wide}
 use Rattle.x25_settings.specs.declared.options.Numbered.{Numbered}
 use Rattle.x25_settings.specs.declared.options.Numbered.TheVariants.{Window, Tries, Channels}
 pub mod Choosing
@@ -20,6 +20,7 @@ flag_word Long = codes "--long"
 flag_word SaySizes = codes "--say-sizes"
 flag_word Tap = codes "--tap"
 flag_word Strict = codes "--strict"
+flag_word Wide = codes "--wide"
 
 abbrev pub word_of : Numbered → List ℕ
 word_of Window = codes "--k"
@@ -54,6 +55,7 @@ nothing = record {
   say_sizes = false;
   tap = false;
   strict = false;
+  wide = false;
   k = None;
   n2 = None;
   channels = None;
@@ -70,6 +72,7 @@ chosen_flag c Long = c.long
 chosen_flag c SaySizes = c.say_sizes
 chosen_flag c Tap = c.tap
 chosen_flag c Strict = c.strict
+chosen_flag c Wide = c.wide
 
 abbrev pub with_flag : Chosen → Flag → Chosen
 with_flag c Down = record {
@@ -78,6 +81,7 @@ with_flag c Down = record {
   say_sizes = c.say_sizes;
   tap = c.tap;
   strict = c.strict;
+  wide = c.wide;
   k = c.k;
   n2 = c.n2;
   channels = c.channels;
@@ -88,6 +92,7 @@ with_flag c Long = record {
   say_sizes = c.say_sizes;
   tap = c.tap;
   strict = c.strict;
+  wide = c.wide;
   k = c.k;
   n2 = c.n2;
   channels = c.channels;
@@ -98,6 +103,7 @@ with_flag c SaySizes = record {
   say_sizes = true;
   tap = c.tap;
   strict = c.strict;
+  wide = c.wide;
   k = c.k;
   n2 = c.n2;
   channels = c.channels;
@@ -108,6 +114,7 @@ with_flag c Tap = record {
   say_sizes = c.say_sizes;
   tap = true;
   strict = c.strict;
+  wide = c.wide;
   k = c.k;
   n2 = c.n2;
   channels = c.channels;
@@ -118,6 +125,18 @@ with_flag c Strict = record {
   say_sizes = c.say_sizes;
   tap = c.tap;
   strict = true;
+  wide = c.wide;
+  k = c.k;
+  n2 = c.n2;
+  channels = c.channels;
+}
+with_flag c Wide = record {
+  down = c.down;
+  long = c.long;
+  say_sizes = c.say_sizes;
+  tap = c.tap;
+  strict = c.strict;
+  wide = true;
   k = c.k;
   n2 = c.n2;
   channels = c.channels;
@@ -130,6 +149,7 @@ with_number c Window n = record {
   say_sizes = c.say_sizes;
   tap = c.tap;
   strict = c.strict;
+  wide = c.wide;
   k = Some n;
   n2 = c.n2;
   channels = c.channels;
@@ -140,6 +160,7 @@ with_number c Tries n = record {
   say_sizes = c.say_sizes;
   tap = c.tap;
   strict = c.strict;
+  wide = c.wide;
   k = c.k;
   n2 = Some n;
   channels = c.channels;
@@ -150,6 +171,7 @@ with_number c Channels n = record {
   say_sizes = c.say_sizes;
   tap = c.tap;
   strict = c.strict;
+  wide = c.wide;
   k = c.k;
   n2 = c.n2;
   channels = Some n;
@@ -181,6 +203,7 @@ settled c = record {
   down = c.down;
   long = c.long;
   say_sizes = c.say_sizes;
+  wide = c.wide;
   tap = c.tap;
   k = chosen_or_default c Window;
   n2 = chosen_or_default c Tries;
@@ -192,27 +215,29 @@ settled_at end c = record {
   end = end;
   long = c.long;
   say_sizes = c.say_sizes;
+  wide = c.wide;
   k = chosen_or_default c Window;
   n2 = chosen_or_default c Tries;
   channels = chosen_or_default c Channels;
 }
 
 abbrev pub judging_in : Chosen → Judging
-judging_in c = record { long = c.long; strict = c.strict; k = chosen_or_default c Window }
+judging_in c = record { long = c.long; strict = c.strict; wide = c.wide; k = chosen_or_default c Window }
 
 -- these words choose this
 abbrev pub Choose : List (List ℕ) → Chosen → Type 0
 Choose words end = (choices : List Choice) × (words ≡ flat_map words_of choices) × Leads nothing choices end
 
--- the words are plain, and they say this; of the options `--strict` is none
+-- the words are plain, and they say this; of the options `--strict` and `--wide` are none
 abbrev pub SaySimulation : List (List ℕ) → Simulation → Type 0
-SaySimulation words s = (end : Chosen) × Choose words end × (end.strict ≡ false) × (s ≡ settled end)
+SaySimulation words s = (end : Chosen) × Choose words end × (end.strict ≡ false) × (end.wide ≡ false)
+    × (s ≡ settled end)
 
 abbrev pub end_word : End → List ℕ
 end_word Dte = codes "dte"
 end_word Dce = codes "dce"
 
--- the first word is the end, and of the options `--down`, `--tap` and `--strict` are none
+-- the first word is the end, and of the options `--down`, `--tap`, `--strict` and `--wide` are none
 pub record SayPlace (words : List (List ℕ)) (p : Place) : Type 0 where
   pub rest : List (List ℕ)
   pub end : Chosen
@@ -221,15 +246,17 @@ pub record SayPlace (words : List (List ℕ)) (p : Place) : Type 0 where
   pub no_down : end.down ≡ false
   pub no_tap : end.tap ≡ false
   pub no_strict : end.strict ≡ false
+  pub no_wide : end.wide ≡ false
   pub same : p ≡ settled_at p.end end
 
--- of the options `--k`, `--long` and `--strict` are there alone
+-- of the options `--k`, `--long`, `--strict` and `--wide` are there alone
 pub record SayJudging (words : List (List ℕ)) (g : Judging) : Type 0 where
   pub end : Chosen
   pub choose : Choose words end
   pub no_down : end.down ≡ false
   pub no_tap : end.tap ≡ false
   pub no_say : end.say_sizes ≡ false
+  pub no_wide : end.wide ≡ false
   pub no_tries : end.n2 ≡ None
   pub no_channels : end.channels ≡ None
   pub same : g ≡ judging_in end

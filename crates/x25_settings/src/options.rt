@@ -19,6 +19,8 @@ pub struct Simulation {
     pub long: bool,
     /// Calls and acceptances say packet sizes and windows also where they are the default.
     pub say_sizes: bool,
+    /// Packets are read in all the forms that a peer may send.
+    pub wide: bool,
     /// The frames of each step are written behind its entries.
     pub tap: bool,
     /// The window of the link, 1 to 7.
@@ -45,6 +47,8 @@ pub struct Place {
     pub long: bool,
     /// Calls and acceptances say packet sizes and windows also where they are the default.
     pub say_sizes: bool,
+    /// Packets are read in all the forms that a peer may send.
+    pub wide: bool,
     /// The window of the link, 1 to 7.
     pub k: u8,
     /// How often a command of the link that isn't answered is sent again, 1 to 255.
@@ -60,6 +64,8 @@ pub struct Judging {
     pub long: bool,
     /// What isn't judged makes the status 1 too.
     pub strict: bool,
+    /// Packets are read in all the forms that a peer may send.
+    pub wide: bool,
     /// The window of the link, 1 to 7.
     pub k: u8,
 }
@@ -72,6 +78,7 @@ enum Flag {
     SaySizes,
     Tap,
     Strict,
+    Wide,
 }
 
 /// The options that have a number.
@@ -132,6 +139,7 @@ struct Chosen {
     say_sizes: bool,
     tap: bool,
     strict: bool,
+    wide: bool,
     k: Option<u8>,
     n2: Option<u8>,
     channels: Option<u8>,
@@ -156,6 +164,8 @@ fn flag_option(word: &str) -> Option<Flag>
         Some(Flag::Tap)
     } else if is(word, "--strict") {
         Some(Flag::Strict)
+    } else if is(word, "--wide") {
+        Some(Flag::Wide)
     } else {
         None
     }
@@ -223,6 +233,7 @@ impl Chosen {
                 strict: true,
                 ..self
             }),
+            Flag::Wide if !self.wide => Some(Chosen { wide: true, ..self }),
             _ => None,
         }
     }
@@ -258,7 +269,7 @@ impl Chosen {
     fn simulated(self) -> Option<Simulation>
         ensures { result ≡ simulated self }
     {
-        if self.strict {
+        if self.strict || self.wide {
             None
         } else {
             Some(self.with_defaults())
@@ -269,7 +280,7 @@ impl Chosen {
     fn at(self, end: End) -> Option<Place>
         ensures { result ≡ placed end self }
     {
-        if (self.down || self.tap) || self.strict {
+        if (self.down || self.tap) || (self.strict || self.wide) {
             return None;
         }
         let rest = self.with_defaults();
@@ -277,6 +288,7 @@ impl Chosen {
             end,
             long: rest.long,
             say_sizes: rest.say_sizes,
+            wide: rest.wide,
             k: rest.k,
             n2: rest.n2,
             channels: rest.channels,
@@ -287,7 +299,7 @@ impl Chosen {
     fn judging(self) -> Option<Judging>
         ensures { result ≡ judging_of self }
     {
-        if (self.down || self.tap) || self.say_sizes {
+        if (self.down || self.tap) || (self.say_sizes || self.wide) {
             return None;
         }
         match (self.n2, self.channels) {
@@ -296,6 +308,7 @@ impl Chosen {
                 Some(Judging {
                     long: rest.long,
                     strict: self.strict,
+                    wide: self.wide,
                     k: rest.k,
                 })
             }
@@ -311,6 +324,7 @@ impl Chosen {
             down: self.down,
             long: self.long,
             say_sizes: self.say_sizes,
+            wide: self.wide,
             tap: self.tap,
             k: self.k.unwrap_or(Numbered::Window.usual()),
             n2: self.n2.unwrap_or(Numbered::Tries.usual()),
@@ -340,6 +354,7 @@ fn choose<S: AsStr>(words: &[S]) -> Option<Chosen>
         say_sizes: false,
         tap: false,
         strict: false,
+        wide: false,
         k: None,
         n2: None,
         channels: None,

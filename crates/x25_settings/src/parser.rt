@@ -102,13 +102,27 @@ fn say_option<'a>(alloc: Global) -> Arg<'a> {
 }
 
 /// That packets are read in all their forms.
-fn wide_option<'a>(alloc: Global) -> Arg<'a> {
+fn wide_arg<'a>(alloc: Global, help: &'a str) -> Arg<'a> {
     Arg::new(alloc, "wide")
         .long("wide")
         .action(ArgAction::SetTrue)
-        .help(
-            "Read packets in all the forms that X.25 lets equipment send, and mark those by `~ wide`",
-        )
+        .help(help)
+}
+
+/// That those of a trace are.
+fn wide_option<'a>(alloc: Global) -> Arg<'a> {
+    wide_arg(
+        alloc,
+        "Read packets in all the forms that X.25 lets equipment send, and mark those by `~ wide`",
+    )
+}
+
+/// That those of a line are.
+fn wide_station_option<'a>(alloc: Global) -> Arg<'a> {
+    wide_arg(
+        alloc,
+        "Take packets in all the forms that X.25 lets equipment send",
+    )
 }
 
 /// That what isn't judged counts.
@@ -195,6 +209,7 @@ fn sim_command<'a>(alloc: Global) -> Result<Command<'a>, AllocError> {
     let command = with_arg(command, down_option(alloc));
     let command = with_arg(command, long_option(alloc));
     let command = with_arg(command, say_option(alloc));
+    let command = with_arg(command, wide_station_option(alloc));
     with_numbers(alloc, command)
 }
 
@@ -207,6 +222,7 @@ fn station_command<'a>(alloc: Global) -> Result<Command<'a>, AllocError> {
     let command = with_arg(Ok(command), end);
     let command = with_arg(command, long_option(alloc));
     let command = with_arg(command, say_option(alloc));
+    let command = with_arg(command, wide_station_option(alloc));
     with_numbers(alloc, command)
 }
 
@@ -219,6 +235,7 @@ fn judge_command<'a>(alloc: Global) -> Result<Command<'a>, AllocError> {
         .after_help(JUDGE_EXAMPLE);
     let command = with_arg(Ok(command), window_option(alloc));
     let command = with_arg(command, long_option(alloc));
+    let command = with_arg(command, wide_option(alloc));
     with_arg(command, strict_option(alloc))
 }
 

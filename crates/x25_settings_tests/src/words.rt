@@ -5,6 +5,7 @@ const DEFAULTS: Simulation = Simulation {
     down: false,
     long: false,
     say_sizes: false,
+    wide: false,
     tap: false,
     k: 7,
     n2: 10,
@@ -15,6 +16,7 @@ const PLACE: Place = Place {
     end: End::Dte,
     long: false,
     say_sizes: false,
+    wide: false,
     k: 7,
     n2: 10,
     channels: 1,
@@ -22,7 +24,7 @@ const PLACE: Place = Place {
 
 #[test]
 fn takes_plain_words_alone(rt: HostRuntime) {
-    let plain: [(&[&str], Task); 23] = [
+    let plain: [(&[&str], Task); 26] = [
         (
             &["decode"],
             Task::Decode {
@@ -82,6 +84,13 @@ fn takes_plain_words_alone(rt: HostRuntime) {
             }),
         ),
         (
+            &["sim", "--wide"],
+            Task::Sim(Simulation {
+                wide: true,
+                ..DEFAULTS
+            }),
+        ),
+        (
             &["sim", "--n2", "1"],
             Task::Sim(Simulation { n2: 1, ..DEFAULTS }),
         ),
@@ -102,6 +111,7 @@ fn takes_plain_words_alone(rt: HostRuntime) {
                 down: true,
                 long: true,
                 say_sizes: false,
+                wide: false,
                 tap: true,
                 k: 1,
                 n2: 255,
@@ -123,6 +133,7 @@ fn takes_plain_words_alone(rt: HostRuntime) {
             Task::Judge(Judging {
                 long: false,
                 strict: false,
+                wide: false,
                 k: 7,
             }),
         ),
@@ -131,6 +142,16 @@ fn takes_plain_words_alone(rt: HostRuntime) {
             Task::Judge(Judging {
                 long: false,
                 strict: true,
+                wide: false,
+                k: 7,
+            }),
+        ),
+        (
+            &["judge", "--wide"],
+            Task::Judge(Judging {
+                long: false,
+                strict: false,
+                wide: true,
                 k: 7,
             }),
         ),
@@ -139,6 +160,7 @@ fn takes_plain_words_alone(rt: HostRuntime) {
             Task::Judge(Judging {
                 long: true,
                 strict: false,
+                wide: false,
                 k: 1,
             }),
         ),
@@ -147,6 +169,13 @@ fn takes_plain_words_alone(rt: HostRuntime) {
             &["station", "dte", "--say-sizes"],
             Task::Station(Place {
                 say_sizes: true,
+                ..PLACE
+            }),
+        ),
+        (
+            &["station", "dte", "--wide"],
+            Task::Station(Place {
+                wide: true,
                 ..PLACE
             }),
         ),
@@ -188,7 +217,7 @@ fn takes_plain_words_alone(rt: HostRuntime) {
 
 #[test]
 fn takes_no_other_words(rt: HostRuntime) {
-    let others: [&[&str]; 50] = [
+    let others: [&[&str]; 52] = [
         &[],
         &["dec"],
         &["decode", "decode"],
@@ -230,6 +259,8 @@ fn takes_no_other_words(rt: HostRuntime) {
         &["judge", "--tap"],
         &["judge", "--down"],
         &["judge", "--say-sizes"],
+        &["judge", "--wide", "--wide"],
+        &["sim", "--strict"],
         &["station", "dte", "--say-sizes", "--say-sizes"],
         &["judge", "--n2", "1"],
         &["judge", "--channels", "1"],
@@ -271,7 +302,7 @@ const SIM: &str =
 
 /// The help of `judge`.
 const JUDGE: &str =
-    "Answer lines of a trace of both ends as `decode` does, and say which end broke which rule\n\nUsage: x25 judge [OPTIONS] < TRACE\n\nOptions:\n      --k <N>   The window of the link: 1 to 7 [default: 7]\n      --long    Take up to 128 octets of user data in a CALL, in place of 16\n      --strict  Answer status 1 too where a frame or a packet wasn't judged\n  -h, --help    Print help\n\nExamples:\n  x25 judge < examples/exchange.trace\n  x25 sim --tap < examples/losses.script | grep '^[<>]' | x25 judge\n";
+    "Answer lines of a trace of both ends as `decode` does, and say which end broke which rule\n\nUsage: x25 judge [OPTIONS] < TRACE\n\nOptions:\n      --k <N>   The window of the link: 1 to 7 [default: 7]\n      --long    Take up to 128 octets of user data in a CALL, in place of 16\n      --wide    Read packets in all the forms that X.25 lets equipment send, and mark those by `~ wide`\n      --strict  Answer status 1 too where a frame or a packet wasn't judged\n  -h, --help    Print help\n\nExamples:\n  x25 judge < examples/exchange.trace\n  x25 sim --tap < examples/losses.script | grep '^[<>]' | x25 judge\n";
 
 #[test]
 fn says_what_is_wrong(rt: HostRuntime) -> Result<(), Fail> {

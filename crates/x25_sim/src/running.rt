@@ -1,5 +1,5 @@
 //! Scripts answered by transcripts.
-ghost use Rattle.std.specs.Prelude.{◌≡◌, ◌<◌, [], false, None, IfErr, IfOk, OnOk, vec_len};
+ghost use Rattle.std.specs.Prelude.{◌≡◌, [], false, None, IfErr, IfOk, OnOk};
 ghost use Rattle.x25_io.specs.HeldLine.{HoldsLine};
 ghost use Rattle.x25_io.specs.code.Runs.{OfInput, Runs};
 ghost use Rattle.x25_station.specs.Config.{config_refusal};
@@ -11,7 +11,7 @@ use crate::law::{scripts_keep_order, scripts_meet_in_sessions};
 use crate::simulator::Simulator;
 use crate::stage::Stage;
 use std::alloc::Global;
-use x25_io::{Fault, HeldLine, LineByLine, PIECE, Sink, Source, take_text};
+use x25_io::{Fault, HeldLine, LineByLine, Piece, Sink, Source, take_text};
 use x25_station::Cfg;
 
 /// The buffers of a run, and the stage before the first line. It has no reader and no writer: where memory is refused
@@ -21,8 +21,7 @@ fn made_ready(
     down: bool,
     cfg: Cfg,
     tap: bool,
-) -> Result<(Vec<u8>, HeldLine, Stage), Fault>
-    ensures piece { IfOk result (λ ready. 0 < vec_len ready.0) }
+) -> Result<(Piece, HeldLine, Stage), Fault>
     ensures held { IfOk result (λ ready. HoldsLine [] ready.1) }
     ensures opening { IfOk result (λ ready. IsOpening cfg down ready.2) }
     ensures tap { IfOk result (λ ready. ready.2.tap ≡ tap) }
@@ -30,7 +29,7 @@ fn made_ready(
     ensures is_refused { IfOk result (λ ready. ready.2.is_refused ≡ false) }
     ensures memory { IfErr result (λ fault. fault ≡ Fault.NoMemory) }
 {
-    let piece = vec![in alloc; 0u8; PIECE]?;
+    let piece = Piece::new(alloc)?;
     let held = HeldLine::new(alloc)?;
     let stage = Stage::new(alloc, down, cfg, tap)?;
     Ok((piece, held, stage))
@@ -47,7 +46,7 @@ fn play<R: Source, W: Sink>(
 ) -> Result<u8, Fault>
     ensures { Runs R.Source W.Sink (program cfg down tap) reader.old reader.new writer.old writer.new result }
 {
-    let (mut piece, held, mut stage) = made_ready(alloc, down, cfg, tap)?;
+    let (piece, held, mut stage) = made_ready(alloc, down, cfg, tap)?;
     if let Err(fault) = stage.open(writer) {
         // By one call: as its scope ends a body lets go of the stations part by part, which the prover follows.
         drop(stage);
@@ -55,7 +54,7 @@ fn play<R: Source, W: Sink>(
     }
     let simulator = Simulator::new(Vec::new(alloc), stage);
     let lines = LineByLine::new(held, simulator);
-    take_text(lines, piece.as_mut_slice(), reader, writer)
+    take_text(lines, piece, reader, writer)
 }
 
 /// Sets two stations up over a line, does what the lines of the script that the reader gives ask for, and writes what

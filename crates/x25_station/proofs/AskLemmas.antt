@@ -1,11 +1,10 @@
 -- What a station answers to a command, by what its layer answers.
-use Rattle.std.proofs.Common.{◌≡◌, ℕ, List, [], map, Option, Some, None, Result, Ok, Err, Bool, true, false, ◌==◌, if◌then◌else◌, IfSome, inl, refl, ap, sym, subst, ◌∙◌}
+use Rattle.std.proofs.Common.{◌≡◌, ℕ, List, [], map, Option, Some, None, Result, Ok, Err, Bool, true, false, ◌==◌, if◌then◌else◌, inl, refl, ap, sym, subst, ◌∙◌}
 use Rattle.x25_circuit.specs.Params.{Proposal}
 use Rattle.x25_packet.specs.Packet.{PlainPacket}
 use Rattle.x25_link.specs.Station.{Settings as LinkSettings, LinkStation, Side}
 use Rattle.x25_link.specs.Link.{alone}
 use Rattle.x25_link.specs.code.FitsLink.{ShownLink, LinkState, FitsWhole, FitsLink, up_at, waits_of, after_put_to}
-use Rattle.x25_circuit.specs.declared.params.Params.{Params}
 use Rattle.x25_circuit.specs.Circuit.{Circuit}
 use Rattle.x25_circuit.specs.Calling as circuit
 use Rattle.x25_layer.specs.declared.layer.Layer as layer_code
@@ -13,18 +12,19 @@ use Rattle.x25_layer.specs.declared.error.LayerError.{LayerError}
 use Rattle.x25_layer.specs.declared.error.LayerError.TheVariants as layer_error
 use Rattle.x25_layer.specs.Layer.{LayerSettings, Layer, is_channel}
 use Rattle.x25_layer.specs.Calls.{LayerRequest, Asks, Dials, Restarts, PullsAll, LayerOutcome, Accepted, Declined, layer_outcome, outcome_in, outcome_ready, outcome_on, where_room, if_at_once, puts_at_once, dialled, free_channel}
-use Rattle.x25_layer.specs.Rounds.{LinkView, Putting, Answered, Went, Refuses, went, calls}
+use Rattle.x25_layer.specs.Rounds.{LinkView, Putting, Answered, Went, Refuses, went, calls, refusal_of}
 use Rattle.x25_layer.specs.code.OverLink as over
 use Rattle.x25_layer.specs.code.OverLink.{after_all, LayerGives, LinkGives}
 use Rattle.x25_layer.specs.code.FitsLayer.{FitsLayer}
+use Rattle.x25_station.specs.declared.config.Manner.{Manner}
 use Rattle.x25_station.specs.declared.step.Step as code_step
 use Rattle.x25_station.specs.declared.error.StationError.{StationError}
 use Rattle.x25_station.specs.declared.error.StationError.TheVariants as error
 use Rattle.x25_station.specs.Error.{of_layer}
-use Rattle.x25_station.specs.Config.{Settings, link_settings, layer_settings}
+use Rattle.x25_station.specs.Config.{Settings, link_settings, layer_settings, manner_of}
 use Rattle.x25_station.specs.Entry.{StationEntry}
 use Rattle.x25_station.specs.Station.{Station, all_put, view_of, waiting_after}
-use Rattle.x25_station.specs.Step.{Outcome, Refused, did, requests, entries_of_outcome}
+use Rattle.x25_station.specs.Step.{Outcome, did, requests, entries_of_outcome}
 use Rattle.x25_station.specs.laws.KeepLaw.{KeptBy}
 use Rattle.x25_station.specs.code.PlainEntry.{plain_entry}
 use Rattle.x25_station.specs.code.FitsParts.{FitsParts}
@@ -44,9 +44,9 @@ after_puts c m packets t fits = subst (λ (x : LinkState). FitsWhole m x) (put_b
 
 -- ---- an accepted call
 
-pub leaves_did : {T : Type 0} {says : Bool} (u : T) (c : Settings) → says ≡ c.say_sizes → (s : LinkStation) (m n : ShownLink) (z : layer_code.Layer) (entries : List StationEntry) (a : Answered) → LayerGives (layer_settings c) z (Ok u) a
+pub leaves_did : {T : Type 0} {manner : Manner} (u : T) (c : Settings) → manner ≡ manner_of c → (s : LinkStation) (m n : ShownLink) (z : layer_code.Layer) (entries : List StationEntry) (a : Answered) → LayerGives (layer_settings c) z (Ok u) a
     → LinkGives (FitsWhole m) after_put_to (kept_of (link_settings c) (alone s)) (Ok u) a → n.station ≡ m.station → n.outbox.made ≡ [] → KeptBy (did c (alone s) entries a)
-    → station.LeavesParts {T = Unit} c says n z (Ok tt) (did c (alone s) entries a)
+    → station.LeavesParts {T = Unit} c manner n z (Ok tt) (did c (alone s) entries a)
 leaves_did u c as_set s m n z entries (Went p) layer link same none kept = record {
   link = taken_link (link_settings c) m n _ same (after_puts (link_settings c) m p.put (alone s) link).link;
   layer = layer;
@@ -135,6 +135,12 @@ calls_named view c l request = test view.is_up
     test true = goes (layer_outcome c (view.waits [] == 256) l request) (outcome_named c (view.waits [] == 256) l.restarting l.restarts l.circuits request)
     test false = refl
 
+-- ---- a call that the layer would refuse
+
+pub refuses_early : (T : Type 0) (c : LayerSettings) (z : layer_code.Layer) (e : LayerError) (a : Answered) → Some e ≡ refusal_of a → LayerGives {T = T} c z (Err e) a
+refuses_early T c z e (Went p) is = cc
+refuses_early T c z e (Refuses f) is = cc
+
 -- ---- the calls, by the layer's clauses
 
 abbrev pub Layers : {T : Type 0} → ShownLink → layer_code.Layer → layer_code.Layer → Result T LayerError → LayerRequest → Type 0
@@ -145,32 +151,32 @@ Links l m y result request =
     (d : LayerSettings) (k : Layer) (x : LinkState) → FitsLayer d y k → FitsWhole l x → LinkGives (FitsWhole m) after_put_to x result (calls (over.view_of up_at waits_of after_put_to x) d k request)
 
 -- the frames are kept from nothing on
-whole : {says : Bool} (c : Settings) (l : ShownLink) (y : layer_code.Layer) (s : Station) → FitsParts c says l y s → FitsWhole l (kept_of (link_settings c) (alone s.link))
+whole : {manner : Manner} (c : Settings) (l : ShownLink) (y : layer_code.Layer) (s : Station) → FitsParts c manner l y s → FitsWhole l (kept_of (link_settings c) (alone s.link))
 whole c l y s fits = record { link = fits.link; kept = fits.sent }
 
 abbrev pub answered_by : Settings → Station → LayerRequest → Answered
 answered_by c s request = calls (view_of (link_settings c) s.link) (layer_settings c) s.layer request
 
-pub layer_gives : {says : Bool} {T : Type 0} (result : Result T LayerError) (c : Settings) (l : ShownLink) (y z : layer_code.Layer) (s : Station) (request : LayerRequest) → FitsParts c says l y s → Layers l y z result request
+pub layer_gives : {manner : Manner} {T : Type 0} (result : Result T LayerError) (c : Settings) (l : ShownLink) (y z : layer_code.Layer) (s : Station) (request : LayerRequest) → FitsParts c manner l y s → Layers l y z result request
     → LayerGives (layer_settings c) z result (answered_by c s request)
 layer_gives result c l y z s request fits clause =
     subst (λ (view : LinkView). LayerGives (layer_settings c) z result (calls view (layer_settings c) s.layer request)) (same_view (link_settings c) (alone s.link))
     (clause (layer_settings c) s.layer (kept_of (link_settings c) (alone s.link)) fits.layer (whole c l y s fits))
 
-pub link_gives : {says : Bool} {T : Type 0} (result : Result T LayerError) (c : Settings) (l m : ShownLink) (y : layer_code.Layer) (s : Station) (request : LayerRequest) → FitsParts c says l y s → Links l m y result request
+pub link_gives : {manner : Manner} {T : Type 0} (result : Result T LayerError) (c : Settings) (l m : ShownLink) (y : layer_code.Layer) (s : Station) (request : LayerRequest) → FitsParts c manner l y s → Links l m y result request
     → LinkGives (FitsWhole m) after_put_to (kept_of (link_settings c) (alone s.link)) result (answered_by c s request)
 link_gives result c l m y s request fits clause =
     subst (λ (view : LinkView). LinkGives (FitsWhole m) after_put_to (kept_of (link_settings c) (alone s.link)) result (calls view (layer_settings c) s.layer request)) (same_view (link_settings c) (alone s.link))
     (clause (layer_settings c) s.layer (kept_of (link_settings c) (alone s.link)) fits.layer (whole c l y s fits))
 
-pub record Answers (c : Settings) (says : Bool) (n : ShownLink) (z : layer_code.Layer) (r : code_step.Step) (outcome : Outcome) : Type 0 where
-  pub state : station.LeavesParts {T = Unit} c says n z (Ok tt) outcome
+pub record Answers (c : Settings) (manner : Manner) (n : ShownLink) (z : layer_code.Layer) (r : code_step.Step) (outcome : Outcome) : Type 0 where
+  pub state : station.LeavesParts {T = Unit} c manner n z (Ok tt) outcome
   pub frames : station.Sends {T = Unit} c r (Ok tt) outcome
   pub refused : station.Refuses {T = Unit} (Ok tt) outcome
 
 -- an accepted call of the layer, from the link l and the layer y to m and z, and then to n, from which the frames are taken
-pub answers : {says : Bool} {T : Type 0} (u : T) (c : Settings) (l m n : ShownLink) (y z : layer_code.Layer) (r : code_step.Step) (s : Station) (request : LayerRequest) → FitsParts c says l y s → Layers l y z (Ok u) request → Links l m y (Ok u) request
-    → n.station ≡ m.station → n.outbox.made ≡ [] → map (λ frame. frame.items) r.frames.items ≡ m.outbox.made → KeptBy (requests c s request) → Answers c says n z r (requests c s request)
+pub answers : {manner : Manner} {T : Type 0} (u : T) (c : Settings) (l m n : ShownLink) (y z : layer_code.Layer) (r : code_step.Step) (s : Station) (request : LayerRequest) → FitsParts c manner l y s → Layers l y z (Ok u) request → Links l m y (Ok u) request
+    → n.station ≡ m.station → n.outbox.made ≡ [] → map (λ frame. frame.items) r.frames.items ≡ m.outbox.made → KeptBy (requests c s request) → Answers c manner n z r (requests c s request)
 answers u c l m n y z r s request fits layers links same none made kept =
     let a : Answered = answered_by c s request in
     let layer = layer_gives (Ok u) c l y z s request fits layers in
@@ -184,7 +190,7 @@ answers u c l m n y z r s request fits layers links same none made kept =
     }
 
 -- a call of the layer that is refused, or finds no memory
-pub refuses : {says : Bool} (T U : Type 0) (e : LayerError) (found : StationError) (c : Settings) (l : ShownLink) (y z : layer_code.Layer) (s : Station) (request : LayerRequest) → FitsParts c says l y s → found ≡ of_layer e
+pub refuses : {manner : Manner} (T U : Type 0) (e : LayerError) (found : StationError) (c : Settings) (l : ShownLink) (y z : layer_code.Layer) (s : Station) (request : LayerRequest) → FitsParts c manner l y s → found ≡ of_layer e
     → (let x : Result T LayerError = Err e in Layers l y z x request) → (let x : Result U StationError = Err found in station.Refuses x (requests c s request))
 refuses T U e found c l y z s request fits is layers =
     let x : Result T LayerError = Err e in
@@ -193,7 +199,7 @@ refuses T U e found c l y z s request fits is layers =
     refused_did T U e found c s.link z entries (answered_by c s request) (calls_named (view_of (link_settings c) s.link) lc s.layer request) is (layer_gives x c l y z s request fits layers)
 
 -- then the station is as before
-pub still_fits : {says : Bool} (c : Settings) (l m : ShownLink) (y z : layer_code.Layer) (s : Station) → FitsParts c says l y s → FitsLayer (layer_settings c) z s.layer → ((x : LinkState) → FitsWhole l x → FitsWhole m x) → FitsParts c says m z s
+pub still_fits : {manner : Manner} (c : Settings) (l m : ShownLink) (y z : layer_code.Layer) (s : Station) → FitsParts c manner l y s → FitsLayer (layer_settings c) z s.layer → ((x : LinkState) → FitsWhole l x → FitsWhole m x) → FitsParts c manner m z s
 still_fits c l m y z s fits layer links =
     let after : FitsWhole m (kept_of (link_settings c) (alone s.link)) = links (kept_of (link_settings c) (alone s.link)) (whole c l y s fits) in
     record { link = after.link; layer = layer; kept = fits.kept; sent = after.kept; same = fits.same }

@@ -22,7 +22,7 @@ use Rattle.x25_circuit.specs.laws.ParamsLaws.{FieldIsAllowed, SaidIsAllowed, Ans
 use Rattle.x25_circuit.specs.Circuit.{Settings, Talk, Circuit, talking, outgoing, incoming, waits}
 use Rattle.x25_circuit.specs.Notice.{CallRequest, connected}
 use Rattle.x25_circuit.specs.Hearing as table
-use Rattle.x25_circuit.specs.Calling.{Outcome, Done, Refused, Request, Calls, Accepts, Clears, Sends, Interrupts, Resets, SaysReady, SaysNotReady, does, is_address_text, request_of, call_sent, may_call, call_in, accept_with, accept_in, clear_in, send_in, interrupt_in, reset_in, ready_in, outcome, Pulled, pulls_nothing, data_packet, pull_open, pull_in, pulled}
+use Rattle.x25_circuit.specs.Calling.{Outcome, Done, Refused, Request, Calls, Accepts, Clears, Sends, Interrupts, Resets, SaysReady, SaysNotReady, does, is_address_text, call_sent, may_call, call_in, accept_with, accept_in, clear_in, send_in, interrupt_in, reset_in, ready_in, outcome, Pulled, pulls_nothing, data_packet, pull_open, pull_in, pulled}
 use Rattle.x25_station.specs.laws.ReadLaw.{AreOctets, AsksOctets}
 use Rattle.x25_station.proofs.FieldLemmas.{Fits}
 

@@ -1,5 +1,5 @@
 -- A call does what the definition says of it, by what the calls of its link or of its layer did.
-use Rattle.std.proofs.Common.{◌≡◌, Bool, ◌≤◌, [], length, map, vec_len, Result, Ok, Err, OnErr, IsErrAnd, ◌∙◌, inl, inr, refl, ap, sym, subst, arith}
+use Rattle.std.proofs.Common.{◌≡◌, ◌≤◌, [], length, map, vec_len, Result, Ok, Err, OnErr, IsErrAnd, ◌∙◌, inr, refl, ap, sym, subst, arith}
 use Rattle.std.proofs.lemmas.List.{length-map}
 use Rattle.x25_link.specs.Station.{LinkStation}
 use Rattle.x25_link.specs.Link.{alone}
@@ -12,6 +12,7 @@ use Rattle.x25_layer.specs.Rounds.{Answered, Went, Refuses as LayerRefuses}
 use Rattle.x25_layer.specs.code.OverLink.{LinkGives}
 use Rattle.x25_layer.specs.code.FitsLayer.{FitsLayer}
 use Rattle.x25_layer.specs.declared.layer.Layer as layer_code
+use Rattle.x25_station.specs.declared.config.Manner.{Manner}
 use Rattle.x25_station.specs.declared.error.StationError.{StationError}
 use Rattle.x25_station.specs.declared.error.StationError.TheVariants as error
 use Rattle.x25_station.specs.declared.station.Station as code
@@ -119,17 +120,17 @@ puts_few : {T : Type 0} (u : T) (c : Settings) (s : LinkStation) (m : ShownLink)
 puts_few u c s m (Went p) small low link = few_made c.role m.outbox.made (all_put (link_settings c) p.put (alone s)).out 8 (after_puts (link_settings c) m p.put (alone s) link).kept (few_put (link_settings c) p.put (alone s) small low)
 puts_few u c s m (LayerRefuses e) small low link = absurd (ok_err u e link)
 
-pub made_few : {T : Type 0} {says : Bool} (u : T) (l m : ShownLink) (y : layer_code.Layer) (request : LayerRequest) → AreMeant says l y → Links l m y (Ok u) request → WindowIsSmall → FewStand → length m.outbox.made ≤ 8
+pub made_few : {T : Type 0} {manner : Manner} (u : T) (l m : ShownLink) (y : layer_code.Layer) (request : LayerRequest) → AreMeant manner l y → Links l m y (Ok u) request → WindowIsSmall → FewStand → length m.outbox.made ≤ 8
 made_few u l m y request h links small stand = least_by_meaning l y (length m.outbox.made) 8 h (λ c s fits.
     puts_few u c s.link m (answered_by c s request) (small (link_settings c) l s.link fits.link) (stand (link_settings c) l s.link fits.link).place_low (link_gives (Ok u) c l m y s request fits links))
 
 -- From the link and the layer of the old station its call led to the link m, from which the frames were taken, and to the layer of the new one.
 pub did_request : {T : Type 0} (u : T) (old new : code.Station) (m : ShownLink) (r : code_step.Step) (request : LayerRequest) → Layers old.link old.layer new.layer (Ok u) request → Links old.link m old.layer (Ok u) request
     → new.link.station ≡ m.station → new.link.outbox.made ≡ [] → map (λ frame. frame.items) r.frames.items ≡ m.outbox.made → RequestKeeps → WindowIsSmall → FewStand
-    → ((c : Settings) (s : Station) → FitsStation c old s → Enters {T = Unit} r (Ok tt) (requests c s request)) → vec_len r.entries ≤ 3 → old.say_sizes ≡ new.say_sizes → Does old new r (Ok tt) (λ c s. requests c s request)
-did_request u old new m r request layers links same none made keeps small stand entered few says =
-    let parts : (c : Settings) (s : Station) → FitsStation c old s → Answers c new.say_sizes new.link new.layer r (requests c s request) =
-    λ c s fits. answers u c old.link m new.link old.layer new.layer r s request (subst (λ (b : Bool). FitsParts c b old.link old.layer s) says fits) layers links same none made (keeps c s request fits.kept) in
+    → ((c : Settings) (s : Station) → FitsStation c old s → Enters {T = Unit} r (Ok tt) (requests c s request)) → vec_len r.entries ≤ 3 → old.manner ≡ new.manner → Does old new r (Ok tt) (λ c s. requests c s request)
+did_request u old new m r request layers links same none made keeps small stand entered few manner =
+    let parts : (c : Settings) (s : Station) → FitsStation c old s → Answers c new.manner new.link new.layer r (requests c s request) =
+    λ c s fits. answers u c old.link m new.link old.layer new.layer r s request (subst (λ (b : Manner). FitsParts c b old.link old.layer s) manner fits) layers links same none made (keeps c s request fits.kept) in
     let put = made_few u old.link m old.layer request old.meant links small stand in
     let same : length (map (λ frame. frame.items) r.frames.items) ≡ length m.outbox.made = ap length made in
     let count = length-map r.frames.items (λ frame. frame.items) in
@@ -148,7 +149,7 @@ did_request u old new m r request layers links same none made keeps small stand 
 
 pub declines_request : (T : Type 0) (e : LayerError) (found : StationError) (old new : code.Station) (out : code_step.Step) (request : LayerRequest) → found ≡ of_layer e
     → (let x : Result T LayerError = Err e in Layers old.link old.layer new.layer x request) → ((d : LayerSettings) (k : Layer) → FitsLayer d old.layer k → FitsLayer d new.layer k)
-    → ((x : LinkState) → FitsWhole old.link x → FitsWhole new.link x) → IsEmpty out → old.say_sizes ≡ new.say_sizes → Does old new out (Err found) (λ c s. requests c s request)
-declines_request T e found old new out request is layers layer_stays link_stays empty says =
+    → ((x : LinkState) → FitsWhole old.link x → FitsWhole new.link x) → IsEmpty out → old.manner ≡ new.manner → Does old new out (Err found) (λ c s. requests c s request)
+declines_request T e found old new out request is layers layer_stays link_stays empty manner =
     declines old new out found (λ c s. requests c s request) (λ c s fits. refuses T Unit e found c old.link old.layer new.layer s request fits is layers)
-    (λ c s fits. still_fits c old.link new.link old.layer new.layer s (subst (λ (b : Bool). FitsParts c b old.link old.layer s) says fits) (layer_stays (layer_settings c) s.layer fits.layer) link_stays) empty
+    (λ c s fits. still_fits c old.link new.link old.layer new.layer s (subst (λ (b : Manner). FitsParts c b old.link old.layer s) manner fits) (layer_stays (layer_settings c) s.layer fits.layer) link_stays) empty

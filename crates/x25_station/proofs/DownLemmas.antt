@@ -11,7 +11,8 @@ use Rattle.x25_link.specs.code.FitsLink.{ShownLink, FitsLink}
 use Rattle.x25_layer.specs.Layer.{Layer}
 use Rattle.x25_layer.specs.code.FitsLayer.{FitsLayer}
 use Rattle.x25_layer.specs.declared.layer.Layer as layer_code
-use Rattle.x25_station.specs.Config.{Settings, link_settings, layer_settings}
+use Rattle.x25_station.specs.declared.config.Manner.{Manner}
+use Rattle.x25_station.specs.Config.{Settings, link_settings, layer_settings, manner_of}
 use Rattle.x25_station.specs.Entry.{StationEntry, entries_down}
 use Rattle.x25_station.specs.Station.{Station}
 use Rattle.x25_station.specs.Step.{Step, follows, layer_down, unless}
@@ -52,8 +53,8 @@ disconnect_down c l s = follows_down c l (disconnect_step (link_settings c) s) r
 
 -- ---- the station after it
 
-pub fits_down : {says : Bool} (c : Settings) → says ≡ c.say_sizes → (v : ShownLink) (y : layer_code.Layer) (l : Layer) (k : LinkStep) (step : Step) (down : Option Reason) → step.near ≡ (downs l k.side k.notes.down).near → down ≡ k.notes.down
-    → FitsLink (link_settings c) v k.side.near → FitsLayer (layer_settings c) y (layer_down l down) → v.outbox.made ≡ [] → IsKept step.near → FitsParts c says v y step.near
+pub fits_down : {manner : Manner} (c : Settings) → manner ≡ manner_of c → (v : ShownLink) (y : layer_code.Layer) (l : Layer) (k : LinkStep) (step : Step) (down : Option Reason) → step.near ≡ (downs l k.side k.notes.down).near → down ≡ k.notes.down
+    → FitsLink (link_settings c) v k.side.near → FitsLayer (layer_settings c) y (layer_down l down) → v.outbox.made ≡ [] → IsKept step.near → FitsParts c manner v y step.near
 fits_down c as_set v y l k step down near is link layer sent kept =
     let moved : layer_down l down ≡ step.near.layer = ap (layer_down l) is ∙ sym (ap (λ (x : Station). x.layer) near) in
     record {
@@ -64,8 +65,8 @@ fits_down c as_set v y l k step down near is link layer sent kept =
       same = as_set;
     }
 
-pub leaves_down : {says : Bool} (c : Settings) → says ≡ c.say_sizes → (v : ShownLink) (y : layer_code.Layer) (o : Option LinkError) (l : Layer) (k : LinkStep) (step : Step) (down : Option Reason) → step.near ≡ (downs l k.side k.notes.down).near
-    → down ≡ k.notes.down → FitsLink (link_settings c) v k.side.near → FitsLayer (layer_settings c) y (layer_down l down) → v.outbox.made ≡ [] → KeptBy (unless o step) → LeavesParts {T = Unit} c says v y (Ok tt) (unless o step)
+pub leaves_down : {manner : Manner} (c : Settings) → manner ≡ manner_of c → (v : ShownLink) (y : layer_code.Layer) (o : Option LinkError) (l : Layer) (k : LinkStep) (step : Step) (down : Option Reason) → step.near ≡ (downs l k.side k.notes.down).near
+    → down ≡ k.notes.down → FitsLink (link_settings c) v k.side.near → FitsLayer (layer_settings c) y (layer_down l down) → v.outbox.made ≡ [] → KeptBy (unless o step) → LeavesParts {T = Unit} c manner v y (Ok tt) (unless o step)
 leaves_down c as_set v y o l k step down near is link layer sent kept = leaves_unless c v y o step kept (λ now. fits_down c as_set v y l k step down near is link layer sent now)
 
 -- ---- what it answers

@@ -1,8 +1,7 @@
 -- The entries of an accepted command are those of the definition.
-use Rattle.std.proofs.Common.{Bool, ◌≡◌, ℕ, List, [], ◌∷◌, ◌==◌, Some, Ok, map, true, sym, subst, ◌∙◌}
+use Rattle.std.proofs.Common.{◌≡◌, ℕ, List, [], ◌∷◌, ◌==◌, Some, Ok, map, true, sym, subst, ◌∙◌}
 use Rattle.x25_circuit.specs.Params.{Proposal, in_brief}
 use Rattle.x25_link.specs.code.FitsLink.{ShownLink}
-use Rattle.x25_circuit.specs.declared.params.Params.{Params}
 use Rattle.x25_circuit.specs.Calling as circuit
 use Rattle.x25_layer.specs.declared.layer.Layer as layer_code
 use Rattle.x25_layer.specs.Layer.{LayerSettings, Layer, is_channel}
@@ -12,6 +11,7 @@ use Rattle.x25_layer.specs.code.OverLink.{LayerGives}
 use Rattle.x25_layer.specs.code.FitsLayer.{FitsLayer}
 use Rattle.x25_layer.specs.laws.Transcript.{Asked, name_of}
 use Rattle.x25_layer.specs.laws.TwoLayers.{shown}
+use Rattle.x25_station.specs.declared.config.Manner.{Manner}
 use Rattle.x25_station.specs.declared.step.Step as code_step
 use Rattle.x25_station.specs.Config.{Settings, link_settings, layer_settings}
 use Rattle.x25_station.specs.Entry.{StationEntry, of_channel, restart_asked}
@@ -30,7 +30,7 @@ entries_by c s request = entries_of_outcome (layer_settings c) s.layer request (
 went_fits : {T : Type 0} (u : T) (c : Settings) (z : layer_code.Layer) (a : Answered) (p : Putting) → LayerGives (layer_settings c) z (Ok u) a → a ≡ Went p → FitsLayer (layer_settings c) z p.layer
 went_fits u c z a p gives is = subst (λ (x : Answered). LayerGives (layer_settings c) z (Ok u) x) is gives
 
-pub asked_enters : {T : Type 0} {says : Bool} (u : T) (c : Settings) (l : ShownLink) (y z : layer_code.Layer) (s : Station) (r : code_step.Step) (h : ℕ) (request : circuit.Request) → FitsParts c says l y s → Layers l y z (Ok u) (Asks h request)
+pub asked_enters : {T : Type 0} {manner : Manner} (u : T) (c : Settings) (l : ShownLink) (y z : layer_code.Layer) (s : Station) (r : code_step.Step) (h : ℕ) (request : circuit.Request) → FitsParts c manner l y s → Layers l y z (Ok u) (Asks h request)
     → ((k : Layer) → FitsLayer (layer_settings c) z k → is_channel c.channels h ≡ true → map plain_entry r.entries.items ≡ of_channel (record { channel = h; name = name_of k h; said = Asked (shown (k.circuits h) request) }) ∷ [])
     → Enters {T = Unit} r (Ok tt) (requests c s (Asks h request))
 asked_enters u c l y z s r h request fits layers entered =
@@ -39,7 +39,7 @@ asked_enters u c l y z s r h request fits layers entered =
     enters_did c s.link r (entries_by c s (Asks h request)) (answered_by c s (Asks h request)) (λ p is.
     entered p.layer (went_fits u c z _ p (layer_gives (Ok u) c l y z s (Asks h request) fits layers) is) (asked_channel view lc s.layer h request p is) ∙ sym (asked_entry view lc s.layer h request p is))
 
-pub dialled_enters : {says : Bool} (c : Settings) (l : ShownLink) (y z : layer_code.Layer) (s : Station) (r : code_step.Step) (h : ℕ) (called calling user : List ℕ) (proposal : Proposal) → FitsParts c says l y s → Layers l y z (Ok h) (Dials called calling user proposal)
+pub dialled_enters : {manner : Manner} (c : Settings) (l : ShownLink) (y z : layer_code.Layer) (s : Station) (r : code_step.Step) (h : ℕ) (called calling user : List ℕ) (proposal : Proposal) → FitsParts c manner l y s → Layers l y z (Ok h) (Dials called calling user proposal)
     → free_channel c.role s.layer.circuits c.channels ≡ Some h
     → ((k : Layer) → FitsLayer (layer_settings c) z k → is_channel c.channels h ≡ true →
     map plain_entry r.entries.items ≡ of_channel (record { channel = h; name = name_of k h; said = Asked (circuit.Calls called calling user (in_brief proposal.params)) }) ∷ [])

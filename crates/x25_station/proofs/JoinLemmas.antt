@@ -5,6 +5,9 @@ use Rattle.std.proofs.lemmas.List.{append-nil}
 use Rattle.x25_packet.specs.declared.error.PacketError.{PacketError}
 use Rattle.x25_packet.specs.Packet.{PlainPacket}
 use Rattle.x25_packet.specs.Reading.{packet_of}
+use Rattle.x25_wide.specs.Narrowing.{taken_of}
+use Rattle.x25_wide.specs.Reading.{wide_of}
+use Rattle.x25_wide.specs.Taking.{or_taken, read_in}
 use Rattle.x25_link.specs.declared.phase.Notes.{Notes}
 use Rattle.x25_link.specs.Outgoing.{waits}
 use Rattle.x25_link.specs.Station.{LinkStation, Side, is_up}
@@ -119,10 +122,15 @@ pub down_joined : DownIsJoined
 down_joined c l k reason is = ap (λ (n : Notes). follows c l (record { side = k.side; packet = k.packet; notes = n })) is
 
 follows_heard : (c : Settings) (l : Layer) (k : LinkStep) (octets : List ℕ) → k.packet ≡ Some octets → IsQuiet k
-    → follows c l k ≡ with_puts c k.side (hears (view_of (link_settings c) k.side.near) (layer_settings c) l octets).step (entries_of_answer (layer_answer (layer_settings c) l octets))
+    → follows c l k ≡ with_puts c k.side (hears (view_of (link_settings c) k.side.near) (layer_settings c) c.wide l octets).step (entries_of_answer (layer_answer (layer_settings c) c.wide l octets))
 follows_heard c l k octets some quiet =
     ap (λ (o : Option (List ℕ)). follows c l (record { side = k.side; packet = o; notes = k.notes })) some
     ∙ ap (λ (n : Notes). follows c l (record { side = k.side; packet = Some octets; notes = n })) quiet
+
+-- in all forms a packet is read as in the one that a station writes
+read_alike : (wide : Bool) (most : ℕ) (octets : List ℕ) (packet : PlainPacket) → packet_of most octets ≡ Ok packet → read_in wide most octets ≡ Ok packet
+read_alike false most octets packet reads = reads
+read_alike true most octets packet reads = ap (λ (r : Result PlainPacket PacketError). or_taken r (taken_of (wide_of most octets))) reads
 
 heard_joined : HearsRun → PutTells → (c : Settings) (w : TwoLayers) (k : LinkStep) (octets : List ℕ) (packet : PlainPacket) (back : List PlainPacket) → w.near.is_out ≡ false → w.back ≡ packet ∷ back
     → k.packet ≡ Some octets → IsQuiet k → is_up k.side.near.phase ≡ true → waits k.side.near.outgoing < 256 → packet_of (longest_user c.long_data) octets ≡ Ok packet
@@ -131,7 +139,7 @@ heard_joined runs tells c w k octets packet back up front some quiet up_link low
     subst (λ (step : Step). Goal step) (sym (follows_heard c w.near.layer k octets some quiet)) (
       r.0,
       r.1,
-      joined c w (HandsUp ∷ pulls_of r.0) (moves lc w HandsUp) k.side back (hears view lc w.near.layer octets).step (entries_of_answer a) r.2
+      joined c w (HandsUp ∷ pulls_of r.0) (moves lc w HandsUp) k.side back (hears view lc c.wide w.near.layer octets).step (entries_of_answer a) r.2
           (rounds_accepted tells (link_settings c) k.side lc (begin a.next a.owed) up_link (begin_accepted (link_settings c) k.side a.owed up_link low))
           (ap (λ (x : TwoLayers). x.near.entries) all ∙ ap (λ (es : List Entry). w.near.entries ++ es) (sym (told_entries a.next a.notices)))
           (ap (λ (x : TwoLayers). x.near.told) all ∙ ap (λ (ns : List LayerNotice). w.near.told ++ ns) (sym (told_notices a.next a.notices))),
@@ -143,20 +151,23 @@ heard_joined runs tells c w k octets packet back up front some quiet up_link low
     view : LinkView
     view = view_of (link_settings c) k.side.near
 
+    read : read_in c.wide (longest_user c.long_data) octets ≡ Ok packet
+    read = read_alike c.wide (longest_user c.long_data) octets packet reads
+
     a : LayerAnswer
-    a = layer_answer lc w.near.layer octets
+    a = layer_answer lc c.wide w.near.layer octets
 
     Goal : Step → Type 0
     Goal step = (pulled : List ℕ) × AreChannels c.channels pulled × IsJoined c w (moves_all lc w (HandsUp ∷ pulls_of pulled)) k.side back step
 
     same : a ≡ layer_answers lc w.near.layer packet
-    same = ap (λ (read : Result PlainPacket PacketError). answer_to lc w.near.layer octets read) reads
+    same = ap (λ (read : Result PlainPacket PacketError). answer_to lc w.near.layer octets read) read
 
     all : moves lc w HandsUp ≡ answered w packet back a
     all = ap (λ (o : Bool). moves_in lc w o HandsUp) up ∙ ap (λ (l : List PlainPacket). handed_up lc w l) front ∙ ap (λ (x : LayerAnswer). answered w packet back x) (sym same)
 
-    r : (pulled : List ℕ) × AreChannels c.channels pulled × IsRun lc w (HandsUp ∷ pulls_of pulled) (moves lc w HandsUp) (hears view lc w.near.layer octets).step back
-    r = runs view lc w packet back octets up front reads
+    r : (pulled : List ℕ) × AreChannels c.channels pulled × IsRun lc w (HandsUp ∷ pulls_of pulled) (moves lc w HandsUp) (hears view lc c.wide w.near.layer octets).step back
+    r = runs view lc c.wide w packet back octets up front read
 
 pub receive_joined : HearsRun → PutTells → TakeTells → TakeHandsUp → ReceiveIsJoined
 receive_joined runs tells takes hands c link w octets packet_octets packet back up front none some reads =
@@ -192,6 +203,6 @@ up_joined alone_put c l k up is = subst (λ (step : Step). ComesUp c k step) (sy
 
     whole : follows c l k ≡ with_puts c k.side (begin (goes_up lc).next (goes_up lc).owed) (entries_noted k.notes)
     whole =
-        ap (λ (b : Bool). with_puts c k.side (layer_at view lc l k.packet k.notes.down b) (entries_noted k.notes ++ entries_heard lc l k.packet k.notes.down b)) up
+        ap (λ (b : Bool). with_puts c k.side (layer_at view lc c.wide l k.packet k.notes.down b) (entries_noted k.notes ++ entries_heard lc c.wide l k.packet k.notes.down b)) up
         ∙ ap (λ (s : Putting). with_puts c k.side s (entries_noted k.notes ++ [])) (alone_put view lc)
         ∙ ap (λ (es : List StationEntry). with_puts c k.side (begin (goes_up lc).next (goes_up lc).owed) es) (append-nil (entries_noted k.notes))

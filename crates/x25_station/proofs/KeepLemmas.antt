@@ -18,13 +18,13 @@ use Rattle.x25_link.specs.Link.{alone, put_refusal, put_step, take_step, timer_r
 use Rattle.x25_link.specs.laws.NoteLaw.{IsQuiet, Tells, HandsUp, TakeTells, TakeContinues, TakeHandsUp, TimerTells, TimerContinues, PutTells, ConnectTells, DisconnectTells, AbandonTells}
 use Rattle.x25_layer.specs.declared.error.LayerError.TheVariants as layer_error
 use Rattle.x25_layer.specs.Layer.{LayerSettings, Layer, goes_up}
-use Rattle.x25_layer.specs.Calls.{LayerRequest, LayerOutcome, Accepted, Declined, layer_outcome}
+use Rattle.x25_layer.specs.Calls.{LayerOutcome, Accepted, Declined, layer_outcome}
 use Rattle.x25_layer.specs.Rounds.{LinkView, Putting, begin, rounds, Refuses, went}
 use Rattle.x25_station.specs.Config.{Settings, link_settings, layer_settings}
 use Rattle.x25_station.specs.Command.{Requests, Connects, Disconnects, said_by}
 use Rattle.x25_station.specs.Entry.{StationEntry, connect_asked, disconnect_asked}
 use Rattle.x25_station.specs.Station.{Station, put_on, all_put, view_of}
-use Rattle.x25_station.specs.Step.{Step, with_puts, layer_at, layer_answer, follows, led_by, unless, abandons, entries_of_outcome, did, requests}
+use Rattle.x25_station.specs.Step.{Step, with_puts, layer_at, layer_answer, follows, led_by, unless, abandons, entries_of_outcome, did}
 use Rattle.x25_station.specs.laws.JoinLaw.{AreAccepted}
 use Rattle.x25_station.specs.laws.KeepLaw.{IsKept, KeptBy, ConnectKeeps, TimerKeeps, RequestKeeps, CommandKeeps, ReceiveKeeps}
 use Rattle.x25_station.proofs.PutLemmas.{all_up, rounds_accepted, begin_accepted}
@@ -128,13 +128,13 @@ follows_kept tells c s k kept g = by k.packet refl k.notes.down refl k.notes.up 
     noted o b p q = ap (λ (x : Option Reason). record { down = x; up = k.notes.up }) p ∙ ap (λ (x : Bool). record { down = o; up = x }) q
 
     by : (p : Option (List ℕ)) → k.packet ≡ p → (d : Option Reason) → k.notes.down ≡ d → (u : Bool) → k.notes.up ≡ u
-        → IsKept (with_puts c k.side (layer_at view lc s.layer p d u) []).near
+        → IsKept (with_puts c k.side (layer_at view lc c.wide s.layer p d u) []).near
     by p is_p d is_d true is_u =
         let new : k.side.near ≡ fresh = g.tells.fresh_up is_u in
         answer_kept tells c k.side (goes_up lc).next (goes_up lc).owed [] (ap (λ (x : LinkStation). is_up x.phase) new) (subst (λ (x : LinkStation). waits x.outgoing < 256) (sym new) (omega arith))
     by p is_p (Some reason) is_d false is_u = record { few = empty_few k.side.near (ap (λ (l : Lists). l.given) (g.tells.dropped reason is_d is_u)); rests = λ is. refl }
     by (Some octets) is_p None is_d false is_u =
-        answer_kept tells c k.side (layer_answer lc s.layer octets).next (layer_answer lc s.layer octets).owed [] (g.up octets is_p) (g.room octets is_p)
+        answer_kept tells c k.side (layer_answer lc c.wide s.layer octets).next (layer_answer lc c.wide s.layer octets).owed [] (g.up octets is_p) (g.room octets is_p)
     by None is_p None is_d false is_u =
         record { few = g.few (noted None false is_d is_u); rests = λ is. kept.rests (sym (g.tells.stays (noted None false is_d is_u)) ∙ is) }
 

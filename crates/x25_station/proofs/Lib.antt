@@ -21,6 +21,7 @@ pub mod TakeLemmas
 pub mod TookLemmas
 pub mod FollowLemmas
 pub mod HoldLemmas
+pub mod OctetLemmas
 pub mod ToldLemmas
 pub mod ResultLemmas
 pub mod OutcomeLemmas

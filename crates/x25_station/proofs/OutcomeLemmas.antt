@@ -10,6 +10,7 @@ use Rattle.x25_link.specs.Station.{LinkStation}
 use Rattle.x25_link.specs.Link as link
 use Rattle.x25_link.specs.code.FitsLink.{ShownLink}
 use Rattle.x25_layer.specs.declared.layer.Layer as layer_code
+use Rattle.x25_station.specs.declared.config.Manner.{Manner}
 use Rattle.x25_station.specs.declared.step.Step as code_step
 use Rattle.x25_station.specs.declared.error.StationError.{StationError}
 use Rattle.x25_station.specs.declared.error.StationError.TheVariants as error
@@ -25,8 +26,8 @@ use Rattle.x25_station.proofs.ResultLemmas.{ok_err, err_is}
 
 -- ---- an accepted call, which the link may refuse
 
-pub leaves_unless : {says : Bool} (c : Settings) (l : ShownLink) (y : layer_code.Layer) (o : Option LinkError) (step : Step) → KeptBy (unless o step) → (IsKept step.near → FitsParts c says l y step.near)
-    → LeavesParts {T = Unit} c says l y (Ok tt) (unless o step)
+pub leaves_unless : {manner : Manner} (c : Settings) (l : ShownLink) (y : layer_code.Layer) (o : Option LinkError) (step : Step) → KeptBy (unless o step) → (IsKept step.near → FitsParts c manner l y step.near)
+    → LeavesParts {T = Unit} c manner l y (Ok tt) (unless o step)
 leaves_unless c l y None step kept fits = fits kept
 leaves_unless c l y (Some e) step kept fits = tt
 
@@ -39,11 +40,11 @@ enters_unless r None step entries = entries
 enters_unless r (Some e) step entries = tt
 
 -- ---- so that the station stands for some state again
-pub leaves_some : {says : Bool} (c : Settings) (l : ShownLink) (y : layer_code.Layer) (o : Outcome) → LeavesParts {T = Unit} c says l y (Ok tt) o → Refuses {T = Unit} (Ok tt) o → (d : Settings) × (s : Station) × FitsParts d says l y s
+pub leaves_some : {manner : Manner} (c : Settings) (l : ShownLink) (y : layer_code.Layer) (o : Outcome) → LeavesParts {T = Unit} c manner l y (Ok tt) o → Refuses {T = Unit} (Ok tt) o → (d : Settings) × (s : Station) × FitsParts d manner l y s
 leaves_some c l y (Did step) fits none = (c, step.near, fits)
 leaves_some c l y (Refused e) fits none = absurd none
 
-pub still_meant : {says told : Bool} (l m : ShownLink) (y z : layer_code.Layer) → AreMeant says l y → ((c : Settings) (s : Station) → FitsParts c says l y s → (d : Settings) × (t : Station) × FitsParts d told m z t) → AreMeant told m z
+pub still_meant : {manner told : Manner} (l m : ShownLink) (y z : layer_code.Layer) → AreMeant manner l y → ((c : Settings) (s : Station) → FitsParts c manner l y s → (d : Settings) × (t : Station) × FitsParts d told m z t) → AreMeant told m z
 still_meant l m y z h f = ∥∥₁_map h (λ w. f w.0 w.1 w.2)
 
 -- ---- the link's refusal, or its want of memory

@@ -1,5 +1,5 @@
 -- What a pull behind a step leaves, and what it sends.
-use Rattle.std.proofs.Common.{Bool, ◌≡◌, List, [], ◌∷◌, ◌++◌, map, ◌==◌, Result, Ok, Err, OnOk, OnErr, ℕ, refl, ap, sym, subst, ◌∙◌}
+use Rattle.std.proofs.Common.{◌≡◌, List, [], ◌∷◌, ◌++◌, map, ◌==◌, Result, Ok, Err, OnOk, OnErr, ℕ, refl, ap, sym, subst, ◌∙◌}
 use Rattle.std.specs.Prelude.{◌≢◌}
 use Rattle.std.proofs.Math.Logic.{∥∥₁_elim}
 use Rattle.std.proofs.Math.Path.{fun_ext}
@@ -18,10 +18,11 @@ use Rattle.x25_layer.specs.code.FitsLayer.{FitsLayer}
 use Rattle.x25_layer.specs.declared.layer.Layer as layer_code
 use Rattle.x25_layer.specs.declared.error.LayerError.{LayerError}
 use Rattle.x25_layer.specs.declared.error.LayerError.TheVariants as layer_error
+use Rattle.x25_station.specs.declared.config.Manner.{Manner}
 use Rattle.x25_station.specs.declared.error.StationError.{StationError}
 use Rattle.x25_station.specs.declared.error.StationError.TheVariants as error
 use Rattle.x25_station.specs.Error.{of_layer}
-use Rattle.x25_station.specs.Config.{Settings, link_settings, layer_settings}
+use Rattle.x25_station.specs.Config.{Settings, link_settings, layer_settings, manner_of}
 use Rattle.x25_station.specs.Entry.{StationEntry}
 use Rattle.x25_station.specs.Pulling.{pulled_of, pulled}
 use Rattle.x25_station.specs.Station.{Station, all_put, view_of, waiting_after}
@@ -57,7 +58,7 @@ seen_behind before x = ap (λ (f : List PlainPacket → ℕ). record { is_up = u
 
 -- ---- what was pulled
 
-fits_of : {says : Bool} (c : Settings) (n : ShownLink) (z : layer_code.Layer) (s : Station) (o : Outcome) → LeavesParts {T = Unit} c says n z (Ok tt) o → Refuses {T = Unit} (Ok tt) o → FitsParts c says n z (pulled_of s o).near
+fits_of : {manner : Manner} (c : Settings) (n : ShownLink) (z : layer_code.Layer) (s : Station) (o : Outcome) → LeavesParts {T = Unit} c manner n z (Ok tt) o → Refuses {T = Unit} (Ok tt) o → FitsParts c manner n z (pulled_of s o).near
 fits_of c n z s (Did step) fits none = fits
 fits_of c n z s (Refused e) fits none = absurd none
 
@@ -75,9 +76,9 @@ made_did : {T : Type 0} (u : T) (c : Settings) (before : List (List ℕ)) (s : S
 made_did u c before s m entries (Went p) link = (after_pull c before m p.put s link).kept
 made_did u c before s m entries (LayerRefuses e) link = absurd (ok_err u e link)
 
-leaves_did : {T : Type 0} {says : Bool} (u : T) (c : Settings) → says ≡ c.say_sizes → (before : List (List ℕ)) (s : Station) (m n : ShownLink) (z : layer_code.Layer) (entries : List StationEntry) (a : Answered) → LayerGives (layer_settings c) z (Ok u) a
+leaves_did : {T : Type 0} {manner : Manner} (u : T) (c : Settings) → manner ≡ manner_of c → (before : List (List ℕ)) (s : Station) (m n : ShownLink) (z : layer_code.Layer) (entries : List StationEntry) (a : Answered) → LayerGives (layer_settings c) z (Ok u) a
     → LinkGives (FitsWhole m) after_put_to (behind before (start c s)) (Ok u) a → n.station ≡ m.station → n.outbox.made ≡ [] → KeptBy (did c (alone s.link) entries a)
-    → LeavesParts {T = Unit} c says n z (Ok tt) (did c (alone s.link) entries a)
+    → LeavesParts {T = Unit} c manner n z (Ok tt) (did c (alone s.link) entries a)
 leaves_did u c as_set before s m n z entries (Went p) layer link same none kept = record {
   link = taken_link (link_settings c) m n _ same (after_pull c before m p.put s link).link;
   layer = layer;
@@ -88,7 +89,7 @@ leaves_did u c as_set before s m n z entries (Went p) layer link same none kept 
 leaves_did u c as_set before s m n z entries (LayerRefuses e) layer link same none kept = absurd (ok_err u e layer)
 
 -- The link l is given frames, and is g then; the layer pulls, and leaves m; and the frames are taken, which leaves n.
-module _ (c : Settings) (l g : ShownLink) (y : layer_code.Layer) (s : Station) (says : Bool) (fits : FitsParts c says l y s) (same : g.station ≡ l.station) where
+module _ (c : Settings) (l g : ShownLink) (y : layer_code.Layer) (s : Station) (manner : Manner) (fits : FitsParts c manner l y s) (same : g.station ≡ l.station) where
   abbrev before : List (List ℕ)
   before = g.outbox.made
 
@@ -116,7 +117,7 @@ module _ (c : Settings) (l g : ShownLink) (y : layer_code.Layer) (s : Station) (
   pulled_made u m links = made_did u c before s m entries answer (link_gives (Ok u) m links)
 
   pub pulled_fits : {T : Type 0} (u : T) (m n : ShownLink) (z : layer_code.Layer) → Layers g y z (Ok u) PullsAll → Links g m y (Ok u) PullsAll → n.station ≡ m.station → n.outbox.made ≡ [] → KeptBy (requests c s PullsAll)
-      → FitsParts c says n z (pulled c s).near
+      → FitsParts c manner n z (pulled c s).near
   pulled_fits u m n z layers links same none kept =
       let layer = layer_gives (Ok u) z layers in
       fits_of c n z s (requests c s PullsAll) (leaves_did u c fits.same before s m n z entries answer layer (link_gives (Ok u) m links) same none kept) (goes_did u c s.link z entries answer layer)
@@ -125,7 +126,7 @@ module _ (c : Settings) (l g : ShownLink) (y : layer_code.Layer) (s : Station) (
   pub same_made : (m : ShownLink) → ((x : LinkState) → FitsWhole g x → FitsWhole m x) → m.outbox.made ≡ before
   same_made m stays = (stays (behind before (start c s)) given).kept ∙ append-nil before
 
-  pub still_fits : (m n : ShownLink) (z : layer_code.Layer) → FitsLayer (layer_settings c) z s.layer → ((x : LinkState) → FitsWhole g x → FitsWhole m x) → n.station ≡ m.station → n.outbox.made ≡ [] → FitsParts c says n z s
+  pub still_fits : (m n : ShownLink) (z : layer_code.Layer) → FitsLayer (layer_settings c) z s.layer → ((x : LinkState) → FitsWhole g x → FitsWhole m x) → n.station ≡ m.station → n.outbox.made ≡ [] → FitsParts c manner n z s
   still_fits m n z layer stays same none = record {
     link = taken_link (link_settings c) m n s.link same (stays (behind before (start c s)) given).link;
     layer = layer;
@@ -136,12 +137,12 @@ module _ (c : Settings) (l g : ShownLink) (y : layer_code.Layer) (s : Station) (
 
   pub pulled_or_not : {T : Type 0} (result : Result T LayerError) (m n : ShownLink) (z : layer_code.Layer) → Layers g y z result PullsAll → Links g m y result PullsAll
       → OnErr result (FitsLayer (layer_settings c) z s.layer) → ((x : LinkState) → FitsWhole g x → OnErr result (FitsWhole m x)) → n.station ≡ m.station → n.outbox.made ≡ [] → KeptBy (requests c s PullsAll)
-      → (d : Settings) × (t : Station) × FitsParts d says n z t
+      → (d : Settings) × (t : Station) × FitsParts d manner n z t
   pulled_or_not (Ok u) m n z layers links layer stays same none kept = (c, (pulled c s).near, pulled_fits u m n z layers links same none kept)
   pulled_or_not (Err e) m n z layers links layer stays same none kept = (c, s, still_fits m n z layer stays same none)
 
 -- of any state that the station stands for
-pub made_by_meaning : {says : Bool} (l : ShownLink) (y : layer_code.Layer) (a b : List (List ℕ)) → AreMeant says l y → ((c : Settings) (s : Station) → FitsParts c says l y s → a ≡ b) → a ≡ b
+pub made_by_meaning : {manner : Manner} (l : ShownLink) (y : layer_code.Layer) (a b : List (List ℕ)) → AreMeant manner l y → ((c : Settings) (s : Station) → FitsParts c manner l y s → a ≡ b) → a ≡ b
 made_by_meaning l y a b h f = ∥∥₁_elim h (hlevel props) (λ w. f w.0 w.1 w.2)
 
 -- ---- a refusal
@@ -168,16 +169,16 @@ if_ok : {E : Type 0} {P Q : Type 0} (r : Result Unit E) → OnOk r P → (P → 
 if_ok (Ok u) p f = f p
 if_ok (Err e) p f = tt
 
-module _ (T : Type 0) (e : LayerError) (result : Result Unit StationError) (other : OnOk result (e ≢ layer_error.NoMemory)) (c : Settings) (l g : ShownLink) (y z : layer_code.Layer) (s : Station) (says : Bool) (fits : FitsParts c says l y s)
+module _ (T : Type 0) (e : LayerError) (result : Result Unit StationError) (other : OnOk result (e ≢ layer_error.NoMemory)) (c : Settings) (l g : ShownLink) (y z : layer_code.Layer) (s : Station) (manner : Manner) (fits : FitsParts c manner l y s)
     (same : g.station ≡ l.station) (layers : let x : Result T LayerError = Err e in Layers g y z x PullsAll) where
   none : e ≢ layer_error.NoMemory → pulled c s ≡ none_pulled s
   none named =
       let x : Result T LayerError = Err e in
       none_of s e (of_layer e) (requests c s PullsAll) refl named
-      (refused_exactly_did T Unit e (of_layer e) c s.link z (entries c l g y s says fits same) (answered_by c s PullsAll) (calls_named (view_of (link_settings c) s.link) (layer_settings c) s.layer PullsAll) refl (layer_gives c l g y s says fits same x z layers))
+      (refused_exactly_did T Unit e (of_layer e) c s.link z (entries c l g y s manner fits same) (answered_by c s PullsAll) (calls_named (view_of (link_settings c) s.link) (layer_settings c) s.layer PullsAll) refl (layer_gives c l g y s manner fits same x z layers))
 
-  pub none_fits : (n : ShownLink) → FitsParts c says n z s → OnOk result (FitsParts c says n z (pulled c s).near)
-  none_fits n still = if_ok result other (λ named. subst (λ (step : Step). FitsParts c says n z step.near) (sym (none named)) still)
+  pub none_fits : (n : ShownLink) → FitsParts c manner n z s → OnOk result (FitsParts c manner n z (pulled c s).near)
+  none_fits n still = if_ok result other (λ named. subst (λ (step : Step). FitsParts c manner n z step.near) (sym (none named)) still)
 
   pub none_sent : (before after : List (List ℕ)) → after ≡ before → OnOk result (after ≡ before ++ map (spelling_of c.role) (pulled c s).out)
   none_sent before after unsent = if_ok result other (λ named. unsent ∙ sym (append-nil before) ∙ ap (λ (step : Step). before ++ map (spelling_of c.role) step.out) (sym (none named)))

@@ -2,8 +2,7 @@
 use Rattle.std.proofs.Common.{◌≡◌, ℕ, ◌==◌, List, [], Option, Some, None, Bool, true, false, ◌||◌, if◌then◌else◌, refl, sym, ap, ◌∙◌}
 use Rattle.std.proofs.lemmas.Option.{same_Some}
 use Rattle.x25_circuit.specs.declared.params.Params.{Params}
-use Rattle.x25_circuit.specs.Params.{Proposal, in_brief, in_full}
-use Rattle.x25_circuit.specs.Circuit.{Circuit}
+use Rattle.x25_circuit.specs.Params.{Proposal, in_brief}
 use Rattle.x25_circuit.specs.Calling.{Request, outcome}
 use Rattle.x25_layer.specs.declared.error.LayerError.TheVariants as layer_error
 use Rattle.x25_layer.specs.Layer.{LayerSettings, is_channel}
@@ -11,7 +10,7 @@ use Rattle.x25_layer.specs.Calls.{Asks, LayerOutcome, Declined, layer_outcome, o
 use Rattle.x25_layer.specs.Rounds.{LinkView, Refuses, went}
 use Rattle.x25_link.specs.Link.{alone}
 use Rattle.x25_station.specs.Config.{Settings, link_settings, layer_settings}
-use Rattle.x25_station.specs.Command.{answer_said, proposal_said}
+use Rattle.x25_station.specs.Command.{proposal_said}
 use Rattle.x25_station.specs.Entry.{StationEntry}
 use Rattle.x25_station.specs.Station.{Station, view_of}
 use Rattle.x25_station.specs.Step.{Outcome, did, entries_of_outcome, requests}

@@ -5,8 +5,9 @@ use Rattle.x25_bits.specs.declared.role.Role.TheVariants.{Dte, Dce}
 use Rattle.x25_packet.specs.declared.error.PacketError.{PacketError}
 use Rattle.x25_packet.specs.Packet.{PlainPacket, call, accept, clear, clear_conf, user_data, rr, rnr, interrupt, interrupt_conf, reset, reset_conf, restart, restart_conf}
 use Rattle.x25_packet.specs.Spelling.{IsInRange, longest_user}
-use Rattle.x25_packet.specs.Reading.{packet_of, channel_in}
-use Rattle.x25_packet.specs.laws.ReadingLaw.{ReadsWhatIsSpelled}
+use Rattle.x25_packet.specs.Reading.{channel_in}
+use Rattle.x25_wide.specs.Taking.{read_in}
+use Rattle.x25_wide.specs.laws.TakingLaw.{TakesInRange}
 use Rattle.x25_circuit.specs.declared.message.Message.{Message}
 use Rattle.x25_circuit.specs.declared.state.State.{State}
 use Rattle.x25_circuit.specs.declared.state.State.TheVariants.{Free, Calling, Arriving, Collision, Open, Resetting, Clearing}
@@ -34,20 +35,20 @@ user_short : (long_data : Bool) → longest_user long_data ≤ 128
 user_short true = omega arith
 user_short false = omega arith
 
-range_short : (long_data : Bool) (p : PlainPacket) → IsInRange (longest_user long_data) p → IsShortPacket p
-range_short long_data (call channel called calling facilities user) r = let few = user_short long_data in omega (arith, r.4, few)
-range_short long_data (accept channel facilities) r = tt
-range_short long_data (clear channel cause diagnostic) r = tt
-range_short long_data (clear_conf channel) r = tt
-range_short long_data (user_data channel q m ps pr user) r = tt
-range_short long_data (rr channel pr) r = tt
-range_short long_data (rnr channel pr) r = tt
-range_short long_data (interrupt channel user) r = omega (arith, r.2)
-range_short long_data (interrupt_conf channel) r = tt
-range_short long_data (reset channel cause diagnostic) r = tt
-range_short long_data (reset_conf channel) r = tt
-range_short long_data (restart cause diagnostic) r = tt
-range_short long_data restart_conf r = tt
+range_short : (p : PlainPacket) → IsInRange 128 p → IsShortPacket p
+range_short (call channel called calling facilities user) r = r.4
+range_short (accept channel facilities) r = tt
+range_short (clear channel cause diagnostic) r = tt
+range_short (clear_conf channel) r = tt
+range_short (user_data channel q m ps pr user) r = tt
+range_short (rr channel pr) r = tt
+range_short (rnr channel pr) r = tt
+range_short (interrupt channel user) r = omega (arith, r.2)
+range_short (interrupt_conf channel) r = tt
+range_short (reset channel cause diagnostic) r = tt
+range_short (reset_conf channel) r = tt
+range_short (restart cause diagnostic) r = tt
+range_short restart_conf r = tt
 
 -- ---- the rows of a circuit
 
@@ -246,9 +247,9 @@ at_tellable : (c : LayerSettings) (l : Layer) (e : PacketError) (o : Option ℕ)
 at_tellable c l e None = tt
 at_tellable c l e (Some h) = undecoded_tellable c l.restarting l.restarts l.circuits h e
 
-pub told_tellable : ReadsWhatIsSpelled → (c : LayerSettings) (l : Layer) (octets : List ℕ) → All (λ octet. octet < 256) octets → AreTellable c (answer_to c l octets (packet_of (longest_user c.circuit.long_data) octets)).notices
-told_tellable reads c l octets bytes = by (packet_of (longest_user c.circuit.long_data) octets) refl
+pub told_tellable : TakesInRange → (wide : Bool) (c : LayerSettings) (l : Layer) (octets : List ℕ) → All (λ octet. octet < 256) octets → AreTellable c (answer_to c l octets (read_in wide (longest_user c.circuit.long_data) octets)).notices
+told_tellable law wide c l octets bytes = by (read_in wide (longest_user c.circuit.long_data) octets) refl
   where
-    by : (r : Result PlainPacket PacketError) → packet_of (longest_user c.circuit.long_data) octets ≡ r → AreTellable c (answer_to c l octets r).notices
-    by (Ok p) is = in_tellable c l.restarting l.restarts l.circuits p (range_short c.circuit.long_data p ((reads (longest_user c.circuit.long_data) p octets bytes).0 is).in_range)
+    by : (r : Result PlainPacket PacketError) → read_in wide (longest_user c.circuit.long_data) octets ≡ r → AreTellable c (answer_to c l octets r).notices
+    by (Ok p) is = in_tellable c l.restarting l.restarts l.circuits p (range_short p (law wide (longest_user c.circuit.long_data) p octets (user_short c.circuit.long_data) bytes is))
     by (Err e) is = at_tellable c l e (channel_in octets)

@@ -24,6 +24,7 @@ use Rattle.x25_link.specs.laws.LinkLaws.{link_waits}
 use Rattle.x25_circuit.specs.code.FitsCircuit.{room_of}
 use Rattle.x25_layer.specs.declared.layer.Layer as layer_code
 use Rattle.x25_layer.specs.Room.{HasRoom}
+use Rattle.x25_station.specs.declared.config.Manner.{Manner}
 use Rattle.x25_station.specs.Config.{Settings, link_settings}
 use Rattle.x25_station.specs.Station.{Station}
 use Rattle.x25_station.specs.code.FitsParts.{FitsParts, AreMeant}
@@ -113,17 +114,17 @@ handed_can_put tells hands c l octets s p fits is =
 
 -- ---- of any state that the station stands for
 
-pub put_by_meaning : {says : Bool} (l m : ShownLink) (y : layer_code.Layer) → AreMeant says l y → ((c : Settings) (s : Station) → FitsParts c says l y s → CanPut m) → CanPut m
+pub put_by_meaning : {manner : Manner} (l m : ShownLink) (y : layer_code.Layer) → AreMeant manner l y → ((c : Settings) (s : Station) → FitsParts c manner l y s → CanPut m) → CanPut m
 put_by_meaning l m y h f = record {
   up = ∥∥₁_elim h (hlevel props) (λ w. (f w.0 w.1 w.2).up);
   free = ∥∥₁_elim h (hlevel props) (λ w. (f w.0 w.1 w.2).free);
   longest = ∥∥₁_elim h (hlevel props) (λ w. (f w.0 w.1 w.2).longest);
 }
 
-pub least_by_meaning : {says : Bool} (l : ShownLink) (y : layer_code.Layer) (a b : ℕ) → AreMeant says l y → ((c : Settings) (s : Station) → FitsParts c says l y s → a ≤ b) → a ≤ b
+pub least_by_meaning : {manner : Manner} (l : ShownLink) (y : layer_code.Layer) (a b : ℕ) → AreMeant manner l y → ((c : Settings) (s : Station) → FitsParts c manner l y s → a ≤ b) → a ≤ b
 least_by_meaning l y a b h f = ∥∥₁_elim h (hlevel props) (λ w. f w.0 w.1 w.2)
 
-pub up_by_meaning : {says : Bool} (l : ShownLink) (y : layer_code.Layer) (b : Bool) → AreMeant says l y → ((c : Settings) (s : Station) → FitsParts c says l y s → b ≡ true) → b ≡ true
+pub up_by_meaning : {manner : Manner} (l : ShownLink) (y : layer_code.Layer) (b : Bool) → AreMeant manner l y → ((c : Settings) (s : Station) → FitsParts c manner l y s → b ≡ true) → b ≡ true
 up_by_meaning l y b h f = ∥∥₁_elim h (hlevel props) (λ w. f w.0 w.1 w.2)
 
 pub handed_was_up : TakeHandsUp → (c : Settings) (l : ShownLink) (octets : List ℕ) (s : LinkStation) (p : List ℕ) → FitsLink (link_settings c) l s → (take_step (link_settings c) octets s).packet ≡ Some p → up_of l ≡ true
@@ -162,5 +163,5 @@ if_some None P f = tt
 if_some (Some x) P f = f x refl
 
 -- the link takes the longest packet
-pub takes_longest : {says : Bool} (l : ShownLink) (y : layer_code.Layer) → AreMeant says l y → 4099 ≤ limit_of l
+pub takes_longest : {manner : Manner} (l : ShownLink) (y : layer_code.Layer) → AreMeant manner l y → 4099 ≤ limit_of l
 takes_longest l y h = least_by_meaning l y 4099 (limit_of l) h (λ c s fits. let n : limit_of l ≡ 4099 = fits.link.near.longest in omega (arith, n))

@@ -200,7 +200,7 @@ heard_few c octets read Closed t = read_few (λ frame u. quiet (declines frame u
 follows_few : (c : Settings) (s : Station) (k : LinkStep) → acked k.side ≤ s.link.outgoing.acked + 7 → (follows c s.layer (closed_by c.window k)).near.link.outgoing.acked ≤ s.link.outgoing.acked + 7
 follows_few c s k few =
     let t = ended c.window k.side in
-    let put = put_same (link_settings c) (layer_at (view_of (link_settings c) t.near) (layer_settings c) s.layer k.packet k.notes.down k.notes.up).put t in
+    let put = put_same (link_settings c) (layer_at (view_of (link_settings c) t.near) (layer_settings c) c.wide s.layer k.packet k.notes.down k.notes.up).put t in
     let same = ended_same c.window k.side in
     omega (arith, put, same, few)
 

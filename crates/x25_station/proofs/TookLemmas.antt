@@ -10,7 +10,8 @@ use Rattle.x25_link.specs.code.FitsLink.{ShownLink, FitsLink, FitsWhole}
 use Rattle.x25_layer.specs.declared.layer.Layer as layer_code
 use Rattle.x25_layer.specs.code.FitsLayer.{FitsLayer}
 use Rattle.x25_layer.specs.Rounds.{Putting}
-use Rattle.x25_station.specs.Config.{Settings, link_settings, layer_settings}
+use Rattle.x25_station.specs.declared.config.Manner.{Manner}
+use Rattle.x25_station.specs.Config.{Settings, link_settings, layer_settings, manner_of}
 use Rattle.x25_station.specs.Entry.{StationEntry, entries_noted}
 use Rattle.x25_station.specs.Station.{Station, view_of, all_put}
 use Rattle.x25_station.specs.Step.{Step, layer_at, entries_heard, follows, abandons, receives}
@@ -21,8 +22,8 @@ use Rattle.x25_station.proofs.AskLemmas.{taken_link}
 use Rattle.x25_station.proofs.DownLemmas.{downs, follows_down}
 
 -- what the layer does behind this step, by what the step handed up and noted
-abbrev pub put_behind : Settings → Station → LinkStep → Option (List ℕ) → Notes → Putting
-put_behind c s k o notes = layer_at (view_of (link_settings c) k.side.near) (layer_settings c) s.layer o notes.down notes.up
+abbrev pub put_behind : Settings → Bool → Station → LinkStep → Option (List ℕ) → Notes → Putting
+put_behind c wide s k o notes = layer_at (view_of (link_settings c) k.side.near) (layer_settings c) wide s.layer o notes.down notes.up
 
 pub takes_on : (c : Settings) (s : Station) (octets : List ℕ) → abandons c s ≡ false → receives c s octets ≡ follows c s.layer (take_step (link_settings c) octets s.link)
 takes_on c s octets on = ap (λ (b : Bool). follows c s.layer (if b then abandon_step (link_settings c) s.link else take_step (link_settings c) octets s.link)) on
@@ -33,34 +34,34 @@ gives_up c s octets full =
 
 -- ---- the step, by an answer of the link
 
-record IsBehind (c : Settings) (s : Station) (k : LinkStep) (o : Option (List ℕ)) (notes : Notes) (step : Step) : Type 0 where
-  link : (all_put (link_settings c) (put_behind c s k o notes).put k.side).near ≡ step.near.link
-  layer : (put_behind c s k o notes).layer ≡ step.near.layer
-  out : (all_put (link_settings c) (put_behind c s k o notes).put k.side).out ≡ step.out
-  entries : entries_noted notes ++ entries_heard (layer_settings c) s.layer o notes.down notes.up ≡ step.entries
+record IsBehind (c : Settings) (wide : Bool) (s : Station) (k : LinkStep) (o : Option (List ℕ)) (notes : Notes) (step : Step) : Type 0 where
+  link : (all_put (link_settings c) (put_behind c wide s k o notes).put k.side).near ≡ step.near.link
+  layer : (put_behind c wide s k o notes).layer ≡ step.near.layer
+  out : (all_put (link_settings c) (put_behind c wide s k o notes).put k.side).out ≡ step.out
+  entries : entries_noted notes ++ entries_heard (layer_settings c) wide s.layer o notes.down notes.up ≡ step.entries
 
-is_behind : (c : Settings) (s : Station) (k : LinkStep) (o : Option (List ℕ)) (notes : Notes) → o ≡ k.packet → notes ≡ k.notes → IsBehind c s k o notes (follows c s.layer k)
-is_behind c s k o notes packet noted =
-    subst (λ (x : Option (List ℕ)). IsBehind c s k x notes (follows c s.layer k)) (sym packet) (subst (λ (n : Notes). IsBehind c s k k.packet n (follows c s.layer k)) (sym noted) (record {
+is_behind : (c : Settings) (wide : Bool) → wide ≡ c.wide → (s : Station) (k : LinkStep) (o : Option (List ℕ)) (notes : Notes) → o ≡ k.packet → notes ≡ k.notes → IsBehind c wide s k o notes (follows c s.layer k)
+is_behind c wide as_set s k o notes packet noted = subst (λ (b : Bool). IsBehind c b s k o notes (follows c s.layer k)) (sym as_set) (
+    subst (λ (x : Option (List ℕ)). IsBehind c c.wide s k x notes (follows c s.layer k)) (sym packet) (subst (λ (n : Notes). IsBehind c c.wide s k k.packet n (follows c s.layer k)) (sym noted) (record {
       link = refl;
       layer = refl;
       out = refl;
       entries = refl;
-    }))
+    })))
 
-took : (c : Settings) (s : Station) (octets : List ℕ) (o : Option (List ℕ)) (notes : Notes) → abandons c s ≡ false
-    → (let k : LinkStep = take_step (link_settings c) octets s.link in (o ≡ k.packet) × (notes ≡ k.notes)) → IsBehind c s (take_step (link_settings c) octets s.link) o notes (receives c s octets)
-took c s octets o notes on same =
+took : {manner : Manner} (c : Settings) → manner ≡ manner_of c → (s : Station) (octets : List ℕ) (o : Option (List ℕ)) (notes : Notes) → abandons c s ≡ false
+    → (let k : LinkStep = take_step (link_settings c) octets s.link in (o ≡ k.packet) × (notes ≡ k.notes)) → IsBehind c manner.wide s (take_step (link_settings c) octets s.link) o notes (receives c s octets)
+took {manner} c as_set s octets o notes on same =
     let k : LinkStep = take_step (link_settings c) octets s.link in
-    subst (λ (step : Step). IsBehind c s k o notes step) (sym (takes_on c s octets on)) (is_behind c s k o notes same.0 same.1)
+    subst (λ (step : Step). IsBehind c manner.wide s k o notes step) (sym (takes_on c s octets on)) (is_behind c manner.wide (ap (λ (m : Manner). m.wide) as_set) s k o notes same.0 same.1)
 
-pub took_fits : {says : Bool} (c : Settings) → says ≡ c.say_sizes → (s : Station) (octets : List ℕ) (o : Option (List ℕ)) (notes : Notes) (m n : ShownLink) (z : layer_code.Layer) → abandons c s ≡ false
+pub took_fits : {manner : Manner} (c : Settings) → manner ≡ manner_of c → (s : Station) (octets : List ℕ) (o : Option (List ℕ)) (notes : Notes) (m n : ShownLink) (z : layer_code.Layer) → abandons c s ≡ false
     → (let k : LinkStep = take_step (link_settings c) octets s.link in (o ≡ k.packet) × (notes ≡ k.notes))
-    → (let k : LinkStep = take_step (link_settings c) octets s.link in FitsWhole m (kept_of (link_settings c) (all_put (link_settings c) (put_behind c s k o notes).put k.side)))
-    → (let k : LinkStep = take_step (link_settings c) octets s.link in FitsLayer (layer_settings c) z (put_behind c s k o notes).layer)
-    → n.station ≡ m.station → n.outbox.made ≡ [] → IsKept (receives c s octets).near → FitsParts c says n z (receives c s octets).near
+    → (let k : LinkStep = take_step (link_settings c) octets s.link in FitsWhole m (kept_of (link_settings c) (all_put (link_settings c) (put_behind c manner.wide s k o notes).put k.side)))
+    → (let k : LinkStep = take_step (link_settings c) octets s.link in FitsLayer (layer_settings c) z (put_behind c manner.wide s k o notes).layer)
+    → n.station ≡ m.station → n.outbox.made ≡ [] → IsKept (receives c s octets).near → FitsParts c manner n z (receives c s octets).near
 took_fits c as_set s octets o notes m n z on same link layer station none kept =
-    let b = took c s octets o notes on same in
+    let b = took c as_set s octets o notes on same in
     record {
       link = subst (λ (x : LinkStation). FitsLink (link_settings c) n x) b.link (taken_link (link_settings c) m n _ station link.link);
       layer = subst (λ x. FitsLayer (layer_settings c) z x) b.layer layer;
@@ -69,13 +70,13 @@ took_fits c as_set s octets o notes m n z on same link layer station none kept =
       same = as_set;
     }
 
-pub took_sends : (c : Settings) (s : Station) (octets : List ℕ) (o : Option (List ℕ)) (notes : Notes) (made : List (List ℕ)) → abandons c s ≡ false
+pub took_sends : {manner : Manner} (c : Settings) → manner ≡ manner_of c → (s : Station) (octets : List ℕ) (o : Option (List ℕ)) (notes : Notes) (made : List (List ℕ)) → abandons c s ≡ false
     → (let k : LinkStep = take_step (link_settings c) octets s.link in (o ≡ k.packet) × (notes ≡ k.notes))
-    → (let k : LinkStep = take_step (link_settings c) octets s.link in made ≡ map (spelling_of c.role) (all_put (link_settings c) (put_behind c s k o notes).put k.side).out)
+    → (let k : LinkStep = take_step (link_settings c) octets s.link in made ≡ map (spelling_of c.role) (all_put (link_settings c) (put_behind c manner.wide s k o notes).put k.side).out)
     → made ≡ map (spelling_of c.role) (receives c s octets).out
-took_sends c s octets o notes made on same is = is ∙ ap (λ (x : List PlainFrame). map (spelling_of c.role) x) (took c s octets o notes on same).out
+took_sends c as_set s octets o notes made on same is = is ∙ ap (λ (x : List PlainFrame). map (spelling_of c.role) x) (took c as_set s octets o notes on same).out
 
-pub took_enters : (c : Settings) (s : Station) (octets : List ℕ) (o : Option (List ℕ)) (notes : Notes) (entries : List StationEntry) → abandons c s ≡ false
-    → (let k : LinkStep = take_step (link_settings c) octets s.link in (o ≡ k.packet) × (notes ≡ k.notes)) → entries ≡ entries_noted notes ++ entries_heard (layer_settings c) s.layer o notes.down notes.up
+pub took_enters : {manner : Manner} (c : Settings) → manner ≡ manner_of c → (s : Station) (octets : List ℕ) (o : Option (List ℕ)) (notes : Notes) (entries : List StationEntry) → abandons c s ≡ false
+    → (let k : LinkStep = take_step (link_settings c) octets s.link in (o ≡ k.packet) × (notes ≡ k.notes)) → entries ≡ entries_noted notes ++ entries_heard (layer_settings c) manner.wide s.layer o notes.down notes.up
     → entries ≡ (receives c s octets).entries
-took_enters c s octets o notes entries on same entered = entered ∙ (took c s octets o notes on same).entries
+took_enters c as_set s octets o notes entries on same entered = entered ∙ (took c as_set s octets o notes on same).entries

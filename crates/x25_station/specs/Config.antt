@@ -5,11 +5,13 @@ use Rattle.x25_link.specs.Station.{Settings as LinkSettings}
 use Rattle.x25_layer.specs.Layer.{LayerSettings}
 use Rattle.x25_layer.specs.laws.TwoLayers.{settings_of}
 use Rattle.x25_station.specs.declared.config.Cfg.{Cfg}
+use Rattle.x25_station.specs.declared.config.Manner.{Manner}
 use Rattle.x25_station.specs.declared.error.StationError.{StationError}
 use Rattle.x25_station.specs.declared.error.StationError.TheVariants as error
 
 -- which end it is, k and N2 of the link (sections 2.4.8.6 and 2.4.8.4), how many channels are configured, whether the
--- user data of a CALL may be long, and whether calls and acceptances say all packet sizes and windows
+-- user data of a CALL may be long, whether calls and acceptances say all packet sizes and windows, and whether packets
+-- are read in all their forms
 pub record Settings : Type 0 where
   pub role : Role
   pub window : ℕ
@@ -17,6 +19,7 @@ pub record Settings : Type 0 where
   pub channels : ℕ
   pub long_data : Bool
   pub say_sizes : Bool
+  pub wide : Bool
 
 abbrev pub settings_from : Role → Cfg → Settings
 settings_from role cfg = record {
@@ -26,6 +29,7 @@ settings_from role cfg = record {
   channels = cfg.channels;
   long_data = cfg.long_data;
   say_sizes = cfg.say_sizes;
+  wide = cfg.wide;
 }
 
 -- k is 1 to 7, N2 1 to 255, and there are 1 to 16 channels
@@ -42,3 +46,7 @@ link_settings c = record { role = c.role; window = c.window; longest = longest_p
 
 abbrev pub layer_settings : Settings → LayerSettings
 layer_settings c = settings_of c.role c.long_data c.channels
+
+-- how it writes and reads packets
+abbrev pub manner_of : Settings → Manner
+manner_of c = record { say_sizes = c.say_sizes; wide = c.wide }

@@ -2,9 +2,9 @@
 -- the layer does at what that hands up or notes; a command to the layer is the layer's call. What the layer puts is
 -- handed down to the link in the same step.
 use Rattle.std.specs.Prelude.{ℕ, ◌==◌, Bool, true, false, ◌&&◌, if◌then◌else◌, List, [], ◌∷◌, ◌++◌, Option, Some, None}
-use Rattle.x25_packet.specs.Reading.{packet_of}
 use Rattle.x25_frame.specs.Frame.{PlainFrame}
 use Rattle.x25_packet.specs.Spelling.{longest_user}
+use Rattle.x25_wide.specs.Taking.{read_in}
 use Rattle.x25_link.specs.declared.error.LinkError.{LinkError}
 use Rattle.x25_link.specs.declared.phase.Reason.{Reason}
 use Rattle.x25_link.specs.Station.{LinkStation, Side, is_up}
@@ -52,32 +52,32 @@ layer_down l (Some reason) = rested l
 
 -- LinkDown; then LinkUp; else the packet that is handed up. Where there is none of these nothing is asked of the layer,
 -- so nothing is pulled.
-abbrev pub layer_at : LinkView → LayerSettings → Layer → Option (List ℕ) → Option Reason → Bool → Putting
-layer_at link c l packet down true = (comes_up link c).step
-layer_at link c l packet (Some reason) false = rests (rested l)
-layer_at link c l (Some octets) None false = (hears link c l octets).step
-layer_at link c l None None false = rests l
+abbrev pub layer_at : LinkView → LayerSettings → Bool → Layer → Option (List ℕ) → Option Reason → Bool → Putting
+layer_at link c wide l packet down true = (comes_up link c).step
+layer_at link c wide l packet (Some reason) false = rests (rested l)
+layer_at link c wide l (Some octets) None false = (hears link c wide l octets).step
+layer_at link c wide l None None false = rests l
 
 -- what the layer answers to the octets of a packet
-abbrev pub layer_answer : LayerSettings → Layer → List ℕ → LayerAnswer
-layer_answer c l octets = answer_to c l octets (packet_of (longest_user c.circuit.long_data) octets)
+abbrev pub layer_answer : LayerSettings → Bool → Layer → List ℕ → LayerAnswer
+layer_answer c wide l octets = answer_to c l octets (read_in wide (longest_user c.circuit.long_data) octets)
 
 abbrev pub entries_of_answer : LayerAnswer → List StationEntry
 entries_of_answer a = station_told a.next a.notices
 
 -- what it tells of a packet
-abbrev pub entries_heard : LayerSettings → Layer → Option (List ℕ) → Option Reason → Bool → List StationEntry
-entries_heard c l packet down true = []
-entries_heard c l packet (Some reason) false = []
-entries_heard c l (Some octets) None false = entries_of_answer (layer_answer c l octets)
-entries_heard c l None None false = []
+abbrev pub entries_heard : LayerSettings → Bool → Layer → Option (List ℕ) → Option Reason → Bool → List StationEntry
+entries_heard c wide l packet down true = []
+entries_heard c wide l packet (Some reason) false = []
+entries_heard c wide l (Some octets) None false = entries_of_answer (layer_answer c wide l octets)
+entries_heard c wide l None None false = []
 
 -- a step of the link, and then the layer
 abbrev pub follows : Settings → Layer → LinkStep → Step
 follows c l k =
     with_puts c k.side (layer_at (view_of (link_settings c) k.side.near)
-    (layer_settings c) l k.packet k.notes.down k.notes.up)
-    (entries_noted k.notes ++ entries_heard (layer_settings c) l k.packet k.notes.down k.notes.up)
+    (layer_settings c) c.wide l k.packet k.notes.down k.notes.up)
+    (entries_noted k.notes ++ entries_heard (layer_settings c) c.wide l k.packet k.notes.down k.notes.up)
 
 -- ---- connect, disconnect, and timer T1: refused as the link's
 

@@ -3,4 +3,5 @@ pub mod JoinLaw
 pub mod ReadLaw
 pub mod KeepLaw
 pub mod HoldLaw
+pub mod OctetLaw
 pub mod TimerLaw

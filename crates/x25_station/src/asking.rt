@@ -288,9 +288,9 @@ impl Station {
             ≡ requests c s (Asks channel (Accepts result)) }
     {
         if let Some(params) = params {
-            return Some(Proposal::new(params, self.say_sizes));
+            return Some(Proposal::new(params, self.manner.say_sizes));
         }
-        if !self.say_sizes {
+        if !self.manner.say_sizes {
             return None;
         }
         let Some(proposed) = self.layer.params(channel) else {
@@ -321,7 +321,7 @@ impl Station {
         ensures { (c : Settings) (s : State) → FitsStation c self.now s
             → proposal_said c.say_sizes (in_brief params) ≡ result }
     {
-        Proposal::new(params, self.say_sizes)
+        Proposal::new(params, self.manner.say_sizes)
     }
 
     // A call, on a channel that is free.
@@ -339,6 +339,12 @@ impl Station {
     {
         steps_keep_bounds();
         holds_few();
+        if let Some(error) = self
+            .layer
+            .call_refusal(&self.link, called, calling, user, proposal)
+        {
+            return Err(StationError::of_layer(error));
+        }
         let asked = asked_call(self.alloc, called, calling, user, proposal.params())?;
         out.make_room()?;
         match self
@@ -368,6 +374,9 @@ impl Station {
     {
         steps_keep_bounds();
         holds_few();
+        if let Some(error) = self.layer.refusal(&self.link, channel, &request) {
+            return Err(StationError::of_layer(error));
+        }
         out.make_room()?;
         let asked = asked_of(self.alloc, &mut self.messages, &request)?;
         match self.layer.ask(&mut self.link, channel, request) {

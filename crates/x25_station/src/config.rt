@@ -12,4 +12,14 @@ pub struct Cfg {
     /// Whether a CALL and a CALL ACCEPTED say packet sizes and windows also where the other end takes them without it.
     /// Ends may differ in it.
     pub say_sizes: bool,
+    /// Whether packets are read in all the forms that X.25 has, in place of the one that a station writes. Ends may
+    /// differ in it.
+    pub wide: bool,
+}
+
+/// How a station writes and reads packets, as `Cfg` says it.
+#[derive(Clone, Copy, Debug, PartialEq, Eq)]
+pub(crate) struct Manner {
+    pub(crate) say_sizes: bool,
+    pub(crate) wide: bool,
 }

@@ -5,6 +5,7 @@ ghost use Rattle.x25_station.specs.laws.JoinLaw.{UpIsJoined};
 ghost use Rattle.x25_station.specs.laws.KeepLaw.{ConnectKeeps, TimerKeeps, RequestKeeps, CommandKeeps, ReceiveKeeps};
 ghost use Rattle.x25_station.specs.laws.ReadLaw.{PutsAreReadable, PutsBesidePeersAreReadable};
 ghost use Rattle.x25_station.specs.laws.HoldLaw.{FewWait, FewStand, FewMessages, FewJoined, FewHeld, FewAside};
+ghost use Rattle.x25_station.specs.laws.OctetLaw.{FewOctets, FewOctetsInAll};
 ghost use Rattle.x25_station.specs.laws.TimerLaw.{BeginsWhereDue, BeginsBehindPull, DeadlineIsTrue, FiringIsTaken};
 ghost use Rattle.x25_station.specs.laws.TimerLaw.{OffIsRefused, PullIsHeeded};
 
@@ -57,10 +58,10 @@ pub fn steps_keep_bounds()
 }
 
 /// What a station holds at most: 256 packets that wait in its link, 7 that were sent and aren't acknowledged, and for
-/// each channel
-/// 8 messages that wait, and one more whose last packet was pulled, until the next is begun, and one of which some
-/// packets came. A message, also one in part, has at most 65,535 octets. Between calls memory is set aside for at most
-/// 16 packets in its layer and in its link each, and for 3 texts of entries.
+/// each channel 8 messages that wait, and one more whose last packet was pulled, until the next is begun, and one of
+/// which some packets came. A message, also one in part, has at most 65,535 octets. Between calls memory is set aside
+/// for at most 16 packets in its layer and in its link each, and for 3 texts of entries. In all that is at most
+/// 1,542,273 octets, and 667,638 for each channel.
 pub fn stations_hold_few()
     ensures wait { FewWait }
     ensures stand { FewStand }
@@ -68,6 +69,8 @@ pub fn stations_hold_few()
     ensures joined { FewJoined }
     ensures held { FewHeld }
     ensures aside { FewAside }
+    ensures octets { FewOctets }
+    ensures octets_in_all { FewOctetsInAll }
 {
     holds_few();
 }

@@ -1,6 +1,6 @@
 //! Octets that come: the step of the link, and what the packet layer does at it.
 ghost use Rattle.std.specs.Prelude.{◌≡◌, ℕ, ◌+◌, ◌-◌, ◌<◌, ◌≤◌, ◌++◌, List, length, max, map, true, false, None};
-ghost use Rattle.std.specs.Prelude.{option_copied, vec_len, vec_capacity, IfSome, IfErr, OnOk};
+ghost use Rattle.std.specs.Prelude.{is_some, option_copied, vec_len, vec_capacity, IfSome, IfErr, OnOk};
 ghost use Rattle.x25_link.specs.Station.{Side};
 ghost use Rattle.x25_link.specs.code.FitsLink.{FitsWhole, up_of};
 ghost use Rattle.x25_layer.specs.Layer.{Layer as LayerState};
@@ -27,7 +27,7 @@ use crate::step::Step;
 use x25_frame::reading_is_the_grammar as reads_frames;
 use x25_layer::Layer;
 use x25_link::{Link, Notes, OrderedLink, holds_few, notes_what_changes};
-use x25_packet::reading_is_the_grammar;
+use x25_wide::{NarrowField, taking_keeps_octets};
 
 /// The octets of an I frame but for the user data of its packet: address, control and frame check sequence, and the
 /// header of the packet.
@@ -57,11 +57,19 @@ fn come_up(layer: &mut Layer, link: &mut Link, entries: &mut Vec<Entry>)
     layer.up(link).unwrap();
 }
 
+// The field that is lent to the layer where packets are read in all their forms.
+fn lent<'a>(wide: bool, field: &'a mut NarrowField) -> Option<&'a mut NarrowField>
+    ensures { is_some result ≡ wide }
+{
+    if wide { Some(field) } else { None }
+}
+
 // What the layer does with a packet that the link hands up.
 fn hear(
     layer: &mut Layer,
     link: &mut Link,
     texts: &mut TextMemory,
+    wide: bool,
     packet: &[u8],
     entries: &mut Vec<Entry>,
 )
@@ -73,16 +81,16 @@ fn hear(
     ensures layer { (c : Settings) (l : LayerState) (t : Side) → FitsLayer (layer_settings c) layer.old l
         → FitsWhole link.old (kept_of (link_settings c) t) →
         FitsLayer (layer_settings c) layer.new
-        (hears (view_of (link_settings c) t.near) (layer_settings c) l packet.now).step.layer }
+        (hears (view_of (link_settings c) t.near) (layer_settings c) wide l packet.now).step.layer }
     ensures link { (c : Settings) (l : LayerState) (t : Side) → FitsLayer (layer_settings c) layer.old l
         → FitsWhole link.old (kept_of (link_settings c) t) →
         FitsWhole link.new (kept_of (link_settings c)
         (all_put (link_settings c) (hears (view_of (link_settings c) t.near)
-        (layer_settings c) l packet.now).step.put t)) }
+        (layer_settings c) wide l packet.now).step.put t)) }
     ensures entries { (c : Settings) (l : LayerState) (t : Side) → FitsLayer (layer_settings c) layer.old l
         → FitsWhole link.old (kept_of (link_settings c) t) →
         map plain_entry entries.new.items ≡ map plain_entry entries.old.items
-        ++ entries_of_answer (layer_answer (layer_settings c) l packet.now) }
+        ++ entries_of_answer (layer_answer (layer_settings c) wide l packet.now) }
     ensures length { vec_len entries.new ≤ vec_len entries.old + 2 }
     ensures most_memory { layer.new.memory ≤ max layer.old.memory 16 }
     ensures most_spares { link.new.outbox.long ≤ max link.old.outbox.long 16 }
@@ -92,8 +100,9 @@ fn hear(
         enter_message(layer, entries, delivery.channel, delivery.message);
         return;
     }
-    reading_is_the_grammar();
-    let told = layer.packet(link, packet).unwrap();
+    taking_keeps_octets();
+    let mut field = NarrowField::none();
+    let told = layer.packet(link, packet, lent(wide, &mut field)).unwrap();
     enter_told(layer, texts, told, entries);
 }
 
@@ -102,6 +111,7 @@ fn follow(
     layer: &mut Layer,
     link: &mut Link,
     texts: &mut TextMemory,
+    wide: bool,
     notes: Notes,
     packet: Option<&[u8]>,
     entries: &mut Vec<Entry>,
@@ -116,18 +126,18 @@ fn follow(
     ensures layer { (c : Settings) (l : LayerState) (t : Side) → FitsLayer (layer_settings c) layer.old l
         → FitsWhole link.old (kept_of (link_settings c) t) →
         FitsLayer (layer_settings c) layer.new
-        (layer_at (view_of (link_settings c) t.near) (layer_settings c) l
+        (layer_at (view_of (link_settings c) t.near) (layer_settings c) wide l
         (option_copied packet.entry) notes.down notes.up).layer }
     ensures link { (c : Settings) (l : LayerState) (t : Side) → FitsLayer (layer_settings c) layer.old l
         → FitsWhole link.old (kept_of (link_settings c) t) →
         FitsWhole link.new (kept_of (link_settings c)
-        (all_put (link_settings c) (layer_at (view_of (link_settings c) t.near) (layer_settings c) l
+        (all_put (link_settings c) (layer_at (view_of (link_settings c) t.near) (layer_settings c) wide l
         (option_copied packet.entry) notes.down notes.up).put t)) }
     ensures entries { (c : Settings) (l : LayerState) (t : Side) → FitsLayer (layer_settings c) layer.old l
         → FitsWhole link.old (kept_of (link_settings c) t) →
         map plain_entry entries.new.items ≡ map plain_entry entries.old.items
         ++ (entries_noted notes
-        ++ entries_heard (layer_settings c) l (option_copied packet.entry) notes.down notes.up) }
+        ++ entries_heard (layer_settings c) wide l (option_copied packet.entry) notes.down notes.up) }
     ensures length { vec_len entries.new ≤ vec_len entries.old + 3 }
     ensures most_memory { layer.new.memory ≤ max layer.old.memory 16 }
     ensures most_spares { link.new.outbox.long ≤ max link.old.outbox.long 16 }
@@ -142,7 +152,7 @@ fn follow(
         return;
     }
     if let Some(packet) = packet {
-        hear(layer, link, texts, packet, entries);
+        hear(layer, link, texts, wide, packet, entries);
     }
 }
 
@@ -258,6 +268,7 @@ impl Station {
                     &mut self.layer,
                     &mut self.link,
                     &mut self.texts,
+                    self.manner.wide,
                     heard.notes,
                     heard.packet,
                     &mut out.entries,

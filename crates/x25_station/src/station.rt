@@ -2,7 +2,7 @@ ghost use Rattle.x25_station.specs.code.Aside.{IsFewAside};
 ghost use Rattle.x25_station.specs.code.FitsParts.{AreMeant};
 
 use crate::asking::MessageMemory;
-use crate::config::Cfg;
+use crate::config::{Cfg, Manner};
 use crate::entering::TextMemory;
 use crate::error::StationError;
 use std::alloc::Global;
@@ -18,13 +18,12 @@ use x25_link::{Link, LinkError};
 pub struct Station {
     pub(crate) link: Link,
     pub(crate) layer: Layer,
-    /// Whether calls and acceptances say all packet sizes and windows.
-    pub(crate) say_sizes: bool,
+    pub(crate) manner: Manner,
     /// Memory for texts of entries, and for the message of one.
     pub(crate) texts: TextMemory,
     pub(crate) messages: MessageMemory,
     pub(crate) alloc: Global,
-    ghost meant: { AreMeant say_sizes link layer },
+    ghost meant: { AreMeant manner link layer },
     ghost aside: { IsFewAside link layer texts },
 }
 
@@ -60,7 +59,10 @@ impl Station {
         Ok(Station {
             link,
             layer,
-            say_sizes: cfg.say_sizes,
+            manner: Manner {
+                say_sizes: cfg.say_sizes,
+                wide: cfg.wide,
+            },
             texts: Blanks::new(alloc),
             messages: Blanks::new(alloc),
             alloc,

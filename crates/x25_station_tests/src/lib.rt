@@ -29,3 +29,5 @@ mod rows;
 mod say_sizes;
 #[cfg(test)]
 mod texts;
+#[cfg(test)]
+mod wide;

@@ -16,6 +16,7 @@ fn refusal(alloc: Global, role: Role, (k, n2, channels): (u8, u8, u8)) -> Option
         channels,
         long_data: false,
         say_sizes: false,
+        wide: false,
     };
     station(alloc, role, cfg).err()
 }

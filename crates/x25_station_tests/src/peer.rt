@@ -57,6 +57,7 @@ pub fn settings(channels: u8, long_data: bool) -> Cfg {
         channels,
         long_data,
         say_sizes: false,
+        wide: false,
     }
 }
 

@@ -4,3 +4,4 @@ pub mod AgainLaws
 pub mod NarrowLaws
 pub mod NarrowRange
 pub mod TakingLaws
+mod WantLaws

@@ -92,7 +92,7 @@ calling_address b h =
     let few = h.few in
     address_at (count_of b.lengths) (b.lengths % 16) (b.lengths / 16) b.digits (block_when (count_of b.lengths) b.digits h.decimal) (omega arith) (omega arith)
 
-abbrev InRange : Result strict.PlainPacket PacketError → Type 0
+abbrev pub InRange : Result strict.PlainPacket PacketError → Type 0
 InRange (Ok v) = strict_spelling.IsInRange 128 v
 InRange (Err e) = Unit {0}
 

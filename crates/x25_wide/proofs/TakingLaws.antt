@@ -1,5 +1,5 @@
--- What a station takes octets for: its channel, and its user data.
-use Rattle.std.proofs.Common.{ℕ, zero, suc, lit≤, ◌+◌, ◌*◌, ◌/◌, ◌%◌, ◌<◌, ◌≤◌, ◌≡◌, ◌∙◌, Bool, List, [], ◌∷◌, length, refl, ap, sym, subst, arith, All, Some, Result, Ok, Err}
+-- What a station takes octets for: its channel, its user data, and the ranges of its fields.
+use Rattle.std.proofs.Common.{ℕ, zero, suc, lit≤, ◌+◌, ◌*◌, ◌/◌, ◌%◌, ◌<◌, ◌≤◌, ◌≡◌, ◌∙◌, Bool, true, false, List, [], ◌∷◌, length, refl, ap, sym, subst, arith, All, Some, Result, Ok, Err}
 use Rattle.x25_bits.specs.Bits.{bit}
 use Rattle.x25_packet.specs.Packet as strict
 use Rattle.x25_packet.specs.Reading.{packet_of, channel_in}
@@ -11,12 +11,14 @@ use Rattle.x25_wide.specs.Narrowing.{field_in, narrow_of, narrowed, taken_of, wi
 use Rattle.x25_wide.specs.Packet.{PlainKind, PlainWide, call, accept, clear, extended_clear, clear_conf, user_data, rr, rnr, rej, interrupt, interrupt_conf, reset, reset_conf, restart, restart_conf, diagnostic, registration, registration_conf}
 use Rattle.x25_wide.specs.Packet.Spelling.{spelling_of, body_of, Spells}
 use Rattle.x25_wide.specs.Reading.{wide_of}
-use Rattle.x25_wide.specs.Taking.{or_taken, taken_in}
-use Rattle.x25_wide.specs.laws.TakingLaw.{TakesWhatIsWritten, TakesOnItsChannel, TakesItsUserData}
+use Rattle.x25_wide.specs.Taking.{or_taken, read_in}
+use Rattle.x25_wide.specs.laws.TakingLaw.{TakesWhatIsWritten, TakesOnItsChannel, TakesItsUserData, TakesInRange}
+use Rattle.x25_wide.proofs.NarrowRange.{InRange, in_range, field_fits}
 use Rattle.x25_wide.proofs.FoundLaws.{AreSmall, found_spells, ok_err, ok_same}
 
 pub takes_what_is_written : TakesWhatIsWritten
-takes_what_is_written most v octets e = ap (λ r. or_taken r (taken_of (wide_of most octets))) e
+takes_what_is_written false most v octets e = e
+takes_what_is_written true most v octets e = ap (λ r. or_taken r (taken_of (wide_of most octets))) e
 
 -- ---- the channel that the first two octets name
 
@@ -96,12 +98,12 @@ with_user channel q (registration octets) field v e is_data = absurd (ok_err e)
 with_user channel q (registration_conf octets) field v e is_data = absurd (ok_err e)
 
 -- with the field that is taken from it
-taken_with : {P : Type 0} (w : PlainWide) (v : strict.PlainPacket) → narrow_of w ≡ Ok v → ((field : List ℕ) → with_field w.channel w.q w.kind field ≡ Ok v → P) → P
-taken_with {P} w v e f = go (field_in w.kind) e
+taken_with : {P : Type 0} (w : PlainWide) (v : strict.PlainPacket) → narrow_of w ≡ Ok v → ((field : List ℕ) → field_in w.kind ≡ Ok field → with_field w.channel w.q w.kind field ≡ Ok v → P) → P
+taken_with {P} w v e f = go (field_in w.kind) refl e
   where
-    go : (r : Result (List ℕ) PacketError) → narrowed w r ≡ Ok v → P
-    go (Ok field) h = f field h
-    go (Err x) h = absurd (ok_err h)
+    go : (r : Result (List ℕ) PacketError) → field_in w.kind ≡ r → narrowed w r ≡ Ok v → P
+    go (Ok field) is h = f field is h
+    go (Err x) is h = absurd (ok_err h)
 
 -- ---- both readings
 
@@ -121,23 +123,46 @@ module _ (reads : ReadsWhatIsSpelled) (most : ℕ) (v : strict.PlainPacket) (oct
   by_strict (Ok u) is e = strictly ((reads most v octets small).0 (is ∙ ap (λ p. Ok p) (ok_same e)))
   by_strict (Err x) is e = by_wide (wide_of most octets) refl e
 
-  in_either : taken_in most octets ≡ Ok v → P
-  in_either e = by_strict (packet_of most octets) refl e
+  in_either : (wide : Bool) → read_in wide most octets ≡ Ok v → P
+  in_either false e = strictly ((reads most v octets small).0 e)
+  in_either true e = by_strict (packet_of most octets) refl e
 
 pub takes_on_its_channel : ReadsWhatIsSpelled → TakesOnItsChannel
-takes_on_its_channel reads most v octets small e has = in_either reads most v octets small (channel_in octets ≡ Some (channel_of v))
+takes_on_its_channel reads wide most v octets small e has = in_either reads most v octets small (channel_in octets ≡ Some (channel_of v))
     (λ spells. ap channel_in spells.spelling ∙ strict_names most v spells.in_range has)
     (λ w spells is. ap channel_in spells.spelling ∙ wide_names w spells.packet.channel
-    ∙ taken_with w v is (λ field h. ap (λ (n : ℕ). Some n) (sym (with_names w.channel w.q w.kind field v h has))))
-    e
+    ∙ taken_with w v is (λ field said h. ap (λ (n : ℕ). Some n) (sym (with_names w.channel w.q w.kind field v h has))))
+    wide e
 
 header : (n : ℕ) → suc (suc (suc n)) ≡ 3 + n
 header n = omega arith
 
 pub takes_its_user_data : ReadsWhatIsSpelled → TakesItsUserData
-takes_its_user_data reads most channel q m ps pr user octets small e =
+takes_its_user_data reads wide most channel q m ps pr user octets small e =
     let v : strict.PlainPacket = strict.user_data channel q m ps pr user in
     in_either reads most v octets small (length octets ≡ 3 + length user)
     (λ spells. ap length spells.spelling ∙ header (length user))
-    (λ w spells is. ap length spells.spelling ∙ header (length (body_of w.kind)) ∙ taken_with w v is (λ field h. ap (λ (body : List ℕ). 3 + length body) (with_user w.channel w.q w.kind field v h tt)))
-    e
+    (λ w spells is. ap length spells.spelling ∙ header (length (body_of w.kind)) ∙ taken_with w v is (λ field said h. ap (λ (body : List ℕ). 3 + length body) (with_user w.channel w.q w.kind field v h tt)))
+    wide e
+
+-- ---- the ranges of its fields
+
+more_in_range : (most : ℕ) (v : strict.PlainPacket) → most ≤ 128 → strict_spelling.IsInRange most v → strict_spelling.IsInRange 128 v
+more_in_range most (strict.call channel called calling field user) few h = let least = h.4 in (h.0, h.1, h.2, h.3, omega (arith, few, least))
+more_in_range most (strict.accept channel field) few h = h
+more_in_range most (strict.clear channel cause reason) few h = h
+more_in_range most (strict.clear_conf channel) few h = h
+more_in_range most (strict.user_data channel q m ps pr user) few h = h
+more_in_range most (strict.rr channel pr) few h = h
+more_in_range most (strict.rnr channel pr) few h = h
+more_in_range most (strict.interrupt channel user) few h = h
+more_in_range most (strict.interrupt_conf channel) few h = h
+more_in_range most (strict.reset channel cause reason) few h = h
+more_in_range most (strict.reset_conf channel) few h = h
+more_in_range most (strict.restart cause reason) few h = h
+more_in_range most strict.restart_conf few h = h
+
+pub takes_in_range : ReadsWhatIsSpelled → TakesInRange
+takes_in_range reads wide most v octets few small e = in_either reads most v octets small (strict_spelling.IsInRange 128 v) (λ spells. more_in_range most v few spells.in_range)
+    (λ w spells is. taken_with w v is (λ field said h. subst InRange h (in_range most w.channel w.q w.kind field spells.packet.channel spells.packet.place spells.packet.kind (field_fits w.kind field said))))
+    wide e

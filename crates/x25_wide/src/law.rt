@@ -1,6 +1,7 @@
 //! The laws of both readings of packets, each the contract of a function that does nothing.
 ghost use Rattle.x25_wide.specs.laws.NarrowLaw.{ReadsAlike};
-ghost use Rattle.x25_wide.specs.laws.TakingLaw.{TakesItsUserData, TakesOnItsChannel, TakesWhatIsWritten};
+ghost use Rattle.x25_wide.specs.laws.TakingLaw.{TakesInRange, TakesItsUserData, TakesOnItsChannel};
+ghost use Rattle.x25_wide.specs.laws.TakingLaw.{TakesWhatIsWritten, TakesWithoutMemory};
 
 use x25_packet::reading_is_the_grammar;
 
@@ -11,12 +12,15 @@ pub fn reads_alike()
     reading_is_the_grammar();
 }
 
-/// What a station takes octets for, with all forms read: what it would take them for without, where they are a packet
-/// then; on the channel that they name; and a data packet's user data is what lies behind the first three.
+/// What a station reads octets as, whether it reads one form or all: what they are in the form that it writes, where
+/// they are a packet then; on the channel that they name; a data packet's user data is what lies behind the first
+/// three; and all fields are in their ranges. Want of memory is none of the errors.
 pub fn taking_keeps_octets()
     ensures written { TakesWhatIsWritten }
     ensures channel { TakesOnItsChannel }
     ensures octets { TakesItsUserData }
+    ensures range { TakesInRange }
+    ensures memory { TakesWithoutMemory }
 {
     reading_is_the_grammar();
 }

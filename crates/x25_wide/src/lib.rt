@@ -18,5 +18,5 @@ pub use law::{reads_alike, taking_keeps_octets};
 pub use narrowing::{NarrowField, narrow};
 pub use packet::{Kind, WidePacket};
 pub use reading::{FAST_SELECT_OCTETS, decode};
-pub use taking::take;
+pub use taking::{read, take};
 pub use x25_packet::{PacketError, Seq};

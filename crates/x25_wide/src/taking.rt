@@ -1,9 +1,9 @@
 //! What a station takes octets for: the packet that they are in the form that it writes itself, or else in any other.
-ghost use Rattle.std.specs.Prelude.{◌≤◌, IfOk};
+ghost use Rattle.std.specs.Prelude.{◌≤◌, IfOk, is_some};
 ghost use Rattle.x25_packet.specs.Packet.{plain as plain_written};
 ghost use Rattle.x25_packet.specs.Spelling.{IsInRange};
 ghost use Rattle.x25_wide.specs.Reading.{Gives};
-ghost use Rattle.x25_wide.specs.Taking.{taken_in};
+ghost use Rattle.x25_wide.specs.Taking.{taken_in, read_in};
 
 use crate::narrowing::{NarrowField, narrow};
 use crate::reading::decode;
@@ -29,4 +29,19 @@ pub fn take<'a>(
     let packet = decode(most, octets)?;
     *field = NarrowField::of(&packet)?;
     narrow(&packet, field)
+}
+
+/// The packet that a station reads octets as: where no `field` is lent, in the form that it writes itself alone, as
+/// `decode_within` of `x25_packet` does, and else as `take` does. Errors 20 to 26.
+pub fn read<'a>(
+    most: usize,
+    octets: &'a [u8],
+    field: Option<&'a mut NarrowField>,
+) -> Result<Packet<'a>, PacketError>
+    ensures { Gives plain_written result (read_in (is_some field.entry) most octets.now) }
+{
+    match field {
+        None => decode_within(most, octets),
+        Some(field) => take(most, octets, field),
+    }
 }

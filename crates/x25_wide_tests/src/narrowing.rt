@@ -1,6 +1,6 @@
 use std::test::Fail;
 use x25_packet::{Packet, PacketError};
-use x25_wide::{NarrowField, decode, narrow, reads_alike, take, taking_keeps_octets};
+use x25_wide::{NarrowField, decode, narrow, read, reads_alike, take, taking_keeps_octets};
 
 /// What is taken of a packet: a cause, a diagnostic, and the facility field in hexadecimal.
 type Taken = (u8, u8, &'static str);
@@ -66,6 +66,22 @@ fn is_taken(octets: &[u8], cause: u8, diagnostic: u8, field: &[u8]) -> Result<bo
     Ok(a == cause && b == diagnostic && c == field)
 }
 
+/// The same of what a station reads that reads all forms.
+fn is_read(octets: &[u8], cause: u8, diagnostic: u8, field: &[u8]) -> Result<bool, PacketError> {
+    let mut own = NarrowField::none();
+    let taken = read(16, octets, Some(&mut own))?;
+    let (a, b, c) = told(&taken);
+    Ok(a == cause && b == diagnostic && c == field)
+}
+
+/// The error of octets in the form that a station writes, or 0.
+fn strict_error(octets: &[u8]) -> u8 {
+    match read(16, octets, None) {
+        Ok(_) => 0,
+        Err(error) => error.number(),
+    }
+}
+
 fn is_right(found: Result<bool, PacketError>, wanted: Result<Taken, u8>) -> bool {
     match (found, wanted) {
         (Ok(same), Ok(_)) => same,
@@ -84,7 +100,11 @@ fn taken_for_packets(rt: HostRuntime) -> Result<(), Fail> {
         let taken = is_taken(octets.as_slice(), cause, diagnostic, field.as_slice());
         assert!(rt; is_right(narrowed, wanted), "{text}");
         assert!(rt; is_right(taken, wanted), "{text}");
+        let read = is_read(octets.as_slice(), cause, diagnostic, field.as_slice());
+        assert!(rt; is_right(read, wanted), "{text}");
     }
+    assert_eq!(rt; strict_error(&[0x10, 0x01, 0x13, 0x05]), 20);
+    assert_eq!(rt; strict_error(&[0x10, 0x01, 0x13, 0x05, 0x00]), 0);
     reads_alike();
     taking_keeps_octets();
     Ok(())

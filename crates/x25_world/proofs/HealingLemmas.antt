@@ -82,7 +82,7 @@ timer_up c s = by (nat_lt s.tries c.retries)
 module _ (c : Settings) (w : World) (v : Sessions) (h : Alike w v) where
   -- a step of the near link behind which its layer puts nothing
   step_alike : (rest : List links.Entry) (left : List (List ℕ)) (met : List Meeting) (k : LinkStep) → octets_of rest ≡ left
-      → (layer_at (view_of (link_settings c) k.side.near) (layer_settings c) w.near.layer k.packet k.notes.down k.notes.up).put ≡ []
+      → (layer_at (view_of (link_settings c) k.side.near) (layer_settings c) c.wide w.near.layer k.packet k.notes.down k.notes.up).put ≡ []
       → Alike (after_step c w left (follows c w.near.layer k)) (links.after_step (link_settings c) v rest met [] k)
   step_alike rest left met k is none =
       let session = begun_by k.notes.up v.near.begun in
@@ -122,7 +122,7 @@ module _ (c : Settings) (w : World) (v : Sessions) (h : Alike w v) where
       by : (o : Option LinkError) → Alike (after w (of_station c w (unless o (follows c w.near.layer k)))) (links.unless o v (links.after_step (link_settings c) v v.back v.met [] k))
       by (Some e) = h
       by None = step_alike v.back w.back v.met k h.back
-          (silent (view_of (link_settings c) k.side.near) (layer_settings c) w.near.layer k.packet k.notes.down k.notes.up (timer_packet (link_settings c) w.near.link) (timer_up (link_settings c) w.near.link))
+          (silent (view_of (link_settings c) k.side.near) (layer_settings c) c.wide w.near.layer k.packet k.notes.down k.notes.up (timer_packet (link_settings c) w.near.link) (timer_up (link_settings c) w.near.link))
 
 -- ---- events
 

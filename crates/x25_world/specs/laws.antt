@@ -2,6 +2,7 @@
 pub mod Claims
 pub mod SessionClaims
 pub mod LawsBelow
+pub mod OctetLaw
 pub mod WaitClaims
 pub mod SessionWindow
 pub mod Sessions

@@ -153,7 +153,8 @@ fn put(at: Role, line: &mut Line, frames: &mut Vec<Vec<u8>>)
     ensures empty { frames.new.items ≡ [] }
     ensures line { line.new ≡ put_by line.old at (map (λ frame. frame.items) frames.old.items) }
 {
-    for octets in frames.drain(..) {
+    frames.reverse();
+    while let Some(octets) = frames.pop() {
         line.put(at, octets);
     }
 }

@@ -10,6 +10,7 @@ ghost use Rattle.x25_world.specs.laws.SessionClaims.{OpenStretchesMeet};
 ghost use Rattle.x25_world.specs.laws.WaitClaims.{PullsLeaveNone, UnpulledWaitForUsers, ClosedKeepNone};
 ghost use Rattle.x25_world.specs.laws.WaitClaims.{MessagesWaitForUsers};
 ghost use Rattle.x25_world.specs.laws.LawsBelow.{SessionLaws};
+ghost use Rattle.x25_world.specs.laws.OctetLaw.{FewOctets};
 ghost use Rattle.x25_world.specs.laws.Claims.{ActsInOctets, Always, UntilSecondUp, IsSetUp, IsLawful, IsNamed};
 ghost use Rattle.x25_world.specs.laws.Claims.{ArrivesAll, HasNoProcedureError, UpOnceUnlessConnected};
 ghost use Rattle.x25_world.specs.laws.WindowGoes.{StaysInWindow};
@@ -21,7 +22,7 @@ use x25_frame::reads_what_is_spelled;
 use x25_layer::{apart_layers_keep_order, each_end_is_by_itself};
 use x25_line::{each_session_event_hands_one, links_keep_order, sessions_keep_order};
 use x25_link::{notes_what_changes, sets_up_by_rows};
-use x25_station::{Cmd, puts_are_readable, steps_are_joined, steps_keep_bounds};
+use x25_station::{Cmd, puts_are_readable, stations_hold_few, steps_are_joined, steps_keep_bounds};
 
 /// What the laws of the links, the layers and the stations say, which the laws of a world rest on.
 pub(crate) fn laws_below()
@@ -137,6 +138,14 @@ pub fn messages_wait_for_users()
 {
     laws_below();
     x25_layer::messages_wait_for_users();
+}
+
+/// What a world holds at most: 24,448,962 octets, twice as many as a station of 16 channels does, and those of the
+/// frames on its line.
+pub fn worlds_hold_few()
+    ensures { FewOctets }
+{
+    stations_hold_few();
 }
 
 /// Worked rows: the octets of set-up; a message that arrives, also where its frame is lost or damaged and goes again;

@@ -17,7 +17,7 @@ pub use event::{Event, SABM_ARRIVES, UA_ARRIVES};
 pub use healing::{Healed, healing_brings_all, stations_heal};
 pub use law::{
     hands_down_octets, messages_wait_for_users, stations_meet_in_sessions, two_stations_keep_order,
-    two_stations_move,
+    two_stations_move, worlds_hold_few,
 };
 pub use told::Entered;
 pub use world::World;

@@ -10,6 +10,7 @@ pub const USUAL: Cfg = Cfg {
     channels: 1,
     long_data: false,
     say_sizes: false,
+    wide: false,
 };
 
 /// The number of a refusal, that of the station where it refuses.

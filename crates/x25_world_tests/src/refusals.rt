@@ -66,6 +66,7 @@ fn settings_are_in_range(rt: HostRuntime) {
             channels,
             long_data: false,
             say_sizes: false,
+            wide: false,
         };
         let wanted = if is_fine {
             Ok(())

@@ -35,7 +35,7 @@ opened : (o : ℕ) (line : List ℕ) (b : Bool) → nat_eq o 10 ≡ b → (not b
 opened o line true is all = absurd (never all)
 opened o line false is all = (λ (e : o ≡ 10). never (sym is ∙ ap (λ (n : ℕ). nat_eq n 10) e), all)
 
-opens : (line : List ℕ) → is_open line ≡ true → IsOpen line
+pub opens : (line : List ℕ) → is_open line ≡ true → IsOpen line
 opens [] all = tt
 opens (o ∷ line) all = let h = opened o line (nat_eq o 10) refl all in (h.0, opens line h.1)
 

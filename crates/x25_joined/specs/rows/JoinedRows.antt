@@ -12,7 +12,7 @@ use Rattle.x25_joined.specs.laws.Joined.{IsPossibleAt, ArePossible}
 use Rattle.x25_joined.specs.laws.JoinedClaims.{station_by, handed_by}
 
 abbrev pub usual : Cfg
-usual = record { k = 7; n2 = 10; channels = 1; long_data = false; say_sizes = false }
+usual = record { k = 7; n2 = 10; channels = 1; long_data = false; say_sizes = false; wide = false }
 
 abbrev pub dte : Act → Happening
 dte act = record { at = Dte; act = act }

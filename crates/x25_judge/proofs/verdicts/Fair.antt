@@ -13,7 +13,7 @@ use Rattle.x25_judge.specs.declared.way.Way.{Way}
 use Rattle.x25_packet_judge.specs.Numbers.{apart}
 use Rattle.x25_window.specs.code.Modulo.{resolved}
 use Rattle.x25_judge.specs.laws.Session.{is_of_order}
-use Rattle.x25_judge.proofs.verdicts.Ways.{Counts, Numbered, apart_is, same_numbered, heard_numbered, grown_numbered}
+use Rattle.x25_judge.proofs.verdicts.Ways.{Counts, Numbered, apart_is, sure_hears, deaf_numbered, same_numbered, acknowledged_numbered, heard_numbered, grown_numbered}
 
 -- ---- I frames
 
@@ -23,6 +23,7 @@ pub record Own (w : Way) (m u : ℕ) : Type 0 where
   pub next : w.next ≡ m % 8
   pub ever : w.ever ≡ min m 255
   pub kept : w.kept ≡ min m 255
+  pub whole : w.is_missed ≡ false
   pub numbered : Numbered w (λ x y. (x ≡ m) × (u ≤ y))
 
 pub record Fair (t : Told) (m u : ℕ) : Type 0 where
@@ -42,6 +43,7 @@ grown_own w m u h = record {
   next = next_grown w.next m h.next;
   ever = ever_grown w.ever m h.ever;
   kept = ever_grown w.kept m h.kept;
+  whole = refl;
   numbered = grown_numbered w (λ x y. (x ≡ m) × (u ≤ y)) (λ x y. (x ≡ m + 1) × (u ≤ y)) 1 (omega arith) (λ x y next fit. (ap (λ z. z + 1) fit.0, fit.1)) h.numbered;
 }
   where
@@ -52,18 +54,18 @@ grown_own w m u h = record {
     ever_grown x m is = omega arith
 
 repeated_own : (w : Way) (m u back : ℕ) → Own w m u → Own (way.repeated back w) m u
-repeated_own w m u back h = record { seen = h.seen; next = h.next; ever = h.ever; kept = h.kept; numbered = same_numbered w (way.repeated back w) _ _ refl refl refl refl (λ x y next fit. fit) h.numbered }
+repeated_own w m u back h = record { seen = h.seen; next = h.next; ever = h.ever; kept = h.kept; whole = h.whole; numbered = same_numbered w (way.repeated back w) _ _ refl refl refl (λ x y next fit. fit) h.numbered }
 
 gone_back_own : (is_poll : Bool) (w : Way) (m u back : ℕ) → Own w m u → Own (way.gone_back is_poll back w) m u
 gone_back_own true w m u back h = repeated_own w m u back h
-gone_back_own false w m u back h = record { seen = h.seen; next = h.next; ever = h.ever; kept = h.kept; numbered = same_numbered w (way.went_back back w) _ _ refl refl refl refl (λ x y next fit. fit) h.numbered }
+gone_back_own false w m u back h = record { seen = h.seen; next = h.next; ever = h.ever; kept = h.kept; whole = h.whole; numbered = same_numbered w (way.went_back back w) _ _ refl refl refl (λ x y next fit. fit) h.numbered }
 
 -- the next new number, in the window
 new_at : (w : Way) (window m u : ℕ) (is_poll is_same : Bool) → 7 ≤ window → m < u + 7 → Own w m u → Fair (way.sent_number window is_poll is_same 0 w) (m + 1) u
 new_at w window m u is_poll is_same large near h =
     cond_both (w.behind == 0 || way.known_pending w == 0) (way.sent_new window w) (way.unexplained is_same 0 w) (λ (t : Told). Fair t (m + 1) u)
     (λ _. cond_both (way.is_sure w && nat_le window w.pending) (way.breaks (OverWindow window) (way.unheard (way.grown 1 w))) (way.quiet (way.grown 1 w)) (λ (t : Told). Fair t (m + 1) u)
-    (λ test. let parts = and_parts (way.is_sure w) (nat_le window w.pending) test in absurd (never (leb-true window w.pending parts.1) (h.numbered.counts parts.0)))
+    (λ test. let parts = and_parts (way.is_sure w) (nat_le window w.pending) test in absurd (never (leb-true window w.pending parts.1) (h.numbered.counts (sure_hears w.sight parts.0))))
     (λ _. record { quiet = refl; own = grown_own w m u h }))
     (λ _. told_fair (way.grown 1 w) w (Skips (way.place w)) (m + 1) u refl (grown_own w m u h))
   where
@@ -138,7 +140,7 @@ old_fair w window m u n is_poll is_same before near same h =
 -- ---- N(R)
 
 abbrev Keeps : Way → ℕ → Way → Type 0
-Keeps w m v = (way.is_unseen v ≡ false) × (v.next ≡ m % 8) × (v.ever ≡ min m 255) × (v.kept ≡ min m 255)
+Keeps w m v = (way.is_unseen v ≡ false) × (v.next ≡ m % 8) × (v.ever ≡ min m 255) × (v.kept ≡ min m 255) × (v.is_missed ≡ false)
 
 -- an N(R) changes the sight and what is unacknowledged
 heard_any : (w : Way) (nr : ℕ) (P : Way → Type 0) → P w → P (way.astray w) → P (way.deaf w) → ((a : ℕ) → P (way.acknowledged a w)) → P (way.heard nr w).way
@@ -146,8 +148,8 @@ heard_any w nr P same astray deaf acknowledged =
     cond_both (way.may_hear w) (way.heard_ahead ahead w) (way.quiet w) (λ (t : Told). P t.way)
     (λ _. cond_both (nat_le ahead w.pending) (way.quiet (way.acknowledged ahead w)) (way.strayed ahead w) (λ (t : Told). P t.way)
     (λ _. acknowledged ahead)
-    (λ _. cond_both (not (way.is_sure w)) (way.quiet (way.astray w)) (if w.is_missed then way.notes HeardBehindDamage (way.astray w) else way.breaks (way.invalid ahead w) (way.deaf w)) (λ (t : Told). P t.way)
-    (λ _. astray)
+    (λ _. cond_both (not (way.is_sure w)) (if w.is_missed then way.quiet (way.astray w) else way.quiet (way.deaf w)) (if w.is_missed then way.notes HeardBehindDamage (way.astray w) else way.breaks (way.invalid ahead w) (way.deaf w)) (λ (t : Told). P t.way)
+    (λ _. cond_both w.is_missed (way.quiet (way.astray w)) (way.quiet (way.deaf w)) (λ (t : Told). P t.way) (λ _. astray) (λ _. deaf))
     (λ _. cond_both w.is_missed (way.notes HeardBehindDamage (way.astray w)) (way.breaks (way.invalid ahead w) (way.deaf w)) (λ (t : Told). P t.way) (λ _. astray) (λ _. deaf))))
     (λ _. same)
   where
@@ -156,13 +158,14 @@ heard_any w nr P same astray deaf acknowledged =
 
 pub heard_own : (w : Way) (m u nr : ℕ) → Own w m u → Own (way.heard nr w).way m (resolved u nr)
 heard_own w m u nr h =
-    let keeps = heard_any w nr (Keeps w m) (h.seen, h.next, h.ever, h.kept) (refl, h.next, h.ever, h.kept) (refl, h.next, h.ever, h.kept) (λ a. (refl, h.next, h.ever, h.kept)) in
+    let keeps = heard_any w nr (Keeps w m) (h.seen, h.next, h.ever, h.kept, h.whole) (refl, h.next, h.ever, h.kept, h.whole) (refl, h.next, h.ever, h.kept, h.whole) (λ a. (refl, h.next, h.ever, h.kept, h.whole)) in
     record {
       seen = keeps.0;
       next = keeps.1;
       ever = keeps.2;
       kept = keeps.3;
-      numbered = heard_numbered w _ (λ x y. (x ≡ m) × (resolved u nr ≤ y)) nr (λ x y near fit. (fit.0, rises u y fit.1)) h.numbered;
+      whole = keeps.4;
+      numbered = heard_numbered w _ (λ x y. (x ≡ m) × (resolved u nr ≤ y)) nr h.whole (λ x y near fit. (fit.0, rises u y fit.1)) h.numbered;
     }
   where
     rises : (u y : ℕ) → u ≤ y → resolved u nr ≤ resolved y nr
@@ -174,27 +177,25 @@ pub record Answers (t : Told) (g u : ℕ) : Type 0 where
   pub numbered : Numbered t.way (λ x y. (g ≤ x) × (y ≡ u))
 
 pub heard_fair : (w : Way) (g u t : ℕ) → u ≤ t → t ≤ g → Numbered w (λ x y. (g ≤ x) × (y ≡ u)) → Answers (way.heard (t % 8) w) g t
-heard_fair w g u t rising taken h = record {
-  quiet =
-      cond_both (way.may_hear w) (way.heard_ahead ahead w) (way.quiet w) (λ (x : Told). x.rule ≡ None)
-      (λ test. cond_both (nat_le ahead w.pending) (way.quiet (way.acknowledged ahead w)) (way.strayed ahead w) (λ (x : Told). x.rule ≡ None)
-      (λ _. refl)
-      (λ far. absurd (never (leb-false ahead w.pending far) (h.counts (sym h.hears ∙ test)))))
-      (λ _. refl);
-  numbered = heard_numbered w _ (λ x y. (g ≤ x) × (y ≡ t)) (t % 8) lands h;
-}
+heard_fair w g u t rising taken h =
+    cond_both (way.may_hear w) (way.heard_ahead ahead w) (way.quiet w) (λ (x : Told). Answers x g t)
+    (λ test. let (x, y, fit, c) = h.counts test in
+    cond_both (nat_le ahead w.pending) (way.quiet (way.acknowledged ahead w)) (way.strayed ahead w) (λ (z : Told). Answers z g t)
+    (λ few. record { quiet = refl; numbered = acknowledged_numbered w (λ x y. (g ≤ x) × (y ≡ t)) x y (t % 8) (fit.0, is x y (close w.pending x y c.pending c.few) fit.0 fit.1) c (leb-true ahead w.pending few) })
+    (λ far. absurd (never (leb-false ahead w.pending far) x y fit c)))
+    (λ test. record { quiet = refl; numbered = deaf_numbered w (λ x y. (g ≤ x) × (y ≡ t)) test })
   where
     ahead : ℕ
     ahead = apart (t % 8) (way.awaited w)
 
-    never : w.pending < ahead → ((x : ℕ) × (y : ℕ) × ((g ≤ x) × (y ≡ u)) × Counts w x y) → ⊥
-    never far (x, y, fit, c) = subst (λ a. w.pending < apart (t % 8) a → ⊥) (sym (ap (λ z. apart z w.pending) c.next)) (near w.pending x y c.pending c.few fit.0 fit.1) far
+    never : w.pending < ahead → (x y : ℕ) → ((g ≤ x) × (y ≡ u)) → Counts w x y → ⊥
+    never far x y fit c = subst (λ a. w.pending < apart (t % 8) a → ⊥) (sym (ap (λ z. apart z w.pending) c.next)) (near w.pending x y c.pending c.few fit.0 fit.1) far
       where
         near : (p x y : ℕ) → p + y ≡ x → p ≤ 7 → g ≤ x → y ≡ u → p < apart (t % 8) (apart (x % 8) p) → ⊥
         near p x y is few le same far = omega (arith, rising, taken)
 
-    lands : (x y : ℕ) → x ≤ y + 7 → ((g ≤ x) × (y ≡ u)) → ((g ≤ x) × (resolved y (t % 8) ≡ t))
-    lands x y near fit = (fit.0, is x y near fit.0 fit.1)
-      where
-        is : (x y : ℕ) → x ≤ y + 7 → g ≤ x → y ≡ u → resolved y (t % 8) ≡ t
-        is x y near le same = omega (arith, rising, taken)
+    close : (p x y : ℕ) → p + y ≡ x → p ≤ 7 → x ≤ y + 7
+    close p x y is few = omega arith
+
+    is : (x y : ℕ) → x ≤ y + 7 → g ≤ x → y ≡ u → resolved y (t % 8) ≡ t
+    is x y near le same = omega (arith, rising, taken)

@@ -16,15 +16,18 @@ use Rattle.x25_judge.specs.Way as way
 use Rattle.x25_judge.specs.declared.judge.Judge.{Judge}
 use Rattle.x25_judge.specs.declared.rule.Rule.{Rule}
 use Rattle.x25_judge.specs.declared.sides.End.{End}
+use Rattle.x25_judge.specs.declared.sides.Phase.{Phase}
+use Rattle.x25_judge.specs.declared.sides.Phase.TheVariants.{Unseen, Out, Waiting, Answered, Up}
+use Rattle.x25_judge.specs.declared.sides.Sides.{Sides}
 use Rattle.x25_judge.specs.declared.way.Way.{Way}
-use Rattle.x25_judge.specs.laws.Keeping.{MaySend, MayBe, Begins, HandsDown, Sends, Shown, Comes}
+use Rattle.x25_judge.specs.laws.Keeping.{MaySend, MayBe, Begins, HandsDown, Sends, Shown, Fails, Comes}
 use Rattle.x25_judge.specs.laws.Session.{end_of, IsSetUp, IsNumbered, is_of_order}
 use Rattle.x25_judge.specs.laws.VerdictClaims.{NoInnocentIsAccused}
 use Rattle.x25_packet_judge.specs.Book as book
-use Rattle.x25_judge.proofs.verdicts.Ways.{Numbered, same_numbered, sent_numbered}
+use Rattle.x25_judge.proofs.verdicts.Ways.{Numbered, same_numbered, unheard_numbered, sent_numbered}
 use Rattle.x25_judge.proofs.verdicts.Fair.{Own, Fair, new_fair, old_fair, heard_own, Answers, heard_fair}
 use Rattle.x25_judge.proofs.verdicts.Frames.{AreUp, AreAlike, Sees, info_sees, ready_sees, reject_sees, first_of_order}
-use Rattle.x25_judge.proofs.verdicts.Lines.{other_twice, Goes, goes, stands, told_of_order}
+use Rattle.x25_judge.proofs.verdicts.Lines.{other_twice, Goes, goes, Past, past, stands, told_of_order}
 use Rattle.x25_judge.proofs.verdicts.Octets.{IsHeld, IsSupervisory, begun_held, pushed_held, same_held, sent_held, same_octets, bare_held}
 
 -- ---- what is on the way
@@ -171,7 +174,8 @@ own_alike w v m u a h = record {
   next = a.next ∙ h.next;
   ever = a.ever ∙ h.ever;
   kept = a.kept ∙ h.kept;
-  numbered = same_numbered w v (Own_fit m u) (Own_fit m u) a.whole a.sight a.next a.pending (λ x y next fit. fit) h.numbered;
+  whole = a.whole ∙ h.whole;
+  numbered = same_numbered w v (Own_fit m u) (Own_fit m u) a.sight a.next a.pending (λ x y next fit. fit) h.numbered;
 }
 
 own_less : (w : Way) (m u t : ℕ) → t ≤ u → Own w m u → Own w m t
@@ -180,20 +184,21 @@ own_less w m u t le h = record {
   next = h.next;
   ever = h.ever;
   kept = h.kept;
-  numbered = same_numbered w w (Own_fit m u) (Own_fit m t) refl refl refl refl (λ x y next fit. (fit.0, below y fit.1)) h.numbered;
+  whole = h.whole;
+  numbered = same_numbered w w (Own_fit m u) (Own_fit m t) refl refl refl (λ x y next fit. (fit.0, below y fit.1)) h.numbered;
 }
   where
     below : (y : ℕ) → u ≤ y → t ≤ y
     below y h = omega (arith, le)
 
 numbered_less : (w : Way) (g h t : ℕ) → h ≤ g → Numbered w (Hears_fit g t) → Numbered w (Hears_fit h t)
-numbered_less w g h t le n = same_numbered w w (Hears_fit g t) (Hears_fit h t) refl refl refl refl (λ x y next fit. (below x fit.0, fit.1)) n
+numbered_less w g h t le n = same_numbered w w (Hears_fit g t) (Hears_fit h t) refl refl refl (λ x y next fit. (below x fit.0, fit.1)) n
   where
     below : (x : ℕ) → g ≤ x → h ≤ x
     below x k = omega (arith, le)
 
 numbered_alike : (w v : Way) (g t : ℕ) → AreAlike w v → Numbered w (Hears_fit g t) → Numbered v (Hears_fit g t)
-numbered_alike w v g t a n = same_numbered w v (Hears_fit g t) (Hears_fit g t) a.whole a.sight a.next a.pending (λ x y next fit. fit) n
+numbered_alike w v g t a n = same_numbered w v (Hears_fit g t) (Hears_fit g t) a.sight a.next a.pending (λ x y next fit. fit) n
 
 -- ---- a frame comes, or is lost
 
@@ -447,10 +452,66 @@ shown_beside : (from : Role) (j k : Judge) (p : Peer) (frames : List PlainFrame)
 shown_beside Dte j k p frames frame is h g = shown Dce j k p frames frame is h g
 shown_beside Dce j k p frames frame is h g = shown Dte j k p frames frame is h g
 
+-- ---- octets of the other end are damaged
+
+runs_unsure : (p : Phase) → sides.may_run p ≡ true → sides.may_run (sides.unsure p) ≡ true
+runs_unsure Unseen e = refl
+runs_unsure Out e = refl
+runs_unsure Waiting e = refl
+runs_unsure Answered e = refl
+runs_unsure Up e = refl
+
+runs_accepted : (p : Phase) → sides.may_run p ≡ true → sides.may_run (sides.accepted p) ≡ true
+runs_accepted Unseen e = refl
+runs_accepted Out e = e
+runs_accepted Waiting e = refl
+runs_accepted Answered e = refl
+runs_accepted Up e = refl
+
+record Misses (t : Sides) : Type 0 where
+  pub own : (sides.misses t).own.way ≡ way.missed t.own.way
+  pub other : (sides.misses t).other.way ≡ way.unheard t.other.way
+  pub own_phase : (sides.misses t).own.phase ≡ sides.unsure t.own.phase
+  pub other_phase : (sides.misses t).other.phase ≡ sides.accepted t.other.phase
+
+misses_is : (t : Sides) → Misses t
+unfolding sides.misses
+misses_is t = record { own = refl; other = refl; own_phase = refl; other_phase = refl }
+
+unheard_own : (w : Way) (m u : ℕ) → Own w m u → Own (way.unheard w) m u
+unheard_own w m u h =
+    let numbered = unheard_numbered w (Own_fit m u) h.numbered in
+    cond_both (way.is_sure w) (way.astray w) w (λ v. Numbered v (Own_fit m u) → Own v m u)
+    (λ _ n. record { seen = refl; next = h.next; ever = h.ever; kept = h.kept; whole = h.whole; numbered = n })
+    (λ _ n. record { seen = h.seen; next = h.next; ever = h.ever; kept = h.kept; whole = h.whole; numbered = n }) numbered
+
+missed_numbered : (w : Way) (Fit : ℕ → ℕ → Type 0) → Numbered w Fit → Numbered (way.missed w) Fit
+missed_numbered w Fit h = same_numbered w (way.missed w) Fit Fit refl refl refl (λ x y next fit. fit) h
+
+failed : (o : Role) (j k : Judge) (p : Peer) (frames : List PlainFrame) → Past j k o → Beside (other o) j p frames → Beside (other o) k p frames
+failed o j k p frames g h =
+    let m = misses_is (sides_of o j) in
+    let s = others_up o j p frames h in
+    let opposite = ap (λ (e : End). e.way) (stands j o).opposite in
+    record {
+      window = subst (λ x. 7 ≤ x) (sym g.window) h.window;
+      up = ap (λ (e : End). sides.may_run e.phase) g.opposite ∙ ap sides.may_run m.other_phase ∙ runs_accepted (sides_of o j).other.phase s.other;
+      other_up = subst (λ r. sides.may_run (end_of r k).phase ≡ true) (sym (other_twice o)) (ap (λ (e : End). sides.may_run e.phase) g.own ∙ ap sides.may_run m.own_phase ∙ runs_unsure (sides_of o j).own.phase s.own);
+      own = subst (λ w. Own w p.sent (heard_all frames p.acked)) (sym (ap (λ (e : End). e.way) g.opposite ∙ m.other ∙ ap way.unheard opposite)) (unheard_own (end_of (other o) j).way p.sent (heard_all frames p.acked) h.own);
+      hears = subst (λ r. Numbered (end_of r k).way (Hears_fit (took_all frames (length p.taken)) p.told)) (sym (other_twice o))
+          (subst (λ w. Numbered w (Hears_fit (took_all frames (length p.taken)) p.told)) (sym (ap (λ (e : End). e.way) g.own ∙ m.own))
+          (missed_numbered (sides_of o j).own.way (Hears_fit (took_all frames (length p.taken)) p.told) (others_were o j p frames h)));
+      held = subst (λ (hs : List (List ℕ)). IsHeld hs p.given p.sent) (sym g.other_held) h.held;
+    }
+
+failed_beside : (from : Role) (j k : Judge) (p : Peer) (frames : List PlainFrame) → Past j k (other from) → Beside from j p frames → Beside from k p frames
+failed_beside Dte j k p frames g h = failed Dce j k p frames g h
+failed_beside Dce j k p frames g h = failed Dte j k p frames g h
+
 -- ---- from a set-up on
 
 begun_numbered : (w : Way) (Fit : ℕ → ℕ → Type 0) → w ≡ way.fresh true → Fit 0 0 → Numbered w Fit
-begun_numbered w Fit is fit = subst (λ x. Numbered x Fit) (sym is) (record { whole = refl; hears = refl; counts = λ sure. (0, 0, fit, record { next = refl; pending = refl; few = omega arith }) })
+begun_numbered w Fit is fit = subst (λ x. Numbered x Fit) (sym is) (record { counts = λ hears. (0, 0, fit, record { next = refl; pending = refl; few = omega arith }) })
 
 begun_own : (w : Way) → w ≡ way.fresh true → Own w 0 0
 begun_own w is = record {
@@ -458,6 +519,7 @@ begun_own w is = record {
   next = ap (λ (x : Way). x.next) is;
   ever = ap (λ (x : Way). x.ever) is;
   kept = ap (λ (x : Way). x.kept) is;
+  whole = ap (λ (x : Way). x.is_missed) is;
   numbered = begun_numbered w (Own_fit 0 0) is (refl, omega arith);
 }
 
@@ -478,10 +540,11 @@ beside from j q frames (HandsDown k p way packet h) =
     record { window = b.window; up = b.up; other_up = b.other_up; own = b.own; hears = b.hears; held = pushed_held (held_of from j) p.given packet p.sent b.held }
 beside from k q frames (Sends j p r way line octets frame shows may h) = (sends from j k p q frames frame may (beside from j p frames h) (goes j line from octets frame shows)).beside
 beside from k p all (Shown j r frames line octets frame shows is h) = shown_beside from j k p frames frame is (beside from j p frames h) (goes j line (other from) octets frame shows)
+beside from k p frames (Fails j r way line octets broken h) = failed_beside from j (answer_to j line).next p frames (past j line (other from) octets broken) (beside from j p frames h)
 beside from j q frames (Comes k p r frame way may h) = came_beside from j p q frame frames may (beside from j p (frame ∷ frames) h)
 
 pub no_innocent_is_accused : NoInnocentIsAccused
 no_innocent_is_accused from j p q way line octets frame may shows sends_it =
     let t = seen_by j from frame in
-    told_of_order t.rule (book.sees from j.long_data frame (is_some t.rule) j.book).verdict.rule
+    told_of_order t.rule (book.sees from j.reading frame (is_some t.rule) j.book).verdict.rule
     (sends from j (answer_to j line).next p q way frame sends_it (beside from j p way may) (goes j line from octets frame shows)).quiet

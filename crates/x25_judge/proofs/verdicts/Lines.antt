@@ -1,5 +1,5 @@
 -- What a line makes of the judge, where it is a frame.
-use Rattle.std.proofs.Common.{◌≡◌, ℕ, Bool, true, false, List, Option, Some, None, refl, sym, ap, ◌∙◌, subst}
+use Rattle.std.proofs.Common.{◌≡◌, inl, inr, ℕ, Bool, true, false, List, Option, Some, None, Err, refl, sym, ap, ◌∙◌, subst}
 use Rattle.std.specs.Prelude.{is_some, not, ◌&&◌}
 use Rattle.std.proofs.lemmas.Bool.{both_ways, or_parts}
 use Rattle.x25_bits.specs.declared.role.Role.{Role}
@@ -10,11 +10,17 @@ use Rattle.x25_packet.specs.Reading.{channel_in}
 use Rattle.x25_packet_judge.specs.Book as book
 use Rattle.x25_packet_judge.specs.declared.packet_rule.PacketRule.{PacketRule}
 use Rattle.x25_judge.specs.Held.{keeps}
-use Rattle.x25_judge.specs.Judge.{Answer, sides_of, held_of, counts_packet, counts_on, counts_carried, all_told, told_frame, remark_of, next_by, seen_by, read_of, sent_of, answer_to}
+use Rattle.x25_judge.specs.Judge.{Answer, sides_of, held_of, counts_packet, counts_on, counts_carried, all_told, told_frame, remark_of, next_by, seen_by, next_missed, read_of, sent_of, answer_to}
 use Rattle.x25_judge.specs.declared.judge.Judge.{Judge}
 use Rattle.x25_judge.specs.declared.rule.Rule.{Rule}
 use Rattle.x25_judge.specs.declared.sides.Sides.{Sides}
-use Rattle.x25_judge.specs.laws.Session.{end_of, Shows, is_of_order}
+use Rattle.x25_judge.specs.laws.Session.{end_of, Shows, IsDamaged, is_of_order}
+use Rattle.x25_judge.specs.Sides.{misses}
+use Rattle.x25_decode.specs.Decoding.{n1}
+use Rattle.x25_frame.specs.Reading.{frame_of}
+use Rattle.x25_frame.specs.declared.error.FrameError.{FrameError}
+use Rattle.x25_frame.specs.declared.error.FrameError.TheVariants.{Short, BadFcs}
+use Rattle.x25_line.proofs.StationLines.{visible_reads}
 
 pub other_twice : (from : Role) → other (other from) ≡ from
 other_twice Dte = refl
@@ -22,9 +28,9 @@ other_twice Dce = refl
 
 -- ---- the answer to a line
 
-pub answered : (j : Judge) (line : List ℕ) (from : Role) (octets : List ℕ) (frame : PlainFrame) → Shows line from octets frame → answer_to j line ≡ told_frame j from frame (seen_by j from frame)
+pub answered : (j : Judge) (line : List ℕ) (from : Role) (octets : List ℕ) (frame : PlainFrame) → Shows line from octets frame → answer_to j line ≡ told_frame j from octets frame (seen_by j from frame)
 unfolding answer_to
-answered j line from octets frame shows = ap (λ (s : Option (Role × List ℕ)). sent_of j s) shows.spells ∙ ap (λ r. read_of j from r) shows.reads
+answered j line from octets frame shows = ap (λ (s : Option (Role × List ℕ)). sent_of j s) shows.spells ∙ ap (λ r. read_of j from octets r) shows.reads
 
 -- ---- the judge behind it
 
@@ -64,7 +70,27 @@ next_goes Dce j frame t s = carried_any Dce frame t.is_again s.verdict.is_judged
 pub goes : (j : Judge) (line : List ℕ) (from : Role) (octets : List ℕ) (frame : PlainFrame) → Shows line from octets frame → Goes j (answer_to j line).next from (seen_by j from frame) frame
 goes j line from octets frame shows =
     let t = seen_by j from frame in
-    subst (λ (a : Answer). Goes j a.next from t frame) (sym (answered j line from octets frame shows)) (next_goes from j frame t (book.sees from j.long_data frame (is_some t.rule) j.book))
+    subst (λ (a : Answer). Goes j a.next from t frame) (sym (answered j line from octets frame shows)) (next_goes from j frame t (book.sees from j.reading frame (is_some t.rule) j.book))
+
+-- ---- the judge behind octets that are damaged
+
+pub record Past (j k : Judge) (from : Role) : Type 0 where
+  pub own : end_of from k ≡ (misses (sides_of from j)).own
+  pub opposite : end_of (other from) k ≡ (misses (sides_of from j)).other
+  pub window : k.window ≡ j.window
+  pub held : held_of from k ≡ held_of from j
+  pub other_held : held_of (other from) k ≡ held_of (other from) j
+
+next_past : (from : Role) (e : FrameError) (j : Judge) → Past j (next_missed from e j) from
+next_past Dte e j = record { own = refl; opposite = refl; window = refl; held = refl; other_held = refl }
+next_past Dce e j = record { own = refl; opposite = refl; window = refl; held = refl; other_held = refl }
+
+pub past : (j : Judge) (line : List ℕ) (from : Role) (octets : List ℕ) → IsDamaged line from octets → Past j (answer_to j line).next from
+unfolding answer_to
+past j line from octets broken = elim (visible_reads from n1 octets broken.visible) [ inl short ↦ read Short short | inr bad ↦ read BadFcs bad ]
+  where
+    read : (e : FrameError) → frame_of from n1 octets ≡ Err e → Past j (answer_to j line).next from
+    read e is = subst (λ (a : Answer). Past j a.next from) (sym (ap (λ (s : Option (Role × List ℕ)). sent_of j s) broken.spells ∙ ap (λ r. read_of j from r) is)) (next_past from e j)
 
 -- ---- both ends before it
 
@@ -92,7 +118,7 @@ told_none None packet h = refl
 pub none_told : (j : Judge) (line : List ℕ) (from : Role) (octets : List ℕ) (frame : PlainFrame) → Shows line from octets frame → (answer_to j line).is_faulty ≡ false → (seen_by j from frame).rule ≡ None
 none_told j line from octets frame shows quiet =
     let t = seen_by j from frame in
-    let v = (book.sees from j.long_data frame (is_some t.rule) j.book).verdict in
+    let v = (book.sees from j.reading frame (is_some t.rule) j.book).verdict in
     let r = remark_of j from frame t in
     let here = sym (ap (λ (a : Answer). a.is_faulty) (answered j line from octets frame shows)) ∙ quiet in
     told_none t.rule v.rule (or_parts (is_some r.rule) (j.is_strict && not r.is_judged) here).0

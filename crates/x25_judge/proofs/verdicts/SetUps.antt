@@ -7,6 +7,7 @@ use Rattle.x25_bits.specs.declared.role.Role.{Role}
 use Rattle.x25_bits.specs.declared.role.Role.TheVariants.{Dte, Dce}
 use Rattle.x25_bits.specs.Role.{other}
 use Rattle.x25_decode.specs.Decoding.{n1, sent_in}
+use Rattle.x25_decode.specs.declared.answer.Reading.{Reading}
 use Rattle.x25_frame.specs.Frame.{PlainFrame, info, rr, rnr, rej, sabm, disc, ua, dm, frmr}
 use Rattle.x25_frame.specs.Reading.{frame_of}
 use Rattle.x25_frame.specs.declared.error.FrameError.{FrameError}
@@ -71,15 +72,15 @@ missed_stays window j Dce e h = record { rooms = rooms; counts = h.counts }
     rooms Dte = h.rooms Dte
     rooms Dce = h.rooms Dce
 
-read_stays : (window : ℕ) (j : Judge) (from : Role) (r : Result PlainFrame FrameError) → Stays window j → Stays window (read_of j from r).next
-read_stays window j from (Ok frame) h =
+read_stays : (window : ℕ) (j : Judge) (from : Role) (octets : List ℕ) (r : Result PlainFrame FrameError) → Stays window j → Stays window (read_of j from octets r).next
+read_stays window j from octets (Ok frame) h =
     let t = seen_by j from frame in
-    goes_stays window j _ from t frame (next_goes from j frame t (book.sees from j.long_data frame (is_some t.rule) j.book)) h
-read_stays window j from (Err e) h = missed_stays window j from e h
+    goes_stays window j _ from t frame (next_goes from j frame t (book.sees from j.reading frame (is_some t.rule) j.book)) h
+read_stays window j from octets (Err e) h = missed_stays window j from e h
 
 sent_stays : (window : ℕ) (j : Judge) (s : Option (Role × List ℕ)) → Stays window j → Stays window (sent_of j s).next
 sent_stays window j None h = h
-sent_stays window j (Some (from, octets)) h = read_stays window j from (frame_of from n1 octets) h
+sent_stays window j (Some (from, octets)) h = read_stays window j from octets (frame_of from n1 octets) h
 
 line_stays : (window : ℕ) (j : Judge) (line : List ℕ) → Stays window j → Stays window (answer_to j line).next
 unfolding answer_to
@@ -89,11 +90,11 @@ lines_stay : (window : ℕ) (j : Judge) (lines : List (List ℕ)) → Stays wind
 lines_stay window j [] h = h
 lines_stay window j (line ∷ lines) h = lines_stay window (answer_to j line).next lines (line_stays window j line h)
 
-begins_so : (window : ℕ) (long_data is_strict : Bool) → Stays window (begins window long_data is_strict)
+begins_so : (window : ℕ) (reading : Reading) (is_strict : Bool) → Stays window (begins window reading is_strict)
 unfolding none_held
-begins_so window long_data is_strict = record { rooms = rooms; counts = refl }
+begins_so window reading is_strict = record { rooms = rooms; counts = refl }
   where
-    rooms : (r : Role) → length (held_of r (begins window long_data is_strict)) ≡ 8
+    rooms : (r : Role) → length (held_of r (begins window reading is_strict)) ≡ 8
     rooms Dte = refl
     rooms Dce = refl
 
@@ -183,15 +184,15 @@ begun Dce j k t f g b rooms Dce = record { up = ap (λ (e : End). sides.may_run 
 begun Dce j k t f g b rooms Dte = record { up = ap (λ (e : End). sides.may_run e.phase) g.opposite ∙ b.other_up; way = ap (λ (e : End). e.way) g.opposite ∙ b.opposite; room = rooms Dte }
 
 pub set_ups_begin : SetUpsBegin
-set_ups_begin window long_data is_strict lines from asks accepts asked accepted p f shows_asks shows_accepts unanswered =
-    let j = after (begins window long_data is_strict) lines in
+set_ups_begin window reading is_strict lines from asks accepts asked accepted p f shows_asks shows_accepts unanswered =
+    let j = after (begins window reading is_strict) lines in
     let k = (answer_to j asks).next in
     let g = goes j asks from asked (sabm p) shows_asks in
     let asking : Asks (end_of from k) =
     subst (λ (e : End). Asks e) (sym g.own) (sabm_asks j.window _ p (sides_of from j) (λ (a : IsAnswered (sides_of from j).own.phase). unanswered (subst (λ (e : End). IsAnswered e.phase) (stands j from).own a))) in
     let at_other : Asks (sides_of (other from) k).other = subst (λ (e : End). Asks e) (sym ((stands k (other from)).opposite ∙ ap (λ r. end_of r k) (other_twice from))) asking in
     let l = (answer_to k accepts).next in
-    let stays = line_stays window k accepts (line_stays window j asks (lines_stay window (begins window long_data is_strict) lines (begins_so window long_data is_strict))) in
+    let stays = line_stays window k accepts (line_stays window j asks (lines_stay window (begins window reading is_strict) lines (begins_so window reading is_strict))) in
     record {
       up = begun (other from) k l (seen_by k (other from) (ua f)) f (goes k accepts (other from) accepted (ua f) shows_accepts) (ua_begins k.window _ f (sides_of (other from) k) at_other) stays.rooms;
       counts = stays.counts;

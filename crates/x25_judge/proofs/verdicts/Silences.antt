@@ -29,7 +29,7 @@ use Rattle.x25_judge.specs.declared.sides.Sides.{Sides}
 use Rattle.x25_judge.specs.declared.way.Told.{Told}
 use Rattle.x25_judge.specs.declared.way.Way.{Way}
 use Rattle.x25_judge.specs.laws.Session.{end_of, IsSetUp, IsNumbered}
-use Rattle.x25_judge.specs.laws.Silence.{Watched, watched_from, more, IsSilent, Begins, Acts, Says, Comes}
+use Rattle.x25_judge.specs.laws.Watching.{Watched, watched_from, more, IsSilent, Begins, Acts, Says, Comes, Fails}
 use Rattle.x25_judge.specs.laws.VerdictClaims.{SilenceMeansOrder}
 use Rattle.x25_judge.proofs.verdicts.Silent.{Exact, IsNew, IsOld, IsInOrder, sent_silent, heard_silent}
 use Rattle.x25_judge.proofs.verdicts.Frames.{AreUp, AreAlike, Sees, info_sees, ready_sees, reject_sees, first_none}
@@ -426,6 +426,7 @@ explained reads c longest w (Comes v line octets frame shows is untold h) =
       given = x.shown ∙ ap (more frame) e.given;
       knows = x.knows;
     }
+explained reads c longest w (Fails v line octets damage broken untold h) = absurd damage
 
 pub silence_means_order : ReadsWhatIsSpelled → OnAnySilentTape KeepsOrder → SilenceMeansOrder
 silence_means_order reads order c low high longest w silent once =

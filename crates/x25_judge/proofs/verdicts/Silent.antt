@@ -242,7 +242,7 @@ heard_silent w m u nr h =
     cond_both (way.may_hear w) (way.heard_ahead ahead w) (way.quiet w) (λ (t : Told). t.rule ≡ None → IsAck t nr m u)
     (λ _. cond_both (nat_le ahead w.pending) (way.quiet (way.acknowledged ahead w)) (way.strayed ahead w) (λ (t : Told). t.rule ≡ None → IsAck t nr m u)
     (λ test _. fine ahead (leb-true ahead w.pending test) lands)
-    (λ _. cond_both (not (way.is_sure w)) (way.quiet (way.astray w)) (if w.is_missed then way.notes HeardBehindDamage (way.astray w) else way.breaks (way.invalid ahead w) (way.deaf w)) (λ (t : Told). t.rule ≡ None → IsAck t nr m u)
+    (λ _. cond_both (not (way.is_sure w)) (if w.is_missed then way.quiet (way.astray w) else way.quiet (way.deaf w)) (if w.is_missed then way.notes HeardBehindDamage (way.astray w) else way.breaks (way.invalid ahead w) (way.deaf w)) (λ (t : Told). t.rule ≡ None → IsAck t nr m u)
     (λ test. absurd (both_ways (way.is_sure w) (not-true (way.is_sure w) test) h.sure))
     (λ _. cond_both w.is_missed (way.notes HeardBehindDamage (way.astray w)) (way.breaks (way.invalid ahead w) (way.deaf w)) (λ (t : Told). t.rule ≡ None → IsAck t nr m u)
     (λ missed. absurd (both_ways w.is_missed h.whole missed))

@@ -1,7 +1,7 @@
 -- What `Way` counts, beside the whole numbers of the end that sends and of the one that answers.
 use Rattle.std.proofs.Common.{◌≡◌, ◌==◌, ℕ, ◌+◌, ◌-◌, ◌%◌, ◌<◌, ◌≤◌, arith, min, Bool, true, false, if◌then◌else◌, refl, sym, ap, ◌∙◌}
 use Rattle.std.specs.Prelude.{nat_le, nat_lt, ◌&&◌, ◌||◌, not}
-use Rattle.std.proofs.lemmas.Bool.{eqb-false, leb-true, ltb-true, ltb-false, and_parts, both_ways, not-true, cond_both}
+use Rattle.std.proofs.lemmas.Bool.{eqb-false, leb-true, ltb-true, ltb-false, and_parts, both_ways, cond_both}
 use Rattle.x25_judge.specs.Way as way
 use Rattle.x25_judge.specs.declared.note.Note.TheVariants.{SentAgain, SentBehindDamage, HeardBehindDamage}
 use Rattle.x25_judge.specs.declared.rule.Rule.{Rule}
@@ -43,33 +43,39 @@ pub record Counts (w : Way) (m u : ℕ) : Type 0 where
 
 -- nothing is said of what answers it, or it counts numbers that fit
 pub record Numbered (w : Way) (Fit : ℕ → ℕ → Type 0) : Type 0 where
-  pub whole : w.is_missed ≡ false
-  pub hears : way.may_hear w ≡ way.is_sure w
-  pub counts : way.is_sure w ≡ true → (m : ℕ) × (u : ℕ) × Fit m u × Counts w m u
+  pub counts : way.may_hear w ≡ true → (m : ℕ) × (u : ℕ) × Fit m u × Counts w m u
 
-pub unsure_numbered : (w : Way) (Fit : ℕ → ℕ → Type 0) → w.is_missed ≡ false → way.may_hear w ≡ way.is_sure w → way.is_sure w ≡ false → Numbered w Fit
-unsure_numbered w Fit whole hears unsure = record { whole = whole; hears = hears; counts = λ sure. absurd (both_ways (way.is_sure w) unsure sure) }
+pub deaf_numbered : (w : Way) (Fit : ℕ → ℕ → Type 0) → way.may_hear w ≡ false → Numbered w Fit
+deaf_numbered w Fit deaf = record { counts = λ hears. absurd (both_ways (way.may_hear w) deaf hears) }
+
+pub sure_hears : (s : Sight) → way.is_sure_sight s ≡ true → way.may_hear_sight s ≡ true
+sure_hears Unseen e = e
+sure_hears Deaf e = e
+sure_hears Astray e = refl
+sure_hears Sure e = refl
 
 -- what isn't about numbers changes, or the numbers fit otherwise
-pub same_numbered : (w v : Way) (Fit Fits : ℕ → ℕ → Type 0) → v.is_missed ≡ w.is_missed → v.sight ≡ w.sight → v.next ≡ w.next → v.pending ≡ w.pending
+pub same_numbered : (w v : Way) (Fit Fits : ℕ → ℕ → Type 0) → v.sight ≡ w.sight → v.next ≡ w.next → v.pending ≡ w.pending
     → ((m u : ℕ) → w.next ≡ m % 8 → Fit m u → Fits m u) → Numbered w Fit → Numbered v Fits
-same_numbered w v Fit Fits missed sight next pending fits h = record {
-  whole = missed ∙ h.whole;
-  hears = ap way.may_hear_sight sight ∙ h.hears ∙ sym (ap way.is_sure_sight sight);
-  counts = λ sure. go (h.counts (sym (ap way.is_sure_sight sight) ∙ sure));
-}
+same_numbered w v Fit Fits sight next pending fits h = record { counts = λ hears. go (h.counts (sym (ap way.may_hear_sight sight) ∙ hears)) }
   where
     go : ((m : ℕ) × (u : ℕ) × Fit m u × Counts w m u) → (m : ℕ) × (u : ℕ) × Fits m u × Counts v m u
     go (m, u, fit, c) = (m, u, fits m u c.next fit, record { next = next ∙ c.next; pending = ap (λ x. x + u) pending ∙ c.pending; few = rw pending c.few })
 
--- ---- any N(R)
+-- an N(R) of the other end may have been missed
+pub unheard_numbered : (w : Way) (Fit : ℕ → ℕ → Type 0) → Numbered w Fit → Numbered (way.unheard w) Fit
+unheard_numbered w Fit h = cond_both (way.is_sure w) (way.astray w) w (λ v. Numbered v Fit) (λ sure. record { counts = λ _. go (h.counts (sure_hears w.sight sure)) }) (λ _. h)
+  where
+    go : ((m : ℕ) × (u : ℕ) × Fit m u × Counts w m u) → (m : ℕ) × (u : ℕ) × Fit m u × Counts (way.astray w) m u
+    go (m, u, fit, c) = (m, u, fit, record { next = c.next; pending = c.pending; few = c.few })
 
-heard_sure : (w : Way) (Fit Fits : ℕ → ℕ → Type 0) (m u nr : ℕ) → w.is_missed ≡ false → way.is_sure w ≡ true → Fits m (resolved u nr) → Counts w m u
-    → Numbered (way.heard_ahead (apart nr (way.awaited w)) w).way Fits
-heard_sure w Fit Fits m u nr whole sure fits c =
-    cond_both (nat_le ahead w.pending) (way.quiet (way.acknowledged ahead w)) (way.strayed ahead w) (λ (t : Told). Numbered t.way Fits)
-    (λ test. fine (leb-true ahead w.pending test))
-    (λ test. strays)
+-- ---- an N(R) in range
+
+pub acknowledged_numbered : (w : Way) (Fits : ℕ → ℕ → Type 0) (m u nr : ℕ) → Fits m (resolved u nr) → Counts w m u → apart nr (way.awaited w) ≤ w.pending
+    → Numbered (way.acknowledged (apart nr (way.awaited w)) w) Fits
+acknowledged_numbered w Fits m u nr fits c few = record {
+  counts = λ hears. (m, resolved u nr, fits, record { next = c.next; pending = left ahead w.pending (resolved u nr) few lands c.pending; few = less ahead w.pending c.few });
+}
   where
     ahead : ℕ
     ahead = apart nr (way.awaited w)
@@ -83,27 +89,35 @@ heard_sure w Fit Fits m u nr whole sure fits c =
     less : (a p : ℕ) → p ≤ 7 → p - a ≤ 7
     less a p few = omega arith
 
-    fine : ahead ≤ w.pending → Numbered (way.acknowledged ahead w) Fits
-    fine few = record {
-      whole = whole;
-      hears = refl;
-      counts = λ sure. (m, resolved u nr, fits, record { next = c.next; pending = left ahead w.pending (resolved u nr) few lands c.pending; few = less ahead w.pending c.few });
-    }
+-- ---- any N(R), where no frame of the end was missed
+
+heard_counts : (w : Way) (Fits : ℕ → ℕ → Type 0) (m u nr : ℕ) → w.is_missed ≡ false → Fits m (resolved u nr) → Counts w m u → Numbered (way.heard_ahead (apart nr (way.awaited w)) w).way Fits
+heard_counts w Fits m u nr whole fits c =
+    cond_both (nat_le ahead w.pending) (way.quiet (way.acknowledged ahead w)) (way.strayed ahead w) (λ (t : Told). Numbered t.way Fits)
+    (λ test. acknowledged_numbered w Fits m u nr fits c (leb-true ahead w.pending test))
+    (λ test. strays)
+  where
+    ahead : ℕ
+    ahead = apart nr (way.awaited w)
 
     strays : Numbered (way.strayed ahead w).way Fits
     strays =
-        cond_both (not (way.is_sure w)) (way.quiet (way.astray w)) (if w.is_missed then way.notes HeardBehindDamage (way.astray w) else way.breaks (way.invalid ahead w) (way.deaf w)) (λ (t : Told). Numbered t.way Fits)
-        (λ test. absurd (both_ways (way.is_sure w) (not-true (way.is_sure w) test) sure))
+        cond_both (not (way.is_sure w)) (if w.is_missed then way.quiet (way.astray w) else way.quiet (way.deaf w)) (if w.is_missed then way.notes HeardBehindDamage (way.astray w) else way.breaks (way.invalid ahead w) (way.deaf w))
+        (λ (t : Told). Numbered t.way Fits)
+        (λ test.
+        cond_both w.is_missed (way.quiet (way.astray w)) (way.quiet (way.deaf w)) (λ (t : Told). Numbered t.way Fits)
+        (λ missed. absurd (both_ways w.is_missed whole missed))
+        (λ missed. deaf_numbered (way.deaf w) Fits refl))
         (λ test.
         cond_both w.is_missed (way.notes HeardBehindDamage (way.astray w)) (way.breaks (way.invalid ahead w) (way.deaf w)) (λ (t : Told). Numbered t.way Fits)
         (λ missed. absurd (both_ways w.is_missed whole missed))
-        (λ missed. unsure_numbered (way.deaf w) Fits whole refl refl))
+        (λ missed. deaf_numbered (way.deaf w) Fits refl))
 
-pub heard_numbered : (w : Way) (Fit Fits : ℕ → ℕ → Type 0) (nr : ℕ) → ((m u : ℕ) → m ≤ u + 7 → Fit m u → Fits m (resolved u nr)) → Numbered w Fit → Numbered (way.heard nr w).way Fits
-heard_numbered w Fit Fits nr fits h =
+pub heard_numbered : (w : Way) (Fit Fits : ℕ → ℕ → Type 0) (nr : ℕ) → w.is_missed ≡ false → ((m u : ℕ) → m ≤ u + 7 → Fit m u → Fits m (resolved u nr)) → Numbered w Fit → Numbered (way.heard nr w).way Fits
+heard_numbered w Fit Fits nr whole fits h =
     cond_both (way.may_hear w) (way.heard_ahead (apart nr (way.awaited w)) w) (way.quiet w) (λ (t : Told). Numbered t.way Fits)
-    (λ test. let (m, u, fit, c) = h.counts (sym h.hears ∙ test) in heard_sure w Fit Fits m u nr h.whole (sym h.hears ∙ test) (fits m u (near w.pending m u c.pending c.few) fit) c)
-    (λ test. unsure_numbered w Fits h.whole h.hears (sym h.hears ∙ test))
+    (λ test. let (m, u, fit, c) = h.counts test in heard_counts w Fits m u nr whole (fits m u (near w.pending m u c.pending c.few) fit) c)
+    (λ test. deaf_numbered w Fits test)
   where
     near : (p m u : ℕ) → p + u ≡ m → p ≤ 7 → m ≤ u + 7
     near p m u is few = omega arith
@@ -114,20 +128,16 @@ sight_if : (b : Bool) (s : Sight) → way.is_sure_sight (if b then Deaf else s) 
 sight_if true s h = absurd (both_ways false refl h)
 sight_if false s h = (refl, h)
 
-hears_if : (b : Bool) (s : Sight) → way.may_hear_sight s ≡ way.is_sure_sight s → way.may_hear_sight (if b then Deaf else s) ≡ way.is_sure_sight (if b then Deaf else s)
-hears_if true s h = refl
-hears_if false s h = h
+hears_if : (b : Bool) (s : Sight) → way.may_hear_sight (if b then Deaf else s) ≡ true → (b ≡ false) × (way.may_hear_sight s ≡ true)
+hears_if true s h = absurd (both_ways false refl h)
+hears_if false s h = (refl, h)
 
 pending_if : (b : Bool) (p : ℕ) → b ≡ false → (if b then 7 else p) ≡ p
 pending_if true p h = absurd (both_ways true h refl)
 pending_if false p h = refl
 
 pub grown_numbered : (w : Way) (Fit Fits : ℕ → ℕ → Type 0) (c : ℕ) → c ≤ 8 → ((m u : ℕ) → w.next ≡ m % 8 → Fit m u → Fits (m + c) u) → Numbered w Fit → Numbered (way.grown c w) Fits
-grown_numbered w Fit Fits c small fits h = record {
-  whole = refl;
-  hears = hears_if (nat_lt 7 p) w.sight h.hears;
-  counts = λ sure. go (sight_if (nat_lt 7 p) w.sight sure);
-}
+grown_numbered w Fit Fits c small fits h = record { counts = λ hears. go (hears_if (nat_lt 7 p) w.sight hears) }
   where
     p : ℕ
     p = min (w.pending + c) 255
@@ -138,9 +148,9 @@ grown_numbered w Fit Fits c small fits h = record {
     pending_grown : (x m u : ℕ) → x + u ≡ m → x ≤ 7 → min (x + c) 255 + u ≡ m + c
     pending_grown x m u is few = omega (arith, small)
 
-    go : ((nat_lt 7 p ≡ false) × (way.is_sure w ≡ true)) → (m : ℕ) × (u : ℕ) × Fits m u × Counts (way.grown c w) m u
-    go (near, sure) =
-        let (m, u, fit, k) = h.counts sure in (
+    go : ((nat_lt 7 p ≡ false) × (way.may_hear w ≡ true)) → (m : ℕ) × (u : ℕ) × Fits m u × Counts (way.grown c w) m u
+    go (near, hears) =
+        let (m, u, fit, k) = h.counts hears in (
           m + c,
           u,
           fits m u k.next fit,
@@ -176,11 +186,11 @@ module _ (w : Way) (Fit Fits : ℕ → ℕ → Type 0) (h : Numbered w Fit) (mor
         never e lt = omega arith
 
     repeated_numbered : 0 < back → Numbered (way.repeated back w) Fits
-    repeated_numbered gone = same_numbered w (way.repeated back w) Fit Fits refl refl refl refl (other_number gone) h
+    repeated_numbered gone = same_numbered w (way.repeated back w) Fit Fits refl refl refl (other_number gone) h
 
     gone_back_numbered : (is_poll : Bool) → 0 < back → Numbered (way.gone_back is_poll back w) Fits
     gone_back_numbered true gone = repeated_numbered gone
-    gone_back_numbered false gone = same_numbered w (way.went_back back w) Fit Fits refl refl refl refl (other_number gone) h
+    gone_back_numbered false gone = same_numbered w (way.went_back back w) Fit Fits refl refl refl (other_number gone) h
 
     grown_by : (c : ℕ) → 1 ≤ c → c ≤ 8 → Numbered (way.grown c w) Fits
     grown_by c one few = grown_numbered w Fit Fits c few (λ m u next fit. more m u c one next fit) h
@@ -234,15 +244,15 @@ module _ (w : Way) (Fit Fits : ℕ → ℕ → Type 0) (h : Numbered w Fit) (mor
     pub sent_numbered : (window : ℕ) (is_poll is_same : Bool) → 7 ≤ window → P (way.sent window ns is_poll is_same w)
     sent_numbered window is_poll is_same large =
         cond_both (way.is_unseen w) (way.quiet (way.counted w)) (way.sent_number window is_poll is_same back w) P
-        (λ test. unsure_numbered (way.counted w) Fits h.whole h.hears (unseen w.sight test))
+        (λ test. deaf_numbered (way.counted w) Fits (unseen w.sight test))
         (λ _. cond_both (nat_lt 0 back) (way.sent_again is_poll is_same back w) _ P
         (λ test. sent_again_numbered is_poll is_same (ltb-true 0 back test))
         (λ _. cond_both (w.behind == 0 || way.known_pending w == 0) (way.sent_new window w) (way.unexplained is_same back w) P
         (λ _. sent_new_numbered window large)
         (λ _. unexplained_numbered is_same)))
       where
-        unseen : (s : Sight) → way.is_unseen_sight s ≡ true → way.is_sure_sight s ≡ false
+        unseen : (s : Sight) → way.is_unseen_sight s ≡ true → way.may_hear_sight s ≡ false
         unseen Unseen e = refl
         unseen Deaf e = refl
-        unseen Astray e = refl
+        unseen Astray e = absurd (both_ways false refl e)
         unseen Sure e = absurd (both_ways false refl e)

@@ -9,7 +9,7 @@ use Rattle.x25_line.specs.laws.Peer.{Peer, fresh_peer, MayNumber, MayAcknowledge
 use Rattle.x25_link.specs.Hearing.{other}
 use Rattle.std.specs.Prelude.{Ok}
 use Rattle.x25_text.specs.declared.text.TheConstants.{ROOM}
-use Rattle.x25_judge.specs.laws.Session.{IsSetUp, Shows, IsNumbered}
+use Rattle.x25_judge.specs.laws.Session.{IsSetUp, Shows, IsDamaged, IsNumbered}
 
 -- What it may send, and what it is then. Beyond the rules of `Peer` numbers go one by one when they go for the first
 -- time (section 2.4.5.1). A line has room for so many octets.
@@ -37,6 +37,9 @@ pub data MayBe (from : Role) : Judge → Peer → List PlainFrame → Type 0 whe
   Shown : (j : Judge) (p : Peer) (way : List PlainFrame) (line octets : List ℕ) (frame : PlainFrame)
       → Shows line (other from) octets frame → IsNumbered frame → MayBe from j p way
       → MayBe from (answer_to j line).next p (way ++ frame ∷ [])
+  -- octets of the other end are damaged, which is a loss
+  Fails : (j : Judge) (p : Peer) (way : List PlainFrame) (line octets : List ℕ) → IsDamaged line (other from) octets
+      → MayBe from j p way → MayBe from (answer_to j line).next p way
   -- the front one comes, and is heard or not, and taken or not; or it is lost
   Comes : (j : Judge) (p q : Peer) (frame : PlainFrame) (way : List PlainFrame) → MayHear p (Ok frame) q
       → MayBe from j p (frame ∷ way) → MayBe from j q way

@@ -12,6 +12,7 @@ use Rattle.x25_judge.specs.declared.judge.Judge.{Judge}
 use Rattle.x25_judge.specs.declared.rule.Rule.{Rule}
 use Rattle.x25_judge.specs.declared.rule.Rule.TheVariants.{Unsent, Falls, OverWindow, Differs}
 use Rattle.x25_judge.specs.declared.sides.End.{End}
+use Rattle.x25_line.specs.laws.Stations.{is_visible}
 
 abbrev pub end_of : Role → Judge → End
 end_of Dte j = j.dte
@@ -34,6 +35,11 @@ pub record Shows (line : List ℕ) (from : Role) (octets : List ℕ) (frame : Pl
   pub low : All (λ octet. octet < 256) octets
   pub spells : sent_in line ≡ Some (from, octets)
   pub reads : frame_of from n1 octets ≡ Ok frame
+
+-- or octets that are visibly damaged
+pub record IsDamaged (line : List ℕ) (from : Role) (octets : List ℕ) : Type 0 where
+  pub spells : sent_in line ≡ Some (from, octets)
+  pub visible : is_visible octets ≡ true
 
 abbrev pub IsNumbered : PlainFrame → Type 0
 IsNumbered (info ns nr pf octets) = Unit {0}

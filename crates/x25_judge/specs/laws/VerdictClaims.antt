@@ -2,6 +2,7 @@
 use Rattle.std.specs.Prelude.{◌≡◌, ℕ, ◌≤◌, Bool, false, List, [], ◌∷◌}
 use Rattle.x25_bits.specs.declared.role.Role.{Role}
 use Rattle.x25_decode.specs.Decoding.{n1}
+use Rattle.x25_decode.specs.declared.answer.Reading.{Reading}
 use Rattle.x25_frame.specs.Frame.{PlainFrame, sabm, ua}
 use Rattle.x25_judge.specs.Judge.{begins, answer_to}
 use Rattle.x25_judge.specs.declared.judge.Judge.{Judge}
@@ -12,8 +13,8 @@ use Rattle.x25_line.specs.laws.Peer.{Peer}
 use Rattle.x25_link.specs.Hearing.{other}
 use Rattle.x25_link.specs.Station.{Settings}
 use Rattle.x25_judge.specs.laws.Keeping.{MaySend, MayBe}
-use Rattle.x25_judge.specs.laws.Session.{end_of, IsSetUp, Shows, rule_of, is_of_order}
-use Rattle.x25_judge.specs.laws.Silence.{Watched, IsSilent}
+use Rattle.x25_judge.specs.laws.Session.{end_of, IsSetUp, Shows, IsNumbered, rule_of, is_of_order}
+use Rattle.x25_judge.specs.laws.Watching.{Watched, IsSilent, IsAny}
 
 -- no rule of order is told of what an end sends that keeps the rules
 abbrev pub NoInnocentIsAccused : Type 0
@@ -21,6 +22,13 @@ NoInnocentIsAccused =
     (from : Role) (j : Judge) (p q : Peer) (way : List PlainFrame) (line octets : List ℕ) (frame : PlainFrame)
     → MayBe from j p way → Shows line from octets frame → MaySend p frame q
     → is_of_order (rule_of j from frame) ≡ false
+
+-- nor of a station of ours, whatever the other end and the line do, as long as it isn't set up anew
+abbrev pub NoStationIsAccused : Type 0
+NoStationIsAccused =
+    (c : Settings) → c.window ≤ 7 → c.longest ≡ n1 → (w : Watched) → IsAny c w → w.near.came_up ≡ false
+    → (line octets : List ℕ) (frame : PlainFrame) (rest : List (List ℕ)) → w.out ≡ octets ∷ rest
+    → Shows line c.role octets frame → IsNumbered frame → is_of_order (rule_of w.judge c.role frame) ≡ false
 
 -- where nothing is told, what the station handed up is a beginning of what the trace shows
 abbrev pub SilenceMeansOrder : Type 0
@@ -45,8 +53,8 @@ pub record SetsUp (j : Judge) (window : ℕ) : Type 0 where
 -- wherever a trace shows SABM of an end and then UA of the other
 abbrev pub SetUpsBegin : Type 0
 SetUpsBegin =
-    (window : ℕ) (long_data is_strict : Bool) (lines : List (List ℕ)) (from : Role)
+    (window : ℕ) (reading : Reading) (is_strict : Bool) (lines : List (List ℕ)) (from : Role)
     (asks accepts asked accepted : List ℕ) (p f : Bool)
     → Shows asks from asked (sabm p) → Shows accepts (other from) accepted (ua f)
-    → (IsAnswered (end_of from (after (begins window long_data is_strict) lines)).phase → ⊥)
-    → SetsUp (after (after (begins window long_data is_strict) lines) (asks ∷ accepts ∷ [])) window
+    → (IsAnswered (end_of from (after (begins window reading is_strict) lines)).phase → ⊥)
+    → SetsUp (after (after (begins window reading is_strict) lines) (asks ∷ accepts ∷ [])) window

@@ -1,8 +1,8 @@
 -- Each call of a layer is a run: the step of the call, and then pulls of configured channels.
-use Rattle.std.specs.Prelude.{◌≡◌, ℕ, List, [], ◌∷◌, ◌++◌, Ok, true, false, ◌==◌}
+use Rattle.std.specs.Prelude.{◌≡◌, ℕ, Bool, List, [], ◌∷◌, ◌++◌, Ok, true, false, ◌==◌}
 use Rattle.x25_packet.specs.Packet.{PlainPacket}
-use Rattle.x25_packet.specs.Reading.{packet_of}
 use Rattle.x25_packet.specs.Spelling.{longest_user}
+use Rattle.x25_wide.specs.Taking.{read_in}
 use Rattle.x25_layer.specs.Layer.{LayerSettings, is_channel, goes_up}
 use Rattle.x25_layer.specs.Calls.{LayerRequest}
 use Rattle.x25_layer.specs.Rounds.{LinkView, Putting, begin, round, rounds, Went, calls, hears, comes_up}
@@ -42,13 +42,13 @@ CallsRun = (link : LinkView) (c : LayerSettings) (w : TwoLayers) (request : Laye
     let move : Move = Requests (link.waits [] == 256) request in
     (pulled : List ℕ) × AreChannels c.channels pulled × IsRun c w (move ∷ pulls_of pulled) (moves c w move) s w.back
 
--- a packet handed up is taken, and then pulls
+-- a packet handed up is taken, however it is read, and then pulls
 abbrev pub HearsRun : Type 0
-HearsRun = (link : LinkView) (c : LayerSettings) (w : TwoLayers) (packet : PlainPacket) (back : List PlainPacket)
-    (octets : List ℕ) → w.near.is_out ≡ false → w.back ≡ packet ∷ back →
-    packet_of (longest_user c.circuit.long_data) octets ≡ Ok packet →
+HearsRun = (link : LinkView) (c : LayerSettings) (wide : Bool) (w : TwoLayers) (packet : PlainPacket)
+    (back : List PlainPacket) (octets : List ℕ) → w.near.is_out ≡ false → w.back ≡ packet ∷ back →
+    read_in wide (longest_user c.circuit.long_data) octets ≡ Ok packet →
     (pulled : List ℕ) × AreChannels c.channels pulled
-    × IsRun c w (HandsUp ∷ pulls_of pulled) (moves c w HandsUp) (hears link c w.near.layer octets).step back
+    × IsRun c w (HandsUp ∷ pulls_of pulled) (moves c w HandsUp) (hears link c wide w.near.layer octets).step back
 
 -- behind the rounds, one round more gives nothing
 abbrev pub RoundsSettle : Type 0

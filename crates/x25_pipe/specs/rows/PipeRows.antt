@@ -6,7 +6,7 @@ use Rattle.x25_station.specs.declared.config.Cfg.{Cfg}
 use Rattle.x25_pipe.specs.Pipe.{station_text, station_status}
 
 abbrev pub usual : Cfg
-usual = record { k = 7; n2 = 10; channels = 1; long_data = false; say_sizes = false }
+usual = record { k = 7; n2 = 10; channels = 1; long_data = false; say_sizes = false; wide = false }
 
 abbrev pub IsAnswered : Role → List ℕ → List ℕ → ℕ → Type 0
 IsAnswered end input text status = (station_text end usual input ≡ text) × (station_status end usual input ≡ status)

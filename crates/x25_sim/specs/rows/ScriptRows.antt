@@ -4,13 +4,13 @@ use Rattle.x25_station.specs.declared.config.Cfg.{Cfg}
 use Rattle.x25_sim.specs.Stage.{sim_text, sim_status}
 
 abbrev pub usual : Cfg
-usual = record { k = 7; n2 = 10; channels = 1; long_data = false; say_sizes = false }
+usual = record { k = 7; n2 = 10; channels = 1; long_data = false; say_sizes = false; wide = false }
 
 abbrev pub narrow : Cfg
-narrow = record { k = 1; n2 = 10; channels = 1; long_data = false; say_sizes = false }
+narrow = record { k = 1; n2 = 10; channels = 1; long_data = false; say_sizes = false; wide = false }
 
 abbrev pub once : Cfg
-once = record { k = 7; n2 = 1; channels = 1; long_data = false; say_sizes = false }
+once = record { k = 7; n2 = 1; channels = 1; long_data = false; say_sizes = false; wide = false }
 
 -- whether both links are down at first, whether frames are asked for, a script, what is written for it, and the status
 abbrev pub Simulates : Cfg → Bool → Bool → List ℕ → List ℕ → ℕ → Type 0

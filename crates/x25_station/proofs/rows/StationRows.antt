@@ -29,7 +29,7 @@ use Rattle.x25_station.specs.Step.{Outcome, Did, Refused, follows, connects, fir
 use Rattle.x25_station.specs.Station.Told.{is_idle, stretch}
 
 abbrev dte : Settings
-dte = record { role = Dte; window = 7; retries = 10; channels = 1; long_data = false; say_sizes = false }
+dte = record { role = Dte; window = 7; retries = 10; channels = 1; long_data = false; say_sizes = false; wide = false }
 
 abbrev frames_in : Outcome → List PlainFrame
 frames_in (Did step) = step.out

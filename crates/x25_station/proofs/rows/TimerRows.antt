@@ -16,7 +16,7 @@ use Rattle.x25_station.specs.laws.TimerLaw.{Comes, Asks, Fires, timer}
 use Rattle.x25_station.specs.declared.timer.Timer.TheVariants.{Off, Begins, GoesOn}
 
 abbrev dte : Settings
-dte = record { role = Dte; window = 7; retries = 1; channels = 1; long_data = false; say_sizes = false }
+dte = record { role = Dte; window = 7; retries = 1; channels = 1; long_data = false; say_sizes = false; wide = false }
 
 abbrev awaits_ua : Station
 awaits_ua = record { link = with_nothing Waiting 0; layer = layer.at_rest }

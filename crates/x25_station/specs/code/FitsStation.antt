@@ -1,10 +1,11 @@
 -- Which states of the definition a station stands for, and what its calls answer.
-use Rattle.std.specs.Prelude.{Bool, ◌≡◌, ◌+◌, ◌≤◌, ◌⊎◌, [], map, vec_len, vec_capacity, Option, Some, None, Result, Err}
+use Rattle.std.specs.Prelude.{◌≡◌, ◌+◌, ◌≤◌, ◌⊎◌, [], map, vec_len, vec_capacity, Option, Some, None, Result, Err}
 use Rattle.std.specs.Prelude.{OnOk}
 use Rattle.std.specs.Prelude.{OnErr, IfErr, IsErrAnd}
 use Rattle.x25_frame.specs.Spelling.{spelling_of}
 use Rattle.x25_link.specs.code.FitsLink.{ShownLink}
 use Rattle.x25_layer.specs.declared.layer.Layer as layer_code
+use Rattle.x25_station.specs.declared.config.Manner.{Manner}
 use Rattle.x25_station.specs.declared.station.Station as code
 use Rattle.x25_station.specs.declared.step.Step as code_step
 use Rattle.x25_station.specs.declared.error.StationError.{StationError}
@@ -16,18 +17,18 @@ use Rattle.x25_station.specs.code.FitsParts.{FitsParts}
 use Rattle.x25_station.specs.code.PlainEntry.{plain_entry}
 
 abbrev pub FitsStation : Settings → code.Station → Station → Type 0
-FitsStation c v s = FitsParts c v.say_sizes v.link v.layer s
+FitsStation c v s = FitsParts c v.manner v.link v.layer s
 
 -- ---- what a call leaves and answers, by what the definition says of it
 
 -- an accepted call leaves the station of the step
-abbrev pub LeavesParts : {T : Type 0} → Settings → Bool → ShownLink → layer_code.Layer → Result T StationError → Outcome
-    → Type 0
-LeavesParts c says l y result (Did step) = OnOk result (FitsParts c says l y step.near)
-LeavesParts c says l y result (Refused e) = Unit {0}
+abbrev pub LeavesParts : {T : Type 0} → Settings → Manner → ShownLink → layer_code.Layer → Result T StationError
+    → Outcome → Type 0
+LeavesParts c manner l y result (Did step) = OnOk result (FitsParts c manner l y step.near)
+LeavesParts c manner l y result (Refused e) = Unit {0}
 
 abbrev pub Leaves : {T : Type 0} → Settings → code.Station → Result T StationError → Outcome → Type 0
-Leaves c v result outcome = LeavesParts c v.say_sizes v.link v.layer result outcome
+Leaves c v result outcome = LeavesParts c v.manner v.link v.layer result outcome
 
 -- the frames are those of the step, as the octets that spell them
 abbrev pub Sends : {T : Type 0} → Settings → code_step.Step → Result T StationError → Outcome → Type 0

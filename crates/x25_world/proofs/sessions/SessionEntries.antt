@@ -198,6 +198,6 @@ told_plain l (layer_fault diagnostic ∷ notices) = (tt, told_plain l notices)
 pub heard_plain : (c : Settings) (l : Layer) (k : LinkStep) (octets : List ℕ) → k.packet ≡ Some octets → IsQuiet k → ArePlain (follows c l k).entries
 heard_plain c l k octets some quiet =
     subst ArePlain
-    (sym (ap (λ (o : Option (List ℕ)). entries_noted k.notes ++ entries_heard (layer_settings c) l o k.notes.down k.notes.up) some
-    ∙ ap (λ (n : Notes). entries_noted n ++ entries_heard (layer_settings c) l (Some octets) n.down n.up) quiet))
-    (told_plain (layer_answer (layer_settings c) l octets).next (layer_answer (layer_settings c) l octets).notices)
+    (sym (ap (λ (o : Option (List ℕ)). entries_noted k.notes ++ entries_heard (layer_settings c) c.wide l o k.notes.down k.notes.up) some
+    ∙ ap (λ (n : Notes). entries_noted n ++ entries_heard (layer_settings c) c.wide l (Some octets) n.down n.up) quiet))
+    (told_plain (layer_answer (layer_settings c) c.wide l octets).next (layer_answer (layer_settings c) c.wide l octets).notices)

@@ -124,18 +124,18 @@ up_begins p (Some reason) = record {
 -- ---- what is put
 
 -- nothing where the link hands nothing up and notes no LinkUp
-pub silent : (view : LinkView) (c : LayerSettings) (l : Layer) (packet : Option (List ℕ)) (down : Option Reason) (up : Bool) → packet ≡ None → up ≡ false → (layer_at view c l packet down up).put ≡ []
-silent view c l packet down up none not_up =
-    subst (λ (p : Option (List ℕ)). (layer_at view c l p down up).put ≡ []) (sym none) (subst (λ (b : Bool). (layer_at view c l None down b).put ≡ []) (sym not_up) (by down))
+pub silent : (view : LinkView) (c : LayerSettings) (wide : Bool) (l : Layer) (packet : Option (List ℕ)) (down : Option Reason) (up : Bool) → packet ≡ None → up ≡ false → (layer_at view c wide l packet down up).put ≡ []
+silent view c wide l packet down up none not_up =
+    subst (λ (p : Option (List ℕ)). (layer_at view c wide l p down up).put ≡ []) (sym none) (subst (λ (b : Bool). (layer_at view c wide l None down b).put ≡ []) (sym not_up) (by down))
   where
-    by : (o : Option Reason) → (layer_at view c l None o false).put ≡ []
+    by : (o : Option Reason) → (layer_at view c wide l None o false).put ≡ []
     by None = refl
     by (Some reason) = refl
 
 pub silent_puts : (cfg : Cfg) (end : Role) (l : Layer) (k : LinkStep) → k.packet ≡ None → k.notes.up ≡ false → PutsRead cfg end k.side (follows (settings_from end cfg) l k)
 silent_puts cfg end l k none not_up =
     let c = settings_from end cfg in
-    let nothing = silent (view_of (link_settings c) k.side.near) (layer_settings c) l k.packet k.notes.down k.notes.up none not_up in
+    let nothing = silent (view_of (link_settings c) k.side.near) (layer_settings c) c.wide l k.packet k.notes.down k.notes.up none not_up in
     record {
       packets = [];
       link = record { accepted = tt; link = ap (λ (ps : List PlainPacket). (all_put (link_settings c) ps k.side).near) nothing; out = ap (λ (ps : List PlainPacket). (all_put (link_settings c) ps k.side).out) nothing };

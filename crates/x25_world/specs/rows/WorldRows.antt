@@ -23,7 +23,7 @@ use Rattle.x25_world.specs.Healing.{IsDrained, firing, AreReceiptsAndRequests, F
 use Rattle.x25_world.specs.laws.Sessions.{session_at, meets}
 
 abbrev pub two_channels : Cfg
-two_channels = record { k = 7; n2 = 10; channels = 2; long_data = false; say_sizes = false }
+two_channels = record { k = 7; n2 = 10; channels = 2; long_data = false; say_sizes = false; wide = false }
 
 abbrev pub event : Role → Act → Event
 event at act = record { at = at; act = act }
@@ -145,7 +145,7 @@ SecondMeetsFirst =
 
 -- where an end sends once more and then leaves
 abbrev pub one_try : Cfg
-one_try = record { k = 7; n2 = 1; channels = 2; long_data = false; say_sizes = false }
+one_try = record { k = 7; n2 = 1; channels = 2; long_data = false; say_sizes = false; wide = false }
 
 abbrev pub loses_one : Event
 loses_one = event Dce (Loses 0)

@@ -12,38 +12,38 @@ use Rattle.x25_station.proofs.receiving.follow.Goals as goal
 pub returns-then-notes-clause-layer : goal.returns-then-notes-clause-layer
 returns-then-notes-clause-layer c = λ c' l t fits link.
     let lc = layer_settings c' in
-    at_up (λ (s : Putting). FitsLayer lc c.come_up.new.layer s.layer) (view_of (link_settings c') t.near) lc l (option_copied c.args.packet) c.args.notes.down c.args.notes.up c.if-notes.true
+    at_up (λ (s : Putting). FitsLayer lc c.come_up.new.layer s.layer) (view_of (link_settings c') t.near) lc c.args.wide l (option_copied c.args.packet) c.args.notes.down c.args.notes.up c.if-notes.true
     (c.come_up.ensures.layer c' (layer_down l c.args.notes.down) t (c.note_down.ensures.layer lc l fits) link)
 
 pub returns-then-notes-clause-link : goal.returns-then-notes-clause-link
 returns-then-notes-clause-link c = λ c' l t fits link.
     let lc = layer_settings c' in
     let lk = link_settings c' in
-    at_up (λ (s : Putting). FitsWhole c.come_up.new.link (kept_of lk (all_put lk s.put t))) (view_of lk t.near) lc l (option_copied c.args.packet) c.args.notes.down c.args.notes.up c.if-notes.true
+    at_up (λ (s : Putting). FitsWhole c.come_up.new.link (kept_of lk (all_put lk s.put t))) (view_of lk t.near) lc c.args.wide l (option_copied c.args.packet) c.args.notes.down c.args.notes.up c.if-notes.true
     (c.come_up.ensures.link c' (layer_down l c.args.notes.down) t (c.note_down.ensures.layer lc l fits) link)
 
 pub returns-then-is_some-clause-layer : goal.returns-then-is_some-clause-layer
 returns-then-is_some-clause-layer c = λ c' l t fits link.
     let lc = layer_settings c' in
-    at_down (λ (s : Putting). FitsLayer lc c.note_down.new.layer s.layer) (view_of (link_settings c') t.near) lc l (option_copied c.args.packet) c.args.notes.down c.args.notes.up c.if-notes.false
+    at_down (λ (s : Putting). FitsLayer lc c.note_down.new.layer s.layer) (view_of (link_settings c') t.near) lc c.args.wide l (option_copied c.args.packet) c.args.notes.down c.args.notes.up c.if-notes.false
     (sym c.is_some.ensures ∙ c.if-is_some.true) (c.note_down.ensures.layer lc l fits)
 
 pub returns-in-Some-clause-layer : goal.returns-in-Some-clause-layer
 returns-in-Some-clause-layer c = λ c' l t fits link.
     let lc = layer_settings c' in
-    at_heard (λ (s : Putting). FitsLayer lc c.hear.new.layer s.layer) (view_of (link_settings c') t.near) lc l (option_copied c.args.packet) c.in-Some.packet.now c.args.notes.down c.args.notes.up c.if-notes.false
+    at_heard (λ (s : Putting). FitsLayer lc c.hear.new.layer s.layer) (view_of (link_settings c') t.near) lc c.args.wide l (option_copied c.args.packet) c.in-Some.packet.now c.args.notes.down c.args.notes.up c.if-notes.false
     (sym c.is_some.ensures ∙ c.if-is_some.false) (ap option_copied c.in-Some.is) (c.hear.ensures.layer c' l t (subst (λ y. FitsLayer lc y l) (sym (c.note_down.ensures.same (is_none _ (sym c.is_some.ensures ∙ c.if-is_some.false)))) fits) link)
 
 pub returns-in-Some-clause-link : goal.returns-in-Some-clause-link
 returns-in-Some-clause-link c = λ c' l t fits link.
     let lc = layer_settings c' in
     let lk = link_settings c' in
-    at_heard (λ (s : Putting). FitsWhole c.hear.new.link (kept_of lk (all_put lk s.put t))) (view_of lk t.near) lc l (option_copied c.args.packet) c.in-Some.packet.now c.args.notes.down c.args.notes.up c.if-notes.false
+    at_heard (λ (s : Putting). FitsWhole c.hear.new.link (kept_of lk (all_put lk s.put t))) (view_of lk t.near) lc c.args.wide l (option_copied c.args.packet) c.in-Some.packet.now c.args.notes.down c.args.notes.up c.if-notes.false
     (sym c.is_some.ensures ∙ c.if-is_some.false) (ap option_copied c.in-Some.is) (c.hear.ensures.link c' l t (subst (λ y. FitsLayer lc y l) (sym (c.note_down.ensures.same (is_none _ (sym c.is_some.ensures ∙ c.if-is_some.false)))) fits) link)
 
 pub returns-in_default-clause-layer : goal.returns-in_default-clause-layer
 returns-in_default-clause-layer c = λ c' l t fits link.
     let lc = layer_settings c' in
-    at_quiet (λ (s : Putting). FitsLayer lc c.note_down.new.layer s.layer) (view_of (link_settings c') t.near) lc l (option_copied c.args.packet) c.args.notes.down c.args.notes.up c.if-notes.false
+    at_quiet (λ (s : Putting). FitsLayer lc c.note_down.new.layer s.layer) (view_of (link_settings c') t.near) lc c.args.wide l (option_copied c.args.packet) c.args.notes.down c.args.notes.up c.if-notes.false
     (sym c.is_some.ensures ∙ c.if-is_some.false) (ap option_copied c.in_default.is)
     (subst (λ y. FitsLayer lc y l) (sym (c.note_down.ensures.same (is_none _ (sym c.is_some.ensures ∙ c.if-is_some.false)))) fits)

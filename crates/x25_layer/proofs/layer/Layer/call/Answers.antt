@@ -1,9 +1,8 @@
 use Rattle.std.proofs.Common.{rules, ◌≡◌, ℕ, ◌∙◌, Some, Err, sym, subst, true, false, arith}
 use Rattle.std.proofs.lemmas.Result.{err_from_is_err_and}
-use Rattle.x25_circuit.specs.Calling.{Calls, outcome}
-use Rattle.x25_layer.specs.Calls.{Dials, free_channel, outcome_on}
+use Rattle.x25_layer.specs.Calls.{Dials, free_channel}
 use Rattle.x25_layer.specs.code.OverLink.{view_of, LayerGives, LinkGives}
-use Rattle.x25_layer.specs.Rounds.{Answered, LinkView, went}
+use Rattle.x25_layer.specs.Rounds.{Answered, LinkView}
 use Rattle.x25_layer.proofs.CallLemmas.{dial_goes, dial_err_layer, dial_err_link, refuses_all}
 use Rattle.x25_layer.proofs.layer.Layer.call.Goals as goal
 

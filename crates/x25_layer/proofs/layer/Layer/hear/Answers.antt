@@ -1,13 +1,14 @@
-use Rattle.std.proofs.Common.{rules, ℕ, ◌≡◌, ◌∙◌, option_to_list, OnOk, IfOk, sym, ap, subst, arith}
+use Rattle.std.proofs.Common.{rules, ℕ, ◌≡◌, ◌<◌, ◌∙◌, All, is_some, option_to_list, OnOk, IfOk, sym, ap, subst, arith}
+use Rattle.std.proofs.lemmas.List.Elements.{All-from_get_or}
 use Rattle.x25_packet.specs.Packet.{plain}
-use Rattle.x25_packet.specs.Reading.{packet_of}
 use Rattle.x25_packet.specs.Spelling.{HasChannel, longest_user}
+use Rattle.x25_wide.specs.Taking.{read_in}
 use Rattle.x25_layer.specs.Layer.{LayerSettings, Layer, LayerAnswer}
 use Rattle.x25_layer.specs.code.FitsLayer.{FitsLayer}
 use Rattle.x25_layer.specs.code.OverLink.{after_all}
 use Rattle.x25_layer.specs.Rounds.{answer_to}
 use Rattle.x25_layer.specs.Told.{plain_told}
-use Rattle.x25_layer.specs.Receiving.{plain_read, hears_on}
+use Rattle.x25_layer.specs.Receiving.{plain_read, hears_on, IsOfChannel}
 use Rattle.x25_layer.proofs.HearLemmas.{of_channel, hears_none, hears_read, brings_few}
 use Rattle.x25_layer.proofs.layer.Layer.hear.Goals as goal
 use Rattle.x25_layer.proofs.layer.Layer.hear.Given as given
@@ -16,35 +17,42 @@ use Rattle.x25_layer.proofs.layer.Layer.hear.Goals.{in_default-read-via-in-Ok+in
 -- ---- fewer than three octets
 
 pub returns-in_default-clause-layer : goal.returns-in_default-clause-layer
-returns-in_default-clause-layer g c = λ s l fits. subst (λ (a : LayerAnswer). FitsLayer s c.args.self.now a.next) (sym (hears_none (longest_user c.args.self.now.long_data) s l c.args.octets.now (sym c.channel.ensures ∙ c.in_default.is))) fits
+returns-in_default-clause-layer g c = λ s l fits. subst (λ (a : LayerAnswer). FitsLayer s c.args.self.now a.next) (sym (hears_none (is_some c.args.field) (longest_user c.args.self.now.long_data) s l c.args.octets.now (sym c.channel.ensures ∙ c.in_default.is))) fits
 
 pub returns-in_default-clause-link : goal.returns-in_default-clause-link
 returns-in_default-clause-link g c = λ s l x fits link.
-    subst (λ (a : LayerAnswer). g.L.OrderedLink.fits c.args.link.now (after_all g.L.OrderedLink.after_put x (option_to_list a.owed))) (sym (hears_none (longest_user c.args.self.now.long_data) s l c.args.octets.now (sym c.channel.ensures ∙ c.in_default.is))) link
+    subst (λ (a : LayerAnswer). g.L.OrderedLink.fits c.args.link.now (after_all g.L.OrderedLink.after_put x (option_to_list a.owed))) (sym (hears_none (is_some c.args.field) (longest_user c.args.self.now.long_data) s l c.args.octets.now (sym c.channel.ensures ∙ c.in_default.is))) link
 
 pub returns-in_default-clause-told : goal.returns-in_default-clause-told
-returns-in_default-clause-told g c = λ s l fits. ap (λ (a : LayerAnswer). a.notices) (sym (hears_none (longest_user c.args.self.now.long_data) s l c.args.octets.now (sym c.channel.ensures ∙ c.in_default.is)))
+returns-in_default-clause-told g c = λ s l fits. ap (λ (a : LayerAnswer). a.notices) (sym (hears_none (is_some c.args.field) (longest_user c.args.self.now.long_data) s l c.args.octets.now (sym c.channel.ensures ∙ c.in_default.is)))
 
 -- ---- a packet of a channel, or octets that spell none
 
+bytes : (g : given.Over) (c : goal.After-hear_on g) → All (λ octet. octet < 256) c.args.octets.now
+bytes g c = All-from_get_or (λ octet. octet < 256) c.args.octets.now 0 (λ i low. omega (arith, c.type_inv.octets i))
+
+-- what was read is of a channel
+of : (g : given.Over) (c : goal.After-hear_on g) → IsOfChannel (plain_read c.read-read.result)
+of g c =
+    let has : IfOk c.read-read.result (λ packet. HasChannel (plain packet)) = elim c.in_default-read.branch [
+      | in_default-read-via-in-Ok+in_default w ↦ search rules
+      | in_default-read-via-in_default w ↦ search rules
+    ] in
+    of_channel c.taking_keeps_octets.ensures.memory (is_some c.args.field) c.longest_user.result c.args.octets.now c.read-read.result (bytes g c) c.read-read.ensures has
+
 pub hear_on-requires-clause-kind : goal.hear_on-requires-clause-kind
 hear_on-requires-clause-kind g c =
-    let read = c.decode_within-read.result in
-    let has : IfOk read (λ packet. HasChannel (plain packet)) = elim c.in_default-read.branch [
+    let has : IfOk c.read-read.result (λ packet. HasChannel (plain packet)) = elim c.in_default-read.branch [
       | in_default-read-via-in-Ok+in_default w ↦ search rules
       | in_default-read-via-in_default w ↦ search rules
     ] in
-    of_channel c.longest_user.result c.args.octets.now read has c.decode_within-read.ensures.fault
+    of_channel c.taking_keeps_octets.ensures.memory (is_some c.args.field) c.longest_user.result c.args.octets.now c.read-read.result (All-from_get_or (λ octet. octet < 256) c.args.octets.now 0 (λ i low. omega (arith, c.type_inv.octets i))) c.read-read.ensures has
 
-same : (g : given.Over) (c : goal.After-hear_on g) (s : LayerSettings) (l : Layer) → hears_on s l l.restarting c.in-Some.channel (plain_read c.decode_within-read.result) ≡ answer_to s l c.args.octets.now (packet_of (longest_user c.args.self.now.long_data) c.args.octets.now)
+same : (g : given.Over) (c : goal.After-hear_on g) (s : LayerSettings) (l : Layer)
+    → hears_on s l l.restarting c.in-Some.channel (plain_read c.read-read.result) ≡ answer_to s l c.args.octets.now (read_in (is_some c.args.field) (longest_user c.args.self.now.long_data) c.args.octets.now)
 same g c s l =
-    let read = c.decode_within-read.result in
-    let has : IfOk read (λ packet. HasChannel (plain packet)) = elim c.in_default-read.branch [
-      | in_default-read-via-in-Ok+in_default w ↦ search rules
-      | in_default-read-via-in_default w ↦ search rules
-    ] in
-    sym (hears_read c.longest_user.result s l c.args.octets.now c.in-Some.channel read (of_channel c.longest_user.result c.args.octets.now read has c.decode_within-read.ensures.fault) (sym c.channel.ensures ∙ c.in-Some.is) c.decode_within-read.ensures.exact c.decode_within-read.ensures.found)
-    ∙ ap (λ (most : ℕ). answer_to s l c.args.octets.now (packet_of most c.args.octets.now)) c.longest_user.ensures.value
+    sym (hears_read c.taking_keeps_octets.ensures.channel (is_some c.args.field) c.longest_user.result s l c.args.octets.now c.in-Some.channel c.read-read.result (bytes g c) c.read-read.ensures (of g c) (sym c.channel.ensures ∙ c.in-Some.is))
+    ∙ ap (λ (most : ℕ). answer_to s l c.args.octets.now (read_in (is_some c.args.field) most c.args.octets.now)) c.longest_user.ensures.value
 
 pub returns-in_default-read-clause-layer : goal.returns-in_default-read-clause-layer
 returns-in_default-read-clause-layer g c = λ s l fits. subst (λ (a : LayerAnswer). OnOk c.hear_on.result (FitsLayer s c.hear_on.new.self a.next)) (same g c s l) (c.hear_on.ensures.layer s l fits)
@@ -58,5 +66,5 @@ returns-in_default-read-clause-told g c = λ s l fits. subst (λ (a : LayerAnswe
 
 pub returns-in_default-read-clause-enough : goal.returns-in_default-read-clause-enough
 returns-in_default-read-clause-enough g c = λ len long room.
-    let few = brings_few c.longest_user.result c.args.octets.now c.decode_within-read.result c.decode_within-read.ensures.found in
+    let few = brings_few c.taking_keeps_octets.ensures.octets (is_some c.args.field) c.longest_user.result c.args.octets.now c.read-read.result (bytes g c) c.read-read.ensures in
     c.hear_on.ensures.enough len (omega (arith, few, long)) room

@@ -1,4 +1,4 @@
-use Rattle.std.proofs.Common.{◌≡◌, ◌∙◌, ◌%◌, ap, map}
+use Rattle.std.proofs.Common.{◌∙◌, ◌%◌, ap, map}
 use Rattle.std.specs.Prelude.{slice_set}
 use Rattle.x25_packet_judge.specs.code.Slots.{shown}
 use Rattle.x25_packet_judge.proofs.SlotLemmas.{put}

@@ -1,8 +1,9 @@
-use Rattle.std.proofs.Common.{◌≡◌, Bool, true, false, Option, Some, None, sym, subst, ap, ◌∙◌}
+use Rattle.std.proofs.Common.{◌≡◌, Bool, true, Option, Some, None, sym, subst, ap, ◌∙◌}
 use Rattle.x25_circuit.specs.declared.params.Params.{Params}
 use Rattle.x25_circuit.specs.Params.{Proposal, in_full}
 use Rattle.x25_circuit.specs.Calling.{Accepts}
 use Rattle.x25_layer.specs.Calls.{Asks}
+use Rattle.x25_station.specs.declared.config.Manner.{Manner}
 use Rattle.x25_station.specs.Command.{answer_in_brief, answer_said}
 use Rattle.x25_station.specs.Config.{layer_settings}
 use Rattle.x25_station.specs.Step.{requests}
@@ -14,7 +15,7 @@ returns-in-Some c = λ d s fits.
     let h = c.args.channel in
     subst (λ (o : Option Params). requests d s (Asks h (Accepts (answer_said d.say_sizes (s.layer.circuits h) (answer_in_brief o)))) ≡ requests d s (Asks h (Accepts (Some c.new.result)))) (sym c.in-Some.is)
     (ap (λ (p : Proposal). requests d s (Asks h (Accepts (Some p))))
-    (said_so c.args.self.now.say_sizes d.say_sizes c.in-Some.params fits.same ∙ made c.new.result c.in-Some.params c.args.self.now.say_sizes c.new.ensures.params c.new.ensures.says_all))
+    (said_so c.args.self.now.manner.say_sizes d.say_sizes c.in-Some.params (ap (λ (m : Manner). m.say_sizes) fits.same) ∙ made c.new.result c.in-Some.params c.args.self.now.manner.say_sizes c.new.ensures.params c.new.ensures.says_all))
 
 pub returns-in_default-params : goal.returns-in_default-params
 returns-in_default-params c = λ d s fits.
@@ -27,5 +28,5 @@ returns c = λ d s fits.
     let x = s.layer.circuits h in
     let proposed : x.params ≡ c.in-Some-params.proposed = there_is _ _ _ (sym (c.params.ensures (layer_settings d) s.layer fits.layer) ∙ c.in-Some-params.is) in
     ap (λ (o : Option Params). requests d s (Asks h (Accepts (answer_said d.say_sizes x (answer_in_brief o))))) (none_of c.args.params c.in_default.not-Some)
-    ∙ ap (λ (b : Bool). requests d s (Asks h (Accepts (answer_said b x None)))) (sym fits.same ∙ c.if-not-self.false)
+    ∙ ap (λ (b : Bool). requests d s (Asks h (Accepts (answer_said b x None)))) (sym (ap (λ (m : Manner). m.say_sizes) fits.same) ∙ c.if-not-self.false)
     ∙ ap (λ (p : Proposal). requests d s (Asks h (Accepts (Some p)))) (ap in_full proposed ∙ made c.new-2.result c.in-Some-params.proposed true c.new-2.ensures.params c.new-2.ensures.says_all)

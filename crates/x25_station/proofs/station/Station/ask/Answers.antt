@@ -1,4 +1,4 @@
-use Rattle.std.proofs.Common.{refl, arith, [], ◌∷◌, ◌++◌, ap, ◌∙◌, length, map, ◌≡◌}
+use Rattle.std.proofs.Common.{refl, arith, [], ◌∷◌, ◌++◌, ap, ◌∙◌, sym, length, map, ◌≡◌}
 use Rattle.x25_circuit.specs.Request.{plain_request}
 use Rattle.x25_layer.specs.Calls.{Asks}
 use Rattle.x25_layer.specs.laws.Transcript.{Asked, name_of}
@@ -9,11 +9,15 @@ use Rattle.x25_station.specs.code.PlainEntry.{plain_entry, plain_said}
 use Rattle.x25_station.specs.Config.{layer_settings}
 use Rattle.x25_station.specs.Step.{requests}
 use Rattle.x25_station.proofs.OutcomeLemmas.{leaves_some, still_meant}
-use Rattle.x25_station.proofs.AskLemmas.{answers, still_fits}
+use Rattle.x25_station.proofs.AskLemmas.{answers, still_fits, refuses_early}
 use Rattle.x25_station.proofs.DoesLemmas.{did_request, declines_request, hands_on}
 use Rattle.x25_station.proofs.TakeLemmas.{takes_longest}
 use Rattle.x25_station.proofs.EnteredLemmas.{asked_enters}
 use Rattle.x25_station.proofs.station.Station.ask.Goals as goal
+
+pub returns-in-Some : goal.returns-in-Some
+returns-in-Some c = declines_request (Unit {0}) c.in-Some.error _ c.args.self.now _ _ (Asks c.args.channel (plain_request c.args.request)) c.of_layer.ensures
+    (λ d k x fits link. refuses_early (Unit {0}) d c.args.self.now.layer c.in-Some.error _ (sym c.in-Some.is ∙ c.refusal.ensures d k x fits link)) (λ d k fits. fits) (λ x fits. fits) c.requires refl
 
 pub returns-in_err-make_room : goal.returns-in_err-make_room
 returns-in_err-make_room c = hands_on c.args.self.now _ _ c.from_residual.result c.in_err-make_room.field-0.0 _ c.from_residual.ensures.1 c.in_err-make_room.ensures.refused c.make_room.ensures.empty (λ c' s fits. fits)
@@ -68,4 +72,4 @@ returns-in-Ok c =
     (grind (arith, c.enter.ensures.length, ap length c.make_room.ensures.empty.entries, c.make_room.new.self.entries.ok)) refl
 
 pub returns-in-Err : goal.returns-in-Err
-returns-in-Err c = declines_request _ c.in-Err.error _ c.args.self.now _ _ (Asks c.args.channel (plain_request c.args.request)) c.of_layer.ensures c.in-Err.ensures.layer c.in-Err.ensures.layer_stays c.in-Err.ensures.link_stays c.make_room.ensures.empty refl
+returns-in-Err c = declines_request _ c.in-Err.error _ c.args.self.now _ _ (Asks c.args.channel (plain_request c.args.request)) c.of_layer-in-Err.ensures c.in-Err.ensures.layer c.in-Err.ensures.layer_stays c.in-Err.ensures.link_stays c.make_room.ensures.empty refl

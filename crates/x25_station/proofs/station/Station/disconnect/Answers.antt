@@ -38,7 +38,7 @@ invariant_of-self c = record {
 }
 
 pub invariant_of-self-in-Err-1 : goal.invariant_of-self-in-Err-1
-invariant_of-self-in-Err-1 c = record { meant = subst (λ l. AreMeant c.args.self.now.say_sizes l c.args.self.now.layer) (sym c.in-Err.ensures.err) c.args.self.now.meant; aside = subst (λ l. IsFewAside l c.args.self.now.layer c.args.self.now.texts) (sym c.in-Err.ensures.err) c.args.self.now.aside }
+invariant_of-self-in-Err-1 c = record { meant = subst (λ l. AreMeant c.args.self.now.manner l c.args.self.now.layer) (sym c.in-Err.ensures.err) c.args.self.now.meant; aside = subst (λ l. IsFewAside l c.args.self.now.layer c.args.self.now.texts) (sym c.in-Err.ensures.err) c.args.self.now.aside }
 
 pub returns-in-Ok : goal.returns-in-Ok
 returns-in-Ok c = record {
@@ -79,5 +79,5 @@ returns-in-Err c = declines c.args.self.now _ _ _ disconnects (λ c' s fits.
     let step : Step = led_by (disconnect_asked ∷ []) (follows c' s.layer (disconnect_step (link_settings c') s.link)) in
     refused Heard Unit c.in-Err.error _ (disconnect_refusal s.link.phase) step (disconnect_named s.link.phase) c.of_link.ensures
     (c.in-Err.ensures.refused (link_settings c') s.link fits.link))
-    (λ c' s fits. subst (λ l. FitsParts c' c.args.self.now.say_sizes l c.args.self.now.layer s) (sym c.in-Err.ensures.err) fits)
+    (λ c' s fits. subst (λ l. FitsParts c' c.args.self.now.manner l c.args.self.now.layer s) (sym c.in-Err.ensures.err) fits)
     (record { frames = c.requires.frames; entries = c.reserve.ensures.items ∙ c.requires.entries })

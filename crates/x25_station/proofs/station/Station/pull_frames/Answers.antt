@@ -42,7 +42,7 @@ returns-in-Ok-clause-pulls c = record {
 pub returns-in-Err-clause-pulls : goal.returns-in-Err-clause-pulls
 returns-in-Err-clause-pulls c =
     let r = c.unless_refused.result in
-    let still : (c' : Settings) (s : Station) → FitsStation c' c.args.self.now s → FitsParts c' c.args.self.now.say_sizes c.swap_frames-2.new.self c.pull-answer.new.self s = λ c' s fits.
+    let still : (c' : Settings) (s : Station) → FitsStation c' c.args.self.now s → FitsParts c' c.args.self.now.manner c.swap_frames-2.new.self c.pull-answer.new.self s = λ c' s fits.
     still_fits c' _ c.swap_frames.new.self _ s _ fits c.swap_frames.ensures.station c.pull-answer.new.link c.swap_frames-2.new.self _ (c.in-Err.ensures.layer_stays (layer_settings c') s.layer fits.layer) c.in-Err.ensures.link_stays c.swap_frames-2.ensures.station
     (ap (λ o. o.made) c.swap_frames-2.ensures.outbox ∙ c.swap_frames.ensures.frames ∙ fits.sent) in
     let same : map (λ frame. frame.items) c.swap_frames-2.new.frames.items ≡ map (λ frame. frame.items) c.args.frames.now.items =

@@ -5,6 +5,6 @@ use Rattle.x25_station.proofs.station.Station.reuse_frames.Goals as goal
 
 pub invariant_of-self : goal.invariant_of-self
 invariant_of-self c = record {
-  meant = subst (λ l. AreMeant c.args.self.now.say_sizes l c.args.self.now.layer) (sym c.take_frames_back.ensures.link) c.args.self.now.meant;
+  meant = subst (λ l. AreMeant c.args.self.now.manner l c.args.self.now.layer) (sym c.take_frames_back.ensures.link) c.args.self.now.meant;
   aside = subst (λ l. IsFewAside l c.args.self.now.layer c.args.self.now.texts) (sym c.take_frames_back.ensures.link) c.args.self.now.aside;
 }

@@ -34,7 +34,7 @@ invariant_of-self c = record {
 }
 
 pub invariant_of-self-in-Err-1 : goal.invariant_of-self-in-Err-1
-invariant_of-self-in-Err-1 c = record { meant = subst (λ l. AreMeant c.args.self.now.say_sizes l c.args.self.now.layer) (sym c.in-Err.ensures.err) c.args.self.now.meant; aside = subst (λ l. IsFewAside l c.args.self.now.layer c.args.self.now.texts) (sym c.in-Err.ensures.err) c.args.self.now.aside }
+invariant_of-self-in-Err-1 c = record { meant = subst (λ l. AreMeant c.args.self.now.manner l c.args.self.now.layer) (sym c.in-Err.ensures.err) c.args.self.now.meant; aside = subst (λ l. IsFewAside l c.args.self.now.layer c.args.self.now.texts) (sym c.in-Err.ensures.err) c.args.self.now.aside }
 
 pub returns-in-Ok-clause-does : goal.returns-in-Ok-clause-does
 returns-in-Ok-clause-does c =
@@ -63,7 +63,7 @@ pub returns-in-Err-clause-does : goal.returns-in-Err-clause-does
 returns-in-Err-clause-does c = declines c.args.self.now _ _ _ connects
     (λ c' s fits. refused Heard Unit c.in-Err.error _ (connect_refusal s.link.phase) (follows c' s.layer (connect_step (link_settings c') s.link)) (connect_named s.link.phase) c.of_link.ensures
     (c.in-Err.ensures.refused (link_settings c') s.link fits.link))
-    (λ c' s fits. subst (λ l. FitsParts c' c.args.self.now.say_sizes l c.args.self.now.layer s) (sym c.in-Err.ensures.err) fits) c.requires
+    (λ c' s fits. subst (λ l. FitsParts c' c.args.self.now.manner l c.args.self.now.layer s) (sym c.in-Err.ensures.err) fits) c.requires
 
 pub returns-in-Ok-clause-exactly : goal.returns-in-Ok-clause-exactly
 returns-in-Ok-clause-exactly c = λ c' s fits.

@@ -83,7 +83,7 @@ invariant_of-self c = record {
 }
 
 pub invariant_of-self-in-Err-1 : goal.invariant_of-self-in-Err-1
-invariant_of-self-in-Err-1 c = record { meant = subst (λ l. AreMeant c.set_aside.new.self.say_sizes l c.set_aside.new.self.layer) (sym c.in-Err.ensures.does.err) c.set_aside.new.self.meant; aside = subst (λ l. IsFewAside l c.set_aside.new.self.layer c.set_aside.new.self.texts) (sym c.in-Err.ensures.does.err) c.set_aside.new.self.aside }
+invariant_of-self-in-Err-1 c = record { meant = subst (λ l. AreMeant c.set_aside.new.self.manner l c.set_aside.new.self.layer) (sym c.in-Err.ensures.does.err) c.set_aside.new.self.meant; aside = subst (λ l. IsFewAside l c.set_aside.new.self.layer c.set_aside.new.self.texts) (sym c.in-Err.ensures.does.err) c.set_aside.new.self.aside }
 
 pub returns-in-Ok-clause-does : goal.returns-in-Ok-clause-does
 returns-in-Ok-clause-does c = record {
@@ -104,15 +104,15 @@ returns-in-Ok-clause-does c = record {
       let whole : FitsWhole c.take.new.self (kept_of lk k.side) = record { link = c.in-Ok.ensures.does.state lk s.link before.link; kept = c.in-Ok.ensures.does.frames lk s.link before.link ∙ ap (λ (made : List (List ℕ)). made ++ map (spelling_of c'.role) k.side.out) before.sent } in
       let link = c.follow.ensures.link c' s.layer k.side before.layer whole in
       c.swap_frames.ensures.frames
-      ∙ took_sends c' s c.args.octets.now (option_copied c.in-Ok.heard.packet) c.in-Ok.heard.notes _ (c.requires.goes_on c' s fits) (heard.packet, heard.notes) link.kept;
+      ∙ took_sends c' before.same s c.args.octets.now (option_copied c.in-Ok.heard.packet) c.in-Ok.heard.notes _ (c.requires.goes_on c' s fits) (heard.packet, heard.notes) link.kept;
   entries = λ c' s fits.
       let lk = link_settings c' in
       let k : LinkStep = take_step lk c.args.octets.now s.link in
       let before = c.in_ok-set_aside.ensures.fits c' s fits in
       let heard = c.in-Ok.ensures.does.heard lk s.link before.link in
       let whole : FitsWhole c.take.new.self (kept_of lk k.side) = record { link = c.in-Ok.ensures.does.state lk s.link before.link; kept = c.in-Ok.ensures.does.frames lk s.link before.link ∙ ap (λ (made : List (List ℕ)). made ++ map (spelling_of c'.role) k.side.out) before.sent } in
-      let noted = entries_noted c.in-Ok.heard.notes ++ entries_heard (layer_settings c') s.layer (option_copied c.in-Ok.heard.packet) c.in-Ok.heard.notes.down c.in-Ok.heard.notes.up in
-      took_enters c' s c.args.octets.now (option_copied c.in-Ok.heard.packet) c.in-Ok.heard.notes _ (c.requires.goes_on c' s fits) (heard.packet, heard.notes)
+      let noted = entries_noted c.in-Ok.heard.notes ++ entries_heard (layer_settings c') c.set_aside.new.self.manner.wide s.layer (option_copied c.in-Ok.heard.packet) c.in-Ok.heard.notes.down c.in-Ok.heard.notes.up in
+      took_enters c' before.same s c.args.octets.now (option_copied c.in-Ok.heard.packet) c.in-Ok.heard.notes _ (c.requires.goes_on c' s fits) (heard.packet, heard.notes)
       (c.follow.ensures.entries c' s.layer k.side before.layer whole ∙ ap (λ es. map plain_entry es ++ noted) c.set_aside.ensures.empty.entries);
   refused = λ c' s fits. tt;
   stays = λ c' s fits. tt;
@@ -123,7 +123,7 @@ returns-in-Ok-clause-does c = record {
       let k : LinkStep = take_step lk c.args.octets.now s.link in
       let before = c.in_ok-set_aside.ensures.fits c' s fits in
       let whole : FitsWhole c.take.new.self (kept_of lk k.side) = record { link = c.in-Ok.ensures.does.state lk s.link before.link; kept = c.in-Ok.ensures.does.frames lk s.link before.link ∙ ap (λ (made : List (List ℕ)). made ++ map (spelling_of c'.role) k.side.out) before.sent } in
-      let step = put_behind c' s k (option_copied c.in-Ok.heard.packet) c.in-Ok.heard.notes in
+      let step = put_behind c' c.set_aside.new.self.manner.wide s k (option_copied c.in-Ok.heard.packet) c.in-Ok.heard.notes in
       let link = c.follow.ensures.link c' s.layer k.side before.layer whole in
       let put = few_put lk step.put k.side (c.holds_few.ensures.window lk c.take.new.self k.side.near whole.link) (c.holds_few.ensures.stand lk c.take.new.self k.side.near whole.link).place_low in
       let own = c.holds_few.ensures.take lk c.args.octets.now s.link in

@@ -1,0 +1,108 @@
+-- Of a step of a station: how often it tells of LinkUp, and what a command hands down.
+use Rattle.std.proofs.Common.{◌≡◌, ◌∙◌, ℕ, suc, ◌+◌, ◌==◌, Bool, true, false, List, [], ◌∷◌, ◌++◌, Option, Some, None, ap, sym, subst, refl, arith}
+use Rattle.x25_circuit.specs.Calling as circuit
+use Rattle.x25_link.specs.declared.phase.Reason.{Reason}
+use Rattle.x25_link.specs.Station.{Side}
+use Rattle.x25_link.specs.Hearing.{Step as LinkStep}
+use Rattle.x25_link.specs.Link.{alone}
+use Rattle.x25_line.specs.laws.Sessions.{begun_by}
+use Rattle.x25_layer.specs.Layer.{LayerSettings, Layer, LayerNotice, LayerAnswer, on_channel, restarted, restart_done, layer_fault}
+use Rattle.x25_layer.specs.Calls as asked
+use Rattle.x25_layer.specs.Calls.{LayerRequest, LayerOutcome, Accepted, Declined, layer_outcome}
+use Rattle.x25_layer.specs.Rounds.{LinkView, Answered, Went, Refuses, calls}
+use Rattle.x25_layer.specs.laws.Transcript.{Entry}
+use Rattle.x25_layer.specs.laws.TwoLayers.{entries_asked}
+use Rattle.x25_station.specs.declared.error.StationError.{StationError}
+use Rattle.x25_station.specs.declared.error.StationError.TheVariants as error
+use Rattle.x25_station.specs.Config.{Settings, layer_settings, link_settings}
+use Rattle.x25_station.specs.Command as command
+use Rattle.x25_station.specs.Entry.{StationEntry, link_up, station_told, of_channels, station_asked, entries_noted}
+use Rattle.x25_station.specs.Station.{Station, view_of}
+use Rattle.x25_station.specs.Step.{Step, Outcome, Did, Refused, did, entries_of_outcome, entries_heard, layer_answer, follows, requests}
+use Rattle.x25_station.specs.laws.ReadLaw.{RequestsOctets}
+use Rattle.x25_world.specs.laws.Claims.{ups_in}
+
+pub ups_append : (xs ys : List StationEntry) → ups_in (xs ++ ys) ≡ ups_in xs + ups_in ys
+ups_append [] ys = (let none : 0 + ups_in ys ≡ ups_in ys = omega (arith) in sym none)
+ups_append (x ∷ xs) ys = by x (ups_append xs ys)
+  where
+    by : (x : StationEntry) → ups_in (xs ++ ys) ≡ ups_in xs + ups_in ys → ups_in (x ∷ (xs ++ ys)) ≡ ups_in (x ∷ xs) + ups_in ys
+    by link_up h = (let more : suc (ups_in xs) + ups_in ys ≡ suc (ups_in xs + ups_in ys) = omega (arith) in ap suc h ∙ sym more)
+    by entry h = h
+
+ups_told : (l : Layer) (ns : List LayerNotice) → ups_in (station_told l ns) ≡ 0
+ups_told l [] = refl
+ups_told l (on_channel h notice ∷ ns) = ups_told l ns
+ups_told l (restarted cause diagnostic ∷ ns) = ups_told l ns
+ups_told l (restart_done ∷ ns) = ups_told l ns
+ups_told l (layer_fault diagnostic ∷ ns) = ups_told l ns
+
+ups_channels : (es : List Entry) → ups_in (of_channels es) ≡ 0
+ups_channels [] = refl
+ups_channels (e ∷ es) = ups_channels es
+
+ups_asked : (c : LayerSettings) (l next : Layer) (request : LayerRequest) → ups_in (station_asked c l next request) ≡ 0
+ups_asked c l next (asked.Asks h request) = ups_channels (entries_asked c l next (asked.Asks h request))
+ups_asked c l next (asked.Dials called calling user proposal) = ups_channels (entries_asked c l next (asked.Dials called calling user proposal))
+ups_asked c l next asked.Restarts = refl
+ups_asked c l next asked.PullsAll = refl
+
+ups_outcome : (c : LayerSettings) (l : Layer) (request : LayerRequest) (o : LayerOutcome) → ups_in (entries_of_outcome c l request o) ≡ 0
+ups_outcome c l request (Accepted next packet) = ups_asked c l next request
+ups_outcome c l request (Declined e) = refl
+
+ups_heard : (c : LayerSettings) (l : Layer) (packet : Option (List ℕ)) (down : Option Reason) (up : Bool) → ups_in (entries_heard c l packet down up) ≡ 0
+ups_heard c l packet down true = refl
+ups_heard c l packet (Some reason) false = refl
+ups_heard c l (Some octets) None false = (let a : LayerAnswer = layer_answer c l octets in ups_told a.next a.notices)
+ups_heard c l None None false = refl
+
+-- as often as its link notes it
+ups_noted : (down : Option Reason) (up : Bool) (b : ℕ) → begun_by up b ≡ b + ups_in (entries_noted (record { down = down; up = up }))
+ups_noted None true b = omega (arith)
+ups_noted None false b = omega (arith)
+ups_noted (Some reason) true b = omega (arith)
+ups_noted (Some reason) false b = omega (arith)
+
+pub follows_ups : (c : Settings) (l : Layer) (k : LinkStep) (b : ℕ) → begun_by k.notes.up b ≡ b + ups_in (follows c l k).entries
+follows_ups c l k b =
+    let more = ups_append (entries_noted k.notes) (entries_heard (layer_settings c) l k.packet k.notes.down k.notes.up) in
+    let none = ups_heard (layer_settings c) l k.packet k.notes.down k.notes.up in
+    let noted = ups_noted k.notes.down k.notes.up b in
+    omega (arith, more, none, noted)
+
+-- ---- a command to the layer
+
+abbrev step_in : Step → Outcome → Step
+step_in k (Did step) = step
+step_in k (Refused e) = k
+
+pub refused_did : {A : Type 0} (e : StationError) (step : Step) → Refused e ≡ Did step → A
+refused_did e step is = absurd (subst (λ (o : Outcome). elim o as (λ _. Type 0) [ Did x ↦ ⊥ | Refused y ↦ Unit {0} ]) is tt)
+
+pub the_step : (step found : Step) → Did found ≡ Did step → found ≡ step
+the_step step found is = ap (step_in step) is
+
+did_entries : (c : Settings) (t : Side) (entries : List StationEntry) (a : Answered) (step : Step) → did c t entries a ≡ Did step → step.entries ≡ entries
+did_entries c t entries (Went s) step is = ap (λ (o : Outcome). (step_in step o).entries) (sym is)
+did_entries c t entries (Refuses e) step is = refused_did (error.Layer e) step is
+
+pub requests_ups : (c : Settings) (s : Station) (request : LayerRequest) (step : Step) → requests c s request ≡ Did step → ups_in step.entries ≡ 0
+requests_ups c s request step is =
+    let view : LinkView = view_of (link_settings c) s.link in
+    let o : LayerOutcome = layer_outcome (layer_settings c) (view.waits [] == 256) s.layer request in
+    ap ups_in (did_entries c (alone s.link) (entries_of_outcome (layer_settings c) s.layer request o) (calls view (layer_settings c) s.layer request) step is) ∙ ups_outcome (layer_settings c) s.layer request o
+
+-- what calls and acceptances say changes no octet of the user
+pub said_octets : (says : Bool) (l : Layer) (request : LayerRequest) → RequestsOctets request → RequestsOctets (command.said_by says l request)
+said_octets says l (asked.Asks h (circuit.Calls called calling user proposal)) octets = octets
+said_octets says l (asked.Asks h (circuit.Accepts answer)) octets = octets
+said_octets says l (asked.Asks h circuit.Clears) octets = octets
+said_octets says l (asked.Asks h (circuit.Sends q user)) octets = octets
+said_octets says l (asked.Asks h (circuit.Interrupts user)) octets = octets
+said_octets says l (asked.Asks h circuit.Resets) octets = octets
+said_octets says l (asked.Asks h circuit.SaysReady) octets = octets
+said_octets says l (asked.Asks h circuit.SaysNotReady) octets = octets
+said_octets says l (asked.Dials called calling user proposal) octets = octets
+said_octets says l asked.Restarts octets = octets
+said_octets says l asked.PullsAll octets = octets

@@ -1,0 +1,344 @@
+-- A program joined to any peer, and a station beside that peer: what the program reads is what the station does.
+use Rattle.std.proofs.Common.{◌≡◌, ◌∙◌, ℕ, zero, suc, ◌+◌, ◌==◌, ◌≤◌, ◌<◌, Bool, true, false, ◌&&◌, nat_le, if◌then◌else◌, List, [], ◌∷◌, ◌++◌, map, Option, Some, None, append_assoc, append-nil, ap, ap₂, sym, subst, refl, eq-eqb, arith}
+use Rattle.std.proofs.lemmas.Bool.{eqb-true, leb-true}
+use Rattle.x25_bits.specs.Role.{other}
+use Rattle.x25_bits.specs.declared.role.Role.{Role}
+use Rattle.x25_frame.specs.Frame.{PlainFrame}
+use Rattle.x25_frame.specs.Spelling.{spelling_of}
+use Rattle.x25_link.specs.declared.error.LinkError.{LinkError}
+use Rattle.x25_link.specs.Station.{is_up}
+use Rattle.x25_link.specs.Hearing.{Step as LinkStep}
+use Rattle.x25_link.specs.Link.{take_step, timer_refusal, timer_step, connect_refusal, connect_step, disconnect_refusal, disconnect_step, abandon_step}
+use Rattle.x25_line.specs.laws.Sessions.{Entry, Meeting, sent_in, begun_by}
+use Rattle.x25_layer.specs.Calls.{PullsAll}
+use Rattle.x25_script.specs.laws.ReadingLaw.{ReadsOctets}
+use Rattle.x25_io.specs.Lines.{IsOpen}
+use Rattle.x25_station.specs.declared.config.Cfg.{Cfg}
+use Rattle.x25_station.specs.declared.error.StationError.TheVariants as error
+use Rattle.x25_station.specs.Command as command
+use Rattle.x25_station.specs.Command.{Command, Requests, Connects, Disconnects}
+use Rattle.x25_station.specs.Entry.{StationEntry, connect_asked, disconnect_asked}
+use Rattle.x25_station.specs.Config.{Settings, settings_from, config_refusal, link_settings}
+use Rattle.x25_station.specs.Station.{Station, new_station}
+use Rattle.x25_station.specs.Step.{Step, Outcome, Did, Refused, unless, led_by, follows, abandons, commands, fires}
+use Rattle.x25_station.specs.laws.TimerLaw.{Event, Comes, Asks, Fires, outcome}
+use Rattle.x25_pipe.specs.Pipe.{Saying, pulled_behind, and_pulls, with_pulls, event_in, turn, piped}
+use Rattle.x25_world.specs.laws.Claims.{ups_in}
+use Rattle.x25_world.specs.laws.TapOctets.{AreOfFrame}
+use Rattle.x25_peer.specs.laws.BesideSessions as beside
+use Rattle.x25_peer.specs.laws.BesideSessions.{Own, BesideSessions, in_session, own_anew, stepped, followed, heard_here}
+use Rattle.x25_peer.specs.laws.BesideSessionClaims as over_sessions
+use Rattle.x25_joined.specs.laws.Joined.{written, written_more, station_of, entries_in, frames_in, IsNoFrame}
+use Rattle.x25_joined.specs.laws.BesidePeer.{Program, nothing_read, begun_in, seen, bare, sent_then, reads, met_by, IsInTime, IsElsewhere, Happens, Reads, Takes, Elsewhere, IsReached, at_start, goes_on}
+use Rattle.x25_joined.specs.laws.BesidePeerClaims.{entries_to, OfProgram}
+use Rattle.x25_joined.proofs.LineText.{AreWhole, none_whole, more_whole, one_more, said_more, first_said}
+use Rattle.x25_joined.proofs.FrameText.{frame_words, frame_text, frame_open, frame_comes}
+use Rattle.x25_joined.proofs.Turns.{entries-append, TurnIs, first_is, line_did, line_refused, line_none}
+use Rattle.x25_joined.proofs.AskedOctets.{AsksOctets, asks_octets}
+use Rattle.x25_joined.proofs.PeerEntries.{ups_append, follows_ups, refused_did, the_step, requests_ups, said_octets}
+
+-- ---- the entries of sessions
+
+below_same : (n s : ℕ) (x : Own) (own : ℕ → Own) → n < s → entries_to n (in_session s x own) ≡ entries_to n own
+below_same n s x own low = by n low
+  where
+    other_session : (i : ℕ) (b : Bool) → (i == s) ≡ b → i < s → (if b then x else own i).entries ≡ (own i).entries
+    other_session i true is low = absurd (never i (eqb-true i s is) low)
+      where
+        never : (i : ℕ) → i ≡ s → i < s → ⊥
+        never i e lt = omega (arith, e, lt)
+    other_session i false is low = refl
+
+    by : (n : ℕ) → n < s → entries_to n (in_session s x own) ≡ entries_to n own
+    by zero low = other_session 0 (0 == s) refl low
+    by (suc n) low = ap₂ (λ (xs ys : List StationEntry). xs ++ ys) (by n (omega (arith, low))) (other_session (suc n) (suc n == s) refl low)
+
+here_same : (s : ℕ) (x : Own) (own : ℕ → Own) → (in_session s x own s).entries ≡ x.entries
+here_same s x own = ap (λ (b : Bool). (if b then x else own s).entries) (eq-eqb s s refl)
+
+-- more in the session that stands
+more_here : (n : ℕ) (x : Own) (own : ℕ → Own) (es : List StationEntry) → x.entries ≡ (own n).entries ++ es → entries_to n (in_session n x own) ≡ entries_to n own ++ es
+more_here zero x own es is = here_same 0 x own ∙ is
+more_here (suc n) x own es is =
+    ap₂ (λ (xs ys : List StationEntry). xs ++ ys) (below_same n (suc n) x own (omega (arith))) (here_same (suc n) x own ∙ is) ∙ sym (append_assoc (entries_to n own) (own (suc n)).entries es)
+
+-- or in the next
+more_next : (n : ℕ) (x : Own) (own : ℕ → Own) (es : List StationEntry) → (own (suc n)).entries ≡ [] → x.entries ≡ (own (suc n)).entries ++ es → entries_to (suc n) (in_session (suc n) x own) ≡ entries_to n own ++ es
+more_next n x own es none is =
+    ap₂ (λ (xs ys : List StationEntry). xs ++ ys) (below_same n (suc n) x own (omega (arith))) (here_same (suc n) x own ∙ is ∙ ap (λ (l : List StationEntry). l ++ es) none)
+
+-- ---- what is kept of a station beside the peer
+
+-- it is reached, these are the entries of its sessions, and those that aren't begun have none
+record KeptWorld (c : Settings) (w : BesideSessions) (es : List StationEntry) : Type 0 where
+  reached : beside.IsReached c w
+  entries : entries_to w.begun w.own ≡ es
+  later : (n : ℕ) → w.begun < n → (w.own n).entries ≡ []
+
+-- the station steps, in the session that stands or as the next begins
+kept_steps : (c : Settings) (w : BesideSessions) (es : List StationEntry) (up : Bool) (left : List Entry) (met : List Meeting) (step : Step) → KeptWorld c w es → beside.IsReached c (stepped c w (begun_by up w.begun) left met step)
+    → KeptWorld c (stepped c w (begun_by up w.begun) left met step) (es ++ step.entries)
+kept_steps c w es up left met step k reached = record {
+  reached = reached;
+  entries = by up ∙ ap (λ (l : List StationEntry). l ++ step.entries) k.entries;
+  later = λ n over. later n (n == begun_by up w.begun) refl over;
+}
+  where
+    by : (up : Bool) → entries_to (begun_by up w.begun) (stepped c w (begun_by up w.begun) left met step).own ≡ entries_to w.begun w.own ++ step.entries
+    by true = more_next w.begun
+        (record { layer = if is_up step.near.link.phase then step.near.layer else (w.own (suc w.begun)).layer; entries = (w.own (suc w.begun)).entries ++ step.entries }) w.own step.entries
+        (k.later (suc w.begun) (omega (arith))) refl
+    by false = more_here w.begun (record { layer = if is_up step.near.link.phase then step.near.layer else (w.own w.begun).layer; entries = (w.own w.begun).entries ++ step.entries }) w.own step.entries refl
+
+    lower : (up : Bool) (b n : ℕ) → begun_by up b < n → b < n
+    lower true b n over = omega (arith, over)
+    lower false b n over = over
+
+    later : (n : ℕ) (b : Bool) → (n == begun_by up w.begun) ≡ b → begun_by up w.begun < n
+        → (if b then (record { layer = if is_up step.near.link.phase then step.near.layer else (w.own (begun_by up w.begun)).layer; entries = (w.own (begun_by up w.begun)).entries ++ step.entries }) else w.own n).entries ≡ []
+    later n true is over = absurd (never (eqb-true n (begun_by up w.begun) is))
+      where
+        never : n ≡ begun_by up w.begun → ⊥
+        never e = omega (arith, e, over)
+    later n false is over = k.later n (lower up w.begun n over)
+
+-- ---- of a program
+
+record Kept (c : Settings) (p : Program) : Type 0 where
+  own : ℕ → Own
+  whole : AreWhole p.read
+  world : KeptWorld c (seen c own p) (entries_in (written c p.read))
+
+sent_is : (session : ℕ) (role : Role) (fs : List PlainFrame) → sent_then session (map (spelling_of role) fs) ≡ sent_in session role fs
+sent_is session role [] = refl
+sent_is session role (f ∷ fs) = ap (λ (es : List Entry). record { session = session; octets = spelling_of role f } ∷ es) (sent_is session role fs)
+
+sent_more : (session : ℕ) (role : Role) (fs gs : List PlainFrame) → sent_in session role (fs ++ gs) ≡ sent_in session role fs ++ sent_in session role gs
+sent_more session role [] gs = refl
+sent_more session role (f ∷ fs) gs = ap (λ (es : List Entry). record { session = session; octets = spelling_of role f } ∷ es) (sent_more session role fs gs)
+
+module _ (c : Settings) (p : Program) (k : Kept c p) where
+  abbrev s : Station
+  s = station_of c p.read
+
+  abbrev b : ℕ
+  b = begun_in c p.read
+
+  abbrev w : BesideSessions
+  w = seen c k.own p
+
+  -- it has read a line more, and the station has come here
+  line_kept : (line : List ℕ) → IsOpen line → (left : List Entry) (met : List Meeting) (step : Step) (session : ℕ) (own : ℕ → Own) → TurnIs (turn c line s) step.near step.entries (map (spelling_of c.role) step.out) → session ≡ b + ups_in step.entries
+      → KeptWorld c (record { near = step.near; begun = session; own = own; peer = p.peer; theirs = p.theirs; out = p.out ++ sent_in session c.role step.out; back = left; met = met }) (entries_in (written c p.read) ++ step.entries)
+      → Kept c (reads c p (line ++ 10 ∷ []) left met)
+  line_kept line none left met step session own is ups kept =
+      let text : List ℕ = p.read ++ (line ++ 10 ∷ []) in
+      let more : List Saying = (turn c line (piped c p.read).next).sayings in
+      let all : written c text ≡ written c p.read ++ more = ap (λ t. t.sayings) (one_more c p.read line k.whole none) in
+      let near : station_of c text ≡ step.near = ap (λ t. t.next) (one_more c p.read line k.whole none) ∙ is.next in
+      let entries : entries_in (written c text) ≡ entries_in (written c p.read) ++ step.entries =
+      ap entries_in all ∙ entries-append (written c p.read) more ∙ ap (λ (es : List StationEntry). entries_in (written c p.read) ++ es) is.entries in
+      let begun : begun_in c text ≡ session = ap ups_in entries ∙ ups_append (entries_in (written c p.read)) step.entries ∙ sym ups in
+      let frames : frames_in (written_more c p.read (line ++ 10 ∷ [])) ≡ map (spelling_of c.role) step.out = ap frames_in (said_more c p.read line k.whole none) ∙ is.frames in
+      let sent : sent_then (begun_in c text) (frames_in (written_more c p.read (line ++ 10 ∷ []))) ≡ sent_in session c.role step.out =
+      ap₂ (λ (n : ℕ) (fs : List (List ℕ)). sent_then n fs) begun frames ∙ sent_is session c.role step.out in
+      record {
+        own = own;
+        whole = more_whole p.read line k.whole none;
+        world = subst (λ (es : List StationEntry). KeptWorld c (seen c own (reads c p (line ++ 10 ∷ []) left met)) es) (sym entries)
+            (subst (λ (x : Station). KeptWorld c (record { near = x; begun = begun_in c text; own = own; peer = p.peer; theirs = p.theirs; out = p.out ++ sent_then (begun_in c text) (frames_in (written_more c p.read (line ++ 10 ∷ []))); back = left; met = met })
+            (entries_in (written c p.read) ++ step.entries)) (sym near)
+            (subst (λ (n : ℕ). KeptWorld c (record { near = step.near; begun = n; own = own; peer = p.peer; theirs = p.theirs; out = p.out ++ sent_then (begun_in c text) (frames_in (written_more c p.read (line ++ 10 ∷ []))); back = left; met = met })
+            (entries_in (written c p.read) ++ step.entries)) (sym begun)
+            (subst (λ (es : List Entry). KeptWorld c (record { near = step.near; begun = session; own = own; peer = p.peer; theirs = p.theirs; out = p.out ++ es; back = left; met = met })
+            (entries_in (written c p.read) ++ step.entries)) (sym sent) kept)));
+      }
+
+  -- nothing happens
+  nothing_happens : (line : List ℕ) → IsOpen line → TurnIs (turn c line s) s [] [] → Kept c (reads c p (line ++ 10 ∷ []) p.back p.met)
+  nothing_happens line none is =
+      let still : Step = record { near = s; out = []; entries = [] } in
+      line_kept line none p.back p.met still b k.own is (omega (arith))
+      (subst (λ (es : List StationEntry). KeptWorld c (record { near = s; begun = b; own = k.own; peer = p.peer; theirs = p.theirs; out = p.out ++ []; back = p.back; met = p.met }) es) (sym (append-nil (entries_in (written c p.read))))
+      (subst (λ (os : List Entry). KeptWorld c (record { near = s; begun = b; own = k.own; peer = p.peer; theirs = p.theirs; out = os; back = p.back; met = p.met }) (entries_in (written c p.read))) (sym (append-nil p.out)) k.world))
+
+  -- a step, and then what is pulled
+  something_happens : (line : List ℕ) → IsOpen line → (up : Bool) (left : List Entry) (met : List Meeting) (step : Step)
+      → TurnIs (turn c line s) (and_pulls c step).near (and_pulls c step).entries (map (spelling_of c.role) (and_pulls c step).out) → begun_by up b ≡ b + ups_in step.entries
+      → beside.IsReached c (stepped c w (begun_by up b) left met step) → Kept c (reads c p (line ++ 10 ∷ []) left met)
+  something_happens line none up left met step is ups reached = by (commands c step.near (Requests PullsAll)) refl
+    where
+      kept : KeptWorld c (stepped c w (begun_by up b) left met step) (entries_in (written c p.read) ++ step.entries)
+      kept = kept_steps c w (entries_in (written c p.read)) up left met step k.world reached
+
+      turned : (o : Outcome) → commands c step.near (Requests PullsAll) ≡ o → TurnIs (turn c line s) (pulled_behind step o).near (pulled_behind step o).entries (map (spelling_of c.role) (pulled_behind step o).out)
+      turned o found = subst (λ (o : Outcome). TurnIs (turn c line s) (pulled_behind step o).near (pulled_behind step o).entries (map (spelling_of c.role) (pulled_behind step o).out)) found is
+
+      by : (o : Outcome) → commands c step.near (Requests PullsAll) ≡ o → Kept c (reads c p (line ++ 10 ∷ []) left met)
+      by (Refused e) found = line_kept line none left met step (begun_by up b) (stepped c w (begun_by up b) left met step).own (turned (Refused e) found) ups kept
+      by (Did more) found =
+          let v : BesideSessions = stepped c w (begun_by up b) left met step in
+          let u : BesideSessions = stepped c v v.begun v.back v.met more in
+          let both : Step = pulled_behind step (Did more) in
+          let again : KeptWorld c u ((entries_in (written c p.read) ++ step.entries) ++ more.entries) =
+          kept_steps c v (entries_in (written c p.read) ++ step.entries) false left met more kept (beside.goes_on v u kept.reached (beside.Asks PullsAll more tt found)) in
+          let quiet = requests_ups c step.near PullsAll more found in
+          let sum = ups_append step.entries more.entries in
+          let lines : (p.out ++ sent_in (begun_by up b) c.role step.out) ++ sent_in (begun_by up b) c.role more.out ≡ p.out ++ sent_in (begun_by up b) c.role both.out =
+          append_assoc p.out (sent_in (begun_by up b) c.role step.out) (sent_in (begun_by up b) c.role more.out) ∙ ap (λ (es : List Entry). p.out ++ es) (sym (sent_more (begun_by up b) c.role step.out more.out)) in
+          line_kept line none left met both (begun_by up b) u.own (turned (Did more) found) (omega (arith, ups, quiet, sum))
+          (subst (λ (es : List StationEntry). KeptWorld c (record { near = more.near; begun = begun_by up b; own = u.own; peer = p.peer; theirs = p.theirs; out = p.out ++ sent_in (begun_by up b) c.role both.out; back = left; met = met }) es)
+          (append_assoc (entries_in (written c p.read)) step.entries more.entries)
+          (subst (λ (os : List Entry). KeptWorld c (record { near = more.near; begun = begun_by up b; own = u.own; peer = p.peer; theirs = p.theirs; out = os; back = left; met = met }) ((entries_in (written c p.read) ++ step.entries) ++ more.entries))
+          lines again))
+
+  -- a step of the link, and then the layer
+  link_happens : (line : List ℕ) → IsOpen line → (event : Event) → event_in c.role line ≡ Some event → (asked : List StationEntry) → ups_in asked ≡ 0 → (left : List Entry) (met : List Meeting) (l : LinkStep)
+      → (let step = led_by asked (follows c s.layer l) in with_pulls c (outcome c s event) ≡ Did (and_pulls c step))
+      → beside.Happens c w (followed c w asked left met l) → Kept c (reads c p (line ++ 10 ∷ []) left met)
+  link_happens line none event asks asked quiet left met l is happens =
+      let step : Step = led_by asked (follows c s.layer l) in
+      let ups = follows_ups c s.layer l b in
+      let sum = ups_append asked (follows c s.layer l).entries in
+      something_happens line none l.notes.up left met step (line_did c s line event (and_pulls c step) asks is) (omega (arith, ups, sum, quiet))
+      (beside.goes_on w (followed c w asked left met l) k.world.reached happens)
+
+  -- ---- a line of the user
+
+  unless_did : (r : Option LinkError) (done step : Step) → unless r done ≡ Did step → (r ≡ None) × (done ≡ step)
+  unless_did None done step is = (refl, the_step step done is)
+  unless_did (Some e) done step is = refused_did (error.Link e) step is
+
+  commanded : (line : List ℕ) (asked : Command) (o : Outcome) → IsOpen line → event_in c.role line ≡ Some (Asks asked) → AsksOctets (Some (Asks asked)) → commands c s asked ≡ o → Kept c (reads c p (line ++ 10 ∷ []) p.back p.met)
+  commanded line asked (Refused e) none asks octets is = nothing_happens line none (line_refused c s line (Asks asked) e asks is)
+  commanded line (Requests request) (Did step) none asks octets is =
+      let said = command.said_by c.say_sizes s.layer request in
+      let ups = requests_ups c s said step is in
+      something_happens line none false p.back p.met step (line_did c s line (Asks (Requests request)) (and_pulls c step) asks (ap (with_pulls c) is)) (omega (arith, ups))
+      (beside.goes_on w (stepped c w b p.back p.met step) k.world.reached (beside.Asks said step (said_octets c.say_sizes s.layer request octets) is))
+  commanded line Connects (Did step) none asks octets is =
+      let l : LinkStep = connect_step (link_settings c) s.link in
+      let whole : Step = led_by (connect_asked ∷ []) (follows c s.layer l) in
+      let did = unless_did (connect_refusal s.link.phase) whole step is in
+      link_happens line none (Asks Connects) asks (connect_asked ∷ []) refl p.back p.met l (ap (with_pulls c) (is ∙ ap (λ (x : Step). Did x) (sym did.1))) (beside.Connects did.0)
+  commanded line Disconnects (Did step) none asks octets is =
+      let l : LinkStep = disconnect_step (link_settings c) s.link in
+      let whole : Step = led_by (disconnect_asked ∷ []) (follows c s.layer l) in
+      let did = unless_did (disconnect_refusal s.link.phase) whole step is in
+      link_happens line none (Asks Disconnects) asks (disconnect_asked ∷ []) refl p.back p.met l (ap (with_pulls c) (is ∙ ap (λ (x : Step). Did x) (sym did.1))) (beside.Disconnects did.0)
+
+  fired : (line : List ℕ) (o : Outcome) → IsOpen line → event_in c.role line ≡ Some Fires → IsInTime c p (Some Fires) → fires c s ≡ o → Kept c (reads c p (line ++ 10 ∷ []) p.back p.met)
+  fired line (Refused e) none asks due is = nothing_happens line none (line_refused c s line Fires e asks is)
+  fired line (Did step) none asks due is =
+      let l : LinkStep = timer_step (link_settings c) s.link in
+      let did = unless_did (timer_refusal s.link) (follows c s.layer l) step is in
+      link_happens line none Fires asks [] refl p.back p.met l (ap (with_pulls c) (is ∙ ap (λ (x : Step). Did x) (sym did.1))) (beside.Fires did.0 due)
+
+  asked_kept : (line : List ℕ) (event : Option Event) → IsOpen line → event_in c.role line ≡ event → IsNoFrame event → IsInTime c p event → AsksOctets event → Kept c (reads c p (line ++ 10 ∷ []) p.back p.met)
+  asked_kept line None none asks no_frame due octets = nothing_happens line none (line_none c s line asks)
+  asked_kept line (Some (Comes x)) none asks no_frame due octets = absurd no_frame
+  asked_kept line (Some (Asks asked)) none asks no_frame due octets = commanded line asked (commands c s asked) none asks octets refl
+  asked_kept line (Some Fires) none asks no_frame due octets = fired line (fires c s) none asks due refl
+
+  -- ---- a frame comes
+
+  comes_kept : (e : Entry) (rest : List Entry) → p.back ≡ e ∷ rest → AreOfFrame e.octets → Kept c (reads c p (frame_words (other c.role) e.octets ++ 10 ∷ []) rest (met_by c p e))
+  comes_kept e rest front fits = by (abandons c s) refl
+    where
+      goes_by : (full : Bool) → abandons c s ≡ full → with_pulls c (outcome c s (Comes e.octets)) ≡ Did (and_pulls c (led_by [] (follows c s.layer (if full then abandon_step (link_settings c) s.link else take_step (link_settings c) e.octets s.link))))
+      goes_by full is = ap (λ (x : Bool). Did (and_pulls c (follows c s.layer (if x then abandon_step (link_settings c) s.link else take_step (link_settings c) e.octets s.link)))) is
+
+      by : (full : Bool) → abandons c s ≡ full → Kept c (reads c p (frame_words (other c.role) e.octets ++ 10 ∷ []) rest (met_by c p e))
+      by true full =
+          subst (λ (x : Bool). Kept c (reads c p (frame_words (other c.role) e.octets ++ 10 ∷ []) rest (if x then p.met else heard_here c (bare c p) e))) (sym full)
+          (link_happens (frame_words (other c.role) e.octets) (frame_open (other c.role) e.octets) (Comes e.octets) (frame_comes c.role e.octets fits) [] refl rest p.met (abandon_step (link_settings c) s.link) (goes_by true full) (beside.Abandons e rest front full))
+      by false free =
+          subst (λ (x : Bool). Kept c (reads c p (frame_words (other c.role) e.octets ++ 10 ∷ []) rest (if x then p.met else heard_here c (bare c p) e))) (sym free)
+          (link_happens (frame_words (other c.role) e.octets) (frame_open (other c.role) e.octets) (Comes e.octets) (frame_comes c.role e.octets fits) [] refl rest (heard_here c w e) (take_step (link_settings c) e.octets s.link) (goes_by false free) (beside.Receives e rest front free))
+
+  -- ---- the peer and the line
+
+  -- where the world goes on to this one, with the same station
+  passes : (v : BesideSessions) → beside.Happens c w v → v.near ≡ s → v.begun ≡ b → v.own ≡ k.own → Kept c (record p { peer = v.peer; theirs = v.theirs; out = v.out; back = v.back; met = v.met })
+  passes v h near begun own = record {
+    own = k.own;
+    whole = k.whole;
+    world = record {
+      reached = subst (λ (o : ℕ → Own). beside.IsReached c (record v { near = s; begun = b; own = o })) own
+          (subst (λ (n : ℕ). beside.IsReached c (record v { near = s; begun = n })) begun
+          (subst (λ (x : Station). beside.IsReached c (record v { near = x })) near (beside.goes_on w v k.world.reached h)));
+      entries = k.world.entries;
+      later = k.world.later;
+    };
+  }
+
+  elsewhere : (v : BesideSessions) (h : beside.Happens c (bare c p) v) → IsElsewhere h → Kept c (record p { peer = v.peer; theirs = v.theirs; out = v.out; back = v.back; met = v.met })
+  elsewhere v (beside.Asks request step octets is) there = absurd there
+  elsewhere v (beside.Connects none) there = absurd there
+  elsewhere v (beside.Disconnects none) there = absurd there
+  elsewhere v (beside.Fires none due) there = absurd there
+  elsewhere v (beside.Receives e rest front free) there = absurd there
+  elsewhere v (beside.Abandons e rest front full) there = absurd there
+  elsewhere v (beside.Loses place) there = passes (record w { back = v.back }) (beside.Loses place) refl refl refl
+  elsewhere v (beside.Damages place octets visible) there = passes (record w { back = v.back }) (beside.Damages place octets visible) refl refl refl
+  elsewhere v (beside.LosesThere place) there = passes (record w { out = v.out }) (beside.LosesThere place) refl refl refl
+  elsewhere v (beside.DamagesThere place octets visible) there = passes (record w { out = v.out }) (beside.DamagesThere place octets visible) refl refl refl
+  elsewhere v beside.Leaves there = passes (record w { peer = v.peer }) beside.Leaves refl refl refl
+  elsewhere v (beside.Sends octets q may) there = passes (record w { peer = v.peer; back = v.back }) (beside.Sends octets q may) refl refl refl
+  elsewhere v (beside.Hears e rest q front may) there = passes (record w { peer = v.peer; out = v.out; met = v.met }) (beside.Hears e rest q front may) refl refl refl
+  elsewhere v (beside.AnswersByUa e rest octets f q front is may) there = passes (record w { peer = v.peer; out = v.out; back = v.back }) (beside.AnswersByUa e rest octets f q front is may) refl refl refl
+  elsewhere v (beside.LayerDoes deed packet octets stand may is configured reads) there =
+      passes (record w { theirs = v.theirs; peer = v.peer }) (beside.LayerDoes deed packet octets stand may is configured reads) refl refl refl
+  elsewhere v (beside.LayerHears octets packet packets all stand at reads answered read_all) there =
+      passes (record w { theirs = v.theirs; peer = v.peer }) (beside.LayerHears octets packet packets all stand at reads answered read_all) refl refl refl
+
+-- ---- all that happens
+
+module _ (octets : ReadsOctets) (c : Settings) where
+  step_kept : (p q : Program) → Kept c p → Happens c p q → Kept c q
+  step_kept p q k (Reads line may) = asked_kept c p k line (event_in c.role line) may.is_line refl may.is_no_frame may.in_time (asks_octets octets c.role line)
+  step_kept p q k (Takes e rest front fits) =
+      subst (λ (text : List ℕ). Kept c (reads c p text rest (met_by c p e))) (sym (frame_text (other c.role) e.octets)) (comes_kept c p k e rest front fits)
+  step_kept p q k (Elsewhere v h there) = elsewhere c p k v h there
+
+  kept_first : Kept c nothing_read
+  kept_first =
+      let first = first_is c new_station in
+      let near : station_of c [] ≡ new_station = ap (λ t. t.next) (first_said c) ∙ first.next in
+      let none : entries_in (written c []) ≡ [] = ap (λ t. entries_in t.sayings) (first_said c) ∙ first.entries in
+      record {
+        own = λ n. own_anew c;
+        whole = none_whole;
+        world = subst (λ (es : List StationEntry). KeptWorld c (record { near = station_of c []; begun = ups_in es; own = λ n. own_anew c; peer = nothing_read.peer; theirs = nothing_read.theirs; out = []; back = []; met = [] }) es) (sym none)
+            (subst (λ (x : Station). KeptWorld c (record { near = x; begun = 0; own = λ n. own_anew c; peer = nothing_read.peer; theirs = nothing_read.theirs; out = []; back = []; met = [] }) []) (sym near)
+            (record { reached = beside.at_start; entries = refl; later = λ n over. refl }));
+      }
+
+  along : (p : Program) → IsReached c p → Kept c p
+  along p at_start = kept_first
+  along p (goes_on o q h e) = step_kept o q (along o h) e
+
+-- ---- the claims
+
+record InRange (k channels : ℕ) : Type 0 where
+  low : 1 ≤ k
+  high : k ≤ 7
+  few : channels ≤ 16
+
+in_range : (cfg : Cfg) → config_refusal cfg ≡ None → InRange cfg.k cfg.channels
+in_range cfg fine = by (nat_le 1 cfg.k) (nat_le cfg.k 7) (nat_le 1 cfg.n2) (nat_le 1 cfg.channels) (nat_le cfg.channels 16) refl refl refl fine
+  where
+    by : (a b d e f : Bool) → nat_le 1 cfg.k ≡ a → nat_le cfg.k 7 ≡ b → nat_le cfg.channels 16 ≡ f → (if a && (b && (d && (e && f))) then None else Some error.BadConfig) ≡ None → InRange cfg.k cfg.channels
+    by true true true true true low high few is = record { low = leb-true 1 cfg.k low; high = leb-true cfg.k 7 high; few = leb-true cfg.channels 16 few }
+    by true true true true false low high few is = absurd (cc)
+    by true true true false f low high few is = absurd (cc)
+    by true true false e f low high few is = absurd (cc)
+    by true false d e f low high few is = absurd (cc)
+    by false b d e f low high few is = absurd (cc)
+
+pub of_program : (Holds : BesideSessions → Type 0) → ReadsOctets → over_sessions.WithAnyPeer Holds → OfProgram Holds
+of_program Holds octets law end cfg fine p reached =
+    let c : Settings = settings_from end cfg in
+    let k = along octets c p reached in
+    let r = in_range cfg fine in
+    (k.own, record { reached = k.world.reached; entries = k.world.entries }, law c r.low r.high r.few (seen c k.own p) k.world.reached)

@@ -1,0 +1,38 @@
+use Rattle.x25_peer.proofs.sessions.Standing.{Below}
+use Rattle.x25_peer.proofs.sessions.BesideSessionRuns.{meet_in_step, met_in_order, unmet_are_told_nothing, each_meets_latest, up_is_latest, finds_no_error}
+use Rattle.x25_peer.proofs.law.any_peer_keeps_stations_over_sessions.Goals as goal
+
+known : goal.After-notes_what_changes → Below
+known c = record {
+  step = c.any_peer_keeps_sessions.ensures.step;
+  order = c.any_peer_keeps_sessions.ensures.order;
+  unmet = c.any_peer_keeps_sessions.ensures.unmet;
+  agree = c.any_peer_keeps_sessions.ensures.agree;
+  readable = c.puts_beside_peers_are_readable.ensures;
+  request = c.steps_are_joined.ensures.request;
+  receive = c.steps_are_joined.ensures.receive;
+  still = c.steps_are_joined.ensures.quiet;
+  down = c.steps_are_joined.ensures.down;
+  up = c.steps_are_joined.ensures.up;
+  timer = c.steps_keep_bounds.ensures.timer;
+  ask = c.steps_keep_bounds.ensures.request;
+  command = c.steps_keep_bounds.ensures.command;
+  takes = c.steps_keep_bounds.ensures.receive;
+  take_tells = c.notes_what_changes.ensures.take;
+  take_hands_up = c.notes_what_changes.ensures.take_hands_up;
+  timer_tells = c.notes_what_changes.ensures.timer;
+  put_tells = c.notes_what_changes.ensures.put;
+  connect_tells = c.notes_what_changes.ensures.connect;
+  disconnect_tells = c.notes_what_changes.ensures.disconnect;
+  abandon_tells = c.notes_what_changes.ensures.abandon;
+}
+
+pub returns : goal.returns
+returns c = record {
+  step = meet_in_step (known c);
+  order = met_in_order (known c) c.any_peer_keeps_transcripts.ensures.order;
+  unmet = unmet_are_told_nothing (known c);
+  agree = each_meets_latest (known c);
+  latest = up_is_latest (known c);
+  quiet = finds_no_error (known c) c.any_peer_keeps_transcripts.ensures.quiet;
+}

@@ -1,0 +1,133 @@
+-- All that happens to a station and a peer over sessions, and what holds of it.
+use Rattle.std.proofs.Common.{◌≡◌, inl, inr, ℕ, ◌≤◌, List, [], length, refl, sym, ap, subst, ◌∙◌, arith}
+use Rattle.x25_line.specs.laws.Sessions.{Meeting}
+use Rattle.x25_sessions.specs.laws.PeerSessions.{PeerSessions, at_start}
+use Rattle.x25_handshakes.specs.laws.Handshake.{At}
+use Rattle.x25_handshakes.specs.laws.PeerLayer.{PeerChannels}
+use Rattle.x25_layer.specs.Layer.{Layer, goes_up}
+use Rattle.x25_layer.specs.laws.Transcript.{Entry, name_of}
+use Rattle.x25_layer.specs.laws.Quiet.{AreNoFaults}
+use Rattle.x25_layer.specs.laws.TwoLayers.{End, started}
+use Rattle.x25_layer.specs.laws.PeerJoined as layer_peer
+use Rattle.x25_layer.specs.laws.PeerClaims as layer_claims
+use Rattle.x25_layer.specs.laws.PeerClaims.{peer_call, peer_stretch, peer_name, of_call, StretchIsInOrder, CallIsInOrder}
+use Rattle.x25_station.specs.Config.{Settings, link_settings, layer_settings}
+use Rattle.x25_station.specs.Entry.{layer_entries}
+use Rattle.x25_station.specs.laws.ReadLaw.{IsReachedByOctets}
+use Rattle.x25_station.specs.laws.ReadLaw as reached
+use Rattle.x25_peer.specs.laws.BesideSessions.{Own, Theirs, BesideSessions, start, Happens, Asks, Connects, Disconnects, Fires, Receives, Abandons, Loses, Damages, LosesThere, DamagesThere, Leaves, Sends, Hears, AnswersByUa, LayerDoes, LayerHears, IsReached}
+use Rattle.x25_peer.specs.laws.BesideSessions as beside
+use Rattle.x25_peer.specs.laws.BesideSessionClaims.{WithAnyPeer, MeetInStep, IsInOrder, MetAreInOrder, UnmetAreToldNothing, EachMeetsLatest, UpIsLatest, FindsNoError}
+use Rattle.x25_peer.proofs.LinkPart.{spelled}
+use Rattle.x25_peer.proofs.sessions.Meetings.{CanMeet, all_map, met_can_meet, could_meet_some}
+use Rattle.x25_peer.proofs.sessions.SessionLinks.{links_with}
+use Rattle.x25_peer.proofs.sessions.Standing.{Below, Known, Stands}
+use Rattle.x25_peer.proofs.sessions.StationActs.{asks, connects, disconnects, fires, abandons_it, comes}
+use Rattle.x25_peer.proofs.sessions.PeerActs.{loses, damages, loses_there, damages_there, leaves, sends, hears_it, answers, layer_does, layer_hears}
+
+forget : (c : Settings) (w : layer_peer.Joined) → IsReachedByOctets c.role c.long_data c.channels w → layer_peer.IsReached c.role c.long_data c.channels w
+forget c w reached.at_start = layer_peer.at_start
+forget c w (reached.goes_on u v h e octets) = layer_peer.goes_on u v (forget c u h) e
+
+-- what is known of the layers alone, by the names of the station's session
+in_order_as : (k : ℕ) (own : Own) (e : End) (y : At PeerChannels) → e.layer ≡ own.layer → e.entries ≡ layer_entries own.entries
+    → (of_call (name_of e.layer k) ≡ of_call (peer_name y k) → CallIsInOrder k (name_of e.layer k) e.entries (peer_call y k))
+    → (name_of e.layer k ≡ peer_name y k → StretchIsInOrder k (name_of e.layer k) e.entries (e.layer.circuits k) (peer_stretch y k)) → IsInOrder k own y
+in_order_as k own e y layer entries calls stretch = record {
+  calls = subst (λ (es : List Entry). of_call (name_of own.layer k) ≡ of_call (peer_name y k) → CallIsInOrder k (name_of own.layer k) es (peer_call y k)) entries
+      (subst (λ (l : Layer). of_call (name_of l k) ≡ of_call (peer_name y k) → CallIsInOrder k (name_of l k) e.entries (peer_call y k)) layer calls);
+  stretch = subst (λ (es : List Entry). name_of own.layer k ≡ peer_name y k → StretchIsInOrder k (name_of own.layer k) es (own.layer.circuits k) (peer_stretch y k)) entries
+      (subst (λ (l : Layer). name_of l k ≡ peer_name y k → StretchIsInOrder k (name_of l k) e.entries (l.circuits k) (peer_stretch y k)) layer stretch);
+}
+
+module _ (below : Below) (c : Settings) (low : 1 ≤ c.window) (high : c.window ≤ 7) (few : c.channels ≤ 16) where
+  step_on : (w v : BesideSessions) → Stands c w → Happens c w v → Stands c v
+  step_on w v h (Asks request step octets is) = asks below c low high few w h request step octets is
+  step_on w v h (Connects none) = connects below c low high few w h none
+  step_on w v h (Disconnects none) = disconnects below c low high few w h none
+  step_on w v h (Fires none due) = fires below c low high few w h none due
+  step_on w v h (Receives e rest front not_full) = comes below c low high few w h e rest front not_full
+  step_on w v h (Abandons e rest front full) = abandons_it below c low high few w h e rest front full
+  step_on w v h (Loses place) = loses below c low high few w h place
+  step_on w v h (Damages place octets visible) = damages below c low high few w h place octets visible
+  step_on w v h (LosesThere place) = loses_there below c low high few w h place
+  step_on w v h (DamagesThere place octets visible) = damages_there below c low high few w h place octets visible
+  step_on w v h Leaves = leaves below c low high few w h
+  step_on w v h (Sends octets q may) = sends below c low high few w h octets q may
+  step_on w v h (Hears e rest q front may) = hears_it below c low high few w h e rest q front may
+  step_on w v h (AnswersByUa e rest octets f q front is may) = answers below c low high few w h e rest octets f q front is may
+  step_on w v h (LayerDoes deed p octets stand may is configured reads) = layer_does below c low high few w h deed p octets stand may is configured reads
+  step_on w v h (LayerHears octets p packets all stand at reads answered read_all) = layer_hears below c low high few w h octets p packets all stand at reads answered read_all
+
+  -- ---- the beginning
+
+  abbrev first : Known
+  first = record { end = started (goes_up (layer_settings c)); down = []; up = [] }
+
+  stands_first : Stands c (start c)
+  stands_first = record {
+    known = λ n. first;
+    puts = λ m. [];
+    link = record { downs = λ n. []; ups = λ n. []; reached = at_start; is_down = λ n. refl; is_up = λ n. refl };
+    now = λ up. absurd (cc);
+    each = λ n. record { layer = refl; out = refl; entries = refl; told = refl; begins = (spelled first.end.given, refl); alone = λ _. refl };
+    later = λ n over. record { end = refl; down = refl; up = refl };
+    peers = λ m. record { reads = tt; heard = omega (arith) };
+    anew = λ m over. (refl, refl);
+    pairs = λ n m can. reached.at_start;
+    kept = record { few = omega (arith); rests = λ off. refl };
+  }
+
+  pub along : (w : BesideSessions) → IsReached c w → Stands c w
+  along w beside.at_start = stands_first
+  along w (beside.goes_on u v h e) = step_on u v (along u h) e
+
+  abbrev linked : (w : BesideSessions) → Stands c w → PeerSessions
+  linked w h = links_with w.near.link w.begun h.link.downs h.link.ups w.peer w.out w.back w.met
+
+  in_step : (w : BesideSessions) (h : Stands c w) → MeetInStep w
+  in_step w h = below.step (link_settings c) low high (linked w h) h.link.reached
+
+pub meet_in_step : Below → WithAnyPeer MeetInStep
+meet_in_step below c low high few w r = in_step below c low high few w (along below c low high few w r)
+
+pub met_in_order : Below → layer_claims.WithAnyPeer layer_claims.IsAllInOrder → WithAnyPeer MetAreInOrder
+met_in_order below law c low high few w r =
+    let h = along below c low high few w r in
+    all_map (λ (p : Meeting). CanMeet p.near p.far w.met) (λ (p : Meeting). (k : ℕ) → IsInOrder k (w.own p.near) (w.theirs p.far).layer)
+    (λ (p : Meeting) can k. (
+    let is = h.each p.near in
+    let x = law c.role c.long_data c.channels _ (forget c _ (h.pairs p.near p.far can)) k in
+    in_order_as k (w.own p.near) (h.known p.near).end (w.theirs p.far).layer is.layer is.entries x.calls x.stretch))
+    w.met (met_can_meet w.met (in_step below c low high few w h))
+
+pub unmet_are_told_nothing : Below → WithAnyPeer UnmetAreToldNothing
+unmet_are_told_nothing below c low high few w r =
+    let h = along below c low high few w r in
+    let unmet = below.unmet (link_settings c) low high (linked below c low high few w h) h.link.reached in
+    record {
+      near = λ n. elim (unmet.near n) [ inl none ↦ inl (sym (h.each n).told ∙ (h.each n).alone (sym (h.link.is_up n) ∙ none)) | inr some ↦ inr some ];
+      peer = λ m. elim (unmet.far m) [
+        | inl none ↦ inl (let some : (w.theirs m).heard ≤ length (w.peer.of_session m).taken = (h.peers m).heard in
+            let long : length (w.peer.of_session m).taken ≡ 0 = ap length none in
+            omega (arith, some, long))
+        | inr some ↦ inr some
+      ];
+    }
+
+pub each_meets_latest : Below → WithAnyPeer EachMeetsLatest
+each_meets_latest below c low high few w r =
+    let h = along below c low high few w r in
+    let agree = below.agree (link_settings c) low high (linked below c low high few w h) h.link.reached in
+    record { near = agree.near; peer = agree.peer }
+
+pub up_is_latest : Below → WithAnyPeer UpIsLatest
+up_is_latest below c low high few w r up =
+    let h = along below c low high few w r in
+    sym (h.each w.begun).layer ∙ (h.now up).layer
+
+pub finds_no_error : Below → layer_claims.WithAnyPeer layer_claims.FindsNoError → WithAnyPeer FindsNoError
+finds_no_error below law c low high few w r n =
+    let h = along below c low high few w r in
+    let some = could_meet_some n w.met (in_step below c low high few w h) in
+    subst AreNoFaults (h.each n).told (law c.role c.long_data c.channels _ (forget c _ (h.pairs n some.0 some.1))).told

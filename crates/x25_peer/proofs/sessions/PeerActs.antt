@@ -1,0 +1,315 @@
+-- What happens on the line and at the peer, beside a station over sessions.
+use Rattle.std.proofs.Common.{◌≡◌, ℕ, suc, ◌+◌, ◌==◌, ◌≤◌, ◌<◌, List, [], ◌∷◌, ◌++◌, length, drop, Bool, true, false, if◌then◌else◌, Some, Ok, Result, refl, sym, ap, subst, ◌∙◌, append_assoc, append-nil, eq-eqb, arith}
+use Rattle.std.proofs.lemmas.Bool.{eqb-true}
+use Rattle.std.proofs.lemmas.List.{drop-append-le}
+use Rattle.std.specs.Prelude.{remove, slice_get}
+use Rattle.x25_frame.specs.Frame.{PlainFrame, ua}
+use Rattle.x25_frame.specs.Reading.{frame_of}
+use Rattle.x25_frame.specs.declared.error.FrameError.{FrameError}
+use Rattle.x25_packet.specs.Packet.{PlainPacket}
+use Rattle.x25_packet.specs.Spelling.{longest_user}
+use Rattle.x25_packet.specs.Reading.{packet_of}
+use Rattle.x25_link.specs.Station.{Settings as LinkSettings, LinkStation}
+use Rattle.x25_link.specs.Hearing.{other}
+use Rattle.x25_line.specs.laws.Stations as line
+use Rattle.x25_line.specs.laws.Stations.{is_visible}
+use Rattle.x25_line.specs.laws.StationClaims.{number_in}
+use Rattle.x25_line.specs.laws.Sessions.{Entry, Meeting, Sessions, acts, replaced}
+use Rattle.x25_line.specs.laws.Peer.{Peer, fresh_peer}
+use Rattle.x25_sessions.specs.laws.PeerSessions.{PeerEnd, PeerSessions, Out, Asking, In, is_in, now, with_now, put_for, begins, stands, entry, heard_by, MaySend, numbered, asks, closes, free, MayHear, passes_over, hears, takes_ua, MayAnswer, takes_sabm, waits_on, takes_disc, IsPatient, IsReached, goes_on, Ours, HandsDown, both_ends, with_peer}
+use Rattle.x25_sessions.specs.laws.PeerSessions as peers
+use Rattle.x25_handshakes.specs.laws.Handshake.{At}
+use Rattle.x25_handshakes.specs.laws.PeerLayer.{PeerChannels, LayerDeed, MayDoLayer, does_layer, layer_packet_of, layer_taking}
+use Rattle.x25_handshakes.specs.laws.PeerLayers.{other_role}
+use Rattle.x25_layer.specs.laws.Bare.{bare_layer}
+use Rattle.x25_layer.specs.laws.PeerJoined as layer_peer
+use Rattle.x25_layer.specs.laws.PeerJoined.{Joined, IsConfigured, Answers}
+use Rattle.x25_station.specs.Config.{Settings, link_settings, longest_packet}
+use Rattle.x25_station.specs.laws.ReadLaw.{AreReadable, IsReachedByOctets}
+use Rattle.x25_station.specs.laws.ReadLaw as reached
+use Rattle.x25_peer.specs.laws.Beside.{ReadAs}
+use Rattle.x25_peer.specs.laws.BesideSessions.{Theirs, BesideSessions, in_session, links_of, handed_down, their_layer, layer_went}
+use Rattle.x25_peer.proofs.BesideRuns.{read_append, taken_next, sent_same, heard_same}
+use Rattle.x25_peer.proofs.sessions.Meetings.{CanMeet, could_meet}
+use Rattle.x25_peer.proofs.sessions.SessionLinks.{links_with, LinkReached}
+use Rattle.x25_peer.proofs.sessions.Standing.{Below, in_other, both_cases, PairReached, IsRead, AreAnew, downs_of, ups_of, Stands, taken_begins, up_few, place_within}
+
+-- ---- the peer's link goes on
+
+-- to one that was handed down no more, and took no fewer, in each session
+pub record GoesTo (p q : PeerEnd) : Type 0 where
+  pub given : (m : ℕ) → (q.of_session m).given ≡ (p.of_session m).given
+  pub taken : (m : ℕ) → length (p.of_session m).taken ≤ length (q.of_session m).taken
+  pub anew : AreAnew q
+
+stays_peer : (p : PeerEnd) → AreAnew p → GoesTo p p
+stays_peer p anew = record { given = λ m. refl; taken = λ m. omega (arith); anew = anew }
+
+now_given : (p : PeerEnd) (x : Peer) → x.given ≡ (now p).given → (m : ℕ) → ((with_now x p).of_session m).given ≡ (p.of_session m).given
+now_given p x same m = by (m == p.begun) refl
+  where
+    by : (b : Bool) → (m == p.begun) ≡ b → (if b then x else p.of_session m).given ≡ (p.of_session m).given
+    by true is = same ∙ ap (λ (i : ℕ). (p.of_session i).given) (sym (eqb-true m p.begun is))
+    by false is = refl
+
+now_taken : (p : PeerEnd) (x : Peer) → length (now p).taken ≤ length x.taken → (m : ℕ) → length (p.of_session m).taken ≤ length ((with_now x p).of_session m).taken
+now_taken p x more m = by (m == p.begun) refl
+  where
+    by : (b : Bool) → (m == p.begun) ≡ b → length (p.of_session m).taken ≤ length (if b then x else p.of_session m).taken
+    by true is = subst (λ (i : ℕ). length (p.of_session i).taken ≤ length x.taken) (sym (eqb-true m p.begun is)) more
+    by false is = omega (arith)
+
+later_same : (p : PeerEnd) (x : Peer) (m : ℕ) → p.begun < m → (with_now x p).of_session m ≡ p.of_session m
+later_same p x m over = in_other p.begun m x p.of_session (λ is. (omega (arith, over, is)))
+
+with_now_goes : (p : PeerEnd) (x : Peer) → AreAnew p → x.given ≡ (now p).given → length (now p).taken ≤ length x.taken → GoesTo p (with_now x p)
+with_now_goes p x anew same more = record {
+  given = now_given p x same;
+  taken = now_taken p x more;
+  anew = λ m over. subst (λ (y : Peer). (y.given ≡ []) × (y.taken ≡ [])) (sym (later_same p x m over)) (anew m over);
+}
+
+begins_goes : (p : PeerEnd) → AreAnew p → GoesTo p (begins p)
+begins_goes p anew = record {
+  given = λ m. given m (m == suc p.begun) refl;
+  taken = λ m. taken m (m == suc p.begun) refl;
+  anew = λ m over. subst (λ (y : Peer). (y.given ≡ []) × (y.taken ≡ [])) (sym (in_other (suc p.begun) m fresh_peer p.of_session (λ is. (omega (arith, over, is))))) (anew m (omega (arith, over)));
+}
+  where
+    next : ((p.of_session (suc p.begun)).given ≡ []) × ((p.of_session (suc p.begun)).taken ≡ [])
+    next = anew (suc p.begun) (omega (arith))
+
+    given : (m : ℕ) (b : Bool) → (m == suc p.begun) ≡ b → (if b then fresh_peer else p.of_session m).given ≡ (p.of_session m).given
+    given m true is = sym (ap (λ (i : ℕ). (p.of_session i).given) (eqb-true m (suc p.begun) is) ∙ next.0)
+    given m false is = refl
+
+    taken : (m : ℕ) (b : Bool) → (m == suc p.begun) ≡ b → length (p.of_session m).taken ≤ length (if b then fresh_peer else p.of_session m).taken
+    taken m true is = (let none : length (p.of_session m).taken ≡ 0 = ap (λ (i : ℕ). length (p.of_session i).taken) (eqb-true m (suc p.begun) is) ∙ ap length next.1 in omega (arith, none))
+    taken m false is = omega (arith)
+
+sends_goes : (c : LinkSettings) (w : PeerSessions) (r : Result PlainFrame FrameError) (q : PeerEnd) → AreAnew w.peer → MaySend (Unit {0}) c w r q → GoesTo w.peer q
+sends_goes c w r q anew (numbered frame x is stand may) =
+    (let same = sent_same (now w.peer) x r may in
+    let long : length x.taken ≡ length (now w.peer).taken = ap length same.1 in
+    with_now_goes w.peer x anew same.0 (omega (arith, long)))
+sends_goes c w r q anew (asks p is patient) = record { given = λ m. refl; taken = λ m. omega (arith); anew = anew }
+sends_goes c w r q anew (closes p is) = record { given = λ m. refl; taken = λ m. omega (arith); anew = anew }
+sends_goes c w r q anew (free may) = stays_peer w.peer anew
+
+hears_goes : (p : PeerEnd) (r : Result PlainFrame FrameError) (q : PeerEnd) → AreAnew p → MayHear p r q → GoesTo p q
+hears_goes p r q anew passes_over = stays_peer p anew
+hears_goes p r q anew (hears x stand may) = (let same = heard_same (now p) x r may in with_now_goes p x anew same.given same.taken)
+hears_goes p r q anew (takes_ua asking is) = begins_goes p anew
+
+answers_goes : (p : PeerEnd) (r : Result PlainFrame FrameError) (q : PeerEnd) → AreAnew p → MayAnswer p r q → GoesTo p q
+answers_goes p r q anew (takes_sabm pf is) = begins_goes p anew
+answers_goes p r q anew (waits_on pf is asking) = stays_peer p anew
+answers_goes p r q anew (takes_disc pf is) = stays_peer p anew
+
+-- what the station was handed down and handed up is nothing to the peer
+may_send : (c : LinkSettings) (link : LinkStation) (begun : ℕ) (down up down₂ up₂ : ℕ → List (List ℕ)) (peer : PeerEnd) (out back : List Entry) (met : List Meeting) (r : Result PlainFrame FrameError) (q : PeerEnd)
+    → MaySend (Unit {0}) c (links_with link begun down up peer out back met) r q → MaySend (Unit {0}) c (links_with link begun down₂ up₂ peer out back met) r q
+may_send c link begun down up down₂ up₂ peer out back met r q (numbered frame x is stand may) = numbered frame x is stand may
+may_send c link begun down up down₂ up₂ peer out back met r q (asks p is patient) = asks p is (record { sabm = patient.sabm; disc = patient.disc; ua = patient.ua })
+may_send c link begun down up down₂ up₂ peer out back met r q (closes p is) = closes p is
+may_send c link begun down up down₂ up₂ peer out back met r q (free may) = free may
+
+-- ---- packets go down to it
+
+step_down : PeerEnd → List ℕ → PeerEnd
+step_down p o = with_now (record (now p) { given = (now p).given ++ o ∷ [] }) p
+
+handed_given : (all : List (List ℕ)) (p : PeerEnd) (m : ℕ) → ((handed_down all p).of_session m).given ≡ (if m == p.begun then (p.of_session m).given ++ all else (p.of_session m).given)
+handed_given [] p m = by (m == p.begun)
+  where
+    by : (b : Bool) → (p.of_session m).given ≡ (if b then (p.of_session m).given ++ [] else (p.of_session m).given)
+    by true = sym (append-nil (p.of_session m).given)
+    by false = refl
+handed_given (o ∷ all) p m = handed_given all (with_now (record (now p) { given = (now p).given ++ o ∷ [] }) p) m ∙ by (m == p.begun) refl
+  where
+    by : (b : Bool) → (m == p.begun) ≡ b
+        → (if b then (if b then record (now p) { given = (now p).given ++ o ∷ [] } else p.of_session m).given ++ all else (if b then record (now p) { given = (now p).given ++ o ∷ [] } else p.of_session m).given)
+        ≡ (if b then (p.of_session m).given ++ o ∷ all else (p.of_session m).given)
+    by true is = append_assoc (now p).given (o ∷ []) all ∙ ap (λ (i : ℕ). (p.of_session i).given ++ o ∷ all) (sym (eqb-true m p.begun is))
+    by false is = refl
+
+handed_taken : (all : List (List ℕ)) (p : PeerEnd) (m : ℕ) → ((handed_down all p).of_session m).taken ≡ (p.of_session m).taken
+handed_taken [] p m = refl
+handed_taken (o ∷ all) p m = handed_taken all (with_now (record (now p) { given = (now p).given ++ o ∷ [] }) p) m ∙ by (m == p.begun) refl
+  where
+    by : (b : Bool) → (m == p.begun) ≡ b → (if b then record (now p) { given = (now p).given ++ o ∷ [] } else p.of_session m).taken ≡ (p.of_session m).taken
+    by true is = ap (λ (i : ℕ). (p.of_session i).taken) (sym (eqb-true m p.begun is))
+    by false is = refl
+
+handed_begun : (all : List (List ℕ)) (p : PeerEnd) → (handed_down all p).begun ≡ p.begun
+handed_begun [] p = refl
+handed_begun (o ∷ all) p = handed_begun all (with_now (record (now p) { given = (now p).given ++ o ∷ [] }) p)
+
+hand_down : (c : LinkSettings) (link : LinkStation) (begun : ℕ) (down up : ℕ → List (List ℕ)) (peer : PeerEnd) (out back : List Entry) (met : List Meeting) (all : List (List ℕ)) → peer.stand ≡ In
+    → LinkReached c link begun down up peer out back met → LinkReached c link begun down up (handed_down all peer) out back met
+hand_down c link begun down up peer out back met [] stand l = l
+hand_down c link begun down up peer out back met (o ∷ all) stand l =
+    let q : PeerEnd = with_now (record (now peer) { given = (now peer).given ++ o ∷ [] }) peer in
+    hand_down c link begun down up q out back met all stand
+    (record {
+      downs = l.downs;
+      ups = l.ups;
+      reached = goes_on (links_with link begun l.downs l.ups peer out back met) (links_with link begun l.downs l.ups q out back met) l.reached (HandsDown o stand);
+      is_down = l.is_down;
+      is_up = l.is_up;
+    })
+
+module _ (below : Below) (c : Settings) (low : 1 ≤ c.window) (high : c.window ≤ 7) (few : c.channels ≤ 16) (w : BesideSessions) (h : Stands c w) where
+  abbrev Link : PeerEnd → List Entry → List Entry → List Meeting → Type 0
+  Link peer out back met = LinkReached (link_settings c) w.near.link w.begun (downs_of h.known) (ups_of h.known) peer out back met
+
+  -- ---- the line, and the peer's link
+
+  relinked : (q : PeerEnd) (out back : List Entry) (met : List Meeting) → GoesTo w.peer q → ((n m : ℕ) → CanMeet n m met → CanMeet n m w.met) → Link q out back met
+      → Stands c (record w { peer = q; out = out; back = back; met = met })
+  relinked q out back met to could l = record {
+    known = h.known;
+    puts = h.puts;
+    link = l;
+    now = h.now;
+    each = h.each;
+    later = h.later;
+    peers = λ m. (let is = h.peers m in
+        let some : (w.theirs m).heard ≤ length (w.peer.of_session m).taken = is.heard in
+        let more : length (w.peer.of_session m).taken ≤ length (q.of_session m).taken = to.taken m in
+        record { reads = subst (λ (g : List (List ℕ)). ReadAs (longest_user c.long_data) g (h.puts m)) (sym (to.given m)) is.reads; heard = omega (arith, some, more) });
+    anew = to.anew;
+    pairs = λ n m can. h.pairs n m (could n m can);
+    kept = h.kept;
+  }
+
+  as_it_met : (n m : ℕ) → CanMeet n m w.met → CanMeet n m w.met
+  as_it_met n m can = can
+
+  abbrev links : PeerSessions
+  links = links_with w.near.link w.begun h.link.downs h.link.ups w.peer w.out w.back w.met
+
+  link_goes : (q : PeerEnd) (out back : List Entry) (met : List Meeting) → peers.Happens (Unit {0}) (link_settings c) links (links_with w.near.link w.begun h.link.downs h.link.ups q out back met) → Link q out back met
+  link_goes q out back met e = record {
+    downs = h.link.downs;
+    ups = h.link.ups;
+    reached = goes_on links (links_with w.near.link w.begun h.link.downs h.link.ups q out back met) h.link.reached e;
+    is_down = h.link.is_down;
+    is_up = h.link.is_up;
+  }
+
+  pub loses : (place : ℕ) → Stands c (record w { back = remove w.back place })
+  loses place = relinked w.peer w.out (remove w.back place) w.met (stays_peer w.peer h.anew) as_it_met (link_goes w.peer w.out (remove w.back place) w.met (Ours (line.Lose place) tt))
+
+  pub damages : (place : ℕ) (octets : List ℕ) → is_visible octets ≡ true → Stands c (record w { back = replaced w.back place octets })
+  damages place octets visible =
+      let s : Sessions = both_ends links in
+      let is : acts (link_settings c) (line.Damage place octets) s ≡ record s { back = replaced w.back place octets } = ap (λ (b : Bool). if b then record s { back = replaced w.back place octets } else s) visible in
+      relinked w.peer w.out (replaced w.back place octets) w.met (stays_peer w.peer h.anew) as_it_met
+      (record {
+        downs = h.link.downs;
+        ups = h.link.ups;
+        reached = subst (λ (v : Sessions). IsReached (Unit {0}) (link_settings c) (with_peer w.peer v)) is (goes_on links (with_peer w.peer (acts (link_settings c) (line.Damage place octets) s)) h.link.reached (Ours (line.Damage place octets) tt));
+        is_down = h.link.is_down;
+        is_up = h.link.is_up;
+      })
+
+  pub loses_there : (place : ℕ) → Stands c (record w { out = remove w.out place })
+  loses_there place = relinked w.peer (remove w.out place) w.back w.met (stays_peer w.peer h.anew) as_it_met (link_goes w.peer (remove w.out place) w.back w.met (peers.Loses place))
+
+  pub damages_there : (place : ℕ) (octets : List ℕ) → is_visible octets ≡ true → Stands c (record w { out = replaced w.out place octets })
+  damages_there place octets visible = relinked w.peer (replaced w.out place octets) w.back w.met (stays_peer w.peer h.anew) as_it_met (link_goes w.peer (replaced w.out place octets) w.back w.met (peers.Damages place octets visible))
+
+  pub leaves : Stands c (record w { peer = stands Out w.peer })
+  leaves = relinked (stands Out w.peer) w.out w.back w.met (record { given = λ m. refl; taken = λ m. omega (arith); anew = h.anew }) as_it_met (link_goes (stands Out w.peer) w.out w.back w.met peers.Leaves)
+
+  pub sends : (octets : List ℕ) (q : PeerEnd) → MaySend (Unit {0}) (link_settings c) (links_of w) (frame_of (other c.role) longest_packet octets) q → Stands c (record w { peer = q; back = w.back ++ entry q octets ∷ [] })
+  sends octets q may =
+      let r = frame_of (other c.role) longest_packet octets in
+      relinked q w.out (w.back ++ entry q octets ∷ []) w.met (sends_goes (link_settings c) (links_of w) r q h.anew may) as_it_met
+      (link_goes q w.out (w.back ++ entry q octets ∷ []) w.met
+      (peers.Sends octets q (may_send (link_settings c) w.near.link w.begun (links_of w).near.down (links_of w).near.up h.link.downs h.link.ups w.peer w.out w.back w.met r q may)))
+
+  pub hears_it : (e : Entry) (rest : List Entry) (q : PeerEnd) → w.out ≡ e ∷ rest → MayHear w.peer (frame_of c.role longest_packet e.octets) q
+      → Stands c (record w { peer = q; out = rest; met = heard_by w.peer (frame_of c.role longest_packet e.octets) e w.met })
+  hears_it e rest q front may =
+      let r = frame_of c.role longest_packet e.octets in
+      relinked q rest w.back (heard_by w.peer r e w.met) (hears_goes w.peer r q h.anew may)
+      (λ n m can. could_meet n m (is_in w.peer.stand) (number_in r) (record { near = e.session; far = w.peer.begun }) w.met can)
+      (link_goes q rest w.back (heard_by w.peer r e w.met) (peers.Hears e rest q front may))
+
+  pub answers : (e : Entry) (rest : List Entry) (octets : List ℕ) (f : Bool) (q : PeerEnd) → w.out ≡ e ∷ rest → frame_of (other c.role) longest_packet octets ≡ Ok (ua f) → MayAnswer w.peer (frame_of c.role longest_packet e.octets) q
+      → Stands c (record w { peer = q; out = rest; back = w.back ++ entry q octets ∷ [] })
+  answers e rest octets f q front is may =
+      relinked q rest (w.back ++ entry q octets ∷ []) w.met (answers_goes w.peer (frame_of c.role longest_packet e.octets) q h.anew may) as_it_met
+      (link_goes q rest (w.back ++ entry q octets ∷ []) w.met (peers.Answers e rest octets f q front is may))
+
+  -- ---- its packet layer
+
+  abbrev b : ℕ
+  b = w.peer.begun
+
+  -- it puts these packets in this session, and has come to this
+  layer_goes : (layer : At PeerChannels) (heard : ℕ) (ps : List PlainPacket) (all : List (List ℕ)) → w.peer.stand ≡ In → ReadAs (longest_user c.long_data) all ps → heard ≤ length (now w.peer).taken
+      → ((n : ℕ) → CanMeet n b w.met
+      → IsReachedByOctets c.role c.long_data c.channels (record { near = (h.known n).end; peer = layer; out = drop heard (h.known n).end.given; back = drop (length (h.known n).up) (h.puts b) ++ ps }))
+      → Stands c (layer_went w layer heard all)
+  layer_goes layer heard ps all stand reads most pair = record {
+    known = h.known;
+    puts = in_session b (h.puts b ++ ps) h.puts;
+    link = hand_down (link_settings c) w.near.link w.begun (downs_of h.known) (ups_of h.known) w.peer w.out w.back w.met all stand h.link;
+    now = h.now;
+    each = h.each;
+    later = h.later;
+    peers = both_cases (λ (m : ℕ) (t : Theirs) (ps : List PlainPacket). IsRead (longest_user c.long_data) ((handed_down all w.peer).of_session m) t ps) b (record { layer = layer; heard = heard }) w.theirs (h.puts b ++ ps) h.puts
+        (record {
+          reads = subst (λ (g : List (List ℕ)). ReadAs (longest_user c.long_data) g (h.puts b ++ ps)) (sym (given_here b b refl)) (read_append (longest_user c.long_data) (now w.peer).given all (h.puts b) ps (h.peers b).reads reads);
+          heard = subst (λ (t : List (List ℕ)). heard ≤ length t) (sym (handed_taken all w.peer b)) most;
+        })
+        (λ m differs. record {
+          reads = subst (λ (g : List (List ℕ)). ReadAs (longest_user c.long_data) g (h.puts m)) (sym (given_there m differs)) (h.peers m).reads;
+          heard = subst (λ (t : List (List ℕ)). (w.theirs m).heard ≤ length t) (sym (handed_taken all w.peer m)) (h.peers m).heard;
+        });
+    anew = λ m over. (let above : b < m = subst (λ (i : ℕ). i < m) (handed_begun all w.peer) over in
+        let differs : (m ≡ b → ⊥) = λ is. (omega (arith, above, is)) in
+        (given_there m differs ∙ (h.anew m above).0, handed_taken all w.peer m ∙ (h.anew m above).1));
+    pairs = λ n m can. both_cases (λ (m : ℕ) (t : Theirs) (ps : List PlainPacket). CanMeet n m w.met → PairReached c (h.known n) t ps) b (record { layer = layer; heard = heard }) w.theirs (h.puts b ++ ps) h.puts
+        (λ yes. subst (λ (x : List PlainPacket). IsReachedByOctets c.role c.long_data c.channels (record { near = (h.known n).end; peer = layer; out = drop heard (h.known n).end.given; back = x }))
+        (sym (drop-append-le (length (h.known n).up) (h.puts b) ps (up_few below c low high w h n b yes))) (pair n yes))
+        (λ m differs yes. h.pairs n m yes) m can;
+    kept = h.kept;
+  }
+    where
+      given_here : (m n : ℕ) → n ≡ m → ((handed_down all w.peer).of_session b).given ≡ (now w.peer).given ++ all
+      given_here m n e = handed_given all w.peer b ∙ ap (λ (x : Bool). if x then (now w.peer).given ++ all else (now w.peer).given) (eq-eqb b b refl)
+
+      given_there : (m : ℕ) → (m ≡ b → ⊥) → ((handed_down all w.peer).of_session m).given ≡ (w.peer.of_session m).given
+      given_there m differs = handed_given all w.peer m ∙ by (m == b) refl
+        where
+          by : (x : Bool) → (m == b) ≡ x → (if x then (w.peer.of_session m).given ++ all else (w.peer.of_session m).given) ≡ (w.peer.of_session m).given
+          by true is = absurd (differs (eqb-true m b is))
+          by false is = refl
+
+  -- two sessions by their layers
+  abbrev layers : ℕ → Joined
+  layers n = record { near = (h.known n).end; peer = their_layer w; out = drop (w.theirs b).heard (h.known n).end.given; back = drop (length (h.known n).up) (h.puts b) }
+
+  pub layer_does : (deed : LayerDeed) (p : PlainPacket) (octets : List ℕ) → w.peer.stand ≡ In → MayDoLayer (their_layer w).side deed → bare_layer p ≡ layer_packet_of (their_layer w).side deed
+      → IsConfigured c.channels p → packet_of (longest_user c.long_data) octets ≡ Ok p → Stands c (layer_went w (does_layer (their_layer w).epoch (their_layer w).side deed) (w.theirs b).heard (octets ∷ []))
+  layer_does deed p octets stand may is configured reads =
+      layer_goes (does_layer (their_layer w).epoch (their_layer w).side deed) (w.theirs b).heard (p ∷ []) (octets ∷ []) stand (reads, tt) (h.peers b).heard
+      (λ n can. reached.goes_on (layers n) (record { near = (h.known n).end; peer = does_layer (their_layer w).epoch (their_layer w).side deed; out = drop (w.theirs b).heard (h.known n).end.given; back = drop (length (h.known n).up) (h.puts b) ++ p ∷ [] })
+      (h.pairs n b can) (layer_peer.Does deed p may is configured) tt)
+
+  pub layer_hears : (octets : List ℕ) (p : PlainPacket) (packets : List PlainPacket) (all : List (List ℕ)) → w.peer.stand ≡ In → slice_get (now w.peer).taken (w.theirs b).heard ≡ Some octets → packet_of (longest_user c.long_data) octets ≡ Ok p
+      → Answers c.channels packets (layer_taking (other_role c.role) (their_layer w).epoch (their_layer w).side (bare_layer p)) → ReadAs (longest_user c.long_data) all packets
+      → Stands c (layer_went w (layer_taking (other_role c.role) (their_layer w).epoch (their_layer w).side (bare_layer p)).next ((w.theirs b).heard + 1) all)
+  layer_hears octets p packets all stand at reads answered read_all =
+      let s = layer_taking (other_role c.role) (their_layer w).epoch (their_layer w).side (bare_layer p) in
+      layer_goes s.next ((w.theirs b).heard + 1) packets all stand read_all (place_within (now w.peer).taken (w.theirs b).heard octets at)
+      (λ n can. (
+      let given : List PlainPacket = (h.known n).end.given in
+      let readable : AreReadable c.long_data given = below.readable c.role c.long_data c.channels few (layers n) (h.pairs n b can) in
+      let there = taken_begins below c low high w h n b can in
+      let t = taken_next c.long_data given (now w.peer).taken there.0 (w.theirs b).heard octets p readable there.1 at reads in
+      reached.goes_on (layers n) (layer_peer.peer_stepped (layers n) (drop ((w.theirs b).heard + 1) given) packets s) (h.pairs n b can) (layer_peer.Hears p (drop ((w.theirs b).heard + 1) given) packets t.front answered) tt))

@@ -1,0 +1,89 @@
+-- The layer's half of a station beside a peer over sessions: a session's layer moves by itself, whichever session of the peer it is beside.
+use Rattle.std.proofs.Common.{◌≡◌, ℕ, List, [], ◌∷◌, ◌++◌, Bool, true, false, if◌then◌else◌, option_to_list, refl, sym, ap, subst, ◌∙◌, append_assoc, append-nil}
+use Rattle.x25_bits.specs.declared.role.Role.{Role}
+use Rattle.x25_packet.specs.Packet.{PlainPacket}
+use Rattle.x25_handshakes.specs.laws.Handshake.{At}
+use Rattle.x25_handshakes.specs.laws.PeerLayer.{PeerChannels}
+use Rattle.x25_layer.specs.Layer.{LayerSettings, is_channel}
+use Rattle.x25_layer.specs.Calls.{LayerRequest, LayerOutcome, Accepted, Declined, layer_outcome, LayerPulled, layer_pulled}
+use Rattle.x25_layer.specs.laws.TwoLayers.{End, TwoLayers, Move, Requests, Pulls, HandsUp, GoesDown, requested, pulled_in, moves_in, moves, settings_of}
+use Rattle.x25_layer.specs.laws.RoundLaw.{moves_all, pulls_of}
+use Rattle.x25_station.specs.laws.ReadLaw.{IsReachedByOctets}
+use Rattle.x25_peer.proofs.LayerPart.{AllStay, moves_reached}
+
+-- a layer's end by itself
+abbrev pub alone_at : End → TwoLayers
+alone_at e = record { near = e; far = e; out = []; back = [] }
+
+-- with these packets in flight from it in front, and those to it
+abbrev beside : List PlainPacket → List PlainPacket → TwoLayers → TwoLayers
+beside o b w = record { near = w.near; far = w.far; out = o ++ w.out; back = b }
+
+-- calls of the user, and pulls
+abbrev pub IsAsked : Move → Type 0
+IsAsked (Requests full request) = Unit {0}
+IsAsked (Pulls h) = Unit {0}
+IsAsked HandsUp = ⊥
+IsAsked GoesDown = ⊥
+
+abbrev pub AreAsked : List Move → Type 0
+AreAsked [] = Unit {0}
+AreAsked (m ∷ ms) = IsAsked m × AreAsked ms
+
+pub pulls_asked : (pulled : List ℕ) → AreAsked (pulls_of pulled)
+pulls_asked [] = tt
+pulls_asked (h ∷ pulled) = (tt, pulls_asked pulled)
+
+requested_beside : (c : LayerSettings) (o b : List PlainPacket) (w : TwoLayers) (request : LayerRequest) (x : LayerOutcome) → requested c (beside o b w) request x ≡ beside o b (requested c w request x)
+requested_beside c o b w request (Accepted next packet) = ap (λ (l : List PlainPacket). record (beside o b (requested c w request (Accepted next packet))) { out = l }) (append_assoc o w.out (option_to_list packet))
+requested_beside c o b w request (Declined e) = refl
+
+pulled_beside : (c : LayerSettings) (o b : List PlainPacket) (w : TwoLayers) (x : LayerPulled) → pulled_in (beside o b w) x ≡ beside o b (pulled_in w x)
+pulled_beside c o b w x = ap (λ (l : List PlainPacket). record (beside o b (pulled_in w x)) { out = l }) (append_assoc o w.out (option_to_list x.packet))
+
+pulls_beside : (c : LayerSettings) (o b : List PlainPacket) (w : TwoLayers) (h : ℕ) (yes : Bool) → (if yes then pulled_in (beside o b w) (layer_pulled c w.near.layer h) else beside o b w) ≡ beside o b (if yes then pulled_in w (layer_pulled c w.near.layer h) else w)
+pulls_beside c o b w h true = pulled_beside c o b w (layer_pulled c w.near.layer h)
+pulls_beside c o b w h false = refl
+
+move_beside : (c : LayerSettings) (o b : List PlainPacket) (w : TwoLayers) (gone : Bool) (m : Move) → IsAsked m → moves_in c (beside o b w) gone m ≡ beside o b (moves_in c w gone m)
+move_beside c o b w true m asked = refl
+move_beside c o b w false (Requests full request) asked = requested_beside c o b w request (layer_outcome c full w.near.layer request)
+move_beside c o b w false (Pulls h) asked = pulls_beside c o b w h (is_channel c.channels h)
+move_beside c o b w false HandsUp asked = absurd asked
+move_beside c o b w false GoesDown asked = absurd asked
+
+moves_beside : (c : LayerSettings) (o b : List PlainPacket) (w : TwoLayers) (ms : List Move) → AreAsked ms → moves_all c (beside o b w) ms ≡ beside o b (moves_all c w ms)
+moves_beside c o b w [] asked = refl
+moves_beside c o b w (m ∷ ms) asked =
+    ap (λ (v : TwoLayers). moves_all c v ms) (move_beside c o b w w.near.is_out m asked.0) ∙ moves_beside c o b (moves c w m) ms asked.1
+
+-- beside any peer that it is reached with, the end goes where it goes by itself
+pub asked_reached : (r : Role) (long_data : Bool) (n : ℕ) (y : At PeerChannels) (e : End) (o b : List PlainPacket) (ms : List Move) → AreAsked ms → AllStay ms
+    → IsReachedByOctets r long_data n (record { near = e; peer = y; out = o; back = b })
+    → (let v = moves_all (settings_of r long_data n) (alone_at e) ms in IsReachedByOctets r long_data n (record { near = v.near; peer = y; out = o ++ v.out; back = b }))
+asked_reached r long_data n y e o b ms asked stay h =
+    let c : LayerSettings = settings_of r long_data n in
+    let start : TwoLayers = beside o b (alone_at e) in
+    let moved = moves_reached r long_data n y start ms stay (subst (λ (l : List PlainPacket). IsReachedByOctets r long_data n (record { near = e; peer = y; out = l; back = b })) (sym (append-nil o)) h) in
+    subst (λ (v : TwoLayers). IsReachedByOctets r long_data n (record { near = v.near; peer = y; out = v.out; back = v.back })) (moves_beside c o b (alone_at e) ms asked) moved
+
+-- ---- such moves tell the user nothing
+
+requested_tells : (c : LayerSettings) (w : TwoLayers) (request : LayerRequest) (x : LayerOutcome) → (requested c w request x).near.told ≡ w.near.told
+requested_tells c w request (Accepted next packet) = refl
+requested_tells c w request (Declined e) = refl
+
+pulls_tell : (w : TwoLayers) (x : LayerPulled) (yes : Bool) → (if yes then pulled_in w x else w).near.told ≡ w.near.told
+pulls_tell w x true = refl
+pulls_tell w x false = refl
+
+move_tells : (c : LayerSettings) (w : TwoLayers) (gone : Bool) (m : Move) → IsAsked m → (moves_in c w gone m).near.told ≡ w.near.told
+move_tells c w true m asked = refl
+move_tells c w false (Requests full request) asked = requested_tells c w request (layer_outcome c full w.near.layer request)
+move_tells c w false (Pulls h) asked = pulls_tell w (layer_pulled c w.near.layer h) (is_channel c.channels h)
+move_tells c w false HandsUp asked = absurd asked
+move_tells c w false GoesDown asked = absurd asked
+
+pub asked_tells : (c : LayerSettings) (w : TwoLayers) (ms : List Move) → AreAsked ms → (moves_all c w ms).near.told ≡ w.near.told
+asked_tells c w [] asked = refl
+asked_tells c w (m ∷ ms) asked = asked_tells c (moves c w m) ms asked.1 ∙ move_tells c w w.near.is_out m asked.0

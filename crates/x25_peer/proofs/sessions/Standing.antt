@@ -1,0 +1,231 @@
+-- What stands of a station and a peer over sessions: their links are joined as `x25_sessions` has it, and the layers of each session of the one and
+-- each of the other that it met, or may meet yet, as `x25_layer` has it.
+use Rattle.std.proofs.Common.{◌≡◌, ℕ, zero, suc, ◌+◌, ◌==◌, ◌≤◌, ◌<◌, inl, inr, List, [], ◌∷◌, ◌++◌, length, drop, Bool, true, false, if◌then◌else◌, Some, refl, sym, ap, subst, ◌∙◌, append_assoc, eq-eqb, arith}
+use Rattle.std.proofs.lemmas.Bool.{eqb-true}
+use Rattle.std.proofs.lemmas.List.{length-append}
+use Rattle.std.specs.Prelude.{slice_get}
+use Rattle.x25_packet.specs.Packet.{PlainPacket}
+use Rattle.x25_packet.specs.Spelling.{longest_user}
+use Rattle.x25_link.specs.Station.{Settings as LinkSettings, LinkStation, is_up}
+use Rattle.x25_link.specs.laws.NoteLaw.{TakeTells, TakeHandsUp, TimerTells, PutTells, ConnectTells, DisconnectTells, AbandonTells}
+use Rattle.x25_line.specs.laws.InWindow.{IsPrefix}
+use Rattle.x25_line.specs.laws.Peer.{Peer}
+use Rattle.x25_line.specs.laws.Sessions.{Entry, Meeting, extended}
+use Rattle.x25_line.specs.laws.SessionClaims.{MeetInStep, MetAreInOrder, UnmetHandNothingUp, IsInOrder}
+use Rattle.x25_sessions.specs.laws.PeerSessions.{PeerEnd, PeerSessions, as_end}
+use Rattle.x25_sessions.specs.laws.PeerSessionClaims.{WithAnyPeer, OfBothEnds, EachMeetsLatest}
+use Rattle.x25_layer.specs.Layer.{Layer, goes_up}
+use Rattle.x25_layer.specs.laws.TwoLayers.{End, started}
+use Rattle.x25_station.specs.Config.{Settings, link_settings, layer_settings}
+use Rattle.x25_station.specs.Entry.{layer_entries, layer_notices}
+use Rattle.x25_station.specs.laws.JoinLaw.{RequestIsJoined, ReceiveIsJoined, QuietIsJoined, DownIsJoined, UpIsJoined}
+use Rattle.x25_station.specs.laws.KeepLaw.{IsKept, CommandKeeps, TimerKeeps, RequestKeeps, ReceiveKeeps}
+use Rattle.x25_station.specs.laws.ReadLaw.{IsReachedByOctets, PutsBesidePeersAreReadable}
+use Rattle.x25_peer.specs.laws.Beside.{ReadAs}
+use Rattle.x25_peer.specs.laws.BesideSessions.{Own, Theirs, BesideSessions, in_session}
+use Rattle.x25_peer.proofs.LinkPart.{spelled}
+use Rattle.x25_peer.proofs.BesideRuns.{read_length}
+use Rattle.x25_peer.proofs.sessions.Meetings.{CanMeet, true_false, all_some, all_both}
+use Rattle.x25_peer.proofs.sessions.SessionLinks.{links_with, LinkReached}
+
+pub record Below : Type 0 where
+  pub step : WithAnyPeer (OfBothEnds MeetInStep)
+  pub order : WithAnyPeer (OfBothEnds MetAreInOrder)
+  pub unmet : WithAnyPeer (OfBothEnds UnmetHandNothingUp)
+  pub agree : WithAnyPeer EachMeetsLatest
+  pub readable : PutsBesidePeersAreReadable
+  pub request : RequestIsJoined
+  pub receive : ReceiveIsJoined
+  pub still : QuietIsJoined
+  pub down : DownIsJoined
+  pub up : UpIsJoined
+  pub timer : TimerKeeps
+  pub ask : RequestKeeps
+  pub command : CommandKeeps
+  pub takes : ReceiveKeeps
+  pub take_tells : TakeTells
+  pub take_hands_up : TakeHandsUp
+  pub timer_tells : TimerTells
+  pub put_tells : PutTells
+  pub connect_tells : ConnectTells
+  pub disconnect_tells : DisconnectTells
+  pub abandon_tells : AbandonTells
+
+-- ---- a session among all
+
+pub in_here : {A : Type 0} (s : ℕ) (x : A) (all : ℕ → A) → in_session s x all s ≡ x
+in_here {A} s x all = ap (λ (b : Bool). if b then x else all s) (eq-eqb s s refl)
+
+pub in_other : {A : Type 0} (s n : ℕ) (x : A) (all : ℕ → A) → (n ≡ s → ⊥) → in_session s x all n ≡ all n
+in_other {A} s n x all differs = by (n == s) refl
+  where
+    by : (b : Bool) → (n == s) ≡ b → (if b then x else all n) ≡ all n
+    by true is = absurd (differs (eqb-true n s is))
+    by false is = refl
+
+pub in_cases : {A : Type 0} (P : ℕ → A → Type 0) (s : ℕ) (x : A) (all : ℕ → A) → P s x → ((n : ℕ) → (n ≡ s → ⊥) → P n (all n)) → (n : ℕ) → P n (in_session s x all n)
+in_cases {A} P s x all here others n = by (n == s) refl
+  where
+    by : (b : Bool) → (n == s) ≡ b → P n (if b then x else all n)
+    by true is = subst (λ (k : ℕ). P k x) (sym (eqb-true n s is)) here
+    by false is = others n (λ (e : n ≡ s). true_false (sym (eq-eqb n s e) ∙ is))
+
+pub both_cases : {A B : Type 0} (P : ℕ → A → B → Type 0) (s : ℕ) (x : A) (all : ℕ → A) (y : B) (each : ℕ → B) → P s x y → ((n : ℕ) → (n ≡ s → ⊥) → P n (all n) (each n)) → (n : ℕ)
+    → P n (in_session s x all n) (in_session s y each n)
+both_cases {A} {B} P s x all y each here others n = by (n == s) refl
+  where
+    by : (b : Bool) → (n == s) ≡ b → P n (if b then x else all n) (if b then y else each n)
+    by true is = subst (λ (k : ℕ). P k x y) (sym (eqb-true n s is)) here
+    by false is = others n (λ (e : n ≡ s). true_false (sym (eq-eqb n s e) ∙ is))
+
+-- ---- prefixes
+
+pub prefix_trans : {T : Type 0} (x y z : List T) → IsPrefix x y → IsPrefix y z → IsPrefix x z
+prefix_trans {T} x y z f g = (f.0 ++ g.0, sym (append_assoc x f.0 g.0) ∙ ap (λ (l : List T). l ++ g.0) f.1 ∙ g.1)
+
+prefix_length : {T : Type 0} (x y : List T) → IsPrefix x y → length x ≤ length y
+prefix_length {T} x y f =
+    let longer = length-append x f.0 in
+    let whole : length (x ++ f.0) ≡ length y = ap length f.1 in
+    omega (arith, longer, whole)
+
+spelled_length : (ps : List PlainPacket) → length (spelled ps) ≡ length ps
+spelled_length [] = refl
+spelled_length (p ∷ ps) = ap suc (spelled_length ps)
+
+-- ---- a session of the station
+
+-- its layer's end, and the octets that its link was handed down and handed up in it
+pub record Known : Type 0 where
+  pub end : End
+  pub down : List (List ℕ)
+  pub up : List (List ℕ)
+
+-- the session that stands
+pub record IsStanding (k : Known) (now : Layer) : Type 0 where
+  pub layer : k.end.layer ≡ now
+  pub handed : k.down ≡ spelled k.end.given
+
+-- what is known of each session is what the world has of it, and where nothing was handed up the user was told nothing
+pub record IsKnown (n : ℕ) (k : Known) (own : Own) : Type 0 where
+  pub layer : k.end.layer ≡ own.layer
+  pub out : k.end.is_out ≡ false
+  pub entries : k.end.entries ≡ layer_entries own.entries
+  pub told : k.end.told ≡ layer_notices own.entries
+  pub begins : IsPrefix k.down (spelled k.end.given)
+  pub alone : k.up ≡ [] → k.end.told ≡ []
+
+-- a session that isn't begun
+pub record IsNotBegun (c : Settings) (k : Known) : Type 0 where
+  pub end : k.end ≡ started (goes_up (layer_settings c))
+  pub down : k.down ≡ []
+  pub up : k.up ≡ []
+
+-- a session of the station and one of the peer, whose layer put these packets, as they are read
+abbrev pub PairReached : Settings → Known → Theirs → List PlainPacket → Type 0
+PairReached c k t puts = IsReachedByOctets c.role c.long_data c.channels (record { near = k.end; peer = t.layer; out = drop t.heard k.end.given; back = drop (length k.up) puts })
+
+-- of the peer's sessions
+pub record IsRead (most : ℕ) (p : Peer) (t : Theirs) (puts : List PlainPacket) : Type 0 where
+  pub reads : ReadAs most p.given puts
+  pub heard : t.heard ≤ length p.taken
+
+abbrev pub AreAnew : PeerEnd → Type 0
+AreAnew p = (m : ℕ) → p.begun < m → ((p.of_session m).given ≡ []) × ((p.of_session m).taken ≡ [])
+
+abbrev pub downs_of : (ℕ → Known) → ℕ → List (List ℕ)
+downs_of known n = (known n).down
+
+abbrev pub ups_of : (ℕ → Known) → ℕ → List (List ℕ)
+ups_of known n = (known n).up
+
+pub record Stands (c : Settings) (w : BesideSessions) : Type 0 where
+  pub known : ℕ → Known
+  pub puts : ℕ → List PlainPacket
+  pub link : LinkReached (link_settings c) w.near.link w.begun (downs_of known) (ups_of known) w.peer w.out w.back w.met
+  pub now : is_up w.near.link.phase ≡ true → IsStanding (known w.begun) w.near.layer
+  pub each : (n : ℕ) → IsKnown n (known n) (w.own n)
+  pub later : (n : ℕ) → w.begun < n → IsNotBegun c (known n)
+  pub peers : (m : ℕ) → IsRead (longest_user c.long_data) (w.peer.of_session m) (w.theirs m) (puts m)
+  pub anew : AreAnew w.peer
+  pub pairs : (n m : ℕ) → CanMeet n m w.met → PairReached c (known n) (w.theirs m) (puts m)
+  pub kept : IsKept w.near
+
+-- ---- the lists of what is known
+
+pub into_down : (known : ℕ → Known) (s : ℕ) (k : Known) (more : List (List ℕ)) → k.down ≡ (known s).down ++ more → (n : ℕ) → extended (downs_of known) s more n ≡ downs_of (in_session s k known) n
+into_down known s k more same n = by (n == s) refl
+  where
+    by : (b : Bool) → (n == s) ≡ b → (if b then (known n).down ++ more else (known n).down) ≡ (if b then k else known n).down
+    by true is = ap (λ (i : ℕ). (known i).down ++ more) (eqb-true n s is) ∙ sym same
+    by false is = refl
+
+pub into_up : (known : ℕ → Known) (s : ℕ) (k : Known) (more : List (List ℕ)) → k.up ≡ (known s).up ++ more → (n : ℕ) → extended (ups_of known) s more n ≡ ups_of (in_session s k known) n
+into_up known s k more same n = by (n == s) refl
+  where
+    by : (b : Bool) → (n == s) ≡ b → (if b then (known n).up ++ more else (known n).up) ≡ (if b then k else known n).up
+    by true is = ap (λ (i : ℕ). (known i).up ++ more) (eqb-true n s is) ∙ sym same
+    by false is = refl
+
+-- ---- what the laws of the links say
+
+-- of a session of the station and one of the peer that met, or may meet yet
+pub record BothBegin (down up : List (List ℕ)) (p : Peer) : Type 0 where
+  pub there : IsPrefix p.taken down
+  pub back : IsPrefix up p.given
+
+module _ (below : Below) (c : LinkSettings) (low : 1 ≤ c.window) (high : c.window ≤ 7) where
+  module _ (link : LinkStation) (begun : ℕ) (down up : ℕ → List (List ℕ)) (peer : PeerEnd) (out back : List Entry) (met : List Meeting) (l : LinkReached c link begun down up peer out back met) where
+    abbrev links : PeerSessions
+    links = links_with link begun l.downs l.ups peer out back met
+
+    abbrev IsOne : ℕ → ℕ → Meeting → Type 0
+    IsOne n m p = (p.near ≡ n → p.far ≡ m) × (p.far ≡ m → p.near ≡ n)
+
+    pub both_begin : (n m : ℕ) → CanMeet n m met → BothBegin (down n) (up n) (peer.of_session m)
+    both_begin n m can =
+        let order = below.order c low high links l.reached in
+        let unmet = below.unmet c low high links l.reached in
+        let both = all_both (IsInOrder links.near (as_end peer)) (IsOne n m) met order can in
+        record {
+          there = elim (unmet.far m) [
+            | inl none ↦ subst (λ (t : List (List ℕ)). IsPrefix t (down n)) (sym none) (down n, refl)
+            | inr some ↦ all_some (λ (p : Meeting). IsInOrder links.near (as_end peer) p × IsOne n m p) (λ (p : Meeting). p.far ≡ m) (IsPrefix (peer.of_session m).taken (down n))
+                (λ (p : Meeting) h is. subst (λ (d : List (List ℕ)). IsPrefix (peer.of_session m).taken d) (l.is_down n)
+                (subst (λ (i : ℕ). IsPrefix (peer.of_session m).taken (l.downs i)) (h.1.1 is) (subst (λ (i : ℕ). IsPrefix (peer.of_session i).taken (l.downs p.near)) is h.0.there))) met both some
+          ];
+          back = elim (unmet.near n) [
+            | inl none ↦ subst (λ (u : List (List ℕ)). IsPrefix u (peer.of_session m).given) (sym none ∙ l.is_up n) ((peer.of_session m).given, refl)
+            | inr some ↦ all_some (λ (p : Meeting). IsInOrder links.near (as_end peer) p × IsOne n m p) (λ (p : Meeting). p.near ≡ n) (IsPrefix (up n) (peer.of_session m).given)
+                (λ (p : Meeting) h is. subst (λ (u : List (List ℕ)). IsPrefix u (peer.of_session m).given) (l.is_up n)
+                (subst (λ (i : ℕ). IsPrefix (l.ups n) (peer.of_session i).given) (h.1.0 is) (subst (λ (i : ℕ). IsPrefix (l.ups i) (peer.of_session p.far).given) is h.0.back))) met both some
+          ];
+        }
+
+-- ---- of two sessions that met, or may meet yet
+
+module _ (below : Below) (c : Settings) (low : 1 ≤ c.window) (high : c.window ≤ 7) (w : BesideSessions) (h : Stands c w) (n m : ℕ) (can : CanMeet n m w.met) where
+  pub pair_begins : BothBegin (h.known n).down (h.known n).up (w.peer.of_session m)
+  pair_begins = both_begin below (link_settings c) low high w.near.link w.begun (downs_of h.known) (ups_of h.known) w.peer w.out w.back w.met h.link n m can
+
+  -- what the peer's link took is a beginning of the spelling of what our layer put
+  pub taken_begins : IsPrefix (w.peer.of_session m).taken (spelled (h.known n).end.given)
+  taken_begins = prefix_trans (w.peer.of_session m).taken (h.known n).down (spelled (h.known n).end.given) pair_begins.there (h.each n).begins
+
+  pub heard_few : (w.theirs m).heard ≤ length (h.known n).end.given
+  heard_few =
+      let some : (w.theirs m).heard ≤ length (w.peer.of_session m).taken = (h.peers m).heard in
+      let fits : length (w.peer.of_session m).taken ≤ length (spelled (h.known n).end.given) = prefix_length (w.peer.of_session m).taken (spelled (h.known n).end.given) taken_begins in
+      let long : length (spelled (h.known n).end.given) ≡ length (h.known n).end.given = spelled_length (h.known n).end.given in
+      omega (arith, some, fits, long)
+
+  pub up_few : length (h.known n).up ≤ length (h.puts m)
+  up_few =
+      let prefix = pair_begins.back in
+      read_length (longest_user c.long_data) (h.known n).up prefix.0 (h.puts m) (subst (λ (g : List (List ℕ)). ReadAs (longest_user c.long_data) g (h.puts m)) (sym prefix.1) (h.peers m).reads)
+
+-- what is at a place is within
+pub place_within : {T : Type 0} (xs : List T) (n : ℕ) (x : T) → slice_get xs n ≡ Some x → n + 1 ≤ length xs
+place_within {T} [] n x at = absurd (cc)
+place_within {T} (y ∷ ys) zero x at = omega (arith)
+place_within {T} (y ∷ ys) (suc n) x at = (let less : n + 1 ≤ length ys = place_within ys n x at in omega (arith, less))

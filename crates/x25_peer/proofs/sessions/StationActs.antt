@@ -1,0 +1,314 @@
+-- What the station does beside a peer over sessions, act by act.
+use Rattle.std.proofs.Common.{◌≡◌, ℕ, ◌==◌, ◌≤◌, inl, inr, List, [], ◌∷◌, ◌++◌, length, drop, Bool, true, false, ◌&&◌, if◌then◌else◌, Option, Some, None, option_to_list, refl, sym, ap, subst, ◌∙◌, append-nil, eq-eqb}
+use Rattle.std.proofs.lemmas.List.{drop-append-le}
+use Rattle.std.specs.Prelude.{remove}
+use Rattle.x25_frame.specs.Frame.{PlainFrame}
+use Rattle.x25_frame.specs.Reading.{frame_of}
+use Rattle.x25_packet.specs.Packet.{PlainPacket}
+use Rattle.x25_packet.specs.Spelling.{longest_user}
+use Rattle.x25_link.specs.declared.error.LinkError.{LinkError}
+use Rattle.x25_link.specs.declared.phase.Phase.{Phase}
+use Rattle.x25_link.specs.declared.phase.Phase.TheVariants.{Down, Up, Waiting, Closed}
+use Rattle.x25_link.specs.declared.phase.Notes.{Notes}
+use Rattle.x25_link.specs.Outgoing.{waits}
+use Rattle.x25_link.specs.Station.{LinkStation, is_up}
+use Rattle.x25_link.specs.Hearing.{Step as LinkStep, other}
+use Rattle.x25_link.specs.Link.{alone, take_step, timer_refusal, timer_step, connect_refusal, connect_step, disconnect_refusal, disconnect_step, abandon_step}
+use Rattle.x25_line.specs.laws.Stations as line
+use Rattle.x25_line.specs.laws.StationClaims.{number_in}
+use Rattle.x25_line.specs.laws.Sessions as links
+use Rattle.x25_line.specs.laws.Sessions.{Entry, Meeting, Sessions, acts, after_step, heard, sent_in, extended, begun_by}
+use Rattle.x25_line.specs.laws.SessionClaims.{SomeMet, InStep}
+use Rattle.x25_line.specs.laws.InWindow.{IsPrefix}
+use Rattle.x25_sessions.specs.laws.PeerSessions.{PeerEnd, PeerSessions, goes_on, Ours, IsTimely, IsDue, both_ends, with_peer}
+use Rattle.x25_layer.specs.Layer.{Layer}
+use Rattle.x25_layer.specs.Calls.{LayerRequest, layer_outcome}
+use Rattle.x25_layer.specs.Rounds.{LinkView, Refuses, went}
+use Rattle.x25_layer.specs.declared.error.LayerError.TheVariants as layer_error
+use Rattle.x25_layer.specs.code.FitsLayer.{is_full}
+use Rattle.x25_layer.specs.laws.TwoLayers.{End, TwoLayers, Move, Requests, HandsUp}
+use Rattle.x25_layer.specs.laws.RoundLaw.{moves_all, pulls_of}
+use Rattle.x25_station.specs.Config.{Settings, link_settings, layer_settings, longest_packet}
+use Rattle.x25_station.specs.declared.error.StationError.{StationError}
+use Rattle.x25_station.specs.declared.error.StationError.TheVariants as error
+use Rattle.x25_station.specs.Command.{Connects as ConnectsCommand, Disconnects as DisconnectsCommand}
+use Rattle.x25_station.specs.Entry.{connect_asked, disconnect_asked}
+use Rattle.x25_station.specs.Station.{Station, view_of}
+use Rattle.x25_station.specs.Step.{Step, Outcome, Did, Refused, unless, led_by, did, entries_of_outcome, follows, abandons, receives, requests}
+use Rattle.x25_station.specs.laws.JoinLaw.{station_with, IsJoined}
+use Rattle.x25_station.specs.laws.KeepLaw.{IsKept, KeptBy}
+use Rattle.x25_station.specs.laws.ReadLaw.{AreReadable, RequestsOctets, IsReachedByOctets}
+use Rattle.x25_peer.specs.laws.Beside.{ReadAs}
+use Rattle.x25_peer.specs.laws.BesideSessions.{Theirs, BesideSessions, stepped, followed, heard_here, links_of}
+use Rattle.x25_peer.proofs.LayerPart.{AllStay, pulls_stay, moves_reached}
+use Rattle.x25_peer.proofs.BesideRuns.{Next, next_read, timer_packet}
+use Rattle.x25_peer.proofs.sessions.Meetings.{CanMeet, could_meet, all_some, all_both, met_can_meet, could_meet_some}
+use Rattle.x25_peer.proofs.sessions.SessionLinks.{links_with, LinkReached, extended_none, by_lists, link_steps}
+use Rattle.x25_peer.proofs.sessions.SessionLayers.{alone_at, AreAsked, pulls_asked, asked_reached, asked_tells}
+use Rattle.x25_peer.proofs.sessions.Standing.{Below, Known, PairReached, downs_of, ups_of, Stands, both_begin, heard_few}
+use Rattle.x25_peer.proofs.sessions.StationSteps.{AreSilent, goes, follows_on}
+
+-- a link that isn't up refuses a command to the layer
+refused_did : {A : Type 0} (e : StationError) (step : Step) → Refused e ≡ Did step → A
+refused_did e step is = absurd (subst (λ (o : Outcome). elim o as (λ _. Type 0) [ Did x ↦ ⊥ | Refused y ↦ Unit {0} ]) is tt)
+
+did_up : (c : Settings) (s : Station) (request : LayerRequest) (step : Step) → requests c s request ≡ Did step → is_up s.link.phase ≡ true
+did_up c s request step is = by (is_up s.link.phase) refl
+  where
+    view : LinkView
+    view = view_of (link_settings c) s.link
+
+    by : (b : Bool) → is_up s.link.phase ≡ b → is_up s.link.phase ≡ true
+    by true up = up
+    by false off =
+        refused_did (error.Layer layer_error.NotUp) step
+        (sym (ap (λ (b : Bool). did c (alone s.link) (entries_of_outcome (layer_settings c) s.layer request (layer_outcome (layer_settings c) (view.waits [] == 256) s.layer request))
+        (if b then went view (layer_settings c) (layer_outcome (layer_settings c) (view.waits [] == 256) s.layer request) else Refuses layer_error.NotUp)) off) ∙ is)
+
+may_connect : (p : Phase) → connect_refusal p ≡ None → p ≡ Down
+may_connect Down is = refl
+may_connect Waiting is = absurd (cc)
+may_connect Up is = absurd (cc)
+may_connect Closed is = absurd (cc)
+
+silent : AreSilent []
+silent = record { entries = refl; told = refl }
+
+-- nothing is handed up
+handed_none : (c : Settings) (link : LinkStation) (begun : ℕ) (down up : ℕ → List (List ℕ)) (peer : PeerEnd) (out back : List Entry) (met : List Meeting)
+    → LinkReached (link_settings c) link begun down up peer out back met → LinkReached (link_settings c) link begun down (extended up begun []) peer out back met
+handed_none c link begun down up peer out back met l = by_lists (link_settings c) peer down up down (extended up begun []) (λ n. refl) (λ n. sym (extended_none up begun n)) l
+
+module _ (below : Below) (c : Settings) (low : 1 ≤ c.window) (high : c.window ≤ 7) (few : c.channels ≤ 16) (w : BesideSessions) (h : Stands c w) where
+  abbrev Link : LinkStation → ℕ → (ℕ → List (List ℕ)) → List Entry → List Entry → List Meeting → Type 0
+  Link link begun up out back met = LinkReached (link_settings c) link begun (downs_of h.known) up w.peer out back met
+
+  abbrev sent : ℕ → List PlainFrame → List Entry
+  sent session frames = w.out ++ sent_in session c.role frames
+
+  abbrev GoesBy : List Entry → List Meeting → LinkStep → Type 0
+  GoesBy left met k = Link k.side.near (begun_by k.notes.up w.begun) (extended (ups_of h.known) (begun_by k.notes.up w.begun) (option_to_list k.packet)) (sent (begun_by k.notes.up w.begun) k.side.out) left met
+
+  as_it_met : (n m : ℕ) → CanMeet n m w.met → CanMeet n m w.met
+  as_it_met n m can = can
+
+  abbrev b : ℕ
+  b = w.begun
+
+  abbrev known_now : Known
+  known_now = h.known w.begun
+
+  -- ---- a command to the layer
+
+  pub asks : (request : LayerRequest) (step : Step) → RequestsOctets request → requests c w.near request ≡ Did step → Stands c (stepped c w w.begun w.back w.met step)
+  asks request step octets is =
+      let up : is_up w.near.link.phase ≡ true = did_up c w.near request step is in
+      let now = h.now up in
+      let e : End = known_now.end in
+      let there : requests c (station_with w.near.link e.layer) request ≡ Did step = subst (λ (l : Layer). requests c (station_with w.near.link l) request ≡ Did step) (sym now.layer) is in
+      let j = below.request c w.near.link (alone_at e) request step (h.each b).out h.kept.few there in
+      let ms : List Move = Requests (waits w.near.link.outgoing == 256) request ∷ pulls_of j.0 in
+      let asked : AreAsked ms = (tt, pulls_asked j.0) in
+      let stay : AllStay ms = (tt, octets, pulls_stay j.0) in
+      let v : TwoLayers = moves_all (layer_settings c) (alone_at e) ms in
+      let ps : List PlainPacket = j.2.packets in
+      let pair : (m : ℕ) → CanMeet b m w.met → PairReached c (record { end = v.near; down = []; up = known_now.up }) (w.theirs m) (h.puts m) =
+      (λ m can. (
+      let t : Theirs = w.theirs m in
+      let r = asked_reached c.role c.long_data c.channels t.layer e (drop t.heard e.given) (drop (length known_now.up) (h.puts m)) ms asked stay (h.pairs b m can) in
+      let line : drop t.heard e.given ++ v.out ≡ drop t.heard v.near.given =
+      ap (λ (l : List PlainPacket). drop t.heard e.given ++ l) j.2.layer.out ∙ sym (drop-append-le t.heard e.given ps (heard_few below c low high w h b m can)) ∙ ap (λ (l : List PlainPacket). drop t.heard l) (sym j.2.layer.given) in
+      subst (λ (o : List PlainPacket). IsReachedByOctets c.role c.long_data c.channels (record { near = v.near; peer = t.layer; out = o; back = drop (length known_now.up) (h.puts m) })) line r)) in
+      let some = could_meet_some b w.met (below.step (link_settings c) low high (links_with w.near.link b h.link.downs h.link.ups w.peer w.out w.back w.met) h.link.reached) in
+      let readable : AreReadable c.long_data v.near.given = below.readable c.role c.long_data c.channels few _ (pair some.0 some.1) in
+      let kept : IsKept step.near = subst KeptBy is (below.ask c w.near request h.kept) in
+      let same_up : known_now.up ++ [] ≡ known_now.up = append-nil known_now.up in
+      goes below c few w h e [] [] v (alone w.near.link) [] step [] w.back w.met up up j.2 readable
+      (handed_none c w.near.link b (downs_of h.known) (ups_of h.known) w.peer (w.out ++ []) w.back w.met (subst (λ (o : List Entry). Link w.near.link b (ups_of h.known) o w.back w.met) (sym (append-nil w.out)) h.link))
+      (λ nothing. asked_tells (layer_settings c) (alone_at e) ms asked ∙ (h.each b).alone (sym same_up ∙ nothing)) as_it_met
+      (λ m can. subst (λ (u : List (List ℕ)). PairReached c (record { end = v.near; down = []; up = u }) (w.theirs m) (h.puts m)) (sym same_up) (pair m can)) kept
+
+  -- ---- commands to the link, and timer T1
+
+  acted : (act : line.Act) (k : LinkStep) → ((downs ups : ℕ → List (List ℕ)) → IsTimely (link_settings c) act (links_with w.near.link b downs ups w.peer w.out w.back w.met))
+      → ((downs ups : ℕ → List (List ℕ)) → (let v = both_ends (links_with w.near.link b downs ups w.peer w.out w.back w.met) in acts (link_settings c) act v ≡ after_step (link_settings c) v w.back w.met [] k))
+      → GoesBy w.back w.met k
+  acted act k timely is = link_steps (link_settings c) w.peer w.near.link b (downs_of h.known) (ups_of h.known) w.out w.back w.back w.met w.met act k timely is h.link
+
+  pub connects : connect_refusal w.near.link.phase ≡ None → Stands c (followed c w (connect_asked ∷ []) w.back w.met (connect_step (link_settings c) w.near.link))
+  connects none =
+      let k : LinkStep = connect_step (link_settings c) w.near.link in
+      let kept : IsKept (follows c w.near.layer k).near = subst KeptBy (ap (λ (r : Option LinkError). unless r (led_by (connect_asked ∷ []) (follows c w.near.layer k))) none) (below.command c w.near ConnectsCommand h.kept) in
+      follows_on below c few w h (connect_asked ∷ []) (record { entries = refl; told = refl }) w.back w.met k (below.connect_tells (link_settings c) w.near.link (may_connect w.near.link.phase none)) refl
+      (acted line.Connect k (λ downs ups. tt)
+      (λ downs ups. ap (λ (r : Option LinkError). links.unless r (both_ends (links_with w.near.link b downs ups w.peer w.out w.back w.met)) (after_step (link_settings c) (both_ends (links_with w.near.link b downs ups w.peer w.out w.back w.met)) w.back w.met [] k)) none)) as_it_met kept
+
+  pub disconnects : disconnect_refusal w.near.link.phase ≡ None → Stands c (followed c w (disconnect_asked ∷ []) w.back w.met (disconnect_step (link_settings c) w.near.link))
+  disconnects none =
+      let k : LinkStep = disconnect_step (link_settings c) w.near.link in
+      let kept : IsKept (follows c w.near.layer k).near = subst KeptBy (ap (λ (r : Option LinkError). unless r (led_by (disconnect_asked ∷ []) (follows c w.near.layer k))) none) (below.command c w.near DisconnectsCommand h.kept) in
+      follows_on below c few w h (disconnect_asked ∷ []) (record { entries = refl; told = refl }) w.back w.met k (below.disconnect_tells (link_settings c) w.near.link) refl
+      (acted line.Disconnect k (λ downs ups. tt)
+      (λ downs ups. ap (λ (r : Option LinkError). links.unless r (both_ends (links_with w.near.link b downs ups w.peer w.out w.back w.met)) (after_step (link_settings c) (both_ends (links_with w.near.link b downs ups w.peer w.out w.back w.met)) w.back w.met [] k)) none)) as_it_met kept
+
+  pub fires : timer_refusal w.near.link ≡ None → (w.near.link.phase ≡ Waiting → IsDue (link_settings c) (links_of w)) → Stands c (followed c w [] w.back w.met (timer_step (link_settings c) w.near.link))
+  fires none due =
+      let k : LinkStep = timer_step (link_settings c) w.near.link in
+      let kept : IsKept (follows c w.near.layer k).near = subst KeptBy (ap (λ (r : Option LinkError). unless r (follows c w.near.layer k)) none) (below.timer c w.near h.kept) in
+      follows_on below c few w h [] silent w.back w.met k (below.timer_tells (link_settings c) w.near.link) (timer_packet (link_settings c) w.near.link)
+      (acted line.T1 k (λ downs ups waiting. (let d = due waiting in record { sabm = d.sabm; ua = d.ua; crossing = d.crossing }))
+      (λ downs ups. ap (λ (r : Option LinkError). links.unless r (both_ends (links_with w.near.link b downs ups w.peer w.out w.back w.met)) (after_step (link_settings c) (both_ends (links_with w.near.link b downs ups w.peer w.out w.back w.met)) w.back w.met [] k)) none)) as_it_met kept
+
+  -- ---- octets come
+
+  module _ (e : Entry) (rest : List Entry) (front : w.back ≡ e ∷ rest) where
+    -- a count is full: the link is left, and the octets are lost
+    pub abandons_it : abandons c w.near ≡ true → Stands c (followed c w [] rest w.met (abandon_step (link_settings c) w.near.link))
+    abandons_it full =
+        let k : LinkStep = abandon_step (link_settings c) w.near.link in
+        let up : is_up w.near.link.phase ≡ true = both_true (is_up w.near.link.phase) (is_full (layer_settings c) w.near.layer) full in
+        let l = acted line.Abandon k (λ downs ups. tt)
+        (λ downs ups. ap (λ (x : Bool). if x then after_step (link_settings c) (both_ends (links_with w.near.link b downs ups w.peer w.out w.back w.met)) w.back w.met [] k
+        else both_ends (links_with w.near.link b downs ups w.peer w.out w.back w.met)) up) in
+        let session : ℕ = begun_by k.notes.up b in
+        let v : PeerSessions = links_with k.side.near session l.downs l.ups w.peer (sent session k.side.out) w.back w.met in
+        let kept : IsKept (follows c w.near.layer k).near =
+        subst (λ (x : Bool). IsKept (follows c w.near.layer (if x then k else take_step (link_settings c) e.octets w.near.link)).near) full (below.takes c w.near e.octets h.kept) in
+        follows_on below c few w h [] silent rest w.met k (below.abandon_tells (link_settings c) w.near.link) refl
+        (subst (λ (es : List Entry). GoesBy es w.met k) (ap (λ (es : List Entry). remove es 0) front)
+        (record {
+          downs = l.downs;
+          ups = l.ups;
+          reached = goes_on v (with_peer w.peer (acts (link_settings c) (line.Lose 0) (both_ends v))) l.reached (Ours (line.Lose 0) tt);
+          is_down = l.is_down;
+          is_up = l.is_up;
+        }))
+        as_it_met kept
+      where
+        both_true : (x y : Bool) → (x && y) ≡ true → x ≡ true
+        both_true true y is = refl
+        both_true false y is = is
+
+    -- the link takes them
+    abbrev k : LinkStep
+    k = take_step (link_settings c) e.octets w.near.link
+
+    abbrev met : List Meeting
+    met = heard_here c w e
+
+    taken : GoesBy rest met k
+    taken = link_steps (link_settings c) w.peer w.near.link b (downs_of h.known) (ups_of h.known) w.out w.back rest w.met met line.Deliver k (λ downs ups. tt)
+        (λ downs ups. ap (λ (es : List Entry). links.delivered (link_settings c) es (both_ends (links_with w.near.link b downs ups w.peer w.out w.back w.met))) front) h.link
+
+    could : (n m : ℕ) → CanMeet n m met → CanMeet n m w.met
+    could n m can = could_meet n m (is_up w.near.link.phase) (number_in (frame_of (other c.role) longest_packet e.octets)) (record { near = b; far = e.session }) w.met can
+
+    module _ (not_full : abandons c w.near ≡ false) where
+      same : receives c w.near e.octets ≡ follows c w.near.layer k
+      same = ap (λ (x : Bool). follows c w.near.layer (if x then abandon_step (link_settings c) w.near.link else k)) not_full
+
+      kept : IsKept (follows c w.near.layer k).near
+      kept = subst (λ (s : Step). IsKept s.near) same (below.takes c w.near e.octets h.kept)
+
+      -- a packet is handed up
+      module _ (o : List ℕ) (some : k.packet ≡ Some o) where
+        noted : k.notes.up ≡ false
+        noted = ap (λ (n : Notes). n.up) ((below.take_hands_up (link_settings c) e.octets w.near.link).quiet o some)
+
+        was_up : is_up w.near.link.phase ≡ true
+        was_up = ap is_up ((below.take_hands_up (link_settings c) e.octets w.near.link).up o some)
+
+        still_up : is_up k.side.near.phase ≡ true
+        still_up = (below.take_tells (link_settings c) e.octets w.near.link).stays ((below.take_hands_up (link_settings c) e.octets w.near.link).quiet o some) ∙ was_up
+
+        link : Link k.side.near b (extended (ups_of h.known) b (o ∷ [])) (sent b k.side.out) rest met
+        link =
+            subst (λ (u : Bool). Link k.side.near (begun_by u b) (extended (ups_of h.known) (begun_by u b) (o ∷ [])) (sent (begun_by u b) k.side.out) rest met) noted
+            (subst (λ (p : Option (List ℕ)). Link k.side.near (begun_by k.notes.up b) (extended (ups_of h.known) (begun_by k.notes.up b) (option_to_list p)) (sent (begun_by k.notes.up b) k.side.out) rest met) some taken)
+
+        abbrev up : List (List ℕ)
+        up = known_now.up ++ o ∷ []
+
+        up_here : extended (ups_of h.known) b (o ∷ []) b ≡ up
+        up_here = ap (λ (x : Bool). if x then known_now.up ++ o ∷ [] else known_now.up) (eq-eqb b b refl)
+
+        in_step : InStep met
+        in_step = below.step (link_settings c) low high (links_with k.side.near b link.downs link.ups w.peer (sent b k.side.out) rest met) link.reached
+
+        -- so this session met one, and no other
+        has_met : SomeMet (λ (p : Meeting). p.near ≡ b) met
+        has_met = elim ((below.unmet (link_settings c) low high (links_with k.side.near b link.downs link.ups w.peer (sent b k.side.out) rest met) link.reached).near b) [
+          | inl none ↦ absurd (never known_now.up (sym up_here ∙ sym (link.is_up b) ∙ none))
+          | inr some ↦ some
+        ]
+          where
+            never : (xs : List (List ℕ)) → xs ++ o ∷ [] ≡ [] → ⊥
+            never [] e = cc
+            never (x ∷ xs) e = cc
+
+        partner : (m : ℕ) × CanMeet b m met
+        partner = all_some (λ (p : Meeting). CanMeet p.near p.far met) (λ (p : Meeting). p.near ≡ b) ((m : ℕ) × CanMeet b m met)
+            (λ (p : Meeting) can is. (p.far, subst (λ (i : ℕ). CanMeet i p.far met) is can)) met (met_can_meet met in_step) has_met
+
+        abbrev there : ℕ
+        there = partner.0
+
+        alone_there : (m : ℕ) → CanMeet b m met → there ≡ m
+        alone_there m can =
+            all_some (λ (p : Meeting). ((p.near ≡ b → p.far ≡ there) × (p.far ≡ there → p.near ≡ b)) × ((p.near ≡ b → p.far ≡ m) × (p.far ≡ m → p.near ≡ b))) (λ (p : Meeting). p.near ≡ b) (there ≡ m)
+            (λ (p : Meeting) both is. sym (both.0.0 is) ∙ both.1.0 is) met
+            (all_both (λ (p : Meeting). (p.near ≡ b → p.far ≡ there) × (p.far ≡ there → p.near ≡ b)) (λ (p : Meeting). (p.near ≡ b → p.far ≡ m) × (p.far ≡ m → p.near ≡ b)) met partner.1 can) has_met
+
+        -- what came is the next of what the peer's layer put there
+        next : Next (longest_user c.long_data) o (drop (length known_now.up) (h.puts there)) (drop (length up) (h.puts there))
+        next =
+            let both = both_begin below (link_settings c) low high k.side.near b (downs_of h.known) (extended (ups_of h.known) b (o ∷ [])) w.peer (sent b k.side.out) rest met link b there partner.1 in
+            let prefix : IsPrefix up (w.peer.of_session there).given = subst (λ (u : List (List ℕ)). IsPrefix u (w.peer.of_session there).given) up_here both.back in
+            next_read (longest_user c.long_data) known_now.up o prefix.0 (h.puts there)
+            (subst (λ (g : List (List ℕ)). ReadAs (longest_user c.long_data) g (h.puts there)) (sym prefix.1) (h.peers there).reads)
+
+        abbrev theirs : Theirs
+        theirs = w.theirs there
+
+        abbrev ours : End
+        ours = known_now.end
+
+        abbrev behind : List PlainPacket
+        behind = drop (length up) (h.puts there)
+
+        abbrev two : TwoLayers
+        two = record { near = ours; far = ours; out = drop theirs.heard ours.given; back = drop (length known_now.up) (h.puts there) }
+
+        pub handed : Stands c (stepped c w b rest met (follows c w.near.layer k))
+        handed =
+            let at : ours.layer ≡ w.near.layer = (h.now was_up).layer in
+            let free : abandons c (station_with w.near.link ours.layer) ≡ false = subst (λ (l : Layer). abandons c (station_with w.near.link l) ≡ false) (sym at) not_full in
+            let j₀ = below.receive c w.near.link two e.octets o next.packet behind (h.each b).out next.front free some next.reads in
+            let ms : List Move = HandsUp ∷ pulls_of j₀.0 in
+            let v : TwoLayers = moves_all (layer_settings c) two ms in
+            let j : IsJoined c two v k.side behind (follows c w.near.layer k) =
+            subst (λ (s : Step). IsJoined c two v k.side behind s) (ap (λ (l : Layer). receives c (station_with w.near.link l) e.octets) at ∙ same) j₀.2 in
+            let ps : List PlainPacket = j.packets in
+            let moved = moves_reached c.role c.long_data c.channels theirs.layer two ms (tt, tt, pulls_stay j₀.0) (h.pairs b there (could b there partner.1)) in
+            let line : v.out ≡ drop theirs.heard v.near.given =
+            j.layer.out ∙ sym (drop-append-le theirs.heard ours.given ps (heard_few below c low high w h b there (could b there partner.1))) ∙ ap (λ (l : List PlainPacket). drop theirs.heard l) (sym j.layer.given) in
+            let pair : PairReached c (record { end = v.near; down = []; up = up }) theirs (h.puts there) =
+            subst (λ (x : List PlainPacket). IsReachedByOctets c.role c.long_data c.channels (record { near = v.near; peer = theirs.layer; out = drop theirs.heard v.near.given; back = x })) j.back
+            (subst (λ (x : List PlainPacket). IsReachedByOctets c.role c.long_data c.channels (record { near = v.near; peer = theirs.layer; out = x; back = v.back })) line moved) in
+            goes below c few w h ours (drop theirs.heard ours.given) (drop (length known_now.up) (h.puts there)) v k.side behind (follows c w.near.layer k) (o ∷ []) rest met still_up was_up j
+            (below.readable c.role c.long_data c.channels few _ pair) link (λ nothing. absurd (never known_now.up nothing)) could
+            (λ m can. subst (λ (i : ℕ). PairReached c (record { end = v.near; down = []; up = up }) (w.theirs i) (h.puts i)) (alone_there m can) pair) kept
+          where
+            never : (xs : List (List ℕ)) → xs ++ o ∷ [] ≡ [] → ⊥
+            never [] e = cc
+            never (x ∷ xs) e = cc
+
+        pub handed_up : Stands c (followed c w [] rest met k)
+        handed_up = subst (λ (u : Bool). Stands c (stepped c w (begun_by u b) rest met (follows c w.near.layer k))) (sym noted) handed
+
+      pub comes : Stands c (followed c w [] rest met k)
+      comes = by k.packet refl
+        where
+          by : (p : Option (List ℕ)) → k.packet ≡ p → Stands c (followed c w [] rest met k)
+          by (Some o) some = handed_up o some
+          by None none = follows_on below c few w h [] silent rest met k (below.take_tells (link_settings c) e.octets w.near.link) none taken could kept

@@ -1,0 +1,56 @@
+-- What holds of a station and any peer over set-up and re-set-up at any moment.
+use Rattle.std.specs.Prelude.{◌≡◌, ◌⊎◌, ℕ, ◌≤◌, [], true}
+use Rattle.x25_link.specs.Station.{is_up}
+use Rattle.x25_line.specs.laws.Sessions.{Meeting}
+use Rattle.x25_line.specs.laws.SessionClaims.{AllMet, SomeMet, InStep}
+use Rattle.x25_sessions.specs.laws.PeerSessions.{In}
+use Rattle.x25_handshakes.specs.laws.Handshake.{At}
+use Rattle.x25_handshakes.specs.laws.PeerLayer.{PeerChannels}
+use Rattle.x25_layer.specs.laws.Transcript.{name_of}
+use Rattle.x25_layer.specs.laws.Quiet.{AreNoFaults}
+use Rattle.x25_layer.specs.laws.PeerClaims.{peer_call, peer_stretch, peer_name, of_call, StretchIsInOrder}
+use Rattle.x25_layer.specs.laws.PeerClaims.{CallIsInOrder}
+use Rattle.x25_station.specs.Config.{Settings}
+use Rattle.x25_station.specs.Entry.{layer_entries, layer_notices}
+use Rattle.x25_peer.specs.laws.BesideSessions.{Own, BesideSessions, IsReached}
+
+-- k is 1 to 7, and there are at most 16 channels
+abbrev pub WithAnyPeer : (BesideSessions → Type 0) → Type 0
+WithAnyPeer Holds =
+    (c : Settings) → 1 ≤ c.window → c.window ≤ 7 → c.channels ≤ 16 → (w : BesideSessions) → IsReached c w → Holds w
+
+-- sessions meet one to one, and in order at both ends
+abbrev pub MeetInStep : BesideSessions → Type 0
+MeetInStep w = InStep w.met
+
+-- Of a session of the station and one of the peer, on a channel, where both ends count alike there: of a call where
+-- that is so of restarts and clears, and of a stretch where it is so of resets too.
+pub record IsInOrder (k : ℕ) (own : Own) (layer : At PeerChannels) : Type 0 where
+  pub calls : of_call (name_of own.layer k) ≡ of_call (peer_name layer k)
+      → CallIsInOrder k (name_of own.layer k) (layer_entries own.entries) (peer_call layer k)
+  pub stretch : name_of own.layer k ≡ peer_name layer k
+      → StretchIsInOrder k (name_of own.layer k) (layer_entries own.entries) (own.layer.circuits k)
+      (peer_stretch layer k)
+
+-- so of each two sessions that meet, on each channel
+abbrev pub MetAreInOrder : BesideSessions → Type 0
+MetAreInOrder w = AllMet (λ (m : Meeting). (k : ℕ) → IsInOrder k (w.own m.near) (w.theirs m.far).layer) w.met
+
+-- in a session that meets none nothing is reported to the user, and the peer's layer takes nothing
+pub record UnmetAreToldNothing (w : BesideSessions) : Type 0 where
+  pub near : (n : ℕ) → (layer_notices (w.own n).entries ≡ []) ⊎ SomeMet (λ (m : Meeting). m.near ≡ n) w.met
+  pub peer : (n : ℕ) → ((w.theirs n).heard ≡ 0) ⊎ SomeMet (λ (m : Meeting). m.far ≡ n) w.met
+
+-- the session of an end that is in one meets no other than the latest of the other end
+pub record EachMeetsLatest (w : BesideSessions) : Type 0 where
+  pub near : is_up w.near.link.phase ≡ true
+      → AllMet (λ (m : Meeting). m.near ≡ w.begun → m.far ≡ w.peer.begun) w.met
+  pub peer : w.peer.stand ≡ In → AllMet (λ (m : Meeting). m.far ≡ w.peer.begun → m.near ≡ w.begun) w.met
+
+-- where the link is up, what is known of the latest session of the station is of the station as it is
+abbrev pub UpIsLatest : BesideSessions → Type 0
+UpIsLatest w = is_up w.near.link.phase ≡ true → (w.own w.begun).layer ≡ w.near.layer
+
+-- the station reports no error of procedure, in no session
+abbrev pub FindsNoError : BesideSessions → Type 0
+FindsNoError w = (n : ℕ) → AreNoFaults (layer_notices (w.own n).entries)

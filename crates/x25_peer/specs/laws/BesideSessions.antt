@@ -1,0 +1,202 @@
+-- A station and any peer, link and packet layer, over a line of octets that keeps order and may lose or visibly damage
+-- any frame (profile: the line), set up and set up again by either end at any moment. A session of the station begins
+-- as it notes LinkUp, one of the peer by its rules of set-up, and each lasts until the next begins; with each its
+-- packet layer begins anew. docs/PEER.md has the peer's rules.
+use Rattle.std.specs.Prelude.{◌≡◌, ℕ, ◌+◌, ◌==◌, true, false, if◌then◌else◌, List, [], ◌∷◌, ◌++◌, remove, slice_get}
+use Rattle.std.specs.Prelude.{Bool, Some, None, Ok}
+use Rattle.x25_frame.specs.Frame.{ua}
+use Rattle.x25_frame.specs.Reading.{frame_of}
+use Rattle.x25_packet.specs.Packet.{PlainPacket}
+use Rattle.x25_packet.specs.Spelling.{longest_user}
+use Rattle.x25_packet.specs.Reading.{packet_of}
+use Rattle.x25_link.specs.declared.phase.Phase.TheVariants.{Waiting}
+use Rattle.x25_link.specs.Station.{is_up}
+use Rattle.x25_link.specs.Hearing.{Step as LinkStep, other}
+use Rattle.x25_link.specs.Link.{take_step, timer_refusal, timer_step, connect_refusal, connect_step}
+use Rattle.x25_link.specs.Link.{disconnect_refusal, disconnect_step, abandon_step}
+use Rattle.x25_line.specs.laws.Stations.{is_visible}
+use Rattle.x25_line.specs.laws.StationClaims.{number_in}
+use Rattle.x25_line.specs.laws.Sessions.{Entry, Meeting, heard, replaced, sent_in, begun_by, no_lists}
+use Rattle.x25_line.specs.laws.Peer.{fresh_peer}
+use Rattle.x25_sessions.specs.laws.PeerSessions.{PeerEnd, PeerSessions, Out, In, now, with_now, stands, entry, heard_by}
+use Rattle.x25_sessions.specs.laws.PeerSessions.{IsDue, MaySend, MayHear, MayAnswer}
+use Rattle.x25_handshakes.specs.laws.Handshake.{At}
+use Rattle.x25_handshakes.specs.laws.PeerLayer.{PeerChannels, peer_fresh, peer_ready, LayerDeed, MayDoLayer, does_layer}
+use Rattle.x25_handshakes.specs.laws.PeerLayer.{layer_packet_of, layer_taking}
+use Rattle.x25_handshakes.specs.laws.PeerLayers.{other_role}
+use Rattle.x25_layer.specs.Layer.{Layer, goes_up}
+use Rattle.x25_layer.specs.Calls.{LayerRequest}
+use Rattle.x25_layer.specs.laws.Bare.{bare_layer}
+use Rattle.x25_layer.specs.laws.PeerJoined.{IsConfigured, Answers}
+use Rattle.x25_station.specs.Config.{Settings, longest_packet, link_settings, layer_settings}
+use Rattle.x25_station.specs.Entry.{StationEntry, connect_asked, disconnect_asked}
+use Rattle.x25_station.specs.Station.{Station, new_station}
+use Rattle.x25_station.specs.Step.{Step, Did, follows, led_by, abandons, requests}
+use Rattle.x25_station.specs.laws.ReadLaw.{RequestsOctets}
+use Rattle.x25_peer.specs.laws.Beside.{ReadAs}
+
+-- of a session of the station: its packet layer, as it is or was last while the link is or was up in it, and the
+-- transcript
+pub record Own : Type 0 where
+  pub layer : Layer
+  pub entries : List StationEntry
+
+-- of a session of the peer: its packet layer, and how many of the packets that its link took in it that took
+pub record Theirs : Type 0 where
+  pub layer : At PeerChannels
+  pub heard : ℕ
+
+-- The station, how many sessions it began, and what is known of each, by its number, the first being 1; the peer's
+-- link, and its packet layer in each of its sessions; the line from the station and the line to it, front first; and
+-- who heard whom, the latest first, the station's sessions being the near ones.
+pub record BesideSessions : Type 0 where
+  pub near : Station
+  pub begun : ℕ
+  pub own : ℕ → Own
+  pub peer : PeerEnd
+  pub theirs : ℕ → Theirs
+  pub out : List Entry
+  pub back : List Entry
+  pub met : List Meeting
+
+-- each session begins so: the station's layer with its RESTART, the peer's ready, and both with no call
+abbrev pub own_anew : Settings → Own
+own_anew c = record { layer = (goes_up (layer_settings c)).next; entries = [] }
+
+abbrev pub theirs_anew : Theirs
+theirs_anew = record { layer = peer_ready 0 peer_fresh; heard = 0 }
+
+-- nothing was set up yet
+abbrev pub start : Settings → BesideSessions
+start c = record {
+  near = new_station;
+  begun = 0;
+  own = λ n. own_anew c;
+  peer = record { stand = Out; begun = 0; of_session = λ n. fresh_peer };
+  theirs = λ n. theirs_anew;
+  out = [];
+  back = [];
+  met = [];
+}
+
+abbrev pub in_session : {A : Type 0} → ℕ → A → (ℕ → A) → ℕ → A
+in_session session x all n = if n == session then x else all n
+
+-- ---- the station
+
+-- it has stepped, in this session, and this is left on the line to it
+abbrev pub stepped : Settings → BesideSessions → ℕ → List Entry → List Meeting → Step → BesideSessions
+stepped c w session back met s = record w {
+  near = s.near;
+  begun = session;
+  own = in_session session (record {
+    layer = if is_up s.near.link.phase then s.near.layer else (w.own session).layer;
+    entries = (w.own session).entries ++ s.entries;
+  }) w.own;
+  out = w.out ++ sent_in session c.role s.out;
+  back = back;
+  met = met;
+}
+
+-- its link has stepped, and then its layer, by a command that has these entries; by LinkUp a session begins
+abbrev pub followed : Settings → BesideSessions → List StationEntry → List Entry → List Meeting → LinkStep
+    → BesideSessions
+followed c w asked back met k =
+    stepped c w (begun_by k.notes.up w.begun) back met (led_by asked (follows c w.near.layer k))
+
+-- who is met as octets come to it: where its link is up, who sent a frame with an N(R)
+abbrev pub heard_here : Settings → BesideSessions → Entry → List Meeting
+heard_here c w e = heard (is_up w.near.link.phase) (number_in (frame_of (other c.role) longest_packet e.octets))
+    (record { near = w.begun; far = e.session }) w.met
+
+-- ---- the peer
+
+-- the links, of which the peer's rules of set-up look at no packet of the station's
+abbrev pub links_of : BesideSessions → PeerSessions
+links_of w = record {
+  near = record { station = w.near.link; begun = w.begun; down = no_lists; up = no_lists };
+  peer = w.peer;
+  out = w.out;
+  back = w.back;
+  met = w.met;
+}
+
+-- packets go down to its link, one after another
+abbrev pub handed_down : List (List ℕ) → PeerEnd → PeerEnd
+handed_down [] p = p
+handed_down (octets ∷ all) p =
+    handed_down all (with_now (record (now p) { given = (now p).given ++ octets ∷ [] }) p)
+
+abbrev pub their_layer : BesideSessions → At PeerChannels
+their_layer w = (w.theirs w.peer.begun).layer
+
+-- its packet layer goes on to this in the latest session, and puts these octets
+abbrev pub layer_went : BesideSessions → At PeerChannels → ℕ → List (List ℕ) → BesideSessions
+layer_went w layer heard all = record w {
+  theirs = in_session w.peer.begun (record { layer = layer; heard = heard }) w.theirs;
+  peer = handed_down all w.peer;
+}
+
+-- ---- What may happen next, with these settings of the station.
+
+pub data Happens (c : Settings) (w : BesideSessions) : BesideSessions → Type 0 where
+  -- The station acts, by the definition that it meets call by call: a call of the user, pulls among them; that the
+  -- link be set up, or disconnected; timer T1 runs out, while UA is awaited where it is due; the front octets come, and
+  -- where a count of the layer is full the link is left and they are lost.
+  Asks : (request : LayerRequest) (step : Step) → RequestsOctets request → requests c w.near request ≡ Did step
+      → Happens c w (stepped c w w.begun w.back w.met step)
+  Connects : connect_refusal w.near.link.phase ≡ None
+      → Happens c w (followed c w (connect_asked ∷ []) w.back w.met (connect_step (link_settings c) w.near.link))
+  Disconnects : disconnect_refusal w.near.link.phase ≡ None
+      → Happens c w (followed c w (disconnect_asked ∷ []) w.back w.met (disconnect_step (link_settings c) w.near.link))
+  Fires : timer_refusal w.near.link ≡ None → (w.near.link.phase ≡ Waiting → IsDue (link_settings c) (links_of w))
+      → Happens c w (followed c w [] w.back w.met (timer_step (link_settings c) w.near.link))
+  Receives : (e : Entry) (rest : List Entry) → w.back ≡ e ∷ rest → abandons c w.near ≡ false
+      → Happens c w (followed c w [] rest (heard_here c w e) (take_step (link_settings c) e.octets w.near.link))
+  Abandons : (e : Entry) (rest : List Entry) → w.back ≡ e ∷ rest → abandons c w.near ≡ true
+      → Happens c w (followed c w [] rest w.met (abandon_step (link_settings c) w.near.link))
+  -- the octets at this place of a line are lost, or others come in their place
+  Loses : (place : ℕ) → Happens c w (record w { back = remove w.back place })
+  Damages : (place : ℕ) (octets : List ℕ) → is_visible octets ≡ true
+      → Happens c w (record w { back = replaced w.back place octets })
+  LosesThere : (place : ℕ) → Happens c w (record w { out = remove w.out place })
+  DamagesThere : (place : ℕ) (octets : List ℕ) → is_visible octets ≡ true
+      → Happens c w (record w { out = replaced w.out place octets })
+  -- The peer's link leaves its session without a frame, sends octets unasked, and octets come to it, which it may
+  -- answer by UA.
+  Leaves : Happens c w (record w { peer = stands Out w.peer })
+  Sends : (octets : List ℕ) (q : PeerEnd)
+      → MaySend (Unit {0}) (link_settings c) (links_of w) (frame_of (other c.role) longest_packet octets) q
+      → Happens c w (record w { peer = q; back = w.back ++ entry q octets ∷ [] })
+  Hears : (e : Entry) (rest : List Entry) (q : PeerEnd) → w.out ≡ e ∷ rest
+      → MayHear w.peer (frame_of c.role longest_packet e.octets) q
+      → Happens c w (record w {
+        peer = q;
+        out = rest;
+        met = heard_by w.peer (frame_of c.role longest_packet e.octets) e w.met;
+      })
+  AnswersByUa : (e : Entry) (rest : List Entry) (octets : List ℕ) (f : Bool) (q : PeerEnd) → w.out ≡ e ∷ rest
+      → frame_of (other c.role) longest_packet octets ≡ Ok (ua f)
+      → MayAnswer w.peer (frame_of c.role longest_packet e.octets) q
+      → Happens c w (record w { peer = q; out = rest; back = w.back ++ entry q octets ∷ [] })
+  -- in a session, its packet layer puts a packet, whose octets go down to its link
+  LayerDoes : (deed : LayerDeed) (p : PlainPacket) (octets : List ℕ) → w.peer.stand ≡ In
+      → MayDoLayer (their_layer w).side deed → bare_layer p ≡ layer_packet_of (their_layer w).side deed
+      → IsConfigured c.channels p → packet_of (longest_user c.long_data) octets ≡ Ok p
+      → Happens c w (layer_went w (does_layer (their_layer w).epoch (their_layer w).side deed)
+      (w.theirs w.peer.begun).heard (octets ∷ []))
+  -- it takes the next of the packets that its link took in this session, as they are read, and puts what answers it
+  LayerHears : (octets : List ℕ) (p : PlainPacket) (packets : List PlainPacket) (all : List (List ℕ))
+      → w.peer.stand ≡ In → slice_get (now w.peer).taken (w.theirs w.peer.begun).heard ≡ Some octets
+      → packet_of (longest_user c.long_data) octets ≡ Ok p
+      → Answers c.channels packets
+      (layer_taking (other_role c.role) (their_layer w).epoch (their_layer w).side (bare_layer p))
+      → ReadAs (longest_user c.long_data) all packets
+      → Happens c w (layer_went w
+      (layer_taking (other_role c.role) (their_layer w).epoch (their_layer w).side (bare_layer p)).next
+      ((w.theirs w.peer.begun).heard + 1) all)
+
+-- what is reached, event by event
+pub data IsReached (c : Settings) : BesideSessions → Type 0 where
+  at_start : IsReached c (start c)
+  goes_on : (w v : BesideSessions) → IsReached c w → Happens c w v → IsReached c v
