@@ -41,6 +41,7 @@ typedef struct {
     uint8_t channels; /* logical channels, 1 to 16 */
     bool long_data;   /* a call may have up to 128 octets of user data, in place of up to 16; the same at both ends */
     bool say_sizes;   /* each CALL and CALL ACCEPTED says packet sizes and windows, as X.25 over TCP asks for */
+    bool wide;        /* packets are read in all the forms that X.25 lets equipment send, and not only as a station writes them */
 } x25_settings;
 
 /* The name of a stretch of a channel, as an entry has it behind "at": the restarts done since link set-up, the clears done since

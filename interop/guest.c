@@ -5,6 +5,8 @@
  *   down                      takes lapb0 down: "down"
  *   tun                       the same with x25tun, a device of tun, whose packets go to and come from Ethernet as lapbether's frames do: "linked"
  *   facilities IN OUT WIN WOUT  the packet sizes (log 2) and windows of the sockets that follow; 0 0 0 0 sets none: "set"
+ *   options THROUGHPUT REVERSE CALLING CALLED  the other facilities of these: two octets in hexadecimal digits, 0 for none, and address
+ *                             extensions as digits, - for none: "set"
  *   echo 0|1                  whether circuits that are opened from now on send back what they take: "set"
  *   qbit 0|1                  whether their messages begin with an octet that is the Q bit: "set"
  *   listen ADDRESS            "listening"; each call that comes is accepted: "accepted SLOT .."
@@ -63,6 +65,10 @@ static int circuits[MOST_CIRCUITS];
 static volatile char is_closing[MOST_CIRCUITS];
 static int is_echo, is_qbit;
 static int sizes[4];
+static unsigned throughput, reverse;
+static struct x25_dte_facilities extensions;
+/* The device of the link, which says what facilities calls may have. */
+static const char *device;
 
 static void failed(const char *what) { say("@ %s: %s", what, strerror(errno)); }
 
@@ -95,6 +101,32 @@ static void make_route(const char *name) {
     memset(&route, 0, sizeof route);
     strcpy(route.device, name);
     if (ioctl(fd, SIOCADDRT, &route)) failed("route");
+    close(fd);
+    device = name;
+}
+
+/* An address extension: its digits, two in an octet. */
+static int put_digits(unsigned char *octets, const char *digits) {
+    int count = 0;
+    if (digits[0] == '-') return 0;
+    for (; digits[count]; count++) octets[count / 2] |= (digits[count] - '0') << (count % 2 ? 0 : 4);
+    return count;
+}
+
+static void set_options(char **word) {
+    struct x25_subscrip_struct it;
+    int fd = x25_socket();
+    memset(&extensions, 0, sizeof extensions);
+    memset(&it, 0, sizeof it);
+    throughput = strtoul(word[0], 0, 16);
+    reverse = strtoul(word[1], 0, 16);
+    extensions.calling_len = put_digits(extensions.calling_ae, word[2]);
+    extensions.called_len = put_digits(extensions.called_ae, word[3]);
+    strcpy(it.device, device);
+    it.global_facil_mask = X25_MASK_REVERSE | X25_MASK_THROUGHPUT | X25_MASK_PACKET_SIZE | X25_MASK_WINDOW_SIZE;
+    if (extensions.calling_len) it.global_facil_mask |= X25_MASK_CALLING_AE;
+    if (extensions.called_len) it.global_facil_mask |= X25_MASK_CALLED_AE;
+    if (ioctl(fd, SIOCX25SSUBSCRIP, &it)) failed("options"); else say("set");
     close(fd);
 }
 
@@ -153,12 +185,17 @@ static void prepare(int fd) {
     int on = 1;
     memset(&facilities, 0, sizeof facilities);
     if (is_qbit && setsockopt(fd, SOL_X25, X25_QBITINCL, &on, sizeof on)) failed("qbit");
-    if (!sizes[0]) return;
-    facilities.pacsize_in = sizes[0];
-    facilities.pacsize_out = sizes[1];
-    facilities.winsize_in = sizes[2];
-    facilities.winsize_out = sizes[3];
+    if (ioctl(fd, SIOCX25GFACILITIES, &facilities)) failed("facilities");
+    if (sizes[0]) {
+        facilities.pacsize_in = sizes[0];
+        facilities.pacsize_out = sizes[1];
+        facilities.winsize_in = sizes[2];
+        facilities.winsize_out = sizes[3];
+    }
+    facilities.throughput = throughput;
+    facilities.reverse = reverse;
     if (ioctl(fd, SIOCX25SFACILITIES, &facilities)) failed("facilities");
+    if (ioctl(fd, SIOCX25SDTEFACILITIES, &extensions)) failed("extensions");
 }
 
 static void tell_end(int slot, const char *why) {
@@ -286,6 +323,7 @@ static void obey(char **word) {
     else if (!strcmp(word[0], "tun")) { set_up_tun(); say("linked"); }
     else if (!strcmp(word[0], "down")) { set_up("lapb0", 0); say("down"); }
     else if (!strcmp(word[0], "facilities")) { for (int i = 0; i < 4; i++) sizes[i] = atoi(word[i + 1]); say("set"); }
+    else if (!strcmp(word[0], "options")) set_options(word + 1);
     else if (!strcmp(word[0], "echo")) { is_echo = atoi(word[1]); say("set"); }
     else if (!strcmp(word[0], "qbit")) { is_qbit = atoi(word[1]); say("set"); }
     else if (!strcmp(word[0], "listen")) start_to_listen(word[1]);

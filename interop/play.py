@@ -10,6 +10,7 @@ or 1 where a row failed.
 """
 
 import argparse
+import itertools
 import os
 import re
 import sys
@@ -26,6 +27,10 @@ XOT_PORTS, XOT = (5612, 5613), "XOT"
 T1 = 1.5
 SIZES = (1, 2, 100, 127, 128, 129, 255, 256, 257, 1000, 5000, 10_000)
 CHANNELS = 4
+# The facilities of the kernel's calls beside sizes and windows, each way that its sockets take: throughput class, reverse charging with fast
+# select (neither alone), address extensions of the calling and of the called end.
+REVERSE = "81"
+OPTIONS = list(itertools.product(("0", "bb"), ("0", REVERSE), ("-", "12345"), ("-", "678")))
 # The addresses that the guest listens at: with nothing set, with the Q bit shown to its user, with these sizes and windows.
 PLAIN, QUALIFIED, LARGE = 222, 333, 444
 LISTENERS = (("", PLAIN, ""), ("qbit 1", QUALIFIED, "qbit 0"), ("facilities 8 8 3 3", LARGE, "facilities 0 0 0 0"))
@@ -43,12 +48,13 @@ class Joined:
         self.guest, self._options, self.lose = guest, options, lose
         self.patience = 900 if lose not in (0, XOT) else 120
         self.trace = os.path.join(options.folder, f"trace-{lose}")
-        words = ["dce", "--t1", str(T1), "--n2", "60", "--channels", str(CHANNELS), "--trace", self.trace, "--stats", "--stay", "--x25", options.x25]
+        words = ["dce", "--t1", str(T1), "--n2", "60", "--channels", str(CHANNELS), "--long"]
+        words += ["--trace", self.trace, "--stats", "--stay", "--x25", options.x25]
         if lose == XOT:
             words += ["--xot", f"127.0.0.1:{XOT_PORTS[0]}", "--xot-listen", str(XOT_PORTS[1])]
             self.gateway = Gateway(PORTS[1], PORTS[0], *XOT_PORTS)
         else:
-            words += ["--udp", f"{PORTS[1]}:{PORTS[0]}", "--short-accept", "--lose", str(lose), "--seed", str(options.seed)]
+            words += ["--udp", f"{PORTS[1]}:{PORTS[0]}", "--lose", str(lose), "--seed", str(options.seed)]
         self.ours = Talker("station", [sys.executable, "-u", os.path.join(ROOT, "tools", "bridge.py"), *words], options.show)
 
     def ask(self, command, answer):
@@ -91,6 +97,12 @@ def set_up(it):
     if not any(line.startswith("dce linkup") for line in it.ours.said[since:]):
         it.ours.tell("dce connect")
     it.ours.hear(since, "dce restart", it.patience)
+
+
+def heard(trace):
+    """The frames of a trace that came."""
+    with open(trace) as file:
+        return [bytes.fromhex(line.split()[2]) for line in file if "\t> " in line]
 
 
 def channel_of(notice):
@@ -137,6 +149,51 @@ def calls(it):
         raise Missing("the guest's message came otherwise")
     it.both(lambda: it.guest.tell(f"close {slot}"), f"dce cleared ch={channel}", f"closing {slot}")
     it.order("facilities 0 0 0 0", "set")
+
+
+def facilities_of(throughput, reverse, calling, called):
+    """The facilities that a call of the kernel has with these options, those before sizes and windows, and those behind them."""
+    before = f"01{reverse:>02}" if reverse != "0" else ""
+    before += f"02{throughput}" if throughput != "0" else ""
+    extensions = [(code, digits) for code, digits in (("cb", calling), ("c9", called)) if digits != "-"]
+    behind = "000f" if extensions else ""
+    for code, digits in extensions:
+        octets = digits + "0" * (len(digits) % 2)
+        behind += f"{code}{1 + len(octets) // 2:02x}{len(digits):02x}{octets}"
+    return bytes.fromhex(before), bytes.fromhex(behind)
+
+
+def is_call(octets):
+    """Whether a frame is an I frame with a CALL."""
+    return len(octets) > 6 and not octets[1] & 1 and octets[4] == 0x0B
+
+
+def taken(it, options, data):
+    """Has the kernel call with these options; the call comes with their facilities, stands, and is cleared."""
+    it.order(f"options {' '.join(options)}", "set")
+    behind = it.guest.mark()
+    notice = it.heed(f"call 111 222 {data}", "dce incoming")
+    channel = channel_of(notice)
+    it.ours.tell(f"dce accept {channel}")
+    slot = it.guest.hear(behind, "connected", it.patience)[0].split()[1]
+    clear(it, channel, slot)
+    # The bridge writes what came to the trace behind the notice of it.
+    call = [octets for octets in heard(it.trace) if is_call(octets)][-1]
+    if not all(field in call for field in facilities_of(*options)) or not notice.endswith(f" data={data}"):
+        raise Missing(f"{call.hex()} was told as {notice}")
+
+
+def equipped(it):
+    """16 calls by the kernel, with each of its facilities"""
+    for options in OPTIONS:
+        taken(it, options, "aabb")
+    it.order("options 0 0 - -", "set")
+
+
+def fast_select(it):
+    """a call by the kernel with fast select, 128 octets of user data"""
+    taken(it, ("0", REVERSE, "-", "-"), pattern(128, 7))
+    it.order("options 0 0 - -", "set")
 
 
 def echoed(it, channel, size, seed, q=0):
@@ -214,9 +271,7 @@ def too_long(it):
     time.sleep(30)
     if any(line.startswith(f"message {slot} ") for line in it.guest.said[behind:]):
         raise Missing("RNR: the message came whole")
-    with open(it.trace) as file:
-        came = [bytes.fromhex(line.split()[2]) for line in file if "\t> " in line]
-    if not any(is_not_ready(octets, channel) for octets in came):
+    if not any(is_not_ready(octets, channel) for octets in heard(it.trace)):
         raise Missing("RNR: none came")
     clear(it, channel, slot)
 
@@ -236,7 +291,7 @@ def again(it):
     clear(it, channel, slot)
 
 
-ROWS = (set_up, called, negotiated, calls, messages, at_once, q_bit, interrupts, resets)
+ROWS = (set_up, called, negotiated, calls, equipped, fast_select, messages, at_once, q_bit, interrupts, resets)
 # Played where there is a link that may end, and where no frame of it is lost alone.
 LINK_ROWS, LAST_ROWS = (again,), (too_long,)
 

@@ -3,7 +3,7 @@
 
     bridge.py dce --listen 7000 --stay
     printf 'dte connect\\nwait dte restarted\\ndte call 123 4567 41\\n' | bridge.py dte --connect localhost:7000
-    bridge.py dce --udp 5601:5600 --short-accept --trace frames
+    bridge.py dce --udp 5601:5600 --trace frames
     bridge.py dce --xot-listen --channels 8 --stay
 
 The line is one of these:
@@ -38,11 +38,10 @@ and waits no longer than T1 for the answer.
 
 --lose and --damage try a line: each frame that goes or comes is lost, or damaged so that its frame check sequence shows it, with
 that probability; without frame check sequence a damaged frame can't be sent, and is lost. With --heal the line is good once no
-command is left: what was sent arrives then, as long as T1 has tries left, which --n2 gives. --short-accept reads a CALL ACCEPTED with
-both of its lengths, 0, as the same without them, which is all that `x25` takes; Linux writes it so. --trace has frames as the line has
-them: those that the station sent, before they are lost here, and those that came, before that and before --short-accept. So where one of
-two bridges alone has --lose, its trace is whole. The station reads packets in other forms than it writes too (`x25 station --wide`), as
-other equipment sends them; with --no-wide it doesn't, nor with --library.
+command is left: what was sent arrives then, as long as T1 has tries left, which --n2 gives. --trace has frames as the line has them:
+those that the station sent, before they are lost here, and those that came, before that. So where one of two bridges alone has --lose,
+its trace is whole. The station reads packets in other forms than it writes too (`x25 station --wide`), as other equipment sends them;
+with --no-wide it doesn't.
 
 Exit status: 0; 1 where a command was refused or was none, the line ended before all was done, or nobody reads notices any more; 2 for
 bad words, or anything else that stops the bridge, which standard error names; 130 behind CTRL-C and 143 behind SIGTERM.
@@ -79,21 +78,12 @@ MOST_UNSENT = 1 << 20
 QUIET_T1S = 5
 MOST_CHANNELS = 16
 OTHER = {">": "<", "<": ">"}
-LONG_ACCEPT = b"\x0f\0\0"
 CALL, UA, DM = 0x0B, 0x63, 0x0F
 # A call, and an acceptance, with the two packet sizes that they may say.
 SIZED = re.compile(r"(?:call \S+ \S+ \S+|accept (?P<channel>\d+))(?: (?P<called>\d{1,3}) (?P<calling>\d{1,3}) \d+ \d+)?")
 READY = re.compile(r"\w+ (?:not)?ready (\d+)")
 CHANNEL = re.compile(r" ch=(\d+)")
 PROPOSED = re.compile(r" size=(\d+),(\d+) ")
-
-
-def shortened(octets):
-    """A frame whose packet is CALL ACCEPTED with both lengths, 0, as the same without them; any other as it is."""
-    packet = octets[2:-2]
-    if not x25lines.is_sealed(octets) or octets[1] & 1 or len(packet) != 5 or packet[0] & 0xF0 != 0x10 or packet[2:] != LONG_ACCEPT:
-        return octets
-    return octets[:5] + x25lines.fcs(octets[:5])
 
 
 def called_channel(octets):
@@ -285,7 +275,6 @@ class Bridge:
         octets = self._befallen(octets, self._coming)
         if octets is None:
             return
-        octets = shortened(octets) if self._options.short_accept else octets
         self._is_full = False
         answer = self._station.ask(FrameLine(OTHER[self._direction], octets).text())
         if answer.refusal is not None:
@@ -500,7 +489,7 @@ def station_of(options):
     import linked
 
     given = {name: getattr(options, name) for name in ("k", "n2", "channels") if getattr(options, name) is not None}
-    return linked.Station(options.library, options.end, long_data=options.long, say_sizes=is_xot(options), **given)
+    return linked.Station(options.library, options.end, long_data=options.long, say_sizes=is_xot(options), wide=options.wide, **given)
 
 
 def add_line_words(parser):
@@ -518,7 +507,6 @@ def add_line_words(parser):
     parser.add_argument("--damage", type=within(float, 0, 1), default=0, metavar="P", help="the probability that it is damaged (0)")
     parser.add_argument("--heal", action="store_true", help="lose and damage nothing any more once no command is left")
     parser.add_argument("--seed", type=within(int, 0, 2**63), default=1, metavar="N", help="what these chances come from (1)")
-    parser.add_argument("--short-accept", action="store_true", help="take a CALL ACCEPTED that has both lengths, 0")
 
 
 def words():

@@ -100,7 +100,7 @@ class _Slot(ctypes.Structure):
 
 
 class _Settings(ctypes.Structure):
-    _fields_ = [(name, ctypes.c_uint8) for name in ("k", "n2", "channels")] + [(name, ctypes.c_bool) for name in ("long_data", "say_sizes")]
+    _fields_ = [(name, ctypes.c_uint8) for name in ("k", "n2", "channels")] + [(name, ctypes.c_bool) for name in ("long_data", "say_sizes", "wide")]
 
 
 class _StretchName(ctypes.Structure):
@@ -152,8 +152,9 @@ def load(path: str | None = None) -> ctypes.PyDLL:
 
 
 class Station:
-    """A station, DTE or DCE: window k, n2 tries of a command, 1 to 16 channels, whether a call may have 128 octets of user data, and
-    whether calls and acceptances say packet sizes and windows, as X.25 over TCP asks for."""
+    """A station, DTE or DCE: window k, n2 tries of a command, 1 to 16 channels, whether a call may have 128 octets of user data,
+    whether calls and acceptances say packet sizes and windows, as X.25 over TCP asks for, and whether packets are read in all the forms
+    that X.25 lets equipment send."""
 
     def __init__(
         self,
@@ -163,12 +164,13 @@ class Station:
         channels: int = 1,
         long_data: bool = False,
         say_sizes: bool = False,
+        wide: bool = False,
         library: str | None = None,
     ) -> None:
         self._library, self._slot = load(library), _Slot()
         self._room = ctypes.create_string_buffer(1 << 18)
         self._check(0 if all(0 <= setting < 256 for setting in (end, k, n2, channels)) else 14)
-        self._check(self._library.x25_new(self._slot, end, _Settings(k, n2, channels, long_data, say_sizes)))
+        self._check(self._library.x25_new(self._slot, end, _Settings(k, n2, channels, long_data, say_sizes, wide)))
 
     def __enter__(self) -> Station:
         return self

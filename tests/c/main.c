@@ -132,6 +132,28 @@ static void try_sizes(void)
     x25_free(&dce.station);
 }
 
+/* An acceptance with both of its lengths, 0, as Linux writes it: a station takes it that reads in all forms, and any other clears. */
+static void try_forms(bool wide)
+{
+    static const uint8_t acceptance[] = {0x03, 0x42, 0x10, 0x01, 0x0f, 0x00, 0x00, 0xa5, 0xcc};
+    x25_settings settings = one_channel;
+    settings.wide = wide;
+    expect("new", x25_new(&dte.station, X25_DTE, settings), 0);
+    expect("new", x25_new(&dce.station, X25_DCE, one_channel), 0);
+    expect("connect", x25_connect(&dte.station), 0);
+    take(&dte);
+    deliver_all();
+    ask(&dte, "call 1 2 -");
+    dte.first = dte.next;
+    dte.length = 0;
+    expect("an acceptance", x25_receive(&dte.station, acceptance, sizeof acceptance), 0);
+    take(&dte);
+    expect("connected", strncmp(dte.told, "dte connected ch=1", 18) == 0, wide);
+    dte.first = dte.next;
+    x25_free(&dte.station);
+    x25_free(&dce.station);
+}
+
 int main(void)
 {
     try_texts();
@@ -167,5 +189,7 @@ int main(void)
     fwrite(dte.told, 1, dte.length, stdout);
     fwrite(dce.told, 1, dce.length, stdout);
     try_sizes();
+    try_forms(true);
+    try_forms(false);
     return 0;
 }

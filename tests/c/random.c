@@ -51,7 +51,7 @@ int main(int argc, char **argv)
     state = argc > 1 ? strtoull(argv[1], NULL, 10) : 1;
     x25_settings settings = {.k = 7, .n2 = 10, .channels = 2};
     expect("new", x25_new(&dte.station, X25_DTE, settings), 0);
-    settings.say_sizes = true;
+    settings.say_sizes = settings.wide = true;
     expect("new", x25_new(&dce.station, X25_DCE, settings), 0);
     for (long i = 0; i < calls; i++) {
         end_t *end = draw(2) ? &dte : &dce;

@@ -115,7 +115,7 @@ class Examples(ToolCase):
 @support.needs_station
 class Linked(unittest.TestCase):
     def test_it_answers_as_the_one_behind_a_pipe(self):
-        words, settings = ["--k", "3", "--channels", "2", "--say-sizes"], {"k": 3, "channels": 2, "say_sizes": True}
+        words, settings = ["--k", "3", "--channels", "2", "--say-sizes", "--wide"], {"k": 3, "channels": 2, "say_sizes": True, "wide": True}
         events = ["dte connect", "< 01738357", "< 03001000fb0700c478", "dte call 123 4567 41", "dte sing", "dce connect", "t1 dce", "t1 dte"]
         events += ["dte clear 3", "> 013febdf", "< 0321a415", "< 0000", "dte disconnect", "dte connect", "dte pull"]
         with piped.Station(support.PROGRAM, "dte", words) as one, linked.Station(LIBRARY, "dte", **settings) as other:

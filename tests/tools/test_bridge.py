@@ -28,8 +28,6 @@ SABM, UA = "> 013febdf", "< 01738357"
 DISC = "> 01538176"
 RESTART, RESTARTED = "< 03001000fb0700c478", "> 01001000fb00007702"
 CALL = "> 012210010b431234567000417605"
-# CALL ACCEPTED with both of its lengths, and the same as the profile has it, each in an I frame of the DCE.
-LONG, SHORT = (bytes.fromhex(octets) for octets in ("0320" + "10010f0000", "0320" + "10010f"))
 
 
 def sealed(octets):
@@ -75,15 +73,6 @@ class Chances(unittest.TestCase):
 
 
 class Forms(unittest.TestCase):
-    def test_long_call_accepted(self):
-        self.assertEqual(bridge.shortened(sealed(LONG)), sealed(SHORT))
-
-    def test_what_is_left_as_it_is(self):
-        proposal = bytes.fromhex("0320" + "10010f00064208084302" + "02")
-        others = [sealed(octets) for octets in (SHORT, proposal, b"\x03\x21" + LONG[2:], LONG[:4] + b"\x0b\0\0", LONG + b"\0")]
-        for octets in [*others, LONG + b"\0\0", b"", sealed(LONG)[:-1] + b"\0"]:
-            self.assertEqual(bridge.shortened(octets), octets)
-
     def test_lapbether(self):
         frame = bytes.fromhex("013f")
         octets = wires.ethernet_frame(bytes(6), frame)
@@ -483,17 +472,12 @@ class Joined(ToolCase):
         self.child.terminate()
         self.end()
 
-    def test_short_accept(self):
-        trace = os.path.join(self.folder, "trace")
-        self.begin(f". off idle\n= {line(sealed(SHORT))}\n. off idle\n", "--short-accept", "--trace", trace)
-        self.sends(line(sealed(LONG)))
-        self.assertEqual(self.end()[0], 0)
-        self.assertTrue(support.read(trace).endswith(f"\t{line(sealed(LONG))}\n".encode()))
-
-    def test_without_it_a_long_one_stays(self):
-        self.begin(f". off idle\n= {line(sealed(LONG))}\n. off idle\n")
-        self.sends(line(sealed(LONG)))
-        self.assertEqual(self.end()[0], 0)
+    def test_words_of_the_station(self):
+        for words, given in ((["--k", "3", "--long"], ["--k", "3", "--channels", "1", "--long", "--wide"]), (["--no-wide"], ["--channels", "1"])):
+            parser = argparse.ArgumentParser()
+            bridge.add_station_words(parser)
+            bridge.add_line_words(parser)
+            self.assertEqual(bridge.station_words(parser.parse_args(["dte", *words])), given)
 
     def test_words_of_the_station(self):
         for words, given in ((["--k", "3", "--long"], ["--k", "3", "--channels", "1", "--long", "--wide"]), (["--no-wide"], ["--channels", "1"])):

@@ -47,8 +47,8 @@ pub enum End {
 }
 
 /// The window, 1 to 7; how often a command is sent again, 1 to 255; how many channels there are, 1 to 16; whether a call may have
-/// 128 octets of user data in place of 16; and whether calls and acceptances say packet sizes and windows, as X.25 over TCP asks
-/// for.
+/// 128 octets of user data in place of 16; whether calls and acceptances say packet sizes and windows, as X.25 over TCP asks for;
+/// and whether packets are read in all the forms that X.25 lets equipment send.
 #[repr(C)]
 #[derive(Clone, Copy, Debug, PartialEq, Eq)]
 pub struct Settings {
@@ -57,6 +57,7 @@ pub struct Settings {
     pub channels: u8,
     pub long_data: bool,
     pub say_sizes: bool,
+    pub wide: bool,
 }
 
 impl Default for Settings {
@@ -67,6 +68,7 @@ impl Default for Settings {
             channels: 1,
             long_data: false,
             say_sizes: false,
+            wide: false,
         }
     }
 }

@@ -13,6 +13,7 @@ pub struct Settings {
     pub channels: u8,
     pub long_data: bool,
     pub say_sizes: bool,
+    pub wide: bool,
 }
 
 impl Settings {
@@ -25,6 +26,7 @@ impl Settings {
             channels: self.channels,
             long_data: self.long_data,
             say_sizes: self.say_sizes,
+            wide: self.wide,
         }
     }
 }
