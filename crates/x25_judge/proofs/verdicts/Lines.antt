@@ -90,7 +90,7 @@ unfolding answer_to
 past j line from octets broken = elim (visible_reads from n1 octets broken.visible) [ inl short ↦ read Short short | inr bad ↦ read BadFcs bad ]
   where
     read : (e : FrameError) → frame_of from n1 octets ≡ Err e → Past j (answer_to j line).next from
-    read e is = subst (λ (a : Answer). Past j a.next from) (sym (ap (λ (s : Option (Role × List ℕ)). sent_of j s) broken.spells ∙ ap (λ r. read_of j from r) is)) (next_past from e j)
+    read e is = subst (λ (a : Answer). Past j a.next from) (sym (ap (λ (s : Option (Role × List ℕ)). sent_of j s) broken.spells ∙ ap (λ r. read_of j from octets r) is)) (next_past from e j)
 
 -- ---- both ends before it
 
