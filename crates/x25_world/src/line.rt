@@ -138,6 +138,7 @@ impl Line {
 }
 
 // Makes room for so many frames more, by places for as many again as there are, or for those. Err: no memory.
+#[inline(always)]
 fn grow(queue: &mut VecDeque<Vec<u8>>, frames: usize) -> Result<(), AllocError>
     ensures items { queue.new.items ≡ queue.old.items }
     ensures len { deque_len queue.new ≡ deque_len queue.old }
