@@ -51,11 +51,11 @@ ups_outcome : (c : LayerSettings) (l : Layer) (request : LayerRequest) (o : Laye
 ups_outcome c l request (Accepted next packet) = ups_asked c l next request
 ups_outcome c l request (Declined e) = refl
 
-ups_heard : (c : LayerSettings) (l : Layer) (packet : Option (List ℕ)) (down : Option Reason) (up : Bool) → ups_in (entries_heard c l packet down up) ≡ 0
-ups_heard c l packet down true = refl
-ups_heard c l packet (Some reason) false = refl
-ups_heard c l (Some octets) None false = (let a : LayerAnswer = layer_answer c l octets in ups_told a.next a.notices)
-ups_heard c l None None false = refl
+ups_heard : (c : LayerSettings) (wide : Bool) (l : Layer) (packet : Option (List ℕ)) (down : Option Reason) (up : Bool) → ups_in (entries_heard c wide l packet down up) ≡ 0
+ups_heard c wide l packet down true = refl
+ups_heard c wide l packet (Some reason) false = refl
+ups_heard c wide l (Some octets) None false = (let a : LayerAnswer = layer_answer c wide l octets in ups_told a.next a.notices)
+ups_heard c wide l None None false = refl
 
 -- as often as its link notes it
 ups_noted : (down : Option Reason) (up : Bool) (b : ℕ) → begun_by up b ≡ b + ups_in (entries_noted (record { down = down; up = up }))
@@ -66,8 +66,8 @@ ups_noted (Some reason) false b = omega (arith)
 
 pub follows_ups : (c : Settings) (l : Layer) (k : LinkStep) (b : ℕ) → begun_by k.notes.up b ≡ b + ups_in (follows c l k).entries
 follows_ups c l k b =
-    let more = ups_append (entries_noted k.notes) (entries_heard (layer_settings c) l k.packet k.notes.down k.notes.up) in
-    let none = ups_heard (layer_settings c) l k.packet k.notes.down k.notes.up in
+    let more = ups_append (entries_noted k.notes) (entries_heard (layer_settings c) c.wide l k.packet k.notes.down k.notes.up) in
+    let none = ups_heard (layer_settings c) c.wide l k.packet k.notes.down k.notes.up in
     let noted = ups_noted k.notes.down k.notes.up b in
     omega (arith, more, none, noted)
 
