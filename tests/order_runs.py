@@ -6,9 +6,10 @@ Each run is a random script of two stations (losses.py), of which `sim --tap` ma
 changed: other octets in an I frame that goes again, another N(S), another N(R), another P(S) or P(R), an N(R) that stays, an I frame that
 goes once more later, or one that is left out. Of each copy the rules of order of docs/PEER.md that a trace can show are told here, by whole
 numbers. Of the link they are rules 1 to 3 and 5, and that numbers go one by one when they go for the first time (2.4.5.1), from each set-up
-on to the next unnumbered frame: SABM and UA, but for a SABM whose sender has got UA already and has sent no frame with a number since. Of
-packets they are rules 15 and 17, from each CALL and its CALL ACCEPTED on to the next packet of the channel that is neither DATA, RR nor
-RNR, nor RESTART. An end is told of where no run of an end that keeps them explains its frames, whatever came or was lost.
+on to the next unnumbered frame: SABM and UA, but for a SABM whose sender has got UA to another one and has sent neither DISC nor a frame
+with a number since. Of packets they are rules 15 and 17, from each CALL and its CALL ACCEPTED on to the next packet of the channel that is
+neither DATA, RR nor RNR, nor RESTART. An end is told of where no run of an end that keeps them explains its frames, whatever came or was
+lost.
 
 A break is missed where `judge` tells nothing up to that frame. An end is accused where `judge` tells one of these rules of it, and it broke none
 up to there, whatever the other end broke.
@@ -30,7 +31,7 @@ from x25lines import fcs
 
 COPIES = 10
 LINES = 120
-SABM, UA = 0x2F, 0x63
+SABM, DISC, UA = 0x2F, 0x43, 0x63
 
 # What `judge` says of an end that breaks a rule of order.
 OF_ORDER = re.compile(
@@ -184,13 +185,19 @@ class Found(NamedTuple):
 
 
 def breaks(frames):
-    found, ends, asked, answered, calls = Found({}, set(), set()), None, None, set(), Calls()
+    found, ends, asked, answered, closing, calls = Found({}, set(), set()), None, None, set(), set(), Calls()
     for place, frame in enumerate(frames):
         if frame.is_unnumbered():
-            kind = frame.control() & 0xEF
-            ends = {end: Sender() for end in "><"} if kind == UA and asked not in (None, frame.end) else None
+            kind, other = frame.control() & 0xEF, OTHERS[frame.end]
+            ends = {end: Sender() for end in "><"} if kind == UA and asked == other else None
             asked, calls = (frame.end if kind == SABM and frame.end not in answered else None), Calls()
-            answered |= {OTHERS[frame.end]} if kind == UA else set()
+            if kind == DISC:
+                answered.discard(frame.end)
+                closing.add(frame.end)
+            elif kind == UA and other in closing:
+                closing.discard(other)
+            elif kind == UA:
+                answered.add(other)
             continue
         answered.discard(frame.end)
         if ends is None:

@@ -285,8 +285,8 @@ class User(Station):
 class PacketRun(Run):
     """A run of such a layer and such a user over links that are odd as well."""
 
-    def __init__(self, program, seed, layer=Layer):
-        super().__init__(program, seed, layer=layer, station=User)
+    def __init__(self, program, seed, layer=Layer, station=User):
+        super().__init__(program, seed, layer=layer, station=station)
         self.station.dice, self.station.wild = self.dice, self.dice.choice((0.02, 0.1, 0.5))
         # half of the links are plain, and the others go on, so that something comes
         self.is_plain = self.dice.random() < 0.5
@@ -301,8 +301,12 @@ class PacketRun(Run):
                 super().step()
 
     def exchange(self):
-        """What is on the line comes, and is answered; what the peer has to send goes."""
+        """What the peer has to send goes, and all that is on the line comes."""
         self.back += [self.peer.item(number) for number in range(self.peer.sent, min(self.peer.acked + 7, len(self.peer.given)))]
+        self.empty()
+
+    def empty(self):
+        """What is on the line comes, and is answered."""
         while self.out or self.back:
             while self.back:
                 self.delivered(plain=True)
@@ -310,10 +314,14 @@ class PacketRun(Run):
                 self.answered()
 
     def holds(self):
-        for key, lists in self.station.taken.items():
-            begins(lists, [self.plain(key, given) for given in self.call.carried[key]], f"what the peer's packets carry, {key}")
-        for key, lists in self.call.came.items():
-            begins([self.plain(key, came) for came in lists], self.station.given[key], f"what the station's user handed down, {key}")
+        self.hold(self.station.given, self.station.taken, self.call)
+
+    def hold(self, given, taken, layer):
+        """What was handed down and up at the station, and this layer of the peer."""
+        for key, lists in taken.items():
+            begins(lists, [self.plain(key, octets) for octets in layer.carried[key]], f"what the peer's packets carry, {key}")
+        for key, lists in layer.came.items():
+            begins([self.plain(key, came) for came in lists], given[key], f"what the station's user handed down, {key}")
 
     @staticmethod
     def plain(key, octets):

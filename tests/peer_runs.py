@@ -118,6 +118,8 @@ class Station:
     """The program, asked a line at a time, and its user, who accepts the call."""
 
     WORDS = ["station", "dte", "--n2", "255"]
+    # whether its link may go down
+    MAY_END = False
 
     def __init__(self, program, way):
         self.run = subprocess.Popen([program, *self.WORDS], stdin=subprocess.PIPE, stdout=subprocess.PIPE, text=True)
@@ -132,7 +134,7 @@ class Station:
         while True:
             line = self.run.stdout.readline().rstrip("\n")
             words = line.split()
-            if not line or line[0] == "?" or "linkdown" in words:
+            if not line or line[0] == "?" or ("linkdown" in words and not self.MAY_END):
                 raise Failed(f"the station: {line}")
             if line[0] == ".":
                 self.timer = words[1] != "off"
@@ -222,8 +224,12 @@ class Run:
             self.speaks()
         elif what == 5:
             self.dice.choice((self.call.send, self.station.send))()
-        if self.station.timer and self.chance(self.fires):
+        if self.station.timer and self.may_fire() and self.chance(self.fires):
             self.station.ask("t1 dte")
+
+    def may_fire(self):
+        """Whether timer T1 of the station may run out."""
+        return True
 
     def holds(self):
         begins(self.station.messages, self.call.messages, "messages of the peer")
@@ -259,6 +265,9 @@ class Run:
         self.out.clear()
         ua = bytes([RESPONSE, 0x73])
         self.station.ask("< " + (ua + fcs(ua)).hex())
+        self.go()
+
+    def go(self):
         for _ in range(STEPS):
             self.step()
             self.holds()

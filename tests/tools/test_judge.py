@@ -1,5 +1,7 @@
-"""Tests of `judge`: each rule has a case that breaks it alone; nothing is told of random runs of two stations, nor of a recording of Linux's X.25."""
+"""Tests of `judge`: each rule has a case that breaks it alone; nothing is told of random runs of two stations, nor of a recording of
+Linux's X.25, and what is told of another one stands here."""
 
+import collections
 import gzip
 import re
 import subprocess
@@ -144,6 +146,20 @@ class Recorded(support.ToolCase):
         self.assertEqual([line for line in done.stdout.splitlines() if b" ! " in line or line == b"? 60"], [])
         self.assertEqual(len([line for line in done.stdout.splitlines() if not line.startswith(b"# ")]), 1641)
         self.assertEqual(done.returncode, 0)
+
+    def test_what_is_told_of_a_soak(self):
+        """Four rounds of interop/soak.py with Linux 6.1 as the DTE, with 0, 10, 10 and 3 of 100 frames lost, one behind another."""
+        trace = gzip.decompress(support.read("tests", "traces", "soak.trace.gz"))
+        done = subprocess.run([PROGRAM, "judge", "--wide"], input=trace, stdout=subprocess.PIPE, timeout=60)
+        lines = [line for line in done.stdout.decode().splitlines() if not line.startswith("# ")]
+        told = collections.Counter(line.split(" ! ")[1].split(" (")[0] for line in lines if " ! " in line)
+        clears = {"dte: CLEAR CONFIRMATION of no CLEAR": 5, "dte: nothing but CLEAR goes before its confirmation": 1}
+        order = {"dte: P(R) falls": 1, "dte: an I frame sent again has other octets": 1}
+        self.assertEqual(told, {**clears, **order, "dte: N(S) repeats without REJ or a poll": 3})
+        frames = [order_runs.Frame(chr(line[0]), bytes.fromhex(line[2:].decode())[:-2]) for line in trace.splitlines()]
+        found = order_runs.breaks(frames)
+        self.assertEqual((len(frames), len(lines), found.first), (10_498, 10_498, {">": (10_454, "other octets")}))
+        self.assertEqual((len(found.links), len(found.calls)), (10_398, 1_923))
 
 
 if __name__ == "__main__":
