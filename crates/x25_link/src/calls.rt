@@ -72,10 +72,10 @@ impl LinkStation {
     pub fn timer_runs(&self) -> bool
         ensures { (c : Settings) (s : StationState) → FitsStation c self.now s → result ≡ timer_runs s.phase s }
     {
-        match self.phase {
-            Phase::Down | Phase::Closed => false,
-            Phase::Waiting => true,
-            Phase::Up => self.outgoing.unacked() > 0 || self.recovery || self.peer_busy,
+        if self.phase.is_up() {
+            self.outgoing.unacked() > 0 || self.recovery || self.peer_busy
+        } else {
+            self.phase.awaits_ua()
         }
     }
 

@@ -178,7 +178,7 @@ impl Outbox {
             p: false,
             info: packet,
         };
-        self.made.push_reserved(spelled(from, &frame, octets));
+        put(&mut self.made, from, &frame, octets);
     }
 
     /// Makes a frame that carries no packet.
@@ -192,7 +192,7 @@ impl Outbox {
         } }
     {
         let octets = short_memory(&mut self.short, &mut self.long);
-        self.made.push_reserved(spelled(from, frame, octets));
+        put(&mut self.made, from, frame, octets);
     }
 
     /// Takes the promise of memory for one I frame back, where there is some.
@@ -257,13 +257,18 @@ fn short_memory(
     }
 }
 
-// The octets of a frame, in memory that was set aside.
+// Puts a frame behind others, in memory that was set aside. It is spelled where it stays, so that its list isn't copied.
 #[inline(always)]
-fn spelled(from: Role, frame: &Frame, mut octets: Vec<u8>) -> Vec<u8>
+fn put(made: &mut Vec<Vec<u8>>, from: Role, frame: &Frame, octets: Vec<u8>)
+    requires place { vec_len made.old < vec_capacity made.old }
     requires empty { octets.items ≡ [] }
     requires room { length (information_of (plain frame.now)) + 4 ≤ vec_capacity octets }
-    ensures { result.items ≡ spelling_of from (plain frame.now) }
+    ensures frames { map (λ v. v.items) made.new.items
+        ≡ map (λ v. v.items) made.old.items ++ spelling_of from (plain frame.now) ∷ [] }
+    ensures length { vec_len made.new ≡ vec_len made.old + 1 }
+    ensures capacity { vec_capacity made.new ≡ vec_capacity made.old }
 {
-    encode(from, frame, &mut octets).unwrap();
-    octets
+    let place = made.len();
+    made.push_reserved(octets);
+    encode(from, frame, &mut made[place]).unwrap();
 }
