@@ -445,7 +445,7 @@ pub fn is_hexadecimal(text: &[u8]) -> bool
 {
     let count = text.len();
     if count < 16 {
-        return text.iter().all(|character| character.is_ascii_hexdigit());
+        return text.iter().all(|character| value(*character) < 16);
     }
     let mut least = u8x16::splat(255);
     for sixteen in 0..count / 16 {
