@@ -1,5 +1,5 @@
 -- A layer over any link that keeps order: what it sees of the link, and the link after packets were put.
-use Rattle.std.specs.Prelude.{◌≡◌, ℕ, ◌<◌, ◌≤◌, ◌⊎◌, max, List, [], ◌∷◌, Bool, true, false, Result, Err, OnOk, OnErr}
+use Rattle.std.specs.Prelude.{◌≡◌, ℕ, ◌+◌, ◌<◌, ◌≤◌, ◌⊎◌, max, List, [], ◌∷◌, Bool, true, false, Result, Err, OnOk, OnErr}
 use Rattle.std.specs.Prelude.{IsErrOf}
 use Rattle.std.specs.Prelude.{MatchResult}
 use Rattle.x25_packet.specs.Packet.{PlainPacket}
@@ -22,6 +22,16 @@ after_all after x (packet ∷ packets) = after_all after (after x (spelling_of p
 -- by what a state says of being up and of the packets that wait
 abbrev pub view_of : {X : Type 0} → (X → Bool) → (X → ℕ) → (X → List ℕ → X) → X → LinkView
 view_of up_in waits_in after x = record { is_up = up_in x; waits = λ packets. waits_in (after_all after x packets) }
+
+-- ---- what is set aside
+
+-- Of memory for m packets in the layer m₂ is left, and in the link below it as many fewer: for each packet that is put
+-- both take one. The link is as it was, up or not, and takes packets as long.
+pub record TakesAlike {D : Type 0} (g : Ghosts D) (m : ℕ) (below : D) (m₂ : ℕ) (below₂ : D) : Type 0 where
+  pub no_more : m₂ ≤ m
+  pub used : m + g.spares below₂ ≡ m₂ + g.spares below
+  pub longest : g.longest below₂ ≡ g.longest below
+  pub up : g.up below₂ ≡ g.up below
 
 -- ---- what a call of the user leaves and answers
 

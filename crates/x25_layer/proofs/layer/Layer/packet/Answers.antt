@@ -50,7 +50,7 @@ returns-clause-used g c = λ memory spares.
     let more_spares = c.set_aside.ensures.no_fewer_spares in
     let most_spares = c.set_aside.ensures.most_spares in
     let heard = c.in_ok-told.ensures.used in
-    let pulled = c.pull_all.ensures.used in
+    let pulled = c.pull_all.ensures.takes.used in
     omega (arith, memory, spares, more, most, more_spares, most_spares, heard, pulled)
 
 pub returns-clause-room : goal.returns-clause-room
@@ -62,8 +62,8 @@ returns-clause-room g c = λ len has still.
     let most_spares = c.set_aside.ensures.most_spares in
     let heard = c.in_ok-told.ensures.used in
     let fewer = c.hear.ensures.no_more_spares in
-    let pulled = c.pull_all.ensures.used in
-    let lower = c.pull_all.ensures.no_more in
+    let pulled = c.pull_all.ensures.takes.used in
+    let lower = c.pull_all.ensures.takes.no_more in
     let same : g.L.OrderedLink.spares c.hear.new.link ≡ g.L.OrderedLink.spares c.set_aside.new.link = omega (arith, spares, more_spares, most_spares, fewer, pulled, lower, still) in
     record {
       memory = omega (arith, memory, spares, more, more_spares, most_spares, heard, pulled, lower, fewer, still);
