@@ -1,5 +1,5 @@
 //! Rounds of pulls of data packets (profile): channels in rising order, one packet each, until a round gives none.
-ghost use Rattle.std.specs.Prelude.{◌≡◌, ℕ, ◌<◌, ◌≤◌, length, true, nat_lt};
+ghost use Rattle.std.specs.Prelude.{◌≡◌, ◌<◌, ◌≤◌, length, true, nat_lt};
 ghost use Rattle.x25_packet.specs.Spelling.{IsChannel};
 ghost use Rattle.x25_circuit.specs.code.FitsCircuit.{waits_of};
 ghost use Rattle.x25_layer.specs.Layer.{LayerSettings};
@@ -8,7 +8,7 @@ ghost use Rattle.x25_layer.specs.code.OverLink.{view_of, after_all, TakesAlike, 
 ghost use Rattle.x25_layer.specs.Calls.{PullsAll};
 ghost use Rattle.x25_layer.specs.Rounds.{Putting, rounds};
 ghost use Rattle.x25_layer.specs.code.Pulling.{IsEnough, PullsOne, GoesRound};
-ghost use Rattle.x25_layer.specs.Room.{HaveRoom};
+ghost use Rattle.x25_layer.specs.Room.{HaveRoomStill};
 ghost use Rattle.x25_layer.specs.code.Waiting.{NoneWaits};
 
 use crate::error::LayerError;
@@ -168,7 +168,7 @@ impl Layer {
         ensures link { (c : LayerSettings) (s : Putting) (x : L.State) → FitsLayer c self.old s.layer
             → L.fits link.old (after_all L.after_put x s.put)
             → L.fits link.new (after_all L.after_put x (rounds (view_of L.up_in L.waits_in L.after_put x) c s).put) }
-        ensures room { (len : ℕ) → HaveRoom len self.old.circuits.items → HaveRoom len self.new.circuits.items }
+        ensures room { HaveRoomStill self.old.circuits.items self.new.circuits.items }
         ensures takes { TakesAlike L.OrderedLink self.old.memory link.old self.new.memory link.new }
     {
         while round(&mut self.circuits, link, &mut self.memory, &mut self.quiet) {}

@@ -8,7 +8,7 @@ use Rattle.x25_circuit.specs.Circuit.{Settings, Circuit}
 use Rattle.x25_circuit.specs.Calling.{Pulled, pulls_nothing, pulled}
 use Rattle.x25_circuit.specs.code.FitsCircuit.{FitsCircuit, room_of, clears_of, resets_of}
 use Rattle.x25_layer.specs.Layer.{LayerSettings, packet_on}
-use Rattle.x25_layer.specs.Room.{HaveCountsLeft, HaveRoom}
+use Rattle.x25_layer.specs.Room.{HaveCountsLeft, HaveRoomStill}
 use Rattle.x25_layer.specs.code.FitsLayer.{FitsCircuits}
 use Rattle.x25_layer.specs.code.Waiting.{NoneWaits}
 use Rattle.x25_layer.specs.Rounds.{Putting, round}
@@ -67,7 +67,7 @@ pub record GoesRound {D : Type 0} (g : Ghosts D) (old : List circuit_code.Circui
       → round (view_of g.up_in g.waits_in g.after_put x) c c.channels s ≡ s
   pub takes : TakesAlike g m below m₂ below₂
   pub count : length new ≡ length old
-  pub room : (len : ℕ) → HaveRoom len old → HaveRoom len new
+  pub room : HaveRoomStill old new
   pub left : HaveCountsLeft old → HaveCountsLeft new
   pub fewer : is_put ≡ true → m₂ < m
   pub still : is_quiet ≡ true → NoneWaits new
