@@ -5,6 +5,8 @@ use Rattle.std.proofs.lemmas.Option.{none-some, same_Some, slice_get_within, sli
 use Rattle.std.proofs.lemmas.List.{append-nil, take_all}
 use Rattle.std.proofs.lemmas.Bool.{eqb-true}
 use Rattle.x25_circuit.specs.declared.circuit.Circuit as circuit_code
+use Rattle.x25_circuit.specs.declared.owed.Owed.{Owed}
+use Rattle.x25_circuit.specs.code.Replies.{plain_owed}
 use Rattle.x25_circuit.specs.Circuit.{Circuit, is_open, waits}
 use Rattle.x25_circuit.specs.code.FitsCircuit.{FitsCircuit, clears_of, resets_of}
 use Rattle.x25_layer.specs.code.Counts.{HasCountsLeft, HaveCountsLeft}
@@ -196,6 +198,10 @@ if_none (Some x) by p = tt
 pub kept_unless : {X : Type 0} {P : Type 0} (o : Option X) (n m : ℕ) → IfNone o P → IfSome o (λ _. n + 1 ≡ m) → n ≡ m → P
 kept_unless None n m p falls still = p
 kept_unless (Some x) n m p falls still = absurd (omega (arith, falls, still))
+
+pub none_owed : (P : Type 0) (o : Option Owed) → IfNone o P → IfNone (plain_owed o) P
+none_owed P None p = p
+none_owed P (Some owed) p = tt
 
 -- the same counts
 pub counts_left : (v w : circuit_code.Circuit) → clears_of w ≡ clears_of v → resets_of w ≡ resets_of v → HasCountsLeft v → HasCountsLeft w

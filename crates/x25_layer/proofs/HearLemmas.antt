@@ -1,5 +1,5 @@
 -- What octets are read as, and the channel that they name.
-use Rattle.std.proofs.Common.{◌≡◌, ℕ, ◌-◌, ◌<◌, ◌≤◌, ◌∙◌, All, List, [], ◌∷◌, length, Option, Some, None, Bool, true, false, Result, Ok, Err, if◌then◌else◌, IfOk, slice_get, get_or, refl, sym, ap, arith}
+use Rattle.std.proofs.Common.{◌≡◌, ℕ, ◌-◌, ◌<◌, ◌≤◌, ◌∙◌, All, List, [], ◌∷◌, length, Option, Some, None, Bool, true, false, Result, Ok, Err, if◌then◌else◌, IfOk, slice_get, get_or, option_to_list, refl, sym, ap, subst, arith}
 use Rattle.std.proofs.lemmas.Option.{same_Some}
 use Rattle.x25_packet.specs.declared.packet.Packet.{Packet}
 use Rattle.x25_packet.specs.declared.error.PacketError.{PacketError}
@@ -14,6 +14,11 @@ use Rattle.x25_layer.specs.Layer.{LayerSettings, Layer, LayerAnswer, answers_in,
 use Rattle.x25_layer.specs.Rounds.{answer_to, undecoded_at}
 use Rattle.x25_layer.specs.Asking.{with_circuit}
 use Rattle.x25_layer.specs.Receiving.{plain_read, IsOfChannel, brings, circuit_hears, channel_hears, hears_on}
+use Rattle.x25_link.specs.declared.ordered_link.OrderedLink.{Ghosts}
+use Rattle.x25_layer.specs.declared.layer.Layer as code
+use Rattle.x25_layer.specs.declared.told.Told.{Told}
+use Rattle.x25_layer.specs.code.FitsLayer.{FitsLayer}
+use Rattle.x25_layer.specs.code.OverLink.{after_all, Hears}
 use Rattle.x25_layer.proofs.FitLemmas.{read_at}
 use Rattle.x25_layer.proofs.CallLemmas.{configured}
 use Rattle.x25_circuit.specs.declared.circuit.Circuit as circuit_code
@@ -92,6 +97,23 @@ pub hears_read : TakesOnItsChannel → (wide : Bool) (most : ℕ) (c : LayerSett
 hears_read law wide most c l octets h (Ok packet) bytes exact has at =
     ap (λ (r : Result PlainPacket PacketError). answer_to c l octets r) exact ∙ hears_packet c l octets h (plain packet) has (law wide most (plain packet) octets bytes exact has) at
 hears_read law wide most c l octets h (Err e) bytes exact has at = ap (λ (r : Result PlainPacket PacketError). answer_to c l octets r) exact ∙ hears_error c l octets h e at
+
+-- what was heard, by the same answer
+pub heard_same : {D : Type 0} (g : Ghosts D) (old : code.Layer) (below : D) (new : code.Layer) (below₂ : D) (told : Told) (f h : LayerSettings → Layer → LayerAnswer) → ((c : LayerSettings) (l : Layer) → f c l ≡ h c l)
+    → Hears g old below new below₂ told f → Hears g old below new below₂ told h
+heard_same g old below new below₂ told f h same by = record {
+  layer = λ c l fits. subst (λ (a : LayerAnswer). FitsLayer c new a.next) (same c l) (by.layer c l fits);
+  link = λ c l x fits link. subst (λ (a : LayerAnswer). g.fits below₂ (after_all g.after_put x (option_to_list a.owed))) (same c l) (by.link c l x fits link);
+  told = λ c l fits. by.told c l fits ∙ ap (λ (a : LayerAnswer). a.notices) (same c l);
+  nothing = by.nothing;
+  takes = by.takes;
+  memory = by.memory;
+  room = by.room;
+}
+
+pub if_ok : {T E : Type 0} (r : Result T E) (P Q : T → Type 0) → ((x : T) → P x → Q x) → IfOk r P → IfOk r Q
+if_ok (Ok x) P Q f p = f x p
+if_ok (Err e) P Q f p = tt
 
 -- fewer than three octets are dropped
 pub hears_none : (wide : Bool) (most : ℕ) (c : LayerSettings) (l : Layer) (octets : List ℕ) → channel_in octets ≡ None → answer_to c l octets (read_in wide most octets) ≡ drops l.restarting l.restarts l.circuits

@@ -16,7 +16,8 @@ use Rattle.x25_layer.specs.Layer.{LayerSettings, put_at, packet_on}
 use Rattle.x25_layer.specs.Calls.{layer_pulled}
 use Rattle.x25_layer.specs.code.FitsLayer.{FitsCircuits}
 use Rattle.x25_layer.specs.code.Waiting.{NoneWaits}
-use Rattle.x25_layer.specs.code.OverLink.{after_all, view_of}
+use Rattle.x25_link.specs.declared.ordered_link.OrderedLink.{Ghosts}
+use Rattle.x25_layer.specs.code.OverLink.{after_all, view_of, TakesAlike}
 use Rattle.x25_layer.specs.Rounds.{LinkView, Putting, with_pulled, pull_one, round}
 use Rattle.x25_layer.specs.code.Pulling.{IsEnough, pulled_where, Stands}
 use Rattle.x25_layer.proofs.FitLemmas.{get_changed, there}
@@ -142,6 +143,15 @@ one_none link c h t none = room (nat_lt (link.waits t.put) 8) none
 pub where_nothing : (b : Bool) (c : Settings) (x : Circuit) → pulled c x ≡ pulls_nothing x → pulled_where b c x ≡ pulls_nothing x
 where_nothing true c x none = none
 where_nothing false c x none = refl
+
+-- two steps, one behind the other
+pub takes_then : {D : Type 0} (g : Ghosts D) (m : ℕ) (a : D) (n : ℕ) (b : D) (k : ℕ) (d : D) → TakesAlike g m a n b → TakesAlike g n b k d → TakesAlike g m a k d
+takes_then g m a n b k d first next = record {
+  no_more = (let p = first.no_more in let q = next.no_more in omega (arith, p, q));
+  used = (let p = first.used in let q = next.used in omega (arith, p, q));
+  longest = next.longest ∙ first.longest;
+  up = next.up ∙ first.up;
+}
 
 -- a round over a link that takes no packet
 pub round_shut : (link : LinkView) (c : LayerSettings) (n : ℕ) (t : Putting) → nat_lt (link.waits t.put) 8 ≡ false → round link c n t ≡ t

@@ -14,6 +14,10 @@ pub record IsNotFull (v : code.Layer) : Type 0 where
 abbrev pub HaveRoom : ℕ → List circuit_code.Circuit → Type 0
 HaveRoom len vs = (k : ℕ) (v : circuit_code.Circuit) → slice_get vs k ≡ Some v → min len 4096 ≤ room_of v
 
+-- for as many as they had it they have it still
+abbrev pub HaveRoomStill : List circuit_code.Circuit → List circuit_code.Circuit → Type 0
+HaveRoomStill old new = (len : ℕ) → HaveRoom len old → HaveRoom len new
+
 -- none of the circuits has memory for more octets
 abbrev pub HaveAtMost : ℕ → List circuit_code.Circuit → Type 0
 HaveAtMost bound vs = (k : ℕ) (v : circuit_code.Circuit) → slice_get vs k ≡ Some v → room_of v ≤ bound

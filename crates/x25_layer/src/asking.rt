@@ -1,5 +1,5 @@
 //! What the user asks of the circuit of a channel: the steps that the calls with a channel share.
-ghost use Rattle.std.specs.Prelude.{◌≡◌, ◌≢◌, ℕ, ◌<◌, ◌≤◌, length, true, false, IfOk, IfSome, IfNone};
+ghost use Rattle.std.specs.Prelude.{◌≡◌, ◌≢◌, ◌<◌, ◌≤◌, length, true, false, IfOk, IfSome, IfNone};
 ghost use Rattle.std.specs.Prelude.{OnErr, IsErrOf};
 ghost use Rattle.x25_circuit.specs.Calling.{outcome};
 ghost use Rattle.x25_circuit.specs.code.Replies.{IsSendable, plain_sent};
@@ -8,10 +8,10 @@ ghost use Rattle.x25_layer.specs.Layer.{LayerSettings, is_channel};
 ghost use Rattle.x25_layer.specs.Layer.{Layer as State};
 ghost use Rattle.x25_layer.specs.Calls.{LayerRequest, Asks, puts_at_once, outcome_on};
 ghost use Rattle.x25_layer.specs.Rounds.{Refuses, calls, went};
-ghost use Rattle.x25_layer.specs.code.FitsLayer.{FitsLayer};
+ghost use Rattle.x25_layer.specs.code.FitsLayer.{FitsLayer, FitsStill};
 ghost use Rattle.x25_layer.specs.code.OverLink.{Does, view_of};
 ghost use Rattle.x25_layer.specs.Asking.{AsksCircuit, error_without_memory, refusal_on};
-ghost use Rattle.x25_layer.specs.Room.{HaveRoom};
+ghost use Rattle.x25_layer.specs.Room.{HaveRoomStill};
 
 use crate::error::LayerError;
 use crate::layer::Layer;
@@ -61,9 +61,8 @@ impl Layer {
         ensures range { IfOk result (λ packet. IsSendable (plain_sent packet)) }
         ensures at_once { IfOk result (λ packet. MayPut (plain_request request.entry) packet) }
         ensures memory { self.new.memory ≡ self.old.memory }
-        ensures room { (len : ℕ) → HaveRoom len self.old.circuits.items → HaveRoom len self.new.circuits.items }
-        ensures fits { (c : LayerSettings) (l : State) → FitsLayer c self.old l
-            → OnErr result (FitsLayer c self.new l) }
+        ensures room { HaveRoomStill self.old.circuits.items self.new.circuits.items }
+        ensures fits { OnErr result (FitsStill self.old self.new) }
         ensures missing { IsErrOf result LayerError.NoMemory → is_message (plain_request request.entry) ≡ true }
     {
         self.quiet = false;
@@ -162,7 +161,7 @@ impl Layer {
     /// the channel isn't configured, where it is for more than 4,096 octets, and where two of the channel are kept. The
     /// layer is as before.
     pub fn give_back(&mut self, channel: u16, memory: Vec<u8>)
-        ensures layer { (c : LayerSettings) (l : State) → FitsLayer c self.old l → FitsLayer c self.new l }
+        ensures layer { FitsStill self.old self.new }
         ensures aside { self.new.memory ≡ self.old.memory }
     {
         if self.circuit(channel).is_some() {
@@ -173,7 +172,7 @@ impl Layer {
     // Takes it back for a configured channel.
     fn give_back_on(&mut self, channel: u16, memory: Vec<u8>)
         requires { is_channel (length self.old.circuits.items) channel ≡ true }
-        ensures layer { (c : LayerSettings) (l : State) → FitsLayer c self.old l → FitsLayer c self.new l }
+        ensures layer { FitsStill self.old self.new }
         ensures aside { self.new.memory ≡ self.old.memory }
     {
         let place = usize::from(channel) - 1;

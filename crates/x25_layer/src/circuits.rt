@@ -1,10 +1,10 @@
 //! All circuits of a layer at once.
-ghost use Rattle.std.specs.Prelude.{◌≡◌, ℕ, List, length, IfOk, IfErr};
+ghost use Rattle.std.specs.Prelude.{◌≡◌, ℕ, length, IfOk, IfErr};
 ghost use Rattle.x25_circuit.specs.Circuit.{forgotten};
 ghost use Rattle.x25_circuit.specs.Circuit.{Circuit as Channel};
 ghost use Rattle.x25_layer.specs.Layer.{LayerSettings, at_rest};
 ghost use Rattle.x25_layer.specs.code.FitsLayer.{FitsCircuits};
-ghost use Rattle.x25_layer.specs.Room.{HaveRoom};
+ghost use Rattle.x25_layer.specs.Room.{HaveRoomStill};
 
 use crate::error::LayerError;
 use std::alloc::Global;
@@ -46,7 +46,7 @@ pub(crate) fn begin_all(circuits: &mut Vec<Circuit>)
     ensures fits { (c : LayerSettings) (f : ℕ → Channel) → FitsCircuits c circuits.old.items f
         → FitsCircuits c circuits.new.items at_rest.circuits }
     ensures count { length circuits.new.items ≡ length circuits.old.items }
-    ensures room { (len : ℕ) → HaveRoom len circuits.old.items → HaveRoom len circuits.new.items }
+    ensures room { HaveRoomStill circuits.old.items circuits.new.items }
 {
     for circuit in circuits.iter_mut() {
         circuit.forget();
@@ -59,7 +59,7 @@ pub(crate) fn forget_all(circuits: &mut Vec<Circuit>)
     ensures fits { (c : LayerSettings) (f : ℕ → Channel) → FitsCircuits c circuits.old.items f
         → FitsCircuits c circuits.new.items (λ k. forgotten (f k)) }
     ensures count { length circuits.new.items ≡ length circuits.old.items }
-    ensures room { (len : ℕ) → HaveRoom len circuits.old.items → HaveRoom len circuits.new.items }
+    ensures room { HaveRoomStill circuits.old.items circuits.new.items }
 {
     for circuit in circuits.iter_mut() {
         circuit.forget();

@@ -1,6 +1,6 @@
 //! Octets that the link handed up. ITU-T X.25 (10/96), sections 3.3 and 4, and Annex C.
-ghost use Rattle.std.specs.Prelude.{◌≡◌, ℕ, ◌+◌, ◌-◌, ◌^◌, ◌<◌, ◌≤◌, [], length, max, min, true, IfErr, IfOk, IfNone};
-ghost use Rattle.std.specs.Prelude.{IsOk, is_some, OnOk, OnErr, option_to_list};
+ghost use Rattle.std.specs.Prelude.{◌≡◌, ℕ, ◌+◌, ◌<◌, ◌≤◌, [], length, max, min, true, IfErr, IfOk, IfNone};
+ghost use Rattle.std.specs.Prelude.{IsOk, is_some, OnOk, OnErr};
 ghost use Rattle.x25_packet.specs.Spelling.{longest_user};
 ghost use Rattle.x25_wide.specs.Taking.{read_in};
 ghost use Rattle.x25_circuit.specs.Circuit.{Settings};
@@ -9,11 +9,12 @@ ghost use Rattle.x25_circuit.specs.code.FitsCircuit.{FitsCircuit, room_of};
 ghost use Rattle.x25_circuit.specs.code.Replies.{Says, IsSendable, notices_of, plain_owed};
 ghost use Rattle.x25_layer.specs.Layer.{LayerSettings, is_channel, notices_on};
 ghost use Rattle.x25_layer.specs.Layer.{Layer as State};
-ghost use Rattle.x25_layer.specs.code.FitsLayer.{FitsLayer};
-ghost use Rattle.x25_layer.specs.code.OverLink.{view_of, after_all};
+ghost use Rattle.x25_layer.specs.code.FitsLayer.{FitsLayer, FitsStill};
+ghost use Rattle.x25_layer.specs.code.OverLink.{view_of, after_all, TakesPacket, Hears, IsLeft};
 ghost use Rattle.x25_layer.specs.Rounds.{LinkView, answer_to, hears};
 ghost use Rattle.x25_layer.specs.Asking.{with_circuit};
-ghost use Rattle.x25_layer.specs.Room.{HasCountsLeft, HaveCountsLeft, IsNotFull, HaveRoom, HasRoom, KeepsRoom};
+ghost use Rattle.x25_layer.specs.Room.{HasCountsLeft, HaveCountsLeft, IsNotFull, HaveRoom, HaveRoomStill};
+ghost use Rattle.x25_layer.specs.Room.{HasRoom, KeepsRoom};
 ghost use Rattle.x25_layer.specs.Told.{plain_told};
 ghost use Rattle.x25_layer.specs.Receiving.{plain_read, IsOfChannel, brings, circuit_hears, hears_on};
 
@@ -88,14 +89,12 @@ impl Layer {
         ensures range { IfOk result (λ reply. IsSendable (plain_owed reply.packet)) }
         ensures memory { self.new.memory ≡ self.old.memory }
         ensures err { IfErr result (λ e. e ≡ LayerError.NoMemory) }
-        ensures layer_stays { (c : LayerSettings) (l : State) → FitsLayer c self.old l
-            → OnErr result (FitsLayer c self.new l) }
+        ensures layer_stays { OnErr result (FitsStill self.old self.new) }
         ensures enough { (len : ℕ) → brings (plain_read read.now) ≤ len → HaveRoom len self.old.circuits.items
             → IsOk result }
         ensures room { (len : ℕ) → HaveRoom len self.old.circuits.items
             → IfOk result (λ reply. IfNone reply.packet (HaveRoom len self.new.circuits.items)) }
-        ensures room_stays { (len : ℕ) → HaveRoom len self.old.circuits.items
-            → OnErr result (HaveRoom len self.new.circuits.items) }
+        ensures room_stays { OnErr result (HaveRoomStill self.old.circuits.items self.new.circuits.items) }
     {
         self.quiet = false;
         self.counts_left = false;
@@ -116,39 +115,13 @@ impl Layer {
     ) -> Result<Told<'a>, LayerError>
         requires kind { IsOfChannel (plain_read read.now) }
         requires left { HaveCountsLeft self.old.circuits.items }
-        requires memory { 0 < self.old.memory }
-        requires spares { 0 < L.spares link.old }
-        requires up { L.up link.old ≡ true }
-        requires free { L.waits link.old < 256 }
-        requires longest { 4099 ≤ L.longest link.old }
-        ensures layer { (c : LayerSettings) (l : State) → FitsLayer c self.old l
-            → OnOk result (FitsLayer c self.new (hears_on c l l.restarting channel (plain_read read.now)).next) }
-        ensures link { (c : LayerSettings) (l : State) (x : L.State) → FitsLayer c self.old l → L.fits link.old x
-            → OnOk result (L.fits link.new (after_all L.after_put x
-            (option_to_list (hears_on c l l.restarting channel (plain_read read.now)).owed))) }
-        ensures told { (c : LayerSettings) (l : State) → FitsLayer c self.old l
-            → IfOk result (λ told. plain_told told
-            ≡ (hears_on c l l.restarting channel (plain_read read.now)).notices) }
-        ensures nothing { IfOk result (λ told. plain_told told ≡ [] → told ≡ Told.Nothing) }
-        ensures memory { OnOk result (self.old.memory ≤ self.new.memory + 1) }
-        ensures spares { OnOk result (L.spares link.old ≤ L.spares link.new + 1) }
-        ensures no_more { self.new.memory ≤ self.old.memory }
-        ensures no_more_spares { L.spares link.new ≤ L.spares link.old }
-        ensures longest { L.longest link.new ≡ L.longest link.old }
-        ensures up { OnOk result (L.up link.new ≡ L.up link.old) }
+        requires place { TakesPacket L.OrderedLink self.old.memory link.old }
+        ensures hears { IfOk result (λ told. Hears L.OrderedLink self.old link.old self.new link.new told
+            (λ c l. hears_on c l l.restarting channel (plain_read read.now))) }
         ensures err { IfErr result (λ e. e ≡ LayerError.NoMemory) }
-        ensures layer_stays { (c : LayerSettings) (l : State) → FitsLayer c self.old l
-            → OnErr result (FitsLayer c self.new l) }
-        ensures link_stays { (x : L.State) → L.fits link.old x → OnErr result (L.fits link.new x) }
+        ensures stays { OnErr result (IsLeft self.old link.old self.new link.new) }
         ensures enough { (len : ℕ) → brings (plain_read read.now) ≤ len → HaveRoom len self.old.circuits.items
             → IsOk result }
-        ensures used { OnOk result (self.old.memory + L.spares link.new ≡ self.new.memory + L.spares link.old) }
-        ensures room { (len : ℕ) → HaveRoom len self.old.circuits.items → L.spares link.new ≡ L.spares link.old
-            → OnOk result (HaveRoom len self.new.circuits.items) }
-        ensures memory_stays { OnErr result (self.new.memory ≡ self.old.memory) }
-        ensures spares_stay { OnErr result (L.spares link.new ≡ L.spares link.old) }
-        ensures room_stays { (len : ℕ) → HaveRoom len self.old.circuits.items
-            → OnErr result (HaveRoom len self.new.circuits.items) }
     {
         if self.restarting {
             return Ok(Told::Nothing);
@@ -175,41 +148,13 @@ impl Layer {
         field: Option<&'a mut NarrowField>,
     ) -> Result<Told<'a>, LayerError>
         requires left { IsNotFull self.old }
-        requires memory { 0 < self.old.memory }
-        requires spares { 0 < L.spares link.old }
-        requires up { L.up link.old ≡ true }
-        requires free { L.waits link.old < 256 }
-        requires longest { 4099 ≤ L.longest link.old }
-        ensures layer { (c : LayerSettings) (l : State) → FitsLayer c self.old l
-            → OnOk result (FitsLayer c self.new
-            (answer_to c l octets.now
-            (read_in (is_some field.entry) (longest_user self.old.long_data) octets.now)).next) }
-        ensures link { (c : LayerSettings) (l : State) (x : L.State) → FitsLayer c self.old l → L.fits link.old x
-            → OnOk result (L.fits link.new (after_all L.after_put x
-            (option_to_list (answer_to c l octets.now
-            (read_in (is_some field.entry) (longest_user self.old.long_data) octets.now)).owed))) }
-        ensures told { (c : LayerSettings) (l : State) → FitsLayer c self.old l
-            → IfOk result (λ told. plain_told told ≡ (answer_to c l octets.now
-            (read_in (is_some field.entry) (longest_user self.old.long_data) octets.now)).notices) }
-        ensures nothing { IfOk result (λ told. plain_told told ≡ [] → told ≡ Told.Nothing) }
-        ensures memory { OnOk result (self.old.memory ≤ self.new.memory + 1) }
-        ensures spares { OnOk result (L.spares link.old ≤ L.spares link.new + 1) }
-        ensures no_more { self.new.memory ≤ self.old.memory }
-        ensures no_more_spares { L.spares link.new ≤ L.spares link.old }
-        ensures longest { L.longest link.new ≡ L.longest link.old }
-        ensures up { OnOk result (L.up link.new ≡ L.up link.old) }
+        requires place { TakesPacket L.OrderedLink self.old.memory link.old }
+        ensures hears { IfOk result (λ told. Hears L.OrderedLink self.old link.old self.new link.new told
+            (λ c l. answer_to c l octets.now
+            (read_in (is_some field.entry) (longest_user self.old.long_data) octets.now))) }
         ensures err { IfErr result (λ e. e ≡ LayerError.NoMemory) }
-        ensures layer_stays { (c : LayerSettings) (l : State) → FitsLayer c self.old l
-            → OnErr result (FitsLayer c self.new l) }
-        ensures link_stays { (x : L.State) → L.fits link.old x → OnErr result (L.fits link.new x) }
+        ensures stays { OnErr result (IsLeft self.old link.old self.new link.new) }
         ensures enough { (len : ℕ) → length octets.now ≤ len + 3 → HaveRoom len self.old.circuits.items → IsOk result }
-        ensures used { OnOk result (self.old.memory + L.spares link.new ≡ self.new.memory + L.spares link.old) }
-        ensures room { (len : ℕ) → HaveRoom len self.old.circuits.items → L.spares link.new ≡ L.spares link.old
-            → OnOk result (HaveRoom len self.new.circuits.items) }
-        ensures memory_stays { OnErr result (self.new.memory ≡ self.old.memory) }
-        ensures spares_stay { OnErr result (L.spares link.new ≡ L.spares link.old) }
-        ensures room_stays { (len : ℕ) → HaveRoom len self.old.circuits.items
-            → OnErr result (HaveRoom len self.new.circuits.items) }
     {
         let Some(channel) = channel(octets) else {
             return Ok(Told::Nothing);

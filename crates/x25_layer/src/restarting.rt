@@ -1,5 +1,5 @@
 //! Restart. ITU-T X.25 (10/96), section 3.3.
-ghost use Rattle.std.specs.Prelude.{◌≡◌, ℕ, suc, ◌+◌, ◌-◌, ◌^◌, ◌<◌, ◌≤◌, [], max, true, false, option_to_list, IfErr};
+ghost use Rattle.std.specs.Prelude.{◌≡◌, ℕ, suc, ◌+◌, ◌-◌, ◌^◌, ◌<◌, ◌≤◌, max, true, IfErr};
 ghost use Rattle.std.specs.Prelude.{OnOk, OnErr, IsOk};
 ghost use Rattle.x25_packet.specs.Packet.{restart, restart_conf};
 ghost use Rattle.x25_packet.specs.Spelling.{spelling_of};
@@ -8,11 +8,10 @@ ghost use Rattle.x25_circuit.specs.Hearing.{cause_at};
 ghost use Rattle.x25_layer.specs.Layer.{LayerSettings, restart_cause, is_ready, restarting_from, layer_answers};
 ghost use Rattle.x25_layer.specs.Layer.{Layer as State};
 ghost use Rattle.x25_layer.specs.code.FitsLayer.{FitsLayer};
-ghost use Rattle.x25_layer.specs.code.OverLink.{view_of, after_all, LacksMemory, Answers};
+ghost use Rattle.x25_layer.specs.code.OverLink.{view_of, after_all, TakesPacket, Hears, LacksMemory, Answers};
 ghost use Rattle.x25_layer.specs.Calls.{Restarts};
 ghost use Rattle.x25_layer.specs.Rounds.{comes_up};
-ghost use Rattle.x25_layer.specs.Room.{HaveRoom, HasRoom};
-ghost use Rattle.x25_layer.specs.Told.{plain_told};
+ghost use Rattle.x25_layer.specs.Room.{HasRoom, HaveRoomStill};
 
 use crate::circuits::{begin_all, forget_all};
 use crate::error::LayerError;
@@ -109,11 +108,7 @@ impl Layer {
 
     // Restarts all channels of this end by a RESTART.
     fn send_restart<L: OrderedLink>(&mut self, link: &mut L, cause: u8, diagnostic: u8)
-        requires memory { 0 < self.old.memory }
-        requires spares { 0 < L.spares link.old }
-        requires up { L.up link.old ≡ true }
-        requires free { L.waits link.old < 256 }
-        requires longest { 4099 ≤ L.longest link.old }
+        requires place { TakesPacket L.OrderedLink self.old.memory link.old }
         ensures layer { (c : LayerSettings) (l : State) → FitsLayer c self.old l
             → FitsLayer c self.new (restarting_from l.restarts l.circuits) }
         ensures link { (x : L.State) → L.fits link.old x
@@ -122,7 +117,7 @@ impl Layer {
         ensures spares { L.spares link.new ≡ L.spares link.old - 1 }
         ensures longest { L.longest link.new ≡ L.longest link.old }
         ensures up { L.up link.new ≡ L.up link.old }
-        ensures room { (len : ℕ) → HaveRoom len self.old.circuits.items → HaveRoom len self.new.circuits.items }
+        ensures room { HaveRoomStill self.old.circuits.items self.new.circuits.items }
     {
         self.restarting = true;
         self.quiet = false;
@@ -138,7 +133,7 @@ impl Layer {
         ensures layer { (c : LayerSettings) (l : State) → FitsLayer c self.old l
             → FitsLayer c self.new (is_ready (suc l.restarts) (λ k. begun)) }
         ensures memory { self.new.memory ≡ self.old.memory }
-        ensures room { (len : ℕ) → HaveRoom len self.old.circuits.items → HaveRoom len self.new.circuits.items }
+        ensures room { HaveRoomStill self.old.circuits.items self.new.circuits.items }
     {
         self.restarting = false;
         self.restarts += 1;
@@ -155,27 +150,10 @@ impl Layer {
         diagnostic: u8,
     ) -> Told<'a>
         requires restarts { self.old.restarts < 2 ^ 64 - 1 }
-        requires memory { 0 < self.old.memory }
-        requires spares { 0 < L.spares link.old }
-        requires up { L.up link.old ≡ true }
-        requires free { L.waits link.old < 256 }
-        requires longest { 4099 ≤ L.longest link.old }
-        ensures layer { (c : LayerSettings) (l : State) → FitsLayer c self.old l
-            → FitsLayer c self.new (layer_answers c l (restart cause diagnostic)).next }
-        ensures link { (c : LayerSettings) (l : State) (x : L.State) → FitsLayer c self.old l → L.fits link.old x
-            → L.fits link.new (after_all L.after_put x
-            (option_to_list (layer_answers c l (restart cause diagnostic)).owed)) }
-        ensures told { (c : LayerSettings) (l : State) → FitsLayer c self.old l
-            → plain_told result ≡ (layer_answers c l (restart cause diagnostic)).notices }
-        ensures nothing { plain_told result ≡ [] → result ≡ Told.Nothing }
-        ensures memory { self.old.memory ≤ self.new.memory + 1 }
-        ensures spares { L.spares link.old ≤ L.spares link.new + 1 }
-        ensures no_more { self.new.memory ≤ self.old.memory }
-        ensures no_more_spares { L.spares link.new ≤ L.spares link.old }
-        ensures longest { L.longest link.new ≡ L.longest link.old }
-        ensures up { L.up link.new ≡ L.up link.old }
-        ensures used { self.old.memory + L.spares link.new ≡ self.new.memory + L.spares link.old }
-        ensures room { (len : ℕ) → HaveRoom len self.old.circuits.items → HaveRoom len self.new.circuits.items }
+        requires place { TakesPacket L.OrderedLink self.old.memory link.old }
+        ensures hears { Hears L.OrderedLink self.old link.old self.new link.new result
+            (λ c l. layer_answers c l (restart cause diagnostic)) }
+        ensures room { HaveRoomStill self.old.circuits.items self.new.circuits.items }
     {
         if self.restarting {
             self.restart_is_done();
@@ -190,26 +168,10 @@ impl Layer {
     /// (profile).
     pub(crate) fn hear_restart_conf<'a, L: OrderedLink>(&mut self, link: &mut L) -> Told<'a>
         requires restarts { self.old.restarts < 2 ^ 64 - 1 }
-        requires memory { 0 < self.old.memory }
-        requires spares { 0 < L.spares link.old }
-        requires up { L.up link.old ≡ true }
-        requires free { L.waits link.old < 256 }
-        requires longest { 4099 ≤ L.longest link.old }
-        ensures layer { (c : LayerSettings) (l : State) → FitsLayer c self.old l
-            → FitsLayer c self.new (layer_answers c l restart_conf).next }
-        ensures link { (c : LayerSettings) (l : State) (x : L.State) → FitsLayer c self.old l → L.fits link.old x
-            → L.fits link.new (after_all L.after_put x (option_to_list (layer_answers c l restart_conf).owed)) }
-        ensures told { (c : LayerSettings) (l : State) → FitsLayer c self.old l
-            → plain_told result ≡ (layer_answers c l restart_conf).notices }
-        ensures nothing { plain_told result ≡ [] → result ≡ Told.Nothing }
-        ensures memory { self.old.memory ≤ self.new.memory + 1 }
-        ensures spares { L.spares link.old ≤ L.spares link.new + 1 }
-        ensures no_more { self.new.memory ≤ self.old.memory }
-        ensures no_more_spares { L.spares link.new ≤ L.spares link.old }
-        ensures longest { L.longest link.new ≡ L.longest link.old }
-        ensures up { L.up link.new ≡ L.up link.old }
-        ensures used { self.old.memory + L.spares link.new ≡ self.new.memory + L.spares link.old }
-        ensures room { (len : ℕ) → HaveRoom len self.old.circuits.items → HaveRoom len self.new.circuits.items }
+        requires place { TakesPacket L.OrderedLink self.old.memory link.old }
+        ensures hears { Hears L.OrderedLink self.old link.old self.new link.new result
+            (λ c l. layer_answers c l restart_conf) }
+        ensures room { HaveRoomStill self.old.circuits.items self.new.circuits.items }
     {
         if self.restarting {
             self.restart_is_done();

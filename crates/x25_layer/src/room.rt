@@ -1,11 +1,11 @@
 //! What a layer is asked before a packet is handed up: whether its counts have room, and memory to be set aside.
-ghost use Rattle.std.specs.Prelude.{◌≡◌, ℕ, ◌≤◌, ◌||◌, length, max, false, IfErr, IsOk, OnOk, OnErr};
+ghost use Rattle.std.specs.Prelude.{◌≡◌, ℕ, ◌≤◌, ◌||◌, length, max, false, IfErr, IsOk, OnOk};
 ghost use Rattle.x25_circuit.specs.Circuit.{Settings};
 ghost use Rattle.x25_circuit.specs.Circuit.{Circuit as Channel};
 ghost use Rattle.x25_circuit.specs.code.FitsCircuit.{FitsCircuit};
 ghost use Rattle.x25_layer.specs.Layer.{LayerSettings};
 ghost use Rattle.x25_layer.specs.Layer.{Layer as State};
-ghost use Rattle.x25_layer.specs.code.FitsLayer.{FitsLayer, FitsCircuits, is_most, full_up_to, is_full};
+ghost use Rattle.x25_layer.specs.code.FitsLayer.{FitsLayer, FitsCircuits, is_most, full_up_to, is_full, FitsStill};
 ghost use Rattle.x25_layer.specs.code.Waiting.{NoneWaits};
 ghost use Rattle.x25_layer.specs.Room.{HasCountsLeft, HaveCountsLeft, IsNotFull, HaveRoom, HasRoom, HaveAtMost};
 
@@ -83,7 +83,7 @@ impl Layer {
     ///
     /// 70 alone, and only where less was set aside.
     pub fn room<L: OrderedLink>(&mut self, link: &mut L, len: usize) -> Result<(), LayerError>
-        ensures layer { (c : LayerSettings) (l : State) → FitsLayer c self.old l → FitsLayer c self.new l }
+        ensures layer { FitsStill self.old self.new }
         ensures link { (x : L.State) → L.fits link.old x → L.fits link.new x }
         ensures room { OnOk result (HasRoom len self.new (L.spares link.new)) }
         ensures left { IsNotFull self.old → IsNotFull self.new }

@@ -1,16 +1,14 @@
 //! Rounds of pulls of data packets (profile): channels in rising order, one packet each, until a round gives none.
-ghost use Rattle.std.specs.Prelude.{◌≡◌, ℕ, ◌+◌, ◌<◌, ◌≤◌, length, true, false, nat_lt, None, option_to_list};
+ghost use Rattle.std.specs.Prelude.{◌≡◌, ◌<◌, ◌≤◌, length, true, nat_lt};
 ghost use Rattle.x25_packet.specs.Spelling.{IsChannel};
-ghost use Rattle.x25_circuit.specs.Circuit.{Settings};
-ghost use Rattle.x25_circuit.specs.Circuit.{Circuit as Channel};
-ghost use Rattle.x25_circuit.specs.code.FitsCircuit.{FitsCircuit, room_of, clears_of, resets_of, waits_of};
-ghost use Rattle.x25_layer.specs.Layer.{LayerSettings, packet_on};
+ghost use Rattle.x25_circuit.specs.code.FitsCircuit.{waits_of};
+ghost use Rattle.x25_layer.specs.Layer.{LayerSettings};
 ghost use Rattle.x25_layer.specs.code.FitsLayer.{FitsLayer};
-ghost use Rattle.x25_layer.specs.code.OverLink.{view_of, after_all, Answers};
+ghost use Rattle.x25_layer.specs.code.OverLink.{view_of, after_all, TakesAlike, Answers};
 ghost use Rattle.x25_layer.specs.Calls.{PullsAll};
-ghost use Rattle.x25_layer.specs.Rounds.{Putting, round, rounds};
-ghost use Rattle.x25_layer.specs.code.Pulling.{IsEnough, pulled_where, Stands};
-ghost use Rattle.x25_layer.specs.Room.{HaveCountsLeft, HaveRoom};
+ghost use Rattle.x25_layer.specs.Rounds.{Putting, rounds};
+ghost use Rattle.x25_layer.specs.code.Pulling.{IsEnough, PullsOne, GoesRound};
+ghost use Rattle.x25_layer.specs.Room.{HaveRoomStill};
 ghost use Rattle.x25_layer.specs.code.Waiting.{NoneWaits};
 
 use crate::error::LayerError;
@@ -48,31 +46,8 @@ fn pull_one<L: OrderedLink>(
     requires channel { IsChannel channel }
     requires up { L.up link.old ≡ true }
     requires longest { 4099 ≤ L.longest link.old }
-    ensures circuit { (c : Settings) (x : Channel) (y : L.State) → FitsCircuit c circuit.old x → L.fits link.old y
-        → IsEnough (L.lists y) memory.old → IsEnough (L.lists y) (L.spares link.old)
-        → FitsCircuit c circuit.new (pulled_where (nat_lt (L.waits_in y) 8) c x).next }
-    ensures link { (c : Settings) (x : Channel) (y : L.State) → FitsCircuit c circuit.old x → L.fits link.old y
-        → IsEnough (L.lists y) memory.old → IsEnough (L.lists y) (L.spares link.old)
-        → L.fits link.new (after_all L.after_put y
-        (option_to_list (packet_on channel (pulled_where (nat_lt (L.waits_in y) 8) c x).packet))) }
-    ensures none { (c : Settings) (x : Channel) (y : L.State) → FitsCircuit c circuit.old x → L.fits link.old y
-        → IsEnough (L.lists y) memory.old → IsEnough (L.lists y) (L.spares link.old) → result ≡ false
-        → (pulled_where (nat_lt (L.waits_in y) 8) c x).packet ≡ None }
-    ensures memory { (c : Settings) (x : Channel) (y : L.State) → FitsCircuit c circuit.old x → L.fits link.old y
-        → IsEnough (L.lists y) memory.old → IsEnough (L.lists y) (L.spares link.old)
-        → memory.old ≤ memory.new + length (option_to_list (pulled_where (nat_lt (L.waits_in y) 8) c x).packet) }
-    ensures spares { (c : Settings) (x : Channel) (y : L.State) → FitsCircuit c circuit.old x → L.fits link.old y
-        → IsEnough (L.lists y) memory.old → IsEnough (L.lists y) (L.spares link.old)
-        → L.spares link.old ≤ L.spares link.new + length
-        (option_to_list (pulled_where (nat_lt (L.waits_in y) 8) c x).packet) }
-    ensures no_more { memory.new ≤ memory.old }
-    ensures used { memory.old + L.spares link.new ≡ memory.new + L.spares link.old }
-    ensures room { room_of circuit.old ≤ room_of circuit.new }
-    ensures clears { clears_of circuit.new ≡ clears_of circuit.old }
-    ensures resets { resets_of circuit.new ≡ resets_of circuit.old }
-    ensures fewer { result ≡ true → memory.new < memory.old }
-    ensures longest { L.longest link.new ≡ L.longest link.old }
-    ensures up { L.up link.new ≡ L.up link.old }
+    ensures pulls { PullsOne L.OrderedLink channel circuit.old link.old memory.old circuit.new link.new memory.new
+        result }
     ensures before { quiet.new ≡ true → quiet.old ≡ true }
     ensures still { quiet.new ≡ true → waits_of circuit.new ≡ 0 }
 {
@@ -95,31 +70,7 @@ fn pull_waiting<L: OrderedLink>(
     requires channel { IsChannel channel }
     requires up { L.up link.old ≡ true }
     requires longest { 4099 ≤ L.longest link.old }
-    ensures circuit { (c : Settings) (x : Channel) (y : L.State) → FitsCircuit c circuit.old x → L.fits link.old y
-        → IsEnough (L.lists y) memory.old → IsEnough (L.lists y) (L.spares link.old)
-        → FitsCircuit c circuit.new (pulled_where (nat_lt (L.waits_in y) 8) c x).next }
-    ensures link { (c : Settings) (x : Channel) (y : L.State) → FitsCircuit c circuit.old x → L.fits link.old y
-        → IsEnough (L.lists y) memory.old → IsEnough (L.lists y) (L.spares link.old)
-        → L.fits link.new (after_all L.after_put y
-        (option_to_list (packet_on channel (pulled_where (nat_lt (L.waits_in y) 8) c x).packet))) }
-    ensures none { (c : Settings) (x : Channel) (y : L.State) → FitsCircuit c circuit.old x → L.fits link.old y
-        → IsEnough (L.lists y) memory.old → IsEnough (L.lists y) (L.spares link.old) → result ≡ false
-        → (pulled_where (nat_lt (L.waits_in y) 8) c x).packet ≡ None }
-    ensures memory { (c : Settings) (x : Channel) (y : L.State) → FitsCircuit c circuit.old x → L.fits link.old y
-        → IsEnough (L.lists y) memory.old → IsEnough (L.lists y) (L.spares link.old)
-        → memory.old ≤ memory.new + length (option_to_list (pulled_where (nat_lt (L.waits_in y) 8) c x).packet) }
-    ensures spares { (c : Settings) (x : Channel) (y : L.State) → FitsCircuit c circuit.old x → L.fits link.old y
-        → IsEnough (L.lists y) memory.old → IsEnough (L.lists y) (L.spares link.old)
-        → L.spares link.old ≤ L.spares link.new + length
-        (option_to_list (pulled_where (nat_lt (L.waits_in y) 8) c x).packet) }
-    ensures no_more { memory.new ≤ memory.old }
-    ensures used { memory.old + L.spares link.new ≡ memory.new + L.spares link.old }
-    ensures room { room_of circuit.old ≤ room_of circuit.new }
-    ensures clears { clears_of circuit.new ≡ clears_of circuit.old }
-    ensures resets { resets_of circuit.new ≡ resets_of circuit.old }
-    ensures fewer { result ≡ true → memory.new < memory.old }
-    ensures longest { L.longest link.new ≡ L.longest link.old }
-    ensures up { L.up link.new ≡ L.up link.old }
+    ensures { PullsOne L.OrderedLink channel circuit.old link.old memory.old circuit.new link.new memory.new result }
 {
     if !may_pull(link, memory) {
         return false;
@@ -145,22 +96,8 @@ fn round<L: OrderedLink>(
     requires up { L.up link.old ≡ true }
     requires still { quiet.old ≡ true → NoneWaits circuits.old.items }
     requires longest { 4099 ≤ L.longest link.old }
-    ensures stands { (c : LayerSettings) (x : L.State) (s : Putting)
-        → Stands (L.fits link.old) L.lists L.after_put c circuits.old.items memory.old (L.spares link.old) x s →
-        Stands (L.fits link.new) L.lists L.after_put c circuits.new.items memory.new (L.spares link.new) x
-        (round (view_of L.up_in L.waits_in L.after_put x) c c.channels s) }
-    ensures none { (c : LayerSettings) (x : L.State) (s : Putting)
-        → Stands (L.fits link.old) L.lists L.after_put c circuits.old.items memory.old (L.spares link.old) x s →
-        result ≡ false → round (view_of L.up_in L.waits_in L.after_put x) c c.channels s ≡ s }
-    ensures count { length circuits.new.items ≡ length circuits.old.items }
-    ensures room { (len : ℕ) → HaveRoom len circuits.old.items → HaveRoom len circuits.new.items }
-    ensures left { HaveCountsLeft circuits.old.items → HaveCountsLeft circuits.new.items }
-    ensures no_more { memory.new ≤ memory.old }
-    ensures used { memory.old + L.spares link.new ≡ memory.new + L.spares link.old }
-    ensures fewer { result ≡ true → memory.new < memory.old }
-    ensures longest { L.longest link.new ≡ L.longest link.old }
-    ensures up { L.up link.new ≡ L.up link.old }
-    ensures still { quiet.new ≡ true → NoneWaits circuits.new.items }
+    ensures { GoesRound L.OrderedLink circuits.old.items link.old memory.old circuits.new.items link.new memory.new
+        result quiet.new }
 {
     what_waits_is_pulled();
     if *quiet {
@@ -183,22 +120,8 @@ fn go_round<L: OrderedLink>(
     requires few { length circuits.old.items ≤ 16 }
     requires up { L.up link.old ≡ true }
     requires longest { 4099 ≤ L.longest link.old }
-    ensures stands { (c : LayerSettings) (x : L.State) (s : Putting)
-        → Stands (L.fits link.old) L.lists L.after_put c circuits.old.items memory.old (L.spares link.old) x s →
-        Stands (L.fits link.new) L.lists L.after_put c circuits.new.items memory.new (L.spares link.new) x
-        (round (view_of L.up_in L.waits_in L.after_put x) c c.channels s) }
-    ensures none { (c : LayerSettings) (x : L.State) (s : Putting)
-        → Stands (L.fits link.old) L.lists L.after_put c circuits.old.items memory.old (L.spares link.old) x s →
-        result ≡ false → round (view_of L.up_in L.waits_in L.after_put x) c c.channels s ≡ s }
-    ensures count { length circuits.new.items ≡ length circuits.old.items }
-    ensures room { (len : ℕ) → HaveRoom len circuits.old.items → HaveRoom len circuits.new.items }
-    ensures left { HaveCountsLeft circuits.old.items → HaveCountsLeft circuits.new.items }
-    ensures no_more { memory.new ≤ memory.old }
-    ensures used { memory.old + L.spares link.new ≡ memory.new + L.spares link.old }
-    ensures fewer { result ≡ true → memory.new < memory.old }
-    ensures longest { L.longest link.new ≡ L.longest link.old }
-    ensures up { L.up link.new ≡ L.up link.old }
-    ensures still { quiet.new ≡ true → NoneWaits circuits.new.items }
+    ensures { GoesRound L.OrderedLink circuits.old.items link.old memory.old circuits.new.items link.new memory.new
+        result quiet.new }
 {
     let mut channel = 0;
     let mut is_put = false;
@@ -245,10 +168,8 @@ impl Layer {
         ensures link { (c : LayerSettings) (s : Putting) (x : L.State) → FitsLayer c self.old s.layer
             → L.fits link.old (after_all L.after_put x s.put)
             → L.fits link.new (after_all L.after_put x (rounds (view_of L.up_in L.waits_in L.after_put x) c s).put) }
-        ensures room { (len : ℕ) → HaveRoom len self.old.circuits.items → HaveRoom len self.new.circuits.items }
-        ensures no_more { self.new.memory ≤ self.old.memory }
-        ensures used { self.old.memory + L.spares link.new ≡ self.new.memory + L.spares link.old }
-        ensures longest { L.longest link.new ≡ L.longest link.old }
+        ensures room { HaveRoomStill self.old.circuits.items self.new.circuits.items }
+        ensures takes { TakesAlike L.OrderedLink self.old.memory link.old self.new.memory link.new }
     {
         while round(&mut self.circuits, link, &mut self.memory, &mut self.quiet) {}
     }

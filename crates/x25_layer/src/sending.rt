@@ -1,12 +1,9 @@
 //! What a layer makes of a circuit's packet before it is put.
-ghost use Rattle.std.specs.Prelude.{◌≡◌, ℕ, ◌+◌, ◌<◌, ◌≤◌, length, true, option_to_list, IfSome};
+ghost use Rattle.std.specs.Prelude.{◌≡◌, ℕ, ◌<◌, ◌≤◌, length, true, IfSome};
 ghost use Rattle.x25_packet.specs.Packet.{plain};
 ghost use Rattle.x25_packet.specs.Spelling.{IsChannel, IsInRange, moved_to, spelling_of};
 ghost use Rattle.x25_circuit.specs.code.Replies.{IsSendable, plain_owed, plain_sent};
-ghost use Rattle.x25_layer.specs.Layer.{LayerSettings, packet_on};
-ghost use Rattle.x25_layer.specs.Layer.{Layer as State};
-ghost use Rattle.x25_layer.specs.code.FitsLayer.{FitsLayer};
-ghost use Rattle.x25_layer.specs.code.OverLink.{after_all};
+ghost use Rattle.x25_layer.specs.code.OverLink.{PutsOn};
 
 use crate::layer::Layer;
 use x25_circuit::Owed;
@@ -66,17 +63,7 @@ impl Layer {
         requires up { L.up link.old ≡ true }
         requires free { IfSome packet (λ _. L.waits link.old < 256) }
         requires longest { 4099 ≤ L.longest link.old }
-        ensures fits { (c : LayerSettings) (l : State) → FitsLayer c self.old l → FitsLayer c self.new l }
-        ensures circuits { self.new.circuits ≡ self.old.circuits }
-        ensures memory { self.old.memory ≤ self.new.memory + 1 }
-        ensures used { self.old.memory + L.spares link.new ≡ self.new.memory + L.spares link.old }
-        ensures no_more { self.new.memory ≤ self.old.memory }
-        ensures link { (x : L.State) → L.fits link.old x
-            → L.fits link.new (after_all L.after_put x (option_to_list (packet_on channel (plain_sent packet.entry)))) }
-        ensures spares { L.spares link.old ≤ L.spares link.new + 1 }
-        ensures longest { L.longest link.new ≡ L.longest link.old }
-        ensures up { L.up link.new ≡ L.up link.old }
-        ensures put { IfSome packet.entry (λ _. L.spares link.new + 1 ≡ L.spares link.old) }
+        ensures { PutsOn L.OrderedLink self.old link.old self.new link.new channel (plain_sent packet.entry) }
     {
         let Some(packet) = packet else {
             return;
@@ -102,17 +89,7 @@ impl Layer {
         requires up { L.up link.old ≡ true }
         requires free { IfSome owed (λ _. L.waits link.old < 256) }
         requires longest { 4099 ≤ L.longest link.old }
-        ensures fits { (c : LayerSettings) (l : State) → FitsLayer c self.old l → FitsLayer c self.new l }
-        ensures circuits { self.new.circuits ≡ self.old.circuits }
-        ensures memory { self.old.memory ≤ self.new.memory + 1 }
-        ensures used { self.old.memory + L.spares link.new ≡ self.new.memory + L.spares link.old }
-        ensures no_more { self.new.memory ≤ self.old.memory }
-        ensures link { (x : L.State) → L.fits link.old x
-            → L.fits link.new (after_all L.after_put x (option_to_list (packet_on channel (plain_owed owed)))) }
-        ensures spares { L.spares link.old ≤ L.spares link.new + 1 }
-        ensures longest { L.longest link.new ≡ L.longest link.old }
-        ensures up { L.up link.new ≡ L.up link.old }
-        ensures put { IfSome owed (λ _. L.spares link.new + 1 ≡ L.spares link.old) }
+        ensures { PutsOn L.OrderedLink self.old link.old self.new link.new channel (plain_owed owed) }
     {
         let Some(owed) = owed else {
             return;

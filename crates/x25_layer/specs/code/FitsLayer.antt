@@ -24,6 +24,10 @@ pub record FitsLayer (c : LayerSettings) (v : code.Layer) (l : Layer) : Type 0 w
   pub restarts : v.restarts ≡ l.restarts
   pub circuits : FitsCircuits c v.circuits.items l.circuits
 
+-- it fits what it fitted
+abbrev pub FitsStill : code.Layer → code.Layer → Type 0
+FitsStill old new = (c : LayerSettings) (l : Layer) → FitsLayer c old l → FitsLayer c new l
+
 -- ---- what a layer tells
 
 abbrev pub plain_stretch : Option Stretch → Option Name

@@ -1,17 +1,19 @@
 -- A layer over any link that keeps order: what it sees of the link, and the link after packets were put.
-use Rattle.std.specs.Prelude.{◌≡◌, ℕ, ◌<◌, ◌≤◌, ◌⊎◌, max, List, [], ◌∷◌, Bool, true, false, Result, Err, OnOk, OnErr}
-use Rattle.std.specs.Prelude.{IsErrOf}
-use Rattle.std.specs.Prelude.{MatchResult}
+use Rattle.std.specs.Prelude.{◌≡◌, ℕ, ◌+◌, ◌<◌, ◌≤◌, ◌⊎◌, max, List, [], ◌∷◌, Bool, true, false}
+use Rattle.std.specs.Prelude.{Option, Result, Err, OnOk, OnErr, IfSome, IsErrOf, MatchResult, option_to_list}
 use Rattle.x25_packet.specs.Packet.{PlainPacket}
 use Rattle.x25_packet.specs.Spelling.{spelling_of}
 use Rattle.x25_layer.specs.declared.error.LayerError.{LayerError}
 use Rattle.x25_layer.specs.declared.error.LayerError.TheVariants as error
 use Rattle.x25_layer.specs.declared.layer.Layer as code
+use Rattle.x25_layer.specs.declared.told.Told.{Told}
+use Rattle.x25_layer.specs.declared.told.Told.TheVariants as tells
 use Rattle.x25_link.specs.declared.ordered_link.OrderedLink.{Ghosts}
-use Rattle.x25_layer.specs.Layer.{LayerSettings, Layer}
+use Rattle.x25_layer.specs.Layer.{LayerSettings, Layer, LayerAnswer, packet_on}
 use Rattle.x25_layer.specs.Calls.{LayerRequest, copies}
-use Rattle.x25_layer.specs.Room.{HasRoom, KeepsRoom}
-use Rattle.x25_layer.specs.code.FitsLayer.{FitsLayer}
+use Rattle.x25_layer.specs.Room.{HaveRoom, HaveRoomStill, HasRoom, KeepsRoom}
+use Rattle.x25_layer.specs.Told.{plain_told}
+use Rattle.x25_layer.specs.code.FitsLayer.{FitsLayer, FitsStill}
 use Rattle.x25_layer.specs.Rounds.{LinkView, Answered, Went, Refuses, calls}
 
 -- the state of the link after these packets were put, by its state after one is
@@ -22,6 +24,58 @@ after_all after x (packet ∷ packets) = after_all after (after x (spelling_of p
 -- by what a state says of being up and of the packets that wait
 abbrev pub view_of : {X : Type 0} → (X → Bool) → (X → ℕ) → (X → List ℕ → X) → X → LinkView
 view_of up_in waits_in after x = record { is_up = up_in x; waits = λ packets. waits_in (after_all after x packets) }
+
+-- ---- what is set aside
+
+-- Of memory for m packets in the layer m₂ is left, and in the link below it as many fewer: for each packet that is put
+-- both take one. The link is as it was, up or not, and takes packets as long.
+pub record TakesAlike {D : Type 0} (g : Ghosts D) (m : ℕ) (below : D) (m₂ : ℕ) (below₂ : D) : Type 0 where
+  pub no_more : m₂ ≤ m
+  pub used : m + g.spares below₂ ≡ m₂ + g.spares below
+  pub longest : g.longest below₂ ≡ g.longest below
+  pub up : g.up below₂ ≡ g.up below
+
+-- The link is up and takes one packet more, of 4,099 octets, and memory for one is set aside in both.
+pub record TakesPacket {D : Type 0} (g : Ghosts D) (m : ℕ) (below : D) : Type 0 where
+  pub memory : 0 < m
+  pub spares : 0 < g.spares below
+  pub up : g.up below ≡ true
+  pub free : g.waits below < 256
+  pub longest : 4099 ≤ g.longest below
+
+-- ---- what is put and heard
+
+-- The packet of a circuit, where there is one, is put on its channel, and nothing else is done.
+pub record PutsOn {D : Type 0} (g : Ghosts D) (old : code.Layer) (below : D) (new : code.Layer) (below₂ : D)
+    (channel : ℕ) (packet : Option PlainPacket) : Type 0 where
+  pub fits : FitsStill old new
+  pub circuits : new.circuits ≡ old.circuits
+  pub link : (x : g.State) → g.fits below x
+      → g.fits below₂ (after_all g.after_put x (option_to_list (packet_on channel packet)))
+  pub takes : TakesAlike g old.memory below new.memory below₂
+  pub memory : old.memory ≤ new.memory + 1
+  pub put : IfSome packet (λ _. g.spares below₂ + 1 ≡ g.spares below)
+
+-- What came is heard as the answer says, and the packet owed for it is put. Where none is, the circuits keep the memory
+-- that they have.
+pub record Hears {D : Type 0} (g : Ghosts D) (old : code.Layer) (below : D) (new : code.Layer) (below₂ : D) (t : Told)
+    (answer : LayerSettings → Layer → LayerAnswer) : Type 0 where
+  pub layer : (c : LayerSettings) (l : Layer) → FitsLayer c old l → FitsLayer c new (answer c l).next
+  pub link : (c : LayerSettings) (l : Layer) (x : g.State) → FitsLayer c old l → g.fits below x
+      → g.fits below₂ (after_all g.after_put x (option_to_list (answer c l).owed))
+  pub told : (c : LayerSettings) (l : Layer) → FitsLayer c old l → plain_told t ≡ (answer c l).notices
+  pub nothing : plain_told t ≡ [] → t ≡ tells.Nothing
+  pub takes : TakesAlike g old.memory below new.memory below₂
+  pub memory : old.memory ≤ new.memory + 1
+  pub room : (len : ℕ) → HaveRoom len old.circuits.items → g.spares below₂ ≡ g.spares below
+      → HaveRoom len new.circuits.items
+
+-- It isn't heard: the link is as before, the layer fits what it fitted, and no less memory is set aside.
+pub record IsLeft {D : Type 0} (old : code.Layer) (below : D) (new : code.Layer) (below₂ : D) : Type 0 where
+  pub layer : FitsStill old new
+  pub link : below₂ ≡ below
+  pub memory : new.memory ≡ old.memory
+  pub room : HaveRoomStill old.circuits.items new.circuits.items
 
 -- ---- what a call of the user leaves and answers
 

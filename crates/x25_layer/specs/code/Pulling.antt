@@ -1,13 +1,18 @@
 -- A step of a layer over a link, within its rounds of pulls.
-use Rattle.std.specs.Prelude.{◌≡◌, ℕ, ◌+◌, ◌≤◌, List, length, Bool, if◌then◌else◌}
+use Rattle.std.specs.Prelude.{◌≡◌, ℕ, ◌+◌, ◌<◌, ◌≤◌, List, length, None, Bool, true, false, if◌then◌else◌, nat_lt}
+use Rattle.std.specs.Prelude.{option_to_list}
 use Rattle.x25_link.specs.OrderedLink.{Lists}
+use Rattle.x25_link.specs.declared.ordered_link.OrderedLink.{Ghosts}
 use Rattle.x25_circuit.specs.declared.circuit.Circuit as circuit_code
 use Rattle.x25_circuit.specs.Circuit.{Settings, Circuit}
 use Rattle.x25_circuit.specs.Calling.{Pulled, pulls_nothing, pulled}
-use Rattle.x25_layer.specs.Layer.{LayerSettings}
+use Rattle.x25_circuit.specs.code.FitsCircuit.{FitsCircuit, room_of, clears_of, resets_of}
+use Rattle.x25_layer.specs.Layer.{LayerSettings, packet_on}
+use Rattle.x25_layer.specs.Room.{HaveCountsLeft, HaveRoomStill}
 use Rattle.x25_layer.specs.code.FitsLayer.{FitsCircuits}
-use Rattle.x25_layer.specs.Rounds.{Putting}
-use Rattle.x25_layer.specs.code.OverLink.{after_all}
+use Rattle.x25_layer.specs.code.Waiting.{NoneWaits}
+use Rattle.x25_layer.specs.Rounds.{Putting, round}
+use Rattle.x25_layer.specs.code.OverLink.{after_all, view_of, TakesAlike}
 
 -- Memory for so many packets is enough for all that may be pulled on from these lists: the unacknowledged packets never
 -- become more than 15, since each is pulled where fewer than 8 wait, and of those that don't wait at most 7 aren't
@@ -28,3 +33,41 @@ pub record Stands {X : Type 0} (fits : X → Type 0) (lists : X → Lists) (afte
   pub link : fits (after_all after x s.put)
   pub memory : IsEnough (lists (after_all after x s.put)) m
   pub spares : IsEnough (lists (after_all after x s.put)) n
+
+-- By this pull from the circuit of a channel a circuit and the link are left so, where the link was in state y and m
+-- packets had memory, of which m₂ have it still. Where the answer is that none was put, there was none.
+pub record PutsPulled {D : Type 0} (g : Ghosts D) (c : Settings) (channel : ℕ) (y : g.State) (p : Pulled)
+    (v : circuit_code.Circuit) (below : D) (m m₂ : ℕ) (is_put : Bool) : Type 0 where
+  pub circuit : FitsCircuit c v p.next
+  pub link : g.fits below (after_all g.after_put y (option_to_list (packet_on channel p.packet)))
+  pub none : is_put ≡ false → p.packet ≡ None
+  pub memory : m ≤ m₂ + length (option_to_list p.packet)
+
+-- The next data packet of a circuit is put, where there is one and the link has room, in memory that was set aside.
+pub record PullsOne {D : Type 0} (g : Ghosts D) (channel : ℕ) (old : circuit_code.Circuit) (below : D) (m : ℕ)
+    (new : circuit_code.Circuit) (below₂ : D) (m₂ : ℕ) (is_put : Bool) : Type 0 where
+  pub pulls : (c : Settings) (x : Circuit) (y : g.State) → FitsCircuit c old x → g.fits below y
+      → IsEnough (g.lists y) m → IsEnough (g.lists y) (g.spares below)
+      → PutsPulled g c channel y (pulled_where (nat_lt (g.waits_in y) 8) c x) new below₂ m m₂ is_put
+  pub takes : TakesAlike g m below m₂ below₂
+  pub room : room_of old ≤ room_of new
+  pub clears : clears_of new ≡ clears_of old
+  pub resets : resets_of new ≡ resets_of old
+  pub fewer : is_put ≡ true → m₂ < m
+
+-- A round of all circuits. Whether a packet was put is told, and where it is quiet behind it no message waits.
+pub record GoesRound {D : Type 0} (g : Ghosts D) (old : List circuit_code.Circuit) (below : D) (m : ℕ)
+    (new : List circuit_code.Circuit) (below₂ : D) (m₂ : ℕ) (is_put is_quiet : Bool) : Type 0 where
+  pub stands : (c : LayerSettings) (x : g.State) (s : Putting)
+      → Stands (g.fits below) g.lists g.after_put c old m (g.spares below) x s
+      → Stands (g.fits below₂) g.lists g.after_put c new m₂ (g.spares below₂) x
+      (round (view_of g.up_in g.waits_in g.after_put x) c c.channels s)
+  pub none : (c : LayerSettings) (x : g.State) (s : Putting)
+      → Stands (g.fits below) g.lists g.after_put c old m (g.spares below) x s → is_put ≡ false
+      → round (view_of g.up_in g.waits_in g.after_put x) c c.channels s ≡ s
+  pub takes : TakesAlike g m below m₂ below₂
+  pub count : length new ≡ length old
+  pub room : HaveRoomStill old new
+  pub left : HaveCountsLeft old → HaveCountsLeft new
+  pub fewer : is_put ≡ true → m₂ < m
+  pub still : is_quiet ≡ true → NoneWaits new

@@ -1,8 +1,8 @@
-use Rattle.std.proofs.Common.{◌≡◌, ℕ, ◌+◌, ◌<◌, ◌≤◌, Some, true, false, slice_get}
+use Rattle.std.proofs.Common.{◌≡◌, ℕ, ◌<◌, Some, true, false, slice_get}
 use Rattle.x25_circuit.specs.declared.circuit.Circuit as circuit_code
 use Rattle.x25_circuit.specs.code.FitsCircuit.{waits_of}
 use Rattle.x25_layer.specs.Layer.{LayerSettings}
-use Rattle.x25_layer.specs.code.OverLink.{view_of}
+use Rattle.x25_layer.specs.code.OverLink.{view_of, TakesAlike}
 use Rattle.x25_layer.specs.Rounds.{Putting, round}
 use Rattle.x25_layer.specs.code.Pulling.{Stands}
 use Rattle.x25_layer.specs.Room.{HaveCountsLeft, HaveRoom}
@@ -18,10 +18,7 @@ invariant-loop-circuit g l = record {
       → round (view_of g.L.OrderedLink.up_in g.L.OrderedLink.waits_in g.L.OrderedLink.after_put x) c l.circuit-index s ≡ s;
   room : (len : ℕ) → HaveRoom len l.initial.circuit-items → HaveRoom len l.circuit-items;
   left : HaveCountsLeft l.initial.circuit-items → HaveCountsLeft l.circuit-items;
-  used : l.initial.memory + g.L.OrderedLink.spares l.link ≡ l.memory + g.L.OrderedLink.spares l.initial.link;
-  no_more : l.memory ≤ l.initial.memory;
+  takes : TakesAlike g.L.OrderedLink l.initial.memory l.initial.link l.memory l.link;
   fewer : l.is_put ≡ true → l.memory < l.initial.memory;
-  longest : g.L.OrderedLink.longest l.link ≡ g.L.OrderedLink.longest l.initial.link;
-  up : g.L.OrderedLink.up l.link ≡ g.L.OrderedLink.up l.initial.link;
   still : l.quiet ≡ true → (k : ℕ) (v : circuit_code.Circuit) → k < l.circuit-index → slice_get l.circuit-items k ≡ Some v → waits_of v ≡ 0;
 }

@@ -1,4 +1,4 @@
-use Rattle.std.proofs.Common.{rules, ℕ, ◌≡◌, ◌<◌, ◌∙◌, All, is_some, option_to_list, OnOk, IfOk, sym, ap, subst, arith}
+use Rattle.std.proofs.Common.{rules, ℕ, ◌≡◌, ◌<◌, ◌∙◌, All, is_some, option_to_list, IfOk, sym, ap, subst, arith}
 use Rattle.std.proofs.lemmas.List.Elements.{All-from_get_or}
 use Rattle.x25_packet.specs.Packet.{plain}
 use Rattle.x25_packet.specs.Spelling.{HasChannel, longest_user}
@@ -7,24 +7,26 @@ use Rattle.x25_layer.specs.Layer.{LayerSettings, Layer, LayerAnswer}
 use Rattle.x25_layer.specs.code.FitsLayer.{FitsLayer}
 use Rattle.x25_layer.specs.code.OverLink.{after_all}
 use Rattle.x25_layer.specs.Rounds.{answer_to}
-use Rattle.x25_layer.specs.Told.{plain_told}
 use Rattle.x25_layer.specs.Receiving.{plain_read, hears_on, IsOfChannel}
-use Rattle.x25_layer.proofs.HearLemmas.{of_channel, hears_none, hears_read, brings_few}
+use Rattle.x25_layer.proofs.HearLemmas.{of_channel, hears_none, hears_read, brings_few, heard_same, if_ok}
 use Rattle.x25_layer.proofs.layer.Layer.hear.Goals as goal
 use Rattle.x25_layer.proofs.layer.Layer.hear.Given as given
 use Rattle.x25_layer.proofs.layer.Layer.hear.Goals.{in_default-read-via-in-Ok+in_default, in_default-read-via-in_default}
 
 -- ---- fewer than three octets
 
-pub returns-in_default-clause-layer : goal.returns-in_default-clause-layer
-returns-in_default-clause-layer g c = λ s l fits. subst (λ (a : LayerAnswer). FitsLayer s c.args.self.now a.next) (sym (hears_none (is_some c.args.field) (longest_user c.args.self.now.long_data) s l c.args.octets.now (sym c.channel.ensures ∙ c.in_default.is))) fits
-
-pub returns-in_default-clause-link : goal.returns-in_default-clause-link
-returns-in_default-clause-link g c = λ s l x fits link.
-    subst (λ (a : LayerAnswer). g.L.OrderedLink.fits c.args.link.now (after_all g.L.OrderedLink.after_put x (option_to_list a.owed))) (sym (hears_none (is_some c.args.field) (longest_user c.args.self.now.long_data) s l c.args.octets.now (sym c.channel.ensures ∙ c.in_default.is))) link
-
-pub returns-in_default-clause-told : goal.returns-in_default-clause-told
-returns-in_default-clause-told g c = λ s l fits. ap (λ (a : LayerAnswer). a.notices) (sym (hears_none (is_some c.args.field) (longest_user c.args.self.now.long_data) s l c.args.octets.now (sym c.channel.ensures ∙ c.in_default.is)))
+pub returns-in_default-clause-hears : goal.returns-in_default-clause-hears
+returns-in_default-clause-hears g c =
+    let none = λ (s : LayerSettings) (l : Layer). sym (hears_none (is_some c.args.field) (longest_user c.args.self.now.long_data) s l c.args.octets.now (sym c.channel.ensures ∙ c.in_default.is)) in
+    record {
+      layer = λ s l fits. subst (λ (a : LayerAnswer). FitsLayer s c.args.self.now a.next) (none s l) fits;
+      link = λ s l x fits link. subst (λ (a : LayerAnswer). g.L.OrderedLink.fits c.args.link.now (after_all g.L.OrderedLink.after_put x (option_to_list a.owed))) (none s l) link;
+      told = λ s l fits. ap (λ (a : LayerAnswer). a.notices) (none s l);
+      nothing = search rules;
+      takes = search rules;
+      memory = search rules;
+      room = search rules;
+    }
 
 -- ---- a packet of a channel, or octets that spell none
 
@@ -54,15 +56,8 @@ same g c s l =
     sym (hears_read c.taking_keeps_octets.ensures.channel (is_some c.args.field) c.longest_user.result s l c.args.octets.now c.in-Some.channel c.read-read.result (bytes g c) c.read-read.ensures (of g c) (sym c.channel.ensures ∙ c.in-Some.is))
     ∙ ap (λ (most : ℕ). answer_to s l c.args.octets.now (read_in (is_some c.args.field) most c.args.octets.now)) c.longest_user.ensures.value
 
-pub returns-in_default-read-clause-layer : goal.returns-in_default-read-clause-layer
-returns-in_default-read-clause-layer g c = λ s l fits. subst (λ (a : LayerAnswer). OnOk c.hear_on.result (FitsLayer s c.hear_on.new.self a.next)) (same g c s l) (c.hear_on.ensures.layer s l fits)
-
-pub returns-in_default-read-clause-link : goal.returns-in_default-read-clause-link
-returns-in_default-read-clause-link g c = λ s l x fits link.
-    subst (λ (a : LayerAnswer). OnOk c.hear_on.result (g.L.OrderedLink.fits c.hear_on.new.link (after_all g.L.OrderedLink.after_put x (option_to_list a.owed)))) (same g c s l) (c.hear_on.ensures.link s l x fits link)
-
-pub returns-in_default-read-clause-told : goal.returns-in_default-read-clause-told
-returns-in_default-read-clause-told g c = λ s l fits. subst (λ (a : LayerAnswer). IfOk c.hear_on.result (λ told. plain_told told ≡ a.notices)) (same g c s l) (c.hear_on.ensures.told s l fits)
+pub returns-in_default-read-clause-hears : goal.returns-in_default-read-clause-hears
+returns-in_default-read-clause-hears g c = if_ok c.hear_on.result _ _ (λ told h. heard_same g.L.OrderedLink _ _ _ _ told _ _ (same g c) h) c.hear_on.ensures.hears
 
 pub returns-in_default-read-clause-enough : goal.returns-in_default-read-clause-enough
 returns-in_default-read-clause-enough g c = λ len long room.

@@ -1,15 +1,31 @@
-use Rattle.std.proofs.Common.{◌∙◌, Bool, sym, subst}
+use Rattle.std.proofs.Common.{rules, ◌∙◌, Bool, sym, subst}
 use Rattle.x25_packet.specs.Packet.{restart_conf}
 use Rattle.x25_layer.specs.Layer.{answers_in}
 use Rattle.x25_layer.specs.code.FitsLayer.{FitsLayer}
 use Rattle.x25_layer.proofs.layer.Layer.hear_restart_conf.Goals as goal
 
-pub returns-then-self-clause-layer : goal.returns-then-self-clause-layer
-returns-then-self-clause-layer g c = λ s l fits.
-    subst (λ (b : Bool). FitsLayer s c.restart_is_done.new.self (answers_in s b l.restarts l.circuits restart_conf).next) (sym (sym fits.restarting ∙ c.if-self.true))
-    (c.restart_is_done.ensures.layer s l fits)
+pub returns-then-self-clause-hears : goal.returns-then-self-clause-hears
+returns-then-self-clause-hears g c = record {
+  layer = λ s l fits.
+      subst (λ (b : Bool). FitsLayer s c.restart_is_done.new.self (answers_in s b l.restarts l.circuits restart_conf).next) (sym (sym fits.restarting ∙ c.if-self.true))
+      (c.restart_is_done.ensures.layer s l fits);
+  link = search rules;
+  told = search rules;
+  nothing = search rules;
+  takes = search rules;
+  memory = search rules;
+  room = search rules;
+}
 
-pub returns-clause-layer : goal.returns-clause-layer
-returns-clause-layer g c = λ s l fits.
-    subst (λ (b : Bool). FitsLayer s c.send_restart.new.self (answers_in s b l.restarts l.circuits restart_conf).next) (sym (sym fits.restarting ∙ c.if-self.false))
-    (c.send_restart.ensures.layer s l fits)
+pub returns-clause-hears : goal.returns-clause-hears
+returns-clause-hears g c = record {
+  layer = λ s l fits.
+      subst (λ (b : Bool). FitsLayer s c.send_restart.new.self (answers_in s b l.restarts l.circuits restart_conf).next) (sym (sym fits.restarting ∙ c.if-self.false))
+      (c.send_restart.ensures.layer s l fits);
+  link = search rules;
+  told = search rules;
+  nothing = search rules;
+  takes = search rules;
+  memory = search rules;
+  room = search rules;
+}

@@ -1,4 +1,4 @@
-use Rattle.std.proofs.Common.{◌≡◌, Bool, is_some, option_to_list, sym, subst, arith}
+use Rattle.std.proofs.Common.{◌≡◌, Bool, is_some, option_to_list, sym, ap, subst, arith}
 use Rattle.x25_packet.specs.Spelling.{longest_user}
 use Rattle.x25_wide.specs.Taking.{read_in}
 use Rattle.x25_layer.specs.Layer.{LayerAnswer}
@@ -15,7 +15,7 @@ pub returns-in_err-set_aside-clause-layer_stays : goal.returns-in_err-set_aside-
 returns-in_err-set_aside-clause-layer_stays g c = λ s l fits. on_err c.from_residual.result (c.set_aside.ensures.fits s l fits)
 
 pub returns-in_err-told-clause-layer_stays : goal.returns-in_err-told-clause-layer_stays
-returns-in_err-told-clause-layer_stays g c = λ s l fits. on_err c.from_residual-in_err-told.result (c.in_err-told.ensures.layer_stays s l (c.set_aside.ensures.fits s l fits))
+returns-in_err-told-clause-layer_stays g c = λ s l fits. on_err c.from_residual-in_err-told.result (c.in_err-told.ensures.stays.layer s l (c.set_aside.ensures.fits s l fits))
 
 pub returns-clause-layer : goal.returns-clause-layer
 returns-clause-layer g c = λ s l x fits link.
@@ -23,8 +23,8 @@ returns-clause-layer g c = λ s l x fits link.
     let octets = c.args.octets.now in
     let a : Bool → LayerAnswer = λ b. answer_to s l octets (read_in (is_some c.args.field) (longest_user b) octets) in
     c.pull_all.ensures.layer s (begin (a s.circuit.long_data).next (a s.circuit.long_data).owed) x
-    (subst (λ (b : Bool). FitsLayer s c.hear.new.self (a b).next) before.long_data (c.in_ok-told.ensures.layer s l before))
-    (subst (λ (b : Bool). g.L.OrderedLink.fits c.hear.new.link (after_all g.L.OrderedLink.after_put x (option_to_list (a b).owed))) before.long_data (c.in_ok-told.ensures.link s l x before (c.set_aside.ensures.link x link)))
+    (subst (λ (b : Bool). FitsLayer s c.hear.new.self (a b).next) before.long_data (c.in_ok-told.ensures.hears.layer s l before))
+    (subst (λ (b : Bool). g.L.OrderedLink.fits c.hear.new.link (after_all g.L.OrderedLink.after_put x (option_to_list (a b).owed))) before.long_data (c.in_ok-told.ensures.hears.link s l x before (c.set_aside.ensures.link x link)))
 
 pub returns-clause-link : goal.returns-clause-link
 returns-clause-link g c = λ s l x fits link.
@@ -32,14 +32,14 @@ returns-clause-link g c = λ s l x fits link.
     let octets = c.args.octets.now in
     let a : Bool → LayerAnswer = λ b. answer_to s l octets (read_in (is_some c.args.field) (longest_user b) octets) in
     c.pull_all.ensures.link s (begin (a s.circuit.long_data).next (a s.circuit.long_data).owed) x
-    (subst (λ (b : Bool). FitsLayer s c.hear.new.self (a b).next) before.long_data (c.in_ok-told.ensures.layer s l before))
-    (subst (λ (b : Bool). g.L.OrderedLink.fits c.hear.new.link (after_all g.L.OrderedLink.after_put x (option_to_list (a b).owed))) before.long_data (c.in_ok-told.ensures.link s l x before (c.set_aside.ensures.link x link)))
+    (subst (λ (b : Bool). FitsLayer s c.hear.new.self (a b).next) before.long_data (c.in_ok-told.ensures.hears.layer s l before))
+    (subst (λ (b : Bool). g.L.OrderedLink.fits c.hear.new.link (after_all g.L.OrderedLink.after_put x (option_to_list (a b).owed))) before.long_data (c.in_ok-told.ensures.hears.link s l x before (c.set_aside.ensures.link x link)))
 
 pub returns-clause-told : goal.returns-clause-told
 returns-clause-told g c = λ s l view fits.
     let before = c.set_aside.ensures.fits s l fits in
     let octets = c.args.octets.now in
-    subst (λ (b : Bool). plain_told c.in_ok-told.told ≡ (answer_to s l octets (read_in (is_some c.args.field) (longest_user b) octets)).notices) before.long_data (c.in_ok-told.ensures.told s l before)
+    subst (λ (b : Bool). plain_told c.in_ok-told.told ≡ (answer_to s l octets (read_in (is_some c.args.field) (longest_user b) octets)).notices) before.long_data (c.in_ok-told.ensures.hears.told s l before)
 
 -- of what is set aside as much is taken here as in the link
 
@@ -49,8 +49,8 @@ returns-clause-used g c = λ memory spares.
     let most = c.set_aside.ensures.most_memory in
     let more_spares = c.set_aside.ensures.no_fewer_spares in
     let most_spares = c.set_aside.ensures.most_spares in
-    let heard = c.in_ok-told.ensures.used in
-    let pulled = c.pull_all.ensures.used in
+    let heard = c.in_ok-told.ensures.hears.takes.used in
+    let pulled = c.pull_all.ensures.takes.used in
     omega (arith, memory, spares, more, most, more_spares, most_spares, heard, pulled)
 
 pub returns-clause-room : goal.returns-clause-room
@@ -60,15 +60,15 @@ returns-clause-room g c = λ len has still.
     let more = c.set_aside.ensures.no_fewer in
     let more_spares = c.set_aside.ensures.no_fewer_spares in
     let most_spares = c.set_aside.ensures.most_spares in
-    let heard = c.in_ok-told.ensures.used in
-    let fewer = c.hear.ensures.no_more_spares in
-    let pulled = c.pull_all.ensures.used in
-    let lower = c.pull_all.ensures.no_more in
-    let same : g.L.OrderedLink.spares c.hear.new.link ≡ g.L.OrderedLink.spares c.set_aside.new.link = omega (arith, spares, more_spares, most_spares, fewer, pulled, lower, still) in
+    let heard = c.in_ok-told.ensures.hears.takes.used in
+    let fewer = c.in_ok-told.ensures.hears.takes.no_more in
+    let pulled = c.pull_all.ensures.takes.used in
+    let lower = c.pull_all.ensures.takes.no_more in
+    let same : g.L.OrderedLink.spares c.hear.new.link ≡ g.L.OrderedLink.spares c.set_aside.new.link = omega (arith, spares, more_spares, most_spares, heard, fewer, pulled, lower, still) in
     record {
       memory = omega (arith, memory, spares, more, more_spares, most_spares, heard, pulled, lower, fewer, still);
       spares = omega (arith, spares, still);
-      circuits = c.pull_all.ensures.room len (c.in_ok-told.ensures.room len (subst (λ (v : code.Layer). HaveRoom len v.circuits.items) (sym c.set_aside.ensures.layer) has.circuits) same);
+      circuits = c.pull_all.ensures.room len (c.in_ok-told.ensures.hears.room len (subst (λ (v : code.Layer). HaveRoom len v.circuits.items) (sym c.set_aside.ensures.layer) has.circuits) same);
     }
 
 pub returns-in_err-told-clause-room_stays : goal.returns-in_err-told-clause-room_stays
@@ -77,10 +77,10 @@ returns-in_err-told-clause-room_stays g c = λ len has.
     let spares = has.spares in
     let more = c.set_aside.ensures.no_fewer in
     let more_spares = c.set_aside.ensures.no_fewer_spares in
-    let same = c.in_err-told.ensures.memory_stays in
-    let same_spares = c.in_err-told.ensures.spares_stay in
+    let same = c.in_err-told.ensures.stays.memory in
+    let same_spares = ap g.L.OrderedLink.spares c.in_err-told.ensures.stays.link in
     on_err c.from_residual-in_err-told.result (record {
       memory = omega (arith, memory, more, same);
       spares = omega (arith, spares, more_spares, same_spares);
-      circuits = c.in_err-told.ensures.room_stays len (subst (λ (v : code.Layer). HaveRoom len v.circuits.items) (sym c.set_aside.ensures.layer) has.circuits);
+      circuits = c.in_err-told.ensures.stays.room len (subst (λ (v : code.Layer). HaveRoom len v.circuits.items) (sym c.set_aside.ensures.layer) has.circuits);
     })

@@ -55,7 +55,7 @@ returns g c = record {
       let more = c.set_aside.ensures.no_fewer in
       let more_spares = c.set_aside.ensures.no_fewer_spares in
       let most_spares = c.set_aside.ensures.most_spares in
-      let pulled = c.pull_all.ensures.used in
+      let pulled = c.pull_all.ensures.takes.used in
       let memory = has.memory in
       let spares = has.spares in
       record {

@@ -4,7 +4,7 @@ use Rattle.x25_layer.specs.code.FitsLayer.{FitsLayer, FitsCircuits}
 use Rattle.x25_layer.specs.code.OverLink.{view_of, after_all}
 use Rattle.x25_layer.specs.Rounds.{LinkView, Putting, round, rounds}
 use Rattle.x25_layer.specs.code.Pulling.{IsEnough, Stands}
-use Rattle.x25_layer.proofs.PullLemmas.{KeepsRestarts, keeps_then, round_keeps}
+use Rattle.x25_layer.proofs.PullLemmas.{KeepsRestarts, keeps_then, round_keeps, takes_then}
 use Rattle.x25_layer.proofs.SettleLemmas.{rounds_behind, rounds_at_end}
 use Rattle.x25_layer.proofs.layer.Layer.pull_all.Given as given
 use Rattle.x25_layer.proofs.layer.Layer.pull_all.Goals as goal
@@ -18,10 +18,7 @@ loop-preserved g c =
       restarting = now.restarting;
       restarts = now.restarts;
       room = λ len have. c.round.ensures.room len (now.room len have);
-      no_more = (let a = c.round.ensures.no_more in let b = now.no_more in omega (arith, a, b));
-      used = (let a = c.round.ensures.used in let b = now.used in omega (arith, a, b));
-      longest = c.round.ensures.longest ∙ now.longest;
-      up = c.round.ensures.up ∙ now.up;
+      takes = takes_then g.L.OrderedLink _ _ _ _ _ _ now.takes c.round.ensures.takes;
       stands = λ s x p before.
           let view : LinkView = view_of g.L.OrderedLink.up_in g.L.OrderedLink.waits_in g.L.OrderedLink.after_put x in
           let found = now.stands s x p before in

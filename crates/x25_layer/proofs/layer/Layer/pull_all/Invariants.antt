@@ -1,6 +1,6 @@
-use Rattle.std.proofs.Common.{◌≡◌, ℕ, ◌+◌, ◌≤◌}
+use Rattle.std.proofs.Common.{◌≡◌, ℕ}
 use Rattle.x25_layer.specs.Layer.{LayerSettings}
-use Rattle.x25_layer.specs.code.OverLink.{view_of}
+use Rattle.x25_layer.specs.code.OverLink.{view_of, TakesAlike}
 use Rattle.x25_layer.specs.Rounds.{Putting, rounds}
 use Rattle.x25_layer.specs.code.Pulling.{Stands}
 use Rattle.x25_layer.specs.Room.{HaveRoom}
@@ -15,10 +15,7 @@ invariant-loop g l = record {
   restarting : l.self.restarting ≡ l.initial.self.restarting;
   restarts : l.self.restarts ≡ l.initial.self.restarts;
   room : (len : ℕ) → HaveRoom len l.initial.self.circuits.items → HaveRoom len l.self.circuits.items;
-  no_more : l.self.memory ≤ l.initial.self.memory;
-  used : l.initial.self.memory + g.L.OrderedLink.spares l.link ≡ l.self.memory + g.L.OrderedLink.spares l.initial.link;
-  longest : g.L.OrderedLink.longest l.link ≡ g.L.OrderedLink.longest l.initial.link;
-  up : g.L.OrderedLink.up l.link ≡ g.L.OrderedLink.up l.initial.link;
+  takes : TakesAlike g.L.OrderedLink l.initial.self.memory l.initial.link l.self.memory l.link;
   stands : (c : LayerSettings) (x : g.L.OrderedLink.State) (s : Putting)
       → Stands (g.L.OrderedLink.fits l.initial.link) g.L.OrderedLink.lists g.L.OrderedLink.after_put c l.initial.self.circuits.items l.initial.self.memory (g.L.OrderedLink.spares l.initial.link) x s
       → (t : Putting) × KeepsRestarts s t
