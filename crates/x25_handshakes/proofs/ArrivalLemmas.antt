@@ -102,7 +102,7 @@ whole_rest j (More q user ∷ ps) whole none =
 whole_rest j (Last q user ∷ ps) whole none = absurd (omega (arith, none))
 
 -- where no message waits, nothing is left of one, since what was sent and what is left are whole messages
-nothing_waits : (sent rest : List Piece) → joining no_part (sent ++ rest) ≡ no_part → wholes rest ≡ 0 → rest ≡ []
+pub nothing_waits : (sent rest : List Piece) → joining no_part (sent ++ rest) ≡ no_part → wholes rest ≡ 0 → rest ≡ []
 nothing_waits sent rest whole none = whole_rest (joining no_part sent) rest (sym (joining-append no_part sent rest) ∙ whole) none
 
 arrived : (r : Role) (w : Pair) (k : ℕ) (x y : Stretch) → Stands r w → (o : Opened w.near k x) (p : Opened w.far k y)

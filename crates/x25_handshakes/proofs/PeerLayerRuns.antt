@@ -1,14 +1,18 @@
 -- All that happens to a packet layer of ours and a peer keeps what is kept of them, and that says the claims.
-use Rattle.std.proofs.Common.{◌≡◌, inl, ℕ, List, [], ◌∷◌, ◌++◌, Option, None, refl, ap, subst, ◌∙◌}
+use Rattle.std.proofs.Common.{◌≡◌, inl, ℕ, List, [], ◌∷◌, ◌++◌, Option, Some, None, true, refl, sym, ap, subst, ◌∙◌}
+use Rattle.std.proofs.lemmas.Bool.{true≢false}
+use Rattle.std.proofs.lemmas.Option.{none-some}
 use Rattle.x25_bits.specs.declared.role.Role.{Role}
-use Rattle.x25_handshakes.specs.laws.Handshake.{Side}
-use Rattle.x25_handshakes.specs.laws.Layers.{LayerPacket, On, LayerStep, layer_takes, layer_acts, first_error}
+use Rattle.x25_handshakes.specs.laws.Handshake.{Side, Live, Left}
+use Rattle.x25_handshakes.specs.laws.Layers.{LayerPacket, On, Channels, LayerStep, layer_takes, layer_acts, first_error}
 use Rattle.x25_handshakes.specs.laws.PeerLayer.{PeerChannels}
 use Rattle.x25_handshakes.specs.laws.PeerLayers.{layer_found, JoinedLayers, near_stepped, Happens, Acts, Takes, Does, Hears, HearsChannel, IsReached, at_start, goes_on}
-use Rattle.x25_handshakes.specs.laws.PeerClaims.{ChannelsAreInOrder, WithAnyPeerLayer, KeepsLayers, LayerFindsNoError}
+use Rattle.x25_handshakes.specs.laws.Arrivals.{open_channel}
+use Rattle.x25_handshakes.specs.laws.PeerClaims.{ChannelsAreInOrder, is_open_there, TookLayer, WithAnyPeerLayer, KeepsLayers, LayerFindsNoError, LayerHasArrived}
 use Rattle.x25_handshakes.proofs.TermsLemmas.{Laws}
 use Rattle.x25_handshakes.proofs.LayersRelation.{on}
-use Rattle.x25_handshakes.proofs.PeerOrder.{in_epochs, channel_order}
+use Rattle.x25_handshakes.proofs.HandshakeRelation.{Handshake}
+use Rattle.x25_handshakes.proofs.PeerOrder.{in_epochs, channel_order, meet, took_channel}
 use Rattle.x25_handshakes.proofs.PeerLayerLemmas.{peer_channels_level, PeerLayersRelated, GoodPeerLayer, PeerChannelsRelated-fresh, layer_takes_kept, layer_acts_kept, hears_channel_kept, hears_kept, does_kept}
 
 record Holds (r : Role) (w : JoinedLayers) : Type 0 where
@@ -43,3 +47,15 @@ keeps_layers laws r w reached =
 
 pub layer_finds_no_error : Laws → WithAnyPeerLayer LayerFindsNoError
 layer_finds_no_error laws r w reached = (reached_holds laws r w reached).quiet
+
+pub layer_has_arrived : Laws → WithAnyPeerLayer LayerHasArrived
+layer_has_arrived laws r w reached none k a is there =
+    by w.near.side w.peer.side (subst (λ (l : List LayerPacket). PeerLayersRelated r w.near l w.back w.peer) none (reached_holds laws r w reached).kept).hand is there
+  where
+    by : (x : Side Channels) (y : Side PeerChannels) → Handshake (peer_channels_level r) w.near.epoch w.peer.epoch x y [] w.back → open_channel x k ≡ Some a → is_open_there y k ≡ true
+        → TookLayer k (record { epoch = w.near.epoch; side = x }) (record { epoch = w.peer.epoch; side = y }) a
+    by (Live x) (Live y) h is there =
+        let m = meet (peer_channels_level r) w.near.epoch w.peer.epoch x y w.back h in
+        record { restarts = m.epochs; channel = took_channel r (x k) (on k m.back) (y k) a (m.related.each k) is there }
+    by (Left x) y h is there = absurd (none-some a is)
+    by (Live x) (Left y) h is there = absurd (true≢false (sym there))

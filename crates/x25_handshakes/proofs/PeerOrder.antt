@@ -1,6 +1,8 @@
--- What is kept of our end and a peer says that all is in order.
-use Rattle.std.proofs.Common.{◌≡◌, inl, inr, ℕ, suc, ◌+◌, ◌≤◌, List, [], ◌∷◌, ◌++◌, length, Bool, false, refl, sym, ap, subst, ◌∙◌, arith, append_assoc, length-append}
+-- What is kept of our end and a peer says that all is in order, and that all was taken where nothing is on the way.
+use Rattle.std.proofs.Common.{◌≡◌, inl, inr, ℕ, suc, ◌+◌, ◌≤◌, List, [], ◌∷◌, ◌++◌, length, Some, Bool, true, false, refl, sym, ap, subst, ◌∙◌, arith, append_assoc, length-append}
+use Rattle.std.proofs.lemmas.Bool.{true≢false}
 use Rattle.std.proofs.lemmas.List.{append-nil}
+use Rattle.std.proofs.lemmas.Option.{same_Some, none-some}
 use Rattle.x25_bits.specs.declared.role.Role.{Role}
 use Rattle.x25_bits.specs.declared.role.Role.TheVariants.{Dte, Dce}
 use Rattle.x25_circuit.specs.Message.{no_part, joining, carried, carried_from}
@@ -14,7 +16,8 @@ use Rattle.x25_handshakes.specs.laws.Histories.{IsPrefix}
 use Rattle.x25_handshakes.specs.laws.PeerStretch.{PeerStretch}
 use Rattle.x25_handshakes.specs.laws.PeerTransfer.{fresh_peer_transfer}
 use Rattle.x25_handshakes.specs.laws.PeerCalls.{Stage, Free, Calling, Called, Collided, InData, PeerCall}
-use Rattle.x25_handshakes.specs.laws.PeerClaims.{InEpochs, AreInOrder, StretchesAreInOrder, transfer_of, peer_transfer_of, CallIsInOrder, ChannelIsInOrder}
+use Rattle.x25_handshakes.specs.laws.Arrivals.{open_in, open_phase, open_call}
+use Rattle.x25_handshakes.specs.laws.PeerClaims.{InEpochs, AreInOrder, StretchesAreInOrder, transfer_of, peer_transfer_of, CallIsInOrder, ChannelIsInOrder, is_open_stage, is_open_call, TookAll, TookCall, TookChannel}
 use Rattle.x25_handshakes.proofs.StretchRelation.{pieces, ints, confs, one_if}
 use Rattle.x25_handshakes.proofs.TextLemmas.{carried-append}
 use Rattle.x25_handshakes.proofs.LineLemmas.{heard_least}
@@ -22,6 +25,7 @@ use Rattle.x25_handshakes.proofs.HandshakeRelation.{before, past, Extended, Leve
 use Rattle.x25_handshakes.proofs.HandshakeLemmas.{both_fresh}
 use Rattle.x25_handshakes.proofs.CallsRelation.{stage_of, JointOf}
 use Rattle.x25_handshakes.proofs.OwnCallLemmas.{Accepted-some, CallAccepted-some}
+use Rattle.x25_handshakes.proofs.ArrivalLemmas.{nothing_waits}
 use Rattle.x25_handshakes.proofs.PeerRelation.{Kept, Kept-start}
 use Rattle.x25_handshakes.proofs.PeerTransferActs.{peer_level}
 use Rattle.x25_handshakes.proofs.PeerCallsRelation.{PeerTalks, TalksPeer, PeerSeen}
@@ -185,3 +189,68 @@ call_order Dce x u v y h = let o = dce_order y.stage x.phase y.made y.indicated 
 
 pub channel_order : (r : Role) (x : At Connection) (L K : List Packet) (y : At PeerCall) → PeerChannelRelated r x L K y → ChannelIsInOrder x y
 channel_order r x L K y h = in_epochs (peer_call_level r) CallIsInOrder (call_order r) x L K y h.hand
+
+-- ---- with nothing on the way to the peer
+
+-- two live ends of a handshake are in one epoch
+pub record Meet {S T P : Type 0} (l : Level S T P) (ex ey : ℕ) (x : S) (y : T) : Type 0 where
+  pub epochs : ex ≡ ey
+  pub back : List P
+  pub related : l.related x [] back y
+
+pub meet : {S T P : Type 0} (l : Level S T P) (ex ey : ℕ) (x : S) (y : T) (K : List P) → Handshake l ex ey (Live x) (Live y) [] K → Meet l ex ey x y
+meet l ex ey x y K (inl same) = record { epochs = same.epochs; back = before l.mark K; related = same.inner }
+meet l ex ey x y K (inr (inl ahead)) = absurd ahead.there
+meet l ex ey x y K (inr (inr later)) = absurd (true≢false (sym later.waits))
+
+took_all : (t : Terms) (size : ℕ) (x : Stretch) (v : List Packet) (y : PeerStretch) → Kept t size x [] v y → TookAll x y
+took_all t size x v y h =
+    let there = h.there in
+    let all : x.sent ≡ y.taken = there.flow.flow ∙ append-nil y.taken in
+    record {
+      messages = λ none. sym (there.text.messages ∙ ap (λ l. carried (x.sent ++ l)) (nothing_waits x.sent x.rest there.text.whole none) ∙ ap carried (append-nil x.sent ∙ all));
+      interrupts = sym (there.ints.flow ∙ append-nil y.int_up);
+    }
+
+record TookStretch (ex ey : ℕ) (y : Side PeerStretch) (a : Stretch) : Type 0 where
+  epochs : ex ≡ ey
+  all : TookAll a (state_of y)
+
+took_stretch : (t : Terms) (size : ℕ) (ex ey : ℕ) (x : Side Stretch) (y : Side PeerStretch) (K : List Packet) (a : Stretch) → Handshake (peer_level t size) ex ey x y [] K
+    → open_in x ≡ Some a → is_open_stage (InData t t (record { epoch = ey; side = y })) ≡ true → TookStretch ex ey y a
+took_stretch t size ex ey (Live x) (Live y) K a h is there =
+    let m = meet (peer_level t size) ex ey x y K h in
+    record { epochs = m.epochs; all = subst (λ (z : Stretch). TookAll z y) (same_Some x a is) (took_all t size x m.back y m.related) }
+took_stretch t size ex ey (Left x) y K a h is there = absurd (none-some a is)
+took_stretch t size ex ey (Live x) (Left y) K a h is there = absurd (true≢false (sym there))
+
+took_talk : (t b : Terms) (x : At Stretch) (v : List Packet) (t₂ b₂ : Terms) (y : At PeerStretch) (m i : List CallRequest) (a : Stretch) → PeerTalks t b x [] v t₂ b₂ y → open_in x.side ≡ Some a
+    → is_open_stage (InData t₂ b₂ y) ≡ true → TookCall (Talking t b x) (record { stage = InData t₂ b₂ y; made = m; indicated = i }) a
+took_talk t b x v t₂ b₂ y m i a h is there =
+    let s = took_stretch t b.size x.epoch y.epoch x.side y.side v a h.related.hand is there in
+    record { resets = s.epochs; all = s.all }
+
+dte_took : (p : Phase) (c : Stage (At PeerStretch)) (ma ia mb ib : List CallRequest) (v : List Packet) (a : Stretch) → JointOf PeerTalks fresh_transfer fresh_peer_transfer (stage_of p) c ma ia mb ib [] v
+    → open_phase p ≡ Some a → is_open_stage c ≡ true → TookCall p (record { stage = c; made = mb; indicated = ib }) a
+dte_took (Talking t k x) (InData t₂ k₂ y) ma ia mb ib v a h is there = took_talk t k x v t₂ k₂ y mb ib a h.0 is there
+dte_took (Talking t k x) other ma ia mb ib v a h is there = absurd (true≢false (sym there))
+dte_took other c ma ia mb ib v a h is there = absurd (none-some a is)
+
+dce_took : (c : Stage (At PeerStretch)) (p : Phase) (ma ia mb ib : List CallRequest) (v : List Packet) (a : Stretch) → JointOf TalksPeer fresh_peer_transfer fresh_transfer c (stage_of p) ma ia mb ib v []
+    → open_phase p ≡ Some a → is_open_stage c ≡ true → TookCall p (record { stage = c; made = ma; indicated = ia }) a
+dce_took (InData t k y) (Talking t₂ k₂ x) ma ia mb ib v a h is there = took_talk t₂ k₂ x v t k y ma ia a h.0 is there
+dce_took (InData t k y) other ma ia mb ib v a h is there = absurd (none-some a is)
+dce_took other p ma ia mb ib v a h is there = absurd (true≢false (sym there))
+
+took_call : (r : Role) (x : Connection) (v : List Packet) (y : PeerCall) (a : Stretch) → PeerSeen r x [] v y → open_phase x.phase ≡ Some a → is_open_stage y.stage ≡ true → TookCall x.phase y a
+took_call Dte x v y a h is there = dte_took x.phase y.stage x.made x.indicated y.made y.indicated v a h is there
+took_call Dce x v y a h is there = dce_took y.stage x.phase y.made y.indicated x.made x.indicated v a h is there
+
+pub took_channel : (r : Role) (x : At Connection) (K : List Packet) (y : At PeerCall) (a : Stretch) → PeerChannelRelated r x [] K y → open_call x.side ≡ Some a → is_open_call y.side ≡ true → TookChannel x y a
+took_channel r x K y a h is there = by x.side y.side h.hand is there
+  where
+    by : (s : Side Connection) (q : Side PeerCall) → Handshake (peer_call_level r) x.epoch y.epoch s q [] K → open_call s ≡ Some a → is_open_call q ≡ true
+        → TookChannel (record { epoch = x.epoch; side = s }) (record { epoch = y.epoch; side = q }) a
+    by (Live s) (Live q) k ours there = (let m = meet (peer_call_level r) x.epoch y.epoch s q K k in record { clears = m.epochs; call = took_call r s m.back q a m.related ours there })
+    by (Left s) q k ours there = absurd (none-some a ours)
+    by (Live s) (Left q) k ours there = absurd (true≢false (sym there))

@@ -6,6 +6,7 @@ ghost use Rattle.x25_handshakes.specs.laws.Drained.{AllIsKnown};
 ghost use Rattle.x25_handshakes.specs.laws.LayerPeers.{LayersArePeers};
 ghost use Rattle.x25_handshakes.specs.laws.PeerClaims.{WithAnyPeer, FindsNoError, KeepsStretches};
 ghost use Rattle.x25_handshakes.specs.laws.PeerClaims.{WithAnyPeerLayer, LayerFindsNoError, KeepsLayers};
+ghost use Rattle.x25_handshakes.specs.laws.PeerClaims.{LayerHasArrived};
 ghost use Rattle.x25_handshakes.specs.rows.PeerRows.{LatePeerMoves, PeerLayerMoves};
 
 /// Two packet layers over lines that keep order, each end out at any moment, and any calls of their users, with the
@@ -43,10 +44,13 @@ pub fn drained_ends_know()
 /// agree, also where an end or both have left that stretch, the messages that the layer handed up in it are a
 /// beginning of those that the peer's data packets carry, and those that the peer took are a beginning of those that
 /// the layer was handed down, each all of them where all is acknowledged and nothing waits; and so of interrupts, and
-/// of calls. An end that is ahead has taken nothing yet, and the other takes nothing more.
+/// of calls. An end that is ahead has taken nothing yet, and the other takes nothing more. Where nothing is on the way
+/// to the peer, both ends count a stretch that is open at both alike, and the peer took all that the layer was handed
+/// down in it, of messages where none waits.
 pub fn any_peer_keeps_layers()
     ensures quiet { WithAnyPeerLayer LayerFindsNoError }
     ensures order { WithAnyPeerLayer KeepsLayers }
+    ensures arrived { WithAnyPeerLayer LayerHasArrived }
 {
     x25_circuit::values_are_agreed();
 }

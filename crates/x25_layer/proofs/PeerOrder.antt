@@ -1,6 +1,6 @@
 -- Of a layer and a peer: the transcript has what the channels hold under their present names, and the order of the nested handshakes is that of the transcript.
-use Rattle.std.proofs.Common.{◌≡◌, inl, inr, ℕ, List, [], ◌++◌, length, Bool, true, false, if◌then◌else◌, refl, sym, ap, subst, ◌∙◌, eq-eqb, arith}
-use Rattle.x25_circuit.specs.Message.{carried}
+use Rattle.std.proofs.Common.{◌≡◌, inl, inr, ℕ, List, [], ◌++◌, length, Option, Some, Bool, true, false, if◌then◌else◌, refl, sym, ap, subst, ◌∙◌, eq-eqb, arith}
+use Rattle.x25_circuit.specs.Message.{carried, wholes}
 use Rattle.x25_circuit.specs.Circuit.{Circuit, forgotten, is_open}
 use Rattle.x25_handshakes.specs.laws.Handshake.{Side, Live, Left, At, state_of}
 use Rattle.x25_handshakes.specs.laws.Stretch.{Stretch}
@@ -9,10 +9,11 @@ use Rattle.x25_handshakes.specs.laws.Layers.{Channels}
 use Rattle.x25_handshakes.specs.laws.Names.{Name, same_name, IsEarlier, IsEarlierCount}
 use Rattle.x25_handshakes.specs.laws.Histories.{Lists, none, Kind, messages, interrupts, calls, resets_in, held_in, circuit_at, name_at, held_at, written, IsPrefix}
 use Rattle.x25_handshakes.specs.laws.PeerLayer.{PeerChannels}
+use Rattle.x25_handshakes.specs.laws.Arrivals.{open_in, open_phase, open_call, open_channel}
 use Rattle.x25_handshakes.specs.laws.PeerClaims as nested
 use Rattle.x25_layer.specs.Layer.{Layer}
 use Rattle.x25_layer.specs.laws.Transcript.{Handed, Entry, under, calls_in, messages_in, interrupts_in, name_of}
-use Rattle.x25_layer.specs.laws.PeerClaims.{peer_call, peer_stretch, peer_name, of_call, StretchIsInOrder, CallIsInOrder}
+use Rattle.x25_layer.specs.laws.PeerClaims.{peer_call, peer_stretch, peer_name, of_call, StretchIsInOrder, CallIsInOrder, HasArrived}
 use Rattle.x25_layer.proofs.Sees.{Agreed, unagreed, view}
 use Rattle.x25_layer.proofs.LayerSees.{ShowsAt, SeesLayer, present, StepOf}
 use Rattle.x25_layer.proofs.StepLemmas.{name_eq}
@@ -92,24 +93,26 @@ held_there down up (Offered theirs) p q = (p, q)
 held_there down up (Crossed mine) p q = (p, q)
 
 -- an open circuit is in d1 of the stretch that stands there
-record IsThere (c : Circuit) (x : Stretch) : Type 0 where
+record IsThere (c : Circuit) (x : Stretch) (o : Option Stretch) : Type 0 where
+  opened : o ≡ Some x
   rest : c.talk.rest ≡ x.rest
   acked : c.talk.acked ≡ x.acked
   sent : c.talk.sent ≡ x.sent
 
-open_there : (side : Side Channels) (k : ℕ) (c : Circuit) → ShowsAt side k c → is_open c ≡ true → IsThere c (state_of (nested.transfer_of (state_of (state_of side k).side).phase).side)
+open_there : (side : Side Channels) (k : ℕ) (c : Circuit) → ShowsAt side k c → is_open c ≡ true
+    → IsThere c (state_of (nested.transfer_of (state_of (state_of side k).side).phase).side) (open_channel side k)
 open_there (Left x) k c shows is = absurd (closed c shows is)
   where
     closed : (c : Circuit) → c ≡ forgotten (view unagreed (x k)) → is_open c ≡ true → ⊥
     closed c e is = let no : is_open (forgotten (view unagreed (x k))) ≡ true = ap is_open (sym e) ∙ is in cc
-open_there (Live x) k c shows is = subst (λ (d : Circuit). IsThere d (state_of (nested.transfer_of (state_of (x k).side).phase).side)) (sym shows.is) (at shows.agreed (x k).epoch (x k).side (ap is_open (sym shows.is) ∙ is))
+open_there (Live x) k c shows is = subst (λ (d : Circuit). IsThere d (state_of (nested.transfer_of (state_of (x k).side).phase).side) (open_call (x k).side)) (sym shows.is) (at shows.agreed (x k).epoch (x k).side (ap is_open (sym shows.is) ∙ is))
   where
-    at : (g : Agreed) (e : ℕ) (side : Side Connection) → is_open (view g (record { epoch = e; side = side })) ≡ true → IsThere (view g (record { epoch = e; side = side })) (state_of (nested.transfer_of (state_of side).phase).side)
+    at : (g : Agreed) (e : ℕ) (side : Side Connection) → is_open (view g (record { epoch = e; side = side })) ≡ true → IsThere (view g (record { epoch = e; side = side })) (state_of (nested.transfer_of (state_of side).phase).side) (open_call side)
     at g e (Left n) is = absurd (cc)
     at g e (Live n) is = phase n.phase n.made n.indicated is
       where
         phase : (a : Phase) (m i : List _) → is_open (view g (record { epoch = e; side = Live (record { phase = a; made = m; indicated = i }) })) ≡ true
-            → IsThere (view g (record { epoch = e; side = Live (record { phase = a; made = m; indicated = i }) })) (state_of (nested.transfer_of a).side)
+            → IsThere (view g (record { epoch = e; side = Live (record { phase = a; made = m; indicated = i }) })) (state_of (nested.transfer_of a).side) (open_phase a)
         phase Unused m i is = absurd (cc)
         phase (Waiting mine) m i is = absurd (cc)
         phase (Offered theirs) m i is = absurd (cc)
@@ -117,8 +120,8 @@ open_there (Live x) k c shows is = subst (λ (d : Circuit). IsThere d (state_of 
         phase (Talking t b at) m i is = d1 at.epoch at.side is
           where
             d1 : (s : ℕ) (side : Side Stretch) → is_open (view g (record { epoch = e; side = Live (record { phase = Talking t b (record { epoch = s; side = side }); made = m; indicated = i }) })) ≡ true
-                → IsThere (view g (record { epoch = e; side = Live (record { phase = Talking t b (record { epoch = s; side = side }); made = m; indicated = i }) })) (state_of side)
-            d1 s (Live x) is = record { rest = refl; acked = refl; sent = refl }
+                → IsThere (view g (record { epoch = e; side = Live (record { phase = Talking t b (record { epoch = s; side = side }); made = m; indicated = i }) })) (state_of side) (open_in side)
+            d1 s (Live x) is = record { opened = refl; rest = refl; acked = refl; sent = refl }
             d1 s (Left x) is = absurd (cc)
 
 -- ---- the order of the transcript
@@ -161,8 +164,28 @@ module _ (l : Layer) (z : At Channels) (y : At PeerChannels) (entries : List Ent
         there = subst (λ (h : List _). IsPrefix (carried (peer_stretch y k).taken) h) down_m o.there;
         all = λ e. sym up_m ∙ o.all e;
         all_there = λ is none acked. (
-            let there : IsThere (l.circuits k) x = open_there z.side k (l.circuits k) (sees.circuits k) is in
+            let there : IsThere (l.circuits k) x (open_channel z.side k) = open_there z.side k (l.circuits k) (sees.circuits k) is in
             o.all_there (sym there.rest ∙ none) (sym there.acked ∙ acked ∙ ap length there.sent) ∙ down_m);
         int_up = subst (λ (h : List _). IsPrefix h (peer_stretch y k).int_down) up_i o.int_up;
         int_there = subst (λ (h : List _). IsPrefix (peer_stretch y k).int_up h) down_i o.int_there;
+      }
+
+-- ---- with nothing on the way to the peer
+
+module _ (l : Layer) (z : At Channels) (y : At PeerChannels) (entries : List Entry) (sees : SeesLayer l z) (m : Written messages messages_in entries z) (i : Written interrupts interrupts_in entries z) (k : ℕ) where
+  pub has_arrived : ((x : Stretch) → open_channel z.side k ≡ Some x → nested.TookLayer k z y x) → is_open (l.circuits k) ≡ true → HasArrived k l entries y
+  has_arrived took is =
+      let here : name_of l k ≡ present z k = name_shown l z k sees in
+      let phase : Phase = (state_of (circuit_at z k).side).phase in
+      let x : Stretch = state_of (nested.transfer_of phase).side in
+      let there : IsThere (l.circuits k) x (open_channel z.side k) = open_there z.side k (l.circuits k) (sees.circuits k) is in
+      let all : nested.TookLayer k z y x = took x there.opened in
+      let of_m = held_there (λ x. x.down) (λ x. x.up) phase refl refl in
+      let of_i = held_there (λ x. x.int_down) (λ x. x.int_up) phase refl refl in
+      let held_m : messages_in (under k (name_of l k) entries) ≡ held_at messages z k = ap (λ (n : Name). messages_in (under k n entries)) here ∙ m.held k in
+      let held_i : interrupts_in (under k (name_of l k) entries) ≡ held_at interrupts z k = ap (λ (n : Name). interrupts_in (under k n entries)) here ∙ i.held k in
+      record {
+        name = here ∙ name_eq (present z k) (peer_name y k) all.restarts all.channel.clears (resets_there phase ∙ all.channel.call.resets);
+        messages = λ none. all.channel.call.all.messages (ap wholes (sym there.rest) ∙ none) ∙ of_m.0 ∙ ap (λ (h : Lists _). h.down) (sym held_m);
+        interrupts = all.channel.call.all.interrupts ∙ of_i.0 ∙ ap (λ (h : Lists _). h.down) (sym held_i);
       }

@@ -9,7 +9,7 @@ use Rattle.x25_handshakes.specs.laws.Histories.{messages, interrupts, calls}
 use Rattle.x25_handshakes.specs.laws.PeerLayer.{PeerChannels}
 use Rattle.x25_handshakes.specs.laws.PeerLayers.{JoinedLayers, layer_found}
 use Rattle.x25_handshakes.specs.laws.PeerLayers as nested
-use Rattle.x25_handshakes.specs.laws.PeerClaims.{WithAnyPeerLayer, LayerFindsNoError, KeepsLayers}
+use Rattle.x25_handshakes.specs.laws.PeerClaims.{WithAnyPeerLayer, LayerFindsNoError, KeepsLayers, LayerHasArrived}
 use Rattle.x25_layer.specs.Layer.{LayerSettings, Layer, LayerAnswer, is_channel, layer_answers}
 use Rattle.x25_layer.specs.Calls.{LayerRequest, PullsAll, LayerOutcome, Accepted, Declined, layer_outcome, LayerPulled, layer_pulled}
 use Rattle.x25_layer.specs.laws.Bare.{bare, bare_layer, bare_layers}
@@ -17,19 +17,20 @@ use Rattle.x25_layer.specs.laws.Transcript.{Entry, calls_in, messages_in, interr
 use Rattle.x25_layer.specs.laws.TwoLayers.{TwoLayers, entries_asked, entries_told, Move, Requests, Pulls, HandsUp, GoesDown, puts, requested, pulled_in, handed_up, moves_in, settings_of}
 use Rattle.x25_layer.specs.laws.Law.{IsQuietEnd}
 use Rattle.x25_layer.specs.laws.PeerJoined.{Joined, start, our_end, with_peer, AreConfigured, StaysUp, Happens, Ours, Does, Hears, HearsChannel, IsReached, at_start, goes_on}
-use Rattle.x25_layer.specs.laws.PeerClaims.{WithAnyPeer, IsAllInOrder, FindsNoError}
+use Rattle.x25_layer.specs.laws.PeerClaims.{WithAnyPeer, IsAllInOrder, FindsNoError, AllHaveArrived}
 use Rattle.x25_layer.proofs.Sees.{ParamsLaws, pull_act}
 use Rattle.x25_layer.proofs.LayerSees.{SeesLayer, StepOf, FollowsLayer, DoesLayer, layer_act, HeedsLayer}
 use Rattle.x25_layer.proofs.LayerLemmas.{layer_follows, layer_heeds, layer_pulls}
 use Rattle.x25_layer.proofs.HistoryLemmas.{messages_listed, interrupts_listed, calls_listed}
 use Rattle.x25_layer.proofs.TwoLayerLemmas.{bare_more, quiet_more, no_faults_more, pulls_change_nothing, second}
 use Rattle.x25_layer.proofs.FirstLemmas.{restart_is_quiet}
-use Rattle.x25_layer.proofs.PeerOrder.{Written, written_on, calls_order, stretch_order}
+use Rattle.x25_layer.proofs.PeerOrder.{Written, written_on, calls_order, stretch_order, has_arrived}
 
 -- what is known of the nested handshakes and a peer, and of packet sizes and windows
 pub record PeerPremises : Type 0 where
   pub quiet : WithAnyPeerLayer LayerFindsNoError
   pub order : WithAnyPeerLayer KeepsLayers
+  pub arrived : WithAnyPeerLayer LayerHasArrived
   pub params : ParamsLaws
 
 record Stands (r : Role) (channels : ℕ) (w : Joined) : Type 0 where
@@ -198,3 +199,8 @@ all_in_order p r long_data channels w reached k =
 
 pub finds_no_error : PeerPremises → WithAnyPeer FindsNoError
 finds_no_error p r long_data channels w reached = (reached_stands p r long_data channels w reached).quiet
+
+pub all_have_arrived : PeerPremises → WithAnyPeer AllHaveArrived
+all_have_arrived p r long_data channels w reached none k is there =
+    let h = reached_stands p r long_data channels w reached in
+    has_arrived w.near.layer h.nested_end w.peer w.near.entries h.sees h.of_messages h.of_interrupts k (λ x opened. p.arrived r _ h.reached (ap bare_layers none) k x opened there) is

@@ -5,7 +5,7 @@ ghost use Rattle.x25_layer.specs.laws.Apart.{AlwaysApart};
 ghost use Rattle.x25_layer.specs.laws.ApartLaw.{IsOverLinks, RestartsFirst, BeginsAlone, OwnMovesDecide, StaysDown};
 ghost use Rattle.x25_layer.specs.laws.ApartLaw.{EventsRunOn};
 ghost use Rattle.x25_layer.specs.laws.RoundLaw.{CallsRun, HearsRun, RoundsSettle, ComesUpAlone};
-ghost use Rattle.x25_layer.specs.laws.PeerClaims.{WithAnyPeer, FindsNoError, IsAllInOrder};
+ghost use Rattle.x25_layer.specs.laws.PeerClaims.{WithAnyPeer, FindsNoError, IsAllInOrder, AllHaveArrived};
 ghost use Rattle.x25_layer.specs.laws.WaitLaw.{RoundsLeaveNone, StillPullsNone, ClosedKeepNone, NoneOpenInRestart};
 ghost use Rattle.x25_layer.specs.laws.WaitLaw.{WaitForUsersAlone};
 
@@ -84,10 +84,13 @@ pub fn calls_are_runs()
 ///   that stretch is a beginning of what the peer's packets carry in it, and what the peer took in it is a beginning of
 ///   what the user handed down, of messages and of interrupts; and of calls where they count restarts and clears alike;
 /// - all of the messages, where all is acknowledged to the peer, and where the circuit is open, nothing waits in it,
-///   and all that it sent is acknowledged.
+///   and all that it sent is acknowledged;
+/// - where no packet is on the way to the peer, both ends count a stretch that is open at both alike, and all that the
+///   user handed down in it was taken, of messages where none waits.
 pub fn any_peer_keeps_transcripts()
     ensures quiet { WithAnyPeer FindsNoError }
     ensures order { WithAnyPeer IsAllInOrder }
+    ensures arrived { WithAnyPeer AllHaveArrived }
 {
     x25_circuit::values_are_agreed();
     x25_handshakes::any_peer_keeps_layers();

@@ -1,14 +1,15 @@
 -- What holds of our own end and any peer: of a circuit in p4, and of a whole packet layer.
-use Rattle.std.specs.Prelude.{◌≡◌, ◌⊎◌, ℕ, suc, ◌≤◌, [], length, true, false, None}
+use Rattle.std.specs.Prelude.{◌≡◌, ◌⊎◌, ℕ, suc, ◌≤◌, [], length, Bool, true, false, not, Some, None}
 use Rattle.x25_bits.specs.declared.role.Role.{Role}
-use Rattle.x25_circuit.specs.Message.{carried}
+use Rattle.x25_circuit.specs.Message.{carried, wholes}
 use Rattle.x25_circuit.specs.Params.{Terms}
-use Rattle.x25_handshakes.specs.laws.Handshake.{At, has_left, state_of}
+use Rattle.x25_handshakes.specs.laws.Handshake.{Side, Live, Left, At, has_left, state_of}
 use Rattle.x25_handshakes.specs.laws.Stretch.{Stretch, fresh}
 use Rattle.x25_handshakes.specs.laws.Transfer.{fresh_transfer}
 use Rattle.x25_handshakes.specs.laws.Calls.{Phase, Talking, Connection, fresh_call}
 use Rattle.x25_handshakes.specs.laws.Layers.{Channels, all_fresh}
 use Rattle.x25_handshakes.specs.laws.Histories.{IsPrefix}
+use Rattle.x25_handshakes.specs.laws.Arrivals.{open_channel}
 use Rattle.x25_handshakes.specs.laws.PeerStretch.{PeerStretch, fresh_peer}
 use Rattle.x25_handshakes.specs.laws.PeerTransfer.{fresh_peer_transfer}
 use Rattle.x25_handshakes.specs.laws.PeerCalls.{Stage, InData, PeerCall, fresh_peer_call}
@@ -67,6 +68,39 @@ ChannelsAreInOrder x y = (h : ℕ) → ChannelIsInOrder (x h) (y h)
 abbrev pub LayersAreInOrder : At Channels → At PeerChannels → Type 0
 LayersAreInOrder x y = InEpochs ChannelsAreInOrder all_fresh peer_fresh x y
 
+-- ---- all of a stretch
+
+-- on a channel the peer is in p4, and no restart, clear or reset of its own is out
+abbrev pub is_open_stage : Stage (At PeerStretch) → Bool
+is_open_stage (InData t b at) = not (has_left at.side)
+is_open_stage other = false
+
+abbrev pub is_open_call : Side PeerCall → Bool
+is_open_call (Live c) = is_open_stage c.stage
+is_open_call (Left c) = false
+
+abbrev pub is_open_there : Side PeerChannels → ℕ → Bool
+is_open_there (Live y) k = is_open_call (y k).side
+is_open_there (Left y) k = false
+
+-- what our circuit was handed down the peer took: of messages, where none waits to be sent
+pub record TookAll (x : Stretch) (y : PeerStretch) : Type 0 where
+  pub messages : wholes x.rest ≡ 0 → carried y.taken ≡ x.down
+  pub interrupts : y.int_up ≡ x.int_down
+
+-- of a call, of a channel and of the whole, where both ends count alike too
+pub record TookCall (p : Phase) (c : PeerCall) (x : Stretch) : Type 0 where
+  pub resets : (transfer_of p).epoch ≡ (peer_transfer_of c.stage).epoch
+  pub all : TookAll x (state_of (peer_transfer_of c.stage).side)
+
+pub record TookChannel (z : At Connection) (y : At PeerCall) (x : Stretch) : Type 0 where
+  pub clears : z.epoch ≡ y.epoch
+  pub call : TookCall (state_of z.side).phase (state_of y.side) x
+
+pub record TookLayer (k : ℕ) (z : At Channels) (y : At PeerChannels) (x : Stretch) : Type 0 where
+  pub restarts : z.epoch ≡ y.epoch
+  pub channel : TookChannel (state_of z.side k) (state_of y.side k) x
+
 -- ---- whatever happens, with any peer that keeps the rules
 
 abbrev pub WithAnyPeer : (Joined → Type 0) → Type 0
@@ -82,6 +116,11 @@ FindsNoError w = w.error ≡ None
 
 abbrev pub LayerFindsNoError : JoinedLayers → Type 0
 LayerFindsNoError w = w.error ≡ None
+
+-- where nothing is on the way to the peer: each stretch that is open at both ends
+abbrev pub LayerHasArrived : JoinedLayers → Type 0
+LayerHasArrived w = w.out ≡ [] → (k : ℕ) (x : Stretch) → open_channel w.near.side k ≡ Some x
+    → is_open_there w.peer.side k ≡ true → TookLayer k w.near w.peer x
 
 abbrev pub KeepsStretches : Joined → Type 0
 KeepsStretches w = StretchesAreInOrder w.near w.peer

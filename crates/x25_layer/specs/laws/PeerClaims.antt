@@ -1,7 +1,7 @@
 -- What holds of a layer and any peer, after all that happens.
 use Rattle.std.specs.Prelude.{◌≡◌, ℕ, List, [], length, Bool, true}
 use Rattle.x25_bits.specs.declared.role.Role.{Role}
-use Rattle.x25_circuit.specs.Circuit.{Circuit, is_open}
+use Rattle.x25_circuit.specs.Circuit.{Circuit, is_open, waits}
 use Rattle.x25_circuit.specs.Message.{carried}
 use Rattle.x25_handshakes.specs.laws.Handshake.{At, state_of}
 use Rattle.x25_handshakes.specs.laws.Names.{Name}
@@ -9,7 +9,8 @@ use Rattle.x25_handshakes.specs.laws.Histories.{IsPrefix}
 use Rattle.x25_handshakes.specs.laws.PeerStretch.{PeerStretch}
 use Rattle.x25_handshakes.specs.laws.PeerCalls.{PeerCall}
 use Rattle.x25_handshakes.specs.laws.PeerLayer.{PeerChannels}
-use Rattle.x25_handshakes.specs.laws.PeerClaims.{peer_transfer_of}
+use Rattle.x25_handshakes.specs.laws.PeerClaims.{peer_transfer_of, is_open_there}
+use Rattle.x25_layer.specs.Layer.{Layer}
 use Rattle.x25_layer.specs.laws.Transcript.{Entry, under, calls_in, messages_in, interrupts_in, name_of}
 use Rattle.x25_layer.specs.laws.Law.{IsQuietEnd}
 use Rattle.x25_layer.specs.laws.PeerJoined.{Joined, IsReached}
@@ -63,6 +64,22 @@ pub record IsInOrder (k : ℕ) (w : Joined) : Type 0 where
 
 abbrev pub IsAllInOrder : ℕ → Joined → Type 0
 IsAllInOrder channels w = (k : ℕ) → IsInOrder k w
+
+-- Of a stretch that is open at both ends: both count it alike, and what our user handed down in it the peer took, of
+-- messages where none waits.
+pub record HasArrived (k : ℕ) (l : Layer) (entries : List Entry) (y : At PeerChannels) : Type 0 where
+  pub name : name_of l k ≡ peer_name y k
+  pub messages : waits (l.circuits k) ≡ 0
+      → carried (peer_stretch y k).taken ≡ (messages_in (under k (name_of l k) entries)).down
+  pub interrupts : (peer_stretch y k).int_up ≡ (interrupts_in (under k (name_of l k) entries)).down
+
+abbrev pub OpenHaveArrived : Layer → List Entry → At PeerChannels → Type 0
+OpenHaveArrived l entries y =
+    (k : ℕ) → is_open (l.circuits k) ≡ true → is_open_there y.side k ≡ true → HasArrived k l entries y
+
+-- where no packet is on the way to the peer
+abbrev pub AllHaveArrived : ℕ → Joined → Type 0
+AllHaveArrived channels w = w.out ≡ [] → OpenHaveArrived w.near.layer w.near.entries w.peer
 
 -- our layer neither sends the peer an error of procedure nor tells its user of one
 abbrev pub FindsNoError : ℕ → Joined → Type 0

@@ -1,5 +1,5 @@
 use Rattle.x25_handshakes.proofs.TermsLemmas.{Laws}
-use Rattle.x25_handshakes.proofs.PeerLayerRuns.{keeps_layers, layer_finds_no_error}
+use Rattle.x25_handshakes.proofs.PeerLayerRuns.{keeps_layers, layer_finds_no_error, layer_has_arrived}
 use Rattle.x25_handshakes.proofs.law.any_peer_keeps_layers.Goals as goal
 
 laws : goal.After-values_are_agreed → Laws
@@ -12,4 +12,4 @@ laws c = record {
 }
 
 pub returns : goal.returns
-returns c = record { quiet = layer_finds_no_error (laws c); order = keeps_layers (laws c) }
+returns c = record { quiet = layer_finds_no_error (laws c); order = keeps_layers (laws c); arrived = layer_has_arrived (laws c) }
