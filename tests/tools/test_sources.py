@@ -1,13 +1,15 @@
-"""The sources and definitions: how wide they are, and that each comment is a sentence of its own."""
+"""The sources and definitions: how wide they are, that each comment is a sentence of its own, and that no long clause stands in many places."""
 
 import os
 import re
 import unittest
+from collections import Counter
 from glob import glob
 
 import support
 
 WIDTH = 120
+LONG_CLAUSE = 100
 STRING = re.compile(r'"(?:[^"\\]|\\.)*"')
 
 
@@ -20,6 +22,17 @@ def sources(*folders):
 
 def lines_of(path):
     return enumerate(support.read(path).decode().splitlines(), 1)
+
+
+def clauses(text):
+    """The clauses of a source without their names, each on one line."""
+    text = re.sub(r"//.*", "", text)
+    for head in re.finditer(r"\b(?:ensures|requires)\*?\s+\w*\s*\{", text):
+        depth, end = 1, head.end()
+        while depth:
+            depth += {"{": 1, "}": -1}.get(text[end], 0)
+            end += 1
+        yield " ".join(text[head.end() : end - 1].split())
 
 
 class Sources(unittest.TestCase):
@@ -35,3 +48,12 @@ class Sources(unittest.TestCase):
             going_on = [number for number, line in lines_of(path) if re.match(r"\s*(?:--|//[/!]?) \.\.", line)]
             with self.subTest(path):
                 self.assertEqual(going_on, [])
+
+    def test_no_long_clause_stands_in_four_places(self):
+        """What so many functions of a crate have in common is a record, which each ensures by its name."""
+        counts = Counter()
+        for path in sources("src"):
+            if path.endswith(".rt"):
+                counts.update((path.split(os.sep)[1], clause) for clause in clauses(support.read(path).decode()))
+        often = [place for place, count in counts.items() if count >= 4 and len(place[1]) >= LONG_CLAUSE]
+        self.assertEqual(often, [])

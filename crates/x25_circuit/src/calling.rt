@@ -1,8 +1,6 @@
 //! The user's calls that set up and clear. ITU-T X.25 (10/96), sections 4.1.2, 4.1.4 and 4.1.7.
-ghost use Rattle.std.specs.Prelude.{◌≡◌, ◌≢◌, ◌≤◌, OnErr, IfSome, IfNone, Bool, true, false, IfOk, IfErr, length};
+ghost use Rattle.std.specs.Prelude.{◌≡◌, ◌≢◌, ◌≤◌, IfSome, IfNone, Bool, true, false, IfOk, IfErr, length};
 ghost use Rattle.std.specs.Result.{result_err};
-ghost use Rattle.x25_packet.specs.Packet.{plain};
-ghost use Rattle.x25_packet.specs.Spelling.{IsInRange};
 ghost use Rattle.x25_packet.specs.Digits.{IsAddress, digits_of_text};
 ghost use Rattle.x25_circuit.specs.declared.state.State.{State};
 ghost use Rattle.x25_circuit.specs.Circuit.{Settings};
@@ -11,7 +9,7 @@ ghost use Rattle.x25_circuit.specs.Params.{may_answer};
 ghost use Rattle.x25_circuit.specs.Calling.{outcome, Refused, Calls, Accepts, Clears, may_call, call_in, accept_in};
 ghost use Rattle.x25_circuit.specs.Calling.{is_address_text};
 ghost use Rattle.x25_circuit.specs.Request.{plain_answer, params_answered, refusal_of};
-ghost use Rattle.x25_circuit.specs.code.FitsCircuit.{FitsCircuit, Sends, room_of, clears_of, resets_of};
+ghost use Rattle.x25_circuit.specs.code.FitsCircuit.{FitsCircuit, SendsBy};
 
 use crate::circuit::Circuit;
 use crate::codes::{ASKED_FOR, NO_DIAGNOSTIC};
@@ -83,14 +81,8 @@ impl Circuit {
         user: &'a [u8],
         proposal: &'a Proposal,
     ) -> Result<Packet<'a>, CircuitError>
-        ensures outcome { (c : Settings) (x : Channel) → FitsCircuit c self.old x
-            → Sends c self.new result (outcome c x (Calls called.now calling.now user.now proposal.now)) }
-        ensures range { IfOk result (λ packet. IsInRange 128 (plain packet)) }
-        ensures room { room_of self.old ≤ room_of self.new }
-        ensures clears { clears_of self.new ≡ clears_of self.old }
-        ensures resets { resets_of self.new ≡ resets_of self.old }
-        ensures unchanged { OnErr result (self.new ≡ self.old) }
-        ensures kinds { IfErr result (λ e. e ≢ CircuitError.NoMemory) }
+        ensures { SendsBy self.old self.new result
+            (λ c x. outcome c x (Calls called.now calling.now user.now proposal.now)) }
     {
         let fields = self.call_fields(called, calling, user, proposal.params())?;
         self.enter(State::Calling, fields.flow, true);
@@ -146,14 +138,7 @@ impl Circuit {
         &mut self,
         answer: Option<&'a Proposal>,
     ) -> Result<Packet<'a>, CircuitError>
-        ensures outcome { (c : Settings) (x : Channel) → FitsCircuit c self.old x
-            → Sends c self.new result (outcome c x (Accepts (plain_answer answer.entry))) }
-        ensures range { IfOk result (λ packet. IsInRange 128 (plain packet)) }
-        ensures room { room_of self.old ≤ room_of self.new }
-        ensures clears { clears_of self.new ≡ clears_of self.old }
-        ensures resets { resets_of self.new ≡ resets_of self.old }
-        ensures unchanged { OnErr result (self.new ≡ self.old) }
-        ensures kinds { IfErr result (λ e. e ≢ CircuitError.NoMemory) }
+        ensures { SendsBy self.old self.new result (λ c x. outcome c x (Accepts (plain_answer answer.entry))) }
     {
         let proposed = self.flow.params;
         let flow = self.accepted(answer)?;
@@ -201,14 +186,7 @@ impl Circuit {
     ///
     /// 30 WrongState in p1 and where this end's CLEAR isn't confirmed yet.
     pub(crate) fn clear<'a>(&mut self) -> Result<Packet<'a>, CircuitError>
-        ensures outcome { (c : Settings) (x : Channel) → FitsCircuit c self.old x
-            → Sends c self.new result (outcome c x Clears) }
-        ensures range { IfOk result (λ packet. IsInRange 128 (plain packet)) }
-        ensures room { room_of self.old ≤ room_of self.new }
-        ensures clears { clears_of self.new ≡ clears_of self.old }
-        ensures resets { resets_of self.new ≡ resets_of self.old }
-        ensures unchanged { OnErr result (self.new ≡ self.old) }
-        ensures kinds { IfErr result (λ e. e ≢ CircuitError.NoMemory) }
+        ensures { SendsBy self.old self.new result (λ c x. outcome c x Clears) }
     {
         if let Some(error) = self.clear_refusal() {
             return Err(error);

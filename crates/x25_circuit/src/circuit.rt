@@ -34,7 +34,8 @@ pub struct Circuit {
 }
 
 impl Circuit {
-    ghost use Rattle.x25_circuit.specs.code.FitsCircuit.{FitsCircuit, room_of, clears_of, resets_of, waits_of};
+    ghost use Rattle.x25_circuit.specs.code.FitsCircuit.{FitsCircuit, KeepsCounts};
+    ghost use Rattle.x25_circuit.specs.code.FitsCircuit.{room_of, clears_of, resets_of, waits_of};
 
     /// A channel that was never used: p1. With `long_data` a call has at most 128 octets of user data (profile), else
     /// at most 16.
@@ -207,9 +208,7 @@ impl Circuit {
         ensures fits { (c : Settings) (x : Channel) → FitsCircuit c self.old x
             → FitsCircuit c self.new (entered x state default_params false) }
         ensures role { self.new.role ≡ self.old.role }
-        ensures clears { clears_of self.new ≡ clears_of self.old }
-        ensures resets { resets_of self.new ≡ resets_of self.old }
-        ensures room { room_of self.old ≤ room_of self.new }
+        ensures keeps { KeepsCounts self.old self.new }
     {
         self.enter(state, FlowControl::usual(), false);
     }
@@ -219,9 +218,7 @@ impl Circuit {
         ensures fits { (c : Settings) (x : Channel) → FitsCircuit c self.old x
             → FitsCircuit c self.new (entered x state x.params x.calls) }
         ensures role { self.new.role ≡ self.old.role }
-        ensures clears { clears_of self.new ≡ clears_of self.old }
-        ensures resets { resets_of self.new ≡ resets_of self.old }
-        ensures room { room_of self.old ≤ room_of self.new }
+        ensures keeps { KeepsCounts self.old self.new }
     {
         self.enter(state, self.flow, self.calls);
     }

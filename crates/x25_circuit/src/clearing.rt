@@ -9,7 +9,7 @@ ghost use Rattle.x25_circuit.specs.Hearing.{cause_at, diagnostic_in, clears_for,
 ghost use Rattle.x25_circuit.specs.Hearing.{resets_to, row_clear, row_clear_conf, row_reset, row_reset_conf};
 ghost use Rattle.x25_circuit.specs.Hearing.{row_undecoded, undecoded, cause_of};
 ghost use Rattle.x25_circuit.specs.code.FitsCircuit.{FitsCircuit, room_of, clears_of, resets_of};
-ghost use Rattle.x25_circuit.specs.code.Replies.{Says, IsSendable, plain_owed};
+ghost use Rattle.x25_circuit.specs.code.Replies.{Says, IsSendable, RepliesBy, plain_owed};
 
 use crate::circuit::Circuit;
 use crate::codes::{
@@ -69,12 +69,7 @@ fn cause_of(error: PacketError) -> u8
 impl Circuit {
     /// Clears the call for an error of procedure.
     pub(crate) fn clear_for<'a>(&mut self, cause: u8, diagnostic: u8) -> Reply<'a>
-        ensures next { (c : Settings) (x : Channel) → FitsCircuit c self.old x
-            → FitsCircuit c self.new (clears_for c x cause diagnostic).next }
-        ensures says { (c : Settings) (x : Channel) → FitsCircuit c self.old x
-            → Says result (clears_for c x cause diagnostic).owed (clears_for c x cause diagnostic).notices }
-        ensures range { IsSendable (plain_owed result.packet) }
-        ensures room { room_of self.old ≤ room_of self.new }
+        ensures { RepliesBy self.old self.new result (λ c x. clears_for c x cause diagnostic) }
     {
         self.end_call(State::Clearing);
         Reply::both(
@@ -88,12 +83,7 @@ impl Circuit {
 
     /// Resets the call for an error of procedure.
     pub(crate) fn reset_for<'a>(&mut self, diagnostic: u8) -> Reply<'a>
-        ensures next { (c : Settings) (x : Channel) → FitsCircuit c self.old x
-            → FitsCircuit c self.new (resets_for c x diagnostic).next }
-        ensures says { (c : Settings) (x : Channel) → FitsCircuit c self.old x
-            → Says result (resets_for c x diagnostic).owed (resets_for c x diagnostic).notices }
-        ensures range { IsSendable (plain_owed result.packet) }
-        ensures room { room_of self.old ≤ room_of self.new }
+        ensures { RepliesBy self.old self.new result (λ c x. resets_for c x diagnostic) }
     {
         self.begin_stretch(State::Resetting);
         Reply::both(
@@ -107,12 +97,7 @@ impl Circuit {
 
     /// A packet that the state doesn't allow.
     pub(crate) fn unexpected<'a>(&mut self) -> Reply<'a>
-        ensures next { (c : Settings) (x : Channel) → FitsCircuit c self.old x
-            → FitsCircuit c self.new (unexpected c x self.old.state).next }
-        ensures says { (c : Settings) (x : Channel) → FitsCircuit c self.old x
-            → Says result (unexpected c x self.old.state).owed (unexpected c x self.old.state).notices }
-        ensures range { IsSendable (plain_owed result.packet) }
-        ensures room { room_of self.old ≤ room_of self.new }
+        ensures { RepliesBy self.old self.new result (λ c x. unexpected c x self.old.state) }
     {
         self.clear_for(
             LOCAL_PROCEDURE_ERROR_OF_A_CALL,
@@ -158,13 +143,7 @@ impl Circuit {
 
     pub(crate) fn hear_clear<'a>(&mut self, cause: u8, diagnostic: u8) -> Reply<'a>
         requires { clears_of self.old < 2 ^ 64 - 1 }
-        ensures next { (c : Settings) (x : Channel) → FitsCircuit c self.old x
-            → FitsCircuit c self.new (row_clear x self.old.state cause diagnostic).next }
-        ensures says { (c : Settings) (x : Channel) → FitsCircuit c self.old x
-            → Says result (row_clear x self.old.state cause diagnostic).owed
-            (row_clear x self.old.state cause diagnostic).notices }
-        ensures range { IsSendable (plain_owed result.packet) }
-        ensures room { room_of self.old ≤ room_of self.new }
+        ensures { RepliesBy self.old self.new result (λ c x. row_clear x self.old.state cause diagnostic) }
     {
         let state = self.state;
         self.be_cleared();
@@ -177,12 +156,7 @@ impl Circuit {
 
     pub(crate) fn hear_clear_conf<'a>(&mut self) -> Reply<'a>
         requires { clears_of self.old < 2 ^ 64 - 1 }
-        ensures next { (c : Settings) (x : Channel) → FitsCircuit c self.old x
-            → FitsCircuit c self.new (row_clear_conf c x self.old.state).next }
-        ensures says { (c : Settings) (x : Channel) → FitsCircuit c self.old x
-            → Says result (row_clear_conf c x self.old.state).owed (row_clear_conf c x self.old.state).notices }
-        ensures range { IsSendable (plain_owed result.packet) }
-        ensures room { room_of self.old ≤ room_of self.new }
+        ensures { RepliesBy self.old self.new result (λ c x. row_clear_conf c x self.old.state) }
     {
         match self.state {
             State::Clearing => {
@@ -195,13 +169,7 @@ impl Circuit {
 
     pub(crate) fn hear_reset<'a>(&mut self, cause: u8, diagnostic: u8) -> Reply<'a>
         requires { resets_of self.old < 2 ^ 64 - 1 }
-        ensures next { (c : Settings) (x : Channel) → FitsCircuit c self.old x
-            → FitsCircuit c self.new (row_reset c x self.old.state cause diagnostic).next }
-        ensures says { (c : Settings) (x : Channel) → FitsCircuit c self.old x
-            → Says result (row_reset c x self.old.state cause diagnostic).owed
-            (row_reset c x self.old.state cause diagnostic).notices }
-        ensures range { IsSendable (plain_owed result.packet) }
-        ensures room { room_of self.old ≤ room_of self.new }
+        ensures { RepliesBy self.old self.new result (λ c x. row_reset c x self.old.state cause diagnostic) }
     {
         match self.state {
             State::Open => {
@@ -216,12 +184,7 @@ impl Circuit {
 
     pub(crate) fn hear_reset_conf<'a>(&mut self) -> Reply<'a>
         requires { resets_of self.old < 2 ^ 64 - 1 }
-        ensures next { (c : Settings) (x : Channel) → FitsCircuit c self.old x
-            → FitsCircuit c self.new (row_reset_conf c x self.old.state).next }
-        ensures says { (c : Settings) (x : Channel) → FitsCircuit c self.old x
-            → Says result (row_reset_conf c x self.old.state).owed (row_reset_conf c x self.old.state).notices }
-        ensures range { IsSendable (plain_owed result.packet) }
-        ensures room { room_of self.old ≤ room_of self.new }
+        ensures { RepliesBy self.old self.new result (λ c x. row_reset_conf c x self.old.state) }
     {
         match self.state {
             State::Open => self.reset_for(NOT_IN_D1),
@@ -233,13 +196,7 @@ impl Circuit {
 
     // Octets that spell no packet.
     fn hear_undecoded<'a>(&mut self, error: PacketError) -> Reply<'a>
-        ensures next { (c : Settings) (x : Channel) → FitsCircuit c self.old x
-            → FitsCircuit c self.new (row_undecoded c x self.old.state error).next }
-        ensures says { (c : Settings) (x : Channel) → FitsCircuit c self.old x
-            → Says result (row_undecoded c x self.old.state error).owed
-            (row_undecoded c x self.old.state error).notices }
-        ensures range { IsSendable (plain_owed result.packet) }
-        ensures room { room_of self.old ≤ room_of self.new }
+        ensures { RepliesBy self.old self.new result (λ c x. row_undecoded c x self.old.state error) }
     {
         match self.state {
             State::Open => self.reset_for(error.diagnostic()),
@@ -252,12 +209,7 @@ impl Circuit {
     /// memory.
     pub fn undecoded<'a>(&mut self, error: PacketError) -> Reply<'a>
         requires { error ≢ PacketError.NoMemory }
-        ensures next { (c : Settings) (x : Channel) → FitsCircuit c self.old x
-            → FitsCircuit c self.new (undecoded c x error).next }
-        ensures says { (c : Settings) (x : Channel) → FitsCircuit c self.old x
-            → Says result (undecoded c x error).owed (undecoded c x error).notices }
-        ensures range { IsSendable (plain_owed result.packet) }
-        ensures room { room_of self.old ≤ room_of self.new }
+        ensures { RepliesBy self.old self.new result (λ c x. undecoded c x error) }
     {
         self.hear_undecoded(error)
     }

@@ -1,6 +1,6 @@
 //! Packets that come. ITU-T X.25 (10/96), sections 4.3.7 and 4.4.1, and Annex C.
-ghost use Rattle.std.specs.Prelude.{min, ◌≡◌, ℕ, ◌+◌, ◌-◌, ◌^◌, ◌<◌, ◌≤◌, length, [], ◌∷◌, Some, None, true, false};
-ghost use Rattle.std.specs.Prelude.{option_to_list, OnOk, OnErr, IfOk, IfErr, IfNone, IsOk};
+ghost use Rattle.std.specs.Prelude.{◌≡◌, ℕ, ◌+◌, ◌-◌, ◌^◌, ◌<◌, ◌≤◌, length, [], ◌∷◌, Some, None, true, false};
+ghost use Rattle.std.specs.Prelude.{option_to_list, IfNone, IsOk};
 ghost use Rattle.x25_packet.specs.Packet.{plain, user_data};
 ghost use Rattle.x25_packet.specs.Spelling.{HasChannel};
 ghost use Rattle.x25_circuit.specs.Circuit.{Settings};
@@ -11,7 +11,8 @@ ghost use Rattle.x25_circuit.specs.code.Fits.{first_ground};
 ghost use Rattle.x25_circuit.specs.Hearing.{resets_for, unless, number_ground, hears_status, confirms, takes, row_open};
 ghost use Rattle.x25_circuit.specs.Hearing.{row_data, answers};
 ghost use Rattle.x25_circuit.specs.code.FitsCircuit.{FitsCircuit, room_of, user_octets, clears_of, resets_of};
-ghost use Rattle.x25_circuit.specs.code.Replies.{Says, IsSendable, plain_owed, plain_notices};
+ghost use Rattle.x25_circuit.specs.code.Replies.{Says, IsSendable, RepliesBy, RepliesOrLacks};
+ghost use Rattle.x25_circuit.specs.code.Replies.{plain_owed, plain_notices};
 
 use crate::circuit::Circuit;
 use crate::codes::{INVALID_PR, NO_INTERRUPT};
@@ -34,14 +35,8 @@ fn delivered<'a>(message: Option<Message>) -> Option<Notice<'a>>
 impl Circuit {
     // RR or RNR.
     fn hear_status<'a>(&mut self, pr: Seq, is_ready: bool) -> Reply<'a>
-        ensures next { (c : Settings) (x : Channel) → FitsCircuit c self.old x
-            → FitsCircuit c self.new (unless c x (number_ground x.talk pr.number)
-            (hears_status x x.talk is_ready pr.number)).next }
-        ensures says { (c : Settings) (x : Channel) → FitsCircuit c self.old x →
-            Says result (unless c x (number_ground x.talk pr.number) (hears_status x x.talk is_ready pr.number)).owed
-            (unless c x (number_ground x.talk pr.number) (hears_status x x.talk is_ready pr.number)).notices }
-        ensures range { IsSendable (plain_owed result.packet) }
-        ensures room { room_of self.old ≤ room_of self.new }
+        ensures { RepliesBy self.old self.new result
+            (λ c x. unless c x (number_ground x.talk pr.number) (hears_status x x.talk is_ready pr.number)) }
     {
         if !self.take_status(pr, is_ready) {
             return self.reset_for(INVALID_PR);
@@ -51,13 +46,7 @@ impl Circuit {
 
     // INTERRUPT CONFIRMATION.
     fn hear_interrupt_conf<'a>(&mut self) -> Reply<'a>
-        ensures next { (c : Settings) (x : Channel) → FitsCircuit c self.old x
-            → FitsCircuit c self.new (confirms c x x.talk self.old.transfer.interrupt_out).next }
-        ensures says { (c : Settings) (x : Channel) → FitsCircuit c self.old x →
-            Says result (confirms c x x.talk self.old.transfer.interrupt_out).owed
-            (confirms c x x.talk self.old.transfer.interrupt_out).notices }
-        ensures range { IsSendable (plain_owed result.packet) }
-        ensures room { room_of self.old ≤ room_of self.new }
+        ensures { RepliesBy self.old self.new result (λ c x. confirms c x x.talk self.old.transfer.interrupt_out) }
     {
         if !self.transfer.interrupt_out {
             return self.reset_for(NO_INTERRUPT);
@@ -68,13 +57,8 @@ impl Circuit {
 
     // A data packet that is refused, whatever its P(R): that is the first ground.
     fn refuse<'a>(&mut self, pr: Seq, diagnostic: u8) -> Reply<'a>
-        ensures next { (c : Settings) (x : Channel) → FitsCircuit c self.old x
-            → FitsCircuit c self.new (resets_for c x (first_ground x.talk pr.number diagnostic)).next }
-        ensures says { (c : Settings) (x : Channel) → FitsCircuit c self.old x →
-            Says result (resets_for c x (first_ground x.talk pr.number diagnostic)).owed
-            (resets_for c x (first_ground x.talk pr.number diagnostic)).notices }
-        ensures range { IsSendable (plain_owed result.packet) }
-        ensures room { room_of self.old ≤ room_of self.new }
+        ensures { RepliesBy self.old self.new result
+            (λ c x. resets_for c x (first_ground x.talk pr.number diagnostic)) }
     {
         if !self.transfer.ack(pr) {
             return self.reset_for(INVALID_PR);
@@ -116,17 +100,8 @@ impl Circuit {
         pr: Seq,
         user: &[u8],
     ) -> Result<Reply<'a>, CircuitError>
-        ensures next { (c : Settings) (x : Channel) → FitsCircuit c self.old x
-            → OnOk result (FitsCircuit c self.new
-            (row_open c x x.talk (user_data 1 q m ps.number pr.number user.now)).next) }
-        ensures says { (c : Settings) (x : Channel) → FitsCircuit c self.old x →
-            IfOk result (λ reply. Says reply (row_open c x x.talk (user_data 1 q m ps.number pr.number user.now)).owed
-            (row_open c x x.talk (user_data 1 q m ps.number pr.number user.now)).notices) }
-        ensures range { IfOk result (λ reply. IsSendable (plain_owed reply.packet)) }
-        ensures err { IfErr result (λ e. e ≡ CircuitError.NoMemory) }
-        ensures missing { OnErr result (room_of self.old < min (length user.now) 4096) }
-        ensures unchanged { OnErr result (self.new ≡ self.old) }
-        ensures room { IfOk result (λ reply. IfNone reply.packet (room_of self.old ≤ room_of self.new)) }
+        ensures { RepliesOrLacks self.old self.new result (length user.now)
+            (λ c x. row_open c x x.talk (user_data 1 q m ps.number pr.number user.now)) }
     {
         match self
             .transfer
@@ -142,16 +117,8 @@ impl Circuit {
 
     // A packet of data transfer, in p4 with d1.
     fn hear_open<'a>(&mut self, packet: &Packet<'a>) -> Result<Reply<'a>, CircuitError>
-        ensures next { (c : Settings) (x : Channel) → FitsCircuit c self.old x
-            → OnOk result (FitsCircuit c self.new (row_open c x x.talk (plain packet.now)).next) }
-        ensures says { (c : Settings) (x : Channel) → FitsCircuit c self.old x →
-            IfOk result (λ reply. Says reply (row_open c x x.talk (plain packet.now)).owed
-            (row_open c x x.talk (plain packet.now)).notices) }
-        ensures range { IfOk result (λ reply. IsSendable (plain_owed reply.packet)) }
-        ensures err { IfErr result (λ e. e ≡ CircuitError.NoMemory) }
-        ensures missing { OnErr result (room_of self.old < min (length (user_octets (plain packet.now))) 4096) }
-        ensures unchanged { OnErr result (self.new ≡ self.old) }
-        ensures room { IfOk result (λ reply. IfNone reply.packet (room_of self.old ≤ room_of self.new)) }
+        ensures { RepliesOrLacks self.old self.new result (length (user_octets (plain packet.now)))
+            (λ c x. row_open c x x.talk (plain packet.now)) }
     {
         match packet {
             Packet::Data {
@@ -175,16 +142,8 @@ impl Circuit {
 
     // A packet of data transfer.
     fn hear_transfer<'a>(&mut self, packet: &Packet<'a>) -> Result<Reply<'a>, CircuitError>
-        ensures next { (c : Settings) (x : Channel) → FitsCircuit c self.old x
-            → OnOk result (FitsCircuit c self.new (row_data c x self.old.state (plain packet.now)).next) }
-        ensures says { (c : Settings) (x : Channel) → FitsCircuit c self.old x →
-            IfOk result (λ reply. Says reply (row_data c x self.old.state (plain packet.now)).owed
-            (row_data c x self.old.state (plain packet.now)).notices) }
-        ensures range { IfOk result (λ reply. IsSendable (plain_owed reply.packet)) }
-        ensures err { IfErr result (λ e. e ≡ CircuitError.NoMemory) }
-        ensures missing { OnErr result (room_of self.old < min (length (user_octets (plain packet.now))) 4096) }
-        ensures unchanged { OnErr result (self.new ≡ self.old) }
-        ensures room { IfOk result (λ reply. IfNone reply.packet (room_of self.old ≤ room_of self.new)) }
+        ensures { RepliesOrLacks self.old self.new result (length (user_octets (plain packet.now)))
+            (λ c x. row_data c x self.old.state (plain packet.now)) }
     {
         match self.state {
             State::Open => self.hear_open(packet),
@@ -202,16 +161,8 @@ impl Circuit {
         requires kind { HasChannel (plain packet.now) }
         requires clears { clears_of self.old < 2 ^ 64 - 1 }
         requires resets { resets_of self.old < 2 ^ 64 - 1 }
-        ensures next { (c : Settings) (x : Channel) → FitsCircuit c self.old x
-            → OnOk result (FitsCircuit c self.new (answers c x (plain packet.now)).next) }
-        ensures says { (c : Settings) (x : Channel) → FitsCircuit c self.old x →
-            IfOk result (λ reply. Says reply (answers c x (plain packet.now)).owed
-            (answers c x (plain packet.now)).notices) }
-        ensures range { IfOk result (λ reply. IsSendable (plain_owed reply.packet)) }
-        ensures err { IfErr result (λ e. e ≡ CircuitError.NoMemory) }
-        ensures missing { OnErr result (room_of self.old < min (length (user_octets (plain packet.now))) 4096) }
-        ensures unchanged { OnErr result (self.new ≡ self.old) }
-        ensures room { IfOk result (λ reply. IfNone reply.packet (room_of self.old ≤ room_of self.new)) }
+        ensures { RepliesOrLacks self.old self.new result (length (user_octets (plain packet.now)))
+            (λ c x. answers c x (plain packet.now)) }
     {
         match packet {
             Packet::Call {

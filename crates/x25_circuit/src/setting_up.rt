@@ -1,12 +1,9 @@
 //! CALL and CALL ACCEPTED. ITU-T X.25 (10/96), sections 4.1.2 to 4.1.6.
-ghost use Rattle.std.specs.Prelude.{◌≡◌, ◌≤◌};
-ghost use Rattle.x25_circuit.specs.Circuit.{Settings};
-ghost use Rattle.x25_circuit.specs.Circuit.{Circuit as Channel};
+ghost use Rattle.std.specs.Prelude.{◌≡◌};
 ghost use Rattle.x25_circuit.specs.Notice.{incoming};
 ghost use Rattle.x25_circuit.specs.Params.{said_in};
-ghost use Rattle.x25_circuit.specs.code.Replies.{Says, IsSendable, plain_owed, plain_notice};
+ghost use Rattle.x25_circuit.specs.code.Replies.{RepliesBy, plain_notice};
 ghost use Rattle.x25_circuit.specs.Hearing.{collides, connects, request_in, row_call, row_accept};
-ghost use Rattle.x25_circuit.specs.code.FitsCircuit.{FitsCircuit, room_of};
 
 use crate::circuit::Circuit;
 use crate::codes::{INVALID_FACILITY, INVALID_PARAMETER};
@@ -24,14 +21,8 @@ impl Circuit {
         facilities: &[u8],
         user: &'a [u8],
     ) -> Reply<'a>
-        ensures next { (c : Settings) (x : Channel) → FitsCircuit c self.old x
-            → FitsCircuit c self.new (row_call c x self.old.state
-            (request_in called.now calling.now facilities.now user.now)).next }
-        ensures says { (c : Settings) (x : Channel) → FitsCircuit c self.old x
-            → Says result (row_call c x self.old.state (request_in called.now calling.now facilities.now user.now)).owed
-            (row_call c x self.old.state (request_in called.now calling.now facilities.now user.now)).notices }
-        ensures range { IsSendable (plain_owed result.packet) }
-        ensures room { room_of self.old ≤ room_of self.new }
+        ensures { RepliesBy self.old self.new result
+            (λ c x. row_call c x self.old.state (request_in called.now calling.now facilities.now user.now)) }
     {
         match self.state {
             State::Free => {
@@ -56,20 +47,13 @@ impl Circuit {
         user: &'a [u8],
         flow: FlowControl,
     ) -> Reply<'a>
-        ensures next { (c : Settings) (x : Channel) → FitsCircuit c self.old x
-            → FitsCircuit c self.new (collides c.role x
-            (record { called = called.now; calling = calling.now; user = user.now; params = flow.params })).next }
-        ensures says { (c : Settings) (x : Channel) → FitsCircuit c self.old x
-            → Says result (collides c.role x
-            (record { called = called.now; calling = calling.now; user = user.now; params = flow.params })).owed
-            (collides c.role x (record {
+        ensures { RepliesBy self.old self.new result
+            (λ c x. collides c.role x (record {
               called = called.now;
               calling = calling.now;
               user = user.now;
               params = flow.params;
-            })).notices }
-        ensures range { IsSendable (plain_owed result.packet) }
-        ensures room { room_of self.old ≤ room_of self.new }
+            })) }
     {
         match self.role {
             Role::Dte => {
@@ -88,13 +72,7 @@ impl Circuit {
     }
 
     pub(crate) fn hear_accept<'a>(&mut self, facilities: &[u8]) -> Reply<'a>
-        ensures next { (c : Settings) (x : Channel) → FitsCircuit c self.old x
-            → FitsCircuit c self.new (row_accept c x self.old.state facilities.now).next }
-        ensures says { (c : Settings) (x : Channel) → FitsCircuit c self.old x
-            → Says result (row_accept c x self.old.state facilities.now).owed
-            (row_accept c x self.old.state facilities.now).notices }
-        ensures range { IsSendable (plain_owed result.packet) }
-        ensures room { room_of self.old ≤ room_of self.new }
+        ensures { RepliesBy self.old self.new result (λ c x. row_accept c x self.old.state facilities.now) }
     {
         match self.state {
             State::Calling | State::Collision => self.connect(facilities),
@@ -107,13 +85,7 @@ impl Circuit {
 impl Circuit {
     // The other end accepted the call.
     fn connect<'a>(&mut self, facilities: &[u8]) -> Reply<'a>
-        ensures next { (c : Settings) (x : Channel) → FitsCircuit c self.old x
-            → FitsCircuit c self.new (connects c x (said_in x.params facilities.now)).next }
-        ensures says { (c : Settings) (x : Channel) → FitsCircuit c self.old x →
-            Says result (connects c x (said_in x.params facilities.now)).owed
-            (connects c x (said_in x.params facilities.now)).notices }
-        ensures range { IsSendable (plain_owed result.packet) }
-        ensures room { room_of self.old ≤ room_of self.new }
+        ensures { RepliesBy self.old self.new result (λ c x. connects c x (said_in x.params facilities.now)) }
     {
         let answer = self.flow.said(facilities).params;
         let Some(flow) = self.flow.answered(answer) else {

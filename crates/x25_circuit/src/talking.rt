@@ -1,13 +1,11 @@
 //! The user's calls in data transfer. ITU-T X.25 (10/96), sections 4.3 and 4.4.
-ghost use Rattle.std.specs.Prelude.{◌≡◌, ◌≢◌, ◌≤◌, OnErr, IfOk, IfErr, IsErrOf};
-ghost use Rattle.x25_packet.specs.Packet.{plain};
-ghost use Rattle.x25_packet.specs.Spelling.{IsInRange};
+ghost use Rattle.std.specs.Prelude.{◌≡◌, OnErr, IsErrOf};
 ghost use Rattle.x25_circuit.specs.Circuit.{Settings};
 ghost use Rattle.x25_circuit.specs.Circuit.{Circuit as Channel};
 ghost use Rattle.x25_circuit.specs.Calling.{outcome, Sends as CallSends, Interrupts, Resets};
 ghost use Rattle.x25_circuit.specs.Calling.{ready_in};
 ghost use Rattle.x25_circuit.specs.Request.{MayLack};
-ghost use Rattle.x25_circuit.specs.code.FitsCircuit.{FitsCircuit, Sends, Keeps, room_of, clears_of, resets_of};
+ghost use Rattle.x25_circuit.specs.code.FitsCircuit.{FitsCircuit, Keeps, KeepsCounts, SendsBy};
 
 use crate::circuit::Circuit;
 use crate::codes::{ASKED_FOR, NO_DIAGNOSTIC};
@@ -27,9 +25,7 @@ impl Circuit {
     pub(crate) fn send(&mut self, q: bool, user: &[u8]) -> Result<(), CircuitError>
         ensures outcome { (c : Settings) (x : Channel) → FitsCircuit c self.old x
             → Keeps c self.new result (outcome c x (CallSends q user.now)) }
-        ensures room { room_of self.old ≤ room_of self.new }
-        ensures clears { clears_of self.new ≡ clears_of self.old }
-        ensures resets { resets_of self.new ≡ resets_of self.old }
+        ensures keeps { KeepsCounts self.old self.new }
         ensures unchanged { OnErr result (self.new ≡ self.old) }
         ensures memory { IsErrOf result CircuitError.NoMemory → MayLack self.old (CallSends q user.now) }
     {
@@ -44,14 +40,7 @@ impl Circuit {
     ///
     /// 30 WrongState outside of p4 with d1, then 34 BadParameter for another length, then 33 InterruptOutstanding.
     pub(crate) fn interrupt<'a>(&mut self, user: &'a [u8]) -> Result<Packet<'a>, CircuitError>
-        ensures outcome { (c : Settings) (x : Channel) → FitsCircuit c self.old x
-            → Sends c self.new result (outcome c x (Interrupts user.now)) }
-        ensures range { IfOk result (λ packet. IsInRange 128 (plain packet)) }
-        ensures room { room_of self.old ≤ room_of self.new }
-        ensures clears { clears_of self.new ≡ clears_of self.old }
-        ensures resets { resets_of self.new ≡ resets_of self.old }
-        ensures unchanged { OnErr result (self.new ≡ self.old) }
-        ensures kinds { IfErr result (λ e. e ≢ CircuitError.NoMemory) }
+        ensures { SendsBy self.old self.new result (λ c x. outcome c x (Interrupts user.now)) }
     {
         if let Some(error) = self.interrupt_refusal(user) {
             return Err(error);
@@ -64,14 +53,7 @@ impl Circuit {
     ///
     /// 30 WrongState outside of p4 with d1.
     pub(crate) fn reset<'a>(&mut self) -> Result<Packet<'a>, CircuitError>
-        ensures outcome { (c : Settings) (x : Channel) → FitsCircuit c self.old x
-            → Sends c self.new result (outcome c x Resets) }
-        ensures range { IfOk result (λ packet. IsInRange 128 (plain packet)) }
-        ensures room { room_of self.old ≤ room_of self.new }
-        ensures clears { clears_of self.new ≡ clears_of self.old }
-        ensures resets { resets_of self.new ≡ resets_of self.old }
-        ensures unchanged { OnErr result (self.new ≡ self.old) }
-        ensures kinds { IfErr result (λ e. e ≢ CircuitError.NoMemory) }
+        ensures { SendsBy self.old self.new result (λ c x. outcome c x Resets) }
     {
         if let Some(error) = self.closed() {
             return Err(error);
@@ -88,14 +70,7 @@ impl Circuit {
     ///
     /// 30 WrongState outside of p4 with d1.
     pub(crate) fn say<'a>(&mut self, is_ready: bool) -> Result<Packet<'a>, CircuitError>
-        ensures outcome { (c : Settings) (x : Channel) → FitsCircuit c self.old x
-            → Sends c self.new result (ready_in x x.state is_ready) }
-        ensures range { IfOk result (λ packet. IsInRange 128 (plain packet)) }
-        ensures room { room_of self.old ≤ room_of self.new }
-        ensures clears { clears_of self.new ≡ clears_of self.old }
-        ensures resets { resets_of self.new ≡ resets_of self.old }
-        ensures unchanged { OnErr result (self.new ≡ self.old) }
-        ensures kinds { IfErr result (λ e. e ≢ CircuitError.NoMemory) }
+        ensures { SendsBy self.old self.new result (λ c x. ready_in x x.state is_ready) }
     {
         if let Some(error) = self.closed() {
             return Err(error);

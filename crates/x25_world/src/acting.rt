@@ -1,6 +1,6 @@
 //! What happens at one end, and on the line to it.
 ghost use Rattle.std.specs.Prelude.{◌≡◌, ◌&&◌, ◌+◌, ◌*◌, ◌≤◌, ◌++◌, ◌⊎◌, [], length, map, max, vec_len, vec_capacity};
-ghost use Rattle.std.specs.Prelude.{IfErr, OnOk, OnErr, IsErrOf};
+ghost use Rattle.std.specs.Prelude.{IfErr, OnOk, OnErr};
 ghost use Rattle.x25_link.specs.Station.{awaits_ua};
 ghost use Rattle.x25_line.specs.laws.Stations.{is_visible};
 ghost use Rattle.x25_station.specs.Command.{command_of};
@@ -16,7 +16,8 @@ ghost use Rattle.x25_world.specs.World.{Happened, Declined, of_station, delivere
 ghost use Rattle.x25_world.specs.World.{damaged, acts, entered, event_of};
 ghost use Rattle.x25_world.specs.code.PlainTold.{plain_entered};
 ghost use Rattle.x25_world.specs.code.ShownLine.{put_by, line_to, with_line_to, with_room_of, TakesFew};
-ghost use Rattle.x25_world.specs.code.FitsWorld.{FitsWorld, FitsSide, HasActed, HasActedAt, TakesMemory, most_told};
+ghost use Rattle.x25_world.specs.code.FitsWorld.{FitsWorld, FitsSide, IsStepOf, IsStepOfAct, HasActed, HasActedAt};
+ghost use Rattle.x25_world.specs.code.FitsWorld.{TakesMemory, most_told};
 ghost use Rattle.x25_world.specs.code.ShownWorld.{shown_with};
 
 use crate::error::WorldError;
@@ -38,10 +39,7 @@ pub fn act_at_end(
     out: &mut Step,
     event: Event,
 ) -> Result<(), WorldError>
-    ensures sent { out.new.frames.items ≡ [] }
-    ensures untold { OnErr result (out.new.entries.items ≡ []) }
-    ensures few { vec_len out.new.entries ≤ most_told (event_of event.entry).act }
-    ensures memory { IsErrOf result WorldError.NoMemory → TakesMemory (event_of event.entry).act }
+    ensures step { IsStepOfAct result out.new (event_of event.entry).act }
     ensures places { TakesFew 17 line.old line.new }
     ensures acted { (cfg : Cfg) (w : definition.World) → FitsWorld cfg (shown_with dte.old dce.old line.old) w →
         HasActedAt cfg (shown_with dte.new dce.new line.new)
@@ -63,10 +61,7 @@ fn act(
     out: &mut Step,
     event: Event,
 ) -> Result<(), WorldError>
-    ensures sent { out.new.frames.items ≡ [] }
-    ensures untold { OnErr result (out.new.entries.items ≡ []) }
-    ensures few { vec_len out.new.entries ≤ most_told (event_of event.entry).act }
-    ensures memory { IsErrOf result WorldError.NoMemory → TakesMemory (event_of event.entry).act }
+    ensures step { IsStepOfAct result out.new (event_of event.entry).act }
     ensures places { TakesFew 17 line.old line.new }
     ensures acted { (cfg : Cfg) (w : definition.World) → FitsSide cfg at near.old line.old w →
         HasActed cfg at near.new line.new (entered at (map plain_entry out.new.entries.items)) result w
@@ -92,9 +87,7 @@ fn command(
     cmd: Cmd,
 ) -> Result<(), WorldError>
     requires { IsEmpty out.old }
-    ensures sent { out.new.frames.items ≡ [] }
-    ensures untold { OnErr result (out.new.entries.items ≡ []) }
-    ensures few { vec_len out.new.entries ≤ 3 }
+    ensures step { IsStepOf result out.new 3 }
     ensures places { TakesFew 17 line.old line.new }
     ensures acted { (cfg : Cfg) (w : definition.World) → FitsSide cfg at near.old line.old w →
         HasActed cfg at near.new line.new (entered at (map plain_entry out.new.entries.items)) result w
@@ -114,9 +107,7 @@ fn command(
 #[inline(always)]
 fn deliver(at: Role, near: &mut Station, line: &mut Line, out: &mut Step) -> Result<(), WorldError>
     requires { IsEmpty out.old }
-    ensures sent { out.new.frames.items ≡ [] }
-    ensures untold { OnErr result (out.new.entries.items ≡ []) }
-    ensures few { vec_len out.new.entries ≤ 3 }
+    ensures step { IsStepOf result out.new 3 }
     ensures places { TakesFew 17 line.old line.new }
     ensures acted { (cfg : Cfg) (w : definition.World) → FitsSide cfg at near.old line.old w →
         HasActed cfg at near.new line.new (entered at (map plain_entry out.new.entries.items)) result w
@@ -173,9 +164,7 @@ fn give_back(near: &mut Station, octets: Option<Vec<u8>>)
 #[inline(always)]
 fn fire(at: Role, near: &mut Station, line: &mut Line, out: &mut Step) -> Result<(), WorldError>
     requires { IsEmpty out.old }
-    ensures sent { out.new.frames.items ≡ [] }
-    ensures untold { OnErr result (out.new.entries.items ≡ []) }
-    ensures few { vec_len out.new.entries ≤ 3 }
+    ensures step { IsStepOf result out.new 3 }
     ensures places { TakesFew 17 line.old line.new }
     ensures acted { (cfg : Cfg) (w : definition.World) → FitsSide cfg at near.old line.old w →
         HasActed cfg at near.new line.new (entered at (map plain_entry out.new.entries.items)) result w
@@ -210,9 +199,7 @@ pub fn connect(
     out: &mut Step,
 ) -> Result<(), WorldError>
     requires { IsEmpty out.old }
-    ensures sent { out.new.frames.items ≡ [] }
-    ensures untold { OnErr result (out.new.entries.items ≡ []) }
-    ensures few { vec_len out.new.entries ≤ 3 }
+    ensures step { IsStepOf result out.new 3 }
     ensures places { TakesFew 17 line.old line.new }
     ensures acted { (cfg : Cfg) (w : definition.World) → FitsSide cfg at near.old line.old w →
         HasActed cfg at near.new line.new (entered at (map plain_entry out.new.entries.items)) result w

@@ -1,6 +1,6 @@
-ghost use Rattle.std.specs.Prelude.{◌≡◌, ◌+◌, ◌*◌, ◌≤◌, vec_len, vec_capacity, Bool, None, Some, ℕ, List, [], ◌++◌};
+ghost use Rattle.std.specs.Prelude.{◌≡◌, ◌+◌, ◌*◌, ◌≤◌, vec_len, vec_capacity, Bool, None, Some, ℕ, List, ◌++◌};
 ghost use Rattle.std.specs.Prelude.{drop, length, map, max};
-ghost use Rattle.std.specs.Prelude.{option_copied, slice_get, OnOk, OnErr, IfOk, IfErr, IfSome, IsErrOf};
+ghost use Rattle.std.specs.Prelude.{option_copied, slice_get, OnOk, OnErr, IfOk, IfErr, IfSome};
 ghost use Rattle.x25_station.specs.declared.config.Cfg.{Cfg};
 ghost use Rattle.x25_station.specs.code.FitsStation.{FitsStation};
 ghost use Rattle.x25_circuit.specs.Calling.{Sends};
@@ -9,13 +9,12 @@ ghost use Rattle.x25_station.specs.Command.{Requests};
 ghost use Rattle.x25_station.specs.code.PlainEntry.{plain_entry};
 ghost use Rattle.x25_station.specs.Config.{settings_from, config_refusal};
 ghost use Rattle.x25_station.specs.Station as station;
-ghost use Rattle.x25_bits.specs.HarmlessBits.{IsHarmless};
-ghost use Rattle.x25_world.specs.BitDamage.{bit_damage, RefusesBits};
+ghost use Rattle.x25_world.specs.BitDamage.{bit_damage};
 ghost use Rattle.x25_world.specs.code.PlainTold.{plain_entered};
 ghost use Rattle.x25_world.specs.code.ShownWorld.{line_from, line_of, station_of, TakesFewPlaces};
 ghost use Rattle.x25_world.specs.code.FitsHealing.{Tells, telling};
 ghost use Rattle.x25_world.specs.code.FitsWorld.{FitsWorld, Claims, ClaimsOfNew, ClaimsOfSetUp, and_then, IsRefusal};
-ghost use Rattle.x25_world.specs.code.FitsWorld.{TakesMemory, most_told, RefusesConfig};
+ghost use Rattle.x25_world.specs.code.FitsWorld.{IsStepOfAct, HasActedAt, DamagesBits, RefusesConfig};
 ghost use Rattle.x25_world.specs.World as definition;
 ghost use Rattle.x25_world.specs.World.{AtEnd, entered, tapped, event_of, happens, after, refusal_of, start};
 ghost use Rattle.x25_world.specs.World.{connected, established, Commands};
@@ -177,25 +176,15 @@ impl World {
     /// which refuses no `Lose`. Then the world is as before, and the step is empty.
     #[inline(always)]
     pub fn step(&mut self, event: Event, out: &mut Step) -> Result<(), WorldError>
-        ensures step { (cfg : Cfg) (w : definition.World) → FitsWorld cfg self.old w →
-            OnOk result (FitsWorld cfg self.new (after w (happens cfg w (event_of event.entry)))) }
-        ensures told { (cfg : Cfg) (w : definition.World) → FitsWorld cfg self.old w →
-            OnOk result ((after w (happens cfg w (event_of event.entry))).transcript ≡ w.transcript ++ entered
-            (event_of event.entry).at (map plain_entry out.new.entries.items)) }
-        ensures untold { OnErr result (out.new.entries.items ≡ []) }
-        ensures sent { out.new.frames.items ≡ [] }
+        ensures acted { (cfg : Cfg) (w : definition.World) → FitsWorld cfg self.old w →
+            HasActedAt cfg self.new (entered (event_of event.entry).at (map plain_entry out.new.entries.items)) result
+            w (event_of event.entry) }
+        ensures step { IsStepOfAct result out.new (event_of event.entry).act }
         ensures put { (cfg : Cfg) (w : definition.World) → FitsWorld cfg self.old w →
             (let at = (event_of event.entry).at in
             OnOk result ((after w (happens cfg w (event_of event.entry))).tap ≡ w.tap ++ tapped at (drop (length
             (line_from self.old at)) (line_from self.new at)))) }
         ensures places { TakesFewPlaces self.old self.new }
-        ensures accepted { (cfg : Cfg) (w : definition.World) → FitsWorld cfg self.old w →
-            OnOk result (refusal_of (happens cfg w (event_of event.entry)) ≡ None) }
-        ensures refused { (cfg : Cfg) (w : definition.World) → FitsWorld cfg self.old w →
-            IfErr result (IsRefusal cfg w (event_of event.entry)) }
-        ensures stays { (cfg : Cfg) (w : definition.World) → FitsWorld cfg self.old w →
-            OnErr result (FitsWorld cfg self.new w) }
-        ensures memory { IsErrOf result WorldError.NoMemory → TakesMemory (event_of event.entry).act }
         ensures claims { Claims self.old self.new (λ past. and_then past (event_of event.entry) result) }
     {
         two_stations_keep_order();
@@ -207,22 +196,11 @@ impl World {
     // The step, without the laws of runs.
     #[inline(always)]
     fn happen(&mut self, event: Event, out: &mut Step) -> Result<(), WorldError>
-        ensures step { (cfg : Cfg) (w : definition.World) → FitsWorld cfg self.old w →
-            OnOk result (FitsWorld cfg self.new (after w (happens cfg w (event_of event.entry)))) }
-        ensures told { (cfg : Cfg) (w : definition.World) → FitsWorld cfg self.old w →
-            OnOk result ((after w (happens cfg w (event_of event.entry))).transcript ≡ w.transcript ++ entered
-            (event_of event.entry).at (map plain_entry out.new.entries.items)) }
-        ensures untold { OnErr result (out.new.entries.items ≡ []) }
-        ensures sent { out.new.frames.items ≡ [] }
-        ensures few { vec_len out.new.entries ≤ most_told (event_of event.entry).act }
+        ensures acted { (cfg : Cfg) (w : definition.World) → FitsWorld cfg self.old w →
+            HasActedAt cfg self.new (entered (event_of event.entry).at (map plain_entry out.new.entries.items)) result
+            w (event_of event.entry) }
+        ensures step { IsStepOfAct result out.new (event_of event.entry).act }
         ensures places { TakesFewPlaces self.old self.new }
-        ensures accepted { (cfg : Cfg) (w : definition.World) → FitsWorld cfg self.old w →
-            OnOk result (refusal_of (happens cfg w (event_of event.entry)) ≡ None) }
-        ensures refused { (cfg : Cfg) (w : definition.World) → FitsWorld cfg self.old w →
-            IfErr result (IsRefusal cfg w (event_of event.entry)) }
-        ensures stays { (cfg : Cfg) (w : definition.World) → FitsWorld cfg self.old w →
-            OnErr result (FitsWorld cfg self.new w) }
-        ensures memory { IsErrOf result WorldError.NoMemory → TakesMemory (event_of event.entry).act }
     {
         act_at_end(&mut self.dte, &mut self.dce, &mut self.line, out, event)
     }
@@ -262,16 +240,7 @@ impl World {
         place: usize,
         bits: &Bits,
     ) -> Result<(), WorldError>
-        ensures step { (cfg : Cfg) (w : definition.World) → FitsWorld cfg self.old w →
-            OnOk result (FitsWorld cfg self.new (after w (happens cfg w (bit_damage direction place bits.now)))) }
-        ensures places { TakesFewPlaces self.old self.new }
-        ensures accepted { (cfg : Cfg) (w : definition.World) → FitsWorld cfg self.old w →
-            OnOk result (refusal_of (happens cfg w (bit_damage direction place bits.now)) ≡ None) }
-        ensures harmless { OnOk result (IsHarmless bits.now) }
-        ensures refused { (cfg : Cfg) (w : definition.World) → FitsWorld cfg self.old w →
-            IfErr result (RefusesBits (line_of self.old direction) place bits.now) }
-        ensures stays { (cfg : Cfg) (w : definition.World) → FitsWorld cfg self.old w →
-            OnErr result (FitsWorld cfg self.new w) }
+        ensures damages { DamagesBits self.old self.new result direction place bits.now }
         ensures claims { Claims self.old self.new (λ past. and_then past
             (bit_damage direction place bits.now) result) }
     {
@@ -287,16 +256,7 @@ impl World {
         place: usize,
         bits: &Bits,
     ) -> Result<(), WorldError>
-        ensures step { (cfg : Cfg) (w : definition.World) → FitsWorld cfg self.old w →
-            OnOk result (FitsWorld cfg self.new (after w (happens cfg w (bit_damage direction place bits.now)))) }
-        ensures places { TakesFewPlaces self.old self.new }
-        ensures accepted { (cfg : Cfg) (w : definition.World) → FitsWorld cfg self.old w →
-            OnOk result (refusal_of (happens cfg w (bit_damage direction place bits.now)) ≡ None) }
-        ensures harmless { OnOk result (IsHarmless bits.now) }
-        ensures refused { (cfg : Cfg) (w : definition.World) → FitsWorld cfg self.old w →
-            IfErr result (RefusesBits (line_of self.old direction) place bits.now) }
-        ensures stays { (cfg : Cfg) (w : definition.World) → FitsWorld cfg self.old w →
-            OnErr result (FitsWorld cfg self.new w) }
+        ensures { DamagesBits self.old self.new result direction place bits.now }
     {
         if place >= self.on_line(direction) {
             return Err(WorldError::NoSuchFrame);

@@ -1,7 +1,9 @@
 -- Which states of the definition a circuit stands for, and what its calls mean.
-use Rattle.std.specs.Prelude.{◌≡◌, ℕ, List, [], length, Some, None, Result, Err, IsOkAnd, MatchResult}
+use Rattle.std.specs.Prelude.{◌≡◌, ◌≢◌, ℕ, ◌≤◌, List, [], length, Some, None, Result, Err, IsOkAnd, MatchResult}
+use Rattle.std.specs.Prelude.{OnErr, IfOk, IfErr}
 use Rattle.x25_packet.specs.declared.packet.Packet.{Packet}
 use Rattle.x25_packet.specs.Packet.{PlainPacket, plain, user_data}
+use Rattle.x25_packet.specs.Spelling.{IsInRange}
 use Rattle.x25_circuit.specs.declared.circuit.Circuit as code
 use Rattle.x25_circuit.specs.declared.error.CircuitError.{CircuitError}
 use Rattle.x25_circuit.specs.declared.error.CircuitError.TheVariants as error
@@ -45,6 +47,22 @@ abbrev pub Keeps : {T : Type 0} → Settings → code.Circuit → Result T Circu
 Keeps c v result (Done next packet) =
     MatchResult result (λ _. FitsCircuit c v next × (packet ≡ None)) (λ e. e ≡ error.NoMemory)
 Keeps c v result (Refused e) = result ≡ Err e
+
+-- the counts are as before, and no memory for user data is let go of
+pub record KeepsCounts (old new : code.Circuit) : Type 0 where
+  pub room : room_of old ≤ room_of new
+  pub clears : clears_of new ≡ clears_of old
+  pub resets : resets_of new ≡ resets_of old
+
+-- What is asked is done so, by a packet that can be spelled, or it is refused, and then the circuit is as before. It
+-- takes no memory.
+pub record SendsBy (old new : code.Circuit) (result : Result Packet CircuitError) (said : Settings → Circuit → Outcome)
+    : Type 0 where
+  pub outcome : (c : Settings) (x : Circuit) → FitsCircuit c old x → Sends c new result (said c x)
+  pub range : IfOk result (λ packet. IsInRange 128 (plain packet))
+  pub keeps : KeepsCounts old new
+  pub unchanged : OnErr result (new ≡ old)
+  pub kinds : IfErr result (λ e. e ≢ error.NoMemory)
 
 -- the user data that a packet brings for a message
 abbrev pub user_octets : PlainPacket → List ℕ

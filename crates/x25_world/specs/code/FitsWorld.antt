@@ -1,12 +1,15 @@
 -- The worlds of the definition that a world of the code stands for.
 use Rattle.std.specs.Prelude.{◌≡◌, ℕ, List, [], ◌∷◌, ◌++◌, Option, Some, None, ◌⊎◌, Result, Ok, Err, OnOk, IfErr}
-use Rattle.std.specs.Prelude.{OnErr}
+use Rattle.std.specs.Prelude.{Bool, ◌≤◌, OnErr, IsErrOf, vec_len}
+use Rattle.x25_bits.specs.HarmlessBits.{IsHarmless}
 use Rattle.x25_bits.specs.Role.{other}
+use Rattle.x25_bits.specs.declared.direction.Direction.{Direction}
 use Rattle.x25_bits.specs.declared.role.Role.{Role}
 use Rattle.x25_bits.specs.declared.role.Role.TheVariants.{Dte, Dce}
 use Rattle.x25_station.specs.declared.config.Cfg.{Cfg}
 use Rattle.x25_station.specs.declared.error.StationError.{StationError}
 use Rattle.x25_station.specs.declared.station.Station.{Station}
+use Rattle.x25_station.specs.declared.step.Step.{Step}
 use Rattle.x25_station.specs.Config.{settings_from, config_refusal}
 use Rattle.x25_station.specs.code.FitsStation.{FitsStation}
 use Rattle.x25_world.specs.World.{AtEnd, World, Event, Act, Loses, WorldOutcome, Happened, Declined, happens}
@@ -17,7 +20,8 @@ use Rattle.x25_world.specs.laws.WindowGoes.{StaysInWindow}
 use Rattle.x25_world.specs.laws.SessionClaims.{SessionsKeepOrder}
 use Rattle.x25_world.specs.laws.SessionWindow.{SessionsStayInWindow}
 use Rattle.x25_world.specs.code.ShownLine.{ShownLine, line_to}
-use Rattle.x25_world.specs.code.ShownWorld.{ShownWorld}
+use Rattle.x25_world.specs.BitDamage.{bit_damage, RefusesBits}
+use Rattle.x25_world.specs.code.ShownWorld.{ShownWorld, line_of, TakesFewPlaces}
 use Rattle.x25_world.specs.declared.error.WorldError.{WorldError}
 use Rattle.x25_world.specs.declared.error.WorldError.TheVariants.{BadConfig, NoMemory}
 
@@ -41,6 +45,19 @@ TakesMemory act = Unit {0}
 abbrev pub most_told : Act → ℕ
 most_told (Loses place) = 0
 most_told act = 3
+
+-- ---- the step of a call
+
+-- Its frames are on the line, where it is refused it told nothing, and it told at most so many entries.
+pub record IsStepOf {T : Type 0} (result : Result T WorldError) (out : Step) (most : ℕ) : Type 0 where
+  pub sent : out.frames.items ≡ []
+  pub untold : OnErr result (out.entries.items ≡ [])
+  pub few : vec_len out.entries ≤ most
+
+-- and 70 comes only where this takes memory
+pub record IsStepOfAct {T : Type 0} (result : Result T WorldError) (out : Step) (act : Act) : Type 0 where
+  pub step : IsStepOf result out (most_told act)
+  pub memory : IsErrOf result NoMemory → TakesMemory act
 
 -- ---- a run
 
@@ -162,6 +179,19 @@ pub record HasActedAt (cfg : Cfg) (v : ShownWorld) (told : List AtEnd) (result :
   pub accepted : OnOk result (refusal_of (happens cfg w e) ≡ None)
   pub refused : IfErr result (IsRefusal cfg w e)
   pub stays : OnErr result (FitsWorld cfg v w)
+
+-- These bits come between the flags of a frame, which is damage by octets, or they are refused and nothing changes.
+pub record DamagesBits (old new : ShownWorld) (result : Result (Unit {0}) WorldError) (direction : Direction)
+    (place : ℕ) (bits : List Bool) : Type 0 where
+  pub step : (cfg : Cfg) (w : World) → FitsWorld cfg old w
+      → OnOk result (FitsWorld cfg new (after w (happens cfg w (bit_damage direction place bits))))
+  pub accepted : (cfg : Cfg) (w : World) → FitsWorld cfg old w
+      → OnOk result (refusal_of (happens cfg w (bit_damage direction place bits)) ≡ None)
+  pub harmless : OnOk result (IsHarmless bits)
+  pub refused : (cfg : Cfg) (w : World) → FitsWorld cfg old w
+      → IfErr result (RefusesBits (line_of old direction) place bits)
+  pub stays : (cfg : Cfg) (w : World) → FitsWorld cfg old w → OnErr result (FitsWorld cfg new w)
+  pub places : TakesFewPlaces old new
 
 -- ---- a new world
 

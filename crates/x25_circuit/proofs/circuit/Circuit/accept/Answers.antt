@@ -1,4 +1,4 @@
-use Rattle.std.proofs.Common.{◌≡◌, Option, IfSome, true, sym, refl, subst, ap, None, Some, Err, false, ◌∙◌, lit≤}
+use Rattle.std.proofs.Common.{rules, ◌≡◌, Option, IfSome, true, sym, refl, subst, ap, None, Some, Err, false, ◌∙◌, lit≤}
 use Rattle.std.proofs.lemmas.Result.{err_from_is_err_and}
 use denote.Ref.{Bor}
 use Rattle.x25_packet.specs.Facilities.{IsFacilityField}
@@ -13,40 +13,52 @@ use Rattle.x25_circuit.proofs.TalkLemmas.{no_field}
 use Rattle.x25_circuit.proofs.ParamsLemmas.{field_is_allowed}
 use Rattle.x25_circuit.proofs.circuit.Circuit.accept.Goals as goal
 
-pub returns-in_err-flow-clause-outcome : goal.returns-in_err-flow-clause-outcome
-returns-in_err-flow-clause-outcome c = λ d x fits.
-    let p = err_from_is_err_and c.from_residual.result c.from_residual.ensures.1 in
-    rw (c.in_err-flow.ensures.refused d x fits) (p.1 ∙ ap Err p.2)
+pub returns-in_err-flow : goal.returns-in_err-flow
+returns-in_err-flow c = record {
+  outcome = λ d x fits.
+      let p = err_from_is_err_and c.from_residual.result c.from_residual.ensures.1 in
+      rw (c.in_err-flow.ensures.refused d x fits) (p.1 ∙ ap Err p.2);
+  range = search rules;
+  keeps = search rules;
+  unchanged = search rules;
+  kinds = search rules;
+}
 
-pub returns-in-Some-clause-outcome : goal.returns-in-Some-clause-outcome
-returns-in-Some-clause-outcome c = λ d x fits.
-    let known = c.args.self.now.flow.params in
-    let flow = c.in_ok-flow.ensures.flow ∙ ap (λ (a : Option (Bor Proposal)). params_answered (plain_answer a) known) c.in-Some.is in
-    let may = subst (λ (a : Option (Bor Proposal)). IfSome (plain_answer a) (λ said. may_answer known said.params ≡ true)) c.in-Some.is c.in_ok-flow.ensures.may_answer in
-    rw (
-      c.in-Some.is,
-      accept_at x x.state (Some c.in-Some.answer.now) (sym fits.state ∙ c.in_ok-flow.ensures.arriving),
-      answer_accepts x c.in-Some.answer.now (ap (λ (p : Params). may_answer p c.in-Some.answer.now.params) (sym fits.params) ∙ may),
-    )
-    ((
-      subst (λ (p : Params). FitsCircuit d c.enter.new.self (entered x Open p false)) flow (c.enter.ensures.fits d x fits),
-      rw (c.field_for.ensures, fits.params) refl,
-    ))
+pub returns-in-Some : goal.returns-in-Some
+returns-in-Some c = record {
+  outcome = λ d x fits.
+      let known = c.args.self.now.flow.params in
+      let flow = c.in_ok-flow.ensures.flow ∙ ap (λ (a : Option (Bor Proposal)). params_answered (plain_answer a) known) c.in-Some.is in
+      let may = subst (λ (a : Option (Bor Proposal)). IfSome (plain_answer a) (λ said. may_answer known said.params ≡ true)) c.in-Some.is c.in_ok-flow.ensures.may_answer in
+      rw (
+        c.in-Some.is,
+        accept_at x x.state (Some c.in-Some.answer.now) (sym fits.state ∙ c.in_ok-flow.ensures.arriving),
+        answer_accepts x c.in-Some.answer.now (ap (λ (p : Params). may_answer p c.in-Some.answer.now.params) (sym fits.params) ∙ may),
+      )
+      ((
+        subst (λ (p : Params). FitsCircuit d c.enter.new.self (entered x Open p false)) flow (c.enter.ensures.fits d x fits),
+        rw (c.field_for.ensures, fits.params) refl,
+      ));
+  range =
+      let known = c.args.self.now.flow.params in
+      let flow = c.in_ok-flow.ensures.flow ∙ ap (λ (a : Option (Bor Proposal)). params_answered (plain_answer a) known) c.in-Some.is in (
+        (lit≤ tt, lit≤ tt),
+        subst IsFacilityField (sym c.field_for.ensures)
+            (field_is_allowed known c.in-Some.answer.now (subst (λ (p : Params). may_propose p ≡ true) flow c.in_ok-flow.flow.allowed)),
+      );
+  keeps = search rules;
+  unchanged = search rules;
+  kinds = search rules;
+}
 
-pub returns-in-Some-clause-range : goal.returns-in-Some-clause-range
-returns-in-Some-clause-range c =
-    let known = c.args.self.now.flow.params in
-    let flow = c.in_ok-flow.ensures.flow ∙ ap (λ (a : Option (Bor Proposal)). params_answered (plain_answer a) known) c.in-Some.is in (
-      (lit≤ tt, lit≤ tt),
-      subst IsFacilityField (sym c.field_for.ensures)
-          (field_is_allowed known c.in-Some.answer.now (subst (λ (p : Params). may_propose p ≡ true) flow c.in_ok-flow.flow.allowed)),
-    )
-
-pub returns-in-None-clause-range : goal.returns-in-None-clause-range
-returns-in-None-clause-range c = ((lit≤ tt, lit≤ tt), no_field)
-
-pub returns-in-None-clause-outcome : goal.returns-in-None-clause-outcome
-returns-in-None-clause-outcome c = λ d x fits.
-    let flow = c.in_ok-flow.ensures.flow ∙ ap (λ (a : Option (Bor Proposal)). params_answered (plain_answer a) c.args.self.now.flow.params) c.in-None.is ∙ fits.params in
-    rw (c.in-None.is, accept_at x x.state None (sym fits.state ∙ c.in_ok-flow.ensures.arriving))
-    ((subst (λ (p : Params). FitsCircuit d c.enter.new.self (entered x Open p false)) flow (c.enter.ensures.fits d x fits), refl))
+pub returns-in-None : goal.returns-in-None
+returns-in-None c = record {
+  outcome = λ d x fits.
+      let flow = c.in_ok-flow.ensures.flow ∙ ap (λ (a : Option (Bor Proposal)). params_answered (plain_answer a) c.args.self.now.flow.params) c.in-None.is ∙ fits.params in
+      rw (c.in-None.is, accept_at x x.state None (sym fits.state ∙ c.in_ok-flow.ensures.arriving))
+      ((subst (λ (p : Params). FitsCircuit d c.enter.new.self (entered x Open p false)) flow (c.enter.ensures.fits d x fits), refl));
+  range = ((lit≤ tt, lit≤ tt), no_field);
+  keeps = search rules;
+  unchanged = search rules;
+  kinds = search rules;
+}

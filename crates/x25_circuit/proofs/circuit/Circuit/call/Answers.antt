@@ -1,4 +1,4 @@
-use Rattle.std.proofs.Common.{◌≡◌, refl, Bool, Err, ap, sym, subst, ◌∙◌, lit≤, true}
+use Rattle.std.proofs.Common.{rules, ◌≡◌, refl, Bool, Err, ap, sym, subst, ◌∙◌, lit≤, true}
 use Rattle.std.proofs.lemmas.Result.{err_from_is_err_and}
 use Rattle.x25_packet.specs.Facilities.{IsFacilityField}
 use Rattle.x25_circuit.specs.declared.params.Params.{Params}
@@ -11,27 +11,36 @@ use Rattle.x25_circuit.proofs.TableLemmas.{call_at}
 use Rattle.x25_circuit.proofs.ParamsLemmas.{field_is_allowed}
 use Rattle.x25_circuit.proofs.circuit.Circuit.call.Goals as goal
 
-pub returns-in_err-fields-clause-outcome : goal.returns-in_err-fields-clause-outcome
-returns-in_err-fields-clause-outcome c = λ d x fits.
-    let p = err_from_is_err_and c.from_residual.result c.from_residual.ensures.1 in
-    let says = c.args.proposal.now.says_all in
-    let refused = subst (λ (q : Params). call_in d x x.state c.args.called.now c.args.calling.now c.args.user.now (record { params = q; says_all = says }) ≡ Refused c.in_err-fields.field-0.0)
-    c.params.ensures (c.in_err-fields.ensures.refused d x says fits) in
-    rw (refused) (p.1 ∙ ap Err p.2)
+pub returns-in_err-fields : goal.returns-in_err-fields
+returns-in_err-fields c = record {
+  outcome = λ d x fits.
+      let p = err_from_is_err_and c.from_residual.result c.from_residual.ensures.1 in
+      let says = c.args.proposal.now.says_all in
+      let refused = subst (λ (q : Params). call_in d x x.state c.args.called.now c.args.calling.now c.args.user.now (record { params = q; says_all = says }) ≡ Refused c.in_err-fields.field-0.0)
+      c.params.ensures (c.in_err-fields.ensures.refused d x says fits) in
+      rw (refused) (p.1 ∙ ap Err p.2);
+  range = search rules;
+  keeps = search rules;
+  unchanged = search rules;
+  kinds = search rules;
+}
 
-pub returns-clause-range : goal.returns-clause-range
-returns-clause-range c =
-    let said = c.in_ok-fields.ensures in
-    let allowed = subst (λ (p : Params). may_propose p ≡ true) (said.flow ∙ c.params.ensures) c.in_ok-fields.fields.flow.allowed in
-    ((lit≤ tt, lit≤ tt), said.called_address, said.calling_address, subst IsFacilityField (sym c.field_for.ensures) (field_is_allowed c.default.result c.args.proposal.now allowed), said.short)
-
-pub returns-clause-outcome : goal.returns-clause-outcome
-returns-clause-outcome c = λ d x fits.
-    let said = c.in_ok-fields.ensures in
-    let may = subst (λ (b : Bool). may_call b c.args.called.now c.args.calling.now c.args.user.now c.args.proposal.now.params ≡ true) fits.long_data
-    (subst (λ (p : Params). may_call c.args.self.now.long_data c.args.called.now c.args.calling.now c.args.user.now p ≡ true) c.params.ensures said.may_call) in
-    rw (call_at d x x.state c.args.called.now c.args.calling.now c.args.user.now c.args.proposal.now (sym fits.state ∙ said.free), may)
-    ((
-      subst (λ (p : Params). FitsCircuit d c.enter.new.self (entered x Calling p true)) (said.flow ∙ c.params.ensures) (c.enter.ensures.fits d x fits),
-      rw (said.called, said.calling, c.field_for.ensures, c.default.ensures) refl,
-    ))
+pub returns : goal.returns
+returns c = record {
+  outcome = λ d x fits.
+      let said = c.in_ok-fields.ensures in
+      let may = subst (λ (b : Bool). may_call b c.args.called.now c.args.calling.now c.args.user.now c.args.proposal.now.params ≡ true) fits.long_data
+      (subst (λ (p : Params). may_call c.args.self.now.long_data c.args.called.now c.args.calling.now c.args.user.now p ≡ true) c.params.ensures said.may_call) in
+      rw (call_at d x x.state c.args.called.now c.args.calling.now c.args.user.now c.args.proposal.now (sym fits.state ∙ said.free), may)
+      ((
+        subst (λ (p : Params). FitsCircuit d c.enter.new.self (entered x Calling p true)) (said.flow ∙ c.params.ensures) (c.enter.ensures.fits d x fits),
+        rw (said.called, said.calling, c.field_for.ensures, c.default.ensures) refl,
+      ));
+  range =
+      let said = c.in_ok-fields.ensures in
+      let allowed = subst (λ (p : Params). may_propose p ≡ true) (said.flow ∙ c.params.ensures) c.in_ok-fields.fields.flow.allowed in
+      ((lit≤ tt, lit≤ tt), said.called_address, said.calling_address, subst IsFacilityField (sym c.field_for.ensures) (field_is_allowed c.default.result c.args.proposal.now allowed), said.short);
+  keeps = search rules;
+  unchanged = search rules;
+  kinds = search rules;
+}

@@ -1,4 +1,4 @@
-use Rattle.std.proofs.Common.{ap, false, subst, ◌∙◌}
+use Rattle.std.proofs.Common.{rules, ap, false, subst, ◌∙◌}
 use Rattle.x25_circuit.specs.declared.params.Params.{Params}
 use Rattle.x25_circuit.specs.declared.state.State.TheVariants.{Arriving}
 use Rattle.x25_circuit.specs.Circuit.{entered}
@@ -7,10 +7,15 @@ use Rattle.x25_circuit.specs.Params.{said_in}
 use Rattle.x25_circuit.proofs.TableLemmas.{call_strays}
 use Rattle.x25_circuit.proofs.circuit.Circuit.hear_call.Goals as goal
 
-pub returns-in-Free-clause-next : goal.returns-in-Free-clause-next
-returns-in-Free-clause-next c = λ d x fits.
-    rw c.in-Free.is
-    (subst (λ (p : Params). FitsCircuit d c.enter.new.self (entered x Arriving p false)) (c.said-flow.ensures ∙ ap (λ (p : Params). said_in p c.args.facilities.now) c.usual.ensures) (c.enter.ensures.fits d x fits))
+pub returns-in-Free : goal.returns-in-Free
+returns-in-Free c = record {
+  next = λ d x fits.
+      rw c.in-Free.is
+      (subst (λ (p : Params). FitsCircuit d c.enter.new.self (entered x Arriving p false)) (c.said-flow.ensures ∙ ap (λ (p : Params). said_in p c.args.facilities.now) c.usual.ensures) (c.enter.ensures.fits d x fits));
+  says = search rules;
+  range = search rules;
+  room = search rules;
+}
 
 pub returns-in_default : goal.returns-in_default
 returns-in_default c =

@@ -1,8 +1,14 @@
+use Rattle.std.proofs.Common.{rules}
 use Rattle.x25_circuit.proofs.TableLemmas.{clear_conf_strays}
 use Rattle.x25_circuit.proofs.circuit.Circuit.hear_clear_conf.Goals as goal
 
-pub returns-in-Clearing-clause-next : goal.returns-in-Clearing-clause-next
-returns-in-Clearing-clause-next c = λ d x fits. rw c.in-Clearing.is (c.be_cleared.ensures.fits d x fits)
+pub returns-in-Clearing : goal.returns-in-Clearing
+returns-in-Clearing c = record {
+  next = λ d x fits. rw c.in-Clearing.is (c.be_cleared.ensures.fits d x fits);
+  says = search rules;
+  range = search rules;
+  room = search rules;
+}
 
 pub returns-in_default : goal.returns-in_default
 returns-in_default c =

@@ -1,7 +1,10 @@
+use Rattle.std.proofs.Common.{rules}
 use Rattle.x25_circuit.proofs.circuit.Circuit.hear_interrupt_conf.Goals as goal
 
-pub returns-then-not-self-clause-next : goal.returns-then-not-self-clause-next
-returns-then-not-self-clause-next c = λ d x fits. rw c.if-not-self.true (c.reset_for.ensures.next d x fits)
-
-pub returns-then-not-self-clause-says : goal.returns-then-not-self-clause-says
-returns-then-not-self-clause-says c = λ d x fits. rw c.if-not-self.true (c.reset_for.ensures.says d x fits)
+pub returns-then-not-self : goal.returns-then-not-self
+returns-then-not-self c = record {
+  next = λ d x fits. rw c.if-not-self.true (c.reset_for.ensures.next d x fits);
+  says = λ d x fits. rw c.if-not-self.true (c.reset_for.ensures.says d x fits);
+  range = search rules;
+  room = search rules;
+}

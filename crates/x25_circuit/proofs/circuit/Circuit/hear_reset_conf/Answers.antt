@@ -1,14 +1,22 @@
+use Rattle.std.proofs.Common.{rules}
 use Rattle.x25_circuit.proofs.TableLemmas.{reset_conf_strays}
 use Rattle.x25_circuit.proofs.circuit.Circuit.hear_reset_conf.Goals as goal
 
-pub returns-in-Open-clause-next : goal.returns-in-Open-clause-next
-returns-in-Open-clause-next c = λ d x fits. rw c.in-Open.is (c.reset_for.ensures.next d x fits)
+pub returns-in-Open : goal.returns-in-Open
+returns-in-Open c = record {
+  next = λ d x fits. rw c.in-Open.is (c.reset_for.ensures.next d x fits);
+  says = λ d x fits. rw c.in-Open.is (c.reset_for.ensures.says d x fits);
+  range = search rules;
+  room = search rules;
+}
 
-pub returns-in-Open-clause-says : goal.returns-in-Open-clause-says
-returns-in-Open-clause-says c = λ d x fits. rw c.in-Open.is (c.reset_for.ensures.says d x fits)
-
-pub returns-in-Resetting-clause-next : goal.returns-in-Resetting-clause-next
-returns-in-Resetting-clause-next c = λ d x fits. rw c.in-Resetting.is (c.end_reset.ensures.next d x fits)
+pub returns-in-Resetting : goal.returns-in-Resetting
+returns-in-Resetting c = record {
+  next = λ d x fits. rw c.in-Resetting.is (c.end_reset.ensures.next d x fits);
+  says = search rules;
+  range = search rules;
+  room = search rules;
+}
 
 pub returns-in_default : goal.returns-in_default
 returns-in_default c =

@@ -1,12 +1,14 @@
-use Rattle.std.proofs.Common.{sym}
+use Rattle.std.proofs.Common.{rules, sym}
 use Rattle.x25_circuit.proofs.TableLemmas.{undecoded_clears}
 use Rattle.x25_circuit.proofs.circuit.Circuit.hear_undecoded.Goals as goal
 
-pub returns-in-Open-clause-next : goal.returns-in-Open-clause-next
-returns-in-Open-clause-next c = λ d x fits. rw c.in-Open.is (c.reset_for.ensures.next d x fits)
-
-pub returns-in-Open-clause-says : goal.returns-in-Open-clause-says
-returns-in-Open-clause-says c = λ d x fits. rw (c.in-Open.is, sym c.diagnostic.ensures) (c.reset_for.ensures.says d x fits)
+pub returns-in-Open : goal.returns-in-Open
+returns-in-Open c = record {
+  next = λ d x fits. rw c.in-Open.is (c.reset_for.ensures.next d x fits);
+  says = λ d x fits. rw (c.in-Open.is, sym c.diagnostic.ensures) (c.reset_for.ensures.says d x fits);
+  range = search rules;
+  room = search rules;
+}
 
 pub returns-in_default : goal.returns-in_default
 returns-in_default c =

@@ -1,5 +1,11 @@
-use Rattle.std.proofs.Common.{refl}
+use Rattle.std.proofs.Common.{rules, refl}
 use Rattle.x25_circuit.proofs.circuit.Circuit.interrupt.Goals as goal
 
-pub returns-in-Some-clause-outcome : goal.returns-in-Some-clause-outcome
-returns-in-Some-clause-outcome c = λ d x fits. rw (c.in-Some.ensures.refused d x fits) refl
+pub returns-in-Some : goal.returns-in-Some
+returns-in-Some c = record {
+  outcome = λ d x fits. rw (c.in-Some.ensures.refused d x fits) refl;
+  range = search rules;
+  keeps = search rules;
+  unchanged = search rules;
+  kinds = search rules;
+}

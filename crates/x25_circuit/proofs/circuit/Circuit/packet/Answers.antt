@@ -1,11 +1,16 @@
-use Rattle.std.proofs.Common.{subst}
+use Rattle.std.proofs.Common.{rules, subst}
 use Rattle.x25_circuit.specs.declared.state.State.{State}
 use Rattle.x25_circuit.specs.Hearing.{row_clear}
 use Rattle.x25_circuit.specs.code.FitsCircuit.{FitsCircuit}
 use Rattle.x25_circuit.proofs.circuit.Circuit.packet.Goals as goal
 
-pub returns-in-Clear-clause-next : goal.returns-in-Clear-clause-next
-returns-in-Clear-clause-next c = λ d x fits. rw c.in-Clear.is (subst (λ (s : State). FitsCircuit d c.hear_clear.new.self (row_clear x s c.in-Clear.cause c.in-Clear.diagnostic).next) fits.state (c.hear_clear.ensures.next d x fits))
-
-pub returns-in-Clear-clause-says : goal.returns-in-Clear-clause-says
-returns-in-Clear-clause-says c = λ d x fits. rw (c.in-Clear.is, ← fits.state) (c.hear_clear.ensures.says d x fits)
+pub returns-in-Clear : goal.returns-in-Clear
+returns-in-Clear c = record {
+  next = λ d x fits. rw c.in-Clear.is (subst (λ (s : State). FitsCircuit d c.hear_clear.new.self (row_clear x s c.in-Clear.cause c.in-Clear.diagnostic).next) fits.state (c.hear_clear.ensures.next d x fits));
+  says = λ d x fits. rw (c.in-Clear.is, ← fits.state) (c.hear_clear.ensures.says d x fits);
+  range = search rules;
+  err = search rules;
+  missing = search rules;
+  unchanged = search rules;
+  room = search rules;
+}

@@ -1,13 +1,25 @@
-use Rattle.std.proofs.Common.{sym, ap, ◌∙◌, Some, refl}
+use Rattle.std.proofs.Common.{rules, sym, ap, ◌∙◌, Some, refl}
 use Rattle.x25_circuit.specs.Circuit.{outgoing}
 use Rattle.x25_circuit.proofs.TalkLemmas.{with_transfer, own_fits}
 use Rattle.x25_circuit.proofs.TableLemmas.{ready_at}
 use Rattle.x25_circuit.proofs.circuit.Circuit.say.Goals as goal
 
-pub returns-in-Some-clause-outcome : goal.returns-in-Some-clause-outcome
-returns-in-Some-clause-outcome c = λ d x fits. rw (c.in-Some.ensures.no_ready d x c.args.is_ready fits) refl
+pub returns-in-Some : goal.returns-in-Some
+returns-in-Some c = record {
+  outcome = λ d x fits. rw (c.in-Some.ensures.no_ready d x c.args.is_ready fits) refl;
+  range = search rules;
+  keeps = search rules;
+  unchanged = search rules;
+  kinds = search rules;
+}
 
-pub returns-clause-outcome : goal.returns-clause-outcome
-returns-clause-outcome c = λ d x fits.
-    let now = with_transfer d c.args.self.now x _ _ fits (own_fits (outgoing x).size c.args.self.now.transfer x.talk c.args.is_ready fits.talk) in
-    rw (ready_at x x.state c.args.is_ready (sym fits.state ∙ c.in_default.ensures.open)) ((now, ap Some (sym (c.packet.ensures.value ∙ c.status.ensures.value d _ now))))
+pub returns : goal.returns
+returns c = record {
+  outcome = λ d x fits.
+      let now = with_transfer d c.args.self.now x _ _ fits (own_fits (outgoing x).size c.args.self.now.transfer x.talk c.args.is_ready fits.talk) in
+      rw (ready_at x x.state c.args.is_ready (sym fits.state ∙ c.in_default.ensures.open)) ((now, ap Some (sym (c.packet.ensures.value ∙ c.status.ensures.value d _ now))));
+  range = search rules;
+  keeps = search rules;
+  unchanged = search rules;
+  kinds = search rules;
+}

@@ -10,19 +10,17 @@ pub returns-in-Ok-clause-turns : goal.returns-in-Ok-clause-turns
 unfolding event_turn
 returns-in-Ok-clause-turns g c = λ cfg tap old w told refused h.
     let o = happens cfg w (event_of c.args.event) in
-    let fits = c.in-Ok.ensures.step cfg w h.fits in
-    let entries = c.in-Ok.ensures.told cfg w h.fits in
+    let acted = c.in-Ok.ensures.acted cfg w h.fits in
     let put = c.in-Ok.ensures.put cfg w h.fits in
-    let accepted = c.in-Ok.ensures.accepted cfg w h.fits in
-    let stands = subst (λ v. FitsWorld cfg v (after w o)) (sym c.tell_step.ensures.world) fits in
+    let stands = subst (λ v. FitsWorld cfg v (after w o)) (sym c.tell_step.ensures.world) acted.happened in
     MatchResult-weaker c.tell_step.result
-    (c.tell_step.ensures.tells old told w (after w o) (rw c.at-at.ensures entries) (rw (c.sent-before.ensures, c.at-at.ensures) put) h.tells)
-    (λ _ told_all. stands_moved cfg tap old _ _ c.args.self.now c.tell_step.new.self w o told refused h accepted stands c.tell_step.ensures.tap c.tell_step.ensures.is_refused told_all)
-    (λ _ begins. begins_moved cfg tap old _ _ c.args.self.now c.tell_step.new.self w o told refused h accepted begins)
+    (c.tell_step.ensures.tells old told w (after w o) (rw c.at-at.ensures acted.tells) (rw (c.sent-before.ensures, c.at-at.ensures) put) h.tells)
+    (λ _ told_all. stands_moved cfg tap old _ _ c.args.self.now c.tell_step.new.self w o told refused h acted.accepted stands c.tell_step.ensures.tap c.tell_step.ensures.is_refused told_all)
+    (λ _ begins. begins_moved cfg tap old _ _ c.args.self.now c.tell_step.new.self w o told refused h acted.accepted begins)
 
 pub returns-in-Err-clause-turns : goal.returns-in-Err-clause-turns
 unfolding event_turn
 returns-in-Err-clause-turns g c = λ cfg tap old w told refused h.
     c.refuse.ensures.stood cfg tap old w (happens cfg w (event_of c.args.event)) told refused
-    (record { fits = c.in-Err.ensures.stays cfg w h.fits; asked = h.asked; tells = h.tells; status = h.status })
-    (c.in-Err.ensures.refused cfg w h.fits)
+    (record { fits = (c.in-Err.ensures.acted cfg w h.fits).stays; asked = h.asked; tells = h.tells; status = h.status })
+    (c.in-Err.ensures.acted cfg w h.fits).refused
