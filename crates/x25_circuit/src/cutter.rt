@@ -69,14 +69,11 @@ impl Cutter {
     pub fn load(&mut self, message: Message)
         ensures { self.new.left ≡ message ∷ [] }
     {
-        *self = Cutter {
-            q: message.q,
-            user: message.user.into_vec(),
-            lent: 0,
-            start: 0,
-            is_cut: false,
-            alloc: self.alloc,
-        };
+        self.q = message.q;
+        self.user = message.user.into_vec();
+        self.lent = 0;
+        self.start = 0;
+        self.is_cut = false;
     }
 
     /// Drops what is left.
