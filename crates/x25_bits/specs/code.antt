@@ -9,3 +9,4 @@ pub mod Reading
 pub mod Calls
 pub mod Prefix
 pub mod Register
+pub mod Pool

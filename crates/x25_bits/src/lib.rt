@@ -8,7 +8,6 @@ mod direction;
 mod found;
 mod frame_check;
 mod frame_check_table;
-mod frame_memory;
 mod harmless_bits;
 mod idling;
 mod kept;
@@ -18,6 +17,8 @@ mod no_memory;
 mod octet_table;
 mod octets;
 mod passing;
+mod pool;
+mod promise;
 mod role;
 mod scan;
 mod seq;
@@ -31,7 +32,6 @@ pub use deframer::Deframer;
 pub use direction::Direction;
 pub use found::{Found, Span};
 pub use frame_check::{check, fcs, seal};
-pub use frame_memory::Blanks;
 pub use harmless_bits::{first_content, harmless};
 pub use laws::{
     calls_find_all, content_stuffs_again, cuts_agree, flag_parts, harmless_bits_lose_a_frame,
@@ -40,6 +40,8 @@ pub use laws::{
 pub use line_octets::put_octets;
 pub use no_memory::NoMemory;
 pub use octets::Octets;
+pub use pool::Pool;
+pub use promise::Promise;
 pub use role::Role;
 pub use seq::Seq;
 pub use stuffing::put;

@@ -4,8 +4,6 @@
 #[cfg(test)]
 mod deframing;
 #[cfg(test)]
-mod frame_memory;
-#[cfg(test)]
 mod harmless_bits;
 #[cfg(test)]
 mod idle_lines;
@@ -17,6 +15,10 @@ mod numbers;
 mod octets;
 #[cfg(test)]
 mod octets_of_a_line;
+#[cfg(test)]
+mod pool;
+#[cfg(test)]
+mod promise;
 #[cfg(test)]
 mod sealing;
 #[cfg(test)]

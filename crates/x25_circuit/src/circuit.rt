@@ -34,7 +34,7 @@ pub struct Circuit {
 }
 
 impl Circuit {
-    ghost use Rattle.x25_circuit.specs.code.FitsCircuit.{FitsCircuit, KeepsCounts};
+    ghost use Rattle.x25_circuit.specs.code.FitsCircuit.{FitsCircuit, KeepsCounts, kept_of};
     ghost use Rattle.x25_circuit.specs.code.FitsCircuit.{room_of, clears_of, resets_of, waits_of};
 
     /// A channel that was never used: p1. With `long_data` a call has at most 128 octets of user data (profile), else
@@ -154,6 +154,7 @@ impl Circuit {
     /// How many octets of memory are kept for the message of which some packets came: for these octets, and for those
     /// for which memory is set aside. They are 69,631 at most, those of the longest message and of one packet more.
     pub fn octets_kept(&self) -> usize
+        ensures value { result ≡ kept_of self.now }
         ensures least { (c : Settings) (x : Channel) → FitsCircuit c self.now x
             → length (joining no_part x.talk.taken).user + room_of self.now ≤ result }
         ensures most { result ≤ 69631 }
@@ -181,12 +182,12 @@ impl Circuit {
         Ok(())
     }
 
-    /// Takes the memory of a message back, for one that comes or is sent later. It is let go of where it is for more
-    /// than 4,096 octets, and where two are kept. The circuit is as before.
-    pub fn give_back(&mut self, memory: Vec<u8>)
+    /// Keeps the memory of a message that was read, for one that comes or is sent later. It is let go of where it is
+    /// for more than 4,096 octets, and where two are kept. The circuit is as before.
+    pub fn keep(&mut self, memory: Vec<u8>)
         ensures { self.new ≡ self.old }
     {
-        self.transfer.partial.give_back(memory);
+        self.transfer.partial.keep(memory);
     }
 
     /// Goes to this state, with these packet sizes and windows, and nothing kept.

@@ -7,13 +7,14 @@ use crate::octets::{LONGEST_MESSAGE, Octets};
 use std::alloc::{AllocError, Global};
 use std::marker::Model;
 use std::mem;
-use x25_bits::Blanks;
+use x25_bits::Pool;
 
 /// The most octets of user data in a data packet.
 const LONGEST_DATA: usize = 4096;
 
-/// The most buffers that were given back and stay: for the message that comes next, and for one that is sent beside it.
-const MOST_SPARE: usize = 2;
+/// The most buffers of messages that were read that are kept: for the message that comes next, and for one that is sent
+/// beside it.
+const MOST_READ: usize = 2;
 
 /// The message of which some packets were taken: its qualifier, where it has begun, and its octets so far.
 #[derive(Drop)]
@@ -23,8 +24,8 @@ pub struct PartialMessage {
     places: Vec<u8>,
     /// How many octets have come.
     filled: usize,
-    /// Memory of messages that was given back.
-    spare: Blanks<LONGEST_DATA, MOST_SPARE>,
+    /// Memory of messages that were read.
+    read: Pool<LONGEST_DATA, MOST_READ>,
     alloc: Global,
 }
 
@@ -37,6 +38,7 @@ impl Model for PartialMessage {
     ghost view = { λ p. record {
       part = record { begun = p.begun; user = take p.filled p.places.items };
       room = vec_len p.places - p.filled;
+      kept = vec_capacity p.places;
     } };
 
     ghost invariant = { λ p. (p.filled ≤ vec_len p.places) × (p.filled ≤ 65535) × (vec_capacity p.places ≤ 69631) };
@@ -67,7 +69,7 @@ impl PartialMessage {
             begun: None,
             places: Vec::new(alloc),
             filled: 0,
-            spare: Blanks::new(alloc),
+            read: Pool::new(alloc),
             alloc,
         }
     }
@@ -82,6 +84,7 @@ impl PartialMessage {
 
     /// How many octets of memory are kept: for those that have come, and for further ones.
     pub fn octets_kept(&self) -> usize
+        ensures value { result ≡ self.now.kept }
         ensures least { length self.now.part.user + self.now.room ≤ result }
         ensures most { result ≤ 69631 }
     {
@@ -214,22 +217,22 @@ impl PartialMessage {
         Some(octets)
     }
 
-    /// Takes memory of a message back, for a later one. It is let go of where it is for more than 4,096 octets, and
-    /// where two are kept.
-    pub fn give_back(&mut self, memory: Vec<u8>)
+    /// Keeps memory of a message that was read, for a later one. It is let go of where it is for more than 4,096
+    /// octets, and where two are kept.
+    pub fn keep(&mut self, memory: Vec<u8>)
         ensures { self.new ≡ self.old }
     {
-        self.spare.give_back(memory);
+        self.read.keep(memory);
     }
 
-    /// Memory for a message of so many octets: some that was given back, or else new. Err: no memory.
+    /// Memory for a message of so many octets: that of one that was read, or else new. Err: no memory.
     pub fn memory(&mut self, count: usize) -> Result<Vec<u8>, AllocError>
         ensures same { self.new ≡ self.old }
         ensures empty { IfOk result (λ memory. memory.items ≡ []) }
         ensures room { IfOk result (λ memory. count ≤ vec_capacity memory) }
         ensures most { IfOk result (λ memory. vec_capacity memory ≤ max count 4096) }
     {
-        match self.spare.again(count) {
+        match self.read.take(count) {
             Some(memory) => Ok(memory),
             None => Vec::with_capacity(self.alloc, count),
         }

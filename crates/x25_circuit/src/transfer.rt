@@ -156,7 +156,7 @@ impl Transfer {
         Ok(())
     }
 
-    // Memory for a message of so many octets: that of one that was cut to its end or given back, or else new.
+    // Memory for a message of so many octets: that of one that was cut to its end or read, or else new.
     fn memory(&mut self, count: usize) -> Result<Vec<u8>, AllocError>
         ensures others { self.new ≡ record self.old { queue = self.new.queue } }
         ensures waiting { waiting self.new.queue ≡ waiting self.old.queue }

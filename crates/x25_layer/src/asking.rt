@@ -157,25 +157,25 @@ impl Layer {
         Ok(())
     }
 
-    /// Takes the memory of a message back, for one of this channel that comes or is sent later. It is let go of where
-    /// the channel isn't configured, where it is for more than 4,096 octets, and where two of the channel are kept. The
-    /// layer is as before.
-    pub fn give_back(&mut self, channel: u16, memory: Vec<u8>)
+    /// Keeps the memory of a message that was read, for one of this channel that comes or is sent later. It is let go
+    /// of where the channel isn't configured, where it is for more than 4,096 octets, and where two of the channel are
+    /// kept. The layer is as before.
+    pub fn keep(&mut self, channel: u16, memory: Vec<u8>)
         ensures layer { FitsStill self.old self.new }
         ensures aside { self.new.memory ≡ self.old.memory }
     {
         if self.circuit(channel).is_some() {
-            self.give_back_on(channel, memory);
+            self.keep_on(channel, memory);
         }
     }
 
-    // Takes it back for a configured channel.
-    fn give_back_on(&mut self, channel: u16, memory: Vec<u8>)
+    // Keeps it for a configured channel.
+    fn keep_on(&mut self, channel: u16, memory: Vec<u8>)
         requires { is_channel (length self.old.circuits.items) channel ≡ true }
         ensures layer { FitsStill self.old self.new }
         ensures aside { self.new.memory ≡ self.old.memory }
     {
         let place = usize::from(channel) - 1;
-        self.circuits[place].give_back(memory);
+        self.circuits[place].keep(memory);
     }
 }

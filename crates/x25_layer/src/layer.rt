@@ -1,5 +1,5 @@
-ghost use Rattle.std.specs.Prelude.{◌≡◌, ℕ, ◌-◌, ◌^◌, ◌<◌, ◌≤◌, ◌↔◌, length, max, true, false, IfOk, IfErr, IfSome};
-ghost use Rattle.std.specs.Prelude.{IfNone, IsErrOf};
+ghost use Rattle.std.specs.Prelude.{◌≡◌, ℕ, ◌-◌, ◌^◌, ◌<◌, ◌≤◌, ◌↔◌, length, true, false, Some, IfOk, IfErr, IfSome};
+ghost use Rattle.std.specs.Prelude.{IfNone, IsErrOf, slice_get};
 ghost use Rattle.x25_layer.specs.code.Counts.{HaveCountsLeft};
 ghost use Rattle.x25_layer.specs.code.Waiting.{NoneWaits};
 
@@ -8,7 +8,7 @@ use crate::error::LayerError;
 use crate::putting::PacketMemory;
 use crate::stretch::Stretch;
 use std::alloc::Global;
-use x25_bits::{Blanks, Role};
+use x25_bits::{Promise, Role};
 use x25_circuit::{Circuit, Params};
 
 /// The most channels of a layer (profile).
@@ -46,7 +46,7 @@ impl Layer {
     ghost use Rattle.x25_layer.specs.Layer.{Layer as State};
     ghost use Rattle.x25_layer.specs.Room.{HasRoom};
     ghost use Rattle.x25_layer.specs.code.FitsLayer.{FitsLayer, plain_stretch, name_at, params_at, is_open_at};
-    ghost use Rattle.x25_layer.specs.code.FitsLayer.{waits_up_to, is_full};
+    ghost use Rattle.x25_layer.specs.code.FitsLayer.{waits_up_to, is_full, KeepsOn};
     ghost use Rattle.x25_layer.specs.Layer.InPart.{joined_at};
 
     /// The layer of an end whose link isn't up, with so many channels, 1 to 16. With `long_data` a call has at most 128
@@ -77,7 +77,7 @@ impl Layer {
             circuits,
             quiet: false,
             counts_left: false,
-            memory: Blanks::new(alloc),
+            memory: Promise::new(alloc),
         })
     }
 
@@ -142,6 +142,7 @@ impl Layer {
     /// and for those for which `room` set memory aside. They are 69,631 at most, those of the longest message and of
     /// one packet more; 0 where the channel isn't configured.
     pub fn octets_kept(&self, channel: u16) -> usize
+        ensures value { KeepsOn self.now channel result }
         ensures least { (c : LayerSettings) (l : State) → FitsLayer c self.now l → joined_at c l channel ≤ result }
         ensures most { result ≤ 69631 }
     {
@@ -151,13 +152,13 @@ impl Layer {
         }
     }
 
-    /// How many buffers of the longest packet, of 4,099 octets each, are kept: 16 at most, or as many as memory is set
-    /// aside for. They are used where memory for a packet is refused.
+    /// How many buffers of the longest packet, of 4,099 octets each, are kept: as many at least as memory is set aside
+    /// for, and 16 at most. They are used where memory for a packet is refused.
     pub fn blanks(&self) -> usize
         ensures least { self.now.memory ≤ result }
-        ensures most { result ≤ max self.now.memory 16 }
+        ensures most { result ≤ 16 }
     {
-        self.memory.kept()
+        self.memory.blanks()
     }
 
     /// Drops everything, at LinkDown: no restart is under way, and all channels are in p1. The counts are as they were,
@@ -177,6 +178,7 @@ impl Layer {
     pub(crate) fn circuit(&self, channel: u16) -> Option<&Circuit>
         ensures fits { (c : LayerSettings) (l : State) → FitsLayer c self.now l
             → IfSome result (λ circuit. FitsCircuit c.circuit circuit.now (l.circuits channel)) }
+        ensures is { IfSome result (λ circuit. slice_get self.now.circuits.items (channel - 1) ≡ Some circuit.now) }
         ensures some { IfSome result (λ circuit. is_channel (length self.now.circuits.items) channel ≡ true) }
         ensures none { IfNone result (is_channel (length self.now.circuits.items) channel ≡ false) }
     {

@@ -10,15 +10,15 @@ ghost use Rattle.x25_packet.specs.Spelling.{IsInRange, spelling_of};
 
 use crate::error::LayerError;
 use crate::layer::Layer;
-use x25_bits::Blanks;
+use x25_bits::Promise;
 use x25_link::{N1, OrderedLink};
 use x25_packet::{Packet, encode};
 
 /// The most packets that a call puts: its own, and the data packets pulled behind it.
 pub(crate) const MOST_PUT: usize = 16;
 
-/// Memory for packets that are put. No more blanks are kept than a call puts, or than are promised.
-pub(crate) type PacketMemory = Blanks<N1, MOST_PUT>;
+/// Memory for packets that are put.
+pub(crate) type PacketMemory = Promise<N1, MOST_PUT>;
 
 impl Layer {
     /// Sets memory aside, here and in the link, for so many packets.
@@ -117,7 +117,11 @@ fn packet_memory<L: OrderedLink>(memory: &mut PacketMemory, link: &mut L, most: 
     ensures room { most ≤ vec_capacity result }
     ensures few { vec_capacity result ≤ 4099 }
     ensures fewer { memory.new + 1 ≡ memory.old }
-    ensures link { link.new ≡ link.old }
+    ensures link { (x : L.State) → L.fits link.old x → L.fits link.new x }
+    ensures spares { L.spares link.new ≡ L.spares link.old }
+    ensures longest { L.longest link.new ≡ L.longest link.old }
+    ensures up { L.up link.new ≡ L.up link.old }
+    ensures waits { L.waits link.new ≡ L.waits link.old }
 {
     match link.spent_memory(most) {
         Some(octets) => {

@@ -8,6 +8,7 @@ ghost use Rattle.x25_link.specs.Link.{connect_step, disconnect_refusal, disconne
 ghost use Rattle.x25_link.specs.Link.{timer_step, abandon_step, is_idle};
 ghost use Rattle.x25_link.specs.Error.{RefusesPut};
 ghost use Rattle.x25_link.specs.code.FitsLink.{FitsLink, Does, limit_of, up_of, waiting_of};
+ghost use Rattle.x25_link.specs.code.Outbox.{IsEmpty, KeepsOne};
 ghost use Rattle.x25_link.specs.declared.phase.Phase.TheVariants.{Down};
 
 mod in_order;
@@ -56,7 +57,7 @@ impl Link {
     pub fn new(alloc: Global, role: Role, k: u8, n1: usize, n2: u8) -> Result<Link, LinkError>
         ensures state { IfOk result (λ l. FitsLink (record { role = role; window = k; longest = n1; retries = n2 }) l
             (with_nothing Down 0)) }
-        ensures none_kept { IfOk result (λ l. l.outbox ≡ record { made = []; places = 0; long = 0; short = 0 }) }
+        ensures none_kept { IfOk result (λ l. IsEmpty l.outbox) }
         ensures refused { Refuses (config_refusal k n1 n2) result }
     {
         if k < 1 || k > FRAMES || n1 < 1 || n1 > N1 || n2 < 1 {
@@ -101,16 +102,15 @@ impl Link {
 
     /// Takes octets, frame check sequence included, and does what they ask for by the must-send table and the phases.
     ///
-    /// 70 alone.
+    /// 70 alone, as where memory is set aside for more than 25 calls of `put`: a call takes that of 7 I frames more,
+    /// and there is memory for 32.
     pub fn take<'a>(&mut self, octets: &'a [u8]) -> Result<Heard<'a>, LinkError>
         ensures does { Does self.old self.new result (λ s. None) (λ c s. take_step c octets.now s) }
         ensures refused { IfErr result (λ e. e ≡ LinkError.NoMemory) }
     {
         let promised = self.outbox.long();
         let window = self.station.outgoing.window() as usize;
-        let Some(long) = promised.checked_add(window) else {
-            return Err(LinkError::NoMemory);
-        };
+        let long = promised + window;
         self.outbox.reserve(long, SHORT_FRAMES)?;
         let heard = self.station.hear(octets, &mut self.outbox);
         self.outbox.limit(promised);
@@ -163,6 +163,7 @@ impl Link {
           places = vec_capacity frames.old;
           long = 0;
           short = 0;
+          sent = self.old.outbox.sent;
         } }
         ensures station { self.new.station ≡ self.old.station }
     {
@@ -197,31 +198,33 @@ impl Link {
         self.station.outgoing.first()
     }
 
-    /// How many buffers of the longest frame, of 4,103 octets each, are kept: 32 at most, or as many as memory is set
-    /// aside for. They are used where memory for a frame is refused.
+    /// How many buffers of the longest frame, of 4,103 octets each, are kept: as many at least as memory is set aside
+    /// for, and 32 at most. They are used where memory for a frame is refused.
     pub fn blanks(&self) -> usize
         ensures least { self.now.outbox.long ≤ result }
-        ensures most { result ≤ max self.now.outbox.long 32 }
+        ensures most { result ≤ 32 }
     {
         self.outbox.blanks()
     }
 
-    /// How many buffers are kept that were given back, of at most 4,103 octets each: 32 at most. They are used for
+    /// How many buffers of frames that were sent are kept, of at most 4,103 octets each: 32 at most. They are used for
     /// frames that are sent later.
-    pub fn returned(&self) -> usize
-        ensures { result ≤ 32 }
+    pub fn kept(&self) -> usize
+        ensures value { result ≡ self.now.outbox.sent.kept }
+        ensures few { result ≤ 32 }
     {
-        self.outbox.returned()
+        self.outbox.kept()
     }
 
-    /// Takes the memory of a frame back, of this link or of another, for one that is sent later. The link is as before.
+    /// Keeps the memory of a frame that was sent, of this link or of another, for a later one. The link is as before.
     ///
     /// It is let go of where it is for more than 4,103 octets, and where 32 are kept.
     #[inline(always)]
-    pub fn give_back(&mut self, octets: Vec<u8>)
-        ensures { self.new ≡ self.old }
+    pub fn keep(&mut self, octets: Vec<u8>)
+        ensures station { self.new.station ≡ self.old.station }
+        ensures kept { KeepsOne self.old.outbox self.new.outbox (vec_capacity octets) }
     {
-        self.outbox.give_back(octets);
+        self.outbox.keep(octets);
     }
 
     // Hands a packet down, and keeps the frames.

@@ -60,7 +60,7 @@ pub trait OrderedLink {
     /// Sets memory aside for at least so many calls of `put`, and for no more than these or those before. It changes
     /// nothing else.
     ///
-    /// Refused with 70 alone, and only where memory is set aside for fewer.
+    /// Refused with 70 alone, and only where memory is set aside for fewer: also where the link has memory for fewer.
     fn room(&mut self, count: usize) -> Result<(), LinkError>
         ensures enough { OnOk result (count ≤ spares self.new) }
         ensures no_fewer { spares self.old ≤ spares self.new }
@@ -76,7 +76,11 @@ pub trait OrderedLink {
     /// Memory of a packet that is no longer kept, for one of so many octets and for 4,099 at most, where there is some.
     /// The link is as before.
     fn spent_memory(&mut self, length: usize) -> Option<Vec<u8>>
-        ensures same { self.new ≡ self.old }
+        ensures state { (x : State) → fits self.old x → fits self.new x }
+        ensures spares_stay { spares self.new ≡ spares self.old }
+        ensures longest_stays { longest self.new ≡ longest self.old }
+        ensures waits_stays { waits self.new ≡ waits self.old }
+        ensures up_stays { up self.new ≡ up self.old }
         ensures empty { IfSome result (λ octets. octets.items ≡ []) }
         ensures room { IfSome result (λ octets. length ≤ vec_capacity octets) }
         ensures few { IfSome result (λ octets. vec_capacity octets ≤ 4099) };

@@ -2,12 +2,12 @@ ghost use Rattle.std.specs.Prelude.{◌≡◌, ℕ, ◌+◌, ◌-◌, ◌<◌, �
 ghost use Rattle.std.specs.Prelude.{vec_len, vec_capacity, true, false, OnOk, OnErr};
 ghost use Rattle.x25_frame.specs.Frame.{plain, info};
 ghost use Rattle.x25_frame.specs.Spelling.{spelling_of, information_of};
-ghost use Rattle.x25_link.specs.code.Outbox.{ShownOutbox};
+ghost use Rattle.x25_link.specs.code.Outbox.{ShownOutbox, IsEmpty, KeepsOne};
 
 use std::alloc::{AllocError, Global};
 use std::marker::Model;
 use std::mem;
-use x25_bits::{Blanks, Role, Seq};
+use x25_bits::{Pool, Promise, Role, Seq};
 use x25_frame::{Frame, encode};
 
 /// The most octets of a frame: those of a packet, address, control and frame check sequence.
@@ -16,25 +16,32 @@ const LONGEST_FRAME: usize = 4103;
 /// The most octets of a frame that carries no packet: those of FRMR.
 const SHORT_FRAME: usize = 7;
 
-/// The most buffers for I frames that stay where no memory is promised. A packet layer sets memory aside for 16
-/// packets, and beside it a call takes that of 7 I frames.
+/// The most I frames that memory is promised for. A packet layer sets memory aside for 16 packets, and beside it a call
+/// takes that of 7 I frames.
 const MOST_LONG: usize = 32;
 
-/// The most buffers for other frames that stay where no memory is promised: so many one call sends.
+/// The most other frames that memory is promised for: so many one call sends.
 const MOST_SHORT: usize = 2;
+
+/// The most buffers of frames that were sent that are kept.
+const MOST_KEPT: usize = 32;
+
+/// Memory of frames that were sent.
+type FrameMemory = Pool<LONGEST_FRAME, MOST_KEPT>;
 
 /// The octets of a frame beside its information: address, control and frame check sequence.
 const FRAME_OVERHEAD: usize = 4;
 
 /// Frames that were made, in order, and memory for further ones.
 ///
-/// Memory for I frames and for other frames is set aside apart. A frame that is handed out carries memory that was
-/// given back, or else memory of its own length, wherever that is to be had when it is made.
+/// Memory for I frames and for other frames is promised apart. A frame that is handed out carries memory that was kept
+/// of one that was sent, or else memory of its own length, wherever that is to be had when it is made.
 #[derive(Drop)]
 pub struct Outbox {
     made: Vec<Vec<u8>>,
-    long: Blanks<LONGEST_FRAME, MOST_LONG>,
-    short: Blanks<SHORT_FRAME, MOST_SHORT>,
+    long: Promise<LONGEST_FRAME, MOST_LONG>,
+    short: Promise<SHORT_FRAME, MOST_SHORT>,
+    sent: FrameMemory,
 }
 
 impl Model for Outbox {
@@ -48,26 +55,29 @@ impl Model for Outbox {
       places = vec_capacity o.made;
       long = o.long;
       short = o.short;
+      sent = o.sent;
     } };
 
     ghost invariant = { λ o. vec_len o.made + (o.long + o.short) ≤ vec_capacity o.made };
 }
 
 impl Outbox {
-    /// No frame is made, and no memory set aside.
+    /// No frame is made, and no memory promised or kept.
     pub fn new(alloc: Global) -> Outbox
-        ensures { result ≡ record { made = []; places = 0; long = 0; short = 0 } }
+        ensures { IsEmpty result }
     {
         Outbox {
             made: Vec::new(alloc),
-            long: Blanks::new(alloc),
-            short: Blanks::new(alloc),
+            long: Promise::new(alloc),
+            short: Promise::new(alloc),
+            sent: Pool::new(alloc),
         }
     }
 
     /// For how many I frames memory is set aside.
     pub fn long(&self) -> usize
-        ensures { result ≡ self.now.long }
+        ensures value { result ≡ self.now.long }
+        ensures few { result ≤ 32 }
     {
         self.long.promised()
     }
@@ -75,16 +85,17 @@ impl Outbox {
     /// How many buffers of the longest frame are kept.
     pub fn blanks(&self) -> usize
         ensures least { self.now.long ≤ result }
-        ensures most { result ≤ max self.now.long 32 }
+        ensures most { result ≤ 32 }
     {
-        self.long.kept()
+        self.long.blanks()
     }
 
-    /// How many buffers are kept that were given back, each of at most 4,103 octets.
-    pub fn returned(&self) -> usize
-        ensures { result ≤ 32 }
+    /// How many buffers of frames that were sent are kept, each of at most 4,103 octets.
+    pub fn kept(&self) -> usize
+        ensures value { result ≡ self.now.sent.kept }
+        ensures few { result ≤ 32 }
     {
-        self.long.returned()
+        self.sent.kept()
     }
 
     /// Sets memory aside for at least so many I frames and other frames. Err: no memory for more than was set aside; as
@@ -94,6 +105,7 @@ impl Outbox {
         ensures made { self.new.made ≡ self.old.made }
         ensures places { self.new.places ≤ max self.old.places
             (length self.old.made + (max self.old.long long + max self.old.short short)) }
+        ensures sent { self.new.sent ≡ self.old.sent }
         ensures long { OnOk result (self.new.long ≡ max self.old.long long) }
         ensures short { OnOk result (self.new.short ≡ max self.old.short short) }
         ensures missing { OnErr result ((self.old.long < long) ⊎ (self.old.short < short)) }
@@ -110,6 +122,7 @@ impl Outbox {
     fn promises(&mut self, long: usize, short: usize) -> bool
         ensures made { self.new.made ≡ self.old.made }
         ensures places { self.new.places ≡ self.old.places }
+        ensures sent { self.new.sent ≡ self.old.sent }
         ensures long { result ≡ true → self.new.long ≡ max self.old.long long }
         ensures short { result ≡ true → self.new.short ≡ max self.old.short short }
         ensures same { result ≡ false → self.new ≡ self.old }
@@ -140,6 +153,7 @@ impl Outbox {
         ensures made { self.new.made ≡ self.old.made }
         ensures places { self.new.places ≤ max self.old.places
             (length self.old.made + (max self.old.long long + max self.old.short short)) }
+        ensures sent { self.new.sent ≡ self.old.sent }
         ensures long { OnOk result (self.new.long ≡ max self.old.long long) }
         ensures short { OnOk result (self.new.short ≡ max self.old.short short) }
         ensures missing { OnErr result ((self.old.long < long) ⊎ (self.old.short < short)) }
@@ -166,12 +180,18 @@ impl Outbox {
     pub fn send_packet(&mut self, from: Role, ns: Seq, nr: Seq, packet: &[u8])
         requires ready { 0 < self.old.long }
         requires fits { length packet.now ≤ 4099 }
-        ensures { self.new ≡ record self.old {
+        ensures makes { self.new ≡ record self.old {
           made = self.old.made ++ spelling_of from (info ns.number nr.number false packet.now) ∷ [];
           long = self.old.long - 1;
+          sent = self.new.sent;
         } }
+        ensures sent { self.new.sent.kept ≡ self.old.sent.kept - 1 }
     {
-        let octets = self.long.take(packet.len() + FRAME_OVERHEAD);
+        let octets = memory(
+            &mut self.sent,
+            &mut self.long,
+            packet.len() + FRAME_OVERHEAD,
+        );
         let frame = Frame::I {
             ns,
             nr,
@@ -186,12 +206,14 @@ impl Outbox {
     pub fn send_short(&mut self, from: Role, frame: &Frame)
         requires ready { 0 < self.old.short }
         requires fits { length (information_of (plain frame.now)) ≤ 3 }
-        ensures { self.new ≡ record self.old {
+        ensures makes { self.new ≡ record self.old {
           made = self.old.made ++ spelling_of from (plain frame.now) ∷ [];
           short = self.old.short - 1;
+          sent = self.new.sent;
         } }
+        ensures sent { self.new.sent.kept ≡ self.old.sent.kept - 1 }
     {
-        let octets = short_memory(&mut self.short, &mut self.long);
+        let octets = memory(&mut self.sent, &mut self.short, SHORT_FRAME);
         put(&mut self.made, from, frame, octets);
     }
 
@@ -220,6 +242,7 @@ impl Outbox {
           places = vec_capacity frames.old;
           long = 0;
           short = 0;
+          sent = self.old.sent;
         } }
     {
         self.long.limit(0);
@@ -227,37 +250,40 @@ impl Outbox {
         mem::swap(&mut self.made, frames);
     }
 
-    /// Takes memory of a frame back, for a later one.
+    /// Keeps memory of a frame that was sent, for a later one.
     #[inline(always)]
-    pub fn give_back(&mut self, octets: Vec<u8>)
-        ensures { self.new ≡ self.old }
+    pub fn keep(&mut self, octets: Vec<u8>)
+        ensures { KeepsOne self.old self.new (vec_capacity octets) }
     {
-        self.long.give_back(octets);
+        self.sent.keep(octets);
     }
 }
 
-// Memory for a frame that carries no packet: some that was given back, or else what was set aside.
+// Memory for a frame of so many octets: that of one that was sent, or else what was promised.
 #[inline(always)]
-fn short_memory(
-    short: &mut Blanks<SHORT_FRAME, MOST_SHORT>,
-    long: &mut Blanks<LONGEST_FRAME, MOST_LONG>,
+fn memory<const ROOM: usize, const MOST: usize>(
+    sent: &mut FrameMemory,
+    promise: &mut Promise<ROOM, MOST>,
+    length: usize,
 ) -> Vec<u8>
-    requires { 0 < short.old }
+    requires promised { 0 < promise.old }
+    requires short { length ≤ ROOM }
     ensures empty { result.items ≡ [] }
-    ensures room { 7 ≤ vec_capacity result }
-    ensures fewer { short.new + 1 ≡ short.old }
-    ensures same { long.new ≡ long.old }
+    ensures room { length ≤ vec_capacity result }
+    ensures few { vec_capacity result ≤ max ROOM 4103 }
+    ensures fewer { promise.new + 1 ≡ promise.old }
+    ensures sent { sent.new.kept ≡ sent.old.kept - 1 }
 {
-    match long.again(SHORT_FRAME) {
+    match sent.take(length) {
         Some(octets) => {
-            short.limit(short.promised() - 1);
+            promise.limit(promise.promised() - 1);
             octets
         }
-        None => short.take(SHORT_FRAME),
+        None => promise.take(length),
     }
 }
 
-// Puts a frame behind others, in memory that was set aside. It is spelled where it stays, so that its list isn't copied.
+// Puts a frame behind others, in memory that was promised. It is spelled where it stays, so that its list isn't copied.
 #[inline(always)]
 fn put(made: &mut Vec<Vec<u8>>, from: Role, frame: &Frame, octets: Vec<u8>)
     requires place { vec_len made.old < vec_capacity made.old }

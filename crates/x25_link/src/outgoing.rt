@@ -1,4 +1,4 @@
-ghost use Rattle.std.specs.Prelude.{◌≡◌, ℕ, ◌+◌, ◌%◌, ◌<◌, ◌≤◌, ◌&&◌, nat_lt, max, List, [], ◌∷◌, ◌++◌, length};
+ghost use Rattle.std.specs.Prelude.{◌≡◌, ℕ, ◌+◌, ◌-◌, ◌%◌, ◌<◌, ◌≤◌, ◌&&◌, nat_lt, max, List, [], ◌∷◌, ◌++◌, length};
 ghost use Rattle.std.specs.Prelude.{slice_get, slice_index_or, IfOk, IfErr, IfSome, OnOk, OnErr, MatchOption};
 ghost use Rattle.std.specs.Prelude.{vec_capacity, true, false, if◌then◌else◌};
 ghost use Rattle.x25_window.specs.code.Modulo.{resolved};
@@ -15,11 +15,11 @@ use crate::octets::Octets;
 use crate::outbox::Outbox;
 use crate::waiting_packets::WaitingPackets;
 use std::alloc::Global;
-use x25_bits::{Blanks, Role, Seq};
+use x25_bits::{Pool, Role, Seq};
 use x25_frame::N1;
 use x25_window::{Sender, WindowError};
 
-/// The most buffers of packets that are kept: so many packets one call of a packet layer puts.
+/// The most buffers of packets that were acknowledged that are kept: so many packets one call of a packet layer puts.
 const MOST_SPENT: usize = 16;
 
 /// The packets handed down that aren't acknowledged: those that were sent, and behind them those that wait. And the
@@ -28,7 +28,7 @@ const MOST_SPENT: usize = 16;
 pub struct Outgoing {
     pub sender: Sender<Octets>,
     pub queue: WaitingPackets,
-    pub spent: Blanks<N1, MOST_SPENT>,
+    pub spent: Pool<N1, MOST_SPENT>,
 }
 
 impl Outgoing {
@@ -47,7 +47,7 @@ impl Outgoing {
         Ok(Some(Outgoing {
             sender,
             queue,
-            spent: Blanks::new(alloc),
+            spent: Pool::new(alloc),
         }))
     }
 
@@ -138,19 +138,20 @@ impl Outgoing {
     {
         for _packet in 0..count {
             let packet = self.sender.release();
-            self.spent.give_back(packet.into_vec());
+            self.spent.keep(packet.into_vec());
         }
     }
 
     /// Memory of a packet that was acknowledged, for one of so many octets and for 4,099 at most, where there is some.
     /// What is too small for them is let go of.
     pub fn spent_memory(&mut self, length: usize) -> Option<Vec<u8>>
-        ensures same { self.new ≡ self.old }
+        ensures same { self.new ≡ record self.old { spent = self.new.spent } }
+        ensures fewer { self.new.spent.kept ≡ self.old.spent.kept - 1 }
         ensures empty { IfSome result (λ octets. octets.items ≡ []) }
         ensures room { IfSome result (λ octets. length ≤ vec_capacity octets) }
         ensures few { IfSome result (λ octets. vec_capacity octets ≤ 4099) }
     {
-        self.spent.again(length)
+        self.spent.take(length)
     }
 
     /// Moves the place to send from back to the first frame that isn't acknowledged.

@@ -1,4 +1,4 @@
-//! Memory that is given back to a link, and what it sends in it.
+//! Memory that a link keeps, and what it sends in it.
 
 use crate::calls::{connect, link};
 use std::alloc::Global;
@@ -10,9 +10,9 @@ use x25_link::{Link, LinkError};
 /// SABM with P=1 of the DTE.
 static SABM: [u8; 4] = [0x01, 0x3f, 0xeb, 0xdf];
 
-// Memory of so many octets is given back.
+// Memory of so many octets is to be kept.
 fn gives(alloc: Global, link: &mut Link, count: usize) -> Result<(), Fail> {
-    link.give_back(vec![in alloc; 9u8; count]?);
+    link.keep(vec![in alloc; 9u8; count]?);
     Ok(())
 }
 
@@ -28,9 +28,9 @@ fn memory_of_sabm(rt: &impl Abort, frames: &[Vec<u8>]) -> Result<usize, Fail> {
     Ok(frame.capacity())
 }
 
-// A link has so many pieces of memory that were given back.
+// A link keeps so many buffers.
 fn has(rt: &impl Abort, link: &Link, count: usize) {
-    assert_eq!(rt; link.returned(), count);
+    assert_eq!(rt; link.kept(), count);
 }
 
 fn sends_in_forty(rt: &impl Abort, alloc: Global, link: &mut Link) -> Result<(), Fail> {
@@ -40,14 +40,14 @@ fn sends_in_forty(rt: &impl Abort, alloc: Global, link: &mut Link) -> Result<(),
     has(rt, link, 0);
     assert_eq!(rt; memory_of_sabm(rt, frames.as_slice())?, 40);
     for frame in frames.drain(..) {
-        link.give_back(frame);
+        link.keep(frame);
     }
     has(rt, link, 1);
     Ok(())
 }
 
 #[test]
-fn a_frame_is_sent_in_memory_that_was_given_back(rt: HostRuntime) -> Result<(), Fail> {
+fn a_frame_is_sent_in_memory_that_was_kept(rt: HostRuntime) -> Result<(), Fail> {
     let mut link = link(rt.alloc(), Role::Dte, 7, 10)?;
     sends_in_forty(&rt, rt.alloc(), &mut link)
 }

@@ -47,8 +47,7 @@ few_octets stand v =
     let packets = few_packets stand v in
     let frames = few_frames v in
     let circuits = of_circuits v.layer.circuits.items in
-    let aside = v.aside in
-    omega (arith, packets, frames, circuits, aside.packets, aside.spares, aside.texts)
+    omega (arith, packets, frames, circuits, v.link.station.outgoing.spent.few, v.link.outbox.sent.few, v.messages.few)
 
 pub few_in_all : FewStand → law.FewOctetsInAll
 few_in_all stand v = omega (arith, few_octets stand v, v.layer.few)

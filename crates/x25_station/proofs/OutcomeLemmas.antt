@@ -1,5 +1,5 @@
 -- What a call answers, by what its link's call answers.
-use Rattle.std.proofs.Common.{◌≡◌, Bool, true, false, if◌then◌else◌, map, Option, Some, None, Result, Ok, Err, inl, refl, ap, ◌∙◌}
+use Rattle.std.proofs.Common.{◌≡◌, ℕ, ◌≤◌, Bool, true, false, if◌then◌else◌, map, Option, Some, None, Result, Ok, Err, inl, refl, sym, subst, ap, ◌∙◌}
 use Rattle.std.proofs.Math.Logic.{∥∥₁_map}
 use Rattle.x25_frame.specs.Spelling.{spelling_of}
 use Rattle.x25_link.specs.declared.error.LinkError.{LinkError}
@@ -8,18 +8,19 @@ use Rattle.x25_link.specs.declared.phase.Phase.{Phase}
 use Rattle.x25_link.specs.declared.phase.Phase.TheVariants.{Down, Waiting, Up, Closed}
 use Rattle.x25_link.specs.Station.{LinkStation}
 use Rattle.x25_link.specs.Link as link
-use Rattle.x25_link.specs.code.FitsLink.{ShownLink}
+use Rattle.x25_link.specs.code.FitsLink.{ShownLink, FitsLink}
 use Rattle.x25_layer.specs.declared.layer.Layer as layer_code
 use Rattle.x25_station.specs.declared.config.Manner.{Manner}
 use Rattle.x25_station.specs.declared.step.Step as code_step
 use Rattle.x25_station.specs.declared.error.StationError.{StationError}
 use Rattle.x25_station.specs.declared.error.StationError.TheVariants as error
 use Rattle.x25_station.specs.Error.{of_link}
-use Rattle.x25_station.specs.Config.{Settings}
+use Rattle.x25_station.specs.Config.{Settings, link_settings}
 use Rattle.x25_station.specs.Station.{Station}
 use Rattle.x25_station.specs.Step.{Step, Outcome, Did, Refused, unless}
 use Rattle.x25_station.specs.laws.KeepLaw.{IsKept, KeptBy}
 use Rattle.x25_station.specs.code.PlainEntry.{plain_entry}
+use Rattle.x25_station.specs.code.Aside.{IsFewAside, KeepsFrames}
 use Rattle.x25_station.specs.code.FitsParts.{FitsParts, AreMeant}
 use Rattle.x25_station.specs.code.FitsStation.{LeavesParts, Sends, Enters, Refuses, RefusesExactly}
 use Rattle.x25_station.proofs.ResultLemmas.{ok_err, err_is}
@@ -46,6 +47,31 @@ leaves_some c l y (Refused e) fits none = absurd none
 
 pub still_meant : {manner told : Manner} (l m : ShownLink) (y z : layer_code.Layer) → AreMeant manner l y → ((c : Settings) (s : Station) → FitsParts c manner l y s → (d : Settings) × (t : Station) × FitsParts d told m z t) → AreMeant told m z
 still_meant l m y z h f = ∥∥₁_map h (λ w. f w.0 w.1 w.2)
+
+-- ---- memory of frames that is kept
+
+pub frames_fit : {manner : Manner} (c : Settings) (l m : ShownLink) (y : layer_code.Layer) (s : Station)
+    → KeepsFrames l m → FitsParts c manner l y s → FitsParts c manner m y s
+frames_fit c l m y s keeps fits = record {
+  link = subst (λ x. FitsLink (link_settings c) (record { station = x; outbox = m.outbox }) s.link) (sym keeps.station)
+      (record { near = fits.link.near; settled = fits.link.settled; calm = fits.link.calm });
+  layer = fits.layer;
+  kept = fits.kept;
+  sent = ap (λ o. o.made) keeps.outbox ∙ fits.sent;
+  same = fits.same;
+}
+
+pub frames_meant : {manner : Manner} (l m : ShownLink) (y : layer_code.Layer) → KeepsFrames l m → AreMeant manner l y
+    → AreMeant manner m y
+frames_meant l m y keeps h = still_meant l m y y h (λ c s fits. (c, s, frames_fit c l m y s keeps fits))
+
+pub frames_aside : (l m : ShownLink) (y : layer_code.Layer) (texts : ℕ) → KeepsFrames l m → IsFewAside l y texts
+    → IsFewAside m y texts
+frames_aside l m y texts keeps few = record {
+  packets = few.packets;
+  spares = subst (λ n. n ≤ 16) (sym (ap (λ o. o.long) keeps.outbox)) few.spares;
+  texts = few.texts;
+}
 
 -- ---- the link's refusal, or its want of memory
 

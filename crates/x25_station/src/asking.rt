@@ -1,5 +1,5 @@
 //! What the user asks of the packet layer: the layer's call, and its entry.
-ghost use Rattle.std.specs.Prelude.{◌≡◌, ◌≤◌, [], max, Some, None, true, false, string_bytes, vec_capacity, IfOk};
+ghost use Rattle.std.specs.Prelude.{◌≡◌, ◌-◌, ◌≤◌, [], max, Some, None, true, false, string_bytes, vec_capacity, IfOk};
 ghost use Rattle.std.specs.Prelude.{IfErr};
 ghost use Rattle.x25_circuit.specs.Circuit.{Circuit};
 ghost use Rattle.x25_circuit.specs.Calling.{Calls, Accepts};
@@ -27,7 +27,7 @@ use crate::law::steps_keep_bounds;
 use crate::station::Station;
 use crate::step::Step;
 use std::alloc::Global;
-use x25_bits::Blanks;
+use x25_bits::Pool;
 use x25_circuit::{Proposal, Request};
 use x25_layer::{Layer, Params};
 use x25_link::holds_few;
@@ -36,7 +36,7 @@ use x25_link::holds_few;
 const LONGEST_KEPT: usize = 4096;
 
 /// Memory for the message of an entry: that of one that was read.
-pub(crate) type MessageMemory = Blanks<LONGEST_KEPT, 1>;
+pub(crate) type MessageMemory = Pool<LONGEST_KEPT, 1>;
 
 // A copy of octets, for an entry.
 #[inline(always)]
@@ -67,13 +67,13 @@ fn message_memory(
     messages: &mut MessageMemory,
     count: usize,
 ) -> Result<Vec<u8>, StationError>
-    ensures same { messages.new ≡ messages.old }
+    ensures fewer { messages.new.kept ≡ messages.old.kept - 1 }
     ensures empty { IfOk result (λ memory. memory.items ≡ []) }
     ensures room { IfOk result (λ memory. count ≤ vec_capacity memory) }
     ensures most { IfOk result (λ memory. vec_capacity memory ≤ max count 4096) }
     ensures err { IfErr result (λ e. e ≡ StationError.NoMemory) }
 {
-    if let Some(memory) = messages.again(count) {
+    if let Some(memory) = messages.take(count) {
         return Ok(memory);
     }
     match Vec::with_capacity(alloc, count) {
@@ -88,7 +88,7 @@ fn copied_message(
     messages: &mut MessageMemory,
     user: &[u8],
 ) -> Result<Vec<u8>, StationError>
-    ensures same { messages.new ≡ messages.old }
+    ensures fewer { messages.new.kept ≡ messages.old.kept - 1 }
     ensures ok { IfOk result (λ copy. copy.items ≡ user.now) }
     ensures err { IfErr result (λ e. e ≡ StationError.NoMemory) }
 {
@@ -98,11 +98,11 @@ fn copied_message(
 }
 
 // The memory of a message that is refused serves the entry of another.
-fn take_back(messages: &mut MessageMemory, asked: Asked)
-    ensures { messages.new ≡ messages.old }
+fn keep_asked(messages: &mut MessageMemory, asked: Asked)
+    ensures { messages.old.kept ≤ messages.new.kept }
 {
     if let Asked::Send { user, .. } = asked {
-        messages.give_back(user);
+        messages.keep(user);
     }
 }
 
@@ -114,7 +114,7 @@ fn asked_of(
     messages: &mut MessageMemory,
     request: &Request<'_>,
 ) -> Result<Asked, StationError>
-    ensures same { messages.new ≡ messages.old }
+    ensures no_more { messages.new.kept ≤ messages.old.kept }
     ensures ok { IfOk result (λ asked. (x : Circuit)
         → shown x (plain_asked asked) ≡ shown x (plain_request request.now)) }
     ensures err { IfErr result (λ e. e ≡ StationError.NoMemory) }
@@ -389,7 +389,7 @@ impl Station {
                 Ok(())
             }
             Err(error) => {
-                take_back(&mut self.messages, asked);
+                keep_asked(&mut self.messages, asked);
                 Err(StationError::of_layer(error))
             }
         }

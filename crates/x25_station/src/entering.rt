@@ -12,7 +12,7 @@ ghost use Rattle.x25_station.specs.code.PlainEntry.{plain_entry, plain_said, pla
 ghost use Rattle.x25_station.specs.Receiving.{IsShort, AreTellable};
 
 use crate::entry::{Entry, Said, Told};
-use x25_bits::Blanks;
+use x25_bits::Promise;
 use x25_circuit::{Message, Notice};
 use x25_layer::{Layer, Told as Heard};
 use x25_packet::Digits;
@@ -24,8 +24,8 @@ pub(crate) const LONGEST_TEXT: usize = 128;
 /// The most texts in an entry: the two addresses of a call, and its user data.
 pub(crate) const MOST_TEXTS: usize = 3;
 
-/// Memory for the texts of an entry. No more blanks are kept than an entry has texts, or than are promised.
-pub(crate) type TextMemory = Blanks<LONGEST_TEXT, MOST_TEXTS>;
+/// Memory for the texts of an entry.
+pub(crate) type TextMemory = Promise<LONGEST_TEXT, MOST_TEXTS>;
 
 /// Enters what was said on a configured channel, under the name of its stretch, behind the other entries.
 #[inline(always)]

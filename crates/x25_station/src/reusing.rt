@@ -1,5 +1,6 @@
 //! Memory of a step that serves again, once it was read.
 ghost use Rattle.std.specs.Prelude.{◌≡◌, []};
+ghost use Rattle.x25_station.specs.code.Aside.{KeepsFrames};
 ghost use Rattle.x25_station.specs.code.FitsStation.{FitsStation, IsEmpty};
 ghost use Rattle.x25_station.specs.Config.{Settings};
 ghost use Rattle.x25_station.specs.Station.{Station as State};
@@ -11,12 +12,12 @@ use crate::step::Step;
 use x25_link::Link;
 
 // The memory of frames serves frames that the link sends later.
-fn take_frames_back(link: &mut Link, frames: &mut Vec<Vec<u8>>)
-    ensures link { link.new ≡ link.old }
+fn keep_frames(link: &mut Link, frames: &mut Vec<Vec<u8>>)
+    ensures link { KeepsFrames link.old link.new }
     ensures frames { frames.new.items ≡ [] }
 {
     while let Some(octets) = frames.pop() {
-        link.give_back(octets);
+        link.keep(octets);
     }
 }
 
@@ -47,7 +48,7 @@ impl Station {
         ensures fits { (c : Settings) (s : State) → FitsStation c self.old s → FitsStation c self.new s }
         ensures empty { frames.new.items ≡ [] }
     {
-        take_frames_back(&mut self.link, frames);
+        keep_frames(&mut self.link, frames);
     }
 
     fn reuse_entries(&mut self, entries: &mut Vec<Entry>)
@@ -84,10 +85,10 @@ impl Station {
     fn keep(&mut self, channel: u16, memory: Vec<u8>)
         ensures { (c : Settings) (s : State) → FitsStation c self.old s → FitsStation c self.new s }
     {
-        if self.messages.returned() == 0 {
-            self.messages.give_back(memory);
+        if self.messages.kept() == 0 {
+            self.messages.keep(memory);
         } else {
-            self.layer.give_back(channel, memory);
+            self.layer.keep(channel, memory);
         }
     }
 }

@@ -6,7 +6,7 @@ use crate::config::{Cfg, Manner};
 use crate::entering::TextMemory;
 use crate::error::StationError;
 use std::alloc::Global;
-use x25_bits::{Blanks, Role};
+use x25_bits::{Pool, Promise, Role};
 use x25_frame::N1;
 use x25_layer::{Layer, LayerError, Stretch};
 use x25_link::{Link, LinkError};
@@ -28,12 +28,13 @@ pub struct Station {
 }
 
 impl Station {
-    ghost use Rattle.std.specs.Prelude.{◌≡◌, ◌+◌, ◌≤◌, IfOk};
+    ghost use Rattle.std.specs.Prelude.{◌≡◌, ◌+◌, ◌≤◌, vec_capacity, IfOk};
     ghost use Rattle.x25_station.specs.code.FitsStation.{FitsStation, RefusesWith};
     ghost use Rattle.x25_station.specs.Config.{Settings, layer_settings, settings_from, config_refusal};
     ghost use Rattle.x25_station.specs.Station.{Station as State, new_station};
     ghost use Rattle.x25_station.specs.Station.Told.{is_idle, is_at_rest, stretch};
-    ghost use Rattle.x25_layer.specs.code.FitsLayer.{plain_stretch};
+    ghost use Rattle.x25_layer.specs.code.FitsLayer.{KeepsOn, plain_stretch};
+    ghost use Rattle.x25_link.specs.code.Outbox.{KeepsOne};
     ghost use Rattle.x25_layer.specs.Layer.InPart.{joined_at};
     ghost use Rattle.x25_link.specs.Station.{awaits_ua};
     ghost use Rattle.x25_link.specs.Link.{timer_runs};
@@ -63,8 +64,8 @@ impl Station {
                 say_sizes: cfg.say_sizes,
                 wide: cfg.wide,
             },
-            texts: Blanks::new(alloc),
-            messages: Blanks::new(alloc),
+            texts: Promise::new(alloc),
+            messages: Pool::new(alloc),
             alloc,
         })
     }
@@ -112,6 +113,7 @@ impl Station {
     /// How many octets of memory are kept for the message of which some packets came on a channel: for these octets,
     /// and for those of one packet more. They are 69,631 at most; 0 where the channel isn't configured.
     pub fn octets_kept(&self, channel: u16) -> usize
+        ensures value { KeepsOn self.now.layer channel result }
         ensures least { (c : Settings) (s : State) → FitsStation c self.now s
             → joined_at (layer_settings c) s.layer channel ≤ result }
         ensures most { result ≤ 69631 }
@@ -119,31 +121,33 @@ impl Station {
         self.layer.octets_kept(channel)
     }
 
-    /// How many buffers are kept for what memory is refused for later, 51 at most: 32 for a frame each, 16 for a
-    /// packet, and 3 for a text of an entry.
+    /// How many buffers are kept for what memory is refused for later: as many at least as memory is promised for, and
+    /// 51 at most, 32 for a frame each, 16 for a packet, and 3 for a text of an entry.
     pub fn blanks(&self) -> usize
         ensures least { self.now.link.outbox.long + (self.now.layer.memory + self.now.texts) ≤ result }
         ensures most { result ≤ 51 }
     {
-        self.link.blanks() + self.layer.blanks() + self.texts.kept()
+        self.link.blanks() + self.layer.blanks() + self.texts.blanks()
     }
 
-    /// How many buffers are kept that were given back, for frames that are sent later: 32 at most, of at most 4,103
+    /// How many buffers of frames that were sent are kept, for frames that are sent later: 32 at most, of at most 4,103
     /// octets each.
-    pub fn returned(&self) -> usize
-        ensures { result ≤ 32 }
+    pub fn frames_kept(&self) -> usize
+        ensures value { result ≡ self.now.link.outbox.sent.kept }
+        ensures few { result ≤ 32 }
     {
-        self.link.returned()
+        self.link.kept()
     }
 
-    /// Takes the memory of a frame back, of this station or of another, for one that is sent later. The station is as
+    /// Keeps the memory of a frame that was sent, of this station or of another, for a later one. The station is as
     /// before.
     ///
     /// It is let go of where it is for more than 4,103 octets, and where 32 are kept.
-    pub fn give_back_frame(&mut self, octets: Vec<u8>)
-        ensures { (c : Settings) (s : State) → FitsStation c self.old s → FitsStation c self.new s }
+    pub fn keep_frame(&mut self, octets: Vec<u8>)
+        ensures fits { (c : Settings) (s : State) → FitsStation c self.old s → FitsStation c self.new s }
+        ensures kept { KeepsOne self.old.link.outbox self.new.link.outbox (vec_capacity octets) }
     {
-        self.link.give_back(octets);
+        self.link.keep(octets);
     }
 
     /// The name of the stretch that is open on a channel, in p4 with d1, where one is.

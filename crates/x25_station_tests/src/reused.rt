@@ -11,9 +11,9 @@ use x25_station::{Asked, Entry, Role, Said, Station, Step};
 /// SABM with P=1 of the DTE.
 static SABM: [u8; 4] = [0x01, 0x3f, 0xeb, 0xdf];
 
-// Memory of so many octets is given back.
+// Memory of so many octets is to be kept.
 fn gives(alloc: Global, station: &mut Station, count: usize) -> Result<(), Fail> {
-    station.give_back_frame(vec![in alloc; 9u8; count]?);
+    station.keep_frame(vec![in alloc; 9u8; count]?);
     Ok(())
 }
 
@@ -27,29 +27,29 @@ fn is_in_forty(rt: &impl Abort, step: &Step) -> Result<(), Fail> {
 
 fn sends_in_forty(rt: &impl Abort, alloc: Global, station: &mut Station) -> Result<(), Fail> {
     gives(alloc, station, 40)?;
-    assert_eq!(rt; station.returned(), 1);
+    assert_eq!(rt; station.frames_kept(), 1);
     let mut out = Step::new(alloc);
     connect(station, &mut out)?;
-    assert_eq!(rt; station.returned(), 0);
+    assert_eq!(rt; station.frames_kept(), 0);
     is_in_forty(rt, &out)?;
     reuse(station, &mut out);
-    assert_eq!(rt; (out.frames.is_empty(), station.returned()), (true, 1));
+    assert_eq!(rt; (out.frames.is_empty(), station.frames_kept()), (true, 1));
     Ok(())
 }
 
 #[test]
-fn a_frame_is_sent_in_memory_that_was_given_back(rt: HostRuntime) -> Result<(), Fail> {
+fn a_frame_is_sent_in_memory_that_was_kept(rt: HostRuntime) -> Result<(), Fail> {
     let mut station = station(rt.alloc(), Role::Dte, settings(1, false))?;
     sends_in_forty(&rt, rt.alloc(), &mut station)
 }
 
 fn keeps_thirty_two(rt: &impl Abort, alloc: Global, station: &mut Station) -> Result<(), Fail> {
     gives(alloc, station, 4104)?;
-    assert_eq!(rt; station.returned(), 0);
+    assert_eq!(rt; station.frames_kept(), 0);
     for _ in 0..40u8 {
         gives(alloc, station, 7)?;
     }
-    assert_eq!(rt; station.returned(), 32);
+    assert_eq!(rt; station.frames_kept(), 32);
     Ok(())
 }
 

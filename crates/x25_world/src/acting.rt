@@ -156,7 +156,7 @@ fn give_back(near: &mut Station, octets: Option<Vec<u8>>)
     ensures { (c : Settings) (s : StationState) → FitsStation c near.old s → FitsStation c near.new s }
 {
     if let Some(octets) = octets {
-        near.give_back_frame(octets);
+        near.keep_frame(octets);
     }
 }
 

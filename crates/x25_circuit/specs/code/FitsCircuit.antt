@@ -26,6 +26,10 @@ pub record FitsCircuit (c : Settings) (v : code.Circuit) (x : Circuit) : Type 0 
 abbrev pub room_of : code.Circuit → ℕ
 room_of v = v.transfer.partial.room
 
+-- for how many octets of the message in part memory is kept
+abbrev pub kept_of : code.Circuit → ℕ
+kept_of v = v.transfer.partial.kept
+
 -- how many messages wait
 abbrev pub waits_of : code.Circuit → ℕ
 waits_of v = length (waiting v.transfer.queue)

@@ -21,6 +21,6 @@ returns-clause-does c = record {
       (take_sends_few d c.args.octets.now s);
   refused = search rules;
   promised = search rules;
-  places = few_places _ _ _ _ _ c.self.view_is c.reserve.ensures.places (ap (λ o. o.places) c.limit.ensures ∙ c.hear-heard.ensures.places) (omega (arith, c.in-Some.ensures, c.window-window.ensures.few, c.long-promised.ensures));
+  places = few_places _ _ _ _ _ c.self.view_is c.reserve.ensures.places (ap (λ o. o.places) c.limit.ensures ∙ c.hear-heard.ensures.places) (omega (arith, c.window-window.ensures.few, c.long-promised.ensures.value));
   err = search rules;
 }

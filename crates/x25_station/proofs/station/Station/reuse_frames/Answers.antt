@@ -1,10 +1,11 @@
-use Rattle.std.proofs.Common.{sym, subst}
-use Rattle.x25_station.specs.code.Aside.{IsFewAside}
-use Rattle.x25_station.specs.code.FitsParts.{AreMeant}
+use Rattle.x25_station.proofs.OutcomeLemmas.{frames_fit, frames_meant, frames_aside}
 use Rattle.x25_station.proofs.station.Station.reuse_frames.Goals as goal
 
 pub invariant_of-self : goal.invariant_of-self
 invariant_of-self c = record {
-  meant = subst (λ l. AreMeant c.args.self.now.manner l c.args.self.now.layer) (sym c.take_frames_back.ensures.link) c.args.self.now.meant;
-  aside = subst (λ l. IsFewAside l c.args.self.now.layer c.args.self.now.texts) (sym c.take_frames_back.ensures.link) c.args.self.now.aside;
+  meant = frames_meant _ _ _ c.keep_frames.ensures.link c.args.self.now.meant;
+  aside = frames_aside _ _ _ _ c.keep_frames.ensures.link c.args.self.now.aside;
 }
+
+pub returns-clause-fits : goal.returns-clause-fits
+returns-clause-fits c = λ d s fits. frames_fit d _ _ _ s c.keep_frames.ensures.link fits

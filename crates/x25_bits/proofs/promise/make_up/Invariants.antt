@@ -1,0 +1,8 @@
+use Rattle.std.proofs.Common.{◌≤◌, ◌-◌, max, vec_len}
+use Rattle.x25_bits.proofs.promise.make_up.Given as goal
+
+abbrev pub invariant-loop-alloc : goal.invariant-loop-alloc
+invariant-loop-alloc g l = (vec_len l.initial.blanks ≤ vec_len l.blanks) × (vec_len l.blanks ≤ max (vec_len l.initial.blanks) l.count)
+
+abbrev pub decreases-loop-alloc : goal.decreases-loop-alloc
+decreases-loop-alloc g l = l.count - vec_len l.blanks
