@@ -119,11 +119,11 @@ impl Station {
         self.layer.octets_kept(channel)
     }
 
-    /// How many buffers are kept for what memory is refused for later, 51 at most: 32 for a frame each, 16 for a
-    /// packet, and 3 for a text of an entry.
+    /// How many buffers are kept for what memory is refused for later, 53 at most: 32 for a frame each, 16 for a
+    /// packet, and 5 for a text of an entry.
     pub fn blanks(&self) -> usize
         ensures least { self.now.link.outbox.long + (self.now.layer.memory + self.now.texts) ≤ result }
-        ensures most { result ≤ 51 }
+        ensures most { result ≤ 53 }
     {
         self.link.blanks() + self.layer.blanks() + self.texts.kept()
     }

@@ -25,14 +25,14 @@ circuit_octets u = 65535 * holds u + (69631 + 4096 * 2)
 abbrev pub layer_octets : layer_code.Layer → ℕ
 layer_octets y = sum_by circuit_octets y.circuits.items + 4099 * (max y.memory 16 + 16)
 
--- texts of 128 octets that memory is set aside or kept for, three that were given back, and a message that was
+-- texts of 128 octets that memory is set aside or kept for, five that were given back, and a message that was
 abbrev pub octets_held : code.Station → ℕ
-octets_held v = link_octets v.link + (layer_octets v.layer + (128 * (max v.texts 3 + 3) + 4096))
+octets_held v = link_octets v.link + (layer_octets v.layer + (128 * (max v.texts 5 + 5) + 4096))
 
 -- so many, and so many for each channel
 abbrev pub FewOctets : Type 0
-FewOctets = (v : code.Station) → octets_held v ≤ 1542273 + 667638 * length v.layer.circuits.items
+FewOctets = (v : code.Station) → octets_held v ≤ 1542785 + 667638 * length v.layer.circuits.items
 
 -- with at most 16 channels
 abbrev pub FewOctetsInAll : Type 0
-FewOctetsInAll = (v : code.Station) → octets_held v ≤ 12224481
+FewOctetsInAll = (v : code.Station) → octets_held v ≤ 12224993
