@@ -5,7 +5,6 @@ use Rattle.std.proofs.lemmas.List.{append-nil}
 use Rattle.x25_packet.specs.declared.error.PacketError.{PacketError}
 use Rattle.x25_packet.specs.Packet.{PlainPacket}
 use Rattle.x25_packet.specs.Reading.{packet_of}
-use Rattle.x25_station.specs.Beside.{beside_in}
 use Rattle.x25_wide.specs.Narrowing.{taken_of}
 use Rattle.x25_wide.specs.Reading.{wide_of}
 use Rattle.x25_wide.specs.Taking.{or_taken, read_in}
@@ -26,6 +25,7 @@ use Rattle.x25_layer.specs.laws.RoundLaw.{moves_all, pulls_of, AreChannels, IsRu
 use Rattle.x25_station.specs.declared.error.StationError.{StationError}
 use Rattle.x25_station.specs.declared.error.StationError.TheVariants as error
 use Rattle.x25_station.specs.Config.{Settings, link_settings, layer_settings}
+use Rattle.x25_station.specs.Beside.{beside_in}
 use Rattle.x25_station.specs.Entry.{StationEntry, bringing, entries_noted, station_asked, layer_entries, layer_notices}
 use Rattle.x25_station.specs.Station.{view_of}
 use Rattle.x25_station.specs.Step.{Step, Outcome, Did, Refused, with_puts, layer_at, entries_heard, entries_of_packet, entries_of_outcome, layer_answer, follows, did}
