@@ -16,7 +16,8 @@ use Rattle.x25_station.specs.declared.error.StationError.{StationError}
 use Rattle.x25_station.specs.declared.error.StationError.TheVariants as error
 use Rattle.x25_station.specs.Config.{Settings, layer_settings, link_settings}
 use Rattle.x25_station.specs.Command as command
-use Rattle.x25_station.specs.Entry.{StationEntry, link_up, station_told, of_channels, station_asked, entries_noted}
+use Rattle.x25_station.specs.Beside.{PlainBeside, nothing, fields, diagnosed, beside_in}
+use Rattle.x25_station.specs.Entry.{StationEntry, link_up, bringing, entries_beside, station_told, of_channels, station_asked, entries_noted}
 use Rattle.x25_station.specs.Station.{Station, view_of}
 use Rattle.x25_station.specs.Step.{Step, Outcome, Did, Refused, did, entries_of_outcome, entries_heard, layer_answer, follows, requests}
 use Rattle.x25_station.specs.laws.ReadLaw.{RequestsOctets}
@@ -30,12 +31,18 @@ ups_append (x ∷ xs) ys = by x (ups_append xs ys)
     by link_up h = (let more : suc (ups_in xs) + ups_in ys ≡ suc (ups_in xs + ups_in ys) = omega (arith) in ap suc h ∙ sym more)
     by entry h = h
 
-ups_told : (l : Layer) (ns : List LayerNotice) → ups_in (station_told l ns) ≡ 0
-ups_told l [] = refl
-ups_told l (on_channel h notice ∷ ns) = ups_told l ns
-ups_told l (restarted cause diagnostic ∷ ns) = ups_told l ns
-ups_told l (restart_done ∷ ns) = ups_told l ns
-ups_told l (layer_fault diagnostic ∷ ns) = ups_told l ns
+ups_beside : (b : PlainBeside) (o : Option ℕ) → ups_in (entries_beside b o) ≡ 0
+ups_beside nothing o = refl
+ups_beside (fields facilities user) None = refl
+ups_beside (fields facilities user) (Some h) = refl
+ups_beside (diagnosed diagnostic) o = refl
+
+ups_told : (l : Layer) (ns : List LayerNotice) (b : PlainBeside) (o : Option ℕ) → ups_in (station_told l ns ++ entries_beside b o) ≡ 0
+ups_told l [] b o = ups_beside b o
+ups_told l (on_channel h notice ∷ ns) b o = ups_told l ns b o
+ups_told l (restarted cause diagnostic ∷ ns) b o = ups_told l ns b o
+ups_told l (restart_done ∷ ns) b o = ups_told l ns b o
+ups_told l (layer_fault diagnostic ∷ ns) b o = ups_told l ns b o
 
 ups_channels : (es : List Entry) → ups_in (of_channels es) ≡ 0
 ups_channels [] = refl
@@ -54,7 +61,7 @@ ups_outcome c l request (Declined e) = refl
 ups_heard : (c : LayerSettings) (wide : Bool) (l : Layer) (packet : Option (List ℕ)) (down : Option Reason) (up : Bool) → ups_in (entries_heard c wide l packet down up) ≡ 0
 ups_heard c wide l packet down true = refl
 ups_heard c wide l packet (Some reason) false = refl
-ups_heard c wide l (Some octets) None false = (let a : LayerAnswer = layer_answer c wide l octets in ups_told a.next a.notices)
+ups_heard c wide l (Some octets) None false = (let a : LayerAnswer = layer_answer c wide l octets in ups_told a.next a.notices (beside_in wide octets) (bringing a.notices))
 ups_heard c wide l None None false = refl
 
 -- as often as its link notes it

@@ -25,9 +25,10 @@ use Rattle.x25_layer.specs.laws.RoundLaw.{moves_all, pulls_of, AreChannels, IsRu
 use Rattle.x25_station.specs.declared.error.StationError.{StationError}
 use Rattle.x25_station.specs.declared.error.StationError.TheVariants as error
 use Rattle.x25_station.specs.Config.{Settings, link_settings, layer_settings}
-use Rattle.x25_station.specs.Entry.{StationEntry, entries_noted, station_asked, layer_entries, layer_notices}
+use Rattle.x25_station.specs.Beside.{beside_in}
+use Rattle.x25_station.specs.Entry.{StationEntry, bringing, entries_noted, station_asked, layer_entries, layer_notices}
 use Rattle.x25_station.specs.Station.{view_of}
-use Rattle.x25_station.specs.Step.{Step, Outcome, Did, Refused, with_puts, layer_at, entries_heard, entries_of_answer, entries_of_outcome, layer_answer, follows, did}
+use Rattle.x25_station.specs.Step.{Step, Outcome, Did, Refused, with_puts, layer_at, entries_heard, entries_of_packet, entries_of_outcome, layer_answer, follows, did}
 use Rattle.x25_station.specs.laws.JoinLaw.{AreAccepted, IsJoined, RequestIsJoined, ReceiveIsJoined, QuietIsJoined, DownIsJoined, ComesUp, UpIsJoined}
 use Rattle.x25_station.proofs.PutLemmas.{accepts, rounds_accepted, begin_accepted}
 use Rattle.x25_station.proofs.EntryLemmas.{told_entries, told_notices, asked_entries, asked_notices}
@@ -122,7 +123,7 @@ pub down_joined : DownIsJoined
 down_joined c l k reason is = ap (λ (n : Notes). follows c l (record { side = k.side; packet = k.packet; notes = n })) is
 
 follows_heard : (c : Settings) (l : Layer) (k : LinkStep) (octets : List ℕ) → k.packet ≡ Some octets → IsQuiet k
-    → follows c l k ≡ with_puts c k.side (hears (view_of (link_settings c) k.side.near) (layer_settings c) c.wide l octets).step (entries_of_answer (layer_answer (layer_settings c) c.wide l octets))
+    → follows c l k ≡ with_puts c k.side (hears (view_of (link_settings c) k.side.near) (layer_settings c) c.wide l octets).step (entries_of_packet (layer_settings c) c.wide l octets)
 follows_heard c l k octets some quiet =
     ap (λ (o : Option (List ℕ)). follows c l (record { side = k.side; packet = o; notes = k.notes })) some
     ∙ ap (λ (n : Notes). follows c l (record { side = k.side; packet = Some octets; notes = n })) quiet
@@ -139,10 +140,10 @@ heard_joined runs tells c w k octets packet back up front some quiet up_link low
     subst (λ (step : Step). Goal step) (sym (follows_heard c w.near.layer k octets some quiet)) (
       r.0,
       r.1,
-      joined c w (HandsUp ∷ pulls_of r.0) (moves lc w HandsUp) k.side back (hears view lc c.wide w.near.layer octets).step (entries_of_answer a) r.2
+      joined c w (HandsUp ∷ pulls_of r.0) (moves lc w HandsUp) k.side back (hears view lc c.wide w.near.layer octets).step (entries_of_packet lc c.wide w.near.layer octets) r.2
           (rounds_accepted tells (link_settings c) k.side lc (begin a.next a.owed) up_link (begin_accepted (link_settings c) k.side a.owed up_link low))
-          (ap (λ (x : TwoLayers). x.near.entries) all ∙ ap (λ (es : List Entry). w.near.entries ++ es) (sym (told_entries a.next a.notices)))
-          (ap (λ (x : TwoLayers). x.near.told) all ∙ ap (λ (ns : List LayerNotice). w.near.told ++ ns) (sym (told_notices a.next a.notices))),
+          (ap (λ (x : TwoLayers). x.near.entries) all ∙ ap (λ (es : List Entry). w.near.entries ++ es) (sym (told_entries a.next a.notices (beside_in c.wide octets) (bringing a.notices))))
+          (ap (λ (x : TwoLayers). x.near.told) all ∙ ap (λ (ns : List LayerNotice). w.near.told ++ ns) (sym (told_notices a.next a.notices (beside_in c.wide octets) (bringing a.notices)))),
     )
   where
     lc : LayerSettings

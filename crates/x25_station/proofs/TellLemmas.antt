@@ -1,15 +1,16 @@
 -- What a circuit tells is entered one notice after another.
-use Rattle.std.proofs.Common.{◌≡◌, ℕ, List, [], ◌∷◌, ◌++◌, Option, Some, Result, Ok, IfOk, Bool, true, false, if◌then◌else◌, refl, ap, sym, subst, ◌∙◌}
+use Rattle.std.proofs.Common.{◌≡◌, ℕ, List, [], ◌∷◌, ◌++◌, Option, Some, None, Result, Ok, IfOk, Bool, true, false, if◌then◌else◌, refl, ap, sym, subst, ◌∙◌}
 use Rattle.std.proofs.lemmas.List.{append_assoc}
 use Rattle.x25_circuit.specs.declared.notice.Notice.{Notice}
-use Rattle.x25_circuit.specs.Notice.{collided}
+use Rattle.x25_circuit.specs.declared.message.Message.{Message}
+use Rattle.x25_circuit.specs.Notice.{collided, deliveries}
 use Rattle.x25_circuit.specs.code.Replies.{plain_notice, notices_of}
 use Rattle.x25_handshakes.specs.laws.Names.{Name}
 use Rattle.x25_layer.specs.declared.told.Told.{Told as Heard}
 use Rattle.x25_layer.specs.Told.{plain_told as plain_heard}
 use Rattle.x25_layer.specs.laws.Transcript.{Told, name_of}
 use Rattle.x25_layer.specs.Layer.{LayerSettings, Layer, LayerNotice, on_channel, restarted, restart_done, layer_fault, notices_on}
-use Rattle.x25_station.specs.Entry.{StationEntry, of_channel, was_restarted, restart_confirmed, at_fault, entry_told, station_told}
+use Rattle.x25_station.specs.Entry.{StationEntry, of_channel, was_restarted, restart_confirmed, at_fault, bringing, entry_told, may_bring, station_told}
 use Rattle.x25_station.specs.Receiving.{IsTellable, AreTellable}
 
 abbrev pub told_first : ℕ → Layer → Bool → List StationEntry
@@ -46,3 +47,18 @@ same_told l m (layer_fault diagnostic ∷ notices) same = ap (λ (es : List Stat
 
 pub told_is : {E : Type 0} (r : Result Heard E) (told : Heard) (notices : List LayerNotice) → r ≡ Ok told → IfOk r (λ t. plain_heard t ≡ notices) → plain_heard told ≡ notices
 told_is {E = E} r told notices is h = subst (λ (x : Result Heard E). IfOk x (λ t. plain_heard t ≡ notices)) is h
+
+-- ---- what may bring more
+
+-- a message brings nothing beside
+pub delivered_alone : (h : ℕ) (messages : List Message) → bringing (notices_on h (deliveries messages)) ≡ None
+delivered_alone h [] = refl
+delivered_alone h (message ∷ messages) = delivered_alone h messages
+
+pub noticed_bringing : (h : ℕ) (b : Bool) (n : Notice) → bringing (notices_on h (notices_of b (Some n))) ≡ (if may_bring (plain_notice n) then Some h else None)
+noticed_bringing h true n = refl
+noticed_bringing h false n = refl
+
+pub collided_alone : (h : ℕ) (b : Bool) → bringing (notices_on h (notices_of b None)) ≡ None
+collided_alone h true = refl
+collided_alone h false = refl

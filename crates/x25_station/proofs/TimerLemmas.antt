@@ -23,7 +23,7 @@ use Rattle.x25_layer.specs.Rounds.{Answered, Went, Refuses, calls}
 use Rattle.x25_station.specs.declared.error.StationError.TheVariants as error
 use Rattle.x25_station.specs.Command.{Requests, Connects, Disconnects, said_by}
 use Rattle.x25_station.specs.Config.{Settings, link_settings, layer_settings, longest_packet}
-use Rattle.x25_station.specs.Entry.{StationEntry, of_channel, restart_asked, connect_asked, disconnect_asked, link_up, link_down, was_restarted, restart_confirmed, at_fault}
+use Rattle.x25_station.specs.Entry.{StationEntry, of_channel, restart_asked, connect_asked, disconnect_asked, link_up, link_down, was_restarted, restart_confirmed, at_fault, came_beside, was_diagnosed}
 use Rattle.x25_station.specs.Station.{Station, put_on, all_put, view_of}
 use Rattle.x25_station.specs.Step.{Step, Outcome, Did, Refused, layer_at, follows, unless, abandons, did}
 use Rattle.x25_station.specs.laws.TimerLaw as law
@@ -261,6 +261,8 @@ told_up (link_down reason ∷ entries) told = told_up entries told
 told_up (was_restarted cause diagnostic ∷ entries) told = told_up entries told
 told_up (restart_confirmed ∷ entries) told = told_up entries told
 told_up (at_fault diagnostic ∷ entries) told = told_up entries told
+told_up (came_beside channel facilities user ∷ entries) told = told_up entries told
+told_up (was_diagnosed diagnostic ∷ entries) told = told_up entries told
 
 -- seven numbers more at most are another number modulo 8
 other_number : (a b : ℕ) → a < b → b ≤ a + 7 → not (a % 8 == b % 8) ≡ true

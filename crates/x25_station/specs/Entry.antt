@@ -1,6 +1,8 @@
 -- The entries of the transcript of a station (profile): what its user asked, what the link noted, and what the packet
 -- layer told.
-use Rattle.std.specs.Prelude.{ℕ, Bool, true, false, List, [], ◌∷◌, ◌++◌, Option, Some, None}
+use Rattle.std.specs.Prelude.{ℕ, Bool, true, false, if◌then◌else◌, List, [], ◌∷◌, ◌++◌, Option, Some, None}
+use Rattle.x25_station.specs.Beside.{PlainBeside, nothing, fields, diagnosed}
+use Rattle.x25_circuit.specs.Notice.{PlainNotice, incoming, connected, cleared, clear_done}
 use Rattle.x25_link.specs.declared.phase.Reason.{Reason}
 use Rattle.x25_link.specs.declared.phase.Notes.{Notes}
 use Rattle.x25_layer.specs.Layer.{LayerSettings, Layer, LayerNotice, on_channel, restarted, restart_done, layer_fault}
@@ -20,6 +22,10 @@ pub data StationEntry : Type 0 where
   restart_confirmed : StationEntry
   -- an error of procedure on channel 0
   at_fault : (diagnostic : ℕ) → StationEntry
+  -- the facility field and the user data of the packet of which the entry in front of this one tells
+  came_beside : (channel : ℕ) → (facilities : List ℕ) → (user : List ℕ) → StationEntry
+  -- a DIAGNOSTIC of the other end
+  was_diagnosed : (diagnostic : ℕ) → StationEntry
 
 -- ---- what the link notes: that it went down, and then that it went up
 
@@ -45,6 +51,28 @@ entry_told l (layer_fault diagnostic) = at_fault diagnostic
 abbrev pub station_told : Layer → List LayerNotice → List StationEntry
 station_told l [] = []
 station_told l (notice ∷ notices) = entry_told l notice ∷ station_told l notices
+
+-- ---- what a packet brought beside what it is told as
+
+-- of a call, its acceptance and its end
+abbrev pub may_bring : PlainNotice → Bool
+may_bring (incoming request) = true
+may_bring (connected params) = true
+may_bring (cleared cause diagnostic) = true
+may_bring clear_done = true
+may_bring notice = false
+
+-- the channel of the notice of such a packet
+abbrev pub bringing : List LayerNotice → Option ℕ
+bringing [] = None
+bringing (on_channel h notice ∷ notices) = if may_bring notice then Some h else bringing notices
+bringing (notice ∷ notices) = bringing notices
+
+abbrev pub entries_beside : PlainBeside → Option ℕ → List StationEntry
+entries_beside nothing channel = []
+entries_beside (fields facilities user) None = []
+entries_beside (fields facilities user) (Some h) = came_beside h facilities user ∷ []
+entries_beside (diagnosed diagnostic) channel = was_diagnosed diagnostic ∷ []
 
 -- ---- what was asked of the layer, and accepted, by the layer before and after it; pulls have no entry
 

@@ -1,6 +1,7 @@
 pub mod Error
 pub mod Config
 pub mod Command
+pub mod Beside
 pub mod Entry
 pub mod Station
 pub mod Step

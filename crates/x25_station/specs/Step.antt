@@ -4,6 +4,7 @@
 use Rattle.std.specs.Prelude.{ℕ, ◌==◌, Bool, true, false, ◌&&◌, if◌then◌else◌, List, [], ◌∷◌, ◌++◌, Option, Some, None}
 use Rattle.x25_frame.specs.Frame.{PlainFrame}
 use Rattle.x25_packet.specs.Spelling.{longest_user}
+use Rattle.x25_station.specs.Beside.{beside_in}
 use Rattle.x25_wide.specs.Taking.{read_in}
 use Rattle.x25_link.specs.declared.error.LinkError.{LinkError}
 use Rattle.x25_link.specs.declared.phase.Reason.{Reason}
@@ -20,7 +21,7 @@ use Rattle.x25_station.specs.declared.error.StationError.TheVariants as error
 use Rattle.x25_station.specs.Config.{Settings, link_settings, layer_settings}
 use Rattle.x25_station.specs.Command.{Command, Requests, Connects, Disconnects, said_by}
 use Rattle.x25_station.specs.Entry.{StationEntry, connect_asked, disconnect_asked, entries_noted, station_told}
-use Rattle.x25_station.specs.Entry.{station_asked}
+use Rattle.x25_station.specs.Entry.{station_asked, bringing, entries_beside}
 use Rattle.x25_station.specs.Station.{Station, all_put, view_of}
 
 -- the station after a step, the frames to send, in order, and the entries of the transcript
@@ -65,11 +66,15 @@ layer_answer c wide l octets = answer_to c l octets (read_in wide (longest_user 
 abbrev pub entries_of_answer : LayerAnswer → List StationEntry
 entries_of_answer a = station_told a.next a.notices
 
--- what it tells of a packet
+-- what it tells of a packet, and what that brought beside
+abbrev pub entries_of_packet : LayerSettings → Bool → Layer → List ℕ → List StationEntry
+entries_of_packet c wide l octets = entries_of_answer (layer_answer c wide l octets)
+    ++ entries_beside (beside_in wide octets) (bringing (layer_answer c wide l octets).notices)
+
 abbrev pub entries_heard : LayerSettings → Bool → Layer → Option (List ℕ) → Option Reason → Bool → List StationEntry
 entries_heard c wide l packet down true = []
 entries_heard c wide l packet (Some reason) false = []
-entries_heard c wide l (Some octets) None false = entries_of_answer (layer_answer c wide l octets)
+entries_heard c wide l (Some octets) None false = entries_of_packet c wide l octets
 entries_heard c wide l None None false = []
 
 -- a step of the link, and then the layer

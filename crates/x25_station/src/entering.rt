@@ -7,10 +7,12 @@ ghost use Rattle.x25_layer.specs.Layer.{Layer as LayerState, LayerSettings, is_c
 ghost use Rattle.x25_layer.specs.code.FitsLayer.{FitsLayer};
 ghost use Rattle.x25_layer.specs.laws.Transcript.{name_of};
 ghost use Rattle.x25_layer.specs.Told.{plain_told as plain_heard};
-ghost use Rattle.x25_station.specs.Entry.{of_channel, station_told};
+ghost use Rattle.x25_station.specs.Entry.{bringing, entries_beside, may_bring, of_channel, station_told};
 ghost use Rattle.x25_station.specs.code.PlainEntry.{plain_entry, plain_said, plain_told};
 ghost use Rattle.x25_station.specs.Receiving.{IsShort, AreTellable};
+ghost use Rattle.x25_station.specs.Beside.{AreFew, plain_beside};
 
+use crate::beside::Beside;
 use crate::entry::{Entry, Said, Told};
 use x25_bits::Promise;
 use x25_circuit::{Message, Notice};
@@ -21,10 +23,10 @@ use x25_packet::Digits;
 /// addresses have fewer.
 pub(crate) const LONGEST_TEXT: usize = 128;
 
-/// The most texts in an entry: the two addresses of a call, and its user data.
-pub(crate) const MOST_TEXTS: usize = 3;
+/// The most texts that a packet brings: the two addresses of a call and its user data, and the two of what came beside.
+pub(crate) const MOST_TEXTS: usize = 5;
 
-/// Memory for the texts of an entry.
+/// Memory for the texts of entries.
 pub(crate) type TextMemory = Promise<LONGEST_TEXT, MOST_TEXTS>;
 
 /// Enters what was said on a configured channel, under the name of its stretch, behind the other entries.
@@ -57,6 +59,7 @@ pub(crate) fn enter_message(
 )
     requires { vec_len entries.old < vec_capacity entries.old }
     ensures length { vec_len entries.new ≤ vec_len entries.old + 1 }
+    ensures capacity { vec_capacity entries.new ≡ vec_capacity entries.old }
     ensures entered { (c : LayerSettings) (l : LayerState) → FitsLayer c layer.now l
         → is_channel c.channels channel ≡ true →
         map plain_entry entries.new.items ≡ map plain_entry entries.old.items
@@ -103,6 +106,7 @@ fn told_of(texts: &mut TextMemory, notice: Notice<'_>) -> Told
     requires { 3 ≤ texts.old }
     ensures told { IsShort (plain_notice notice.entry) → plain_told result ≡ plain_notice notice.entry }
     ensures no_more { texts.new ≤ texts.old }
+    ensures left { texts.old ≤ texts.new + 3 }
 {
     match notice {
         Notice::Incoming {
@@ -149,7 +153,9 @@ fn enter_notices(
     requires texts { 3 ≤ texts.old }
     requires room { vec_len entries.old + 2 ≤ vec_capacity entries.old }
     ensures length { vec_len entries.new ≤ vec_len entries.old + 2 }
+    ensures capacity { vec_capacity entries.new ≡ vec_capacity entries.old }
     ensures no_more { texts.new ≤ texts.old }
+    ensures left { texts.old ≤ texts.new + 3 }
     ensures entered { (c : LayerSettings) (l : LayerState) → FitsLayer c layer.now l
         → AreTellable c (notices_on channel (notices_of collided notice.entry)) →
         map plain_entry entries.new.items ≡ map plain_entry entries.old.items
@@ -176,7 +182,9 @@ pub(crate) fn enter_told(
     requires texts { 3 ≤ texts.old }
     requires room { vec_len entries.old + 2 ≤ vec_capacity entries.old }
     ensures length { vec_len entries.new ≤ vec_len entries.old + 2 }
+    ensures capacity { vec_capacity entries.new ≡ vec_capacity entries.old }
     ensures no_more { texts.new ≤ texts.old }
+    ensures left { texts.old ≤ texts.new + 3 }
     ensures entered { (c : LayerSettings) (l : LayerState) → FitsLayer c layer.now l
         → AreTellable c (plain_heard told.entry) →
         map plain_entry entries.new.items ≡ map plain_entry entries.old.items
@@ -194,5 +202,64 @@ pub(crate) fn enter_told(
         }
         Heard::RestartDone => entries.push_reserved(Entry::RestartDone),
         Heard::Fault { diagnostic } => entries.push_reserved(Entry::Fault { diagnostic }),
+    }
+}
+
+// Whether a notice is of a call, of its acceptance or of its end.
+fn may_bring(notice: &Notice<'_>) -> bool
+    ensures { result ≡ may_bring (plain_notice notice.now) }
+{
+    match notice {
+        Notice::Incoming { .. }
+        | Notice::Connected { .. }
+        | Notice::Cleared { .. }
+        | Notice::ClearDone => true,
+        _ => false,
+    }
+}
+
+/// The channel of what the layer reported, where that is of a packet that may bring more.
+pub(crate) fn bringing(told: &Heard<'_>) -> Option<u16>
+    ensures { result ≡ bringing (plain_heard told.now) }
+{
+    match told {
+        Heard::Channel {
+            channel,
+            notice: Some(notice),
+            ..
+        } if may_bring(notice) => Some(*channel),
+        _ => None,
+    }
+}
+
+/// Enters what a packet brought beside what was told of it on this channel.
+pub(crate) fn enter_beside(
+    texts: &mut TextMemory,
+    beside: Beside<'_>,
+    channel: Option<u16>,
+    entries: &mut Vec<Entry>,
+)
+    requires texts { 2 ≤ texts.old }
+    requires room { vec_len entries.old < vec_capacity entries.old }
+    requires few { AreFew (plain_beside beside) }
+    ensures length { vec_len entries.new ≤ vec_len entries.old + 1 }
+    ensures no_more { texts.new ≤ texts.old }
+    ensures entered { map plain_entry entries.new.items ≡ map plain_entry entries.old.items
+        ++ entries_beside (plain_beside beside.entry) channel }
+{
+    match (beside, channel) {
+        (Beside::Fields(fields), Some(channel)) => {
+            let facilities = kept(texts, fields.facilities);
+            let user = kept(texts, fields.user);
+            entries.push_reserved(Entry::Beside {
+                channel,
+                facilities,
+                user,
+            });
+        }
+        (Beside::Diagnostic(diagnostic), _) => {
+            entries.push_reserved(Entry::Diagnosed { diagnostic });
+        }
+        _ => {}
     }
 }

@@ -34,6 +34,17 @@ pub enum Entry {
     Fault {
         diagnostic: u8,
     },
+    /// What the packet of the entry in front of this one brought beside it: the facility field as it came, at most 109
+    /// octets, and the user data, at most 128, of which a call has none here.
+    Beside {
+        channel: u16,
+        facilities: Vec<u8>,
+        user: Vec<u8>,
+    },
+    /// A DIAGNOSTIC came.
+    Diagnosed {
+        diagnostic: u8,
+    },
 }
 
 /// What is said on a channel.

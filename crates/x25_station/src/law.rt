@@ -60,8 +60,8 @@ pub fn steps_keep_bounds()
 /// What a station holds at most: 256 packets that wait in its link, 7 that were sent and aren't acknowledged, and for
 /// each channel 8 messages that wait, and one more whose last packet was pulled, until the next is begun, and one of
 /// which some packets came. A message, also one in part, has at most 65,535 octets. Between calls memory is set aside
-/// for at most 16 packets in its layer and in its link each, and for 3 texts of entries. In all that is at most
-/// 1,476,291 octets, and 667,638 for each channel.
+/// for at most 16 packets in its layer and in its link each, and for 5 texts of entries. In all that is at most
+/// 1,476,547 octets, and 667,638 for each channel.
 pub fn stations_hold_few()
     ensures wait { FewWait }
     ensures stand { FewStand }

@@ -2,6 +2,7 @@
 #![tactic(auto)]
 
 mod asking;
+mod beside;
 mod command;
 mod config;
 mod entering;

@@ -126,6 +126,7 @@ pub(crate) fn note_down(layer: &mut Layer, down: Option<Reason>, entries: &mut V
     ensures room { (len spares : ℕ) → HasRoom len layer.old spares → HasRoom len layer.new spares }
     ensures memory { layer.new.memory ≡ layer.old.memory }
     ensures same { down ≡ None → layer.new ≡ layer.old }
+    ensures nothing { down ≡ None → entries.new ≡ entries.old }
     ensures layer { (c : LayerSettings) (l : LayerState) → FitsLayer c layer.old l
         → FitsLayer c layer.new (layer_down l down) }
     ensures entries { map plain_entry entries.new.items ≡ map plain_entry entries.old.items ++ entries_down down }

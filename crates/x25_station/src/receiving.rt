@@ -7,7 +7,7 @@ ghost use Rattle.x25_layer.specs.Layer.{Layer as LayerState};
 ghost use Rattle.x25_layer.specs.code.FitsLayer.{FitsLayer};
 ghost use Rattle.x25_layer.specs.Room.{HasRoom, HaveAtMost, IsNotFull};
 ghost use Rattle.x25_layer.specs.Rounds.{Putting, hears, comes_up};
-ghost use Rattle.x25_station.specs.Entry.{entries_up, entries_noted};
+ghost use Rattle.x25_station.specs.Entry.{bringing, entries_up, entries_noted};
 ghost use Rattle.x25_station.specs.code.Clock.{TellsTimer};
 ghost use Rattle.x25_station.specs.code.FitsStation.{FitsStation, Does, HasPlaces, IsEmpty};
 ghost use Rattle.x25_station.specs.code.PlainEntry.{plain_entry};
@@ -17,7 +17,8 @@ ghost use Rattle.x25_station.specs.Station.{Station as State, view_of, all_put};
 ghost use Rattle.x25_station.specs.Step.{Did, abandons, receives, layer_at, layer_answer, entries_heard};
 ghost use Rattle.x25_station.specs.Step.{entries_of_answer};
 
-use crate::entering::{MOST_TEXTS, TextMemory, enter_message, enter_told};
+use crate::beside::beside_of;
+use crate::entering::{MOST_TEXTS, TextMemory, bringing, enter_beside, enter_message, enter_told};
 use crate::entry::Entry;
 use crate::error::StationError;
 use crate::law::steps_keep_bounds;
@@ -64,7 +65,7 @@ fn lent<'a>(wide: bool, field: &'a mut NarrowField) -> Option<&'a mut NarrowFiel
     if wide { Some(field) } else { None }
 }
 
-// What the layer does with a packet that the link hands up.
+// What the layer does with a packet that the link hands up, and the channel on which it may have brought more.
 fn hear(
     layer: &mut Layer,
     link: &mut Link,
@@ -72,7 +73,7 @@ fn hear(
     wide: bool,
     packet: &[u8],
     entries: &mut Vec<Entry>,
-)
+) -> Option<u16>
     requires put { CanPut link.old }
     requires left { IsNotFull layer.old }
     requires room { HasRoom (length packet.now - 3) layer.old link.old.outbox.long }
@@ -95,15 +96,22 @@ fn hear(
     ensures most_memory { layer.new.memory ≤ max layer.old.memory 16 }
     ensures most_spares { link.new.outbox.long ≤ max link.old.outbox.long 16 }
     ensures texts { texts.new ≤ texts.old }
+    ensures texts_left { texts.old ≤ texts.new + 3 }
+    ensures capacity { vec_capacity entries.new ≡ vec_capacity entries.old }
+    ensures bringing { (c : Settings) (l : LayerState) (t : Side) → FitsLayer (layer_settings c) layer.old l
+        → FitsWhole link.old (kept_of (link_settings c) t) →
+        result ≡ bringing (layer_answer (layer_settings c) wide l packet.now).notices }
 {
     if let Some(delivery) = layer.transfer(link, packet) {
         enter_message(layer, entries, delivery.channel, delivery.message);
-        return;
+        return None;
     }
     taking_keeps_octets();
     let mut field = NarrowField::none();
     let told = layer.packet(link, packet, lent(wide, &mut field)).unwrap();
+    let channel = bringing(&told);
     enter_told(layer, texts, told, entries);
+    channel
 }
 
 // What the layer does at a step of the link that noted this and handed this up.
@@ -121,7 +129,7 @@ fn follow(
     requires left { IfSome packet (λ _. IsNotFull layer.old) }
     requires begun { HasRoom 0 layer.old link.old.outbox.long }
     requires room { IfSome packet (λ p. HasRoom (length p.now - 3) layer.old link.old.outbox.long) }
-    requires texts { 3 ≤ texts.old }
+    requires texts { 5 ≤ texts.old }
     requires entries { vec_len entries.old + 3 ≤ vec_capacity entries.old }
     ensures layer { (c : Settings) (l : LayerState) (t : Side) → FitsLayer (layer_settings c) layer.old l
         → FitsWhole link.old (kept_of (link_settings c) t) →
@@ -152,7 +160,8 @@ fn follow(
         return;
     }
     if let Some(packet) = packet {
-        hear(layer, link, texts, wide, packet, entries);
+        let channel = hear(layer, link, texts, wide, packet, entries);
+        enter_beside(texts, beside_of(wide, packet), channel, entries);
     }
 }
 
@@ -221,18 +230,18 @@ impl Station {
     }
 
     // Sets memory aside for all that octets may bring, with so many of user data: room for frames and entries, and
-    // their texts. However many they are, it is for 16 packets, 3 texts and 4,096 octets a circuit, or for what was
+    // their texts. However many they are, it is for 16 packets, 5 texts and 4,096 octets a circuit, or for what was
     // before.
     fn set_aside(&mut self, len: usize, out: &mut Step) -> Result<(), StationError>
         requires { IsEmpty out.old }
         ensures fits { (c : Settings) (s : State) → FitsStation c self.old s → FitsStation c self.new s }
         ensures left { IsNotFull self.old.layer → IsNotFull self.new.layer }
         ensures room { OnOk result (HasRoom len self.new.layer self.new.link.outbox.long) }
-        ensures texts { OnOk result (3 ≤ self.new.texts) }
+        ensures texts { OnOk result (5 ≤ self.new.texts) }
         ensures empty { IsEmpty out.new }
         ensures places { OnOk result (HasPlaces out.new) }
         ensures refused { IfErr result (λ e. e ≡ StationError.NoMemory) }
-        ensures most_texts { self.new.texts ≤ max self.old.texts 3 }
+        ensures most_texts { self.new.texts ≤ max self.old.texts 5 }
         ensures most_memory { self.new.layer.memory ≤ max self.old.layer.memory 16 }
         ensures most_spares { self.new.link.outbox.long ≤ max self.old.link.outbox.long 16 }
         ensures most_circuits { (bound : ℕ) → 4096 ≤ bound → HaveAtMost bound self.old.layer.circuits.items

@@ -122,10 +122,10 @@ impl Station {
     }
 
     /// How many buffers are kept for what memory is refused for later: as many at least as memory is promised for, and
-    /// 51 at most, 32 for a frame each, 16 for a packet, and 3 for a text of an entry.
+    /// 53 at most, 32 for a frame each, 16 for a packet, and 5 for a text of an entry.
     pub fn blanks(&self) -> usize
         ensures least { self.now.link.outbox.long + (self.now.layer.memory + self.now.texts) ≤ result }
-        ensures most { result ≤ 51 }
+        ensures most { result ≤ 53 }
     {
         self.link.blanks() + self.layer.blanks() + self.texts.blanks()
     }

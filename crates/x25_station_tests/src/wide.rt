@@ -1,6 +1,7 @@
-//! A station that reads packets in all the forms that X.25 has: each form that stops one that doesn't, and then data.
+//! A station that reads packets in all the forms that X.25 has: each form that stops one that doesn't, and then data;
+//! and what its user is told of what these forms bring beside.
 
-use crate::peer::{Act, Row, Table, play_at, settings};
+use crate::peer::{Act, Row, Table, play, play_at, settings};
 use crate::rows::{CALL, CALLED_DCE, CALLING_DTE, READY_DCE, READY_DTE, SABM, SEND, UA};
 use Act::{Ask, Connect, Hear, Take};
 use std::test::Fail;
@@ -56,6 +57,7 @@ const CLEAR_DTE: [Row; 7] = [
         Hear(4, 4, "1001130541000202aac0ffee"),
         &[
             "dte cleared ch=1 cause=5 diag=65",
+            "dte beside ch=1 fac=02aa data=c0ffee",
             "RR rsp F=0 R=5",
             "I cmd P=0 S=4 R=5 | CLEARCONF ch=1",
         ],
@@ -90,7 +92,11 @@ const CLEAR_CONF_DTE: [Row; 5] = [
     ),
     (
         Hear(2, 3, "100117000202aa"),
-        &["dte cleardone ch=1", "RR rsp F=0 R=3"],
+        &[
+            "dte cleardone ch=1",
+            "dte beside ch=1 fac=02aa data=-",
+            "RR rsp F=0 R=3",
+        ],
     ),
     (
         Ask(CALL),
@@ -150,7 +156,10 @@ const D_BIT_DTE: [Row; 3] = [
             "I cmd P=0 S=2 R=3 | RR ch=1 R=1",
         ],
     ),
-    (Hear(3, 3, "1000f12110010b"), &["RR rsp F=0 R=4"]),
+    (
+        Hear(3, 3, "1000f12110010b"),
+        &["dte diagnostic diag=33", "RR rsp F=0 R=4"],
+    ),
     (
         Ask(SEND),
         &[
@@ -179,7 +188,11 @@ const SET_UP_DTE: [Row; 6] = [
     ),
     (
         Hear(1, 2, "10010f11120202aac0"),
-        &["dte connected ch=1", "RR rsp F=0 R=2"],
+        &[
+            "dte connected ch=1",
+            "dte beside ch=1 fac=02aa data=c0",
+            "RR rsp F=0 R=2",
+        ],
     ),
     (
         Ask(SEND),
@@ -204,6 +217,7 @@ const INCOMING_DTE: [Row; 6] = [
         Hear(1, 1, "50010b11120a010143020202aa42070741"),
         &[
             "dte incoming ch=1 at 1.0.0 called=1 calling=2 data=41",
+            "dte beside ch=1 fac=010143020202aa420707 data=-",
             "RR rsp F=0 R=2",
         ],
     ),
@@ -301,6 +315,7 @@ const CLEAR_DCE: [Row; 7] = [
         Hear(4, 4, "1001130541000202aac0ffee"),
         &[
             "dce cleared ch=1 cause=5 diag=65",
+            "dce beside ch=1 fac=02aa data=c0ffee",
             "RR rsp F=0 R=5",
             "I cmd P=0 S=4 R=5 | CLEARCONF ch=1",
         ],
@@ -335,7 +350,11 @@ const CLEAR_CONF_DCE: [Row; 5] = [
     ),
     (
         Hear(2, 3, "100117000202aa"),
-        &["dce cleardone ch=1", "RR rsp F=0 R=3"],
+        &[
+            "dce cleardone ch=1",
+            "dce beside ch=1 fac=02aa data=-",
+            "RR rsp F=0 R=3",
+        ],
     ),
     (
         Ask(CALL),
@@ -395,7 +414,10 @@ const D_BIT_DCE: [Row; 3] = [
             "I cmd P=0 S=2 R=3 | RR ch=1 R=1",
         ],
     ),
-    (Hear(3, 3, "1000f12110010b"), &["RR rsp F=0 R=4"]),
+    (
+        Hear(3, 3, "1000f12110010b"),
+        &["dce diagnostic diag=33", "RR rsp F=0 R=4"],
+    ),
     (
         Ask(SEND),
         &[
@@ -427,7 +449,11 @@ const SET_UP_DCE: [Row; 5] = [
     ),
     (
         Hear(1, 2, "10010f11120202aac0"),
-        &["dce connected ch=1", "RR rsp F=0 R=2"],
+        &[
+            "dce connected ch=1",
+            "dce beside ch=1 fac=02aa data=c0",
+            "RR rsp F=0 R=2",
+        ],
     ),
     (
         Ask(SEND),
@@ -455,6 +481,7 @@ const INCOMING_DCE: [Row; 5] = [
         Hear(1, 1, "50010b11120a010143020202aa42070741"),
         &[
             "dce incoming ch=1 at 1.0.0 called=1 calling=2 data=41",
+            "dce beside ch=1 fac=010143020202aa420707 data=-",
             "RR rsp F=0 R=2",
         ],
     ),
@@ -473,6 +500,79 @@ const INCOMING_DCE: [Row; 5] = [
         ],
     ),
 ];
+
+const COLLISION_DCE: [Row; 3] = [
+    (
+        Ask(CALL),
+        &[
+            "dce call ch=1 at 1.0.0 called=123 calling=4567 data=41",
+            "I cmd P=0 S=1 R=1 | CALL ch=1 called=123 calling=4567 fac=- data=41",
+        ],
+    ),
+    (
+        Hear(1, 2, "10010b111202010141"),
+        &[
+            "dce collided ch=1",
+            "dce incoming ch=1 at 1.0.0 called=1 calling=2 data=41",
+            "dce beside ch=1 fac=0101 data=-",
+            "RR rsp F=0 R=2",
+        ],
+    ),
+    (
+        Hear(2, 2, "10011300000000"),
+        &[
+            "dce cleared ch=1 cause=0 diag=0",
+            "RR rsp F=0 R=3",
+            "I cmd P=0 S=2 R=3 | CLEARCONF ch=1",
+        ],
+    ),
+];
+
+const NOTHING_BESIDE_DCE: [Row; 4] = [
+    (
+        Hear(1, 1, "50010b111241"),
+        &[
+            "dce fault ch=1 diag=38",
+            "RR rsp F=0 R=2",
+            "I cmd P=0 S=1 R=2 | CLEAR ch=1 cause=19 diag=38",
+        ],
+    ),
+    (
+        Hear(2, 2, "10011700"),
+        &["dce cleardone ch=1", "RR rsp F=0 R=3"],
+    ),
+    (
+        Hear(3, 2, "10010b1112050101420d0d"),
+        &[
+            "dce fault ch=1 diag=66",
+            "RR rsp F=0 R=4",
+            "I cmd P=0 S=2 R=4 | CLEAR ch=1 cause=3 diag=66",
+        ],
+    ),
+    (Hear(4, 3, "10050b1112020101"), &["RR rsp F=0 R=5"]),
+];
+
+const STRICT_DCE: [Row; 2] = [
+    (Hear(1, 1, "1000f121"), &["RR rsp F=0 R=2"]),
+    (
+        Hear(2, 1, "10010b111202010141"),
+        &[
+            "dce fault ch=1 diag=65",
+            "RR rsp F=0 R=3",
+            "I cmd P=0 S=1 R=3 | CLEAR ch=1 cause=3 diag=65",
+        ],
+    ),
+];
+
+static READY_ONES_DCE: [Table; 2] = [
+    ("a call with facilities that collides", &COLLISION_DCE),
+    (
+        "packets that bring nothing beside, or are refused",
+        &NOTHING_BESIDE_DCE,
+    ),
+];
+
+static STRICT: [Table; 1] = [("a station that reads one form", &STRICT_DCE)];
 
 static OPEN_DCE: [Table; 5] = [
     ("a reset with its cause alone", &RESET_DCE),
@@ -520,5 +620,11 @@ fn a_dte_goes_on(rt: HostRuntime) -> Result<(), Fail> {
 fn a_dce_goes_on(rt: HostRuntime) -> Result<(), Fail> {
     let at = (Role::Dce, wide());
     play_at(&rt, rt.alloc(), at, &[], &FRESH_DCE)?;
+    play_at(&rt, rt.alloc(), at, &[&READY_DCE], &READY_ONES_DCE)?;
     play_at(&rt, rt.alloc(), at, &[&READY_DCE, &CALLED_DCE], &OPEN_DCE)
+}
+
+#[test]
+fn nothing_is_told_of_other_forms(rt: HostRuntime) -> Result<(), Fail> {
+    play(&rt, rt.alloc(), (Role::Dce, 1), &[&READY_DCE], &STRICT)
 }

@@ -16,7 +16,7 @@ use Rattle.x25_circuit.specs.Calling.{SaysNotReady}
 use Rattle.x25_handshakes.specs.laws.Names.{Name}
 use Rattle.x25_layer.specs.laws.Transcript.{Said, Asked, Told}
 use Rattle.x25_station.specs.Entry.{StationEntry, of_channel, restart_asked, connect_asked, disconnect_asked, link_up}
-use Rattle.x25_station.specs.Entry.{link_down, was_restarted, restart_confirmed, at_fault}
+use Rattle.x25_station.specs.Entry.{link_down, was_restarted, restart_confirmed, at_fault, came_beside, was_diagnosed}
 use Rattle.x25_text.specs.Text.{octets_text}
 use Rattle.x25_text.specs.PacketText.{reason_text}
 
@@ -126,6 +126,9 @@ entry_text (link_down reason) = codes "linkdown " ++ down_text reason
 entry_text (was_restarted cause diagnostic) = codes "restarted" ++ reason_text cause diagnostic
 entry_text restart_confirmed = codes "restartdone"
 entry_text (at_fault diagnostic) = codes "fault" ++ channel_text 0 ++ (codes " diag=" ++ decimal diagnostic)
+entry_text (came_beside channel facilities user) = codes "beside" ++ channel_text channel
+    ++ (codes " fac=" ++ octets_text facilities) ++ user_text user
+entry_text (was_diagnosed diagnostic) = codes "diagnostic" ++ (codes " diag=" ++ decimal diagnostic)
 
 abbrev pub end_text : Role → List ℕ
 end_text Dte = codes "dte "

@@ -8,6 +8,7 @@ ghost use Rattle.x25_transcript.specs.EntryText.{said_text, stretch_text, user_t
 ghost use Rattle.x25_station.specs.code.PlainEntry.{plain_asked, plain_entry, plain_name, plain_said, plain_told};
 ghost use Rattle.x25_packet.specs.Spelling.{bit};
 ghost use Rattle.x25_text.specs.PacketText.{reason_text};
+ghost use Rattle.x25_text.specs.Text.{octets_text};
 
 use std::alloc::{AllocError, Global};
 use x25_layer::{Params, Stretch};
@@ -233,6 +234,30 @@ fn push_down(reason: Reason, text: &mut Text) -> Result<(), AllocError>
     })
 }
 
+/// Appends what a packet brought beside what was told of it.
+fn push_beside(
+    channel: u16,
+    facilities: &[u8],
+    user: &[u8],
+    text: &mut Text,
+) -> Result<(), AllocError>
+    ensures { OnOk result (text.new ≡ text.old ++ (codes "beside" ++ channel_text channel
+        ++ (codes " fac=" ++ octets_text facilities.now) ++ user_text user.now)) }
+{
+    push_at(b"beside", channel, text)?;
+    text.try_push(b" fac=")?;
+    text.try_push_octets(facilities)?;
+    push_user(user, text)
+}
+
+/// Appends that a DIAGNOSTIC came.
+fn push_diagnosed(diagnostic: u8, text: &mut Text) -> Result<(), AllocError>
+    ensures { OnOk result (text.new ≡ text.old ++ (codes "diagnostic" ++ (codes " diag=" ++ decimal diagnostic))) }
+{
+    text.try_push(b"diagnostic")?;
+    text.try_push_number(b" diag=", u64::from(diagnostic))
+}
+
 fn push_entry_text(entry: &Entry, text: &mut Text) -> Result<(), AllocError>
     ensures { OnOk result (text.new ≡ text.old ++ entry_text (plain_entry entry.now)) }
 {
@@ -259,6 +284,12 @@ fn push_entry_text(entry: &Entry, text: &mut Text) -> Result<(), AllocError>
             push_at(b"fault", 0, text)?;
             text.try_push_number(b" diag=", u64::from(*diagnostic))
         }
+        Entry::Beside {
+            channel,
+            facilities,
+            user,
+        } => push_beside(*channel, facilities.as_slice(), user.as_slice(), text),
+        Entry::Diagnosed { diagnostic } => push_diagnosed(*diagnostic, text),
     }
 }
 

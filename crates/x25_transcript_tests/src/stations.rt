@@ -40,6 +40,10 @@ fn rows(alloc: Global) -> Result<Vec<(Entry, &'static str)>, AllocError> {
         ),
         (Entry::RestartDone, "dte restartdone\n"),
         (Entry::Fault { diagnostic: 17 }, "dte fault ch=0 diag=17\n"),
+        (
+            Entry::Diagnosed { diagnostic: 33 },
+            "dte diagnostic diag=33\n"
+        ),
     ]?)
 }
 
@@ -47,6 +51,28 @@ fn rows(alloc: Global) -> Result<Vec<(Entry, &'static str)>, AllocError> {
 fn shows_entries_of_the_station(rt: HostRuntime) -> Result<(), Fail> {
     for (entry, shown) in rows(rt.alloc())? {
         let line = entry_line(rt.alloc(), Role::Dte, &entry)?;
+        assert_eq!(rt; line.as_slice(), shown.as_bytes());
+    }
+    Ok(())
+}
+
+fn beside(alloc: Global, facilities: &[u8], user: &[u8]) -> Result<Entry, AllocError> {
+    Ok(Entry::Beside {
+        channel: 3,
+        facilities: facilities.to_vec(alloc)?,
+        user: user.to_vec(alloc)?,
+    })
+}
+
+#[test]
+fn shows_what_came_beside(rt: HostRuntime) -> Result<(), Fail> {
+    let rows: [(&[u8], &[u8], &str); 2] = [
+        (&[0x01, 0x81], &[], "dce beside ch=3 fac=0181 data=-\n"),
+        (&[], &[0xC0, 0xFF], "dce beside ch=3 fac=- data=c0ff\n"),
+    ];
+    for (facilities, user, shown) in rows {
+        let entry = beside(rt.alloc(), facilities, user)?;
+        let line = entry_line(rt.alloc(), Role::Dce, &entry)?;
         assert_eq!(rt; line.as_slice(), shown.as_bytes());
     }
     Ok(())

@@ -15,7 +15,7 @@ use Rattle.x25_layer.specs.laws.Apart.{OwnMove, own_run}
 use Rattle.x25_layer.specs.laws.TwoLayers.{started}
 use Rattle.x25_link.specs.Station.{is_up}
 use Rattle.x25_station.specs.declared.config.Cfg.{Cfg}
-use Rattle.x25_station.specs.Entry.{StationEntry, of_channel, restart_asked, connect_asked, disconnect_asked, link_up, link_down, layer_entries, was_restarted, restart_confirmed, at_fault}
+use Rattle.x25_station.specs.Entry.{StationEntry, of_channel, restart_asked, connect_asked, disconnect_asked, link_up, link_down, layer_entries, was_restarted, restart_confirmed, at_fault, came_beside, was_diagnosed}
 use Rattle.x25_station.specs.Station.{Station}
 use Rattle.x25_world.specs.World.{World}
 use Rattle.x25_world.specs.laws.Claims.{station_at, entries_at, ups_in, IsUpOnce, IsUpAtMostOnce, handed_at, link_of, IsLawful, IsNamed, ArrivesAll}
@@ -45,6 +45,8 @@ begun_more p (link_down reason ∷ es) = begun_more (after_entry p (link_down re
 begun_more p (was_restarted cause diagnostic ∷ es) = begun_more p es
 begun_more p (restart_confirmed ∷ es) = begun_more p es
 begun_more p (at_fault diagnostic ∷ es) = begun_more p es
+begun_more p (came_beside channel facilities user ∷ es) = begun_more p es
+begun_more p (was_diagnosed diagnostic ∷ es) = begun_more p es
 
 pub ups_are_begun : {cfg : Cfg} {end : Role} {s : Station} {k : SessionEnd} {trace : List Done} {es : List StationEntry} → IsEnd cfg end s k trace es → ups_in es ≡ k.begun
 ups_are_begun {es = es} h =

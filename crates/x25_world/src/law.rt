@@ -140,7 +140,7 @@ pub fn messages_wait_for_users()
     x25_layer::messages_wait_for_users();
 }
 
-/// What a world holds at most: 24,316,998 octets, twice as many as a station of 16 channels does, and those of the
+/// What a world holds at most: 24,317,510 octets, twice as many as a station of 16 channels does, and those of the
 /// frames on its line.
 pub fn worlds_hold_few()
     ensures { FewOctets }

@@ -2,28 +2,31 @@
 use Rattle.std.proofs.Common.{◌≡◌, ℕ, List, [], ◌∷◌, Some, None, true, false, refl}
 use Rattle.x25_bits.specs.declared.role.Role.TheVariants.{Dte}
 use Rattle.x25_frame.specs.Frame.{PlainFrame, info, sabm, disc}
-use Rattle.x25_packet.specs.Digits.{packed}
+use Rattle.x25_packet.specs.Digits.{halves_of, packed}
 use Rattle.x25_packet.specs.Reading.{packet_of}
+use Rattle.x25_wide.specs.Facilities.{are_facilities}
+use Rattle.x25_wide.specs.Reading.{wide_of}
 use Rattle.x25_link.specs.declared.error.LinkError.TheVariants as link_error
 use Rattle.x25_link.specs.declared.phase.Phase.TheVariants.{Waiting, Closed}
 use Rattle.x25_link.specs.declared.phase.Reason.TheVariants.{Local, Counts, Reset}
 use Rattle.x25_link.specs.Station.{with_nothing, fresh, pumped}
 use Rattle.x25_link.specs.Hearing.{Step as LinkStep}
 use Rattle.x25_link.specs.Link.{alone, goes_up}
-use Rattle.x25_circuit.specs.declared.state.State.TheVariants.{Open}
+use Rattle.x25_circuit.specs.declared.state.State.TheVariants.{Clearing, Open}
 use Rattle.x25_circuit.specs.Message.{Last}
 use Rattle.x25_circuit.specs.Params.{default_params, in_brief}
-use Rattle.x25_circuit.specs.Circuit.{silent, begun}
+use Rattle.x25_circuit.specs.Circuit.{Circuit, silent, begun}
+use Rattle.x25_circuit.specs.Notice.{clear_done}
 use Rattle.x25_circuit.specs.Calling.{Calls, Sends}
 use Rattle.x25_handshakes.specs.laws.Names.{Name}
 use Rattle.x25_layer.specs.declared.error.LayerError.TheVariants as layer_error
 use Rattle.x25_layer.specs.Layer as layer
 use Rattle.x25_layer.specs.Calls.{Asks, Dials, Restarts, PullsAll}
-use Rattle.x25_layer.specs.laws.Transcript.{Asked}
+use Rattle.x25_layer.specs.laws.Transcript.{Asked, Told}
 use Rattle.x25_station.specs.declared.error.StationError.TheVariants as error
 use Rattle.x25_station.specs.Config.{Settings, layer_settings}
 use Rattle.x25_station.specs.Command.{Requests, Connects, Disconnects}
-use Rattle.x25_station.specs.Entry.{StationEntry, of_channel, restart_asked, connect_asked, disconnect_asked, link_up, link_down, was_restarted}
+use Rattle.x25_station.specs.Entry.{StationEntry, of_channel, restart_asked, connect_asked, disconnect_asked, link_up, link_down, was_restarted, came_beside, was_diagnosed}
 use Rattle.x25_station.specs.Station.{Station, new_station}
 use Rattle.x25_station.specs.Step.{Outcome, Did, Refused, follows, connects, fires, receives, commands}
 use Rattle.x25_station.specs.Station.Told.{is_idle, stretch}
@@ -88,6 +91,29 @@ row_restarted = refl
 row_restarted_sends : (follows dte (layer.goes_up (layer_settings dte)).next (handed_up (16 ∷ 0 ∷ 251 ∷ 7 ∷ 0 ∷ []))).out ≡ []
 unfolding pumped packet_of
 row_restarted_sends = refl
+
+-- ---- what comes beside
+
+abbrev wide_dte : Settings
+wide_dte = record { role = Dte; window = 7; retries = 10; channels = 1; long_data = false; say_sizes = false; wide = true }
+
+row_diagnosed : (follows wide_dte (layer.is_ready 1 (λ k. begun)) (handed_up (16 ∷ 0 ∷ 241 ∷ 33 ∷ []))).entries ≡ was_diagnosed 33 ∷ []
+unfolding pumped packet_of wide_of
+row_diagnosed = refl
+
+-- without the setting nothing is told
+row_undiagnosed : (follows dte (layer.is_ready 1 (λ k. begun)) (handed_up (16 ∷ 0 ∷ 241 ∷ 33 ∷ []))).entries ≡ []
+unfolding pumped packet_of
+row_undiagnosed = refl
+
+-- a clear confirmation with a facility, where a call is being cleared
+abbrev clearing : Circuit
+clearing = record { state = Clearing; clears = 0; resets = 0; params = default_params; calls = false; talk = silent }
+
+row_beside : (follows wide_dte (layer.is_ready 1 (λ k. clearing)) (handed_up (16 ∷ 1 ∷ 23 ∷ 0 ∷ 2 ∷ 2 ∷ 170 ∷ []))).entries
+    ≡ of_channel (record { channel = 1; name = record { restarts = 1; clears = 1; resets = 0 }; said = Told clear_done }) ∷ came_beside 1 (2 ∷ 170 ∷ []) [] ∷ []
+unfolding pumped packet_of wide_of are_facilities halves_of
+row_beside = refl
 
 -- ---- commands
 

@@ -26,14 +26,14 @@ circuit_octets u = 65535 * holds u + (69631 + 4096 * 2)
 abbrev pub layer_octets : layer_code.Layer → ℕ
 layer_octets y = sum_by circuit_octets y.circuits.items + 4099 * 16
 
--- three texts of 128 octets that memory is promised for, and the memory kept of a message that was read
+-- five texts of 128 octets that memory is promised for, and the memory kept of a message that was read
 abbrev pub octets_held : code.Station → ℕ
-octets_held v = link_octets v.link + (layer_octets v.layer + (128 * 3 + 4096 * v.messages.kept))
+octets_held v = link_octets v.link + (layer_octets v.layer + (128 * 5 + 4096 * v.messages.kept))
 
 -- so many, and so many for each channel
 abbrev pub FewOctets : Type 0
-FewOctets = (v : code.Station) → octets_held v ≤ 1476291 + 667638 * length v.layer.circuits.items
+FewOctets = (v : code.Station) → octets_held v ≤ 1476547 + 667638 * length v.layer.circuits.items
 
 -- with at most 16 channels
 abbrev pub FewOctetsInAll : Type 0
-FewOctetsInAll = (v : code.Station) → octets_held v ≤ 12158499
+FewOctetsInAll = (v : code.Station) → octets_held v ≤ 12158755

@@ -11,8 +11,9 @@ use Rattle.x25_layer.specs.Calls.{LayerRequest, Asks, Dials, Restarts, PullsAll,
 use Rattle.x25_layer.specs.laws.Transcript.{Entry, Said, Asked, Told}
 use Rattle.x25_layer.specs.laws.TwoLayers.{entries_asked}
 use Rattle.x25_layer.specs.laws.ApartLaw.{BeginsRestarted}
+use Rattle.x25_station.specs.Beside.{PlainBeside, nothing, fields, diagnosed, beside_in}
 use Rattle.x25_station.specs.Config.{Settings, layer_settings}
-use Rattle.x25_station.specs.Entry.{StationEntry, of_channel, restart_asked, connect_asked, disconnect_asked, link_up, link_down, was_restarted, restart_confirmed, at_fault, of_channels, station_told, entries_noted, notice_of, layer_notices}
+use Rattle.x25_station.specs.Entry.{StationEntry, of_channel, restart_asked, connect_asked, disconnect_asked, link_up, link_down, was_restarted, restart_confirmed, at_fault, came_beside, was_diagnosed, bringing, entries_beside, of_channels, station_told, entries_noted, notice_of, layer_notices}
 use Rattle.x25_station.specs.Step.{entries_of_outcome, layer_answer, entries_heard, follows}
 use Rattle.x25_world.specs.World.{AtEnd, entered}
 use Rattle.x25_world.specs.laws.Claims.{entry_of_end, entries_at}
@@ -101,6 +102,8 @@ none_met n here there (link_down reason ∷ entries) none = none_met n (after_en
 none_met n here there (was_restarted cause diagnostic ∷ entries) none = something (restarted cause diagnostic) (layer_notices entries) none
 none_met n here there (restart_confirmed ∷ entries) none = something restart_done (layer_notices entries) none
 none_met n here there (at_fault diagnostic ∷ entries) none = something (layer_fault diagnostic) (layer_notices entries) none
+none_met n here there (came_beside channel facilities user ∷ entries) none = none_met n here there entries none
+none_met n here there (was_diagnosed diagnostic ∷ entries) none = none_met n here there entries none
 
 -- ---- entries that aren't the link's
 
@@ -123,6 +126,8 @@ plain_after p (link_down reason) h = absurd h
 plain_after p (was_restarted cause diagnostic) h = refl
 plain_after p restart_confirmed h = refl
 plain_after p (at_fault diagnostic) h = refl
+plain_after p (came_beside channel facilities user) h = refl
+plain_after p (was_diagnosed diagnostic) h = refl
 
 pub plain_progress : (p : Progress) (entries : List StationEntry) → ArePlain entries → after_entries p entries ≡ p
 plain_progress p [] h = refl
@@ -156,6 +161,8 @@ restart_met n here there (was_restarted cause diagnostic ∷ entries) plain is b
     ap (λ (b : Bool). first_of (if b then Some there.begun else None) (met_by n here there entries)) is
 restart_met n here there (restart_confirmed ∷ entries) plain is begins = absurd begins
 restart_met n here there (at_fault diagnostic ∷ entries) plain is begins = absurd begins
+restart_met n here there (came_beside channel facilities user ∷ entries) plain is begins = restart_met n here there entries plain.1 is begins
+restart_met n here there (was_diagnosed diagnostic ∷ entries) plain is begins = restart_met n here there entries plain.1 is begins
 
 -- in a session that doesn't stand none is met
 pub elsewhere_met : (n : ℕ) (here there : Progress) (entries : List StationEntry) → ArePlain entries → is_in n here ≡ false → met_by n here there entries ≡ None
@@ -173,6 +180,8 @@ elsewhere_met n here there (e ∷ entries) plain out =
     at_one (was_restarted cause diagnostic) h = ap (λ (b : Bool). if b then Some there.begun else None) out
     at_one restart_confirmed h = refl
     at_one (at_fault diagnostic) h = refl
+    at_one (came_beside channel facilities user) h = refl
+    at_one (was_diagnosed diagnostic) h = refl
 
 -- ---- those of a step that notes nothing are such
 
@@ -187,12 +196,18 @@ outcome_plain c l Restarts (Accepted next packet) = (tt, tt)
 outcome_plain c l PullsAll (Accepted next packet) = tt
 outcome_plain c l request (Declined e) = tt
 
-told_plain : (l : Layer) (notices : List LayerNotice) → ArePlain (station_told l notices)
-told_plain l [] = tt
-told_plain l (on_channel h notice ∷ notices) = (tt, told_plain l notices)
-told_plain l (restarted cause diagnostic ∷ notices) = (tt, told_plain l notices)
-told_plain l (restart_done ∷ notices) = (tt, told_plain l notices)
-told_plain l (layer_fault diagnostic ∷ notices) = (tt, told_plain l notices)
+beside_plain : (b : PlainBeside) (o : Option ℕ) → ArePlain (entries_beside b o)
+beside_plain nothing o = tt
+beside_plain (fields facilities user) None = tt
+beside_plain (fields facilities user) (Some h) = (tt, tt)
+beside_plain (diagnosed diagnostic) o = (tt, tt)
+
+told_plain : (l : Layer) (notices : List LayerNotice) (b : PlainBeside) (o : Option ℕ) → ArePlain (station_told l notices ++ entries_beside b o)
+told_plain l [] b o = beside_plain b o
+told_plain l (on_channel h notice ∷ notices) b o = (tt, told_plain l notices b o)
+told_plain l (restarted cause diagnostic ∷ notices) b o = (tt, told_plain l notices b o)
+told_plain l (restart_done ∷ notices) b o = (tt, told_plain l notices b o)
+told_plain l (layer_fault diagnostic ∷ notices) b o = (tt, told_plain l notices b o)
 
 -- the entries of a packet that is handed up
 pub heard_plain : (c : Settings) (l : Layer) (k : LinkStep) (octets : List ℕ) → k.packet ≡ Some octets → IsQuiet k → ArePlain (follows c l k).entries
@@ -200,4 +215,5 @@ heard_plain c l k octets some quiet =
     subst ArePlain
     (sym (ap (λ (o : Option (List ℕ)). entries_noted k.notes ++ entries_heard (layer_settings c) c.wide l o k.notes.down k.notes.up) some
     ∙ ap (λ (n : Notes). entries_noted n ++ entries_heard (layer_settings c) c.wide l (Some octets) n.down n.up) quiet))
-    (told_plain (layer_answer (layer_settings c) c.wide l octets).next (layer_answer (layer_settings c) c.wide l octets).notices)
+    (told_plain (layer_answer (layer_settings c) c.wide l octets).next (layer_answer (layer_settings c) c.wide l octets).notices
+    (beside_in c.wide octets) (bringing (layer_answer (layer_settings c) c.wide l octets).notices))

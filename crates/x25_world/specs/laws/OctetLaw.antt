@@ -13,4 +13,4 @@ abbrev pub octets_held : ShownWorld → ℕ
 octets_held v = (station.octets_held v.dte + station.octets_held v.dce) + line_octets v
 
 abbrev pub FewOctets : Type 0
-FewOctets = (v : ShownWorld) → octets_held v ≤ 24316998 + line_octets v
+FewOctets = (v : ShownWorld) → octets_held v ≤ 24317510 + line_octets v

@@ -1,12 +1,13 @@
-use Rattle.std.proofs.Common.{option_copied, ap, sym, subst, ◌∙◌}
+use Rattle.std.proofs.Common.{option_copied, ◌++◌, map, ap, sym, subst, ◌∙◌}
 use Rattle.x25_link.specs.code.FitsLink.{FitsWhole}
 use Rattle.x25_layer.specs.code.FitsLayer.{FitsLayer}
 use Rattle.x25_layer.specs.Rounds.{Putting}
 use Rattle.x25_station.specs.Config.{link_settings, layer_settings}
 use Rattle.x25_station.specs.Receiving.{kept_of}
 use Rattle.x25_station.specs.Station.{all_put, view_of}
-use Rattle.x25_station.specs.Step.{layer_down}
-use Rattle.x25_station.proofs.FollowLemmas.{is_none, at_up, at_down, at_heard, at_quiet}
+use Rattle.x25_station.specs.Step.{entries_of_answer, layer_answer, layer_down}
+use Rattle.x25_station.specs.code.PlainEntry.{plain_entry}
+use Rattle.x25_station.proofs.FollowLemmas.{is_none, at_up, at_down, at_heard, at_quiet, heard_entries}
 use Rattle.x25_station.proofs.receiving.follow.Goals as goal
 
 pub returns-then-notes-clause-layer : goal.returns-then-notes-clause-layer
@@ -31,15 +32,26 @@ returns-then-is_some-clause-layer c = λ c' l t fits link.
 pub returns-in-Some-clause-layer : goal.returns-in-Some-clause-layer
 returns-in-Some-clause-layer c = λ c' l t fits link.
     let lc = layer_settings c' in
-    at_heard (λ (s : Putting). FitsLayer lc c.hear.new.layer s.layer) (view_of (link_settings c') t.near) lc c.args.wide l (option_copied c.args.packet) c.in-Some.packet.now c.args.notes.down c.args.notes.up c.if-notes.false
-    (sym c.is_some.ensures ∙ c.if-is_some.false) (ap option_copied c.in-Some.is) (c.hear.ensures.layer c' l t (subst (λ y. FitsLayer lc y l) (sym (c.note_down.ensures.same (is_none _ (sym c.is_some.ensures ∙ c.if-is_some.false)))) fits) link)
+    at_heard (λ (s : Putting). FitsLayer lc c.hear-channel.new.layer s.layer) (view_of (link_settings c') t.near) lc c.args.wide l (option_copied c.args.packet) c.in-Some.packet.now c.args.notes.down c.args.notes.up c.if-notes.false
+    (sym c.is_some.ensures ∙ c.if-is_some.false) (ap option_copied c.in-Some.is) (c.hear-channel.ensures.layer c' l t (subst (λ y. FitsLayer lc y l) (sym (c.note_down.ensures.same (is_none _ (sym c.is_some.ensures ∙ c.if-is_some.false)))) fits) link)
 
 pub returns-in-Some-clause-link : goal.returns-in-Some-clause-link
 returns-in-Some-clause-link c = λ c' l t fits link.
     let lc = layer_settings c' in
     let lk = link_settings c' in
-    at_heard (λ (s : Putting). FitsWhole c.hear.new.link (kept_of lk (all_put lk s.put t))) (view_of lk t.near) lc c.args.wide l (option_copied c.args.packet) c.in-Some.packet.now c.args.notes.down c.args.notes.up c.if-notes.false
-    (sym c.is_some.ensures ∙ c.if-is_some.false) (ap option_copied c.in-Some.is) (c.hear.ensures.link c' l t (subst (λ y. FitsLayer lc y l) (sym (c.note_down.ensures.same (is_none _ (sym c.is_some.ensures ∙ c.if-is_some.false)))) fits) link)
+    at_heard (λ (s : Putting). FitsWhole c.hear-channel.new.link (kept_of lk (all_put lk s.put t))) (view_of lk t.near) lc c.args.wide l (option_copied c.args.packet) c.in-Some.packet.now c.args.notes.down c.args.notes.up c.if-notes.false
+    (sym c.is_some.ensures ∙ c.if-is_some.false) (ap option_copied c.in-Some.is) (c.hear-channel.ensures.link c' l t (subst (λ y. FitsLayer lc y l) (sym (c.note_down.ensures.same (is_none _ (sym c.is_some.ensures ∙ c.if-is_some.false)))) fits) link)
+
+pub returns-in-Some-clause-entries : goal.returns-in-Some-clause-entries
+returns-in-Some-clause-entries c = λ c' l t fits link.
+    let lc = layer_settings c' in
+    let none = is_none _ (sym c.is_some.ensures ∙ c.if-is_some.false) in
+    let stays = subst (λ y. FitsLayer lc y l) (sym (c.note_down.ensures.same none)) fits in
+    let told = entries_of_answer (layer_answer lc c.args.wide l c.in-Some.packet.now) in
+    heard_entries lc c.args.wide l (option_copied c.args.packet) c.in-Some.packet.now c.args.notes (map plain_entry c.args.entries.now.items) _ _ _ _
+    c.if-notes.false none (ap option_copied c.in-Some.is)
+    (c.hear-channel.ensures.entries c' l t stays link ∙ ap (λ es. map plain_entry es.items ++ told) (c.note_down.ensures.nothing none))
+    (c.hear-channel.ensures.bringing c' l t stays link) c.beside_of.ensures.exact c.enter_beside.ensures.entered
 
 pub returns-in_default-clause-layer : goal.returns-in_default-clause-layer
 returns-in_default-clause-layer c = λ c' l t fits link.

@@ -1,4 +1,4 @@
-use Rattle.std.proofs.Common.{◌-◌, ◌<◌, ◌++◌, Bool, is_some, length, map, List, All, arith, ap, sym, subst, ◌∙◌}
+use Rattle.std.proofs.Common.{◌-◌, ◌<◌, ◌++◌, Bool, is_some, length, map, option_to_list, List, All, arith, ap, sym, subst, ◌∙◌}
 use Rattle.std.proofs.lemmas.List.Elements.{All-from_get_or}
 use Rattle.x25_wide.specs.Taking.{read_in}
 use Rattle.x25_link.specs.code.FitsLink.{FitsWhole}
@@ -6,7 +6,7 @@ use Rattle.x25_layer.specs.code.FitsLayer.{FitsLayer}
 use Rattle.x25_layer.specs.Layer.{LayerNotice}
 use Rattle.x25_layer.specs.Rounds.{LinkView, begin, hears, answer_to}
 use Rattle.x25_packet.specs.Spelling.{longest_user}
-use Rattle.x25_station.specs.Entry.{station_told}
+use Rattle.x25_station.specs.Entry.{bringing, station_told}
 use Rattle.x25_station.specs.code.PlainEntry.{plain_entry}
 use Rattle.x25_station.specs.Config.{link_settings, layer_settings}
 use Rattle.x25_station.specs.Receiving.{kept_of, AreTellable}
@@ -14,7 +14,7 @@ use Rattle.x25_station.specs.Station.{all_put, view_of}
 use Rattle.x25_station.proofs.AskLemmas.{after_puts}
 use Rattle.x25_station.proofs.LinkLemmas.{seen_by, same_view, on_ok}
 use Rattle.x25_station.proofs.NameLemmas.{rounds_name}
-use Rattle.x25_station.proofs.TellLemmas.{same_told, told_is}
+use Rattle.x25_station.proofs.TellLemmas.{delivered_alone, same_told, told_is}
 use Rattle.x25_station.proofs.ShortLemmas.{told_tellable}
 use Rattle.x25_station.proofs.receiving.hear.Goals as goal
 
@@ -42,6 +42,11 @@ returns-in-Some-clause-entries c = λ c' l t fits link.
     c.enter_message.ensures.entered lc (hears view lc c.args.wide l octets).step.layer (returns-in-Some-clause-layer c c' l t fits link) (c.in-Some.ensures.channel lc l fits)
     ∙ ap (λ ns. map plain_entry c.args.entries.now.items ++ station_told (hears view lc c.args.wide l octets).step.layer ns) (c.in-Some.ensures.told c.args.wide lc l view fits)
     ∙ ap (λ es. map plain_entry c.args.entries.now.items ++ es) (same_told (hears view lc c.args.wide l octets).step.layer a.next a.notices (rounds_name view lc (begin a.next a.owed)))
+
+pub returns-in-Some-clause-bringing : goal.returns-in-Some-clause-bringing
+returns-in-Some-clause-bringing c = λ c' l t fits link.
+    sym (delivered_alone c.in-Some.delivery.channel (option_to_list c.in-Some.delivery.message))
+    ∙ ap (λ (ns : List LayerNotice). bringing ns) (c.in-Some.ensures.told c.args.wide (layer_settings c') l (view_of (link_settings c') t.near) fits)
 
 -- ---- another
 
@@ -76,3 +81,12 @@ returns-clause-entries c = λ c' l t fits link.
     c.enter_told.ensures.entered lc (hears view lc c.args.wide l octets).step.layer (returns-clause-layer c c' l t fits link) (subst (λ (ns : List LayerNotice). AreTellable lc ns) (sym told) tellable)
     ∙ ap (λ ns. map plain_entry c.args.entries.now.items ++ station_told (hears view lc c.args.wide l octets).step.layer ns) told
     ∙ ap (λ es. map plain_entry c.args.entries.now.items ++ es) (same_told (hears view lc c.args.wide l octets).step.layer a.next a.notices (rounds_name view lc (begin a.next a.owed)))
+
+pub returns-clause-bringing : goal.returns-clause-bringing
+returns-clause-bringing c = λ c' l t fits link.
+    let lc = layer_settings c' in
+    let view : LinkView = view_of (link_settings c') t.near in
+    let octets = c.args.packet.now in
+    let told = told_is c.packet.result c.unwrap-told.result (answer_to lc l octets (read_in (is_some c.lent.result) (longest_user lc.circuit.long_data) octets)).notices c.unwrap-told.ensures (c.packet.ensures.told lc l view (c.in_default.ensures.layer_stays lc l fits))
+    ∙ ap (λ (b : Bool). (answer_to lc l octets (read_in b (longest_user lc.circuit.long_data) octets)).notices) c.lent.ensures in
+    c.bringing-channel.ensures ∙ ap (λ (ns : List LayerNotice). bringing ns) told

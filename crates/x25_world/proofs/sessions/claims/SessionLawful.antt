@@ -10,7 +10,7 @@ use Rattle.x25_layer.specs.laws.TwoLayers as layer
 use Rattle.x25_layer.specs.laws.Transcript.{Entry}
 use Rattle.x25_layer.specs.laws.Law.{HandsUpLawfully}
 use Rattle.x25_station.specs.declared.config.Cfg.{Cfg}
-use Rattle.x25_station.specs.Entry.{StationEntry, of_channel, restart_asked, connect_asked, disconnect_asked, link_up, link_down, was_restarted, restart_confirmed, at_fault, layer_notices}
+use Rattle.x25_station.specs.Entry.{StationEntry, of_channel, restart_asked, connect_asked, disconnect_asked, link_up, link_down, was_restarted, restart_confirmed, at_fault, came_beside, was_diagnosed, layer_notices}
 use Rattle.x25_world.specs.World.{World, swapped}
 use Rattle.x25_world.specs.laws.Claims.{entries_at}
 use Rattle.x25_world.specs.laws.Sessions.{Progress, none_begun, after_entry, is_in, entry_if, session_from, session_at, handed_in, meets}
@@ -60,6 +60,8 @@ begins_after p (link_down reason) first = λ stands. absurd (cc)
 begins_after p (was_restarted cause diagnostic) first = first
 begins_after p restart_confirmed first = first
 begins_after p (at_fault diagnostic) first = first
+begins_after p (came_beside channel facilities user) first = first
+begins_after p (was_diagnosed diagnostic) first = first
 
 before_first : (p : Progress) (entries : List StationEntry) → BeginsWhereStands p → session_from 0 p entries ≡ []
 before_first p [] first = refl

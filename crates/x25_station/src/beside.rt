@@ -1,0 +1,81 @@
+//! What a packet brings beside what the station takes it for.
+ghost use Rattle.std.specs.Prelude.{◌≡◌};
+ghost use Rattle.x25_station.specs.Beside.{AreFew, beside_in, beside_kind, of_block, of_fields, plain_beside};
+ghost use Rattle.x25_station.specs.Beside.{without_user};
+ghost use Rattle.x25_wide.specs.Block.{plain_fields, plain_optional};
+ghost use Rattle.x25_wide.specs.Packet.{plain_kind};
+
+use x25_packet::decode_within;
+use x25_wide::{Block, FAST_SELECT_OCTETS, Fields, Kind, decode};
+
+/// What octets bring beside the packet that a station takes them for. Its octets are borrowed.
+#[derive(Clone, Copy, Debug)]
+pub(crate) enum Beside<'a> {
+    /// Nothing: they are a packet in the form that a station writes, or none, or one that says no more.
+    Nothing,
+    /// The facility field of a CALL, an ACCEPT, a CLEAR or its confirmation, and but for a CALL the user data. They
+    /// aren't both empty.
+    Fields(Fields<'a>),
+    /// The code of a DIAGNOSTIC.
+    Diagnostic(u8),
+}
+
+/// Fields that aren't both empty.
+fn of_fields<'a>(fields: Option<Fields<'a>>) -> Beside<'a>
+    ensures { plain_beside result ≡ of_fields (plain_fields fields.entry) }
+{
+    match fields {
+        Some(fields) if fields.facilities.len() + fields.user.len() > 0 => Beside::Fields(fields),
+        _ => Beside::Nothing,
+    }
+}
+
+/// The fields of a CALL, whose user data a station tells with it.
+fn without_user<'a>(fields: Option<Fields<'a>>) -> Option<Fields<'a>>
+    ensures { plain_fields result ≡ without_user (plain_fields fields.entry) }
+{
+    match fields {
+        Some(fields) => Some(Fields {
+            facilities: fields.facilities,
+            user: &[],
+        }),
+        None => None,
+    }
+}
+
+fn of_block<'a>(block: Option<Block<'a>>) -> Beside<'a>
+    ensures { plain_beside result ≡ of_block (plain_optional block.entry) }
+{
+    match block {
+        Some(block) => of_fields(block.fields),
+        None => Beside::Nothing,
+    }
+}
+
+fn beside_kind<'a>(kind: Kind<'a>) -> Beside<'a>
+    ensures { plain_beside result ≡ beside_kind (plain_kind kind.entry) }
+{
+    match kind {
+        Kind::Call { block } => of_fields(without_user(block.fields)),
+        Kind::Accept { block } | Kind::ClearConf { block } => of_block(block),
+        Kind::ExtendedClear { block, .. } => of_fields(block.fields),
+        Kind::Diagnostic { code, .. } => Beside::Diagnostic(code),
+        _ => Beside::Nothing,
+    }
+}
+
+/// What octets bring beside the packet that a station takes them for, where it reads packets in all their forms.
+/// Nothing where they are a packet in the form that it writes, or none. A CALL may have 128 octets of user data here.
+pub(crate) fn beside_of<'a>(wide: bool, octets: &'a [u8]) -> Beside<'a>
+    ensures exact { plain_beside result ≡ beside_in wide octets.now }
+    // At most 109 octets of facilities, and 128 of user data.
+    ensures few { AreFew (plain_beside result) }
+{
+    if !wide || decode_within(FAST_SELECT_OCTETS, octets).is_ok() {
+        return Beside::Nothing;
+    }
+    match decode(FAST_SELECT_OCTETS, octets) {
+        Ok(packet) => beside_kind(packet.kind),
+        Err(_) => Beside::Nothing,
+    }
+}
