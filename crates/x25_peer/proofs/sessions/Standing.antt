@@ -4,7 +4,6 @@ use Rattle.std.proofs.Common.{◌≡◌, ℕ, suc, ◌==◌, ◌≤◌, ◌<◌,
 use Rattle.std.proofs.lemmas.Bool.{eqb-true}
 use Rattle.std.proofs.lemmas.List.{length-append, drop-append-le}
 use Rattle.x25_packet.specs.Packet.{PlainPacket}
-use Rattle.x25_packet.specs.Spelling.{longest_user}
 use Rattle.x25_link.specs.Station.{Settings as LinkSettings, LinkStation, is_up}
 use Rattle.x25_link.specs.laws.NoteLaw.{TakeTells, TakeHandsUp, TimerTells, PutTells, ConnectTells, DisconnectTells, AbandonTells}
 use Rattle.x25_line.specs.laws.InWindow.{IsPrefix}
@@ -132,8 +131,8 @@ abbrev pub PairReached : Settings → Known → Theirs → List PlainPacket → 
 PairReached c k t puts = IsReachedByOctets c.role c.long_data c.channels (record { near = k.end; peer = t.layer; out = way t k.end.given; back = drop (length k.up) puts })
 
 -- of the peer's sessions
-pub record IsRead (most : ℕ) (p : Peer) (t : Theirs) (puts : List PlainPacket) : Type 0 where
-  pub reads : ReadAs most p.given puts
+pub record IsRead (c : Settings) (p : Peer) (t : Theirs) (puts : List PlainPacket) : Type 0 where
+  pub reads : ReadAs c p.given puts
   pub heard : t.heard ≤ length p.taken
 
 abbrev pub AreAnew : PeerEnd → Type 0
@@ -152,7 +151,7 @@ pub record Stands (c : Settings) (w : BesideSessions) : Type 0 where
   pub now : is_up w.near.link.phase ≡ true → IsStanding (known w.begun) w.near.layer
   pub each : (n : ℕ) → IsKnown n (known n) (w.own n)
   pub later : (n : ℕ) → w.begun < n → IsNotBegun c (known n)
-  pub peers : (m : ℕ) → IsRead (longest_user c.long_data) (w.peer.of_session m) (w.theirs m) (puts m)
+  pub peers : (m : ℕ) → IsRead c (w.peer.of_session m) (w.theirs m) (puts m)
   pub anew : AreAnew w.peer
   pub pairs : (n m : ℕ) → CanMeet n m w.met → PairReached c (known n) (w.theirs m) (puts m)
   pub kept : IsKept w.near
@@ -228,4 +227,4 @@ module _ (below : Below) (c : Settings) (low : 1 ≤ c.window) (high : c.window 
   pub up_few : length (h.known n).up ≤ length (h.puts m)
   up_few =
       let prefix = pair_begins.back in
-      read_length (longest_user c.long_data) (h.known n).up prefix.0 (h.puts m) (subst (λ (g : List (List ℕ)). ReadAs (longest_user c.long_data) g (h.puts m)) (sym prefix.1) (h.peers m).reads)
+      read_length c (h.known n).up prefix.0 (h.puts m) (subst (λ (g : List (List ℕ)). ReadAs c g (h.puts m)) (sym prefix.1) (h.peers m).reads)
