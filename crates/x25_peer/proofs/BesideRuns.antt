@@ -1,7 +1,7 @@
 -- All that happens to a station and a peer: their links are joined as `x25_line` has it, and their layers, over a link
 -- that keeps order, as `x25_layer` has it.
 use Rattle.std.proofs.Common.{◌≡◌, ℕ, zero, suc, ◌+◌, ◌≤◌, ◌==◌, nat_lt, List, [], ◌∷◌, ◌++◌, length, drop, map, Bool, true, false, if◌then◌else◌, Option, Some, None, Result, Ok, Err, option_to_list, refl, sym, ap, subst, ◌∙◌, append_assoc, append-nil, arith}
-use Rattle.std.proofs.lemmas.List.{map-append, drop-append-le, length-append}
+use Rattle.std.proofs.lemmas.List.{map-append, drop-append-le, length-append, length-map, drop_all}
 use Rattle.std.specs.Prelude.{remove, slice_get}
 use Rattle.x25_frame.specs.Frame.{PlainFrame, info, rr, rnr, rej}
 use Rattle.x25_frame.specs.Reading.{frame_of}
@@ -44,7 +44,7 @@ use Rattle.x25_station.specs.laws.KeepLaw.{IsKept, KeptBy, TimerKeeps, RequestKe
 use Rattle.x25_station.specs.laws.ReadLaw.{AreReadable, IsReachedByOctets, at_start, goes_on, PutsBesidePeersAreReadable}
 use Rattle.x25_peer.specs.laws.Beside.{Beside, read_by, ReadAs, came_up, start, stepped, handed_down, Happens, Asks, Fires, Receives, Loses, Damages, LosesThere, DamagesThere, Sends, Hears, LayerDoes, LayerHears, IsReached}
 use Rattle.x25_peer.specs.laws.Beside as beside
-use Rattle.x25_peer.specs.laws.BesideClaims.{WithAnyPeer, IsAllInOrder, FindsNoError}
+use Rattle.x25_peer.specs.laws.BesideClaims.{WithAnyPeer, IsAllInOrder, IdleHasArrived, FindsNoError}
 use Rattle.x25_peer.proofs.LinkPart.{spelled, LinkReached, end_of, joined_of, all_puts, link_fires, link_takes}
 use Rattle.x25_peer.proofs.LayerPart.{AllStay, pulls_stay, moves_reached, LayerReached, as_reached}
 
@@ -67,6 +67,12 @@ layer_append (x ∷ xs) ys = ap (λ (es : List Entry). in_layer x ++ es) (layer_
 pub notices_append : (xs ys : List StationEntry) → layer_notices (xs ++ ys) ≡ layer_notices xs ++ layer_notices ys
 notices_append [] ys = refl
 notices_append (x ∷ xs) ys = ap (λ (ns : List LayerNotice). notice_in x ++ ns) (notices_append xs ys) ∙ sym (append_assoc (notice_in x) (layer_notices xs) (layer_notices ys))
+
+-- of those that our layer put none is left
+pub none_left : (n : ℕ) (taken : List (List ℕ)) (given : List PlainPacket) → n ≡ length taken → taken ≡ spelled given → drop n given ≡ []
+none_left n taken given all same =
+    let long : length taken ≡ length given = ap length same ∙ length-map given packet.spelling_of in
+    drop_all n given (omega (arith, all, long))
 
 pub readable_behind : (b : Bool) (xs ys : List PlainPacket) → AreReadable b (xs ++ ys) → AreReadable b ys
 readable_behind b [] ys h = h
@@ -431,6 +437,13 @@ all_in_order below law c low high few w reached k =
     let h = along below c low high few w reached in
     let x = law c.role c.long_data c.channels (layers below c low high few w h) (forget below c low high few (layers below c low high few w h) h.layer.reached) k in
     record { calls = x.calls; stretch = x.stretch }
+
+pub idle_has_arrived : Below → layer_claims.WithAnyPeer layer_claims.AllHaveArrived → WithAnyPeer IdleHasArrived
+idle_has_arrived below law c low high few w reached idle heard =
+    let h = along below c low high few w reached in
+    let l = layers below c low high few w h in
+    let taken = (keeps below c low high few w.near.link (spelled h.given) h.up w.peer w.out w.back h.link).idle idle in
+    law c.role c.long_data c.channels l (forget below c low high few l h.layer.reached) (none_left w.heard w.peer.taken h.given heard taken)
 
 pub finds_no_error : Below → layer_claims.WithAnyPeer layer_claims.FindsNoError → WithAnyPeer FindsNoError
 finds_no_error below law c low high few w reached =

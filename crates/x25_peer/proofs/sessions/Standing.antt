@@ -1,9 +1,10 @@
 -- What stands of a station and a peer over sessions: their links are joined as `x25_sessions` has it, and the layers of each session of the one and
 -- each of the other that it met, or may meet yet, as `x25_layer` has it.
-use Rattle.std.proofs.Common.{◌≡◌, ℕ, suc, ◌==◌, ◌≤◌, ◌<◌, inl, inr, List, [], ◌∷◌, ◌++◌, length, drop, Bool, true, false, if◌then◌else◌, refl, sym, ap, subst, ◌∙◌, append_assoc, eq-eqb, arith}
+use Rattle.std.proofs.Common.{◌≡◌, ℕ, ◌==◌, ◌≤◌, ◌<◌, inl, inr, List, [], ◌++◌, length, drop, Bool, true, false, if◌then◌else◌, refl, sym, ap, subst, ◌∙◌, append_assoc, eq-eqb, arith}
 use Rattle.std.proofs.lemmas.Bool.{eqb-true}
-use Rattle.std.proofs.lemmas.List.{length-append, drop-append-le}
+use Rattle.std.proofs.lemmas.List.{length-append, length-map, drop-append-le}
 use Rattle.x25_packet.specs.Packet.{PlainPacket}
+use Rattle.x25_packet.specs.Spelling.{spelling_of}
 use Rattle.x25_link.specs.Station.{Settings as LinkSettings, LinkStation, is_up}
 use Rattle.x25_link.specs.laws.NoteLaw.{TakeTells, TakeHandsUp, TimerTells, PutTells, ConnectTells, DisconnectTells, AbandonTells}
 use Rattle.x25_line.specs.laws.InWindow.{IsPrefix}
@@ -11,7 +12,7 @@ use Rattle.x25_line.specs.laws.Peer.{Peer}
 use Rattle.x25_line.specs.laws.Sessions.{Entry, Meeting, extended}
 use Rattle.x25_line.specs.laws.SessionClaims.{MeetInStep, MetAreInOrder, UnmetHandNothingUp, IsInOrder}
 use Rattle.x25_sessions.specs.laws.PeerSessions.{PeerEnd, PeerSessions, as_end}
-use Rattle.x25_sessions.specs.laws.PeerSessionClaims.{WithAnyPeer, OfBothEnds, EachMeetsLatest}
+use Rattle.x25_sessions.specs.laws.PeerSessionClaims.{WithAnyPeer, OfBothEnds, EachMeetsLatest, IdleHasArrived}
 use Rattle.x25_layer.specs.Layer.{Layer, goes_up}
 use Rattle.x25_layer.specs.laws.TwoLayers.{End, started}
 use Rattle.x25_station.specs.Config.{Settings, link_settings, layer_settings}
@@ -31,6 +32,7 @@ pub record Below : Type 0 where
   pub order : WithAnyPeer (OfBothEnds MetAreInOrder)
   pub unmet : WithAnyPeer (OfBothEnds UnmetHandNothingUp)
   pub agree : WithAnyPeer EachMeetsLatest
+  pub idle : WithAnyPeer IdleHasArrived
   pub readable : PutsBesidePeersAreReadable
   pub request : RequestIsJoined
   pub receive : ReceiveIsJoined
@@ -86,10 +88,6 @@ prefix_length {T} x y f =
     let longer = length-append x f.0 in
     let whole : length (x ++ f.0) ≡ length y = ap length f.1 in
     omega (arith, longer, whole)
-
-spelled_length : (ps : List PlainPacket) → length (spelled ps) ≡ length ps
-spelled_length [] = refl
-spelled_length (p ∷ ps) = ap suc (spelled_length ps)
 
 -- ---- a session of the station
 
@@ -221,7 +219,7 @@ module _ (below : Below) (c : Settings) (low : 1 ≤ c.window) (high : c.window 
   heard_few =
       let some : (w.theirs m).heard ≤ length (w.peer.of_session m).taken = (h.peers m).heard in
       let fits : length (w.peer.of_session m).taken ≤ length (spelled (h.known n).end.given) = prefix_length (w.peer.of_session m).taken (spelled (h.known n).end.given) taken_begins in
-      let long : length (spelled (h.known n).end.given) ≡ length (h.known n).end.given = spelled_length (h.known n).end.given in
+      let long : length (spelled (h.known n).end.given) ≡ length (h.known n).end.given = length-map (h.known n).end.given spelling_of in
       omega (arith, some, fits, long)
 
   pub up_few : length (h.known n).up ≤ length (h.puts m)
