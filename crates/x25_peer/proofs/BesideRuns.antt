@@ -1,7 +1,7 @@
 -- All that happens to a station and a peer: their links are joined as `x25_line` has it, and their layers, over a link
 -- that keeps order, as `x25_layer` has it.
 use Rattle.std.proofs.Common.{◌≡◌, ℕ, zero, suc, ◌+◌, ◌≤◌, ◌==◌, nat_lt, List, [], ◌∷◌, ◌++◌, length, drop, map, Bool, true, false, if◌then◌else◌, Option, Some, None, Result, Ok, Err, option_to_list, refl, sym, ap, subst, ◌∙◌, append_assoc, append-nil, arith}
-use Rattle.std.proofs.lemmas.List.{map-append, drop-append-le, length-append}
+use Rattle.std.proofs.lemmas.List.{map-append, drop-append-le, length-append, length-map, drop_all}
 use Rattle.std.specs.Prelude.{remove, slice_get}
 use Rattle.x25_frame.specs.Frame.{PlainFrame, info, rr, rnr, rej}
 use Rattle.x25_frame.specs.Reading.{frame_of}
@@ -10,8 +10,6 @@ use Rattle.x25_frame.specs.declared.error.FrameError.{FrameError}
 use Rattle.x25_frame.specs.declared.error.FrameError.TheVariants.{Short, BadFcs, BadAddress, Undefined, NoInfoAllowed, TooLong}
 use Rattle.x25_packet.specs.Packet.{PlainPacket, restart}
 use Rattle.x25_packet.specs.Spelling as packet
-use Rattle.x25_packet.specs.Spelling.{longest_user}
-use Rattle.x25_packet.specs.Reading.{packet_of}
 use Rattle.x25_link.specs.Outgoing.{waits, added}
 use Rattle.x25_link.specs.OrderedLink.{Lists}
 use Rattle.x25_link.specs.Station.{Settings as LinkSettings, LinkStation, Side, fresh, is_up, with_near}
@@ -44,9 +42,9 @@ use Rattle.x25_station.specs.Step.{Step, unless, follows, abandons, receives}
 use Rattle.x25_station.specs.laws.JoinLaw.{station_with, IsJoined, RequestIsJoined, ReceiveIsJoined, QuietIsJoined}
 use Rattle.x25_station.specs.laws.KeepLaw.{IsKept, KeptBy, TimerKeeps, RequestKeeps, ReceiveKeeps}
 use Rattle.x25_station.specs.laws.ReadLaw.{AreReadable, IsReachedByOctets, at_start, goes_on, PutsBesidePeersAreReadable}
-use Rattle.x25_peer.specs.laws.Beside.{Beside, ReadAs, came_up, start, stepped, handed_down, Happens, Asks, Fires, Receives, Loses, Damages, LosesThere, DamagesThere, Sends, Hears, LayerDoes, LayerHears, IsReached}
+use Rattle.x25_peer.specs.laws.Beside.{Beside, read_by, ReadAs, came_up, start, stepped, handed_down, Happens, Asks, Fires, Receives, Loses, Damages, LosesThere, DamagesThere, Sends, Hears, LayerDoes, LayerHears, IsReached}
 use Rattle.x25_peer.specs.laws.Beside as beside
-use Rattle.x25_peer.specs.laws.BesideClaims.{WithAnyPeer, IsAllInOrder, FindsNoError}
+use Rattle.x25_peer.specs.laws.BesideClaims.{WithAnyPeer, IsAllInOrder, IdleHasArrived, FindsNoError}
 use Rattle.x25_peer.proofs.LinkPart.{spelled, LinkReached, end_of, joined_of, all_puts, link_fires, link_takes}
 use Rattle.x25_peer.proofs.LayerPart.{AllStay, pulls_stay, moves_reached, LayerReached, as_reached}
 
@@ -70,33 +68,39 @@ pub notices_append : (xs ys : List StationEntry) → layer_notices (xs ++ ys) �
 notices_append [] ys = refl
 notices_append (x ∷ xs) ys = ap (λ (ns : List LayerNotice). notice_in x ++ ns) (notices_append xs ys) ∙ sym (append_assoc (notice_in x) (layer_notices xs) (layer_notices ys))
 
+-- of those that our layer put none is left
+pub none_left : (n : ℕ) (taken : List (List ℕ)) (given : List PlainPacket) → n ≡ length taken → taken ≡ spelled given → drop n given ≡ []
+none_left n taken given all same =
+    let long : length taken ≡ length given = ap length same ∙ length-map given packet.spelling_of in
+    drop_all n given (omega (arith, all, long))
+
 pub readable_behind : (b : Bool) (xs ys : List PlainPacket) → AreReadable b (xs ++ ys) → AreReadable b ys
 readable_behind b [] ys h = h
 readable_behind b (x ∷ xs) ys h = readable_behind b xs ys h.1
 
-pub read_append : (most : ℕ) (os qs : List (List ℕ)) (ps rs : List PlainPacket) → ReadAs most os ps → ReadAs most qs rs → ReadAs most (os ++ qs) (ps ++ rs)
-read_append most [] qs [] rs h g = g
-read_append most [] qs (p ∷ ps) rs h g = absurd h
-read_append most (o ∷ os) qs [] rs h g = absurd h
-read_append most (o ∷ os) qs (p ∷ ps) rs h g = (h.0, read_append most os qs ps rs h.1 g)
+pub read_append : (c : Settings) (os qs : List (List ℕ)) (ps rs : List PlainPacket) → ReadAs c os ps → ReadAs c qs rs → ReadAs c (os ++ qs) (ps ++ rs)
+read_append c [] qs [] rs h g = g
+read_append c [] qs (p ∷ ps) rs h g = absurd h
+read_append c (o ∷ os) qs [] rs h g = absurd h
+read_append c (o ∷ os) qs (p ∷ ps) rs h g = (h.0, read_append c os qs ps rs h.1 g)
 
 -- of what is read, this much came up
-pub read_length : (most : ℕ) (up rest : List (List ℕ)) (ps : List PlainPacket) → ReadAs most (up ++ rest) ps → length up ≤ length ps
-read_length most [] rest ps h = omega (arith)
-read_length most (u ∷ up) rest [] h = absurd h
-read_length most (u ∷ up) rest (p ∷ ps) h = let low : length up ≤ length ps = read_length most up rest ps h.1 in omega (arith, low)
+pub read_length : (c : Settings) (up rest : List (List ℕ)) (ps : List PlainPacket) → ReadAs c (up ++ rest) ps → length up ≤ length ps
+read_length c [] rest ps h = omega (arith)
+read_length c (u ∷ up) rest [] h = absurd h
+read_length c (u ∷ up) rest (p ∷ ps) h = let low : length up ≤ length ps = read_length c up rest ps h.1 in omega (arith, low)
 
 -- the next of what is read
-pub record Next (most : ℕ) (o : List ℕ) (ahead behind : List PlainPacket) : Type 0 where
+pub record Next (c : Settings) (o : List ℕ) (ahead behind : List PlainPacket) : Type 0 where
   pub packet : PlainPacket
   pub front : ahead ≡ packet ∷ behind
-  pub reads : packet_of most o ≡ Ok packet
+  pub reads : read_by c o ≡ Ok packet
 
-pub next_read : (most : ℕ) (up : List (List ℕ)) (o : List ℕ) (rest : List (List ℕ)) (ps : List PlainPacket) → ReadAs most ((up ++ o ∷ []) ++ rest) ps → Next most o (drop (length up) ps) (drop (length (up ++ o ∷ [])) ps)
-next_read most [] o rest [] h = absurd h
-next_read most [] o rest (p ∷ ps) h = record { packet = p; front = refl; reads = h.0 }
-next_read most (u ∷ up) o rest [] h = absurd h
-next_read most (u ∷ up) o rest (p ∷ ps) h = next_read most up o rest ps h.1
+pub next_read : (c : Settings) (up : List (List ℕ)) (o : List ℕ) (rest : List (List ℕ)) (ps : List PlainPacket) → ReadAs c ((up ++ o ∷ []) ++ rest) ps → Next c o (drop (length up) ps) (drop (length (up ++ o ∷ [])) ps)
+next_read c [] o rest [] h = absurd h
+next_read c [] o rest (p ∷ ps) h = record { packet = p; front = refl; reads = h.0 }
+next_read c (u ∷ up) o rest [] h = absurd h
+next_read c (u ∷ up) o rest (p ∷ ps) h = next_read c up o rest ps h.1
 
 pub ok_same : {E : Type 0} (p q : PlainPacket) (x : Result PlainPacket E) → x ≡ Ok p → x ≡ Ok q → p ≡ q
 ok_same p q x e f = cc
@@ -106,16 +110,16 @@ record Taken (p : PlainPacket) (given : List PlainPacket) (n : ℕ) : Type 0 whe
   front : drop n given ≡ p ∷ drop (n + 1) given
   few : n + 1 ≤ length given
 
-taken_next : (b : Bool) (given : List PlainPacket) (taken rest : List (List ℕ)) (n : ℕ) (o : List ℕ) (p : PlainPacket) → AreReadable b given → taken ++ rest ≡ spelled given → slice_get taken n ≡ Some o
-    → packet_of (longest_user b) o ≡ Ok p → Taken p given n
-taken_next b given [] rest n o p readable is at reads = absurd (cc)
-taken_next b [] (t ∷ taken) rest n o p readable is at reads = absurd (cc)
-taken_next b (g ∷ given) (t ∷ taken) rest zero o p readable is at reads =
+taken_next : (c : Settings) (given : List PlainPacket) (taken rest : List (List ℕ)) (n : ℕ) (o : List ℕ) (p : PlainPacket) → AreReadable c.long_data given → taken ++ rest ≡ spelled given → slice_get taken n ≡ Some o
+    → read_by c o ≡ Ok p → Taken p given n
+taken_next c given [] rest n o p readable is at reads = absurd (cc)
+taken_next c [] (t ∷ taken) rest n o p readable is at reads = absurd (cc)
+taken_next c (g ∷ given) (t ∷ taken) rest zero o p readable is at reads =
     let same : o ≡ packet.spelling_of g = cc in
-    let one : g ≡ p = ok_same g p (packet_of (longest_user b) o) (ap (λ (x : List ℕ). packet_of (longest_user b) x) same ∙ readable.0.reads) reads in
+    let one : g ≡ p = ok_same g p (read_by c o) (ap (λ (x : List ℕ). read_by c x) same ∙ readable.0.reads c.wide) reads in
     record { front = ap (λ (x : PlainPacket). x ∷ given) one; few = omega (arith) }
-taken_next b (g ∷ given) (t ∷ taken) rest (suc n) o p readable is at reads =
-    let on = taken_next b given taken rest n o p readable.1 (cc) at reads in
+taken_next c (g ∷ given) (t ∷ taken) rest (suc n) o p readable is at reads =
+    let on = taken_next c given taken rest n o p readable.1 (cc) at reads in
     let low : n + 1 ≤ length given = on.few in
     let one : suc (n + 1) ≡ suc n + 1 = omega (arith) in
     record { front = on.front ∙ ap (λ (k : ℕ). p ∷ drop k (g ∷ given)) one; few = omega (arith, low) }
@@ -183,16 +187,13 @@ pub record Stands (c : Settings) (w : Beside) : Type 0 where
   pub up : List (List ℕ)
   pub link : LinkReached (link_settings c) w.near.link (spelled given) up w.peer w.out w.back
   pub layer : LayerReached c.role c.long_data c.channels w.near.layer given (layer_entries w.entries) (layer_notices w.entries) w.layer (drop w.heard given) (drop (length up) puts)
-  pub reads : ReadAs (longest_user c.long_data) w.peer.given puts
+  pub reads : ReadAs c w.peer.given puts
   pub few : w.heard ≤ length given
   pub kept : IsKept w.near
 
 module _ (below : Below) (c : Settings) (low : 1 ≤ c.window) (high : c.window ≤ 7) (few : c.channels ≤ 16) where
   abbrev lc : LinkSettings
   lc = link_settings c
-
-  abbrev most : ℕ
-  most = longest_user c.long_data
 
   abbrev sp : List PlainFrame → List (List ℕ)
   sp frames = map (spelling_of c.role) frames
@@ -260,10 +261,10 @@ module _ (below : Below) (c : Settings) (low : 1 ≤ c.window) (high : c.window 
   -- ---- octets come
 
   -- the next of what the peer's layer put, as it is read
-  coming : (w : Beside) (h : Stands c w) (link : LinkStation) (o : List ℕ) (out left : List (List ℕ)) → LinkReached lc link (spelled h.given) (h.up ++ o ∷ []) w.peer out left → Next most o (drop (length h.up) h.puts) (drop (length (h.up ++ o ∷ [])) h.puts)
+  coming : (w : Beside) (h : Stands c w) (link : LinkStation) (o : List ℕ) (out left : List (List ℕ)) → LinkReached lc link (spelled h.given) (h.up ++ o ∷ []) w.peer out left → Next c o (drop (length h.up) h.puts) (drop (length (h.up ++ o ∷ [])) h.puts)
   coming w h link o out left l =
       let prefix = (keeps link (spelled h.given) (h.up ++ o ∷ []) w.peer out left l).up in
-      next_read most h.up o prefix.0 h.puts (subst (λ (g : List (List ℕ)). ReadAs most g h.puts) (sym prefix.1) h.reads)
+      next_read c h.up o prefix.0 h.puts (subst (λ (g : List (List ℕ)). ReadAs c g h.puts) (sym prefix.1) h.reads)
 
   comes : (w : Beside) (h : Stands c w) (octets : List ℕ) (left : List (List ℕ)) (k : LinkStep) (q : Option (List ℕ)) → k ≡ take_step lc octets w.near.link → k.packet ≡ q → abandons c w.near ≡ false → IsQuiet k
       → LinkReached lc k.side.near (spelled h.given) (h.up ++ option_to_list k.packet) w.peer (w.out ++ sp k.side.out) left → Stands c (stepped c w left (receives c w.near octets))
@@ -295,7 +296,7 @@ module _ (below : Below) (c : Settings) (low : 1 ≤ c.window) (high : c.window 
     up = h.up;
     link = l;
     layer = h.layer;
-    reads = subst (λ (g : List (List ℕ)). ReadAs most g h.puts) (sym same) h.reads;
+    reads = subst (λ (g : List (List ℕ)). ReadAs c g h.puts) (sym same) h.reads;
     few = h.few;
     kept = h.kept;
   }
@@ -322,7 +323,7 @@ module _ (below : Below) (c : Settings) (low : 1 ≤ c.window) (high : c.window 
   peers_length : (w : Beside) (h : Stands c w) → length h.up ≤ length h.puts
   peers_length w h =
       let prefix = (keeps w.near.link (spelled h.given) h.up w.peer w.out w.back h.link).up in
-      read_length most h.up prefix.0 h.puts (subst (λ (g : List (List ℕ)). ReadAs most g h.puts) (sym prefix.1) h.reads)
+      read_length c h.up prefix.0 h.puts (subst (λ (g : List (List ℕ)). ReadAs c g h.puts) (sym prefix.1) h.reads)
 
   hand_down : (link : LinkStation) (down up : List (List ℕ)) (peer : Peer) (out back all : List (List ℕ)) → LinkReached lc link down up peer out back → LinkReached lc link down up (handed_down peer all) out back
   hand_down link down up peer out back [] l = subst (λ (g : List (List ℕ)). LinkReached lc link down up (record peer { given = g }) out back) (sym (append-nil peer.given)) l
@@ -333,7 +334,7 @@ module _ (below : Below) (c : Settings) (low : 1 ≤ c.window) (high : c.window 
       (record { reasons = l.reasons; reached = line_peer.goes_on w (joined_of (end_of link down up l.reasons false) (handed_down peer (o ∷ [])) out back) l.reached (line_peer.HandsDown o) }))
 
   -- it puts these packets, and has come to this
-  layer_goes : (w : Beside) (h : Stands c w) (y : At PeerChannels) (n : ℕ) (ps : List PlainPacket) (all : List (List ℕ)) → ReadAs most all ps → n ≤ length h.given
+  layer_goes : (w : Beside) (h : Stands c w) (y : At PeerChannels) (n : ℕ) (ps : List PlainPacket) (all : List (List ℕ)) → ReadAs c all ps → n ≤ length h.given
       → IsReachedByOctets c.role c.long_data c.channels (record { near = (layers w h).near; peer = y; out = drop n h.given; back = drop (length h.up) h.puts ++ ps })
       → Stands c (record w { layer = y; heard = n; peer = handed_down w.peer all })
   layer_goes w h y n ps all reads low r = record {
@@ -345,18 +346,18 @@ module _ (below : Below) (c : Settings) (low : 1 ≤ c.window) (high : c.window 
       taken = h.layer.taken;
       reached = subst (λ (b : List PlainPacket). IsReachedByOctets c.role c.long_data c.channels (record { near = (layers w h).near; peer = y; out = drop n h.given; back = b })) (sym (drop-append-le (length h.up) h.puts ps (peers_length w h))) r;
     };
-    reads = read_append most w.peer.given all h.puts ps h.reads reads;
+    reads = read_append c w.peer.given all h.puts ps h.reads reads;
     few = low;
     kept = h.kept;
   }
 
-  layer_hears : (w : Beside) (h : Stands c w) (octets : List ℕ) (p : PlainPacket) (packets : List PlainPacket) (all : List (List ℕ)) → slice_get w.peer.taken w.heard ≡ Some octets → packet_of most octets ≡ Ok p
-      → Answers c.channels packets (layer_taking (other_role c.role) w.layer.epoch w.layer.side (bare_layer p)) → ReadAs most all packets
+  layer_hears : (w : Beside) (h : Stands c w) (octets : List ℕ) (p : PlainPacket) (packets : List PlainPacket) (all : List (List ℕ)) → slice_get w.peer.taken w.heard ≡ Some octets → read_by c octets ≡ Ok p
+      → Answers c.channels packets (layer_taking (other_role c.role) w.layer.epoch w.layer.side (bare_layer p)) → ReadAs c all packets
       → Stands c (record w { layer = (layer_taking (other_role c.role) w.layer.epoch w.layer.side (bare_layer p)).next; heard = w.heard + 1; peer = handed_down w.peer all })
   layer_hears w h octets p packets all at reads answers read_all =
       let there = (keeps w.near.link (spelled h.given) h.up w.peer w.out w.back h.link).there in
       let readable : AreReadable c.long_data h.given = below.readable c.role c.long_data c.channels few (layers w h) h.layer.reached in
-      let t = taken_next c.long_data h.given w.peer.taken there.0 w.heard octets p readable there.1 at reads in
+      let t = taken_next c h.given w.peer.taken there.0 w.heard octets p readable there.1 at reads in
       let s = layer_taking (other_role c.role) w.layer.epoch w.layer.side (bare_layer p) in
       layer_goes w h s.next (w.heard + 1) packets all read_all t.few
       (goes_on (layers w h) (layer_peer.peer_stepped (layers w h) (drop (w.heard + 1) h.given) packets s) h.layer.reached (layer_peer.Hears p (drop (w.heard + 1) h.given) packets t.front answers) tt)
@@ -436,6 +437,13 @@ all_in_order below law c low high few w reached k =
     let h = along below c low high few w reached in
     let x = law c.role c.long_data c.channels (layers below c low high few w h) (forget below c low high few (layers below c low high few w h) h.layer.reached) k in
     record { calls = x.calls; stretch = x.stretch }
+
+pub idle_has_arrived : Below → layer_claims.WithAnyPeer layer_claims.AllHaveArrived → WithAnyPeer IdleHasArrived
+idle_has_arrived below law c low high few w reached idle heard =
+    let h = along below c low high few w reached in
+    let l = layers below c low high few w h in
+    let taken = (keeps below c low high few w.near.link (spelled h.given) h.up w.peer w.out w.back h.link).idle idle in
+    law c.role c.long_data c.channels l (forget below c low high few l h.layer.reached) (none_left w.heard w.peer.taken h.given heard taken)
 
 pub finds_no_error : Below → layer_claims.WithAnyPeer layer_claims.FindsNoError → WithAnyPeer FindsNoError
 finds_no_error below law c low high few w reached =

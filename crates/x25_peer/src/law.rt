@@ -1,4 +1,4 @@
-ghost use Rattle.x25_peer.specs.laws.BesideClaims.{WithAnyPeer, FindsNoError, IsAllInOrder};
+ghost use Rattle.x25_peer.specs.laws.BesideClaims.{WithAnyPeer, FindsNoError, IsAllInOrder, IdleHasArrived};
 ghost use Rattle.x25_peer.specs.laws.BesideSessionClaims as over_sessions;
 ghost use Rattle.x25_peer.specs.laws.BesideSessionClaims.{MeetInStep, MetAreInOrder, UnmetAreToldNothing};
 ghost use Rattle.x25_peer.specs.laws.BesideSessionClaims.{EachMeetsLatest, UpIsLatest};
@@ -19,12 +19,16 @@ use x25_station::{puts_beside_peers_are_readable, steps_are_joined, steps_keep_b
 ///   that stretch is a beginning of what the peer's packets carry in it, and what the peer took in it is a beginning of
 ///   what the user handed down, of messages and of interrupts; and of calls where they count restarts and clears alike;
 /// - all of the messages, where all is acknowledged to the peer, and where the circuit is open, nothing waits in it,
-///   and all that it sent is acknowledged.
+///   and all that it sent is acknowledged;
+/// - where the station's link is idle and the peer's packet layer took all that its link took, both ends count a
+///   stretch that is open at both alike, and all that the user handed down in it was taken, of messages where none
+///   waits.
 ///
 /// Premises: k is 1 to 7, at most 16 channels, and the user hands down octets.
 pub fn any_peer_keeps_stations()
     ensures quiet { WithAnyPeer FindsNoError }
     ensures order { WithAnyPeer IsAllInOrder }
+    ensures idle { WithAnyPeer IdleHasArrived }
 {
     any_peer_keeps_order();
     any_peer_keeps_transcripts();
@@ -41,6 +45,9 @@ pub fn any_peer_keeps_stations()
 /// - sessions meet one to one, and in order at both ends;
 /// - of two that meet, on each channel, what is said above of the one session of each: where both ends count the
 ///   restarts, clears and resets in it alike, what was reported and what the peer took come in order;
+/// - where the station's link is idle, and the peer is in a session or met the station's, and its packet layer took all
+///   that its link took in it, both ends count a stretch that is open at both alike, and all that the user handed down
+///   in it was taken, of messages where none waits;
 /// - in a session that meets none nothing is reported to the user, and the peer's packet layer takes nothing;
 /// - the session of an end that is in one meets no other than the latest of the other end, and of the station it is
 ///   the one whose layer is that of the station as it is;
@@ -48,6 +55,7 @@ pub fn any_peer_keeps_stations()
 pub fn any_peer_keeps_stations_over_sessions()
     ensures step { over_sessions.WithAnyPeer MeetInStep }
     ensures order { over_sessions.WithAnyPeer MetAreInOrder }
+    ensures idle { over_sessions.WithAnyPeer over_sessions.IdleHasArrived }
     ensures unmet { over_sessions.WithAnyPeer UnmetAreToldNothing }
     ensures agree { over_sessions.WithAnyPeer EachMeetsLatest }
     ensures latest { over_sessions.WithAnyPeer UpIsLatest }

@@ -12,6 +12,7 @@ use Rattle.x25_packet.specs.Spelling.{channel_of, HasChannel, moved_to, format_o
 use Rattle.x25_packet.specs.declared.facilities.Directions.{Directions}
 use Rattle.x25_packet.specs.Facilities.{facility, field_of, AreWithin, IfGiven, IsFacilityField}
 use Rattle.x25_packet.specs.laws.ReadingLaw.{ReadsWhatIsSpelled}
+use Rattle.x25_wide.specs.laws.TakingLaw.{TakesWhatIsWritten}
 use Rattle.x25_station.specs.laws.ReadLaw.{AreOctets, IsReadable}
 
 abbrev IsOctet : ℕ → Type 0
@@ -264,12 +265,14 @@ body_short long_data restart_conf f = omega arith
 
 -- ---- reading
 
-pub readable : ReadsWhatIsSpelled → (long_data : Bool) (p : PlainPacket) → Fits long_data p → IsOn p → IsReadable long_data p
-readable reads long_data p f on =
+pub readable : ReadsWhatIsSpelled → TakesWhatIsWritten → (long_data : Bool) (p : PlainPacket) → Fits long_data p → IsOn p → IsReadable long_data p
+readable reads takes long_data p f on =
     let octets : AreOctets (spelling_of p) = All-append IsOctet (header_of p) (body_of p) (header_octets long_data p f on) (body_octets long_data p f) in
     let short : length (body_of p) ≤ 4096 = body_short long_data p f in
     record {
       octets = octets;
       short = omega (arith, short);
-      reads = (reads (longest_user long_data) p (spelling_of p) octets).1 (record { in_range = in_range long_data p f on; spelling = refl });
+      reads = λ wide. (
+          takes wide (longest_user long_data) p (spelling_of p)
+          ((reads (longest_user long_data) p (spelling_of p) octets).1 (record { in_range = in_range long_data p f on; spelling = refl })));
     }

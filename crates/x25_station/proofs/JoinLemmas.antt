@@ -4,10 +4,7 @@ use Rattle.std.proofs.lemmas.Bool.{eq-eqb}
 use Rattle.std.proofs.lemmas.List.{append-nil}
 use Rattle.x25_packet.specs.declared.error.PacketError.{PacketError}
 use Rattle.x25_packet.specs.Packet.{PlainPacket}
-use Rattle.x25_packet.specs.Reading.{packet_of}
-use Rattle.x25_wide.specs.Narrowing.{taken_of}
-use Rattle.x25_wide.specs.Reading.{wide_of}
-use Rattle.x25_wide.specs.Taking.{or_taken, read_in}
+use Rattle.x25_wide.specs.Taking.{read_in}
 use Rattle.x25_link.specs.declared.phase.Notes.{Notes}
 use Rattle.x25_link.specs.Outgoing.{waits}
 use Rattle.x25_link.specs.Station.{LinkStation, Side, is_up}
@@ -128,15 +125,10 @@ follows_heard c l k octets some quiet =
     ap (λ (o : Option (List ℕ)). follows c l (record { side = k.side; packet = o; notes = k.notes })) some
     ∙ ap (λ (n : Notes). follows c l (record { side = k.side; packet = Some octets; notes = n })) quiet
 
--- in all forms a packet is read as in the one that a station writes
-read_alike : (wide : Bool) (most : ℕ) (octets : List ℕ) (packet : PlainPacket) → packet_of most octets ≡ Ok packet → read_in wide most octets ≡ Ok packet
-read_alike false most octets packet reads = reads
-read_alike true most octets packet reads = ap (λ (r : Result PlainPacket PacketError). or_taken r (taken_of (wide_of most octets))) reads
-
 heard_joined : HearsRun → PutTells → (c : Settings) (w : TwoLayers) (k : LinkStep) (octets : List ℕ) (packet : PlainPacket) (back : List PlainPacket) → w.near.is_out ≡ false → w.back ≡ packet ∷ back
-    → k.packet ≡ Some octets → IsQuiet k → is_up k.side.near.phase ≡ true → waits k.side.near.outgoing < 256 → packet_of (longest_user c.long_data) octets ≡ Ok packet
+    → k.packet ≡ Some octets → IsQuiet k → is_up k.side.near.phase ≡ true → waits k.side.near.outgoing < 256 → read_in c.wide (longest_user c.long_data) octets ≡ Ok packet
     → (pulled : List ℕ) × AreChannels c.channels pulled × IsJoined c w (moves_all (layer_settings c) w (HandsUp ∷ pulls_of pulled)) k.side back (follows c w.near.layer k)
-heard_joined runs tells c w k octets packet back up front some quiet up_link low reads =
+heard_joined runs tells c w k octets packet back up front some quiet up_link low read =
     subst (λ (step : Step). Goal step) (sym (follows_heard c w.near.layer k octets some quiet)) (
       r.0,
       r.1,
@@ -151,9 +143,6 @@ heard_joined runs tells c w k octets packet back up front some quiet up_link low
 
     view : LinkView
     view = view_of (link_settings c) k.side.near
-
-    read : read_in c.wide (longest_user c.long_data) octets ≡ Ok packet
-    read = read_alike c.wide (longest_user c.long_data) octets packet reads
 
     a : LayerAnswer
     a = layer_answer lc c.wide w.near.layer octets

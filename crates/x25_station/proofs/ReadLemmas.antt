@@ -5,6 +5,7 @@ use Rattle.x25_bits.specs.declared.role.Role.{Role}
 use Rattle.x25_bits.specs.declared.role.Role.TheVariants.{Dte, Dce}
 use Rattle.x25_packet.specs.Packet.{PlainPacket, call, accept, clear, clear_conf, user_data, rr, rnr, interrupt, interrupt_conf, reset, reset_conf, restart, restart_conf}
 use Rattle.x25_packet.specs.laws.ReadingLaw.{ReadsWhatIsSpelled}
+use Rattle.x25_wide.specs.laws.TakingLaw.{TakesWhatIsWritten}
 use Rattle.x25_circuit.specs.Circuit.{Circuit, begun}
 use Rattle.x25_circuit.specs.Hearing.{answers, cause_at}
 use Rattle.x25_circuit.specs.Calling.{Outcome, Done, Refused, Calls, outcome, pulled}
@@ -266,14 +267,14 @@ module _ (long_data : Bool) where
   start_fits : (n : ℕ) → WorldFits (start long_data n)
   start_fits n = record { near = started_fits (settings_of Dte long_data n) (omega arith); far = started_fits (settings_of Dce long_data n) (omega arith) }
 
-  all_readable : ReadsWhatIsSpelled → (ps : List PlainPacket) → AllFit ps → AreReadable long_data ps
-  all_readable reads [] f = tt
-  all_readable reads (p ∷ ps) f = (readable reads long_data p f.0.0 f.0.1, all_readable reads ps f.1)
+  all_readable : ReadsWhatIsSpelled → TakesWhatIsWritten → (ps : List PlainPacket) → AllFit ps → AreReadable long_data ps
+  all_readable reads takes [] f = tt
+  all_readable reads takes (p ∷ ps) f = (readable reads takes long_data p f.0.0 f.0.1, all_readable reads takes ps f.1)
 
-pub puts_are_readable : ReadsWhatIsSpelled → Agreed → PutsAreReadable
-puts_are_readable reads laws long_data n few events octets =
+pub puts_are_readable : ReadsWhatIsSpelled → TakesWhatIsWritten → Agreed → PutsAreReadable
+puts_are_readable reads takes laws long_data n few events octets =
     let f : WorldFits long_data (run long_data n events (start long_data n)) = run_fits long_data laws n few events (start long_data n) octets (start_fits long_data n) in
-    (all_readable long_data reads (run long_data n events (start long_data n)).near.given f.near.given, all_readable long_data reads (run long_data n events (start long_data n)).far.given f.far.given)
+    (all_readable long_data reads takes (run long_data n events (start long_data n)).near.given f.near.given, all_readable long_data reads takes (run long_data n events (start long_data n)).far.given f.far.given)
 
 -- ---- a layer beside any peer
 
@@ -289,5 +290,5 @@ reached_near long_data laws Dte channels few w at_start = started_fits long_data
 reached_near long_data laws Dce channels few w at_start = started_fits long_data (settings_of Dce long_data channels) (omega arith)
 reached_near long_data laws r channels few w (goes_on v u h event octets) = happens_near long_data laws r channels few v w event octets (reached_near long_data laws r channels few v h)
 
-pub puts_beside_peers : ReadsWhatIsSpelled → Agreed → PutsBesidePeersAreReadable
-puts_beside_peers reads laws r long_data channels few w reached = all_readable long_data reads w.near.given (reached_near long_data laws r channels few w reached).given
+pub puts_beside_peers : ReadsWhatIsSpelled → TakesWhatIsWritten → Agreed → PutsBesidePeersAreReadable
+puts_beside_peers reads takes laws r long_data channels few w reached = all_readable long_data reads takes w.near.given (reached_near long_data laws r channels few w reached).given

@@ -13,6 +13,7 @@ use x25_circuit::values_are_agreed;
 use x25_layer::calls_are_runs;
 use x25_link::{holds_few, notes_what_changes};
 use x25_packet::reading_is_the_grammar;
+use x25_wide::taking_keeps_octets;
 
 /// Each step of a station is a step of its link, and then packets that are handed down to the link, each accepted. They
 /// are the packets that the same moves of the packet layer put over a link that keeps order, and the entries are those
@@ -29,11 +30,12 @@ pub fn steps_are_joined()
 }
 
 /// What two layers of at most 16 channels put, whatever happens to them: the octets of each packet are octets, fit in
-/// an I frame, and read as that packet, where what their users hand down is octets.
+/// an I frame, and read as that packet, in the one form or in all, where what their users hand down is octets.
 pub fn puts_are_readable()
     ensures { PutsAreReadable }
 {
     reading_is_the_grammar();
+    taking_keeps_octets();
     values_are_agreed();
 }
 
@@ -42,6 +44,7 @@ pub fn puts_beside_peers_are_readable()
     ensures { PutsBesidePeersAreReadable }
 {
     reading_is_the_grammar();
+    taking_keeps_octets();
     values_are_agreed();
 }
 

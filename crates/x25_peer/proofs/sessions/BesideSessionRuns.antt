@@ -1,7 +1,11 @@
 -- All that happens to a station and a peer over sessions, and what holds of it.
-use Rattle.std.proofs.Common.{◌≡◌, inl, inr, ℕ, ◌≤◌, List, [], length, refl, sym, ap, subst, ◌∙◌, arith}
+use Rattle.std.proofs.Common.{◌≡◌, ◌⊎◌, inl, inr, ℕ, ◌≤◌, List, [], ◌++◌, length, drop, true, refl, sym, ap, subst, ◌∙◌, arith}
+use Rattle.std.proofs.lemmas.Bool.{and_parts}
+use Rattle.x25_packet.specs.Packet.{PlainPacket}
+use Rattle.x25_link.specs.Station.{is_up}
 use Rattle.x25_line.specs.laws.Sessions.{Meeting}
-use Rattle.x25_sessions.specs.laws.PeerSessions.{PeerSessions, at_start}
+use Rattle.x25_line.specs.laws.SessionClaims.{SomeMet}
+use Rattle.x25_sessions.specs.laws.PeerSessions.{PeerSessions, In, now, at_start}
 use Rattle.x25_handshakes.specs.laws.Handshake.{At}
 use Rattle.x25_handshakes.specs.laws.PeerLayer.{PeerChannels}
 use Rattle.x25_layer.specs.Layer.{Layer, goes_up}
@@ -10,16 +14,17 @@ use Rattle.x25_layer.specs.laws.Quiet.{AreNoFaults}
 use Rattle.x25_layer.specs.laws.TwoLayers.{End, started}
 use Rattle.x25_layer.specs.laws.PeerJoined as layer_peer
 use Rattle.x25_layer.specs.laws.PeerClaims as layer_claims
-use Rattle.x25_layer.specs.laws.PeerClaims.{peer_call, peer_stretch, peer_name, of_call, StretchIsInOrder, CallIsInOrder}
+use Rattle.x25_layer.specs.laws.PeerClaims.{peer_call, peer_stretch, peer_name, of_call, StretchIsInOrder, CallIsInOrder, OpenHaveArrived}
 use Rattle.x25_station.specs.Config.{Settings, link_settings, layer_settings}
 use Rattle.x25_station.specs.Entry.{layer_entries}
 use Rattle.x25_station.specs.laws.ReadLaw.{IsReachedByOctets}
 use Rattle.x25_station.specs.laws.ReadLaw as reached
-use Rattle.x25_peer.specs.laws.BesideSessions.{Own, Theirs, BesideSessions, start, Happens, Asks, Connects, Disconnects, Fires, Receives, Abandons, Loses, Damages, LosesThere, DamagesThere, Leaves, Sends, Hears, AnswersByUa, LayerDoes, LayerHears, LayerHearsChannel, IsReached}
+use Rattle.x25_peer.specs.laws.BesideSessions.{Own, Theirs, BesideSessions, their_now, their_layer, start, Happens, Asks, Connects, Disconnects, Fires, Receives, Abandons, Loses, Damages, LosesThere, DamagesThere, Leaves, Sends, Hears, AnswersByUa, LayerDoes, LayerHears, LayerHearsChannel, IsReached}
 use Rattle.x25_peer.specs.laws.BesideSessions as beside
-use Rattle.x25_peer.specs.laws.BesideSessionClaims.{WithAnyPeer, MeetInStep, IsInOrder, MetAreInOrder, UnmetAreToldNothing, EachMeetsLatest, UpIsLatest, FindsNoError}
+use Rattle.x25_peer.specs.laws.BesideSessionClaims.{WithAnyPeer, MeetInStep, IsInOrder, MetAreInOrder, UnmetAreToldNothing, EachMeetsLatest, UpIsLatest, IdleHasArrived, FindsNoError}
 use Rattle.x25_peer.proofs.LinkPart.{spelled}
-use Rattle.x25_peer.proofs.sessions.Meetings.{CanMeet, all_map, met_can_meet, could_meet_some}
+use Rattle.x25_peer.proofs.BesideRuns.{none_left}
+use Rattle.x25_peer.proofs.sessions.Meetings.{CanMeet, all_map, all_some, all_both, met_can_meet, could_meet_some}
 use Rattle.x25_peer.proofs.sessions.SessionLinks.{links_with}
 use Rattle.x25_peer.proofs.sessions.Standing.{Below, Known, Stands}
 use Rattle.x25_peer.proofs.sessions.StationActs.{asks, connects, disconnects, fires, abandons_it, comes}
@@ -90,6 +95,17 @@ module _ (below : Below) (c : Settings) (low : 1 ≤ c.window) (high : c.window 
   in_step : (w : BesideSessions) (h : Stands c w) → MeetInStep w
   in_step w h = below.step (link_settings c) low high (linked w h) h.link.reached
 
+  -- the latest sessions of both ends met each other, or none
+  latest_can_meet : (w : BesideSessions) (h : Stands c w) → is_up w.near.link.phase ≡ true → (w.peer.stand ≡ In) ⊎ SomeMet (λ (m : Meeting). m.near ≡ w.begun) w.met → CanMeet w.begun w.peer.begun w.met
+  latest_can_meet w h up which =
+      let agree = below.agree (link_settings c) low high (linked w h) h.link.reached in
+      elim which [
+        | inl stand ↦ all_both (λ (m : Meeting). m.near ≡ w.begun → m.far ≡ w.peer.begun) (λ (m : Meeting). m.far ≡ w.peer.begun → m.near ≡ w.begun) w.met (agree.near up) (agree.peer stand)
+        | inr some ↦ all_some (λ (p : Meeting). CanMeet p.near p.far w.met × (p.near ≡ w.begun → p.far ≡ w.peer.begun)) (λ (p : Meeting). p.near ≡ w.begun) (CanMeet w.begun w.peer.begun w.met)
+            (λ (p : Meeting) both is. subst (λ (n : ℕ). CanMeet n w.peer.begun w.met) is (subst (λ (m : ℕ). CanMeet p.near m w.met) (both.1 is) both.0)) w.met
+            (all_both (λ (p : Meeting). CanMeet p.near p.far w.met) (λ (p : Meeting). p.near ≡ w.begun → p.far ≡ w.peer.begun) w.met (met_can_meet w.met (in_step w h)) (agree.near up)) some
+      ]
+
 pub meet_in_step : Below → WithAnyPeer MeetInStep
 meet_in_step below c low high few w r = in_step below c low high few w (along below c low high few w r)
 
@@ -127,6 +143,19 @@ pub up_is_latest : Below → WithAnyPeer UpIsLatest
 up_is_latest below c low high few w r up =
     let h = along below c low high few w r in
     sym (h.each w.begun).layer ∙ (h.now up).layer
+
+pub idle_has_arrived : Below → layer_claims.WithAnyPeer layer_claims.AllHaveArrived → WithAnyPeer IdleHasArrived
+idle_has_arrived below law c low high few w r idle which took =
+    let h = along below c low high few w r in
+    let up : is_up w.near.link.phase ≡ true = (and_parts _ _ idle).0 in
+    let k : Known = h.known w.begun in
+    let can = latest_can_meet below c low high few w h up which in
+    let taken : (now w.peer).taken ≡ spelled k.end.given =
+    below.idle (link_settings c) low high (linked below c low high few w h) h.link.reached idle which ∙ h.link.is_down w.begun ∙ (h.now up).handed in
+    let none = ap (λ (l : List PlainPacket). l ++ drop (their_now w).heard k.end.given) took.passed ∙ none_left (their_now w).heard (now w.peer).taken k.end.given took.heard taken in
+    let all = law c.role c.long_data c.channels _ (forget c _ (h.pairs w.begun w.peer.begun can)) none in
+    subst (λ (es : List Entry). OpenHaveArrived w.near.layer es (their_layer w)) (h.each w.begun).entries
+    (subst (λ (l : Layer). OpenHaveArrived l k.end.entries (their_layer w)) (h.now up).layer all)
 
 pub finds_no_error : Below → layer_claims.WithAnyPeer layer_claims.FindsNoError → WithAnyPeer FindsNoError
 finds_no_error below law c low high few w r n =

@@ -8,8 +8,7 @@ use Rattle.x25_frame.specs.Reading.{frame_of}
 use Rattle.x25_frame.specs.declared.error.FrameError.{FrameError}
 use Rattle.x25_packet.specs.Packet.{PlainPacket}
 use Rattle.x25_packet.specs.Spelling as packet
-use Rattle.x25_packet.specs.Spelling.{longest_user, channel_of, HasChannel}
-use Rattle.x25_packet.specs.Reading.{packet_of}
+use Rattle.x25_packet.specs.Spelling.{channel_of, HasChannel}
 use Rattle.x25_link.specs.Station.{Settings as LinkSettings, LinkStation}
 use Rattle.x25_link.specs.Hearing.{other}
 use Rattle.x25_line.specs.laws.Stations as line
@@ -29,7 +28,7 @@ use Rattle.x25_layer.specs.laws.PeerJoined.{Joined, IsConfigured, Answers}
 use Rattle.x25_station.specs.Config.{Settings, link_settings, longest_packet}
 use Rattle.x25_station.specs.laws.ReadLaw.{AreReadable, IsReachedByOctets}
 use Rattle.x25_station.specs.laws.ReadLaw as reached
-use Rattle.x25_peer.specs.laws.Beside.{ReadAs}
+use Rattle.x25_peer.specs.laws.Beside.{read_by, ReadAs}
 use Rattle.x25_peer.specs.laws.BesideSessions.{Theirs, BesideSessions, in_session, links_of, handed_down, their_now, their_layer, coming, layer_went, layer_heard}
 use Rattle.x25_peer.proofs.LinkPart.{spelled}
 use Rattle.x25_peer.proofs.BesideRuns.{read_append, ok_same, sent_same, heard_same}
@@ -120,24 +119,24 @@ may_send c link begun down up down₂ up₂ peer out back met r q (free may) = f
 -- ---- what it is read as
 
 -- what its link took from here on, as it is read, is in front of what our layer put from here on
-read_front : (long_data : Bool) (given : List PlainPacket) (taken rest : List (List ℕ)) (n : ℕ) (read : List PlainPacket) → AreReadable long_data given → taken ++ rest ≡ spelled given → n ≤ length taken
-    → ReadAs (longest_user long_data) (drop n taken) read → drop n given ≡ read ++ drop (length taken) given
-read_front long_data given [] rest zero [] readable is few reads = refl
-read_front long_data given [] rest zero (r ∷ read) readable is few reads = absurd reads
-read_front long_data given [] rest (suc n) read readable is few reads = absurd (never few)
+read_front : (c : Settings) (given : List PlainPacket) (taken rest : List (List ℕ)) (n : ℕ) (read : List PlainPacket) → AreReadable c.long_data given → taken ++ rest ≡ spelled given → n ≤ length taken
+    → ReadAs c (drop n taken) read → drop n given ≡ read ++ drop (length taken) given
+read_front c given [] rest zero [] readable is few reads = refl
+read_front c given [] rest zero (r ∷ read) readable is few reads = absurd reads
+read_front c given [] rest (suc n) read readable is few reads = absurd (never few)
   where
     never : suc n ≤ 0 → ⊥
     never low = omega (arith, low)
-read_front long_data [] (t ∷ taken) rest n read readable is few reads = absurd (cc)
-read_front long_data (g ∷ given) (t ∷ taken) rest zero [] readable is few reads = absurd reads
-read_front long_data (g ∷ given) (t ∷ taken) rest zero (r ∷ read) readable is few reads =
+read_front c [] (t ∷ taken) rest n read readable is few reads = absurd (cc)
+read_front c (g ∷ given) (t ∷ taken) rest zero [] readable is few reads = absurd reads
+read_front c (g ∷ given) (t ∷ taken) rest zero (r ∷ read) readable is few reads =
     let same : t ≡ packet.spelling_of g = cc in
-    let one : g ≡ r = ok_same g r (packet_of (longest_user long_data) t) (ap (λ (x : List ℕ). packet_of (longest_user long_data) x) same ∙ readable.0.reads) reads.0 in
-    let more : given ≡ read ++ drop (length taken) given = read_front long_data given taken rest 0 read readable.1 (cc) (omega (arith)) reads.1 in
+    let one : g ≡ r = ok_same g r (read_by c t) (ap (λ (x : List ℕ). read_by c x) same ∙ readable.0.reads c.wide) reads.0 in
+    let more : given ≡ read ++ drop (length taken) given = read_front c given taken rest 0 read readable.1 (cc) (omega (arith)) reads.1 in
     ap (λ (l : List PlainPacket). g ∷ l) more ∙ ap (λ (x : PlainPacket). x ∷ (read ++ drop (length taken) given)) one
-read_front long_data (g ∷ given) (t ∷ taken) rest (suc n) read readable is few reads =
+read_front c (g ∷ given) (t ∷ taken) rest (suc n) read readable is few reads =
     let low : n ≤ length taken = fewer few in
-    read_front long_data given taken rest n read readable.1 (cc) low reads
+    read_front c given taken rest n read readable.1 (cc) low reads
   where
     fewer : suc n ≤ suc (length taken) → n ≤ length taken
     fewer low = omega (arith, low)
@@ -205,7 +204,7 @@ module _ (below : Below) (c : Settings) (low : 1 ≤ c.window) (high : c.window 
     peers = λ m. (let is = h.peers m in
         let some : (w.theirs m).heard ≤ length (w.peer.of_session m).taken = is.heard in
         let more : length (w.peer.of_session m).taken ≤ length (q.of_session m).taken = to.taken m in
-        record { reads = subst (λ (g : List (List ℕ)). ReadAs (longest_user c.long_data) g (h.puts m)) (sym (to.given m)) is.reads; heard = omega (arith, some, more) });
+        record { reads = subst (λ (g : List (List ℕ)). ReadAs c g (h.puts m)) (sym (to.given m)) is.reads; heard = omega (arith, some, more) });
     anew = to.anew;
     pairs = λ n m can. h.pairs n m (could n m can);
     kept = h.kept;
@@ -278,7 +277,7 @@ module _ (below : Below) (c : Settings) (low : 1 ≤ c.window) (high : c.window 
   b = w.peer.begun
 
   -- it puts these packets in this session, and has come to this
-  layer_goes : (t : Theirs) (ps : List PlainPacket) (all : List (List ℕ)) → w.peer.stand ≡ In → ReadAs (longest_user c.long_data) all ps → t.heard ≤ length (now w.peer).taken
+  layer_goes : (t : Theirs) (ps : List PlainPacket) (all : List (List ℕ)) → w.peer.stand ≡ In → ReadAs c all ps → t.heard ≤ length (now w.peer).taken
       → ((n : ℕ) → CanMeet n b w.met
       → IsReachedByOctets c.role c.long_data c.channels (record { near = (h.known n).end; peer = t.layer; out = way t (h.known n).end.given; back = drop (length (h.known n).up) (h.puts b) ++ ps }))
       → Stands c (layer_went w t all)
@@ -289,13 +288,13 @@ module _ (below : Below) (c : Settings) (low : 1 ≤ c.window) (high : c.window 
     now = h.now;
     each = h.each;
     later = h.later;
-    peers = both_cases (λ (m : ℕ) (t : Theirs) (ps : List PlainPacket). IsRead (longest_user c.long_data) ((handed_down all w.peer).of_session m) t ps) b t w.theirs (h.puts b ++ ps) h.puts
+    peers = both_cases (λ (m : ℕ) (t : Theirs) (ps : List PlainPacket). IsRead c ((handed_down all w.peer).of_session m) t ps) b t w.theirs (h.puts b ++ ps) h.puts
         (record {
-          reads = subst (λ (g : List (List ℕ)). ReadAs (longest_user c.long_data) g (h.puts b ++ ps)) (sym (given_here b b refl)) (read_append (longest_user c.long_data) (now w.peer).given all (h.puts b) ps (h.peers b).reads reads);
+          reads = subst (λ (g : List (List ℕ)). ReadAs c g (h.puts b ++ ps)) (sym (given_here b b refl)) (read_append c (now w.peer).given all (h.puts b) ps (h.peers b).reads reads);
           heard = subst (λ (taken : List (List ℕ)). t.heard ≤ length taken) (sym (handed_taken all w.peer b)) most;
         })
         (λ m differs. record {
-          reads = subst (λ (g : List (List ℕ)). ReadAs (longest_user c.long_data) g (h.puts m)) (sym (given_there m differs)) (h.peers m).reads;
+          reads = subst (λ (g : List (List ℕ)). ReadAs c g (h.puts m)) (sym (given_there m differs)) (h.peers m).reads;
           heard = subst (λ (taken : List (List ℕ)). (w.theirs m).heard ≤ length taken) (sym (handed_taken all w.peer m)) (h.peers m).heard;
         });
     anew = λ m over. (let above : b < m = subst (λ (i : ℕ). i < m) (handed_begun all w.peer) over in
@@ -323,14 +322,14 @@ module _ (below : Below) (c : Settings) (low : 1 ≤ c.window) (high : c.window 
   layers n = record { near = (h.known n).end; peer = their_layer w; out = way (their_now w) (h.known n).end.given; back = drop (length (h.known n).up) (h.puts b) }
 
   pub layer_does : (deed : LayerDeed) (p : PlainPacket) (octets : List ℕ) → w.peer.stand ≡ In → MayDoLayer (their_layer w).side deed → bare_layer p ≡ layer_packet_of (their_layer w).side deed
-      → IsConfigured c.channels p → packet_of (longest_user c.long_data) octets ≡ Ok p → Stands c (layer_went w (record (their_now w) { layer = does_layer (their_layer w).epoch (their_layer w).side deed }) (octets ∷ []))
+      → IsConfigured c.channels p → read_by c octets ≡ Ok p → Stands c (layer_went w (record (their_now w) { layer = does_layer (their_layer w).epoch (their_layer w).side deed }) (octets ∷ []))
   layer_does deed p octets stand may is configured reads =
       layer_goes (record (their_now w) { layer = does_layer (their_layer w).epoch (their_layer w).side deed }) (p ∷ []) (octets ∷ []) stand (reads, tt) (h.peers b).heard
       (λ n can. reached.goes_on (layers n) (record { near = (h.known n).end; peer = does_layer (their_layer w).epoch (their_layer w).side deed; out = way (their_now w) (h.known n).end.given; back = drop (length (h.known n).up) (h.puts b) ++ p ∷ [] })
       (h.pairs n b can) (layer_peer.Does deed p may is configured) tt)
 
   -- what waits, and what came since, is in front of what is on the way
-  module _ (read front behind : List PlainPacket) (p : PlainPacket) (reads : ReadAs (longest_user c.long_data) (coming w) read) (waits : (their_now w).passed ++ read ≡ front ++ p ∷ behind) (n : ℕ) (can : CanMeet n b w.met) where
+  module _ (read front behind : List PlainPacket) (p : PlainPacket) (reads : ReadAs c (coming w) read) (waits : (their_now w).passed ++ read ≡ front ++ p ∷ behind) (n : ℕ) (can : CanMeet n b w.met) where
     abbrev given : List PlainPacket
     given = (h.known n).end.given
 
@@ -341,11 +340,11 @@ module _ (below : Below) (c : Settings) (low : 1 ≤ c.window) (high : c.window 
     in_front =
         let readable : AreReadable c.long_data given = below.readable c.role c.long_data c.channels few (layers n) (h.pairs n b can) in
         let there = taken_begins below c low high w h n b can in
-        let came : drop (their_now w).heard given ≡ read ++ rest = read_front c.long_data given (now w.peer).taken there.0 (their_now w).heard read readable there.1 (h.peers b).heard reads in
+        let came : drop (their_now w).heard given ≡ read ++ rest = read_front c given (now w.peer).taken there.0 (their_now w).heard read readable there.1 (h.peers b).heard reads in
         ap (λ (l : List PlainPacket). (their_now w).passed ++ l) came ∙ sym (append_assoc (their_now w).passed read rest) ∙ ap (λ (l : List PlainPacket). l ++ rest) waits ∙ append_assoc front (p ∷ behind) rest
 
-  pub layer_hears : (p : PlainPacket) (read behind packets : List PlainPacket) (all : List (List ℕ)) → w.peer.stand ≡ In → ReadAs (longest_user c.long_data) (coming w) read → (their_now w).passed ++ read ≡ p ∷ behind
-      → Answers c.channels packets (layer_taking (other_role c.role) (their_layer w).epoch (their_layer w).side (bare_layer p)) → ReadAs (longest_user c.long_data) all packets
+  pub layer_hears : (p : PlainPacket) (read behind packets : List PlainPacket) (all : List (List ℕ)) → w.peer.stand ≡ In → ReadAs c (coming w) read → (their_now w).passed ++ read ≡ p ∷ behind
+      → Answers c.channels packets (layer_taking (other_role c.role) (their_layer w).epoch (their_layer w).side (bare_layer p)) → ReadAs c all packets
       → Stands c (layer_heard w (layer_taking (other_role c.role) (their_layer w).epoch (their_layer w).side (bare_layer p)).next behind all)
   layer_hears p read behind packets all stand reads waits answered read_all =
       let s = layer_taking (other_role c.role) (their_layer w).epoch (their_layer w).side (bare_layer p) in
@@ -355,8 +354,8 @@ module _ (below : Below) (c : Settings) (low : 1 ≤ c.window) (high : c.window 
       reached.goes_on (layers n) (layer_peer.peer_stepped (layers n) after packets s) (h.pairs n b can) (layer_peer.Hears p after packets (in_front read [] behind p reads waits n can) answered) tt))
 
   pub layer_hears_channel : (y : PeerChannels) (p : PlainPacket) (read passed behind packets : List PlainPacket) (all : List (List ℕ)) → w.peer.stand ≡ In → (their_layer w).side ≡ Live y → HasChannel p
-      → AreElsewhere (channel_of p) (bare_layers passed) → ReadAs (longest_user c.long_data) (coming w) read → (their_now w).passed ++ read ≡ passed ++ p ∷ behind
-      → Answers c.channels packets (ready_taking (other_role c.role) (their_layer w).epoch y (On (channel_of p) (bare p))) → ReadAs (longest_user c.long_data) all packets
+      → AreElsewhere (channel_of p) (bare_layers passed) → ReadAs c (coming w) read → (their_now w).passed ++ read ≡ passed ++ p ∷ behind
+      → Answers c.channels packets (ready_taking (other_role c.role) (their_layer w).epoch y (On (channel_of p) (bare p))) → ReadAs c all packets
       → Stands c (layer_heard w (ready_taking (other_role c.role) (their_layer w).epoch y (On (channel_of p) (bare p))).next (passed ++ behind) all)
   layer_hears_channel y p read passed behind packets all stand live has apart reads waits answered read_all =
       let s = ready_taking (other_role c.role) (their_layer w).epoch y (On (channel_of p) (bare p)) in

@@ -1,10 +1,10 @@
 -- What stands of a station and a peer over sessions: their links are joined as `x25_sessions` has it, and the layers of each session of the one and
 -- each of the other that it met, or may meet yet, as `x25_layer` has it.
-use Rattle.std.proofs.Common.{◌≡◌, ℕ, suc, ◌==◌, ◌≤◌, ◌<◌, inl, inr, List, [], ◌∷◌, ◌++◌, length, drop, Bool, true, false, if◌then◌else◌, refl, sym, ap, subst, ◌∙◌, append_assoc, eq-eqb, arith}
+use Rattle.std.proofs.Common.{◌≡◌, ℕ, ◌==◌, ◌≤◌, ◌<◌, inl, inr, List, [], ◌++◌, length, drop, Bool, true, false, if◌then◌else◌, refl, sym, ap, subst, ◌∙◌, append_assoc, eq-eqb, arith}
 use Rattle.std.proofs.lemmas.Bool.{eqb-true}
-use Rattle.std.proofs.lemmas.List.{length-append, drop-append-le}
+use Rattle.std.proofs.lemmas.List.{length-append, length-map, drop-append-le}
 use Rattle.x25_packet.specs.Packet.{PlainPacket}
-use Rattle.x25_packet.specs.Spelling.{longest_user}
+use Rattle.x25_packet.specs.Spelling.{spelling_of}
 use Rattle.x25_link.specs.Station.{Settings as LinkSettings, LinkStation, is_up}
 use Rattle.x25_link.specs.laws.NoteLaw.{TakeTells, TakeHandsUp, TimerTells, PutTells, ConnectTells, DisconnectTells, AbandonTells}
 use Rattle.x25_line.specs.laws.InWindow.{IsPrefix}
@@ -12,7 +12,7 @@ use Rattle.x25_line.specs.laws.Peer.{Peer}
 use Rattle.x25_line.specs.laws.Sessions.{Entry, Meeting, extended}
 use Rattle.x25_line.specs.laws.SessionClaims.{MeetInStep, MetAreInOrder, UnmetHandNothingUp, IsInOrder}
 use Rattle.x25_sessions.specs.laws.PeerSessions.{PeerEnd, PeerSessions, as_end}
-use Rattle.x25_sessions.specs.laws.PeerSessionClaims.{WithAnyPeer, OfBothEnds, EachMeetsLatest}
+use Rattle.x25_sessions.specs.laws.PeerSessionClaims.{WithAnyPeer, OfBothEnds, EachMeetsLatest, IdleHasArrived}
 use Rattle.x25_layer.specs.Layer.{Layer, goes_up}
 use Rattle.x25_layer.specs.laws.TwoLayers.{End, started}
 use Rattle.x25_station.specs.Config.{Settings, link_settings, layer_settings}
@@ -32,6 +32,7 @@ pub record Below : Type 0 where
   pub order : WithAnyPeer (OfBothEnds MetAreInOrder)
   pub unmet : WithAnyPeer (OfBothEnds UnmetHandNothingUp)
   pub agree : WithAnyPeer EachMeetsLatest
+  pub idle : WithAnyPeer IdleHasArrived
   pub readable : PutsBesidePeersAreReadable
   pub request : RequestIsJoined
   pub receive : ReceiveIsJoined
@@ -88,10 +89,6 @@ prefix_length {T} x y f =
     let whole : length (x ++ f.0) ≡ length y = ap length f.1 in
     omega (arith, longer, whole)
 
-spelled_length : (ps : List PlainPacket) → length (spelled ps) ≡ length ps
-spelled_length [] = refl
-spelled_length (p ∷ ps) = ap suc (spelled_length ps)
-
 -- ---- a session of the station
 
 -- its layer's end, and the octets that its link was handed down and handed up in it
@@ -132,8 +129,8 @@ abbrev pub PairReached : Settings → Known → Theirs → List PlainPacket → 
 PairReached c k t puts = IsReachedByOctets c.role c.long_data c.channels (record { near = k.end; peer = t.layer; out = way t k.end.given; back = drop (length k.up) puts })
 
 -- of the peer's sessions
-pub record IsRead (most : ℕ) (p : Peer) (t : Theirs) (puts : List PlainPacket) : Type 0 where
-  pub reads : ReadAs most p.given puts
+pub record IsRead (c : Settings) (p : Peer) (t : Theirs) (puts : List PlainPacket) : Type 0 where
+  pub reads : ReadAs c p.given puts
   pub heard : t.heard ≤ length p.taken
 
 abbrev pub AreAnew : PeerEnd → Type 0
@@ -152,7 +149,7 @@ pub record Stands (c : Settings) (w : BesideSessions) : Type 0 where
   pub now : is_up w.near.link.phase ≡ true → IsStanding (known w.begun) w.near.layer
   pub each : (n : ℕ) → IsKnown n (known n) (w.own n)
   pub later : (n : ℕ) → w.begun < n → IsNotBegun c (known n)
-  pub peers : (m : ℕ) → IsRead (longest_user c.long_data) (w.peer.of_session m) (w.theirs m) (puts m)
+  pub peers : (m : ℕ) → IsRead c (w.peer.of_session m) (w.theirs m) (puts m)
   pub anew : AreAnew w.peer
   pub pairs : (n m : ℕ) → CanMeet n m w.met → PairReached c (known n) (w.theirs m) (puts m)
   pub kept : IsKept w.near
@@ -222,10 +219,10 @@ module _ (below : Below) (c : Settings) (low : 1 ≤ c.window) (high : c.window 
   heard_few =
       let some : (w.theirs m).heard ≤ length (w.peer.of_session m).taken = (h.peers m).heard in
       let fits : length (w.peer.of_session m).taken ≤ length (spelled (h.known n).end.given) = prefix_length (w.peer.of_session m).taken (spelled (h.known n).end.given) taken_begins in
-      let long : length (spelled (h.known n).end.given) ≡ length (h.known n).end.given = spelled_length (h.known n).end.given in
+      let long : length (spelled (h.known n).end.given) ≡ length (h.known n).end.given = length-map (h.known n).end.given spelling_of in
       omega (arith, some, fits, long)
 
   pub up_few : length (h.known n).up ≤ length (h.puts m)
   up_few =
       let prefix = pair_begins.back in
-      read_length (longest_user c.long_data) (h.known n).up prefix.0 (h.puts m) (subst (λ (g : List (List ℕ)). ReadAs (longest_user c.long_data) g (h.puts m)) (sym prefix.1) (h.peers m).reads)
+      read_length c (h.known n).up prefix.0 (h.puts m) (subst (λ (g : List (List ℕ)). ReadAs c g (h.puts m)) (sym prefix.1) (h.peers m).reads)

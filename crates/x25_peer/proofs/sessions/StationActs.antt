@@ -4,7 +4,6 @@ use Rattle.std.specs.Prelude.{remove}
 use Rattle.x25_frame.specs.Frame.{PlainFrame}
 use Rattle.x25_frame.specs.Reading.{frame_of}
 use Rattle.x25_packet.specs.Packet.{PlainPacket}
-use Rattle.x25_packet.specs.Spelling.{longest_user}
 use Rattle.x25_link.specs.declared.error.LinkError.{LinkError}
 use Rattle.x25_link.specs.declared.phase.Phase.{Phase}
 use Rattle.x25_link.specs.declared.phase.Phase.TheVariants.{Down, Up, Waiting, Closed}
@@ -259,12 +258,12 @@ module _ (below : Below) (c : Settings) (low : 1 ≤ c.window) (high : c.window 
             (all_both (λ (p : Meeting). (p.near ≡ b → p.far ≡ there) × (p.far ≡ there → p.near ≡ b)) (λ (p : Meeting). (p.near ≡ b → p.far ≡ m) × (p.far ≡ m → p.near ≡ b)) met partner.1 can) has_met
 
         -- what came is the next of what the peer's layer put there
-        next : Next (longest_user c.long_data) o (drop (length known_now.up) (h.puts there)) (drop (length up) (h.puts there))
+        next : Next c o (drop (length known_now.up) (h.puts there)) (drop (length up) (h.puts there))
         next =
             let both = both_begin below (link_settings c) low high k.side.near b (downs_of h.known) (extended (ups_of h.known) b (o ∷ [])) w.peer (sent b k.side.out) rest met link b there partner.1 in
             let prefix : IsPrefix up (w.peer.of_session there).given = subst (λ (u : List (List ℕ)). IsPrefix u (w.peer.of_session there).given) up_here both.back in
-            next_read (longest_user c.long_data) known_now.up o prefix.0 (h.puts there)
-            (subst (λ (g : List (List ℕ)). ReadAs (longest_user c.long_data) g (h.puts there)) (sym prefix.1) (h.peers there).reads)
+            next_read c known_now.up o prefix.0 (h.puts there)
+            (subst (λ (g : List (List ℕ)). ReadAs c g (h.puts there)) (sym prefix.1) (h.peers there).reads)
 
         abbrev theirs : Theirs
         theirs = w.theirs there

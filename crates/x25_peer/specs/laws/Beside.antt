@@ -1,11 +1,13 @@
 -- A station and any peer, link and packet layer, over a line of octets that keeps order and may lose or visibly damage
 -- any frame (profile: the line), from a link just set up and as long as it is up. docs/PEER.md has the peer's rules.
 use Rattle.std.specs.Prelude.{◌≡◌, ℕ, ◌+◌, true, false, List, [], ◌∷◌, ◌++◌, map, remove, slice_get, Some, None, Ok}
+use Rattle.std.specs.Prelude.{Result}
 use Rattle.x25_frame.specs.Reading.{frame_of}
 use Rattle.x25_frame.specs.Spelling.{spelling_of}
 use Rattle.x25_packet.specs.Packet.{PlainPacket, restart}
 use Rattle.x25_packet.specs.Spelling.{longest_user}
-use Rattle.x25_packet.specs.Reading.{packet_of}
+use Rattle.x25_packet.specs.declared.error.PacketError.{PacketError}
+use Rattle.x25_wide.specs.Taking.{read_in}
 use Rattle.x25_link.specs.Station.{Side, fresh}
 use Rattle.x25_link.specs.Hearing.{other}
 use Rattle.x25_link.specs.Link.{alone, take_step, timer_refusal, timer_step}
@@ -64,11 +66,15 @@ stepped c w back s = record w {
 abbrev pub handed_down : Peer → List (List ℕ) → Peer
 handed_down p octets = record p { given = p.given ++ octets }
 
+-- what a station of these settings reads octets as: in the form that it writes alone, or in any
+abbrev pub read_by : Settings → List ℕ → Result PlainPacket PacketError
+read_by c octets = read_in c.wide (longest_user c.long_data) octets
+
 -- the octets of these packets, as they are read
-abbrev pub ReadAs : ℕ → List (List ℕ) → List PlainPacket → Type 0
-ReadAs most [] [] = Unit {0}
-ReadAs most (o ∷ os) (p ∷ ps) = (packet_of most o ≡ Ok p) × ReadAs most os ps
-ReadAs most os ps = ⊥
+abbrev pub ReadAs : Settings → List (List ℕ) → List PlainPacket → Type 0
+ReadAs c [] [] = Unit {0}
+ReadAs c (o ∷ os) (p ∷ ps) = (read_by c o ≡ Ok p) × ReadAs c os ps
+ReadAs c os ps = ⊥
 
 -- What may happen next, with these settings of the station.
 pub data Happens (c : Settings) (w : Beside) : Beside → Type 0 where
@@ -96,16 +102,16 @@ pub data Happens (c : Settings) (w : Beside) : Beside → Type 0 where
   -- its packet layer puts a packet, whose octets go down to its link
   LayerDoes : (deed : LayerDeed) (p : PlainPacket) (octets : List ℕ) → MayDoLayer w.layer.side deed
       → bare_layer p ≡ layer_packet_of w.layer.side deed → IsConfigured c.channels p
-      → packet_of (longest_user c.long_data) octets ≡ Ok p
+      → read_by c octets ≡ Ok p
       → Happens c w (record w {
         layer = does_layer w.layer.epoch w.layer.side deed;
         peer = handed_down w.peer (octets ∷ []);
       })
   -- it takes the next of the packets that its link took, as they are read, and puts what answers it
   LayerHears : (octets : List ℕ) (p : PlainPacket) (packets : List PlainPacket) (all : List (List ℕ))
-      → slice_get w.peer.taken w.heard ≡ Some octets → packet_of (longest_user c.long_data) octets ≡ Ok p
+      → slice_get w.peer.taken w.heard ≡ Some octets → read_by c octets ≡ Ok p
       → Answers c.channels packets (layer_taking (other_role c.role) w.layer.epoch w.layer.side (bare_layer p))
-      → ReadAs (longest_user c.long_data) all packets
+      → ReadAs c all packets
       → Happens c w (record w {
         layer = (layer_taking (other_role c.role) w.layer.epoch w.layer.side (bare_layer p)).next;
         heard = w.heard + 1;

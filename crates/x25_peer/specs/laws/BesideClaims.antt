@@ -1,9 +1,10 @@
 -- What holds of a station and any peer.
-use Rattle.std.specs.Prelude.{◌≡◌, ℕ, ◌≤◌}
+use Rattle.std.specs.Prelude.{◌≡◌, ℕ, ◌≤◌, length, true}
+use Rattle.x25_link.specs.Link.{is_idle}
 use Rattle.x25_layer.specs.laws.Transcript.{name_of}
 use Rattle.x25_layer.specs.laws.Quiet.{AreNoFaults}
 use Rattle.x25_layer.specs.laws.PeerClaims.{peer_call, peer_stretch, peer_name, of_call, StretchIsInOrder}
-use Rattle.x25_layer.specs.laws.PeerClaims.{CallIsInOrder}
+use Rattle.x25_layer.specs.laws.PeerClaims.{CallIsInOrder, OpenHaveArrived}
 use Rattle.x25_station.specs.Config.{Settings}
 use Rattle.x25_station.specs.Entry.{layer_entries, layer_notices}
 use Rattle.x25_peer.specs.laws.Beside.{Beside, IsReached}
@@ -24,6 +25,12 @@ pub record IsInOrder (k : ℕ) (w : Beside) : Type 0 where
 
 abbrev pub IsAllInOrder : Beside → Type 0
 IsAllInOrder w = (k : ℕ) → IsInOrder k w
+
+-- Where the station's link is idle, and the peer's packet layer took all that its link took: of each stretch that is
+-- open at both ends.
+abbrev pub IdleHasArrived : Beside → Type 0
+IdleHasArrived w = is_idle w.near.link ≡ true → w.heard ≡ length w.peer.taken
+    → OpenHaveArrived w.near.layer (layer_entries w.entries) w.layer
 
 -- the station reports no error of procedure
 abbrev pub FindsNoError : Beside → Type 0

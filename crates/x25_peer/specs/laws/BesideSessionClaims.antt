@@ -1,18 +1,19 @@
 -- What holds of a station and any peer over set-up and re-set-up at any moment.
-use Rattle.std.specs.Prelude.{◌≡◌, ◌⊎◌, ℕ, ◌≤◌, [], true}
+use Rattle.std.specs.Prelude.{◌≡◌, ◌⊎◌, ℕ, ◌≤◌, [], length, true}
 use Rattle.x25_link.specs.Station.{is_up}
+use Rattle.x25_link.specs.Link.{is_idle}
 use Rattle.x25_line.specs.laws.Sessions.{Meeting}
 use Rattle.x25_line.specs.laws.SessionClaims.{AllMet, SomeMet, InStep}
-use Rattle.x25_sessions.specs.laws.PeerSessions.{In}
+use Rattle.x25_sessions.specs.laws.PeerSessions.{In, now}
 use Rattle.x25_handshakes.specs.laws.Handshake.{At}
 use Rattle.x25_handshakes.specs.laws.PeerLayer.{PeerChannels}
 use Rattle.x25_layer.specs.laws.Transcript.{name_of}
 use Rattle.x25_layer.specs.laws.Quiet.{AreNoFaults}
 use Rattle.x25_layer.specs.laws.PeerClaims.{peer_call, peer_stretch, peer_name, of_call, StretchIsInOrder}
-use Rattle.x25_layer.specs.laws.PeerClaims.{CallIsInOrder}
+use Rattle.x25_layer.specs.laws.PeerClaims.{CallIsInOrder, OpenHaveArrived}
 use Rattle.x25_station.specs.Config.{Settings}
 use Rattle.x25_station.specs.Entry.{layer_entries, layer_notices}
-use Rattle.x25_peer.specs.laws.BesideSessions.{Own, BesideSessions, IsReached}
+use Rattle.x25_peer.specs.laws.BesideSessions.{Own, BesideSessions, their_now, their_layer, IsReached}
 
 -- k is 1 to 7, and there are at most 16 channels
 abbrev pub WithAnyPeer : (BesideSessions → Type 0) → Type 0
@@ -35,6 +36,18 @@ pub record IsInOrder (k : ℕ) (own : Own) (layer : At PeerChannels) : Type 0 wh
 -- so of each two sessions that meet, on each channel
 abbrev pub MetAreInOrder : BesideSessions → Type 0
 MetAreInOrder w = AllMet (λ (m : Meeting). (k : ℕ) → IsInOrder k (w.own m.near) (w.theirs m.far).layer) w.met
+
+-- the peer's packet layer took all that its link took in the latest session
+pub record TookAll (w : BesideSessions) : Type 0 where
+  pub heard : (their_now w).heard ≡ length (now w.peer).taken
+  pub passed : (their_now w).passed ≡ []
+
+-- Where the station's link is idle, and the peer is in a session or met the station's, and its packet layer took all:
+-- of each stretch that is open at both ends.
+abbrev pub IdleHasArrived : BesideSessions → Type 0
+IdleHasArrived w = is_idle w.near.link ≡ true
+    → (w.peer.stand ≡ In) ⊎ SomeMet (λ (m : Meeting). m.near ≡ w.begun) w.met → TookAll w
+    → OpenHaveArrived w.near.layer (layer_entries (w.own w.begun).entries) (their_layer w)
 
 -- in a session that meets none nothing is reported to the user, and the peer's layer takes nothing
 pub record UnmetAreToldNothing (w : BesideSessions) : Type 0 where

@@ -7,8 +7,7 @@ use Rattle.std.specs.Prelude.{Bool, None, Ok}
 use Rattle.x25_frame.specs.Frame.{ua}
 use Rattle.x25_frame.specs.Reading.{frame_of}
 use Rattle.x25_packet.specs.Packet.{PlainPacket}
-use Rattle.x25_packet.specs.Spelling.{longest_user, channel_of, HasChannel}
-use Rattle.x25_packet.specs.Reading.{packet_of}
+use Rattle.x25_packet.specs.Spelling.{channel_of, HasChannel}
 use Rattle.x25_link.specs.declared.phase.Phase.TheVariants.{Waiting}
 use Rattle.x25_link.specs.Station.{is_up}
 use Rattle.x25_link.specs.Hearing.{Step as LinkStep, other}
@@ -34,7 +33,7 @@ use Rattle.x25_station.specs.Entry.{StationEntry, connect_asked, disconnect_aske
 use Rattle.x25_station.specs.Station.{Station, new_station}
 use Rattle.x25_station.specs.Step.{Step, Did, follows, led_by, abandons, requests}
 use Rattle.x25_station.specs.laws.ReadLaw.{RequestsOctets}
-use Rattle.x25_peer.specs.laws.Beside.{ReadAs}
+use Rattle.x25_peer.specs.laws.Beside.{read_by, ReadAs}
 
 -- of a session of the station: its packet layer, as it is or was last while the link is or was up in it, and the
 -- transcript
@@ -194,25 +193,25 @@ pub data Happens (c : Settings) (w : BesideSessions) : BesideSessions → Type 0
   -- in a session, its packet layer puts a packet, whose octets go down to its link
   LayerDoes : (deed : LayerDeed) (p : PlainPacket) (octets : List ℕ) → w.peer.stand ≡ In
       → MayDoLayer (their_layer w).side deed → bare_layer p ≡ layer_packet_of (their_layer w).side deed
-      → IsConfigured c.channels p → packet_of (longest_user c.long_data) octets ≡ Ok p
+      → IsConfigured c.channels p → read_by c octets ≡ Ok p
       → Happens c w (layer_went w
       (record (their_now w) { layer = does_layer (their_layer w).epoch (their_layer w).side deed }) (octets ∷ []))
   -- of the packets that its link took in this session, as they are read, it takes the next, and puts what answers it
   LayerHears : (p : PlainPacket) (read behind packets : List PlainPacket) (all : List (List ℕ)) → w.peer.stand ≡ In
-      → ReadAs (longest_user c.long_data) (coming w) read → (their_now w).passed ++ read ≡ p ∷ behind
+      → ReadAs c (coming w) read → (their_now w).passed ++ read ≡ p ∷ behind
       → Answers c.channels packets
       (layer_taking (other_role c.role) (their_layer w).epoch (their_layer w).side (bare_layer p))
-      → ReadAs (longest_user c.long_data) all packets
+      → ReadAs c all packets
       → Happens c w (layer_heard w
       (layer_taking (other_role c.role) (their_layer w).epoch (their_layer w).side (bare_layer p)).next behind all)
   -- or the first of a channel before those of other channels that stand in front of it
   LayerHearsChannel : (y : PeerChannels) (p : PlainPacket) (read passed behind packets : List PlainPacket)
       (all : List (List ℕ)) → w.peer.stand ≡ In → (their_layer w).side ≡ Live y → HasChannel p
       → AreElsewhere (channel_of p) (bare_layers passed)
-      → ReadAs (longest_user c.long_data) (coming w) read → (their_now w).passed ++ read ≡ passed ++ p ∷ behind
+      → ReadAs c (coming w) read → (their_now w).passed ++ read ≡ passed ++ p ∷ behind
       → Answers c.channels packets
       (ready_taking (other_role c.role) (their_layer w).epoch y (On (channel_of p) (bare p)))
-      → ReadAs (longest_user c.long_data) all packets
+      → ReadAs c all packets
       → Happens c w (layer_heard w
       (ready_taking (other_role c.role) (their_layer w).epoch y (On (channel_of p) (bare p))).next (passed ++ behind)
       all)

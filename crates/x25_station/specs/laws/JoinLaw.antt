@@ -2,7 +2,7 @@
 -- these packets are those that the same moves of the packet layer put, alone over a link that keeps order.
 use Rattle.std.specs.Prelude.{◌≡◌, ℕ, ◌≤◌, ◌==◌, true, false, List, [], ◌∷◌, ◌++◌, Some, None, Ok}
 use Rattle.x25_packet.specs.Packet.{PlainPacket, restart}
-use Rattle.x25_packet.specs.Reading.{packet_of}
+use Rattle.x25_wide.specs.Taking.{read_in}
 use Rattle.x25_link.specs.Outgoing.{waits}
 use Rattle.x25_link.specs.Station.{Settings as LinkSettings, LinkStation, Side, fresh}
 use Rattle.x25_link.specs.Hearing.{Step as LinkStep}
@@ -72,7 +72,7 @@ ReceiveIsJoined = (c : Settings) (link : LinkStation) (w : TwoLayers) (octets pa
     (packet : PlainPacket) (back : List PlainPacket) → w.near.is_out ≡ false
     → w.back ≡ packet ∷ back → abandons c (station_with link w.near.layer) ≡ false
     → (take_step (link_settings c) octets link).packet ≡ Some packet_octets
-    → packet_of (longest_user c.long_data) packet_octets ≡ Ok packet →
+    → read_in c.wide (longest_user c.long_data) packet_octets ≡ Ok packet →
     (pulled : List ℕ) × AreChannels c.channels pulled
     × IsJoined c w (moves_all (layer_settings c) w (HandsUp ∷ pulls_of pulled))
     (take_step (link_settings c) octets link).side back (receives c (station_with link w.near.layer) octets)

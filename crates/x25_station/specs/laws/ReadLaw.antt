@@ -1,9 +1,9 @@
 -- What the layers put the other end reads again: each packet's octets are octets, fit in an I frame, and read as the
--- packet, with as much user data of a CALL as both ends may send.
+-- packet, in the one form or in all, with as much user data of a CALL as both ends may send.
 use Rattle.std.specs.Prelude.{◌≡◌, Bool, ℕ, ◌<◌, ◌≤◌, List, [], ◌∷◌, length, All, Ok}
 use Rattle.x25_packet.specs.Packet.{PlainPacket}
 use Rattle.x25_packet.specs.Spelling.{spelling_of, longest_user}
-use Rattle.x25_packet.specs.Reading.{packet_of}
+use Rattle.x25_wide.specs.Taking.{read_in}
 use Rattle.x25_circuit.specs.Calling.{Request, Calls, Sends, Interrupts}
 use Rattle.x25_layer.specs.Calls.{LayerRequest, Asks, Dials, Restarts, PullsAll}
 use Rattle.x25_layer.specs.laws.TwoLayers.{TwoLayers, Move, Requests, Event, run, start}
@@ -17,7 +17,7 @@ AreOctets xs = All (λ octet. octet < 256) xs
 pub record IsReadable (long_data : Bool) (packet : PlainPacket) : Type 0 where
   pub octets : AreOctets (spelling_of packet)
   pub short : length (spelling_of packet) ≤ longest_packet
-  pub reads : packet_of (longest_user long_data) (spelling_of packet) ≡ Ok packet
+  pub reads : (wide : Bool) → read_in wide (longest_user long_data) (spelling_of packet) ≡ Ok packet
 
 abbrev pub AreReadable : Bool → List PlainPacket → Type 0
 AreReadable long_data [] = Unit {0}

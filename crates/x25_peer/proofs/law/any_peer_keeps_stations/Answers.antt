@@ -1,4 +1,4 @@
-use Rattle.x25_peer.proofs.BesideRuns.{Below, all_in_order, finds_no_error}
+use Rattle.x25_peer.proofs.BesideRuns.{Below, all_in_order, idle_has_arrived, finds_no_error}
 use Rattle.x25_peer.proofs.law.any_peer_keeps_stations.Goals as goal
 
 known : goal.After-steps_keep_bounds → Below
@@ -17,4 +17,5 @@ pub returns : goal.returns
 returns c = record {
   quiet = finds_no_error (known c) c.any_peer_keeps_transcripts.ensures.quiet;
   order = all_in_order (known c) c.any_peer_keeps_transcripts.ensures.order;
+  idle = idle_has_arrived (known c) c.any_peer_keeps_transcripts.ensures.arrived;
 }

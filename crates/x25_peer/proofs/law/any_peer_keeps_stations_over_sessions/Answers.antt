@@ -1,5 +1,5 @@
 use Rattle.x25_peer.proofs.sessions.Standing.{Below}
-use Rattle.x25_peer.proofs.sessions.BesideSessionRuns.{meet_in_step, met_in_order, unmet_are_told_nothing, each_meets_latest, up_is_latest, finds_no_error}
+use Rattle.x25_peer.proofs.sessions.BesideSessionRuns.{meet_in_step, met_in_order, unmet_are_told_nothing, each_meets_latest, up_is_latest, idle_has_arrived, finds_no_error}
 use Rattle.x25_peer.proofs.law.any_peer_keeps_stations_over_sessions.Goals as goal
 
 known : goal.After-notes_what_changes → Below
@@ -8,6 +8,7 @@ known c = record {
   order = c.any_peer_keeps_sessions.ensures.order;
   unmet = c.any_peer_keeps_sessions.ensures.unmet;
   agree = c.any_peer_keeps_sessions.ensures.agree;
+  idle = c.any_peer_keeps_sessions.ensures.idle;
   readable = c.puts_beside_peers_are_readable.ensures;
   request = c.steps_are_joined.ensures.request;
   receive = c.steps_are_joined.ensures.receive;
@@ -31,6 +32,7 @@ pub returns : goal.returns
 returns c = record {
   step = meet_in_step (known c);
   order = met_in_order (known c) c.any_peer_keeps_transcripts.ensures.order;
+  idle = idle_has_arrived (known c) c.any_peer_keeps_transcripts.ensures.arrived;
   unmet = unmet_are_told_nothing (known c);
   agree = each_meets_latest (known c);
   latest = up_is_latest (known c);

@@ -6,7 +6,7 @@ use Rattle.x25_bits.specs.declared.role.Role.{Role}
 use Rattle.x25_bits.specs.declared.role.Role.TheVariants.{Dte, Dce}
 use Rattle.x25_packet.specs.Packet.{PlainPacket}
 use Rattle.x25_packet.specs.Spelling.{spelling_of, longest_user}
-use Rattle.x25_packet.specs.Reading.{packet_of}
+use Rattle.x25_wide.specs.Taking.{read_in}
 use Rattle.x25_handshakes.specs.laws.Histories.{IsPrefix}
 use Rattle.x25_link.specs.Station.{LinkStation, is_up}
 use Rattle.x25_link.specs.Hearing.{other, Step as LinkStep}
@@ -323,7 +323,7 @@ module _ {since : Beginning} (laws : SessionLaws) (cfg : Cfg) (fine : IsConfigur
       near_on : (channels : List ℕ) → (world_on channels).near ≡ own_run (layer_of cfg end) (moves channels) own_here
       near_on channels = near_pulls (layer_of cfg end) (layer.moves (layer_of cfg end) begin HandsUp) channels
 
-      reads : packet_of (longest_user cfg.long_data) packet_octets ≡ Ok in_front.packet
+      reads : read_in cfg.wide (longest_user cfg.long_data) packet_octets ≡ Ok in_front.packet
       reads =
           let f = in_front in
           let far : AreReadable cfg.long_data (own_here.taken ++ (f.packet ∷ f.others)) =
@@ -331,7 +331,7 @@ module _ {since : Beginning} (laws : SessionLaws) (cfg : Cfg) (fine : IsConfigur
           (own_readable laws cfg fine (other end) there here h.trace
           (subst (λ (es : List apart.ApartEvent). AreInOrder cfg.long_data cfg.channels es (apart.apart_start cfg.long_data cfg.channels)) (sym (pair_turned end here there h.trace)) paired) h.octets) in
           let readable : IsReadable cfg.long_data f.packet = (readable_behind cfg.long_data own_here.taken (f.packet ∷ f.others) far).0 in
-          ap (λ (o : List ℕ). packet_of (longest_user cfg.long_data) o) f.spells ∙ readable.reads
+          ap (λ (o : List ℕ). read_in cfg.wide (longest_user cfg.long_data) o) f.spells ∙ readable.reads cfg.wide
 
       -- the layer takes it, and pulls at these channels
       joined_on : abandons (settings_from end cfg) w.near ≡ false → (channels : List ℕ) × IsJoined (settings_from end cfg) begin (world_on channels) taken.side [] step

@@ -1,5 +1,5 @@
 -- Over set-up and re-set-up no error of procedure is ever put on the line, or told to a user.
-use Rattle.std.proofs.Common.{◌≡◌, ℕ, Bool, zero, suc, List, [], ◌∷◌, Result, Ok, Contains, sym, subst, arith, ◌≤◌, ◌<◌, ◌⊎◌, inl, inr}
+use Rattle.std.proofs.Common.{◌≡◌, ℕ, Bool, false, zero, suc, List, [], ◌∷◌, Result, Ok, Contains, sym, subst, arith, ◌≤◌, ◌<◌, ◌⊎◌, inl, inr}
 use Rattle.x25_bits.specs.declared.role.Role.{Role}
 use Rattle.x25_frame.specs.Frame.{PlainFrame, info, rr, rnr, rej, sabm, disc, ua, dm, frmr}
 use Rattle.x25_frame.specs.Spelling.{spelling_of}
@@ -38,7 +38,7 @@ abbrev IsQuietOctets : Bool → ℕ → List ℕ → Type 0
 IsQuietOctets long_data channels octets = IsQuietRead channels (packet_of (longest_user long_data) octets)
 
 quiet_one : (long_data : Bool) (channels : ℕ) (p : PlainPacket) (ps : List PlainPacket) → AreQuiet channels (p ∷ ps) → AreReadable long_data (p ∷ ps) → IsQuietOctets long_data channels (packet.spelling_of p)
-quiet_one long_data channels p ps quiet readable = subst (λ (r : Result PlainPacket PacketError). IsQuietRead channels r) (sym readable.0.reads) quiet.0
+quiet_one long_data channels p ps quiet readable = subst (λ (r : Result PlainPacket PacketError). IsQuietRead channels r) (sym (readable.0.reads false)) quiet.0
 
 quiet_octets : (long_data : Bool) (channels : ℕ) (ps : List PlainPacket) → AreQuiet channels ps → AreReadable long_data ps → (octets : List ℕ) → Contains (spelled ps) octets → IsQuietOctets long_data channels octets
 quiet_octets long_data channels [] quiet readable octets (k, low, is) = absurd (omega (arith, low))
