@@ -1,5 +1,5 @@
 -- What the laws say of the judge of packets.
-use Rattle.std.specs.Prelude.{◌≡◌, ℕ, true, List, None}
+use Rattle.std.specs.Prelude.{◌≡◌, ℕ, true, false, List, None}
 use Rattle.x25_packet.specs.Packet.{PlainPacket, call, accept, reset, reset_conf}
 use Rattle.x25_packet_judge.specs.Message.{octets_of}
 use Rattle.x25_packet_judge.specs.Packets.{sends}
@@ -9,7 +9,7 @@ use Rattle.x25_packet_judge.specs.declared.pair.Pair.{Pair}
 use Rattle.x25_packet_judge.specs.declared.port.Call.TheVariants.{Idle}
 use Rattle.x25_packet_judge.specs.declared.port.Port.{Port}
 use Rattle.x25_packet_judge.specs.declared.terms.Terms.{Terms}
-use Rattle.x25_packet_judge.specs.laws.Keeping.{Given, Come, MaySend, MayBe, AreBegun, turned}
+use Rattle.x25_packet_judge.specs.laws.Keeping.{Given, Come, MaySend, MayEnd, MayBe, AreBegun, turned}
 use Rattle.x25_packet_judge.specs.laws.Watching.{Line, IsSilent, IsKept}
 
 -- no rule is told of what an end sends that keeps the rules
@@ -17,6 +17,12 @@ abbrev pub NoInnocentPacketIsTold : Type 0
 NoInnocentPacketIsTold =
     (window most : ℕ) (t : Pair) (g h : Given) (c : Come) (way : List PlainPacket) (packet : PlainPacket)
     → MayBe window most t g c way → MaySend window most g c packet h → (sends packet t).rule ≡ None
+
+-- nor of how it ends the stretch
+abbrev pub NoEndingIsTold : Type 0
+NoEndingIsTold =
+    (window most : ℕ) (t : Pair) (g : Given) (c : Come) (way : List PlainPacket) (packet : PlainPacket)
+    → MayBe window most t g c way → MayEnd c packet → (sends packet t).rule ≡ None
 
 -- where nothing is told of either end, an end that keeps the rules may have sent what the first one did
 abbrev pub SilentPacketsKeepTheRules : Type 0
@@ -26,10 +32,11 @@ SilentPacketsKeepTheRules =
 
 -- ---- where stretches begin
 
--- the channel is known, and nothing is to be confirmed
+-- the channel is known, and no CLEAR or RESET waits for its confirmation
 pub record IsClear (p : Port) : Type 0 where
   pub known : p.is_known ≡ true
   pub owed : p.owed ≡ 0
+  pub former : p.former.is_known ≡ false
 
 -- a packet of the first end, and one of the other that answers it
 abbrev pub answered : PlainPacket → PlainPacket → Pair → Pair
