@@ -1,15 +1,20 @@
 -- What the laws say of the judge of packets.
 use Rattle.std.specs.Prelude.{◌≡◌, ℕ, true, false, List, None}
+use Rattle.x25_bits.specs.declared.role.Role.{Role}
 use Rattle.x25_packet.specs.Packet.{PlainPacket, call, accept, reset, reset_conf}
+use Rattle.x25_packet_judge.specs.Book.{layers_of, pair_of, takes}
+use Rattle.x25_packet_judge.specs.Layers.{runs_early, are_sure, are_level}
 use Rattle.x25_packet_judge.specs.Message.{octets_of}
 use Rattle.x25_packet_judge.specs.Packets.{sends}
 use Rattle.x25_packet_judge.specs.Pair.{may_talk_in}
 use Rattle.x25_packet_judge.specs.Terms.{said, usual}
+use Rattle.x25_packet_judge.specs.declared.book.Book.{Book}
 use Rattle.x25_packet_judge.specs.declared.pair.Pair.{Pair}
 use Rattle.x25_packet_judge.specs.declared.port.Call.TheVariants.{Idle}
 use Rattle.x25_packet_judge.specs.declared.port.Port.{Port}
 use Rattle.x25_packet_judge.specs.declared.terms.Terms.{Terms}
-use Rattle.x25_packet_judge.specs.laws.Keeping.{Given, Come, MaySend, MayEnd, MayBe, AreBegun, turned}
+use Rattle.x25_packet_judge.specs.laws.Keeping.{Given, Come, MaySend, MayEnd, IsOfChannel, MayBe}
+use Rattle.x25_packet_judge.specs.laws.Keeping.{AreBegun, turned}
 use Rattle.x25_packet_judge.specs.laws.Watching.{Line, IsSilent, IsKept}
 
 -- no rule is told of what an end sends that keeps the rules
@@ -66,3 +71,13 @@ ResetsBegin =
     → may_talk_in t.own.call ≡ true → may_talk_in t.other.call ≡ true → t.own.talk.owed ≡ 0 → t.other.talk.owed ≡ 0
     → BothBegin t.own.talk.window t.own.talk.most t.other.talk.window t.other.talk.most
     (answered (reset one cause diagnostic) (reset_conf two) t)
+
+-- ---- what is told of a trace
+
+-- of a packet on a channel, where its end has restarted, no RESTART of it waits, and restarts are known
+abbrev pub BooksTellOfChannels : Type 0
+BooksTellOfChannels =
+    (from : Role) (channel : ℕ) (packet : PlainPacket) (b : Book) → IsOfChannel packet
+    → runs_early (layers_of from b) ≡ false → are_sure (layers_of from b) ≡ true
+    → (takes from channel packet b).verdict.rule
+    ≡ (sends packet (pair_of from (are_level (layers_of from b)) channel b)).rule
