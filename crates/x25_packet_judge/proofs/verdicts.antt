@@ -7,3 +7,4 @@ pub mod Leaving
 pub mod Innocents
 pub mod Silences
 pub mod Beginnings
+pub mod Books

@@ -21,7 +21,8 @@ mod terms;
 
 pub use book::{Book, Verdict};
 pub use law::{
-    calls_begin, innocent_packets_stay_untold, resets_begin, silent_packets_keep_the_rules,
+    books_tell_of_channels, calls_begin, innocent_packets_stay_untold, resets_begin,
+    silent_packets_keep_the_rules,
 };
 pub use numbers::apart;
 pub use packet_rule::PacketRule;

@@ -49,9 +49,9 @@ accepted terms field t = pair.with_own (port.set_up Open true (said field terms)
 accepts : (terms : Terms) (t : Pair) (two : ℕ) (answer : List ℕ) → t.reaches ≡ true → IsClear t.own → IsClear t.other → sends (accept two answer) (turned (asked terms t)) ≡ accepted terms answer t
 unfolding sends_known asked accepted
 accepts terms t two answer reaches p o =
-    known_so (turned (asked terms t)) (record { known = o.known; owed = o.owed }) (record { known = p.known; owed = p.owed }) (accept two answer)
+    known_so (turned (asked terms t)) (record { known = o.known; owed = o.owed; former = o.former }) (record { known = p.known; owed = p.owed; former = p.former }) (accept two answer)
     ∙ ap (λ (v : Pair). pair.with_own (port.set_up Open true (said answer terms) (port.clearing false (port.proposing terms (port.in_call Called t.other)))) v)
-    (cond-true (pair.is_matched (pair.starts (turned (asked terms t)))) _ (pair.starts (turned (asked terms t))) (matched (turned (asked terms t)) reaches (record { known = o.known; owed = o.owed }) (record { known = p.known; owed = p.owed })))
+    (cond-true (pair.is_matched (pair.starts (turned (asked terms t)))) _ (pair.starts (turned (asked terms t))) (matched (turned (asked terms t)) reaches (record { known = o.known; owed = o.owed; former = o.former }) (record { known = p.known; owed = p.owed; former = p.former })))
 
 pub calls_begin : CallsBegin
 unfolding asked accepted
@@ -62,16 +62,16 @@ calls_begin t one two to from proposed user answer reaches p o idle idles =
       own = record {
         reaches = reaches;
         quiet = refl;
-        own = record { known = p.known; up = refl; owed = p.owed; reset = refl; flow = refl; message = refl; interrupt = refl };
-        other = record { known = o.known; up = refl; owed = o.owed; reset = refl; flow = refl; message = refl; interrupt = refl };
+        own = record { known = p.known; up = refl; owed = p.owed; reset = refl; flow = refl; message = refl; interrupt = refl; former = p.former };
+        other = record { known = o.known; up = refl; owed = o.owed; reset = refl; flow = refl; message = refl; interrupt = refl; former = o.former };
         its_window = refl;
         its_most = refl;
       };
       other = record {
         reaches = reaches;
         quiet = refl;
-        own = record { known = o.known; up = refl; owed = o.owed; reset = refl; flow = refl; message = refl; interrupt = refl };
-        other = record { known = p.known; up = refl; owed = p.owed; reset = refl; flow = refl; message = refl; interrupt = refl };
+        own = record { known = o.known; up = refl; owed = o.owed; reset = refl; flow = refl; message = refl; interrupt = refl; former = o.former };
+        other = record { known = p.known; up = refl; owed = p.owed; reset = refl; flow = refl; message = refl; interrupt = refl; former = p.former };
         its_window = refl;
         its_most = refl;
       };
@@ -96,16 +96,16 @@ resets_begin t one two cause diagnostic reaches p o up ups none nones =
       own = record {
         reaches = reaches;
         quiet = refl;
-        own = record { known = p.known; up = refl; owed = p.owed; reset = here; flow = refl; message = refl; interrupt = refl };
-        other = record { known = o.known; up = refl; owed = o.owed; reset = ap (λ x. x - 1) owed; flow = refl; message = refl; interrupt = refl };
+        own = record { known = p.known; up = refl; owed = p.owed; reset = here; flow = refl; message = refl; interrupt = refl; former = refl };
+        other = record { known = o.known; up = refl; owed = o.owed; reset = ap (λ x. x - 1) owed; flow = refl; message = refl; interrupt = refl; former = refl };
         its_window = refl;
         its_most = refl;
       };
       other = record {
         reaches = reaches;
         quiet = refl;
-        own = record { known = o.known; up = refl; owed = o.owed; reset = ap (λ x. x - 1) owed; flow = refl; message = refl; interrupt = refl };
-        other = record { known = p.known; up = refl; owed = p.owed; reset = here; flow = refl; message = refl; interrupt = refl };
+        own = record { known = o.known; up = refl; owed = o.owed; reset = ap (λ x. x - 1) owed; flow = refl; message = refl; interrupt = refl; former = refl };
+        other = record { known = p.known; up = refl; owed = p.owed; reset = here; flow = refl; message = refl; interrupt = refl; former = refl };
         its_window = refl;
         its_most = refl;
       };

@@ -1,5 +1,5 @@
 -- What the other end sends behind its RESET or CLEAR.
-use Rattle.std.proofs.Common.{◌≡◌, ◌==◌, ◌⊎◌, inl, inr, ℕ, ◌+◌, ◌-◌, arith, min, Bool, true, false, List, length, refl, sym, ap, ◌∙◌, subst}
+use Rattle.std.proofs.Common.{◌≡◌, ◌==◌, ◌⊎◌, inl, inr, ℕ, ◌+◌, ◌≤◌, ◌-◌, arith, min, Bool, true, false, List, length, refl, sym, ap, ◌∙◌, subst}
 use Rattle.std.specs.Prelude.{nat_lt, ◌&&◌, not}
 use Rattle.std.proofs.lemmas.Bool.{eqb-true, and_left, and_right, both_ways, cond_both, cond-false}
 use Rattle.x25_packet.specs.Packet.{PlainPacket, call, accept, clear, clear_conf, user_data, rr, rnr, interrupt, interrupt_conf, reset, reset_conf, restart, restart_conf}
@@ -65,6 +65,10 @@ module _ (window most : ℕ) (g : Given) (a : Come) where
       some n e = omega arith
   more_some false n h = h
 
+  pub more_due : (b : Bool) (n : ℕ) → 1 ≤ n → 1 ≤ port.more b n
+  more_due true n some = omega (arith, some)
+  more_due false n some = some
+
   -- owed once more
   pub still : (r b c : Bool) (n : ℕ) → (r && ((n == 0) && c)) ≡ false → (r && ((port.more b n == 0) && c)) ≡ false
   still true b true n h = and_left (port.more b n == 0) true (more_some b n (drop_true (n == 0) h))
@@ -89,7 +93,7 @@ module _ (window most : ℕ) (g : Given) (a : Come) where
         no_former = refl;
         own = record { its_window = w.own.its_window; its_most = w.own.its_most; number = w.own.number; numbered = w.own.numbered; message = w.own.message; interrupts = w.own.interrupts };
         others = λ known. absurd (both_ways (pair.is_together v) (parted_back v w) known);
-        over = w.over;
+        over = record { over = w.over.over; reset = λ is. more_due (pair.is_matched v && v.own.talk.owed == 0) v.other.talk.owed (w.over.reset is); cleared = w.over.cleared };
       }))
 
   pub left_clears : (v : Pair) → Left v → LeftOrGone (pair.clears v)
@@ -101,7 +105,7 @@ module _ (window most : ℕ) (g : Given) (a : Come) where
         no_former = refl;
         own = record { its_window = w.own.its_window; its_most = w.own.its_most; number = w.own.number; numbered = w.own.numbered; message = w.own.message; interrupts = w.own.interrupts };
         others = λ known. absurd (both_ways (pair.is_together v) (parted_back v w) known);
-        over = w.over;
+        over = record { over = w.over.over; reset = w.over.reset; cleared = λ is. more_due (v.reaches && v.own.owed == 0) v.other.owed (w.over.cleared is) };
       }))
 
   pub left_reached : (o2 x : Port) (v : Pair) → x ≡ v.other → o2.is_known ≡ true → o2.owed ≡ 0 → o2.talk.owed ≡ 0 → o2.former ≡ v.own.former → Left v → Left (pair.with_own o2 (pair.reaches_with x v))

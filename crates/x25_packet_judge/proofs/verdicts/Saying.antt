@@ -146,6 +146,7 @@ puts window most k g c a m q ps size low follow o =
 pub going_level : (window most : ℕ) (t : Pair) (g : Given) (a : Come) → Level window most t.reaches t.own t.other g a → Level window most (going t).reaches (going t).own (going t).other g a
 going_level window most t g a l = record {
   reached = l.reached;
+  no_former = l.no_former;
   go = record { known = l.go.known; up = refl; others_known = l.go.others_known; none_cleared = l.go.none_cleared; none_reset = l.go.none_reset };
   back = record { known = l.back.known; up = l.back.up; others_known = l.back.others_known; none_cleared = l.back.none_cleared; none_reset = l.back.none_reset };
   own = record { its_window = l.own.its_window; its_most = l.own.its_most; number = l.own.number; numbered = l.own.numbered; message = l.own.message; interrupts = l.own.interrupts };
@@ -176,6 +177,7 @@ module _ (window most : ℕ) (t : Pair) (g : Given) (c a : Come) (low : Low c a)
         quiet = first_none t.rule (flow.heard pr t.other.talk.flow).rule quiet said.quiet;
         stands = inl (record {
           reached = l.reached;
+          no_former = l.no_former;
           go = record { known = l.go.known; up = l.go.up; others_known = l.go.others_known; none_cleared = l.go.none_cleared; none_reset = l.go.none_reset };
           back = record { known = l.back.known; up = l.back.up; others_known = l.back.others_known; none_cleared = l.back.none_cleared; none_reset = l.back.none_reset };
           own = own_told window most t.own.talk g a.acked a.confirmed u l.own;
@@ -222,6 +224,7 @@ module _ (window most : ℕ) (t : Pair) (g : Given) (c a : Come) (low : Low c a)
         quiet = first_none (first t.rule (flow.sent t.own.talk.window ps t.own.talk.flow).rule) (broken t.own.talk.most m q size t.own.talk.message) (first_none t.rule (flow.sent t.own.talk.window ps t.own.talk.flow).rule quiet put.quiet) put.whole;
         stands = inl (record {
           reached = l.reached;
+          no_former = l.no_former;
           go = record { known = l.go.known; up = l.go.up; others_known = l.go.others_known; none_cleared = l.go.none_cleared; none_reset = l.go.none_reset };
           back = record { known = l.back.known; up = l.back.up; others_known = l.back.others_known; none_cleared = l.back.none_cleared; none_reset = l.back.none_reset };
           own = put.own;
@@ -267,6 +270,7 @@ module _ (window most : ℕ) (t : Pair) (g : Given) (c a : Come) (low : Low c a)
       go : Level window most t.reaches t.own t.other g a ⊎ Away window most t.reaches t.own t.other g a → Level window most t.reaches (port.with_talk (port.interrupting true t.own.talk) t.own) t.other (record g { interrupts = g.interrupts + 1 }) a ⊎ Away window most t.reaches (port.with_talk (port.interrupting true t.own.talk) t.own) t.other (record g { interrupts = g.interrupts + 1 }) a
       go (inl l) = inl (record {
         reached = l.reached;
+        no_former = l.no_former;
         go = record { known = l.go.known; up = l.go.up; others_known = l.go.others_known; none_cleared = l.go.none_cleared; none_reset = l.go.none_reset };
         back = record { known = l.back.known; up = l.back.up; others_known = l.back.others_known; none_cleared = l.back.none_cleared; none_reset = l.back.none_reset };
         own = new l.own;
@@ -305,6 +309,7 @@ module _ (window most : ℕ) (t : Pair) (g : Given) (c a : Come) (low : Low c a)
         quiet = quiet;
         stands = inl (record {
           reached = l.reached;
+          no_former = l.no_former;
           go = record { known = l.go.known; up = l.go.up; others_known = l.go.others_known; none_cleared = l.go.none_cleared; none_reset = l.go.none_reset };
           back = record { known = l.back.known; up = l.back.up; others_known = l.back.others_known; none_cleared = l.back.none_cleared; none_reset = l.back.none_reset };
           own = own_answered l.own;

@@ -76,6 +76,7 @@ module _ (window most : ℕ) (s : Pair) (g : Given) (a : Come) (l : Level window
   pub heard_level : (pr : ℕ) → Level window most (going s).reaches (talking.of_other (flow.heard pr s.other.talk.flow) (going s)).other (talking.of_other (flow.heard pr s.other.talk.flow) (going s)).own g (record a { acked = a.acked + apart pr a.acked })
   heard_level pr = record {
     reached = l.reached;
+    no_former = l.no_former;
     go = record { known = l.go.known; up = l.go.up; others_known = l.go.others_known; none_cleared = l.go.none_cleared; none_reset = l.go.none_reset };
     back = record { known = l.back.known; up = refl; others_known = l.back.others_known; none_cleared = l.back.none_cleared; none_reset = l.back.none_reset };
     own = own_heard window most s.other.talk g a.acked a.confirmed pr l.own;
@@ -97,6 +98,7 @@ module _ (window most : ℕ) (s : Pair) (g : Given) (a : Come) (l : Level window
       let k = heard_level pr in
       inl (record {
         reached = k.reached;
+        no_former = k.no_former;
         go = record { known = k.go.known; up = k.go.up; others_known = k.go.others_known; none_cleared = k.go.none_cleared; none_reset = k.go.none_reset };
         back = record { known = k.back.known; up = k.back.up; others_known = k.back.others_known; none_cleared = k.back.none_cleared; none_reset = k.back.none_reset };
         own = k.own;
@@ -109,6 +111,7 @@ module _ (window most : ℕ) (s : Pair) (g : Given) (a : Come) (l : Level window
       (λ _. inr (inr (record { known = refl; clearing = refl; call = refl })))
       (λ none. inl (record {
         reached = l.reached;
+        no_former = l.no_former;
         go = record { known = l.go.known; up = l.go.up; others_known = l.go.others_known; none_cleared = l.go.none_cleared; none_reset = l.go.none_reset };
         back = record { known = l.back.known; up = refl; others_known = l.back.others_known; none_cleared = l.back.none_cleared; none_reset = l.back.none_reset };
         own = record { its_window = l.own.its_window; its_most = l.own.its_most; number = l.own.number; numbered = l.own.numbered; message = l.own.message; interrupts = l.own.interrupts };
@@ -124,6 +127,7 @@ module _ (window most : ℕ) (s : Pair) (g : Given) (a : Come) (l : Level window
       (cond_both s.other.talk.is_interrupting _ _ (Turns window most g (record a { confirmed = a.confirmed + 1 }))
       (λ out. inl (record {
         reached = l.reached;
+        no_former = l.no_former;
         go = record { known = l.go.known; up = l.go.up; others_known = l.go.others_known; none_cleared = l.go.none_cleared; none_reset = l.go.none_reset };
         back = record { known = l.back.known; up = refl; others_known = l.back.others_known; none_cleared = l.back.none_cleared; none_reset = l.back.none_reset };
         own = record { its_window = l.own.its_window; its_most = l.own.its_most; number = l.own.number; numbered = l.own.numbered; message = l.own.message; interrupts = one_more a.confirmed g.interrupts (subst (λ b. bit b + a.confirmed ≤ g.interrupts) out l.own.interrupts) };
@@ -158,26 +162,29 @@ module _ (window most : ℕ) (s : Pair) (g : Given) (a : Come) (l : Level window
   pub reset_owed_so : (pair.is_matched (before s) && s.own.talk.owed == 0) ≡ true
   reset_owed_so = rw (l.reached, l.go.none_cleared, l.back.none_cleared, l.go.none_reset) refl
 
-  pub shown_reset : Turns window most g (record a { is_over = true }) (talking.resets (before s))
-  shown_reset = subst (Turns window most g (record a { is_over = true })) (sym (cond-false (s.own.talk.is_resetting && nat_lt 0 s.other.talk.owed) _ _ (awaits_none s.own.talk.is_resetting s.other.talk.owed l.back.none_reset)))
+  pub owes_one : (n : ℕ) → 1 ≤ port.more true n
+  owes_one n = omega arith
+
+  pub shown_reset : Turns window most g (record a { is_over = true; is_reset = true }) (talking.resets (before s))
+  shown_reset = subst (Turns window most g (record a { is_over = true; is_reset = true })) (sym (cond-false (s.own.talk.is_resetting && nat_lt 0 s.other.talk.owed) _ _ (awaits_none s.own.talk.is_resetting s.other.talk.owed l.back.none_reset)))
       (inr (inl (record {
         go = record { known = l.go.known; up = l.go.up; others_known = l.go.others_known; none_cleared = l.go.none_cleared; none_reset = ap (λ x. x - 1) l.go.none_reset };
         parted = subst (λ b. (s.reaches && (s.other.owed == 0 && port.more b s.other.talk.owed == 0)) ≡ false) (sym reset_owed_so) (owes_too s.reaches (s.other.owed == 0) s.other.talk.owed);
         no_former = refl;
         own = record { its_window = l.own.its_window; its_most = l.own.its_most; number = l.own.number; numbered = l.own.numbered; message = l.own.message; interrupts = l.own.interrupts };
         others = λ _. record { numbered = l.others.numbered; interrupts = l.others.interrupts };
-        over = refl;
+        over = record { over = refl; reset = λ _. subst (λ b. 1 ≤ port.more b s.other.talk.owed) (sym reset_owed_so) (owes_one s.other.talk.owed); cleared = λ is. absurd (both_ways a.is_cleared l.on.uncleared is) };
       })))
 
-  pub shown_clear : Turns window most g (record a { is_over = true }) (pair.clears s)
-  shown_clear = subst (Turns window most g (record a { is_over = true })) (sym (cond-false (pair.is_awaiting s) _ _ (awaits_none s.own.is_clearing s.other.owed l.back.none_cleared)))
+  pub shown_clear : Turns window most g (record a { is_over = true; is_cleared = true }) (pair.clears s)
+  shown_clear = subst (Turns window most g (record a { is_over = true; is_cleared = true })) (sym (cond-false (pair.is_awaiting s) _ _ (awaits_none s.own.is_clearing s.other.owed l.back.none_cleared)))
       (inr (inl (record {
         go = record { known = l.go.known; up = l.go.up; others_known = l.go.others_known; none_cleared = ap (λ x. x - 1) l.go.none_cleared; none_reset = refl };
         parted = subst (λ b. (s.reaches && (port.more b s.other.owed == 0 && s.other.talk.owed == 0)) ≡ false) (sym owed_so) (owes s.reaches (s.other.talk.owed == 0) s.other.owed);
         no_former = refl;
         own = record { its_window = l.own.its_window; its_most = l.own.its_most; number = l.own.number; numbered = l.own.numbered; message = l.own.message; interrupts = l.own.interrupts };
         others = λ _. record { numbered = l.others.numbered; interrupts = l.others.interrupts };
-        over = refl;
+        over = record { over = refl; reset = λ is. absurd (both_ways a.is_reset l.on.unreset is); cleared = λ _. subst (λ b. 1 ≤ port.more b s.other.owed) (sym owed_so) (owes_one s.other.owed) };
       })))
 
   pub shown_level : (packet : PlainPacket) → IsOfChannel packet → Turns window most g (takes_in packet a) (sends packet s)

@@ -30,12 +30,14 @@ pub record Low (c d : Come) : Type 0 where
   pub taken : c.taken ≤ d.taken
   pub confirmed : c.confirmed ≤ d.confirmed
   pub asked : c.asked ≤ d.asked
+  pub reset : c.is_reset ≡ true → d.is_reset ≡ true
+  pub cleared : c.is_cleared ≡ true → d.is_cleared ≡ true
 
 pub low_self : (c : Come) → Low c c
-low_self c = record { acked = omega arith; taken = omega arith; confirmed = omega arith; asked = omega arith }
+low_self c = record { acked = omega arith; taken = omega arith; confirmed = omega arith; asked = omega arith; reset = λ is. is; cleared = λ is. is }
 
 pub low_both : (c d e : Come) → Low c d → Low d e → Low c e
-low_both c d e h k = record { acked = le c.acked d.acked e.acked h.acked k.acked; taken = le c.taken d.taken e.taken h.taken k.taken; confirmed = le c.confirmed d.confirmed e.confirmed h.confirmed k.confirmed; asked = le c.asked d.asked e.asked h.asked k.asked }
+low_both c d e h k = record { acked = le c.acked d.acked e.acked h.acked k.acked; taken = le c.taken d.taken e.taken h.taken k.taken; confirmed = le c.confirmed d.confirmed e.confirmed h.confirmed k.confirmed; asked = le c.asked d.asked e.asked h.asked k.asked; reset = λ is. k.reset (h.reset is); cleared = λ is. k.cleared (h.cleared is) }
   where
     le : (x y z : ℕ) → x ≤ y → y ≤ z → x ≤ z
     le x y z h k = omega arith
@@ -48,19 +50,19 @@ module _ (c : Come) where
   more x y = omega arith
 
   pub in_low : (packet : PlainPacket) → Low c (takes_in packet c)
-  in_low (user_data channel q m ps pr user) = record { acked = more c.acked (apart pr c.acked); taken = cond_both (ps == c.taken % 8) (c.taken + 1) c.taken (λ x. c.taken ≤ x) (λ _. more c.taken 1) (λ _. same c.taken); confirmed = same c.confirmed; asked = same c.asked }
-  in_low (rr channel pr) = record { acked = more c.acked (apart pr c.acked); taken = same c.taken; confirmed = same c.confirmed; asked = same c.asked }
-  in_low (rnr channel pr) = record { acked = more c.acked (apart pr c.acked); taken = same c.taken; confirmed = same c.confirmed; asked = same c.asked }
-  in_low (interrupt channel user) = record { acked = same c.acked; taken = same c.taken; confirmed = same c.confirmed; asked = more c.asked 1 }
-  in_low (interrupt_conf channel) = record { acked = same c.acked; taken = same c.taken; confirmed = more c.confirmed 1; asked = same c.asked }
-  in_low (reset channel cause diagnostic) = record { acked = same c.acked; taken = same c.taken; confirmed = same c.confirmed; asked = same c.asked }
-  in_low (reset_conf channel) = record { acked = same c.acked; taken = same c.taken; confirmed = same c.confirmed; asked = same c.asked }
-  in_low (call channel called calling facilities user) = record { acked = same c.acked; taken = same c.taken; confirmed = same c.confirmed; asked = same c.asked }
-  in_low (accept channel facilities) = record { acked = same c.acked; taken = same c.taken; confirmed = same c.confirmed; asked = same c.asked }
-  in_low (clear channel cause diagnostic) = record { acked = same c.acked; taken = same c.taken; confirmed = same c.confirmed; asked = same c.asked }
-  in_low (clear_conf channel) = record { acked = same c.acked; taken = same c.taken; confirmed = same c.confirmed; asked = same c.asked }
-  in_low (restart cause diagnostic) = record { acked = same c.acked; taken = same c.taken; confirmed = same c.confirmed; asked = same c.asked }
-  in_low restart_conf = record { acked = same c.acked; taken = same c.taken; confirmed = same c.confirmed; asked = same c.asked }
+  in_low (user_data channel q m ps pr user) = record { acked = more c.acked (apart pr c.acked); taken = cond_both (ps == c.taken % 8) (c.taken + 1) c.taken (λ x. c.taken ≤ x) (λ _. more c.taken 1) (λ _. same c.taken); confirmed = same c.confirmed; asked = same c.asked; reset = λ is. is; cleared = λ is. is }
+  in_low (rr channel pr) = record { acked = more c.acked (apart pr c.acked); taken = same c.taken; confirmed = same c.confirmed; asked = same c.asked; reset = λ is. is; cleared = λ is. is }
+  in_low (rnr channel pr) = record { acked = more c.acked (apart pr c.acked); taken = same c.taken; confirmed = same c.confirmed; asked = same c.asked; reset = λ is. is; cleared = λ is. is }
+  in_low (interrupt channel user) = record { acked = same c.acked; taken = same c.taken; confirmed = same c.confirmed; asked = more c.asked 1; reset = λ is. is; cleared = λ is. is }
+  in_low (interrupt_conf channel) = record { acked = same c.acked; taken = same c.taken; confirmed = more c.confirmed 1; asked = same c.asked; reset = λ is. is; cleared = λ is. is }
+  in_low (reset channel cause diagnostic) = record { acked = same c.acked; taken = same c.taken; confirmed = same c.confirmed; asked = same c.asked; reset = λ _. refl; cleared = λ is. is }
+  in_low (reset_conf channel) = record { acked = same c.acked; taken = same c.taken; confirmed = same c.confirmed; asked = same c.asked; reset = λ is. is; cleared = λ is. is }
+  in_low (call channel called calling facilities user) = record { acked = same c.acked; taken = same c.taken; confirmed = same c.confirmed; asked = same c.asked; reset = λ is. is; cleared = λ is. is }
+  in_low (accept channel facilities) = record { acked = same c.acked; taken = same c.taken; confirmed = same c.confirmed; asked = same c.asked; reset = λ is. is; cleared = λ is. is }
+  in_low (clear channel cause diagnostic) = record { acked = same c.acked; taken = same c.taken; confirmed = same c.confirmed; asked = same c.asked; reset = λ is. is; cleared = λ _. refl }
+  in_low (clear_conf channel) = record { acked = same c.acked; taken = same c.taken; confirmed = same c.confirmed; asked = same c.asked; reset = λ is. is; cleared = λ is. is }
+  in_low (restart cause diagnostic) = record { acked = same c.acked; taken = same c.taken; confirmed = same c.confirmed; asked = same c.asked; reset = λ is. is; cleared = λ is. is }
+  in_low restart_conf = record { acked = same c.acked; taken = same c.taken; confirmed = same c.confirmed; asked = same c.asked; reset = λ is. is; cleared = λ is. is }
 
   pub takes_low : (packet : PlainPacket) → Low c (takes packet c)
   takes_low packet = cond_both c.is_over c (takes_in packet c) (Low c) (λ _. low_self c) (λ _. in_low packet)
@@ -138,14 +140,27 @@ pub record MayGo (p o : Port) : Type 0 where
   pub none_cleared : o.owed ≡ 0
   pub none_reset : o.talk.owed ≡ 0
 
+-- nothing on the way ends the stretch
+pub record IsOn (is_over is_reset is_cleared : Bool) : Type 0 where
+  pub on : is_over ≡ false
+  pub unreset : is_reset ≡ false
+  pub uncleared : is_cleared ≡ false
+
+-- a packet on the way does: RESET or CLEAR waits for a confirmation
+pub record IsOver (is_over is_reset is_cleared : Bool) (owed reset_owed : ℕ) : Type 0 where
+  pub over : is_over ≡ true
+  pub reset : is_reset ≡ true → 1 ≤ reset_owed
+  pub cleared : is_cleared ≡ true → 1 ≤ owed
+
 -- both ends are in the stretch
 pub record Level (window most : ℕ) (reaches : Bool) (p o : Port) (g : Given) (a : Come) : Type 0 where
   pub reached : reaches ≡ true
+  pub no_former : p.former.is_known ≡ false
   pub go : MayGo p o
   pub back : MayGo o p
   pub own : Own window most p.talk g a.acked a.confirmed
   pub others : Others o.talk.flow o.talk.is_interrupting g a.taken a.asked
-  pub on : a.is_over ≡ false
+  pub on : IsOn a.is_over a.is_reset a.is_cleared
 
 -- the other end has left it
 pub record Away (window most : ℕ) (reaches : Bool) (p o : Port) (g : Given) (a : Come) : Type 0 where
@@ -154,7 +169,7 @@ pub record Away (window most : ℕ) (reaches : Bool) (p o : Port) (g : Given) (a
   pub no_former : p.former.is_known ≡ false
   pub own : Own window most p.talk g a.acked a.confirmed
   pub others : o.former.is_known ≡ true → Others o.former.flow o.former.is_interrupting g a.taken a.asked
-  pub over : a.is_over ≡ true
+  pub over : IsOver a.is_over a.is_reset a.is_cleared p.owed p.talk.owed
 
 -- nothing is known
 pub record Gone (p : Port) : Type 0 where

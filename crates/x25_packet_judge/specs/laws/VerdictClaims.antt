@@ -1,15 +1,20 @@
 -- What the laws say of the judge of packets.
-use Rattle.std.specs.Prelude.{◌≡◌, ℕ, true, List, None}
+use Rattle.std.specs.Prelude.{◌≡◌, ℕ, true, false, List, None}
+use Rattle.x25_bits.specs.declared.role.Role.{Role}
 use Rattle.x25_packet.specs.Packet.{PlainPacket, call, accept, reset, reset_conf}
+use Rattle.x25_packet_judge.specs.Book.{layers_of, pair_of, takes}
+use Rattle.x25_packet_judge.specs.Layers.{runs_early, are_sure, are_level}
 use Rattle.x25_packet_judge.specs.Message.{octets_of}
 use Rattle.x25_packet_judge.specs.Packets.{sends}
 use Rattle.x25_packet_judge.specs.Pair.{may_talk_in}
 use Rattle.x25_packet_judge.specs.Terms.{said, usual}
+use Rattle.x25_packet_judge.specs.declared.book.Book.{Book}
 use Rattle.x25_packet_judge.specs.declared.pair.Pair.{Pair}
 use Rattle.x25_packet_judge.specs.declared.port.Call.TheVariants.{Idle}
 use Rattle.x25_packet_judge.specs.declared.port.Port.{Port}
 use Rattle.x25_packet_judge.specs.declared.terms.Terms.{Terms}
-use Rattle.x25_packet_judge.specs.laws.Keeping.{Given, Come, MaySend, MayBe, AreBegun, turned}
+use Rattle.x25_packet_judge.specs.laws.Keeping.{Given, Come, MaySend, MayEnd, IsOfChannel, MayBe}
+use Rattle.x25_packet_judge.specs.laws.Keeping.{AreBegun, turned}
 use Rattle.x25_packet_judge.specs.laws.Watching.{Line, IsSilent, IsKept}
 
 -- no rule is told of what an end sends that keeps the rules
@@ -17,6 +22,12 @@ abbrev pub NoInnocentPacketIsTold : Type 0
 NoInnocentPacketIsTold =
     (window most : ℕ) (t : Pair) (g h : Given) (c : Come) (way : List PlainPacket) (packet : PlainPacket)
     → MayBe window most t g c way → MaySend window most g c packet h → (sends packet t).rule ≡ None
+
+-- nor of how it ends the stretch
+abbrev pub NoEndingIsTold : Type 0
+NoEndingIsTold =
+    (window most : ℕ) (t : Pair) (g : Given) (c : Come) (way : List PlainPacket) (packet : PlainPacket)
+    → MayBe window most t g c way → MayEnd c packet → (sends packet t).rule ≡ None
 
 -- where nothing is told of either end, an end that keeps the rules may have sent what the first one did
 abbrev pub SilentPacketsKeepTheRules : Type 0
@@ -26,10 +37,11 @@ SilentPacketsKeepTheRules =
 
 -- ---- where stretches begin
 
--- the channel is known, and nothing is to be confirmed
+-- the channel is known, and no CLEAR or RESET waits for its confirmation
 pub record IsClear (p : Port) : Type 0 where
   pub known : p.is_known ≡ true
   pub owed : p.owed ≡ 0
+  pub former : p.former.is_known ≡ false
 
 -- a packet of the first end, and one of the other that answers it
 abbrev pub answered : PlainPacket → PlainPacket → Pair → Pair
@@ -59,3 +71,13 @@ ResetsBegin =
     → may_talk_in t.own.call ≡ true → may_talk_in t.other.call ≡ true → t.own.talk.owed ≡ 0 → t.other.talk.owed ≡ 0
     → BothBegin t.own.talk.window t.own.talk.most t.other.talk.window t.other.talk.most
     (answered (reset one cause diagnostic) (reset_conf two) t)
+
+-- ---- what is told of a trace
+
+-- of a packet on a channel, where its end has restarted, no RESTART of it waits, and restarts are known
+abbrev pub BooksTellOfChannels : Type 0
+BooksTellOfChannels =
+    (from : Role) (channel : ℕ) (packet : PlainPacket) (b : Book) → IsOfChannel packet
+    → runs_early (layers_of from b) ≡ false → are_sure (layers_of from b) ≡ true
+    → (takes from channel packet b).verdict.rule
+    ≡ (sends packet (pair_of from (are_level (layers_of from b)) channel b)).rule
