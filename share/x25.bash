@@ -13,7 +13,7 @@ _x25() {
             sim:*) words="--tap --down --long --say-sizes --wide --k --n2 --channels --help" ;;
             station:station) words="dte dce --help" ;;
             station:*) words="--long --say-sizes --wide --k --n2 --channels --help" ;;
-            judge:*) words="--k --long --wide --strict --help" ;;
+            judge:*) words="--k --long --wide --manners --strict --help" ;;
             deframe:deframe) words="dte dce --help" ;;
             deframe:*) words="--help" ;;
             decode:*) words="--long --wide --help" ;;

@@ -4,7 +4,7 @@
 
 Each run is a script of losses.py with its own losses, damage, early firings of T1, window and N2, some of them from both links down
 and with set-ups anew in their midst, and most with more calls, resets and restarts and with packet sizes and windows; what `sim --tap`
-puts on the line goes through `judge`, whole, and again from a frame in its midst on. `make judge-runs` plays 10,000. Notes tell of no rule.
+puts on the line goes through `judge`, whole, and again from a frame in its midst on. `make judge-runs` plays 10,000. A note tells of nothing broken.
 
 Exit status: 0; 1 where a rule was told, with the seed of that run; 2 for bad words, or where there is no program.
 """
@@ -86,7 +86,7 @@ def judged(program, words, frames):
     """The lines of a trace that tell of a rule, and how many frames it has."""
     done = subprocess.run([program, "judge", *words], input="".join(frames), stdout=subprocess.PIPE, text=True)
     lines = done.stdout.splitlines()
-    at_fault = [line for line in lines if " ! " in line or line == "? 60"]
+    at_fault = [line for line in lines if runs.TOLD.search(line) or line == "? 60"]
     if done.returncode != 0 and not at_fault:
         at_fault = [f"judge ended with status {done.returncode}"]
     return at_fault, len(lines)

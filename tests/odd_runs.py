@@ -8,7 +8,7 @@ call is, data of any length, and octets that are no packet, and it confirms late
 `judge`. With --midst it is judged from a frame in its midst on: then the faults of the other end may stand before the trace begins, so a
 station may be told of at times.
 
-Exit status: 0; 1 where a rule was told of the station, with the seed of that run; 2 for bad words, or where there is no program.
+Exit status: 0; 1 where a rule or manners were told of the station, with the seed of that run; 2 for bad words, or where there is no program.
 """
 
 import subprocess
@@ -232,7 +232,7 @@ class Run:
 def told(program, frames, end):
     """The lines that tell a rule of an end."""
     done = subprocess.run([program, "judge"], input="".join(frames), stdout=subprocess.PIPE, text=True)
-    return [line for line in done.stdout.splitlines() if f" ! {end}: " in line]
+    return [line for line in done.stdout.splitlines() if (told := runs.TOLD.search(line)) and told[1].startswith(end)]
 
 
 def play(program, seed, from_midst=False):

@@ -11,8 +11,8 @@ with a number since. Of packets they are rules 15 and 17, from each CALL and its
 neither DATA, RR nor RNR, nor RESTART. An end is told of where no run of an end that keeps them explains its frames, whatever came or was
 lost.
 
-A break is missed where `judge` tells nothing up to that frame. An end is accused where `judge` tells one of these rules of it, and it broke none
-up to there, whatever the other end broke.
+A break is missed where `judge` tells no rule up to that frame; where a number goes before those in front of it, manners do too. An end is
+accused where `judge` tells one of these rules of it, and it broke none up to there, whatever the other end broke.
 
 Exit status: 0; 1 where one was missed or accused, with the seed; 2 for bad words, or where there is no program.
 """
@@ -37,6 +37,8 @@ SABM, DISC, UA = 0x2F, 0x43, 0x63
 OF_ORDER = re.compile(
     r"[NP]\(R\) acknowledges what was never sent|[NP]\(R\) falls|other octets|more I frames are unacknowledged|P\(S\) isn't the next one"
 )
+# What is against manners alone.
+NOT_NEXT = "not the next one"
 
 
 class Frame(NamedTuple):
@@ -103,14 +105,14 @@ class Sender:
     def numbers(self, ns, octets):
         """An I frame goes: the rule that is broken, if any."""
         number = resolved(max(0, len(self.given) - 7), ns)
-        if number > len(self.given):
-            return "not the next one"
         if number >= self.acked + 7:
             return "window"
+        if number > len(self.given):
+            return NOT_NEXT
         if number == len(self.given):
             self.given.append(octets)
         elif self.given[number] != octets:
-            return "other octets"
+            return NOT_NEXT if number + 8 < self.acked + 7 else "other octets"
         return None
 
     def acknowledges(self, nr):
@@ -312,21 +314,31 @@ def trace(program, seed):
     return [Frame(line[0], bytes.fromhex(line[2:])[:-2]) for line in tap.splitlines() if line[:2] in ("> ", "< ")]
 
 
+class Told(NamedTuple):
+    """What `judge` tells of a frame: its place, its end, the rule, and whether that is of manners."""
+
+    place: int
+    end: str
+    rule: str
+    is_of_manners: bool
+
+
 def told(program, frames):
-    """Of each frame of which `judge` tells a rule its place, its end and the rule."""
     text = "".join(frame.line() for frame in frames)
     lines = subprocess.run([program, "judge"], input=text, stdout=subprocess.PIPE, text=True).stdout.splitlines()
-    return [(place, line[0], line.split(" ! ")[1]) for place, line in enumerate(lines) if " ! " in line]
+    found = [(place, line, runs.TOLD.search(line)) for place, line in enumerate(lines)]
+    return [Told(place, line[0], rule[1], " ~ manners: " in line) for place, line, rule in found if rule]
 
 
-def faults(rules, found):
-    """What is wrong with these rules of a trace in which this is found."""
-    breaks = [place for place, _ in found.first.values()]
-    if breaks and min(breaks) < min([place for place, _, _ in rules] or [max(breaks) + 1]):
-        return "missed"
-    for place, end, rule in rules:
+def faults(all_told, found):
+    """What is wrong with what is told of a trace in which this is found."""
+    if found.first:
+        first, rule = min(found.first.values())
+        if not any(told.place <= first for told in all_told if rule == NOT_NEXT or not told.is_of_manners):
+            return "missed"
+    for place, end, rule, is_of_manners in all_told:
         places = found.calls if rule[5] == "P" else found.links
-        if place in places and OF_ORDER.search(rule) and found.first.get(end, (place + 1, ""))[0] > place:
+        if place in places and not is_of_manners and OF_ORDER.search(rule) and found.first.get(end, (place + 1, ""))[0] > place:
             return f"accused at {place}, {rule}"
     return None
 

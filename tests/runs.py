@@ -2,6 +2,7 @@
 
 import argparse
 import os
+import re
 import sys
 
 from program import ROOT, find_program
@@ -12,6 +13,9 @@ CALL, ACCEPTED, CLEAR, CLEAR_CONFIRMATION, RESET, RESET_CONFIRMATION = 0x0B, 0x0
 INTERRUPT, INTERRUPT_CONFIRMATION = 0x23, 0x27
 RESTART, RESTART_CONFIRMATION = 0xFB, 0xFF
 RR, RNR = 0x01, 0x05
+
+# What `judge` tells of a frame, a rule or manners: what stands behind its mark.
+TOLD = re.compile(r" (?:!|~ manners:) (d[tc]e: .*)")
 
 
 def words(about, runs):

@@ -150,7 +150,7 @@ class Judge:
 
     def texts(self, asked, connections):
         """The answers to the lines of a trace in a text, each of a connection, and behind ` ! ` the end and the rule that it breaks, or behind ` ~ `
-        what is noted."""
+        the same of manners, or what is noted."""
         lines, groups = asked.splitlines(), {}
         for place, connection in enumerate(connections):
             groups.setdefault(None if connection is None else (connection.number, connection.is_made_up), []).append(place)
@@ -161,7 +161,7 @@ class Judge:
         return texts
 
     def counts(self):
-        """Yields the number of each connection, and a line of how much was judged: of its frames, and of the packets of each channel."""
+        """Yields the number of each connection, and a line of how much was judged, of its frames and of the packets of each channel, or of what was told."""
         for group, judge in self._judges.items():
             number, is_made_up = group or (1, False)
             yield from ((number, line) for line in judge.last_lines() if not (is_made_up and " frames, " in line))

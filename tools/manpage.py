@@ -25,7 +25,7 @@ HEAD = [
     "x25 \\- X.25 packet layer over LAPB, on lines of text",
     ".SH SYNOPSIS",
     ".B x25 decode\n[\\-\\-long] [\\-\\-wide]\n.br\n.B x25 vectors\n.br\n.B x25 sim\n[\\-\\-tap] [\\-\\-down] [\\-\\-long] [\\-\\-say\\-sizes] [\\-\\-wide] [\\-\\-k N] [\\-\\-n2 N] [\\-\\-channels N]"
-    "\n.br\n.B x25 station\ndte|dce [\\-\\-long] [\\-\\-say\\-sizes] [\\-\\-wide] [\\-\\-k N] [\\-\\-n2 N] [\\-\\-channels N]\n.br\n.B x25 judge\n[\\-\\-long] [\\-\\-wide] [\\-\\-strict] [\\-\\-k N]"
+    "\n.br\n.B x25 station\ndte|dce [\\-\\-long] [\\-\\-say\\-sizes] [\\-\\-wide] [\\-\\-k N] [\\-\\-n2 N] [\\-\\-channels N]\n.br\n.B x25 judge\n[\\-\\-long] [\\-\\-wide] [\\-\\-manners] [\\-\\-strict] [\\-\\-k N]"
     "\n.br\n.B x25 deframe\ndte|dce\n.br\n.B x25 frame",
     ".SH DESCRIPTION",
 ]

@@ -15,10 +15,10 @@ aren't shown, their packets are.
   --messages  shows what the ends' users sent: data packets joined by M, and interrupts, as hexadecimal digits and text. Each comes
               once, though its frame be repeated
   --stats     writes at the end how many frames, packets and octets of data went each way, and how many I frames came out of order or again
-  --judge     says behind a frame which end broke which rule of the link or the packet layer with it, and what may be noted (`x25 judge`), of each connection by itself; --k
-              is the window. Of packets without frames (XOT, LLC) the rules of the packet layer alone; not of lines of `x25 decode`. At the
+  --judge     says behind a frame which end broke which rule or which manners of the link or the packet layer with it, and what may be noted (`x25 judge`), of each
+              connection by itself; --k is the window. Of packets without frames (XOT, LLC) the rules of the packet layer alone; not of lines of `x25 decode`. At the
               end it says how many frames and packets there were, and how many of them were judged; with --strict the status is 1 too where
-              one wasn't
+              one wasn't, and with --manners where manners were broken
   --channel   shows the packets of a channel alone; 0 is that of RESTART. With --stats it counts them
   --no-wide   reads as `x25 decode` does, which has `fault` for packets in another form than a station writes
 
@@ -54,8 +54,8 @@ OF_NO_CHANNEL = re.compile(r"\| (?:RESTART|DIAG|REG)|^(?:dte|dce) restart")
 A_ROW = 16
 # Where the packet begins in the text of a frame that was made up.
 PACKET_AT = len("> I cmd P=0 S=0 R=0 | ")
-# What stands before the end and the rule that it breaks, and before what is noted.
-RULE, NOTE = " ! ", " ~ "
+# What stands before the end and the rule that it breaks, the same of manners, and before what is noted.
+RULE, MANNERS, NOTE = " ! ", " ~ manners: ", " ~ "
 # Texts without any of these letters are shown as they are. Others may be refusals, or have rules, notes, or numbers that x25names has words for: `diag=`,
 # `why=`, and `fac=`, which stands behind `calling=` or in an ACCEPT.
 SIGNS = "!?~gyE"
@@ -88,7 +88,7 @@ class Reader:
     def shown(self, file):
         """Whatever the file holds."""
         for block in self._captured(file) if file.peek(1)[:1] in CAPTURE else self._lines(file):
-            if self._options.judge and any(RULE in text for _, _, text in block):
+            if self._options.judge and any(RULE in text or (self._options.manners and MANNERS in text) for _, _, text in block):
                 self.status = 1
             yield block
 
@@ -309,6 +309,7 @@ def words():
     parser.add_argument("--long", action="store_true", help="a CALL may have 128 octets of user data, as with `decode --long`")
     parser.add_argument("--no-wide", dest="wide", action="store_false", help="read as `decode` does without `--wide`")
     pcap2x25.add_capture_words(parser)
+    parser.add_argument("--manners", action="store_true", help="with --judge: status 1 too where manners were broken")
     parser.add_argument("--strict", action="store_true", help="with --judge: status 1 too where a frame or a packet wasn't judged")
     decoding.add_program(parser)
     return parser.parse_args()
@@ -343,7 +344,7 @@ def main():
         counts = list(decoder.counts()) if options.judge else []
     for number, line in counts:
         print(f"#{number} {line}" if number > 1 else line)
-    return 1 if options.strict and any(not line.endswith(" 0 not judged") for _, line in counts) else reader.status
+    return 1 if options.strict and any(" judged, " in line and not line.endswith(" 0 not judged") for _, line in counts) else reader.status
 
 
 if __name__ == "__main__":

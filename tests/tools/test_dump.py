@@ -34,7 +34,7 @@ dte cleared ch=7 cause=0 diag=0  (DTE originated)
 ? 60 no such line
 """
 
-OVER = " ! dce: more I frames are unacknowledged than k (2.4.8.6): at most 2"
+OVER = " ~ manners: dce: more I frames are unacknowledged than k (2.4.8.6): at most 2"
 
 
 def data(number, text, more=0, channel=1, acknowledged=0):
@@ -253,18 +253,20 @@ class Dump(ToolCase):
 
     @support.needs_program
     def test_a_broken_rule_stands_behind_its_frame(self):
-        for name, words in (("judge_repeats", []), ("judge_over_window", ["--k", "2"])):
+        for name, words, status in (("judge_repeats_with_other_octets", [], 1), ("judge_repeats", [], 0), ("judge_over_window", ["--k", "2"], 0)):
             given, expected = (support.read(f"tests/golden/{name}.{kind}") for kind in ("in", "out"))
-            self.assertEqual(self.dump(given, "--judge", *words, "--x25", support.PROGRAM, status=1), expected.decode())
+            for more, answered in ([], status), (["--manners"], 1):
+                self.assertEqual(self.dump(given, "--judge", *words, *more, "--x25", support.PROGRAM, status=answered), expected.decode())
         judged = self.dump(given, "--judge", "--x25", support.PROGRAM)
         self.assertEqual(shown(judged), shown(expected.decode().replace(OVER, "")))
+        self.assertEqual(self.dump(given, "--judge", "--manners", "--x25", support.PROGRAM), judged)
         self.assertEqual(self.dump(given, "--judge", "--strict", "--x25", support.PROGRAM, status=1), judged)
 
     @support.needs_program
     def test_connections_are_judged_apart(self):
         frames = [b"\x01\x01\x3f", b"\x00\x01\x73", b"\x01\x01\x00\x10\x01\x01", b"\x01\x01\x00\x10\x01\x01"]
-        rows = self.dump(samples.pcap([(at, 0, frame) for at, frame in enumerate(frames)]), "--judge", "--x25", support.PROGRAM, status=1).splitlines()
-        self.assertEqual([" ! " in row for row in rows], [False] * 4 + [True] + [False] * 3)
+        rows = self.dump(samples.pcap([(at, 0, frame) for at, frame in enumerate(frames)]), "--judge", "--manners", "--x25", support.PROGRAM, status=1).splitlines()
+        self.assertEqual([" ~ manners: " in row for row in rows], [False] * 4 + [True] + [False] * 4)
         judged, note = self.dump(self.capture(), "--judge", "--x25", support.PROGRAM), " ~ note: not judged before a RESTART, a CLEAR or a CALL is answered (4.1): channel 1"
         self.assertEqual(judged.count(note), 2)
         self.assertEqual(shown(judged.replace(note, "")), self.dump(self.capture(), "--x25", support.PROGRAM))
@@ -282,10 +284,10 @@ class Dump(ToolCase):
             records.append((at, 0, samples.ethernet(samples.ipv4(is_of_client, samples.tcp(is_of_client, sequences[is_of_client], stream)))))
             sequences[is_of_client] += len(stream)
         rows = self.dump(samples.pcap(records, link_type=1), "--judge", "--x25", support.PROGRAM, status=1).splitlines()
-        self.assertEqual(len(rows), 1 + len(ways) + 2)
-        self.assertEqual([row for row in rows if " ! " in row], [rows[-3]])
-        self.assertIn("P(S) isn't the next one (4.4.1.1): it should be 2", rows[-3])
-        self.assertEqual([row.partition(": ")[0] for row in rows[-2:]], ["# dte channel 1", "# dce channel 1"])
+        self.assertEqual(len(rows), 1 + len(ways) + 3)
+        self.assertEqual([row for row in rows if " ! " in row], [rows[-4]])
+        self.assertIn("P(S) isn't the next one (4.4.1.1): it should be 2", rows[-4])
+        self.assertEqual([row.partition(": ")[0] for row in rows[-3:]], ["# dte channel 1", "# dce channel 1", "# told"])
 
     @support.needs_program
     def test_a_capture_without_x25(self):

@@ -57,27 +57,38 @@ def remarks(mark, output):
 
 
 class Cases(unittest.TestCase):
-    """The golden cases of `judge`, and the lists of docs/FORMATS.md, first of rules and then of notes."""
+    """The golden cases of `judge`, and the lists of docs/FORMATS.md, of rules, of manners and of notes."""
 
     def setUp(self):
         section = support.read("docs", "FORMATS.md").decode().split("## What `judge` writes")[1].split("\n## ")[0]
         told = [re.findall(r"^[-|] `([^`]+)`", part, re.MULTILINE) for part in re.findall(r"(?:^[-|] `.*\n(?:  .*\n)*)+", section, re.MULTILINE)]
-        self.rules, self.notes = ([re.sub(r" \d+$", "", text) for text in texts] for texts in told)
+        self.rules, self.manners, self.notes = ([re.sub(r" \d+$", "", text) for text in texts] for texts in told)
         self.cases = {name: golden.Case(name) for name in golden.names() if name.startswith("judge_")}
 
+    def broken(self, mark, rules):
+        """What each case has behind a mark. Each of these rules stands alone there in one, and no other does."""
+        broken = {name: [rule.partition(": ")[2] for rule in remarks(mark, case.output)] for name, case in self.cases.items()}
+        self.assertEqual([rule for rule in rules if [rule] not in broken.values()], [])
+        self.assertEqual([told for told in broken.values() if not set(told) <= set(rules)], [])
+        return broken
+
     def test_each_rule_has_one_that_breaks_it_alone(self):
-        broken = {name: [rule.partition(": ")[2] for rule in remarks(" ! ", case.output)] for name, case in self.cases.items()}
         self.assertGreater(len(self.rules), 20)
-        self.assertEqual([rule for rule in self.rules if [rule] not in broken.values()], [])
-        self.assertEqual([rules for rules in broken.values() if not set(rules) <= set(self.rules)], [])
+        broken, ill = self.broken(" ! ", self.rules), self.broken(" ~ manners: ", self.manners)
         for name, case in self.cases.items():
             is_strict = "--strict" in case.words and re.search(rb"^# .* [1-9]\d* not judged$", case.output, re.MULTILINE)
-            self.assertEqual(case.status, 1 if broken[name] or is_strict or b"\n? 60\n" in b"\n" + case.output else 0, name)
+            counts = broken[name] or ("--manners" in case.words and ill[name]) or is_strict or b"\n? 60\n" in b"\n" + case.output
+            self.assertEqual(case.status, 1 if counts else 0, name)
+            self.assertTrue(case.output.endswith(b"# told: %d rules, %d manners\n" % (len(broken[name]), len(ill[name]))), name)
+
+    def test_each_of_manners_counts_with_a_word_for_it(self):
+        ill = self.broken(" ~ manners: ", self.manners)
+        self.assertEqual({rule for name, case in self.cases.items() if "--manners" in case.words for rule in ill[name]}, set(self.manners))
 
     def test_the_lists_are_those_of_the_program(self):
         sources = ("x25_judge/src/rule_text.rt", "x25_packet_judge/src/packet_rule_text.rt", "x25_judge/src/note.rt")
         said = {text.strip() for source in sources for text in re.findall(r'b"([^"]+)"', support.read("crates", source).decode())}
-        self.assertEqual(said, {*self.rules, *self.notes})
+        self.assertEqual(said, {*self.rules, *self.manners, *self.notes})
 
     def test_each_note_has_one_that_breaks_no_rule(self):
         noted = [note for case in self.cases.values() if b" ! " not in case.output for note in remarks(" ~ note: ", case.output)]
@@ -91,7 +102,7 @@ class Forms(support.ToolCase):
     def judged(self, trace, *words):
         """What is told and noted line by line, and how much was judged."""
         done = subprocess.run([PROGRAM, "judge", *words], input=trace, stdout=subprocess.PIPE, timeout=60)
-        return done.returncode, [re.sub(rb"^[<>].*?(?= ! | ~ note: |$)", b"", line).replace(b" ~ wide", b"") for line in done.stdout.splitlines()]
+        return done.returncode, [re.sub(rb"^[<>].*?(?= ! | ~ manners: | ~ note: |$)", b"", line).replace(b" ~ wide", b"") for line in done.stdout.splitlines()]
 
     def test_each_is_judged_as_the_one_that_a_station_writes(self):
         changed = 0
@@ -133,8 +144,13 @@ class Order(support.ToolCase):
         none, own, other = ({}, {">": (3, "window")}, {"<": (2, "window")})
         self.assertEqual(order_runs.faults([], order_runs.Found(own, {2, 3}, set())), "missed")
         for first in (none, own, other):
-            self.assertEqual(order_runs.faults([(2, ">", rule)], order_runs.Found(first, {2, 3}, set())), f"accused at 2, {rule}")
-        self.assertIsNone(order_runs.faults([(3, ">", rule)], order_runs.Found(own, {2, 3}, set())))
+            self.assertEqual(order_runs.faults([order_runs.Told(2, ">", rule, False)], order_runs.Found(first, {2, 3}, set())), f"accused at 2, {rule}")
+        self.assertIsNone(order_runs.faults([order_runs.Told(3, ">", rule, False)], order_runs.Found(own, {2, 3}, set())))
+
+    def test_manners_tell_of_a_number_out_of_order_alone(self):
+        told = [order_runs.Told(2, ">", "dte: N(S) skips (2.4.5.1): it should be 1", True)]
+        for rule, fault in ((order_runs.NOT_NEXT, None), ("window", "missed")):
+            self.assertEqual(order_runs.faults(told, order_runs.Found({">": (3, rule)}, {2, 3}, set())), fault)
 
 
 @support.needs_program
@@ -143,7 +159,7 @@ class Recorded(support.ToolCase):
         """Linux 6.1 as the DTE and a station as the DCE, no frame lost: all rows of interop/play.py, 1,641 frames."""
         trace = gzip.decompress(support.read("tests", "traces", "linux.trace.gz"))
         done = subprocess.run([PROGRAM, "judge"], input=trace, stdout=subprocess.PIPE, timeout=60)
-        self.assertEqual([line for line in done.stdout.splitlines() if b" ! " in line or line == b"? 60"], [])
+        self.assertEqual([line for line in done.stdout.decode().splitlines() if order_runs.runs.TOLD.search(line) or line == "? 60"], [])
         self.assertEqual(len([line for line in done.stdout.splitlines() if not line.startswith(b"# ")]), 1641)
         self.assertEqual(done.returncode, 0)
 
@@ -152,7 +168,7 @@ class Recorded(support.ToolCase):
         trace = gzip.decompress(support.read("tests", "traces", "soak.trace.gz"))
         done = subprocess.run([PROGRAM, "judge", "--wide"], input=trace, stdout=subprocess.PIPE, timeout=60)
         lines = [line for line in done.stdout.decode().splitlines() if not line.startswith("# ")]
-        told = collections.Counter(line.split(" ! ")[1].split(" (")[0] for line in lines if " ! " in line)
+        told = collections.Counter(told[1].split(" (")[0] for line in lines if (told := order_runs.runs.TOLD.search(line)))
         clears = {"dte: CLEAR CONFIRMATION of no CLEAR": 5, "dte: nothing but CLEAR goes before its confirmation": 1}
         order = {"dte: P(R) falls": 1, "dte: an I frame sent again has other octets": 1}
         self.assertEqual(told, {**clears, **order, "dte: N(S) repeats without REJ or a poll": 3})

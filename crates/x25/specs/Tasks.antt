@@ -59,7 +59,8 @@ program_of Vectors = record {
 }
 program_of (Sim s) = simulating.program (settings_in s) s.down s.tap
 program_of (Station p) = piping.program (settings_from (role_in p.end) (cfg_in p))
-program_of (Judge g) = judging.program (begins g.k (record { long = g.long; wide = g.wide }) g.strict)
+program_of (Judge g) = judging.program (begins g.k (record { long = g.long; wide = g.wide })
+    (record { unjudged = g.strict; manners = g.manners }))
 program_of (Deframe end) = deframing.program (role_in end)
 program_of Frame = framing.program
 

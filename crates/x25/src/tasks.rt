@@ -13,7 +13,7 @@ use std::alloc::Global;
 use x25_bit_line::{deframe, frame};
 use x25_decode::{Reading, decode_lines, vectors};
 use x25_io::{Fault, Sink, Source};
-use x25_judge::judge_lines;
+use x25_judge::{Strictness, judge_lines};
 use x25_pipe::{Role, station};
 use x25_settings::{End, Place, Simulation, Task};
 use x25_sim::{Cfg, sim};
@@ -118,7 +118,10 @@ pub(crate) fn perform<R: Source, W: Sink>(
                 long: judging.long,
                 wide: judging.wide,
             },
-            judging.strict,
+            Strictness {
+                unjudged: judging.strict,
+                manners: judging.manners,
+            },
             reader,
             writer,
         ),

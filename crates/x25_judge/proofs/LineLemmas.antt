@@ -9,7 +9,7 @@ module _ (j : Judge) where
   unfolding text_of
   text_first line lines = refl
 
-  pub fault_first : (line : List ℕ) (lines : List (List ℕ)) → has_fault j (line ∷ lines) ≡ ((answer_to j line).is_faulty || has_fault (answer_to j line).next lines)
+  pub fault_first : (line : List ℕ) (lines : List (List ℕ)) → has_fault j (line ∷ lines) ≡ ((answer_to j line).counts || has_fault (answer_to j line).next lines)
   unfolding has_fault
   fault_first line lines = refl
 
@@ -21,6 +21,6 @@ module _ (j : Judge) where
   unfolding has_fault
   no_fault = refl
 
-pub long_answer : (j : Judge) (line : List ℕ) → sent_in line ≡ None → answer_to j line ≡ record { next = j; text = codes "? 60\n"; is_faulty = true }
+pub long_answer : (j : Judge) (line : List ℕ) → sent_in line ≡ None → answer_to j line ≡ record { next = j; text = codes "? 60\n"; is_faulty = true; counts = true }
 unfolding answer_to
 long_answer j line none = ap (sent_of j) none

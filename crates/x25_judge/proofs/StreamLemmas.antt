@@ -34,7 +34,7 @@ input_begins j old held first a b is_held is_answerer empty same none right inpu
 module _ (j : Judge) (old now next : Option (List ℕ)) (input : List ℕ) where
   -- a line was taken
   pub line_told : (a b : Answerer) (line : List ℕ) (lines : List (List ℕ)) (h : JudgesOn j a old now (line ∷ lines) input) → Tells old next b.output (h.told ++ (answer_to a.judge line).text)
-      → b.judge ≡ (answer_to a.judge line).next → b.is_faulty ≡ (a.is_faulty || (answer_to a.judge line).is_faulty) → JudgesOn j b old next lines input
+      → b.judge ≡ (answer_to a.judge line).next → b.is_faulty ≡ (a.is_faulty || (answer_to a.judge line).counts) → JudgesOn j b old next lines input
   line_told a b line lines h tells judge faulty =
       let answer = answer_to a.judge line in
       record {
@@ -43,7 +43,7 @@ module _ (j : Judge) (old now next : Option (List ℕ)) (input : List ℕ) where
         same = ap (λ k. (h.told ++ answer.text) ++ text_of k lines) judge ∙ append_assoc h.told answer.text (text_of answer.next lines)
             ∙ ap (λ t. h.told ++ t) (sym (text_first a.judge line lines)) ∙ h.same;
         status = ap (λ k. b.is_faulty || has_fault k lines) judge ∙ ap (λ f. f || has_fault answer.next lines) faulty
-            ∙ or_assoc a.is_faulty answer.is_faulty (has_fault answer.next lines) ∙ ap (λ f. a.is_faulty || f) (sym (fault_first a.judge line lines)) ∙ h.status;
+            ∙ or_assoc a.is_faulty answer.counts (has_fault answer.next lines) ∙ ap (λ f. a.is_faulty || f) (sym (fault_first a.judge line lines)) ∙ h.status;
       }
 
   pub line_failed : (a : Answerer) (line : List ℕ) (lines : List (List ℕ)) (h : JudgesOn j a old now (line ∷ lines) input) → AppendsPrefix old next (h.told ++ (answer_to a.judge line).text)

@@ -1,10 +1,11 @@
--- How many frames and packets of an end were seen, and how many of them were judged (profile).
+-- How many frames and packets of an end were seen, how many of them were judged, and what was told (profile).
 use Rattle.std.specs.Prelude.{ℕ, ◌+◌, ◌-◌, ◌%◌, ◌==◌, Bool, if◌then◌else◌, min, List, [], ◌++◌, codes, decimal}
 use Rattle.std.specs.Prelude.{replicate, slice_index_or, slice_set}
 use Rattle.std.specs.List.{flat_map}
 use Rattle.x25_bits.specs.declared.role.Role.{Role}
 use Rattle.x25_bits.specs.declared.role.Role.TheVariants.{Dte, Dce}
 use Rattle.x25_judge.specs.declared.counts.Count.{Count}
+use Rattle.x25_judge.specs.declared.counts.Tally.{Tally}
 
 abbrev pub none : Count
 none = record { channel = 0; seen = 0; judged = 0 }
@@ -29,6 +30,16 @@ abbrev pub counted : ℕ → Bool → List Count → List Count
 counted channel is_judged counts = slice_set counts (channel % 4096)
     (more channel is_judged (slice_index_or counts (channel % 4096) none))
 
+abbrev pub no_tally : Tally
+no_tally = record { rules = 0; manners = 0 }
+
+-- one more of each that is broken
+abbrev pub tallied : Bool → Bool → Tally → Tally
+tallied is_rule is_manners t = record {
+  rules = if is_rule then grown t.rules else t.rules;
+  manners = if is_manners then grown t.manners else t.manners;
+}
+
 -- ---- text
 
 abbrev pub number_text : ℕ → List ℕ
@@ -52,3 +63,8 @@ packets_line from c = if c.seen == 0 then [] else channel_of from c ++ counted_t
 -- the lines on an end: its frames, and its packets on each channel on which there were any
 abbrev pub end_text : Role → Count → List Count → List ℕ
 end_text from frames packets = frames_line from frames ++ flat_map (packets_line from) packets
+
+-- the line on all that was told
+abbrev pub tally_line : Tally → List ℕ
+tally_line t = codes "# told: " ++ number_text t.rules ++ codes " rules, " ++ number_text t.manners
+    ++ codes " manners\n"

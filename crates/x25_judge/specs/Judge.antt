@@ -1,5 +1,5 @@
--- What `judge` writes, as a function of what it reads (profile): for each line what `decode` writes, and the rule that
--- its frame breaks.
+-- What `judge` writes, as a function of what it reads (profile): for each line what `decode` writes, and the rule or
+-- manners that its frame breaks.
 use Rattle.std.specs.Prelude.{ℕ, Bool, true, false, not, ◌&&◌, ◌||◌, List, [], ◌∷◌, ◌++◌, codes, if◌then◌else◌, Option}
 use Rattle.std.specs.Prelude.{Some, None, is_some, Result, Ok, Err}
 use Rattle.x25_bits.specs.declared.role.Role.{Role}
@@ -13,29 +13,31 @@ use Rattle.x25_frame.specs.declared.error.FrameError.TheVariants.{Short, BadFcs,
 use Rattle.x25_frame.specs.declared.error.FrameError.TheVariants.{TooLong}
 use Rattle.x25_io.specs.Lines.{lines_of}
 use Rattle.x25_packet_judge.specs.Book as book
-use Rattle.x25_judge.specs.Counts.{counted, end_text, more, no_counts, none}
+use Rattle.x25_judge.specs.Counts.{counted, end_text, more, no_counts, no_tally, none, tallied, tally_line}
 use Rattle.x25_judge.specs.Held.{none_held, is_same, keeps}
 use Rattle.x25_judge.specs.Note.{first_note, note_text, unjudged_note}
+use Rattle.x25_judge.specs.Rule.{breaks_manners, breaks_order, is_of_manners}
 use Rattle.x25_judge.specs.RuleText.{rule_text}
-use Rattle.x25_judge.specs.Sides.{no_end, is_judged, sees, misses}
+use Rattle.x25_judge.specs.Sides.{first, no_end, is_judged, sees, misses}
 use Rattle.x25_packet.specs.Reading.{channel_in}
 use Rattle.x25_packet_judge.specs.declared.book.Book.{Book}
 use Rattle.x25_packet_judge.specs.declared.book.Verdict.{Verdict}
 use Rattle.x25_judge.specs.declared.counts.Count.{Count}
 use Rattle.x25_judge.specs.declared.judge.Judge.{Judge}
 use Rattle.x25_judge.specs.declared.judge.Remark.{Remark}
+use Rattle.x25_judge.specs.declared.judge.Strictness.{Strictness}
 use Rattle.x25_packet_judge.specs.declared.packet_rule.PacketRule.{PacketRule}
 use Rattle.x25_judge.specs.declared.note.Note.{Note}
 use Rattle.x25_judge.specs.declared.rule.Rule.{Rule}
 use Rattle.x25_judge.specs.declared.rule.Rule.TheVariants.{NoFrame, Packet}
 use Rattle.x25_judge.specs.declared.sides.Sides.{Sides}
 
--- before anything was sent: k, how octets are read, and whether what isn't judged counts as faulty
-abbrev pub begins : ℕ → Reading → Bool → Judge
-begins window reading is_strict = record {
+-- before anything was sent: k, how octets are read, and what counts beside a broken rule
+abbrev pub begins : ℕ → Reading → Strictness → Judge
+begins window reading strictness = record {
   window = window;
   reading = reading;
-  is_strict = is_strict;
+  strictness = strictness;
   dte = no_end;
   dce = no_end;
   dte_held = none_held;
@@ -45,6 +47,7 @@ begins window reading is_strict = record {
   dce_frames = none;
   dte_packets = no_counts;
   dce_packets = no_counts;
+  told = no_tally;
 }
 
 -- ---- a frame
@@ -101,31 +104,38 @@ unfoldable pub covers : PlainFrame → Bool → Bool → Bool
 covers (info ns nr p octets) is_again is_judged = is_again || is_judged
 covers frame is_again is_judged = true
 
--- a rule of the link layer is told before one of the packet layer
+-- a rule of the link layer is told before one of the packet layer, and so are manners
 abbrev pub all_told : Option Rule → Option PacketRule → Option Rule
-all_told (Some rule) packet = Some rule
-all_told None None = None
-all_told None (Some packet) = Some (Packet packet)
+all_told rule None = rule
+all_told rule (Some packet) = first rule (Some (Packet packet))
 
 -- ---- a line
 
+-- whether anything is told of it that no loss explains, and whether that counts for the status
 pub record Answer : Type 0 where
   pub next : Judge
   pub text : List ℕ
   pub is_faulty : Bool
+  pub counts : Bool
+
+abbrev pub sign_of : Rule → List ℕ
+sign_of rule = if is_of_manners rule then codes " ~ manners: " else codes " ! "
 
 abbrev pub end_of : Role → List ℕ
-end_of Dte = codes " ! dte: "
-end_of Dce = codes " ! dce: "
+end_of Dte = codes "dte: "
+end_of Dce = codes "dce: "
 
 abbrev pub noted_text : Option Note → List ℕ
 noted_text None = []
 noted_text (Some note) = codes " ~ note: " ++ note_text note
 
+abbrev pub broken_text : Role → Rule → List ℕ
+broken_text from rule = sign_of rule ++ end_of from ++ rule_text rule
+
 -- what is noted is told where no rule is broken
 abbrev pub remark_text : Role → Option Rule → Option Note → List ℕ
 remark_text from None note = noted_text note
-remark_text from (Some rule) _ = end_of from ++ rule_text rule
+remark_text from (Some rule) _ = broken_text from rule
 
 -- octets that aren't damaged and spell no frame count against their sender
 abbrev pub no_frame : FrameError → Option Rule
@@ -136,14 +146,23 @@ no_frame (Undefined control) = Some NoFrame
 no_frame (NoInfoAllowed control) = Some NoFrame
 no_frame TooLong = Some NoFrame
 
-abbrev pub is_faulty_by : Bool → Remark → Bool
-is_faulty_by is_strict r = is_some r.rule || (is_strict && not r.is_judged)
+-- not judged, where that counts
+abbrev pub is_open : Strictness → Remark → Bool
+is_open s r = s.unjudged && not r.is_judged
+
+abbrev pub counts_by : Strictness → Remark → Bool
+counts_by s r = breaks_order r.rule || (s.manners && breaks_manners r.rule) || is_open s r
+
+-- one more rule, or one more of manners, that was told
+abbrev pub tallies : Option Rule → Judge → Judge
+tallies rule j = record j { told = tallied (breaks_order rule) (breaks_manners rule) j.told }
 
 abbrev pub told_of : Judge → Role → List ℕ → Remark → Judge → Answer
 told_of j from octets r next = record {
-  next = next;
+  next = tallies r.rule next;
   text = mark_of from ++ line_text j.reading from octets ++ remark_text from r.rule r.note ++ codes "\n";
-  is_faulty = is_faulty_by j.is_strict r;
+  is_faulty = is_some r.rule || is_open j.strictness r;
+  counts = counts_by j.strictness r;
 }
 
 -- a frame, as it is seen by the link layer and by the packet layer
@@ -165,10 +184,11 @@ told_seen j from octets frame t s =
 
 abbrev pub told_frame : Judge → Role → List ℕ → PlainFrame → Sides → Answer
 told_frame j from octets frame t = told_seen j from octets frame t
-    (book.sees from j.reading frame (is_some t.rule) j.book)
+    (book.sees from j.reading frame (breaks_order t.rule) j.book)
 
 abbrev pub remark_of : Judge → Role → PlainFrame → Sides → Remark
-remark_of j from frame t = remark_by j from frame t (book.sees from j.reading frame (is_some t.rule) j.book).verdict
+remark_of j from frame t =
+    remark_by j from frame t (book.sees from j.reading frame (breaks_order t.rule) j.book).verdict
 
 -- octets that spell no frame are judged where they aren't damaged
 abbrev pub remark_missed : FrameError → Remark
@@ -186,9 +206,9 @@ abbrev pub read_of : Judge → Role → List ℕ → Result PlainFrame FrameErro
 read_of j from octets (Ok frame) = told_frame j from octets frame (seen_by j from frame)
 read_of j from octets (Err e) = told_of j from octets (remark_missed e) (next_missed from e j)
 
--- a line that is none of a trace counts as faulty
+-- a line that is none of a trace counts
 abbrev pub sent_of : Judge → Option (Role × List ℕ) → Answer
-sent_of j None = record { next = j; text = codes "? 60\n"; is_faulty = true }
+sent_of j None = record { next = j; text = codes "? 60\n"; is_faulty = true; counts = true }
 sent_of j (Some sent) = read_of j sent.0 sent.1 (frame_of sent.0 n1 sent.1)
 
 unfoldable pub answer_to : Judge → List ℕ → Answer
@@ -196,9 +216,12 @@ answer_to j line = sent_of j (sent_in line)
 
 -- ---- lines
 
--- behind the last one, how much was judged
+-- behind the last one, how much was judged, and what was told
+abbrev pub ends_text : Judge → List ℕ
+ends_text j = end_text Dte j.dte_frames j.dte_packets ++ end_text Dce j.dce_frames j.dce_packets
+
 abbrev pub counts_text : Judge → List ℕ
-counts_text j = end_text Dte j.dte_frames j.dte_packets ++ end_text Dce j.dce_frames j.dce_packets
+counts_text j = ends_text j ++ tally_line j.told
 
 unfoldable pub text_of : Judge → List (List ℕ) → List ℕ
 text_of j [] = counts_text j
@@ -206,13 +229,13 @@ text_of j (line ∷ lines) = (answer_to j line).text ++ text_of (answer_to j lin
 
 unfoldable pub has_fault : Judge → List (List ℕ) → Bool
 has_fault j [] = false
-has_fault j (line ∷ lines) = (answer_to j line).is_faulty || has_fault (answer_to j line).next lines
+has_fault j (line ∷ lines) = (answer_to j line).counts || has_fault (answer_to j line).next lines
 
 -- the text that answers the octets read
 abbrev pub output_of : Judge → List ℕ → List ℕ
 output_of j input = text_of j (lines_of input)
 
--- the status that `judge` ends with: 1 where a rule was broken or a line is none of a trace, or where it is strict and
--- anything wasn't judged
+-- the status that `judge` ends with: 1 where a rule was broken or a line is none of a trace, or by its strictness where
+-- manners were, or anything wasn't judged
 abbrev pub status_of : Judge → List ℕ → ℕ
 status_of j input = if has_fault j (lines_of input) then 1 else 0

@@ -1,6 +1,7 @@
 pub mod Note
 pub mod Held
 pub mod Counts
+pub mod Rule
 pub mod RuleText
 pub mod Way
 pub mod Sides

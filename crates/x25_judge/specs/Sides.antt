@@ -1,9 +1,10 @@
 -- Both ends of a link as what they sent shows them, and what a frame changes and breaks.
 -- ITU-T X.25 (10/96), sections 2.4.3 to 2.4.5; what is said behind a fault is profile.
-use Rattle.std.specs.Prelude.{ℕ, ◌+◌, ◌-◌, ◌==◌, nat_lt, Bool, true, false, not, ◌&&◌, ◌||◌, if◌then◌else◌, min, Option}
-use Rattle.std.specs.Prelude.{Some, None}
+use Rattle.std.specs.Prelude.{ℕ, ◌+◌, ◌-◌, ◌==◌, nat_le, nat_lt, Bool, true, false, not, ◌&&◌, ◌||◌, if◌then◌else◌, min}
+use Rattle.std.specs.Prelude.{Option, Some, None}
 use Rattle.x25_frame.specs.Frame.{PlainFrame, info, rr, rnr, rej, sabm, disc, ua, dm, frmr}
 use Rattle.x25_judge.specs.Note.{first_note}
+use Rattle.x25_judge.specs.Rule.{is_of_manners}
 use Rattle.x25_judge.specs.Way as way
 use Rattle.x25_judge.specs.Way.{fresh, lost, missed, unheard, answered, answered_again, answering_again, heard}
 use Rattle.x25_judge.specs.Way.{rejected, sent_back, sent}
@@ -18,9 +19,11 @@ use Rattle.x25_judge.specs.declared.sides.Sides.{Sides}
 use Rattle.x25_judge.specs.declared.way.Way.{Way}
 use Rattle.x25_judge.specs.declared.way.Told.{Told}
 
+-- the first of them, but one of order before one of manners
 abbrev pub first : Option Rule → Option Rule → Option Rule
-first (Some rule) next = Some rule
 first None next = next
+first (Some rule) None = Some rule
+first (Some rule) (Some next) = if is_of_manners rule && not (is_of_manners next) then Some next else Some rule
 
 -- ---- phases (sections 2.4.4.1 to 2.4.4.5)
 
@@ -122,7 +125,7 @@ with_own own t = record t { own = own }
 abbrev pub with_other : End → Sides → Sides
 with_other other t = record t { other = other }
 
--- the first rule that is broken is told
+-- the first rule that is broken is told, or else the first of manners
 abbrev pub tells : Option Rule → Sides → Sides
 tells rule t = record t { rule = first t.rule rule }
 
@@ -278,9 +281,10 @@ sees window is_same (frmr f why) t = leaves (answers_if f t)
 
 -- ---- whether the numbers and bits of a frame are judged, by what went before it
 
--- N(R)s of the first end: numbers of the other one are known, and no frame was missed that would explain one
+-- N(R)s of the first end: numbers of the other one are known, and no frame was missed or left out that explains one
 abbrev pub judges_hearing : Sides → Bool
-judges_hearing t = not (is_unseen t.own.phase) && (way.is_sure t.other.way && not t.other.way.is_missed)
+judges_hearing t = not (is_unseen t.own.phase) && (way.is_sure t.other.way && (not t.other.way.is_missed
+    && nat_le t.other.way.pending t.other.way.kept))
 
 -- N(S)s of the first end: its numbers are known, and no frame of it was missed
 abbrev pub judges_sending : Sides → Bool

@@ -202,10 +202,18 @@ known_pending w = if is_sure w then w.pending else 0
 abbrev pub told : Way → Rule → Way → Told
 told way rule w = if w.is_missed then notes SentBehindDamage way else breaks rule way
 
+-- the same of a number that was sent before
+abbrev pub told_again : Way → Rule → Way → Told
+told_again way rule w = if w.is_missed then notes SentBehindDamage way else sent_before (breaks rule way)
+
+-- of the next new one k may say no, or seven where so many are unacknowledged
+abbrev pub passed : ℕ → Way → ℕ
+passed window w = if nat_lt w.pending 7 then window else 7
+
 -- the next new one: at most k are unacknowledged (section 2.4.8.6)
 abbrev pub sent_new : ℕ → Way → Told
 sent_new window w = if is_sure w && nat_le window w.pending
-    then breaks (OverWindow window) (unheard (grown 1 w))
+    then breaks (OverWindow (passed window w)) (grown 1 w)
     else quiet (grown 1 w)
 
 -- one of the numbers that were sent one by one, and with these octets
@@ -216,18 +224,32 @@ is_repeated is_same back w = is_same && nat_le back w.kept
 abbrev pub was_sent : Bool → ℕ → Way → Bool
 was_sent is_same back w = nat_le back w.ever && (is_repeated is_same back w || (nat_le back w.pending || nat_le back 4))
 
--- nothing explains it
+-- not with the octets that the number had, where these were seen and no frame was missed since
+abbrev pub is_other : Bool → ℕ → Way → Bool
+is_other is_same back w = not is_same && (nat_le back w.kept && not w.is_missed)
+
+-- so many numbers more leave no more than seven unacknowledged
+abbrev pub has_room : ℕ → Way → Bool
+has_room count w = nat_le (min (known_pending w + count) 255) 7
+
+-- one further on, behind those that it leaves out, against manners alone where it is `in_order`
+abbrev pub skips : Bool → ℕ → Way → Told
+skips in_order count w = told (grown count w) (if in_order then Skips (place w) else OverWindow 7) w
+
+-- Nothing explains it. Against manners alone it is a number that was sent, with its octets, or one further on, within a
+-- window of seven.
 abbrev pub unexplained : Bool → ℕ → Way → Told
 unexplained is_same back w =
-    if back == 0 then told (grown 1 w) (Skips (place w)) w
-    else if nat_lt back w.behind then told (repeated back w) (Skips (place w)) w
-    else if was_sent is_same back w then told (repeated back w) (Repeats (place w)) w
-    else told (grown (9 - back) w) (Skips (place w)) w
+    if back == 0 then skips (has_room 1 w) 1 w
+    else if is_other is_same back w
+    then (if has_room (9 - back) w then skips true (9 - back) w else told_again (repeated back w) Differs w)
+    else if nat_lt back w.behind then told_again (repeated back w) (Skips (place w)) w
+    else if was_sent is_same back w then told_again (repeated back w) (Repeats (place w)) w
+    else skips (nat_le back w.ever || has_room (9 - back) w) (9 - back) w
 
--- Sent again: with the octets that the number had, where these were seen and no frame was missed since.
+-- Sent again, with the octets that the number had.
 abbrev pub again : Bool → ℕ → Way → Way → Told
-again is_same back way w =
-    if not is_same && (nat_le back w.kept && not w.is_missed) then sent_before (breaks Differs way)
+again is_same back way w = if is_other is_same back w then sent_before (breaks Differs way)
     else sent_before (notes SentAgain way)
 
 -- V(S) may be set back to a number that was sent, and is acknowledged up to there: by timer T1 with P=1, or by a cause,

@@ -1,7 +1,7 @@
 //! Lines answered as they come.
 ghost use Rattle.std.specs.Prelude.{length};
 
-use crate::judge::{Judge, MOST_ANSWER};
+use crate::judge::{Judge, MOST_ANSWER, Strictness};
 use std::alloc::{AllocError, Global};
 use x25_decode::{Reading, long_lines_send_nothing};
 use x25_io::{Failed, Fault, LineTaker, Output, Sink};
@@ -31,15 +31,15 @@ impl Answerer {
         alloc: Global,
         window: u8,
         reading: Reading,
-        is_strict: bool,
+        strictness: Strictness,
     ) -> Result<Answerer, AllocError>
-        ensures judge { IfOk result (λ a. a.judge ≡ begins window reading is_strict) }
+        ensures judge { IfOk result (λ a. a.judge ≡ begins window reading strictness) }
         ensures empty { IfOk result (λ a. a.output ≡ []) }
         ensures faultless { IfOk result (λ a. a.is_faulty ≡ false) }
     {
         let answer = Text::new(alloc)?;
         let output = Output::new(alloc)?;
-        let judge = Judge::new(alloc, window, reading, is_strict)?;
+        let judge = Judge::new(alloc, window, reading, strictness)?;
         Ok(Answerer {
             octets: [0; MOST_OCTETS],
             answer,
@@ -49,7 +49,7 @@ impl Answerer {
         })
     }
 
-    /// The answer to a line, `None` where it is too long; whether that was at fault is answered.
+    /// The answer to a line, `None` where it is too long; whether it counts is answered.
     fn judge_line(&mut self, line: Option<&[u8]>) -> bool
         ensures text { (first : List ℕ) → MatchOption line.entry (most_line < length first) (λ held. (held.now ≡ first)
             × (length first ≤ most_line))
@@ -57,10 +57,10 @@ impl Answerer {
         ensures next { (first : List ℕ) → MatchOption line.entry (most_line < length first) (λ held. (held.now ≡ first)
             × (length first ≤ most_line))
             → self.new.judge ≡ (answer_to self.old.judge first).next }
-        ensures is_faulty { (first : List ℕ)
+        ensures counts { (first : List ℕ)
             → MatchOption line.entry (most_line < length first) (λ held. (held.now ≡ first)
             × (length first ≤ most_line))
-            → result ≡ (answer_to self.old.judge first).is_faulty }
+            → result ≡ (answer_to self.old.judge first).counts }
         ensures output { self.new.output ≡ self.old.output }
         ensures before { self.new.is_faulty ≡ self.old.is_faulty }
     {
@@ -91,15 +91,15 @@ impl Answerer {
         ensures is_faulty { (first : List ℕ)
             → MatchOption line.entry (most_line < length first) (λ held. (held.now ≡ first)
             × (length first ≤ most_line))
-            → self.new.is_faulty ≡ (self.old.is_faulty || (answer_to self.old.judge first).is_faulty) }
+            → self.new.is_faulty ≡ (self.old.is_faulty || (answer_to self.old.judge first).counts) }
         ensures marked { OnErr result (W.is_marked writer.new ≡ true) }
     {
-        let is_faulty = self.judge_line(line);
-        self.is_faulty |= is_faulty;
+        let counts = self.judge_line(line);
+        self.is_faulty |= counts;
         self.output.tell(self.answer.as_slice(), writer)
     }
 
-    /// Tells how much was judged, and writes what waits.
+    /// Tells how much was judged and what was told, and writes what waits.
     fn finish<W: Sink>(&mut self, writer: &mut W) -> Result<(), Failed>
         ensures kept { OnOk result (W.is_marked writer.new ≡ W.is_marked writer.old) }
         ensures tells { TellsMore result (W.contents writer.old) (W.contents writer.new) self.old.output self.new.output

@@ -1,4 +1,4 @@
-//! How many frames and packets were seen, and how many of them were judged.
+//! How many frames and packets were seen, how many of them were judged, and what was told.
 ghost use Rattle.std.specs.Prelude.{◌≡◌, ◌+◌, ◌≤◌, ◌%◌, ◌++◌, [], true, ℕ, IfOk, List, OnOk, OnErr, Option};
 ghost use Rattle.std.specs.Prelude.{MatchResult, length, slice_index_or, vec_capacity};
 ghost use Rattle.std.specs.List.{flat_map};
@@ -48,6 +48,43 @@ impl Count {
                 self.judged.saturating_add(1)
             } else {
                 self.judged
+            },
+        }
+    }
+}
+
+/// How many frames broke a rule, and how many one of manners.
+#[derive(Clone, Copy)]
+pub(crate) struct Tally {
+    pub(crate) rules: u64,
+    pub(crate) manners: u64,
+}
+
+impl Tally {
+    /// None.
+    pub(crate) fn none() -> Tally
+        ensures { result ≡ definition.no_tally }
+    {
+        Tally {
+            rules: 0,
+            manners: 0,
+        }
+    }
+
+    /// One more of each that is broken.
+    pub(crate) fn more(self, is_rule: bool, is_manners: bool) -> Tally
+        ensures { result ≡ definition.tallied is_rule is_manners self }
+    {
+        Tally {
+            rules: if is_rule {
+                self.rules.saturating_add(1)
+            } else {
+                self.rules
+            },
+            manners: if is_manners {
+                self.manners.saturating_add(1)
+            } else {
+                self.manners
             },
         }
     }
@@ -228,4 +265,32 @@ pub(crate) fn tell_end<W: Sink>(
 {
     tell_frames(from, frames, output, writer)?;
     tell_packets(from, packets.as_slice(), output, writer)
+}
+
+/// Appends the line on what was told.
+fn push_tally(tally: Tally, text: &mut Text)
+    requires { length text.old + MOST_COUNT ≤ ROOM }
+    ensures { text.new ≡ text.old ++ definition.tally_line tally }
+{
+    text.push(b"# told: ");
+    push_count(tally.rules, text);
+    text.push(b" rules, ");
+    push_count(tally.manners, text);
+    text.push(b" manners\n");
+}
+
+/// Tells how many rules were broken, and how many manners.
+pub(crate) fn tell_tally<W: Sink>(
+    tally: Tally,
+    output: &mut Output,
+    writer: &mut W,
+) -> Result<(), Failed>
+    ensures kept { OnOk result (W.is_marked writer.new ≡ W.is_marked writer.old) }
+    ensures tells { TellsMore result (W.contents writer.old) (W.contents writer.new) output.old output.new
+        (definition.tally_line tally) }
+    ensures marked { OnErr result (W.is_marked writer.new ≡ true) }
+{
+    output.make_room(MOST_COUNT, writer)?;
+    push_tally(tally, output.text());
+    Ok(())
 }

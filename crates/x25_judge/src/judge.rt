@@ -11,17 +11,19 @@ ghost use Rattle.x25_text.specs.WideFrameText.{wide_frame_text, wide_reading_tex
 ghost use Rattle.x25_frame.specs.Frame.{plain};
 ghost use Rattle.x25_packet_judge.specs.Book.{sees as book_sees};
 ghost use Rattle.x25_judge.specs.Held.{is_same, keeps};
-ghost use Rattle.x25_judge.specs.Judge.{all_told, answer_to, begins, behind, counts_carried, counts_frame};
-ghost use Rattle.x25_judge.specs.Judge.{counts_packet, counts_text, covers, held_of, holding, is_faulty_by, next_by};
+ghost use Rattle.x25_judge.specs.Judge.{all_told, answer_to, begins, behind, broken_text, counts_carried};
+ghost use Rattle.x25_judge.specs.Judge.{counts_frame, end_of, ends_text};
+ghost use Rattle.x25_judge.specs.Judge.{counts_by, counts_packet, counts_text, covers, held_of, holding, next_by};
 ghost use Rattle.x25_judge.specs.Judge.{next_missed, no_frame, read_of, noted_text, remark_missed, remark_of};
-ghost use Rattle.x25_judge.specs.Judge.{remark_text, seen_by, sides_of};
+ghost use Rattle.x25_judge.specs.Judge.{remark_text, seen_by, sides_of, sign_of, tallies};
+ghost use Rattle.x25_judge.specs.Rule.{breaks_order as breaks_order_of};
 
-use crate::counts::{Count, Counts, tell_end};
+use crate::counts::{Count, Counts, Tally, tell_end, tell_tally};
 use crate::held::Held;
 use crate::note::{MOST_NOTE, Note, first_note, push_note, unjudged_note};
-use crate::rule::Rule;
+use crate::rule::{Rule, breaks_manners, breaks_order};
 use crate::rule_text::{MOST_RULE, push_rule};
-use crate::sides::{End, Sides};
+use crate::sides::{End, Sides, first};
 use std::alloc::{AllocError, Global};
 use x25_decode::{Reading, read_sent};
 use x25_frame::{Frame, FrameError, N1, Role, decode};
@@ -33,18 +35,26 @@ use x25_text::{
 };
 
 /// The most characters of the rule that a frame breaks, and of the end in front of it; no note has as many.
-const MOST_REMARK: usize = MOST_RULE + 8;
+const MOST_REMARK: usize = MOST_RULE + 17;
 
 /// The most characters of an answer, with its mark, a space and its line feed.
 pub(crate) const MOST_ANSWER: usize = MOST_TEXT + MOST_REMARK + 3;
+
+/// What makes the status 1, beside a broken rule and a line that is refused.
+#[derive(Clone, Copy)]
+pub struct Strictness {
+    /// A frame or a packet that isn't judged.
+    pub unjudged: bool,
+    /// Broken manners.
+    pub manners: bool,
+}
 
 /// Both ends, as what they sent shows them; at most `window` I frames may be unacknowledged.
 #[derive(Drop)]
 pub(crate) struct Judge {
     pub(crate) window: u8,
     pub(crate) reading: Reading,
-    /// A frame or packet that isn't judged counts as faulty.
-    pub(crate) is_strict: bool,
+    pub(crate) strictness: Strictness,
     pub(crate) dte: End,
     pub(crate) dce: End,
     pub(crate) dte_held: Held,
@@ -54,6 +64,7 @@ pub(crate) struct Judge {
     pub(crate) dce_frames: Count,
     pub(crate) dte_packets: Counts,
     pub(crate) dce_packets: Counts,
+    pub(crate) told: Tally,
 }
 
 /// The rule that a frame breaks, what is noted of it, and whether all of it was judged.
@@ -64,16 +75,13 @@ pub(crate) struct Remark {
     pub(crate) is_judged: bool,
 }
 
-/// A rule of the link layer is told before one of the packet layer.
+/// A rule of the link layer is told before one of the packet layer, and so are manners.
 fn all_told(rule: Option<Rule>, packet: Option<PacketRule>) -> Option<Rule>
     ensures { result ≡ all_told rule packet }
 {
-    match rule {
-        Some(_) => rule,
-        None => match packet {
-            Some(rule) => Some(Rule::Packet { rule }),
-            None => None,
-        },
+    match packet {
+        Some(packet) => first(rule, Some(Rule::Packet { rule: packet })),
+        None => rule,
     }
 }
 
@@ -137,16 +145,53 @@ fn push_missed(reading: Reading, from: Role, octets: &[u8], error: FrameError, t
     }
 }
 
-/// Appends the rule that was broken, where one was, or what is noted, and a line feed; whether the frame counts as
-/// faulty is answered.
-fn tell(from: Role, is_strict: bool, remark: Remark, text: &mut Text) -> bool
+/// Appends the rule that was broken, where one was, or what is noted, and a line feed; whether that counts is answered.
+fn tell(from: Role, strictness: Strictness, remark: Remark, text: &mut Text) -> bool
     requires { length text.old + (MOST_REMARK + 1) ≤ ROOM }
     ensures text { text.new ≡ text.old ++ (remark_text from remark.rule remark.note ++ codes "\n") }
-    ensures is_faulty { result ≡ is_faulty_by is_strict remark }
+    ensures counts { result ≡ counts_by strictness remark }
 {
     push_remark(from, remark, text);
     text.push(b"\n");
-    remark.rule.is_some() || (is_strict && !remark.is_judged)
+    breaks_order(remark.rule)
+        || ((strictness.manners && breaks_manners(remark.rule))
+            || (strictness.unjudged && !remark.is_judged))
+}
+
+/// Appends what stands before the end that broke a rule.
+fn push_sign(rule: Rule, text: &mut Text)
+    requires { length text.old + 12 ≤ ROOM }
+    ensures text { text.new ≡ text.old ++ sign_of rule }
+    ensures size { length text.new ≤ length text.old + 12 }
+{
+    if rule.is_of_manners() {
+        text.push(b" ~ manners: ");
+    } else {
+        text.push(b" ! ");
+    }
+}
+
+/// Appends the end.
+fn push_end(from: Role, text: &mut Text)
+    requires { length text.old + 5 ≤ ROOM }
+    ensures text { text.new ≡ text.old ++ end_of from }
+    ensures size { length text.new ≤ length text.old + 5 }
+{
+    match from {
+        Role::Dte => text.push(b"dte: "),
+        Role::Dce => text.push(b"dce: "),
+    }
+}
+
+/// Appends the end and the rule that it broke.
+fn push_broken(from: Role, rule: Rule, text: &mut Text)
+    requires { length text.old + MOST_REMARK ≤ ROOM }
+    ensures text { text.new ≡ text.old ++ broken_text from rule }
+    ensures size { length text.new ≤ length text.old + MOST_REMARK }
+{
+    push_sign(rule, text);
+    push_end(from, text);
+    push_rule(rule, text);
 }
 
 /// Appends the end and the rule that it broke, or else what is noted.
@@ -155,15 +200,10 @@ fn push_remark(from: Role, remark: Remark, text: &mut Text)
     ensures text { text.new ≡ text.old ++ remark_text from remark.rule remark.note }
     ensures size { length text.new ≤ length text.old + MOST_REMARK }
 {
-    let Some(rule) = remark.rule else {
-        push_noted(remark.note, text);
-        return;
-    };
-    match from {
-        Role::Dte => text.push(b" ! dte: "),
-        Role::Dce => text.push(b" ! dce: "),
+    match remark.rule {
+        Some(rule) => push_broken(from, rule, text),
+        None => push_noted(remark.note, text),
     }
-    push_rule(rule, text);
 }
 
 /// Appends what is noted.
@@ -185,9 +225,9 @@ impl Judge {
         alloc: Global,
         window: u8,
         reading: Reading,
-        is_strict: bool,
+        strictness: Strictness,
     ) -> Result<Judge, AllocError>
-        ensures { IfOk result (λ judge. judge ≡ begins window reading is_strict) }
+        ensures { IfOk result (λ judge. judge ≡ begins window reading strictness) }
     {
         let dte_held = Held::new(alloc)?;
         let dce_held = Held::new(alloc)?;
@@ -197,7 +237,7 @@ impl Judge {
         Ok(Judge {
             window,
             reading,
-            is_strict,
+            strictness,
             dte: End::new(),
             dce: End::new(),
             dte_held,
@@ -207,6 +247,7 @@ impl Judge {
             dce_frames: Count::none(),
             dte_packets,
             dce_packets,
+            told: Tally::none(),
         })
     }
 
@@ -245,6 +286,13 @@ impl Judge {
             Some(channel) => self.count_packet(from, channel, is_judged),
             None => self.count_packet(from, 0, is_judged),
         }
+    }
+
+    /// Counts what is told.
+    fn tally(&mut self, rule: Option<Rule>)
+        ensures { self.new ≡ tallies rule self.old }
+    {
+        self.told = self.told.more(breaks_order(rule), breaks_manners(rule));
     }
 
     /// The end that sends, and the other one.
@@ -307,7 +355,7 @@ impl Judge {
     fn sees(&mut self, from: Role, frame: &Frame) -> Remark
         ensures next { self.new ≡ next_by self.old from (plain frame.now) (seen_by self.old from (plain frame.now))
             (book_sees from self.old.reading (plain frame.now)
-            (is_some (seen_by self.old from (plain frame.now)).rule) self.old.book) }
+            (breaks_order_of (seen_by self.old from (plain frame.now)).rule) self.old.book) }
         ensures remark { result ≡ remark_of self.old from (plain frame.now) (seen_by self.old from (plain frame.now)) }
     {
         let is_same = self.has(from, frame);
@@ -317,7 +365,7 @@ impl Judge {
         self.hold(from, frame);
         let verdict = self
             .book
-            .sees(from, self.reading, frame, sides.rule.is_some());
+            .sees(from, self.reading, frame, breaks_order(sides.rule));
         self.keep(from, sides);
         self.count_frame(from, is_judged);
         self.count_carried(from, frame, sides.is_again, verdict.is_judged);
@@ -345,15 +393,15 @@ impl Judge {
         }
     }
 
-    /// Appends what the octets read as, and the rule that they break; whether they break one is answered.
+    /// Appends what the octets read as, and the rule that they break; whether that counts is answered.
     fn read(&mut self, from: Role, octets: &[u8], text: &mut Text) -> bool
         requires few { length octets.now ≤ MOST_OCTETS }
         requires room { length text.old + MOST_ANSWER ≤ ROOM }
         ensures text { text.new ≡ text.old ++ (read_of self.old from octets.now (frame_of from n1 octets.now)).text }
         ensures next { self.new ≡ (read_of self.old from octets.now (frame_of from n1 octets.now)).next }
-        ensures is_faulty { result ≡ (read_of self.old from octets.now (frame_of from n1 octets.now)).is_faulty }
+        ensures counts { result ≡ (read_of self.old from octets.now (frame_of from n1 octets.now)).counts }
     {
-        let is_strict = self.is_strict;
+        let strictness = self.strictness;
         match from {
             Role::Dte => text.push(b"> "),
             Role::Dce => text.push(b"< "),
@@ -362,25 +410,23 @@ impl Judge {
             Ok(frame) => {
                 push_seen(self.reading, &frame, text);
                 let remark = self.sees(from, &frame);
-                tell(from, is_strict, remark, text)
+                self.tally(remark.rule);
+                tell(from, strictness, remark, text)
             }
             Err(error) => {
                 push_missed(self.reading, from, octets, error, text);
                 let remark = self.misses(from, error);
-                tell(from, is_strict, remark, text)
+                self.tally(remark.rule);
+                tell(from, strictness, remark, text)
             }
         }
     }
 
     /// Tells how much was judged.
-    pub(crate) fn tell_counts<W: Sink>(
-        &self,
-        output: &mut Output,
-        writer: &mut W,
-    ) -> Result<(), Failed>
+    fn tell_ends<W: Sink>(&self, output: &mut Output, writer: &mut W) -> Result<(), Failed>
         ensures kept { OnOk result (W.is_marked writer.new ≡ W.is_marked writer.old) }
         ensures tells { TellsMore result (W.contents writer.old) (W.contents writer.new) output.old output.new
-            (counts_text self.now) }
+            (ends_text self.now) }
         ensures marked { OnErr result (W.is_marked writer.new ≡ true) }
     {
         tell_end(
@@ -399,14 +445,29 @@ impl Judge {
         )
     }
 
-    /// Appends the line that answers a line; whether it was at fault is answered. `octets` is overwritten.
+    /// Tells how much was judged, and what was told.
+    pub(crate) fn tell_counts<W: Sink>(
+        &self,
+        output: &mut Output,
+        writer: &mut W,
+    ) -> Result<(), Failed>
+        ensures kept { OnOk result (W.is_marked writer.new ≡ W.is_marked writer.old) }
+        ensures tells { TellsMore result (W.contents writer.old) (W.contents writer.new) output.old output.new
+            (counts_text self.now) }
+        ensures marked { OnErr result (W.is_marked writer.new ≡ true) }
+    {
+        self.tell_ends(output, writer)?;
+        tell_tally(self.told, output, writer)
+    }
+
+    /// Appends the line that answers a line; whether it counts is answered. `octets` is overwritten.
     #[tactic(auto, unfolding(crate::specs::Judge::answer_to))]
     pub(crate) fn answer(&mut self, line: &[u8], octets: &mut [u8], text: &mut Text) -> bool
         requires octets { length octets.old ≡ MOST_OCTETS }
         requires room { length text.old + MOST_ANSWER ≤ ROOM }
         ensures text { text.new ≡ text.old ++ (answer_to self.old line.now).text }
         ensures next { self.new ≡ (answer_to self.old line.now).next }
-        ensures is_faulty { result ≡ (answer_to self.old line.now).is_faulty }
+        ensures counts { result ≡ (answer_to self.old line.now).counts }
     {
         match read_sent(line, octets) {
             Some((from, count)) => self.read(from, &octets[..count], text),

@@ -5,14 +5,16 @@ ghost use Rattle.x25_judge.specs.Judge.{begins};
 ghost use Rattle.x25_judge.specs.code.Stream.{program};
 
 use crate::answerer::Answerer;
+use crate::judge::Strictness;
 use std::alloc::Global;
 use x25_decode::Reading;
 use x25_io::{Fault, HeldLine, LineByLine, Piece, Sink, Source, take_text};
 
 /// Answers each line of a trace that the reader gives by the line of `decode`, and behind it, where the frame breaks a
 /// rule of the link layer, or its packet one of the packet layer, by the end that sent it and the rule; and at the end
-/// how many frames and packets of each end there were, and how many of them were judged. It answers the status: 1 where
-/// a rule was broken or a line was refused, or where it `is_strict` and anything wasn't judged, else 0.
+/// how many frames and packets of each end there were, how many of them were judged, and how many rules were told. It
+/// answers the status: 1 where a rule was broken or a line was refused, or by its `strictness` where manners were, or
+/// anything wasn't judged, else 0.
 ///
 /// The trace has what both ends sent, in the order in which it passed. At most `window` I frames may be unacknowledged;
 /// of data packets on a channel as many as its call and the acceptance say. `reading` says how octets are read: with
@@ -24,17 +26,17 @@ pub fn judge_lines<R: Source, W: Sink>(
     alloc: Global,
     window: u8,
     reading: Reading,
-    is_strict: bool,
+    strictness: Strictness,
     reader: &mut R,
     writer: &mut W,
 ) -> Result<u8, Fault>
-    ensures runs { Runs R.Source W.Sink (program (begins window reading is_strict)) reader.old reader.new
+    ensures runs { Runs R.Source W.Sink (program (begins window reading strictness)) reader.old reader.new
         writer.old writer.new result }
     ensures memory { IsErrOf result Fault.NoMemory → (reader.new ≡ reader.old) × (writer.new ≡ writer.old) }
 {
     let piece = Piece::new(alloc)?;
     let held = HeldLine::new(alloc)?;
-    let answerer = Answerer::new(alloc, window, reading, is_strict)?;
+    let answerer = Answerer::new(alloc, window, reading, strictness)?;
     let lines = LineByLine::new(held, answerer);
     take_text(lines, piece, reader, writer)
 }

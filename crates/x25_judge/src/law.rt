@@ -36,9 +36,9 @@ pub fn stations_stay_untold()
 }
 
 /// From a set-up on to the next frame without a number, of a trace taken in front of a station: as long as no line is
-/// damaged and no rule is told of either end, what the station handed up is a beginning of what the I frames of the
-/// other end carry, each number once. That end may be any, and anything may be lost or damaged between the trace and
-/// the station.
+/// damaged and neither a rule nor manners are told of either end, what the station handed up is a beginning of what the
+/// I frames of the other end carry, each number once. That end may be any, and anything may be lost or damaged between
+/// the trace and the station.
 pub fn silence_means_order()
     ensures { SilenceMeansOrder }
 {

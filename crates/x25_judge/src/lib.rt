@@ -16,5 +16,6 @@ mod rule_text;
 mod sides;
 mod way;
 
+pub use judge::Strictness;
 pub use judging::judge_lines;
 pub use law::{innocents_stay_untold, set_ups_begin, silence_means_order, stations_stay_untold};

@@ -1,4 +1,6 @@
-//! The rules that a frame may break.
+//! The rules that a frame may break, and which of them are of manners.
+ghost use Rattle.std.specs.Prelude.{◌≡◌};
+ghost use Rattle.x25_judge.specs.Rule as definition;
 
 use x25_packet_judge::PacketRule;
 
@@ -19,4 +21,43 @@ pub(crate) enum Rule {
     Repeats { next: u8 },
     Differs,
     Packet { rule: PacketRule },
+}
+
+impl Rule {
+    /// Whether the link keeps order without it: it is of manners.
+    pub(crate) fn is_of_manners(self) -> bool
+        ensures { result ≡ definition.is_of_manners self }
+    {
+        match self {
+            Rule::NoPoll | Rule::RejectAgain | Rule::Skips { .. } | Rule::Repeats { .. } => true,
+            Rule::OverWindow { window } => window < 7,
+            Rule::Packet { rule } => rule.is_of_manners(),
+            Rule::NoFrame
+            | Rule::UaUnasked
+            | Rule::NotUp
+            | Rule::Unsent { .. }
+            | Rule::Falls { .. }
+            | Rule::Differs => false,
+        }
+    }
+}
+
+/// Whether a rule of manners is broken.
+pub(crate) fn breaks_manners(rule: Option<Rule>) -> bool
+    ensures { result ≡ definition.breaks_manners rule }
+{
+    match rule {
+        Some(rule) => rule.is_of_manners(),
+        None => false,
+    }
+}
+
+/// Whether a rule is broken that isn't.
+pub(crate) fn breaks_order(rule: Option<Rule>) -> bool
+    ensures { result ≡ definition.breaks_order rule }
+{
+    match rule {
+        Some(rule) => !rule.is_of_manners(),
+        None => false,
+    }
 }

@@ -34,7 +34,7 @@ pub(crate) struct End {
     pub(crate) way: Way,
 }
 
-/// The end that sends a frame and the other end, the first rule that the frame breaks, what is noted of it first, and
+/// The end that sends a frame and the other end, the rule that is told of the frame, what is noted of it first, and
 /// whether it is an I frame that was sent before.
 #[derive(Clone, Copy)]
 pub(crate) struct Sides {
@@ -45,13 +45,14 @@ pub(crate) struct Sides {
     pub(crate) is_again: bool,
 }
 
-/// The first of two rules.
-fn first(rule: Option<Rule>, next: Option<Rule>) -> Option<Rule>
+/// The first of two rules, but one of order before one of manners.
+pub(crate) fn first(rule: Option<Rule>, next: Option<Rule>) -> Option<Rule>
     ensures { result ≡ definition.first rule next }
 {
-    match rule {
-        Some(_) => rule,
-        None => next,
+    match (rule, next) {
+        (None, _) => next,
+        (Some(broken), Some(worse)) if broken.is_of_manners() && !worse.is_of_manners() => next,
+        (Some(_), _) => rule,
     }
 }
 
@@ -516,7 +517,9 @@ impl Sides {
     fn judges_hearing(self) -> bool
         ensures { result ≡ definition.judges_hearing self }
     {
-        !self.own.phase.is_unseen() && (self.other.way.is_sure() && !self.other.way.is_missed)
+        let way = self.other.way;
+        !self.own.phase.is_unseen()
+            && (way.is_sure() && (!way.is_missed && way.pending <= way.kept))
     }
 
     /// Whether its N(S) is.

@@ -408,13 +408,32 @@ impl Way {
         }
     }
 
+    /// The same of a number that was sent before.
+    fn told_again(self, way: Way, rule: Rule) -> Told
+        ensures { result ≡ definition.told_again way rule self }
+    {
+        if self.is_missed {
+            notes(Note::SentBehindDamage, way)
+        } else {
+            sent_before(breaks(rule, way))
+        }
+    }
+
+    /// The window that the next new number passes: seven, where so many are unacknowledged.
+    fn passed(self, window: u8) -> u8
+        ensures { result ≡ definition.passed window self }
+    {
+        if self.pending < 7 { window } else { 7 }
+    }
+
     /// The next new number.
     fn sent_new(self, window: u8) -> Told
         ensures { result ≡ definition.sent_new window self }
     {
         let way = self.grown(1);
         if self.is_sure() && window <= self.pending {
-            breaks(Rule::OverWindow { window }, way.unheard())
+            let window = self.passed(window);
+            breaks(Rule::OverWindow { window }, way)
         } else {
             quiet(way)
         }
@@ -428,19 +447,53 @@ impl Way {
         back <= self.ever && (is_repeated || (back <= self.pending || back <= 4))
     }
 
+    /// Whether a number hasn't the octets that it had.
+    fn is_other(self, is_same: bool, back: u8) -> bool
+        ensures { result ≡ definition.is_other is_same back self }
+    {
+        !is_same && (back <= self.kept && !self.is_missed)
+    }
+
+    /// Whether so many numbers more leave no more than seven unacknowledged.
+    fn has_room(self, count: u8) -> bool
+        ensures { result ≡ definition.has_room count self }
+    {
+        self.known_pending().saturating_add(count) <= 7
+    }
+
+    /// A number further on, behind those that it leaves out, against manners alone where it is `in_order`.
+    fn skips(self, in_order: bool, count: u8) -> Told
+        ensures { result ≡ definition.skips in_order count self }
+    {
+        let rule = if in_order {
+            Rule::Skips { next: self.place() }
+        } else {
+            Rule::OverWindow { window: 7 }
+        };
+        self.told(self.grown(count), rule)
+    }
+
     /// A number that nothing explains.
     fn unexplained(self, is_same: bool, back: u8) -> Told
         ensures { result ≡ definition.unexplained is_same back self }
     {
-        let skips = Rule::Skips { next: self.place() };
+        let next = self.place();
+        let count = 9u8.saturating_sub(back);
+        let way = self.repeated(back);
         if back == 0 {
-            self.told(self.grown(1), skips)
+            self.skips(self.has_room(1), 1)
+        } else if self.is_other(is_same, back) {
+            if self.has_room(count) {
+                self.skips(true, count)
+            } else {
+                self.told_again(way, Rule::Differs)
+            }
         } else if back < self.behind {
-            self.told(self.repeated(back), skips)
+            self.told_again(way, Rule::Skips { next })
         } else if self.was_sent(is_same, back) {
-            self.told(self.repeated(back), Rule::Repeats { next: self.place() })
+            self.told_again(way, Rule::Repeats { next })
         } else {
-            self.told(self.grown(9u8.saturating_sub(back)), skips)
+            self.skips(back <= self.ever || self.has_room(count), count)
         }
     }
 
@@ -448,7 +501,7 @@ impl Way {
     fn again(self, is_same: bool, back: u8, way: Way) -> Told
         ensures { result ≡ definition.again is_same back way self }
     {
-        if !is_same && (back <= self.kept && !self.is_missed) {
+        if self.is_other(is_same, back) {
             sent_before(breaks(Rule::Differs, way))
         } else {
             sent_before(notes(Note::SentAgain, way))

@@ -61,10 +61,14 @@ moved number f = record {
       (PacketSkips f.next);
 }
 
--- at most so many are unacknowledged as the window says, where it is known (section 4.4.1.2); 0 says that it isn't
+-- At most so many are unacknowledged as the window says, where it is known (section 4.4.1.2); 0 says that it isn't.
+-- Where it is smaller than seven, the numbers are told apart behind it too.
 abbrev pub sent : ℕ → ℕ → Flow → FlowTold
 sent window number f =
     if number == f.next then (if f.is_sure && (nat_lt 0 window && nat_le window f.pending)
-    then record { flow = grown false f; rule = Some (OverPackets window) }
+    then record {
+      flow = grown (nat_lt f.pending 7) f;
+      rule = Some (OverPackets (if nat_lt f.pending 7 then window else 7));
+    }
     else quiet (grown (f.is_sure && nat_lt f.pending 7) f))
     else moved number f

@@ -142,9 +142,12 @@ impl Flow {
         if number != self.next {
             self.moved(number)
         } else if self.is_sure && (0 < window && window <= self.pending) {
+            let are_apart = self.pending < 7;
             FlowTold {
-                flow: self.grown(false),
-                rule: Some(PacketRule::OverPackets { window }),
+                flow: self.grown(are_apart),
+                rule: Some(PacketRule::OverPackets {
+                    window: if are_apart { window } else { 7 },
+                }),
             }
         } else {
             quiet(self.grown(self.is_sure && self.pending < 7))

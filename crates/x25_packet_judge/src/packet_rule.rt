@@ -28,12 +28,41 @@ pub enum PacketRule {
     QualifierChanges,
 }
 
-/// The first of two rules.
+impl PacketRule {
+    /// Whether the packet layer keeps order without it: it is of manners. Profile.
+    pub fn is_of_manners(self) -> bool
+        ensures { result ≡ definition.is_of_manners self }
+    {
+        match self {
+            PacketRule::OverPackets { window } => window < 7,
+            PacketRule::NotFull { .. } => true,
+            PacketRule::RestartAwaited
+            | PacketRule::RestartUnasked
+            | PacketRule::ClearAwaited
+            | PacketRule::ClearUnasked
+            | PacketRule::CallAgain
+            | PacketRule::AcceptUnasked
+            | PacketRule::NoCall
+            | PacketRule::ResetAwaited
+            | PacketRule::ResetUnasked
+            | PacketRule::PacketUnsent { .. }
+            | PacketRule::PacketFalls { .. }
+            | PacketRule::PacketSkips { .. }
+            | PacketRule::InterruptAgain
+            | PacketRule::InterruptUnasked
+            | PacketRule::TooManyOctets { .. }
+            | PacketRule::QualifierChanges => false,
+        }
+    }
+}
+
+/// The first of two rules, but one of order before one of manners.
 pub(crate) fn first(rule: Option<PacketRule>, next: Option<PacketRule>) -> Option<PacketRule>
     ensures { result ≡ definition.first rule next }
 {
-    match rule {
-        Some(_) => rule,
-        None => next,
+    match (rule, next) {
+        (None, _) => next,
+        (Some(broken), Some(worse)) if broken.is_of_manners() && !worse.is_of_manners() => next,
+        (Some(_), _) => rule,
     }
 }

@@ -6,7 +6,7 @@ use Rattle.std.specs.Str.{bytes_eq}
 use Rattle.std.proofs.lemmas.Slice.Eq.{bytes_eq-Decides}
 use Rattle.x25_settings.specs.declared.options.Chosen.{Chosen}
 use Rattle.x25_settings.specs.declared.options.Flag.{Flag}
-use Rattle.x25_settings.specs.declared.options.Flag.TheVariants.{Down, Long, SaySizes, Tap, Strict, Wide}
+use Rattle.x25_settings.specs.declared.options.Flag.TheVariants.{Down, Long, Manners, SaySizes, Tap, Strict, Wide}
 use Rattle.x25_settings.specs.declared.options.Numbered.{Numbered}
 use Rattle.x25_settings.specs.declared.options.Numbered.TheVariants.{Window, Tries, Channels}
 use Rattle.x25_settings.specs.Options.Choosing.{number_in, flag_in, numbered_in, put_flag, put_fresh, put_read, put_text, put_number, chosen_in}
@@ -72,23 +72,28 @@ flag_found c d x e = go (chosen_flag c x) e
 
 flag_word_found : (word : List ℕ) (x : Flag) → flag_in word ≡ Some x → word ≡ flag_word x
 flag_word_found word x e =
-    go (bytes_eq word (codes "--down")) (bytes_eq word (codes "--long")) (bytes_eq word (codes "--say-sizes")) (bytes_eq word (codes "--tap")) (bytes_eq word (codes "--strict"))
-    (bytes_eq word (codes "--wide")) refl refl refl refl refl refl e
+    go (bytes_eq word (codes "--down")) (bytes_eq word (codes "--long")) (bytes_eq word (codes "--manners")) (bytes_eq word (codes "--say-sizes")) (bytes_eq word (codes "--tap"))
+    (bytes_eq word (codes "--strict")) (bytes_eq word (codes "--wide")) refl refl refl refl refl refl refl e
   where
-    go : (down long say tap strict wide : Bool) → bytes_eq word (codes "--down") ≡ down → bytes_eq word (codes "--long") ≡ long
+    go : (down long manners say tap strict wide : Bool) → bytes_eq word (codes "--down") ≡ down → bytes_eq word (codes "--long") ≡ long → bytes_eq word (codes "--manners") ≡ manners
         → bytes_eq word (codes "--say-sizes") ≡ say → bytes_eq word (codes "--tap") ≡ tap → bytes_eq word (codes "--strict") ≡ strict → bytes_eq word (codes "--wide") ≡ wide
-        → cond down (Some Down) (cond long (Some Long) (cond say (Some SaySizes) (cond tap (Some Tap) (cond strict (Some Strict) (cond wide (Some Wide) None))))) ≡ Some x
+        → cond down (Some Down) (cond long (Some Long) (cond manners (Some Manners) (cond say (Some SaySizes) (cond tap (Some Tap) (cond strict (Some Strict) (cond wide (Some Wide) None)))))) ≡ Some x
         → word ≡ flag_word x
-    go true long say tap strict wide is _ _ _ _ _ e = let same : Down ≡ x = cc in (bytes_eq-Decides word (codes "--down")).0 is ∙ ap flag_word same
-    go false true say tap strict wide _ is _ _ _ _ e = let same : Long ≡ x = cc in (bytes_eq-Decides word (codes "--long")).0 is ∙ ap flag_word same
-    go false false true tap strict wide _ _ is _ _ _ e =
+    go true long manners say tap strict wide is _ _ _ _ _ _ e =
+        let same : Down ≡ x = cc in (bytes_eq-Decides word (codes "--down")).0 is ∙ ap flag_word same
+    go false true manners say tap strict wide _ is _ _ _ _ _ e =
+        let same : Long ≡ x = cc in (bytes_eq-Decides word (codes "--long")).0 is ∙ ap flag_word same
+    go false false true say tap strict wide _ _ is _ _ _ _ e =
+        let same : Manners ≡ x = cc in (bytes_eq-Decides word (codes "--manners")).0 is ∙ ap flag_word same
+    go false false false true tap strict wide _ _ _ is _ _ _ e =
         let same : SaySizes ≡ x = cc in (bytes_eq-Decides word (codes "--say-sizes")).0 is ∙ ap flag_word same
-    go false false false true strict wide _ _ _ is _ _ e = let same : Tap ≡ x = cc in (bytes_eq-Decides word (codes "--tap")).0 is ∙ ap flag_word same
-    go false false false false true wide _ _ _ _ is _ e =
+    go false false false false true strict wide _ _ _ _ is _ _ e =
+        let same : Tap ≡ x = cc in (bytes_eq-Decides word (codes "--tap")).0 is ∙ ap flag_word same
+    go false false false false false true wide _ _ _ _ _ is _ e =
         let same : Strict ≡ x = cc in (bytes_eq-Decides word (codes "--strict")).0 is ∙ ap flag_word same
-    go false false false false false true _ _ _ _ _ is e =
+    go false false false false false false true _ _ _ _ _ _ is e =
         let same : Wide ≡ x = cc in (bytes_eq-Decides word (codes "--wide")).0 is ∙ ap flag_word same
-    go false false false false false false _ _ _ _ _ _ e = absurd (cc)
+    go false false false false false false false _ _ _ _ _ _ _ e = absurd (cc)
 
 word_found : (word : List ℕ) (x : Numbered) → numbered_in word ≡ Some x → word ≡ word_of x
 word_found word x e = go (bytes_eq word (codes "--k")) (bytes_eq word (codes "--n2")) (bytes_eq word (codes "--channels")) refl refl refl e
@@ -185,6 +190,7 @@ found words end e = finds words end nothing e
 is_flag : (x : Flag) → flag_in (flag_word x) ≡ Some x
 is_flag Down = refl
 is_flag Long = refl
+is_flag Manners = refl
 is_flag SaySizes = refl
 is_flag Tap = refl
 is_flag Strict = refl
@@ -237,6 +243,7 @@ keeps : (choices : List Choice) (c end : Chosen) → IsKept c → Leads c choice
 keeps [] c end kept e = subst IsKept (sym e) kept
 keeps (flag Down ∷ choices) c end kept h = keeps choices (with_flag c Down) end (record { k = kept.k; n2 = kept.n2; channels = kept.channels }) h.1
 keeps (flag Long ∷ choices) c end kept h = keeps choices (with_flag c Long) end (record { k = kept.k; n2 = kept.n2; channels = kept.channels }) h.1
+keeps (flag Manners ∷ choices) c end kept h = keeps choices (with_flag c Manners) end (record { k = kept.k; n2 = kept.n2; channels = kept.channels }) h.1
 keeps (flag SaySizes ∷ choices) c end kept h =
     keeps choices (with_flag c SaySizes) end (record { k = kept.k; n2 = kept.n2; channels = kept.channels }) h.1
 keeps (flag Tap ∷ choices) c end kept h = keeps choices (with_flag c Tap) end (record { k = kept.k; n2 = kept.n2; channels = kept.channels }) h.1

@@ -13,7 +13,7 @@ use Rattle.x25_settings.specs.declared.options.Place.{Place}
 use Rattle.x25_settings.specs.declared.words.Task.{Task}
 use Rattle.x25_settings.specs.declared.words.Task.TheVariants.{Decode, Vectors, Sim, Station, Judge, Deframe, Frame}
 use Rattle.x25_settings.specs.Options.Choosing.{chosen_in, simulated, simulation_in, station_in, place_in, end_in, placed, judge_in, judging_of, decode_in, deframe_in, frame_in, vectors_in, task_behind, task_in}
-use Rattle.x25_settings.specs.Options.{nothing, settled, settled_at, SaySimulation, SayPlace, SayJudging, Choose, end_word, PlaceIsInRange, JudgingIsInRange, judging_in}
+use Rattle.x25_settings.specs.Options.{nothing, settled, settled_at, SaySimulation, SayPlace, SayJudging, Choose, end_word, PlaceIsInRange, JudgingIsInRange, judging_in, of_a_judge}
 use Rattle.x25_settings.specs.Options as simulation
 use Rattle.x25_settings.specs.Words.{AreInRange, Say}
 use Rattle.x25_settings.proofs.ChoiceLemmas.{found, read, in_range}
@@ -39,9 +39,9 @@ again_end Dce = refl
 again_place : (words : List (List ℕ)) (p : Place) → SayPlace words p → station_in words ≡ Some p
 again_place words p say =
     ap station_in say.words_are ∙ ap (place_in say.rest) (again_end p.end) ∙ ap (option_and_then (placed p.end)) (read say.rest say.end say.choose)
-    ∙ ap (λ b. cond ((b || say.end.tap) || say.end.strict) None (Some (settled_at p.end say.end))) say.no_down
-    ∙ ap (λ b. cond (b || say.end.strict) None (Some (settled_at p.end say.end))) say.no_tap
-    ∙ ap (λ b. cond b None (Some (settled_at p.end say.end))) say.no_strict
+    ∙ ap (λ b. cond ((b || say.end.tap) || of_a_judge say.end) None (Some (settled_at p.end say.end))) say.no_down
+    ∙ ap (λ b. cond (b || of_a_judge say.end) None (Some (settled_at p.end say.end))) say.no_tap
+    ∙ ap (λ b. cond b None (Some (settled_at p.end say.end))) say.no_judge
     ∙ ap (λ q. Some q) (sym say.same)
 
 again_judging : (words : List (List ℕ)) (g : Judging) → SayJudging words g → judge_in words ≡ Some g
@@ -69,15 +69,15 @@ again words Frame e = ap task_in e
 
 -- ---- what is read is plain
 
-by_strict : (words : List (List ℕ)) (s : Simulation) (end : Chosen) → Choose words end → (strict : Bool) → end.strict ≡ strict
-    → cond strict None (Some (settled end)) ≡ Some s → SaySimulation words s
-by_strict words s end chosen true is e = absurd (cc)
-by_strict words s end chosen false is e = (end, chosen, is, sym (same_Some (settled end) s e))
+by_judge : (words : List (List ℕ)) (s : Simulation) (end : Chosen) → Choose words end → (judge : Bool) → of_a_judge end ≡ judge
+    → cond judge None (Some (settled end)) ≡ Some s → SaySimulation words s
+by_judge words s end chosen true is e = absurd (cc)
+by_judge words s end chosen false is e = (end, chosen, is, sym (same_Some (settled end) s e))
 
 by_chosen : (words : List (List ℕ)) (s : Simulation) (o : Option Chosen) → chosen_in nothing words ≡ o → option_and_then simulated o ≡ Some s
     → SaySimulation words s
 by_chosen words s None is e = absurd (cc)
-by_chosen words s (Some end) is e = by_strict words s end (found words end is) end.strict refl e
+by_chosen words s (Some end) is e = by_judge words s end (found words end is) (of_a_judge end) refl e
 
 found_simulation : (words : List (List ℕ)) (s : Simulation) → simulation_in words ≡ Some s → SaySimulation words s
 found_simulation words s e = by_chosen words s (chosen_in nothing words) refl e
@@ -136,19 +136,19 @@ end_found word end e = go (bytes_eq word (codes "dte")) (bytes_eq word (codes "d
     go false false _ _ e = absurd (cc)
 
 place_found : (word : List ℕ) (words : List (List ℕ)) (end : End) (c : Chosen) (p : Place) → word ≡ end_word end → Choose words c
-    → (down tap strict : Bool) → c.down ≡ down → c.tap ≡ tap → c.strict ≡ strict
-    → cond ((down || tap) || strict) None (Some (settled_at end c)) ≡ Some p → SayPlace (word ∷ words) p
-place_found word words end c p is chosen true tap strict no_down no_tap no_strict e = absurd (cc)
-place_found word words end c p is chosen false true strict no_down no_tap no_strict e = absurd (cc)
-place_found word words end c p is chosen false false true no_down no_tap no_strict e = absurd (cc)
-place_found word words end c p is chosen false false false no_down no_tap no_strict e =
+    → (down tap judge : Bool) → c.down ≡ down → c.tap ≡ tap → of_a_judge c ≡ judge
+    → cond ((down || tap) || judge) None (Some (settled_at end c)) ≡ Some p → SayPlace (word ∷ words) p
+place_found word words end c p is chosen true tap judge no_down no_tap no_judge e = absurd (cc)
+place_found word words end c p is chosen false true judge no_down no_tap no_judge e = absurd (cc)
+place_found word words end c p is chosen false false true no_down no_tap no_judge e = absurd (cc)
+place_found word words end c p is chosen false false false no_down no_tap no_judge e =
     subst (SayPlace (word ∷ words)) (same_Some (settled_at end c) p e)
-    (record { rest = words; end = c; words_are = ap (λ w. w ∷ words) is; choose = chosen; no_down = no_down; no_tap = no_tap; no_strict = no_strict; same = refl })
+    (record { rest = words; end = c; words_are = ap (λ w. w ∷ words) is; choose = chosen; no_down = no_down; no_tap = no_tap; no_judge = no_judge; same = refl })
 
 place_chosen : (word : List ℕ) (words : List (List ℕ)) (end : End) (p : Place) → word ≡ end_word end → (o : Option Chosen) → chosen_in nothing words ≡ o
     → option_and_then (placed end) o ≡ Some p → SayPlace (word ∷ words) p
 place_chosen word words end p is None reads e = absurd (cc)
-place_chosen word words end p is (Some c) reads e = place_found word words end c p is (found words c reads) c.down c.tap c.strict refl refl refl e
+place_chosen word words end p is (Some c) reads e = place_found word words end c p is (found words c reads) c.down c.tap (of_a_judge c) refl refl refl e
 
 place_at : (word : List ℕ) (words : List (List ℕ)) (p : Place) → (o : Option End) → end_in word ≡ o → place_in words o ≡ Some p → SayPlace (word ∷ words) p
 place_at word words p None reads e = absurd (cc)

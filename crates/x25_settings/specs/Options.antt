@@ -1,5 +1,5 @@
 -- The words behind `sim`, `station` and `judge`, those for an end, and what plain ones say (profile).
-use Rattle.std.specs.Prelude.{◌≡◌, ◌≤◌, ℕ, Bool, true, false, List, [], ◌∷◌, Option, Some, None, unwrap_or, codes}
+use Rattle.std.specs.Prelude.{◌≡◌, ◌≤◌, ◌||◌, ℕ, Bool, true, false, List, [], ◌∷◌, Option, Some, None, unwrap_or, codes}
 use Rattle.std.specs.Prelude.{decimal}
 use Rattle.std.specs.List.{flat_map}
 use Rattle.x25_settings.specs.declared.options.Simulation.{Simulation}
@@ -9,7 +9,7 @@ use Rattle.x25_settings.specs.declared.options.Judging.{Judging}
 use Rattle.x25_settings.specs.declared.options.Place.{Place}
 use Rattle.x25_settings.specs.declared.options.Chosen.{Chosen}
 use Rattle.x25_settings.specs.declared.options.Flag.{Flag}
-use Rattle.x25_settings.specs.declared.options.Flag.TheVariants.{Down, Long, SaySizes, Tap, Strict, Wide}
+use Rattle.x25_settings.specs.declared.options.Flag.TheVariants.{Down, Long, Manners, SaySizes, Tap, Strict, Wide}
 use Rattle.x25_settings.specs.declared.options.Numbered.{Numbered}
 use Rattle.x25_settings.specs.declared.options.Numbered.TheVariants.{Window, Tries, Channels}
 pub mod Choosing
@@ -17,6 +17,7 @@ pub mod Choosing
 abbrev pub flag_word : Flag → List ℕ
 flag_word Down = codes "--down"
 flag_word Long = codes "--long"
+flag_word Manners = codes "--manners"
 flag_word SaySizes = codes "--say-sizes"
 flag_word Tap = codes "--tap"
 flag_word Strict = codes "--strict"
@@ -52,6 +53,7 @@ abbrev pub nothing : Chosen
 nothing = record {
   down = false;
   long = false;
+  manners = false;
   say_sizes = false;
   tap = false;
   strict = false;
@@ -69,6 +71,7 @@ chosen_number c Channels = c.channels
 abbrev pub chosen_flag : Chosen → Flag → Bool
 chosen_flag c Down = c.down
 chosen_flag c Long = c.long
+chosen_flag c Manners = c.manners
 chosen_flag c SaySizes = c.say_sizes
 chosen_flag c Tap = c.tap
 chosen_flag c Strict = c.strict
@@ -78,6 +81,7 @@ abbrev pub with_flag : Chosen → Flag → Chosen
 with_flag c Down = record {
   down = true;
   long = c.long;
+  manners = c.manners;
   say_sizes = c.say_sizes;
   tap = c.tap;
   strict = c.strict;
@@ -89,6 +93,19 @@ with_flag c Down = record {
 with_flag c Long = record {
   down = c.down;
   long = true;
+  manners = c.manners;
+  say_sizes = c.say_sizes;
+  tap = c.tap;
+  strict = c.strict;
+  wide = c.wide;
+  k = c.k;
+  n2 = c.n2;
+  channels = c.channels;
+}
+with_flag c Manners = record {
+  down = c.down;
+  long = c.long;
+  manners = true;
   say_sizes = c.say_sizes;
   tap = c.tap;
   strict = c.strict;
@@ -100,6 +117,7 @@ with_flag c Long = record {
 with_flag c SaySizes = record {
   down = c.down;
   long = c.long;
+  manners = c.manners;
   say_sizes = true;
   tap = c.tap;
   strict = c.strict;
@@ -111,6 +129,7 @@ with_flag c SaySizes = record {
 with_flag c Tap = record {
   down = c.down;
   long = c.long;
+  manners = c.manners;
   say_sizes = c.say_sizes;
   tap = true;
   strict = c.strict;
@@ -122,6 +141,7 @@ with_flag c Tap = record {
 with_flag c Strict = record {
   down = c.down;
   long = c.long;
+  manners = c.manners;
   say_sizes = c.say_sizes;
   tap = c.tap;
   strict = true;
@@ -133,6 +153,7 @@ with_flag c Strict = record {
 with_flag c Wide = record {
   down = c.down;
   long = c.long;
+  manners = c.manners;
   say_sizes = c.say_sizes;
   tap = c.tap;
   strict = c.strict;
@@ -146,6 +167,7 @@ abbrev pub with_number : Chosen → Numbered → ℕ → Chosen
 with_number c Window n = record {
   down = c.down;
   long = c.long;
+  manners = c.manners;
   say_sizes = c.say_sizes;
   tap = c.tap;
   strict = c.strict;
@@ -157,6 +179,7 @@ with_number c Window n = record {
 with_number c Tries n = record {
   down = c.down;
   long = c.long;
+  manners = c.manners;
   say_sizes = c.say_sizes;
   tap = c.tap;
   strict = c.strict;
@@ -168,6 +191,7 @@ with_number c Tries n = record {
 with_number c Channels n = record {
   down = c.down;
   long = c.long;
+  manners = c.manners;
   say_sizes = c.say_sizes;
   tap = c.tap;
   strict = c.strict;
@@ -222,21 +246,31 @@ settled_at end c = record {
 }
 
 abbrev pub judging_in : Chosen → Judging
-judging_in c = record { long = c.long; strict = c.strict; wide = c.wide; k = chosen_or_default c Window }
+judging_in c = record {
+  long = c.long;
+  manners = c.manners;
+  strict = c.strict;
+  wide = c.wide;
+  k = chosen_or_default c Window;
+}
+
+-- options that `judge` alone has
+abbrev pub of_a_judge : Chosen → Bool
+of_a_judge c = c.manners || c.strict
 
 -- these words choose this
 abbrev pub Choose : List (List ℕ) → Chosen → Type 0
 Choose words end = (choices : List Choice) × (words ≡ flat_map words_of choices) × Leads nothing choices end
 
--- the words are plain, and they say this; of the options `--strict` is none
+-- the words are plain, and they say this; of the options `--manners` and `--strict` are none
 abbrev pub SaySimulation : List (List ℕ) → Simulation → Type 0
-SaySimulation words s = (end : Chosen) × Choose words end × (end.strict ≡ false) × (s ≡ settled end)
+SaySimulation words s = (end : Chosen) × Choose words end × (of_a_judge end ≡ false) × (s ≡ settled end)
 
 abbrev pub end_word : End → List ℕ
 end_word Dte = codes "dte"
 end_word Dce = codes "dce"
 
--- the first word is the end, and of the options `--down`, `--tap` and `--strict` are none
+-- the first word is the end, and of the options `--down`, `--tap`, `--manners` and `--strict` are none
 pub record SayPlace (words : List (List ℕ)) (p : Place) : Type 0 where
   pub rest : List (List ℕ)
   pub end : Chosen
@@ -244,10 +278,10 @@ pub record SayPlace (words : List (List ℕ)) (p : Place) : Type 0 where
   pub choose : Choose rest end
   pub no_down : end.down ≡ false
   pub no_tap : end.tap ≡ false
-  pub no_strict : end.strict ≡ false
+  pub no_judge : of_a_judge end ≡ false
   pub same : p ≡ settled_at p.end end
 
--- of the options `--k`, `--long`, `--strict` and `--wide` are there alone
+-- of the options `--k`, `--long`, `--manners`, `--strict` and `--wide` are there alone
 pub record SayJudging (words : List (List ℕ)) (g : Judging) : Type 0 where
   pub end : Chosen
   pub choose : Choose words end

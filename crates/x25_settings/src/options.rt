@@ -5,7 +5,7 @@ ghost use Rattle.x25_settings.specs.Options.Choosing.{chosen_in, end_in, flag_in
 ghost use Rattle.x25_settings.specs.Options.Choosing.{simulated};
 ghost use Rattle.x25_settings.specs.Options.Choosing.{numbered_in, placed, put_flag, put_number, simulation_in};
 ghost use Rattle.x25_settings.specs.Options.Choosing.{station_in};
-ghost use Rattle.x25_settings.specs.Options.{default_of, most_of, nothing, settled};
+ghost use Rattle.x25_settings.specs.Options.{default_of, most_of, nothing, of_a_judge, settled};
 
 use itoa::Buffer;
 use std::convert::AsStr;
@@ -62,6 +62,8 @@ pub struct Place {
 pub struct Judging {
     /// A CALL has up to 128 octets of user data, in place of up to 16.
     pub long: bool,
+    /// Broken manners make the status 1 too.
+    pub manners: bool,
     /// What isn't judged makes the status 1 too.
     pub strict: bool,
     /// Packets are read in all the forms that a peer may send.
@@ -75,6 +77,7 @@ pub struct Judging {
 enum Flag {
     Down,
     Long,
+    Manners,
     SaySizes,
     Tap,
     Strict,
@@ -136,6 +139,7 @@ impl Numbered {
 struct Chosen {
     down: bool,
     long: bool,
+    manners: bool,
     say_sizes: bool,
     tap: bool,
     strict: bool,
@@ -158,6 +162,8 @@ fn flag_option(word: &str) -> Option<Flag>
         Some(Flag::Down)
     } else if is(word, "--long") {
         Some(Flag::Long)
+    } else if is(word, "--manners") {
+        Some(Flag::Manners)
     } else if is(word, "--say-sizes") {
         Some(Flag::SaySizes)
     } else if is(word, "--tap") {
@@ -224,6 +230,10 @@ impl Chosen {
         match flag {
             Flag::Down if !self.down => Some(Chosen { down: true, ..self }),
             Flag::Long if !self.long => Some(Chosen { long: true, ..self }),
+            Flag::Manners if !self.manners => Some(Chosen {
+                manners: true,
+                ..self
+            }),
             Flag::SaySizes if !self.say_sizes => Some(Chosen {
                 say_sizes: true,
                 ..self
@@ -265,11 +275,18 @@ impl Chosen {
         }
     }
 
+    /// Whether something was chosen that `judge` alone has.
+    fn of_a_judge(self) -> bool
+        ensures { result ≡ of_a_judge self }
+    {
+        self.manners || self.strict
+    }
+
     /// Of a simulation, with the defaults for the rest, where nothing was chosen that `judge` alone has.
     fn simulated(self) -> Option<Simulation>
         ensures { result ≡ simulated self }
     {
-        if self.strict {
+        if self.of_a_judge() {
             None
         } else {
             Some(self.with_defaults())
@@ -280,7 +297,7 @@ impl Chosen {
     fn at(self, end: End) -> Option<Place>
         ensures { result ≡ placed end self }
     {
-        if (self.down || self.tap) || self.strict {
+        if (self.down || self.tap) || self.of_a_judge() {
             return None;
         }
         let rest = self.with_defaults();
@@ -307,6 +324,7 @@ impl Chosen {
                 let rest = self.with_defaults();
                 Some(Judging {
                     long: rest.long,
+                    manners: self.manners,
                     strict: self.strict,
                     wide: self.wide,
                     k: rest.k,
@@ -351,6 +369,7 @@ fn choose<S: AsStr>(words: &[S]) -> Option<Chosen>
     let mut chosen = Chosen {
         down: false,
         long: false,
+        manners: false,
         say_sizes: false,
         tap: false,
         strict: false,

@@ -133,6 +133,14 @@ fn strict_option<'a>(alloc: Global) -> Arg<'a> {
         .help("Answer status 1 too where a frame or a packet wasn't judged")
 }
 
+/// That manners count.
+fn manners_option<'a>(alloc: Global) -> Arg<'a> {
+    Arg::new(alloc, "manners")
+        .long("manners")
+        .action(ArgAction::SetTrue)
+        .help("Answer status 1 too where manners were broken")
+}
+
 /// The tries of the link.
 fn tries_option<'a>(alloc: Global) -> Arg<'a> {
     number_option(
@@ -236,6 +244,7 @@ fn judge_command<'a>(alloc: Global) -> Result<Command<'a>, AllocError> {
     let command = with_arg(Ok(command), window_option(alloc));
     let command = with_arg(command, long_option(alloc));
     let command = with_arg(command, wide_option(alloc));
+    let command = with_arg(command, manners_option(alloc));
     with_arg(command, strict_option(alloc))
 }
 

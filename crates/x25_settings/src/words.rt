@@ -234,8 +234,8 @@ fn usage_fault<'a, S: AsStr>(alloc: Global, words: &'a [S]) -> SettingsError {
 /// most once and in any order `--tap`, `--down`, `--long`, `--say-sizes`, `--wide`, `--k N`, `--n2 N` and `--channels
 /// N`, with N in decimal without leading zeros, from 1 to 7, 255 and 16; what isn't said is 7, 10 and 1. Or they are
 /// `station`, then `dte` or `dce`, and then these options but `--tap` and `--down`. Or they are `judge`, and then `--k
-/// N`, `--long` and `--wide` alone of these, and `--strict`. Or they are `deframe` and `dte` or `dce`, or `frame`. All
-/// others are a usage fault, help words too. Plain words take no memory. Profile.
+/// N`, `--long` and `--wide` alone of these, `--manners` and `--strict`. Or they are `deframe` and `dte` or `dce`, or
+/// `frame`. All others are a usage fault, help words too. Plain words take no memory. Profile.
 pub fn settings<'a, S: AsStr>(alloc: Global, words: &'a [S]) -> Result<Task, SettingsError>
     ensures plain { (task : TaskValue) → Say (map S.text words.now) task → result ≡ Ok task }
     ensures only { IfOk result (Say (map S.text words.now)) }

@@ -24,7 +24,7 @@ const PLACE: Place = Place {
 
 #[test]
 fn takes_plain_words_alone(rt: HostRuntime) {
-    let plain: [(&[&str], Task); 26] = [
+    let plain: [(&[&str], Task); 27] = [
         (
             &["decode"],
             Task::Decode {
@@ -132,6 +132,7 @@ fn takes_plain_words_alone(rt: HostRuntime) {
             &["judge"],
             Task::Judge(Judging {
                 long: false,
+                manners: false,
                 strict: false,
                 wide: false,
                 k: 7,
@@ -141,7 +142,18 @@ fn takes_plain_words_alone(rt: HostRuntime) {
             &["judge", "--strict"],
             Task::Judge(Judging {
                 long: false,
+                manners: false,
                 strict: true,
+                wide: false,
+                k: 7,
+            }),
+        ),
+        (
+            &["judge", "--manners"],
+            Task::Judge(Judging {
+                long: false,
+                manners: true,
+                strict: false,
                 wide: false,
                 k: 7,
             }),
@@ -150,6 +162,7 @@ fn takes_plain_words_alone(rt: HostRuntime) {
             &["judge", "--wide"],
             Task::Judge(Judging {
                 long: false,
+                manners: false,
                 strict: false,
                 wide: true,
                 k: 7,
@@ -159,6 +172,7 @@ fn takes_plain_words_alone(rt: HostRuntime) {
             &["judge", "--long", "--k", "1"],
             Task::Judge(Judging {
                 long: true,
+                manners: false,
                 strict: false,
                 wide: false,
                 k: 1,
@@ -217,7 +231,7 @@ fn takes_plain_words_alone(rt: HostRuntime) {
 
 #[test]
 fn takes_no_other_words(rt: HostRuntime) {
-    let others: [&[&str]; 52] = [
+    let others: [&[&str]; 54] = [
         &[],
         &["dec"],
         &["decode", "decode"],
@@ -261,6 +275,8 @@ fn takes_no_other_words(rt: HostRuntime) {
         &["judge", "--say-sizes"],
         &["judge", "--wide", "--wide"],
         &["sim", "--strict"],
+        &["sim", "--manners"],
+        &["station", "dte", "--manners"],
         &["station", "dte", "--say-sizes", "--say-sizes"],
         &["judge", "--n2", "1"],
         &["judge", "--channels", "1"],
@@ -302,7 +318,7 @@ const SIM: &str =
 
 /// The help of `judge`.
 const JUDGE: &str =
-    "Answer lines of a trace of both ends as `decode` does, and say which end broke which rule\n\nUsage: x25 judge [OPTIONS] < TRACE\n\nOptions:\n      --k <N>   The window of the link: 1 to 7 [default: 7]\n      --long    Take up to 128 octets of user data in a CALL, in place of 16\n      --wide    Read packets in all the forms that X.25 lets equipment send, and mark those by `~ wide`\n      --strict  Answer status 1 too where a frame or a packet wasn't judged\n  -h, --help    Print help\n\nExamples:\n  x25 judge < examples/exchange.trace\n  x25 sim --tap < examples/losses.script | grep '^[<>]' | x25 judge\n";
+    "Answer lines of a trace of both ends as `decode` does, and say which end broke which rule\n\nUsage: x25 judge [OPTIONS] < TRACE\n\nOptions:\n      --k <N>    The window of the link: 1 to 7 [default: 7]\n      --long     Take up to 128 octets of user data in a CALL, in place of 16\n      --wide     Read packets in all the forms that X.25 lets equipment send, and mark those by `~ wide`\n      --manners  Answer status 1 too where manners were broken\n      --strict   Answer status 1 too where a frame or a packet wasn't judged\n  -h, --help     Print help\n\nExamples:\n  x25 judge < examples/exchange.trace\n  x25 sim --tap < examples/losses.script | grep '^[<>]' | x25 judge\n";
 
 #[test]
 fn says_what_is_wrong(rt: HostRuntime) -> Result<(), Fail> {

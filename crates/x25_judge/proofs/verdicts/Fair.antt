@@ -33,6 +33,9 @@ pub record Fair (t : Told) (m u : ℕ) : Type 0 where
 told_fair : (v w : Way) (rule : Rule) (m u : ℕ) → is_of_order (Some rule) ≡ false → Own v m u → Fair (way.told v rule w) m u
 told_fair v w rule m u quiet own = cond_both w.is_missed (way.notes SentBehindDamage v) (way.breaks rule v) (λ (t : Told). Fair t m u) (λ _. record { quiet = refl; own = own }) (λ _. record { quiet = quiet; own = own })
 
+again_fair : (v w : Way) (rule : Rule) (m u : ℕ) → is_of_order (Some rule) ≡ false → Own v m u → Fair (way.told_again v rule w) m u
+again_fair v w rule m u quiet own = cond_both w.is_missed (way.notes SentBehindDamage v) (way.sent_before (way.breaks rule v)) (λ (t : Told). Fair t m u) (λ _. record { quiet = refl; own = own }) (λ _. record { quiet = quiet; own = own })
+
 unseen_if : (b : Bool) (s : Sight) → way.is_unseen_sight s ≡ false → way.is_unseen_sight (if b then Deaf else s) ≡ false
 unseen_if true s h = refl
 unseen_if false s h = h
@@ -64,11 +67,22 @@ gone_back_own false w m u back h = record { seen = h.seen; next = h.next; ever =
 new_at : (w : Way) (window m u : ℕ) (is_poll is_same : Bool) → 7 ≤ window → m < u + 7 → Own w m u → Fair (way.sent_number window is_poll is_same 0 w) (m + 1) u
 new_at w window m u is_poll is_same large near h =
     cond_both (w.behind == 0 || way.known_pending w == 0) (way.sent_new window w) (way.unexplained is_same 0 w) (λ (t : Told). Fair t (m + 1) u)
-    (λ _. cond_both (way.is_sure w && nat_le window w.pending) (way.breaks (OverWindow window) (way.unheard (way.grown 1 w))) (way.quiet (way.grown 1 w)) (λ (t : Told). Fair t (m + 1) u)
+    (λ _. cond_both (way.is_sure w && nat_le window w.pending) (way.breaks (OverWindow (way.passed window w)) (way.grown 1 w)) (way.quiet (way.grown 1 w)) (λ (t : Told). Fair t (m + 1) u)
     (λ test. let parts = and_parts (way.is_sure w) (nat_le window w.pending) test in absurd (never (leb-true window w.pending parts.1) (h.numbered.counts (sure_hears w.sight parts.0))))
     (λ _. record { quiet = refl; own = grown_own w m u h }))
-    (λ _. told_fair (way.grown 1 w) w (Skips (way.place w)) (m + 1) u refl (grown_own w m u h))
+    (λ _. subst (λ b. Fair (way.skips b 1 w) (m + 1) u) (sym room) (told_fair (way.grown 1 w) w (Skips (way.place w)) (m + 1) u refl (grown_own w m u h)))
   where
+    few : ((x : ℕ) × (y : ℕ) × ((x ≡ m) × (u ≤ y)) × Counts w x y) → min (w.pending + 1) 255 ≤ 7
+    few (x, y, fit, c) = within w.pending x y c.pending fit.0 fit.1
+      where
+        within : (p x y : ℕ) → p + y ≡ x → x ≡ m → u ≤ y → min (p + 1) 255 ≤ 7
+        within p x y is same le = omega (arith, near)
+
+    room : way.has_room 1 w ≡ true
+    room = cond_both (way.is_sure w) w.pending 0 (λ p. nat_le (min (p + 1) 255) 7 ≡ true)
+        (λ sure. le-leb (min (w.pending + 1) 255) 7 (few (h.numbered.counts (sure_hears w.sight sure))))
+        (λ _. refl)
+
     never : window ≤ w.pending → ((x : ℕ) × (y : ℕ) × ((x ≡ m) × (u ≤ y)) × Counts w x y) → ⊥
     never full (x, y, fit, c) = over w.pending x y full c.pending fit.0 fit.1
       where
@@ -101,12 +115,12 @@ old_at w window m u back is_poll some few there h =
 
     unexplained : Fair (way.unexplained true back w) m u
     unexplained =
-        cond_both (back == 0) (way.told (way.grown 1 w) (Skips (way.place w)) w) _ (λ (t : Told). Fair t m u)
+        cond_both (back == 0) (way.skips (way.has_room 1 w) 1 w) _ (λ (t : Told). Fair t m u)
         (λ test. absurd (zero back some (eqb-true back 0 test)))
-        (λ _. cond_both (nat_lt back w.behind) (way.told (way.repeated back w) (Skips (way.place w)) w) _ (λ (t : Told). Fair t m u)
-        (λ _. told_fair (way.repeated back w) w (Skips (way.place w)) m u refl (repeated_own w m u back h))
-        (λ _. cond_both (way.was_sent true back w) (way.told (way.repeated back w) (Repeats (way.place w)) w) (way.told (way.grown (9 - back) w) (Skips (way.place w)) w) (λ (t : Told). Fair t m u)
-        (λ _. told_fair (way.repeated back w) w (Repeats (way.place w)) m u refl (repeated_own w m u back h))
+        (λ _. cond_both (nat_lt back w.behind) (way.told_again (way.repeated back w) (Skips (way.place w)) w) _ (λ (t : Told). Fair t m u)
+        (λ _. again_fair (way.repeated back w) w (Skips (way.place w)) m u refl (repeated_own w m u back h))
+        (λ _. cond_both (way.was_sent true back w) (way.told_again (way.repeated back w) (Repeats (way.place w)) w) (way.skips (nat_le back w.ever || way.has_room (9 - back) w) (9 - back) w) (λ (t : Told). Fair t m u)
+        (λ _. again_fair (way.repeated back w) w (Repeats (way.place w)) m u refl (repeated_own w m u back h))
         (λ test. absurd (both_ways (way.was_sent true back w) test was))))
 
 pub new_fair : (w : Way) (window m u : ℕ) (is_poll is_same : Bool) → 7 ≤ window → m < u + 7 → Own w m u → Fair (way.sent window (m % 8) is_poll is_same w) (m + 1) u

@@ -2,6 +2,7 @@
 use Rattle.std.proofs.Common.{◌≡◌, ℕ, Bool, true, false, Option, Some, None, refl, sym, ap, ◌∙◌, subst}
 use Rattle.std.specs.Prelude.{◌==◌, ◌&&◌, not}
 use Rattle.std.proofs.lemmas.Bool.{both_ways, cond_both}
+use Rattle.x25_judge.specs.Rule.{is_of_manners}
 use Rattle.x25_judge.specs.Sides as sides
 use Rattle.x25_judge.specs.Way as way
 use Rattle.x25_judge.specs.declared.note.Note.{Note}
@@ -46,9 +47,13 @@ polls_bare t v h = cond_both v.own.is_polling (sides.notes (Some PollAgain) (sid
     asked : {note : Option Note} → Bare t (record (sides.asks_on true v) { note = note })
     asked = record { up = record { own = h.up.own; other = h.up.other }; own = h.own; other = h.other; plain = h.plain }
 
+pub first_of_order : (r last : Option Rule) → is_of_order r ≡ false → is_of_order last ≡ false → is_of_order (sides.first r last) ≡ false
+first_of_order None last h k = k
+first_of_order (Some rule) None h k = h
+first_of_order (Some rule) (Some last) h k = cond_both (is_of_manners rule && not (is_of_manners last)) (Some last) (Some rule) (λ (o : Option Rule). is_of_order o ≡ false) (λ _. k) (λ _. h)
+
 first_plain : (r : Option Rule) → is_of_order r ≡ false → is_of_order (sides.first r (Some NoPoll)) ≡ false
-first_plain None h = refl
-first_plain (Some rule) h = h
+first_plain r h = first_of_order r (Some NoPoll) h refl
 
 answers_bare : (t v : Sides) → Bare t v → Bare t (sides.answers_poll true v)
 answers_bare t v h =
@@ -172,13 +177,10 @@ reject_sees command nr pf t up none =
 
 -- ---- the first rule
 
-pub first_of_order : (r last : Option Rule) → is_of_order r ≡ false → is_of_order last ≡ false → is_of_order (sides.first r last) ≡ false
-first_of_order None last h k = k
-first_of_order (Some rule) last h k = h
+never : (rule : Rule) → Some rule ≡ None → ⊥
+never rule e = cc
 
 pub first_none : (r last : Option Rule) → sides.first r last ≡ None → (r ≡ None) × (last ≡ None)
 first_none None last h = (refl, h)
-first_none (Some rule) last h = absurd (never h)
-  where
-    never : Some rule ≡ None → ⊥
-    never e = cc
+first_none (Some rule) None h = absurd (never rule h)
+first_none (Some rule) (Some last) h = absurd (cond_both (is_of_manners rule && not (is_of_manners last)) (Some last) (Some rule) (λ (o : Option Rule). o ≡ None → ⊥) (λ _. never last) (λ _. never rule) h)

@@ -1,6 +1,5 @@
 -- An end that keeps the rules beside the judge: what the judge counts is what the end may have come to, or more.
 use Rattle.std.proofs.Common.{◌≡◌, ◌==◌, ◌⊎◌, inl, inr, ℕ, ◌+◌, ◌%◌, ◌<◌, ◌≤◌, arith, max, Bool, true, false, if◌then◌else◌, List, [], ◌∷◌, ◌++◌, length, Option, None, Ok, refl, sym, ap, ◌∙◌, subst}
-use Rattle.std.specs.Prelude.{is_some}
 use Rattle.std.proofs.lemmas.Bool.{eqb-true, eq-eqb, cond_both, cond-true, cases_eq}
 use Rattle.std.proofs.lemmas.List.{length_push}
 use Rattle.x25_bits.specs.declared.role.Role.{Role}
@@ -11,6 +10,7 @@ use Rattle.x25_line.specs.laws.Peer.{Peer, fresh_peer, MayAcknowledge, numbered_
 use Rattle.x25_window.specs.code.Modulo.{resolved}
 use Rattle.x25_judge.specs.Held.{is_same, keeps}
 use Rattle.x25_judge.specs.Judge.{sides_of, held_of, seen_by, answer_to}
+use Rattle.x25_judge.specs.Rule.{breaks_order}
 use Rattle.x25_judge.specs.Sides as sides
 use Rattle.x25_judge.specs.Way as way
 use Rattle.x25_judge.specs.declared.judge.Judge.{Judge}
@@ -546,5 +546,5 @@ beside from j q frames (Comes k p r frame way may h) = came_beside from j p q fr
 pub no_innocent_is_accused : NoInnocentIsAccused
 no_innocent_is_accused from j p q way line octets frame may shows sends_it =
     let t = seen_by j from frame in
-    told_of_order t.rule (book.sees from j.reading frame (is_some t.rule) j.book).verdict.rule
+    told_of_order t.rule (book.sees from j.reading frame (breaks_order t.rule) j.book).verdict.rule
     (sends from j (answer_to j line).next p q way frame sends_it (beside from j p way may) (goes j line from octets frame shows)).quiet

@@ -1,7 +1,7 @@
 -- What a line makes of the judge, where it is a frame.
 use Rattle.std.proofs.Common.{◌≡◌, inl, inr, ℕ, Bool, true, false, List, Option, Some, None, Err, refl, sym, ap, ◌∙◌, subst}
 use Rattle.std.specs.Prelude.{is_some, not, ◌&&◌}
-use Rattle.std.proofs.lemmas.Bool.{both_ways, or_parts}
+use Rattle.std.proofs.lemmas.Bool.{both_ways, or_parts, cond_both}
 use Rattle.x25_bits.specs.declared.role.Role.{Role}
 use Rattle.x25_bits.specs.declared.role.Role.TheVariants.{Dte, Dce}
 use Rattle.x25_frame.specs.Frame.{PlainFrame, info, rr, rnr, rej, sabm, disc, ua, dm, frmr}
@@ -10,9 +10,11 @@ use Rattle.x25_packet.specs.Reading.{channel_in}
 use Rattle.x25_packet_judge.specs.Book as book
 use Rattle.x25_packet_judge.specs.declared.packet_rule.PacketRule.{PacketRule}
 use Rattle.x25_judge.specs.Held.{keeps}
-use Rattle.x25_judge.specs.Judge.{Answer, sides_of, held_of, counts_packet, counts_on, counts_carried, all_told, told_frame, remark_of, next_by, seen_by, next_missed, read_of, sent_of, answer_to}
+use Rattle.x25_judge.specs.Judge.{Answer, sides_of, held_of, counts_packet, counts_on, counts_carried, all_told, is_open, told_frame, remark_of, next_by, seen_by, next_missed, no_frame, tallies, read_of, sent_of, answer_to}
 use Rattle.x25_judge.specs.declared.judge.Judge.{Judge}
 use Rattle.x25_judge.specs.declared.rule.Rule.{Rule}
+use Rattle.x25_judge.specs.declared.rule.Rule.TheVariants.{Packet}
+use Rattle.x25_judge.specs.Rule.{breaks_order, is_of_manners}
 use Rattle.x25_judge.specs.declared.sides.Sides.{Sides}
 use Rattle.x25_judge.specs.laws.Session.{end_of, Shows, IsDamaged, is_of_order}
 use Rattle.x25_judge.specs.Sides.{misses}
@@ -59,18 +61,19 @@ carried_any from (ua f) is_again is_judged j P h g = h
 carried_any from (dm f) is_again is_judged j P h g = h
 carried_any from (frmr f why) is_again is_judged j P h g = h
 
-pub next_goes : (from : Role) (j : Judge) (frame : PlainFrame) (t : Sides) (s : book.Seen) → Goes j (next_by j from frame t s) from t frame
-next_goes Dte j frame t s = carried_any Dte frame t.is_again s.verdict.is_judged _ (λ k. Goes j k Dte t frame)
+pub next_goes : (from : Role) (j : Judge) (frame : PlainFrame) (t : Sides) (s : book.Seen) (rule : Option Rule) → Goes j (tallies rule (next_by j from frame t s)) from t frame
+next_goes Dte j frame t s rule = carried_any Dte frame t.is_again s.verdict.is_judged _ (λ k. Goes j (tallies rule k) Dte t frame)
     (record { own = refl; opposite = refl; window = refl; held = refl; other_held = refl })
     (λ c. record { own = refl; opposite = refl; window = refl; held = refl; other_held = refl })
-next_goes Dce j frame t s = carried_any Dce frame t.is_again s.verdict.is_judged _ (λ k. Goes j k Dce t frame)
+next_goes Dce j frame t s rule = carried_any Dce frame t.is_again s.verdict.is_judged _ (λ k. Goes j (tallies rule k) Dce t frame)
     (record { own = refl; opposite = refl; window = refl; held = refl; other_held = refl })
     (λ c. record { own = refl; opposite = refl; window = refl; held = refl; other_held = refl })
 
 pub goes : (j : Judge) (line : List ℕ) (from : Role) (octets : List ℕ) (frame : PlainFrame) → Shows line from octets frame → Goes j (answer_to j line).next from (seen_by j from frame) frame
 goes j line from octets frame shows =
     let t = seen_by j from frame in
-    subst (λ (a : Answer). Goes j a.next from t frame) (sym (answered j line from octets frame shows)) (next_goes from j frame t (book.sees from j.reading frame (is_some t.rule) j.book))
+    let s = book.sees from j.reading frame (breaks_order t.rule) j.book in
+    subst (λ (a : Answer). Goes j a.next from t frame) (sym (answered j line from octets frame shows)) (next_goes from j frame t s (all_told t.rule s.verdict.rule))
 
 -- ---- the judge behind octets that are damaged
 
@@ -81,7 +84,7 @@ pub record Past (j k : Judge) (from : Role) : Type 0 where
   pub held : held_of from k ≡ held_of from j
   pub other_held : held_of (other from) k ≡ held_of (other from) j
 
-next_past : (from : Role) (e : FrameError) (j : Judge) → Past j (next_missed from e j) from
+next_past : (from : Role) (e : FrameError) (j : Judge) → Past j (tallies (no_frame e) (next_missed from e j)) from
 next_past Dte e j = record { own = refl; opposite = refl; window = refl; held = refl; other_held = refl }
 next_past Dce e j = record { own = refl; opposite = refl; window = refl; held = refl; other_held = refl }
 
@@ -106,19 +109,23 @@ stands j Dce = record { own = refl; opposite = refl; none = refl }
 -- ---- what is told
 
 pub told_of_order : (r : Option Rule) (packet : Option PacketRule) → is_of_order r ≡ false → is_of_order (all_told r packet) ≡ false
-told_of_order (Some rule) packet h = h
-told_of_order None None h = refl
+told_of_order r None h = h
 told_of_order None (Some packet) h = refl
+told_of_order (Some rule) (Some packet) h = cond_both (is_of_manners rule && not (is_of_manners (Packet packet))) (Some (Packet packet)) (Some rule) (λ (o : Option Rule). is_of_order o ≡ false) (λ _. refl) (λ _. h)
 
 told_none : (r : Option Rule) (packet : Option PacketRule) → is_some (all_told r packet) ≡ false → r ≡ None
-told_none (Some rule) packet h = absurd (both_ways true h refl)
 told_none None packet h = refl
+told_none (Some rule) None h = absurd (both_ways true h refl)
+told_none (Some rule) (Some packet) h = absurd (both_ways (is_some (all_told (Some rule) (Some packet))) h told)
+  where
+    told : is_some (all_told (Some rule) (Some packet)) ≡ true
+    told = cond_both (is_of_manners rule && not (is_of_manners (Packet packet))) (Some (Packet packet)) (Some rule) (λ (o : Option Rule). is_some o ≡ true) (λ _. refl) (λ _. refl)
 
 -- no fault: no rule of the link layer is told
 pub none_told : (j : Judge) (line : List ℕ) (from : Role) (octets : List ℕ) (frame : PlainFrame) → Shows line from octets frame → (answer_to j line).is_faulty ≡ false → (seen_by j from frame).rule ≡ None
 none_told j line from octets frame shows quiet =
     let t = seen_by j from frame in
-    let v = (book.sees from j.reading frame (is_some t.rule) j.book).verdict in
+    let v = (book.sees from j.reading frame (breaks_order t.rule) j.book).verdict in
     let r = remark_of j from frame t in
     let here = sym (ap (λ (a : Answer). a.is_faulty) (answered j line from octets frame shows)) ∙ quiet in
-    told_none t.rule v.rule (or_parts (is_some r.rule) (j.is_strict && not r.is_judged) here).0
+    told_none t.rule v.rule (or_parts (is_some r.rule) (is_open j.strictness r) here).0

@@ -1,6 +1,6 @@
 -- SABM and UA begin the numbers of both ends.
 use Rattle.std.proofs.Common.{◌≡◌, ◌==◌, ℕ, ◌+◌, ◌%◌, min, arith, Bool, true, false, List, [], ◌∷◌, length, Option, Some, None, Result, Ok, Err, refl, sym, ap, ◌∙◌, subst}
-use Rattle.std.specs.Prelude.{is_some, not, ◌&&◌}
+use Rattle.std.specs.Prelude.{not, ◌&&◌}
 use Rattle.std.proofs.lemmas.Bool.{cond_both, ne_eqb, and_right, cond-false}
 use Rattle.std.proofs.lemmas.List.{length-set}
 use Rattle.x25_bits.specs.declared.role.Role.{Role}
@@ -13,10 +13,12 @@ use Rattle.x25_frame.specs.Reading.{frame_of}
 use Rattle.x25_frame.specs.declared.error.FrameError.{FrameError}
 use Rattle.x25_packet_judge.specs.Book as book
 use Rattle.x25_judge.specs.Held.{keeps, kept, none_held}
-use Rattle.x25_judge.specs.Judge.{begins, held_of, sides_of, seen_by, next_missed, read_of, sent_of, answer_to}
+use Rattle.x25_judge.specs.Judge.{all_told, begins, held_of, sides_of, seen_by, next_missed, no_frame, tallies, read_of, sent_of, answer_to}
+use Rattle.x25_judge.specs.Rule.{breaks_order}
 use Rattle.x25_judge.specs.Sides as sides
 use Rattle.x25_judge.specs.Way as way
 use Rattle.x25_judge.specs.declared.judge.Judge.{Judge}
+use Rattle.x25_judge.specs.declared.judge.Strictness.{Strictness}
 use Rattle.x25_judge.specs.declared.note.Note.TheVariants.{PollAgain, PollUnseen}
 use Rattle.x25_judge.specs.declared.rule.Rule.TheVariants.{NoPoll, UaUnasked}
 use Rattle.x25_judge.specs.declared.sides.End.{End}
@@ -60,22 +62,23 @@ goes_stays window j k from t frame g h = record { rooms = rooms from g; counts =
     rooms Dce g Dte = opposite Dce g
     rooms Dce g Dce = own Dce g
 
-missed_stays : (window : ℕ) (j : Judge) (from : Role) (e : FrameError) → Stays window j → Stays window (next_missed from e j)
+missed_stays : (window : ℕ) (j : Judge) (from : Role) (e : FrameError) → Stays window j → Stays window (tallies (no_frame e) (next_missed from e j))
 missed_stays window j Dte e h = record { rooms = rooms; counts = h.counts }
   where
-    rooms : (r : Role) → length (held_of r (next_missed Dte e j)) ≡ 8
+    rooms : (r : Role) → length (held_of r (tallies (no_frame e) (next_missed Dte e j))) ≡ 8
     rooms Dte = h.rooms Dte
     rooms Dce = h.rooms Dce
 missed_stays window j Dce e h = record { rooms = rooms; counts = h.counts }
   where
-    rooms : (r : Role) → length (held_of r (next_missed Dce e j)) ≡ 8
+    rooms : (r : Role) → length (held_of r (tallies (no_frame e) (next_missed Dce e j))) ≡ 8
     rooms Dte = h.rooms Dte
     rooms Dce = h.rooms Dce
 
 read_stays : (window : ℕ) (j : Judge) (from : Role) (octets : List ℕ) (r : Result PlainFrame FrameError) → Stays window j → Stays window (read_of j from octets r).next
 read_stays window j from octets (Ok frame) h =
     let t = seen_by j from frame in
-    goes_stays window j _ from t frame (next_goes from j frame t (book.sees from j.reading frame (is_some t.rule) j.book)) h
+    let s = book.sees from j.reading frame (breaks_order t.rule) j.book in
+    goes_stays window j _ from t frame (next_goes from j frame t s (all_told t.rule s.verdict.rule)) h
 read_stays window j from octets (Err e) h = missed_stays window j from e h
 
 sent_stays : (window : ℕ) (j : Judge) (s : Option (Role × List ℕ)) → Stays window j → Stays window (sent_of j s).next
@@ -90,11 +93,11 @@ lines_stay : (window : ℕ) (j : Judge) (lines : List (List ℕ)) → Stays wind
 lines_stay window j [] h = h
 lines_stay window j (line ∷ lines) h = lines_stay window (answer_to j line).next lines (line_stays window j line h)
 
-begins_so : (window : ℕ) (reading : Reading) (is_strict : Bool) → Stays window (begins window reading is_strict)
+begins_so : (window : ℕ) (reading : Reading) (strictness : Strictness) → Stays window (begins window reading strictness)
 unfolding none_held
-begins_so window reading is_strict = record { rooms = rooms; counts = refl }
+begins_so window reading strictness = record { rooms = rooms; counts = refl }
   where
-    rooms : (r : Role) → length (held_of r (begins window reading is_strict)) ≡ 8
+    rooms : (r : Role) → length (held_of r (begins window reading strictness)) ≡ 8
     rooms Dte = refl
     rooms Dce = refl
 
@@ -184,15 +187,15 @@ begun Dce j k t f g b rooms Dce = record { up = ap (λ (e : End). sides.may_run 
 begun Dce j k t f g b rooms Dte = record { up = ap (λ (e : End). sides.may_run e.phase) g.opposite ∙ b.other_up; way = ap (λ (e : End). e.way) g.opposite ∙ b.opposite; room = rooms Dte }
 
 pub set_ups_begin : SetUpsBegin
-set_ups_begin window reading is_strict lines from asks accepts asked accepted p f shows_asks shows_accepts unanswered =
-    let j = after (begins window reading is_strict) lines in
+set_ups_begin window reading strictness lines from asks accepts asked accepted p f shows_asks shows_accepts unanswered =
+    let j = after (begins window reading strictness) lines in
     let k = (answer_to j asks).next in
     let g = goes j asks from asked (sabm p) shows_asks in
     let asking : Asks (end_of from k) =
     subst (λ (e : End). Asks e) (sym g.own) (sabm_asks j.window _ p (sides_of from j) (λ (a : IsAnswered (sides_of from j).own.phase). unanswered (subst (λ (e : End). IsAnswered e.phase) (stands j from).own a))) in
     let at_other : Asks (sides_of (other from) k).other = subst (λ (e : End). Asks e) (sym ((stands k (other from)).opposite ∙ ap (λ r. end_of r k) (other_twice from))) asking in
     let l = (answer_to k accepts).next in
-    let stays = line_stays window k accepts (line_stays window j asks (lines_stay window (begins window reading is_strict) lines (begins_so window reading is_strict))) in
+    let stays = line_stays window k accepts (line_stays window j asks (lines_stay window (begins window reading strictness) lines (begins_so window reading strictness))) in
     record {
       up = begun (other from) k l (seen_by k (other from) (ua f)) f (goes k accepts (other from) accepted (ua f) shows_accepts) (ua_begins k.window _ f (sides_of (other from) k) at_other) stays.rooms;
       counts = stays.counts;

@@ -52,6 +52,9 @@ IsInOrder t is_same ns m u = IsNew t ns m u ⊎ IsOld t is_same ns m u
 told_never : (v w : Way) (rule : Rule) (P : Told → Type 0) → w.is_missed ≡ false → (way.told v rule w).rule ≡ None → P (way.told v rule w)
 told_never v w rule P whole = cond_both w.is_missed (way.notes SentBehindDamage v) (way.breaks rule v) (λ (t : Told). t.rule ≡ None → P t) (λ missed. absurd (both_ways w.is_missed whole missed)) (λ _ e. never_told rule e)
 
+told_again_never : (v w : Way) (rule : Rule) (P : Told → Type 0) → w.is_missed ≡ false → (way.told_again v rule w).rule ≡ None → P (way.told_again v rule w)
+told_again_never v w rule P whole = cond_both w.is_missed (way.notes SentBehindDamage v) (way.sent_before (way.breaks rule v)) (λ (t : Told). t.rule ≡ None → P t) (λ missed. absurd (both_ways w.is_missed whole missed)) (λ _ e. never_told rule e)
+
 sure_if : (b : Bool) (s : Sight) → b ≡ false → way.is_sure_sight s ≡ true → way.is_sure_sight (if b then Deaf else s) ≡ true
 sure_if true s e h = absurd (both_ways true e refl)
 sure_if false s e h = h
@@ -119,7 +122,7 @@ module _ (w : Way) (m u : ℕ) (h : Exact w m u) where
     -- a number that was sent goes again
     again_silent : (v : Way) → 0 < back → back ≤ m → Exact v m u → P (way.again is_same back v w)
     again_silent v some there exact =
-        cond_both (not is_same && (nat_le back w.kept && not w.is_missed)) (way.sent_before (way.breaks Differs v)) (way.sent_before (way.notes SentAgain v)) P
+        cond_both (way.is_other is_same back w) (way.sent_before (way.breaks Differs v)) (way.sent_before (way.notes SentAgain v)) P
         (λ _ e. never_told Differs e)
         (λ test _. inr (record { n = m - back; number = number w.next h.next there; before = before back some there; near = near back low; same = same test; exact = exact }))
       where
@@ -147,13 +150,23 @@ module _ (w : Way) (m u : ℕ) (h : Exact w m u) where
 
     unexplained_silent : P (way.unexplained is_same back w)
     unexplained_silent =
-        cond_both (back == 0) (way.told (way.grown 1 w) (Skips (way.place w)) w) _ P
-        (λ _. told_never (way.grown 1 w) w (Skips (way.place w)) (λ t. IsInOrder t is_same ns m u) h.whole)
-        (λ _. cond_both (nat_lt back w.behind) (way.told (way.repeated back w) (Skips (way.place w)) w) _ P
-        (λ _. told_never (way.repeated back w) w (Skips (way.place w)) (λ t. IsInOrder t is_same ns m u) h.whole)
-        (λ _. cond_both (way.was_sent is_same back w) (way.told (way.repeated back w) (Repeats (way.place w)) w) (way.told (way.grown (9 - back) w) (Skips (way.place w)) w) P
-        (λ _. told_never (way.repeated back w) w (Repeats (way.place w)) (λ t. IsInOrder t is_same ns m u) h.whole)
-        (λ _. told_never (way.grown (9 - back) w) w (Skips (way.place w)) (λ t. IsInOrder t is_same ns m u) h.whole)))
+        cond_both (back == 0) (way.skips (way.has_room 1 w) 1 w) _ P
+        (λ _. skips_never (way.has_room 1 w) 1)
+        (λ _. cond_both (way.is_other is_same back w) (if way.has_room (9 - back) w then way.skips true (9 - back) w else way.told_again (way.repeated back w) Differs w) _ P
+        (λ _. cond_both (way.has_room (9 - back) w) (way.skips true (9 - back) w) (way.told_again (way.repeated back w) Differs w) P
+        (λ _. skips_never true (9 - back))
+        (λ _. again_never Differs))
+        (λ _. cond_both (nat_lt back w.behind) (way.told_again (way.repeated back w) (Skips (way.place w)) w) _ P
+        (λ _. again_never (Skips (way.place w)))
+        (λ _. cond_both (way.was_sent is_same back w) (way.told_again (way.repeated back w) (Repeats (way.place w)) w) (way.skips (nat_le back w.ever || way.has_room (9 - back) w) (9 - back) w) P
+        (λ _. again_never (Repeats (way.place w)))
+        (λ _. skips_never (nat_le back w.ever || way.has_room (9 - back) w) (9 - back)))))
+      where
+        skips_never : (in_order : Bool) (c : ℕ) → P (way.skips in_order c w)
+        skips_never in_order c = told_never (way.grown c w) w (if in_order then Skips (way.place w) else OverWindow 7) (λ t. IsInOrder t is_same ns m u) h.whole
+
+        again_never : (rule : Rule) → P (way.told_again (way.repeated back w) rule w)
+        again_never rule = told_again_never (way.repeated back w) w rule (λ t. IsInOrder t is_same ns m u) h.whole
 
     -- the place from which frames are sent again is one that was sent
     is_near : (back == w.behind || (nat_le (way.known_pending w) back && nat_lt back w.behind)) ≡ true → back ≤ m
@@ -189,8 +202,8 @@ module _ (w : Way) (m u : ℕ) (h : Exact w m u) where
 
     sent_new_silent : (window : ℕ) → window ≤ 7 → back ≤ 0 → P (way.sent_new window w)
     sent_new_silent window small none =
-        cond_both (way.is_sure w && nat_le window w.pending) (way.breaks (OverWindow window) (way.unheard (way.grown 1 w))) (way.quiet (way.grown 1 w)) P
-        (λ _ e. never_told (OverWindow window) e)
+        cond_both (way.is_sure w && nat_le window w.pending) (way.breaks (OverWindow (way.passed window w)) (way.grown 1 w)) (way.quiet (way.grown 1 w)) P
+        (λ _ e. never_told (OverWindow (way.passed window w)) e)
         (λ test _. inl (record { number = number w.next h.next none; window = near w.pending h.pending (room test); exact = grown_exact (room test) }))
       where
         number : (x : ℕ) → x ≡ m % 8 → apart x ns ≤ 0 → ns % 8 ≡ m % 8

@@ -166,9 +166,12 @@ grown_numbered w Fit Fits c small fits h = record { counts = λ hears. go (hears
 told_way : (v w : Way) (rule : Rule) (P : Way → Type 0) → P v → P (way.told v rule w).way
 told_way v w rule P h = cond_both w.is_missed (way.notes SentBehindDamage v) (way.breaks rule v) (λ (t : Told). P t.way) (λ _. h) (λ _. h)
 
+told_again_way : (v w : Way) (rule : Rule) (P : Way → Type 0) → P v → P (way.told_again v rule w).way
+told_again_way v w rule P h = cond_both w.is_missed (way.notes SentBehindDamage v) (way.sent_before (way.breaks rule v)) (λ (t : Told). P t.way) (λ _. h) (λ _. h)
+
 again_way : (is_same : Bool) (back : ℕ) (v w : Way) (P : Way → Type 0) → P v → P (way.again is_same back v w).way
 again_way is_same back v w P h =
-    cond_both (not is_same && (nat_le back w.kept && not w.is_missed)) (way.sent_before (way.breaks Differs v)) (way.sent_before (way.notes SentAgain v)) (λ (t : Told). P t.way) (λ _. h) (λ _. h)
+    cond_both (way.is_other is_same back w) (way.sent_before (way.breaks Differs v)) (way.sent_before (way.notes SentAgain v)) (λ (t : Told). P t.way) (λ _. h) (λ _. h)
 
 module _ (w : Way) (Fit Fits : ℕ → ℕ → Type 0) (h : Numbered w Fit) (more : (m u c : ℕ) → 1 ≤ c → w.next ≡ m % 8 → Fit m u → Fits (m + c) u) where
   -- in place of the numbers at a place that isn't the next one
@@ -203,15 +206,22 @@ module _ (w : Way) (Fit Fits : ℕ → ℕ → Type 0) (h : Numbered w Fit) (mor
 
     unexplained_numbered : (is_same : Bool) → P (way.unexplained is_same back w)
     unexplained_numbered is_same =
-        cond_both (back == 0) (way.told (way.grown 1 w) (Skips (way.place w)) w) _ P
-        (λ test. told_way (way.grown 1 w) w (Skips (way.place w)) (λ v. Numbered v Fits) (grown_by 1 (omega arith) (omega arith)))
+        cond_both (back == 0) (way.skips (way.has_room 1 w) 1 w) _ P
+        (λ test. skips_numbered (way.has_room 1 w) 1 (omega arith) (omega arith))
         (λ test. let gone = some_back (apart_low w.next ns) test in
-        cond_both (nat_lt back w.behind) (way.told (way.repeated back w) (Skips (way.place w)) w) _ P
-        (λ _. told_way (way.repeated back w) w (Skips (way.place w)) (λ v. Numbered v Fits) (repeated_numbered gone))
-        (λ _. cond_both (way.was_sent is_same back w) (way.told (way.repeated back w) (Repeats (way.place w)) w) (way.told (way.grown (9 - back) w) (Skips (way.place w)) w) P
-        (λ _. told_way (way.repeated back w) w (Repeats (way.place w)) (λ v. Numbered v Fits) (repeated_numbered gone))
-        (λ _. told_way (way.grown (9 - back) w) w (Skips (way.place w)) (λ v. Numbered v Fits) (grown_by (9 - back) (one back (apart_low w.next ns)) (eight back gone)))))
+        cond_both (way.is_other is_same back w) (if way.has_room (9 - back) w then way.skips true (9 - back) w else way.told_again (way.repeated back w) Differs w) _ P
+        (λ _. cond_both (way.has_room (9 - back) w) (way.skips true (9 - back) w) (way.told_again (way.repeated back w) Differs w) P
+        (λ _. skips_numbered true (9 - back) (one back (apart_low w.next ns)) (eight back gone))
+        (λ _. told_again_way (way.repeated back w) w Differs (λ v. Numbered v Fits) (repeated_numbered gone)))
+        (λ _. cond_both (nat_lt back w.behind) (way.told_again (way.repeated back w) (Skips (way.place w)) w) _ P
+        (λ _. told_again_way (way.repeated back w) w (Skips (way.place w)) (λ v. Numbered v Fits) (repeated_numbered gone))
+        (λ _. cond_both (way.was_sent is_same back w) (way.told_again (way.repeated back w) (Repeats (way.place w)) w) (way.skips (nat_le back w.ever || way.has_room (9 - back) w) (9 - back) w) P
+        (λ _. told_again_way (way.repeated back w) w (Repeats (way.place w)) (λ v. Numbered v Fits) (repeated_numbered gone))
+        (λ _. skips_numbered (nat_le back w.ever || way.has_room (9 - back) w) (9 - back) (one back (apart_low w.next ns)) (eight back gone)))))
       where
+        skips_numbered : (in_order : Bool) (c : ℕ) → 1 ≤ c → c ≤ 8 → P (way.skips in_order c w)
+        skips_numbered in_order c some few = told_way (way.grown c w) w (if in_order then Skips (way.place w) else OverWindow 7) (λ v. Numbered v Fits) (grown_by c some few)
+
         one : (b : ℕ) → b ≤ 7 → 1 ≤ 9 - b
         one b low = omega arith
 
@@ -229,17 +239,9 @@ module _ (w : Way) (Fit Fits : ℕ → ℕ → Type 0) (h : Numbered w Fit) (mor
     -- a window that is full counts seven at least
     sent_new_numbered : (window : ℕ) → 7 ≤ window → P (way.sent_new window w)
     sent_new_numbered window large =
-        cond_both (way.is_sure w && nat_le window w.pending) (way.breaks (OverWindow window) (way.unheard (way.grown 1 w))) (way.quiet (way.grown 1 w)) P
-        (λ test. let parts = and_parts (way.is_sure w) (nat_le window w.pending) test in over (leb-true window w.pending parts.1))
+        cond_both (way.is_sure w && nat_le window w.pending) (way.breaks (OverWindow (way.passed window w)) (way.grown 1 w)) (way.quiet (way.grown 1 w)) P
         (λ _. grown_by 1 (omega arith) (omega arith))
-      where
-        over : window ≤ w.pending → Numbered (way.unheard (way.grown 1 w)) Fits
-        over full = cond_both (way.is_sure (way.grown 1 w)) (way.astray (way.grown 1 w)) (way.grown 1 w) (λ v. Numbered v Fits)
-            (λ sure. absurd (never w.pending (ltb-false 7 (min (w.pending + 1) 255) (sight_if (nat_lt 7 (min (w.pending + 1) 255)) w.sight sure).0) full))
-            (λ _. grown_by 1 (omega arith) (omega arith))
-          where
-            never : (p : ℕ) → min (p + 1) 255 ≤ 7 → window ≤ p → ⊥
-            never p few full = omega (arith, large)
+        (λ _. grown_by 1 (omega arith) (omega arith))
 
     pub sent_numbered : (window : ℕ) (is_poll is_same : Bool) → 7 ≤ window → P (way.sent window ns is_poll is_same w)
     sent_numbered window is_poll is_same large =

@@ -6,6 +6,7 @@ use Rattle.x25_decode.specs.declared.answer.Reading.{Reading}
 use Rattle.x25_frame.specs.Frame.{PlainFrame, sabm, ua}
 use Rattle.x25_judge.specs.Judge.{begins, answer_to}
 use Rattle.x25_judge.specs.declared.judge.Judge.{Judge}
+use Rattle.x25_judge.specs.declared.judge.Strictness.{Strictness}
 use Rattle.x25_judge.specs.declared.sides.Phase.{Phase}
 use Rattle.x25_judge.specs.declared.sides.Phase.TheVariants.{Answered}
 use Rattle.x25_line.specs.laws.InWindow.{IsPrefix}
@@ -53,8 +54,8 @@ pub record SetsUp (j : Judge) (window : ℕ) : Type 0 where
 -- wherever a trace shows SABM of an end and then UA of the other
 abbrev pub SetUpsBegin : Type 0
 SetUpsBegin =
-    (window : ℕ) (reading : Reading) (is_strict : Bool) (lines : List (List ℕ)) (from : Role)
+    (window : ℕ) (reading : Reading) (strictness : Strictness) (lines : List (List ℕ)) (from : Role)
     (asks accepts asked accepted : List ℕ) (p f : Bool)
     → Shows asks from asked (sabm p) → Shows accepts (other from) accepted (ua f)
-    → (IsAnswered (end_of from (after (begins window reading is_strict) lines)).phase → ⊥)
-    → SetsUp (after (after (begins window reading is_strict) lines) (asks ∷ accepts ∷ [])) window
+    → (IsAnswered (end_of from (after (begins window reading strictness) lines)).phase → ⊥)
+    → SetsUp (after (after (begins window reading strictness) lines) (asks ∷ accepts ∷ [])) window

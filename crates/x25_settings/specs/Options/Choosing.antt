@@ -7,7 +7,7 @@ use Rattle.x25_settings.specs.declared.options.Chosen.{Chosen}
 use Rattle.x25_settings.specs.declared.options.End.{End}
 use Rattle.x25_settings.specs.declared.options.End.TheVariants.{Dte, Dce}
 use Rattle.x25_settings.specs.declared.options.Flag.{Flag}
-use Rattle.x25_settings.specs.declared.options.Flag.TheVariants.{Down, Long, SaySizes, Tap, Strict, Wide}
+use Rattle.x25_settings.specs.declared.options.Flag.TheVariants.{Down, Long, Manners, SaySizes, Tap, Strict, Wide}
 use Rattle.x25_settings.specs.declared.options.Numbered.{Numbered}
 use Rattle.x25_settings.specs.declared.options.Numbered.TheVariants.{Window, Tries, Channels}
 use Rattle.x25_settings.specs.declared.options.Judging.{Judging}
@@ -16,11 +16,12 @@ use Rattle.x25_settings.specs.declared.options.Simulation.{Simulation}
 use Rattle.x25_settings.specs.declared.words.Task.{Task}
 use Rattle.x25_settings.specs.declared.words.Task.TheVariants.{Decode, Vectors, Sim, Station, Judge, Deframe, Frame}
 use Rattle.x25_settings.specs.Options.{most_of, nothing, chosen_flag, with_flag, chosen_number, with_number, settled}
-use Rattle.x25_settings.specs.Options.{settled_at, judging_in}
+use Rattle.x25_settings.specs.Options.{settled_at, judging_in, of_a_judge}
 
 abbrev pub flag_in : List ℕ → Option Flag
 flag_in word = if bytes_eq word (codes "--down") then Some Down
     else if bytes_eq word (codes "--long") then Some Long
+    else if bytes_eq word (codes "--manners") then Some Manners
     else if bytes_eq word (codes "--say-sizes") then Some SaySizes
     else if bytes_eq word (codes "--tap") then Some Tap
     else if bytes_eq word (codes "--strict") then Some Strict
@@ -66,9 +67,9 @@ chosen_in c (word ∷ text ∷ rest) = if is_some (flag_in word)
     then option_and_then (λ c. chosen_in c (text ∷ rest)) (put_word c word)
     else option_and_then (λ c. chosen_in c rest) (put_number c word text)
 
--- `--strict` is of `judge` alone
+-- `--manners` and `--strict` are of `judge` alone
 abbrev pub simulated : Chosen → Option Simulation
-simulated c = if c.strict then None else Some (settled c)
+simulated c = if of_a_judge c then None else Some (settled c)
 
 abbrev pub simulation_in : List (List ℕ) → Option Simulation
 simulation_in words = option_and_then simulated (chosen_in nothing words)
@@ -78,7 +79,7 @@ end_in word = if bytes_eq word (codes "dte") then Some Dte else if bytes_eq word
 
 -- `--down` and `--tap` are of `sim` alone
 abbrev pub placed : End → Chosen → Option Place
-placed end c = if (c.down || c.tap) || c.strict then None else Some (settled_at end c)
+placed end c = if (c.down || c.tap) || of_a_judge c then None else Some (settled_at end c)
 
 abbrev pub place_in : List (List ℕ) → Option End → Option Place
 place_in words None = None
@@ -89,7 +90,7 @@ abbrev pub station_in : List (List ℕ) → Option Place
 station_in [] = None
 station_in (word ∷ words) = place_in words (end_in word)
 
--- `--k`, `--long`, `--strict` and `--wide` alone are of `judge`
+-- `--k`, `--long`, `--manners`, `--strict` and `--wide` alone are of `judge`
 abbrev pub judging_of : Chosen → Option Judging
 judging_of c = if (c.down || c.tap) || c.say_sizes then None
     else if is_some c.n2 || is_some c.channels then None else Some (judging_in c)

@@ -6,17 +6,17 @@ use Rattle.x25_judge.proofs.judging.judge_lines.Goals as goal
 
 pub returns-in_err-held-clause-runs : goal.returns-in_err-held-clause-runs
 returns-in_err-held-clause-runs g c =
-    let p = program (begins c.args.window c.args.reading c.args.is_strict) in
+    let p = program (begins c.args.window c.args.reading c.args.strictness) in
     none_ran g.R.Source g.W.Sink p c.args.reader.now c.args.writer.now c.from_residual-in_err-held.result c.from_residual-in_err-held.ensures.1
 
 pub returns-in_err-answerer-clause-runs : goal.returns-in_err-answerer-clause-runs
 returns-in_err-answerer-clause-runs g c =
-    let p = program (begins c.args.window c.args.reading c.args.is_strict) in
+    let p = program (begins c.args.window c.args.reading c.args.strictness) in
     none_ran g.R.Source g.W.Sink p c.args.reader.now c.args.writer.now c.from_residual-in_err-answerer.result c.from_residual-in_err-answerer.ensures.1
 
 pub returns-clause-runs : goal.returns-clause-runs
 returns-clause-runs g c =
-    let j = begins c.args.window c.args.reading c.args.is_strict in
+    let j = begins c.args.window c.args.reading c.args.strictness in
     let written = g.W.Sink.contents c.args.writer.now in
     let made = c.in_ok-answerer.ensures in
     record {

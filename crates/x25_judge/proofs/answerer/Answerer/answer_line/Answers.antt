@@ -7,6 +7,6 @@ use Rattle.x25_judge.proofs.answerer.Answerer.answer_line.Goals as goal
 pub returns-clause-tells : goal.returns-clause-tells
 returns-clause-tells g c = λ old told first line tells.
     let next = g.W.Sink.contents c.tell.new.writer in
-    let text : c.as_slice.result.now ≡ (answer_to c.args.self.now.judge first).text = c.as_slice.ensures ∙ c.judge_line-is_faulty.ensures.text first line in
+    let text : c.as_slice.result.now ≡ (answer_to c.args.self.now.judge first).text = c.as_slice.ensures ∙ c.judge_line-counts.ensures.text first line in
     subst (λ line. MatchResult c.tell.result (λ _. Tells old next c.tell.new.self (told ++ line)) (λ _. AppendsPrefix old next (told ++ line))) text
-    (c.tell.ensures.tells old told (subst (λ output. Tells old (g.W.Sink.contents c.args.writer.now) output told) (sym c.judge_line-is_faulty.ensures.output) tells))
+    (c.tell.ensures.tells old told (subst (λ output. Tells old (g.W.Sink.contents c.args.writer.now) output told) (sym c.judge_line-counts.ensures.output) tells))

@@ -15,10 +15,10 @@ returns-in-Some-clause-next c = λ first line.
     let is = subst (λ o. MatchOption o (most_line < length first) (λ held. (held.now ≡ first) × (length first ≤ most_line))) c.in-Some.is line in
     c.answer.ensures.next ∙ ap (λ l. (answer_to c.args.self.now.judge l).next) is.0
 
-pub returns-in-Some-clause-is_faulty : goal.returns-in-Some-clause-is_faulty
-returns-in-Some-clause-is_faulty c = λ first line.
+pub returns-in-Some-clause-counts : goal.returns-in-Some-clause-counts
+returns-in-Some-clause-counts c = λ first line.
     let is = subst (λ o. MatchOption o (most_line < length first) (λ held. (held.now ≡ first) × (length first ≤ most_line))) c.in-Some.is line in
-    c.answer.ensures.is_faulty ∙ ap (λ l. (answer_to c.args.self.now.judge l).is_faulty) is.0
+    c.answer.ensures.counts ∙ ap (λ l. (answer_to c.args.self.now.judge l).counts) is.0
 
 pub returns-in-None-clause-text : goal.returns-in-None-clause-text
 returns-in-None-clause-text c = λ first line.
@@ -31,7 +31,7 @@ returns-in-None-clause-next c = λ first line.
     let long = subst (λ o. MatchOption o (most_line < length first) (λ held. (held.now ≡ first) × (length first ≤ most_line))) c.in-None.is line in
     sym (ap (λ (a : Answer). a.next) (long_answer c.args.self.now.judge first (c.long_lines_send_nothing.ensures first long)))
 
-pub returns-in-None-clause-is_faulty : goal.returns-in-None-clause-is_faulty
-returns-in-None-clause-is_faulty c = λ first line.
+pub returns-in-None-clause-counts : goal.returns-in-None-clause-counts
+returns-in-None-clause-counts c = λ first line.
     let long = subst (λ o. MatchOption o (most_line < length first) (λ held. (held.now ≡ first) × (length first ≤ most_line))) c.in-None.is line in
-    sym (ap (λ (a : Answer). a.is_faulty) (long_answer c.args.self.now.judge first (c.long_lines_send_nothing.ensures first long)))
+    sym (ap (λ (a : Answer). a.counts) (long_answer c.args.self.now.judge first (c.long_lines_send_nothing.ensures first long)))
