@@ -1,11 +1,7 @@
 //! Some bits of one octet of which nothing is kept: a flag but its last 0 outside of a content, and seven 1 bits behind
 //! a flag.
-ghost use Rattle.std.specs.Prelude.{◌≡◌, ◌+◌, ◌*◌, ◌%◌, ◌/◌, ◌<◌, ◌≤◌, [], true, false, length, IfSome};
-ghost use Rattle.x25_bits.specs.FrameCheck.{bits_of};
-ghost use Rattle.x25_bits.specs.code.FitsSeen.{FitsSeen};
-ghost use Rattle.x25_bits.specs.code.Held.{Seen, seen_from, found_from};
-ghost use Rattle.x25_bits.specs.code.Reading.{part};
-ghost use Rattle.x25_bits.specs.code.Skips.{Skips};
+ghost use Rattle.std.specs.Prelude.{◌≡◌, ◌+◌, ◌*◌, ◌%◌, ◌/◌, ◌<◌, ◌≤◌, true, false, length, IfSome};
+ghost use Rattle.x25_bits.specs.code.Skips.{PassesOver};
 
 use crate::deframer::Deframer;
 use crate::scan::Scan;
@@ -29,12 +25,7 @@ impl Deframer {
     pub(crate) fn skip_at(&self, octets: &[u8], place: usize, end: usize) -> Option<Skipped>
         requires place { place < end }
         requires end { end ≤ 8 * length octets.now }
-        ensures skips { IfSome result (λ s. (v : Seen) → FitsSeen self.now v
-            → Skips s.scan (seen_from v (part place s.end (bits_of octets.now)))) }
-        ensures none { IfSome result (λ s. (v : Seen) → FitsSeen self.now v
-            → found_from v (part place s.end (bits_of octets.now)) ≡ []) }
-        ensures low { IfSome result (λ s. place < s.end) }
-        ensures high { IfSome result (λ s. s.end ≤ end) }
+        ensures { IfSome result (λ s. PassesOver self.now octets.now place end s) }
     {
         if !self.scan.is_open {
             return None;
@@ -52,12 +43,7 @@ impl Deframer {
         requires end { end ≤ 8 * length octets.now }
         requires opened { self.now.scan.is_open ≡ true }
         requires aborted { self.now.scan.is_aborted ≡ true }
-        ensures skips { IfSome result (λ s. (v : Seen) → FitsSeen self.now v
-            → Skips s.scan (seen_from v (part place s.end (bits_of octets.now)))) }
-        ensures none { IfSome result (λ s. (v : Seen) → FitsSeen self.now v
-            → found_from v (part place s.end (bits_of octets.now)) ≡ []) }
-        ensures low { IfSome result (λ s. place < s.end) }
-        ensures high { IfSome result (λ s. s.end ≤ end) }
+        ensures { IfSome result (λ s. PassesOver self.now octets.now place end s) }
     {
         if place % 8 != 0 {
             return None;
@@ -90,12 +76,7 @@ impl Deframer {
         requires end { end ≤ 8 * length octets.now }
         requires opened { self.now.scan.is_open ≡ true }
         requires going { self.now.scan.is_aborted ≡ false }
-        ensures skips { IfSome result (λ s. (v : Seen) → FitsSeen self.now v
-            → Skips s.scan (seen_from v (part place s.end (bits_of octets.now)))) }
-        ensures none { IfSome result (λ s. (v : Seen) → FitsSeen self.now v
-            → found_from v (part place s.end (bits_of octets.now)) ≡ []) }
-        ensures low { IfSome result (λ s. place < s.end) }
-        ensures high { IfSome result (λ s. s.end ≤ end) }
+        ensures { IfSome result (λ s. PassesOver self.now octets.now place end s) }
     {
         if place % 8 != 1 {
             return None;

@@ -161,7 +161,7 @@ impl Layer {
     /// of where the channel isn't configured, where it is for more than 4,096 octets, and where two of the channel are
     /// kept. The layer is as before.
     pub fn keep(&mut self, channel: u16, memory: Vec<u8>)
-        ensures layer { FitsStill self.old self.new }
+        ensures layer { (c : LayerSettings) (l : State) → FitsLayer c self.old l → FitsLayer c self.new l }
         ensures aside { self.new.memory ≡ self.old.memory }
     {
         if self.circuit(channel).is_some() {
@@ -172,7 +172,7 @@ impl Layer {
     // Keeps it for a configured channel.
     fn keep_on(&mut self, channel: u16, memory: Vec<u8>)
         requires { is_channel (length self.old.circuits.items) channel ≡ true }
-        ensures layer { FitsStill self.old self.new }
+        ensures layer { (c : LayerSettings) (l : State) → FitsLayer c self.old l → FitsLayer c self.new l }
         ensures aside { self.new.memory ≡ self.old.memory }
     {
         let place = usize::from(channel) - 1;
