@@ -257,7 +257,7 @@ fn short_memory(
     }
 }
 
-// Puts a frame behind others, in memory that was set aside. It is spelled where it stays, so that its list isn't copied.
+// Puts a frame behind others, in memory that was set aside. It is spelled where it stays, so that no list is moved.
 #[inline(always)]
 fn put(made: &mut Vec<Vec<u8>>, from: Role, frame: &Frame, octets: Vec<u8>)
     requires place { vec_len made.old < vec_capacity made.old }
