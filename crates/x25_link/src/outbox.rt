@@ -283,7 +283,7 @@ fn memory<const ROOM: usize, const MOST: usize>(
     }
 }
 
-// Puts a frame behind others, in memory that was promised. It is spelled where it stays, so that its list isn't copied.
+// Puts a frame behind others, in memory that was promised. It is spelled where it stays, so that no list is moved.
 #[inline(always)]
 fn put(made: &mut Vec<Vec<u8>>, from: Role, frame: &Frame, octets: Vec<u8>)
     requires place { vec_len made.old < vec_capacity made.old }
