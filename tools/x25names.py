@@ -83,9 +83,14 @@ REFUSALS = {
 # The grounds of a FRMR, from the lowest bit of its third octet.
 GROUNDS = ("undefined control", "information that mustn't be there", "information too long", "invalid N(R)")
 
+# The type and the numbering plan of an address, which section 5.2.1.2 has.
+NUMBER_TYPES = {0: "network-dependent number", 1: "international number", 2: "national number"}
+PLANS = {1: "E.164", 3: "X.121"}
+
 CAUSED = re.compile(r"(CLEAR|RESET|RESTART|cleared|wasreset|restarted)\b.* cause=(\d+)(?: diag=(\d+))?(?: |$)")
 DIAGNOSED = re.compile(r"(?:fault \S+|DIAG) diag=(\d+)(?: |$)")
 EQUIPPED = re.compile(r" fac=((?:[0-9a-f]{2})+)(?: |$)")
+TYPED = re.compile(r" (called|calling)=([0-9a-f])/([0-9a-f])/")
 FRAME_REFUSED = re.compile(r"(?:[<>] )?FRMR .*why=([0-9a-f]{6})$")
 CAUSES = {"CLEAR": CLEARING, "cleared": CLEARING, "RESET": RESETTING, "wasreset": RESETTING, "RESTART": RESTARTING, "restarted": RESTARTING}
 
@@ -104,6 +109,11 @@ def _grounds(octets):
     return ", ".join([f"control {octets[0]:02x}", f"V(S)={octets[1] >> 1 & 7} V(R)={octets[1] >> 5}", *said])
 
 
+def _typed(end, kind, plan):
+    """What an address says of itself."""
+    return f"{end}: {NUMBER_TYPES.get(kind, f'type {kind}')}, {PLANS.get(plan, f'plan {plan}')}"
+
+
 def words(text):
     """What the numbers of a text of `x25 decode`, or of an entry, say in words; nothing where it has no such numbers."""
     said = []
@@ -114,6 +124,8 @@ def words(text):
         said.append(_diagnostic(int(found[1])))
     elif "why=" in text and (found := FRAME_REFUSED.match(text)):
         said.append(_grounds(bytes.fromhex(found[1])))
+    if " A=1 " in text:
+        said += [_typed(end, int(kind, 16), int(plan, 16)) for end, kind, plan in TYPED.findall(text)]
     if "fac=" in text and (found := EQUIPPED.search(text)):
         said.append(facilities.words(bytes.fromhex(found[1])))
     return "; ".join(said)

@@ -25,12 +25,19 @@ CALL, ACCEPT, CLEAR, CLEARCONF, INT, INTCONF, RESET, RESETCONF = "0b", "0f", "13
 RESTART, RESTARTCONF, DIAG, REG, REGCONF = "fb", "ff", "f1", "f3", "f7"
 RR, RNR, REJ = 1, 5, 9
 ADDRESSES = [("", ""), ("1", "2"), ("", "12345"), ("123", ""), ("123456789012345", "543210987654321")]
+# Of addresses with their types and plans, which stand first: as a tool for tests has them, as half octets.
+TYPED = [("", ""), ("114930123", "1345"), ("", "132080753"), ("2012345", ""), ("1", "13"), ("50c0a80001", "10123"), ("13123456789012345", "115432109876543210987")]
 USER_DATA = ["c0", "c0ffee", "c0" * 16]
 
 
 def addresses(called, calling):
     """The octets of two addresses, as digits."""
     return f"{len(calling):x}{len(called):x}{called}{calling}" + "0" * ((len(called) + len(calling)) % 2)
+
+
+def typed(called, calling):
+    """The octets of two addresses with their types and plans, as half octets."""
+    return f"{len(called):02x}{len(calling):02x}{called}{calling}" + "0" * ((len(called) + len(calling)) % 2)
 
 
 def field(octets):
@@ -45,6 +52,9 @@ def forms():
         for kind in (CALL, ACCEPT):
             yield from ((bits, kind + end + rest) for end in ends for rest in ("", "00", *(f"00{user}" for user in USER_DATA)))
         yield bits, ACCEPT
+    for bits, kinds in (("9", (CALL, ACCEPT, CLEARCONF, CLEAR + "0541")), ("d", (CALL, ACCEPT))):
+        yield from ((bits, kind + typed(*pair) + rest) for kind in kinds for pair in TYPED for rest in ("", "00", "03420707"))
+    yield from (("9", kind) for kind in (ACCEPT, CLEARCONF, CLEAR + "05", CLEAR + "0541"))
     for facility in [*FACILITIES, *MARKED]:
         for kind in (CALL, ACCEPT, CLEARCONF, CLEAR + "0000"):
             yield "1", kind + ends[1] + field(facility)

@@ -195,7 +195,7 @@ class Dump(ToolCase):
 
     @support.needs_program
     def test_packets_in_other_forms(self):
-        packets = ("50010b1112020101c0", "10010f11120000", "50010041", "10011305", "1000f12110010b")
+        packets = ("50010b1112020101c0", "10010f11120000", "50010041", "10011305", "1000f12110010b", "90010b07061149301501320000")
         given = b"".join(b"> " + (it + fcs(it)).hex().encode() + b"\n" for it in (b"\x01\x00" + bytes.fromhex(packet) for packet in packets))
         self.assertEqual(self.dump(given, "--x25", support.PROGRAM).splitlines(), [
             "> I cmd P=0 S=0 R=0 | CALL ch=1 D=1 called=1 calling=2 fac=0101 data=c0  (reverse charging) ~ wide",
@@ -203,9 +203,10 @@ class Dump(ToolCase):
             "> I cmd P=0 S=0 R=0 | DATA ch=1 S=0 R=0 M=0 Q=0 D=1 data=41 ~ wide",
             "> I cmd P=0 S=0 R=0 | CLEAR ch=1 cause=5  (network congestion) ~ wide",
             "> I cmd P=0 S=0 R=0 | DIAG diag=33 expl=10010b  (unidentifiable packet) ~ wide",
+            "> I cmd P=0 S=0 R=0 | CALL ch=1 A=1 called=1/1/49301 calling=5/0/1320 fac=- data=-  (called: international number, E.164; calling: type 5, plan 0) ~ wide",
         ])
-        self.assertEqual(self.dump(given, "--no-wide", "--x25", support.PROGRAM).count("fault"), 5)
-        self.assertEqual(self.dump(given, "--channel", "1", "--x25", support.PROGRAM).count("\n"), 4)
+        self.assertEqual(self.dump(given, "--no-wide", "--x25", support.PROGRAM).count("fault"), 6)
+        self.assertEqual(self.dump(given, "--channel", "1", "--x25", support.PROGRAM).count("\n"), 5)
         self.assertEqual(self.dump(given, "--channel", "0", "--x25", support.PROGRAM).count("\n"), 1)
         self.assertIn("octets of data", self.dump(given, "--stats", "--x25", support.PROGRAM))
 

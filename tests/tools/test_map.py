@@ -129,7 +129,7 @@ class Lemmas(unittest.TestCase):
     """A crate is for those above it by its contracts: none cites lemmas of a lower crate, but x25_sessions those of x25_line, and these."""
 
     CITED = {
-        ("x25_wide", "x25_packet"): {"AddressLaws"},
+        ("x25_wide", "x25_packet"): {"AddressLaws", "DigitLemmas"},
         ("x25_line", "x25_link"): {"EndLemmas"},
         ("x25_sim", "x25_world"): {"Established"},
         ("x25_judge", "x25_line"): {"StationActs", "StationAway", "StationLines", "StationRuns", "StationSays", "StationSends", "StationSteps"},

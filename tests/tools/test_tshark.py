@@ -21,7 +21,7 @@ import facilities
 
 FIELDS = """frame.p2p_dir lapb.address lapb.control.ftype lapb.control.s_ftype lapb.control.u_modifier_cmd
 lapb.control.u_modifier_resp lapb.control.n_s lapb.control.n_r lapb.control.p lapb.control.f x25.lcn x25.type x25.p_s x25.p_r x25.m
-x25.q x25.d x25.called_address x25.calling_address x25.clear_cause x25.reset_cause x25.restart_cause x25.diagnostic
+x25.a x25.q x25.d x25.called_address x25.calling_address x25.clear_cause x25.reset_cause x25.restart_cause x25.diagnostic
 x25.x263_sec_protocol_id data.data x25.facilities_length x25.facility_length
 x25.facility.classA x25.facility.classB x25.facility.classC x25.facility.classD""".split()
 
@@ -52,8 +52,9 @@ FACILITY_FIELDS += [f"facility.{of}_{what}" for of, _ in DIVERTED.values() for w
 FACILITY_FIELDS += ["facility.classA_unknown", "facility.classB_unknown", "facility.classD_unknown"]
 FIELDS += [f"x25.{name}" for name in FACILITY_FIELDS]
 
-# What tshark reads otherwise: a cause alone it takes for cut off, of two addresses with nothing behind them it has none, and of a registration it has fields.
-OTHERWISE = re.compile(r"\| (?:\w+ (?:ch=\d+ )?cause=\d+|\w+ ch=\d+ (?:D=1 )?called=\d+ calling=\d+|REG.*) ~ wide$")
+# What tshark reads otherwise: a cause alone it takes for cut off, of two addresses with nothing behind them it has none, where A is 1 it has some
+# addresses cut off and some facilities as user data, and of a registration it has fields.
+OTHERWISE = re.compile(r"\| (?:\w+ (?:ch=\d+ )?(?:A=1 )?cause=\d+|\w+ ch=\d+ (?:D=1 )?called=\d+ calling=\d+|\w+ ch=\d+ A=1 (?:D=1 )?called=(?:-|5|1/3/1)\S* .*|REG.*) ~ wide$")
 
 LINE = re.compile(r"([<>]) (\w+) (cmd|rsp)(?: (.*?))?(?: \| (\w+) ?(.*))?")
 FIELD = re.compile(r"(\w+)=(\S+)")
@@ -96,19 +97,26 @@ def x25(packet, fields):
     said = {"x25.type": PACKETS[packet]}
     numbers = {"ch": "x25.lcn", "S": "x25.p_s", "R": "x25.p_r", "M": "x25.m", "Q": "x25.q", "diag": "x25.diagnostic", "cause": CAUSES.get(packet)}
     said |= {numbers[name]: int(value) for name, value in fields.items() if name in numbers}
+    if packet in ("CALL", "ACCEPT", "CLEAR", "CLEARCONF"):
+        said["x25.a"] = int(fields.get("A", 0))
     if packet in ("CALL", "ACCEPT", "DATA"):
         said["x25.d"] = int(fields.get("D", 0))
     if packet == "CLEAR" and "called" in fields:
         # Of these tshark has all that is behind the diagnostic as it is.
         return said | {"data.data": test_wide.block(fields).hex()}
     texts = {"called": "x25.called_address", "calling": "x25.calling_address"}
-    said |= {texts[name]: value for name, value in fields.items() if name in texts and value != "-"}
+    said |= {texts[name]: shown(test_wide.halves(value)) for name, value in fields.items() if name in texts and value != "-"}
     data = fields.get("data", fields.get("expl", "-")).strip("-")
     if packet == "CALL" and data:
         said["x25.x263_sec_protocol_id"], data = int(data[:2], 16), data[2:]
     if packet in ("REG", "REGCONF"):
         return said
     return said | ({"data.data": data} if data else {}) | facility_fields(bytes.fromhex(fields.get("fac", "-").strip("-")))
+
+
+def shown(address):
+    """An address as tshark has it: each half octet by the character so far behind `0`; `value` leaves out the colons."""
+    return "".join(chr(ord("0") + int(half, 16)) for half in address).replace(":", "")
 
 
 def facility_fields(octets):

@@ -18,6 +18,8 @@ PACKETS = """
 10010f 50010f 10010f00 10010f0000 10010f1112 10010f111203420707 10010f000041 10010f0003420707 10010f00064207074302024a
 10011300 1001130541 100113054100 10011305410000c0ffee 1001130541111204c9020102 100117 10011700 1001170000 10011711120201ff
 1001024142 9001b4 5001024142 d001f20102 100121 1fff25 100149 1fff89 100123c0 100127
+90010b0000 90010b000000 90010b0705114930113450 90010b010010 d0010b0a0050c0a80001000041 90010f0203131320 90010f 90011305
+9001130541000213 90011702001300 900117
 10011b00 10011b0541 10011f 1000fb07 1000fb0741 1000ff 1000f121 1000f12110010b 1000f3 1000f30001020304 1000f70500
 """.split()
 
@@ -30,11 +32,17 @@ def octets(text):
     return b"" if text == "-" else bytes.fromhex(text)
 
 
+def halves(address):
+    """The half octets of an address: its digits, or the type of address, the numbering plan and the digits, with a stroke behind each of the first two."""
+    return address.replace("/", "").replace("-", "")
+
+
 def block(fields):
     """Addresses, and the facilities and user data behind them."""
-    called, calling = ("" if fields[name] == "-" else fields[name] for name in ("called", "calling"))
+    called, calling = halves(fields["called"]), halves(fields["calling"])
     digits = called + calling
-    built = bytes([len(calling) * 16 + len(called)]) + bytes.fromhex(digits + "0" * (len(digits) % 2))
+    lengths = [len(called), len(calling)] if "A" in fields else [len(calling) * 16 + len(called)]
+    built = bytes(lengths) + bytes.fromhex(digits + "0" * (len(digits) % 2))
     if "fac" in fields:
         facilities = octets(fields["fac"])
         built += bytes([len(facilities)]) + facilities + octets(fields["data"])
@@ -57,7 +65,7 @@ def packet(text):
     name, *words = text.removesuffix(" ~ wide").split(" ")
     fields = dict(word.split("=") for word in words)
     channel = int(fields.get("ch", 0))
-    first = 0x10 | channel >> 8 | int(fields.get("Q", 0)) << 7 | int(fields.get("D", 0)) << 6
+    first = 0x10 | channel >> 8 | int(fields.get("Q", 0) or fields.get("A", 0)) << 7 | int(fields.get("D", 0)) << 6
     if name == "DATA":
         kind = int(fields["S"]) * 2 + int(fields["M"]) * 16 + int(fields["R"]) * 32
     else:

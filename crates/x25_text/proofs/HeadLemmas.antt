@@ -1,5 +1,5 @@
 -- The text of a frame that LAPB modulo 8 lacks, by whether it has a name.
-use Rattle.std.proofs.Common.{ℕ, ◌≡◌, ◌++◌, Bool, true, false, List, [], refl, codes, Option, Some, None}
+use Rattle.std.proofs.Common.{ℕ, ◌≡◌, ◌++◌, true, false, List, [], refl, codes, Option, Some, None}
 use Rattle.std.specs.Prelude.{is_some, unwrap_or}
 use Rattle.x25_frame.specs.declared.error.FrameError.TheVariants.{Undefined}
 use Rattle.x25_text.specs.FrameText.{fault_text}

@@ -1,10 +1,13 @@
 //! Packets in all their forms as text.
-ghost use Rattle.std.specs.Prelude.{◌≡◌, ◌+◌, ◌*◌, ◌≤◌, ◌<◌, ◌++◌, codes, decimal, length};
-ghost use Rattle.x25_wide.specs.Block.{IsBlock, MayBeBlock, MayBeFields, plain_block, plain_fields, plain_optional};
+ghost use Rattle.std.specs.Prelude.{◌≡◌, ◌+◌, ◌*◌, ◌≤◌, ◌<◌, ◌++◌, ◌∷◌, [], codes, decimal, false, length, map, true};
+ghost use Rattle.std.specs.Fmt.{digit_glyph};
+ghost use Rattle.x25_wide.specs.Block.{AreAddresses, IsBlock, MayBeBlock, MayBeFields, called_in, calling_in};
+ghost use Rattle.x25_wide.specs.Block.{plain_block, plain_fields, plain_optional};
 ghost use Rattle.x25_wide.specs.Packet.{plain, plain_kind};
 ghost use Rattle.x25_wide.specs.Packet.Spelling.{IsKind};
 ghost use Rattle.x25_text.specs.PacketText.{marks_text, numbers_text};
-ghost use Rattle.x25_text.specs.WidePacketText.{block_text, confirmation_text, kind_text, optional_block_text};
+ghost use Rattle.x25_text.specs.WidePacketText.{block_text, confirmation_text, format_text, halves_text, kind_text};
+ghost use Rattle.x25_text.specs.WidePacketText.{optional_block_text, typed_addresses_text, typed_text};
 ghost use Rattle.x25_text.specs.WidePacketText.{wide_fields_text, wide_information_text, wide_packet_text};
 ghost use Rattle.x25_text.specs.WidePacketText.{wide_reason_text};
 
@@ -15,7 +18,17 @@ use crate::packet_text::{
 use crate::text::{ROOM, Text};
 use x25_frame::Seq;
 use x25_packet::{decode_within, longest_user};
-use x25_wide::{Block, Fields, Kind, WidePacket, decode};
+use x25_wide::{Block, Fields, Halves, Kind, WidePacket, decode};
+
+fn push_format(a: bool, text: &mut Text)
+    requires room { length text.old + 4 ≤ ROOM }
+    ensures text { text.new ≡ text.old ++ format_text a }
+    ensures size { length text.new ≤ length text.old + 4 }
+{
+    if a {
+        text.push(b" A=1");
+    }
+}
 
 fn push_confirmation(d: bool, text: &mut Text)
     requires room { length text.old + 4 ≤ ROOM }
@@ -58,24 +71,106 @@ fn push_wide_fields(fields: &Option<Fields>, text: &mut Text)
     }
 }
 
-fn push_block(block: &Block, text: &mut Text)
-    requires block { IsBlock 128 (plain_block block.now) }
-    requires room { length text.old + 536 ≤ ROOM }
-    ensures text { text.new ≡ text.old ++ block_text (plain_block block.now) }
-    ensures size { length text.new ≤ length text.old + 536 }
+/// A half octet as a hexadecimal digit.
+fn half_digit(half: u8) -> u8
+    requires { half < 16 }
+    ensures { result ≡ digit_glyph false half }
 {
-    push_addresses(&block.called(), &block.calling(), text);
-    push_wide_fields(&block.fields, text);
+    if half < 10 {
+        b'0' + half
+    } else {
+        b'a' - 10 + half
+    }
 }
 
-fn push_optional_block(block: &Option<Block>, text: &mut Text)
-    requires block { MayBeBlock 128 (plain_optional block.now) }
-    requires room { length text.old + 536 ≤ ROOM }
-    ensures text { text.new ≡ text.old ++ optional_block_text (plain_optional block.now) }
-    ensures size { length text.new ≤ length text.old + 536 }
+fn push_half(half: u8, text: &mut Text)
+    requires half { half < 16 }
+    requires room { length text.old + 1 ≤ ROOM }
+    ensures text { text.new ≡ text.old ++ (digit_glyph false half ∷ []) }
+    ensures size { length text.new ≡ length text.old + 1 }
+{
+    text.push(&[half_digit(half)]);
+}
+
+fn push_each_half(halves: &Halves, text: &mut Text)
+    requires room { length text.old + length halves.now ≤ ROOM }
+    ensures text { text.new ≡ text.old ++ map (λ h. digit_glyph false h) halves.now }
+    ensures size { length text.new ≡ length text.old + length halves.now }
+{
+    for place in 0..halves.len() {
+        push_half(halves.get(place), text);
+    }
+}
+
+fn push_halves(halves: &Halves, text: &mut Text)
+    requires room { length text.old + (length halves.now + 1) ≤ ROOM }
+    ensures text { text.new ≡ text.old ++ halves_text halves.now }
+    ensures size { length text.new ≤ length text.old + (length halves.now + 1) }
+{
+    if halves.len() == 0 {
+        text.push(b"-");
+    } else {
+        push_each_half(halves, text);
+    }
+}
+
+/// Appends the type of address, the numbering plan and the digits.
+fn push_typed(address: &Halves, text: &mut Text)
+    requires room { length text.old + (length address.now + 3) ≤ ROOM }
+    ensures text { text.new ≡ text.old ++ typed_text address.now }
+    ensures size { length text.new ≤ length text.old + (length address.now + 3) }
+{
+    if address.len() == 0 {
+        text.push(b"-");
+        return;
+    }
+    push_half(address.get(0), text);
+    if address.len() == 1 {
+        return;
+    }
+    text.push(b"/");
+    push_half(address.get(1), text);
+    text.push(b"/");
+    push_halves(&address.behind(2), text);
+}
+
+fn push_typed_addresses(block: &Block, text: &mut Text)
+    requires block { AreAddresses true (plain_block block.now) }
+    requires room { length text.old + 533 ≤ ROOM }
+    ensures text { text.new ≡ text.old
+        ++ typed_addresses_text (called_in (plain_block block.now)) (calling_in (plain_block block.now)) }
+    ensures size { length text.new ≤ length text.old + 533 }
+{
+    text.push(b" called=");
+    push_typed(&block.called_halves(), text);
+    text.push(b" calling=");
+    push_typed(&block.calling_halves(), text);
+}
+
+/// Appends addresses in the format that the A bit says, and what follows them.
+fn push_block(a: bool, block: &Block, text: &mut Text)
+    requires block { IsBlock a 128 (plain_block block.now) }
+    requires room { length text.old + 1_020 ≤ ROOM }
+    ensures text { text.new ≡ text.old ++ block_text a (plain_block block.now) }
+    ensures size { length text.new ≤ length text.old + 1_020 }
+{
+    if a {
+        push_typed_addresses(block, text);
+        push_wide_fields(&block.fields, text);
+    } else {
+        push_addresses(&block.called_digits(), &block.calling_digits(), text);
+        push_wide_fields(&block.fields, text);
+    }
+}
+
+fn push_optional_block(a: bool, block: &Option<Block>, text: &mut Text)
+    requires block { MayBeBlock a 128 (plain_optional block.now) }
+    requires room { length text.old + 1_020 ≤ ROOM }
+    ensures text { text.new ≡ text.old ++ optional_block_text a (plain_optional block.now) }
+    ensures size { length text.new ≤ length text.old + 1_020 }
 {
     if let Some(block) = block {
-        push_block(block, text);
+        push_block(a, block, text);
     }
 }
 
@@ -93,25 +188,28 @@ fn push_wide_reason(cause: u8, diagnostic: Option<u8>, text: &mut Text)
 /// Appends a packet without the mark of its form.
 #[tactic(auto, using(crate::proofs::BlockLength::with_user_data))]
 fn push_kind(packet: &WidePacket, text: &mut Text)
-    requires range { IsKind 128 (plain_kind packet.now.kind) }
+    requires range { IsKind packet.now.bit_8 128 (plain_kind packet.now.kind) }
     requires room { length text.old + 8_250 ≤ ROOM }
     ensures text { text.new ≡ text.old
-        ++ kind_text packet.now.channel packet.now.q packet.now.d (plain_kind packet.now.kind) }
+        ++ kind_text packet.now.channel packet.now.bit_8 packet.now.d (plain_kind packet.now.kind) }
     ensures size { length text.new ≤ length text.old + 8_250 }
 {
     match &packet.kind {
         Kind::Call { block } => {
             text.push_number(b"CALL ch=", packet.channel);
+            push_format(packet.bit_8, text);
             push_confirmation(packet.d, text);
-            push_block(block, text);
+            push_block(packet.bit_8, block, text);
         }
         Kind::Accept { block } => {
             text.push_number(b"ACCEPT ch=", packet.channel);
+            push_format(packet.bit_8, text);
             push_confirmation(packet.d, text);
-            push_optional_block(block, text);
+            push_optional_block(packet.bit_8, block, text);
         }
         Kind::Clear { cause, diagnostic } => {
             text.push_number(b"CLEAR ch=", packet.channel);
+            push_format(packet.bit_8, text);
             push_wide_reason(*cause, *diagnostic, text);
         }
         Kind::ExtendedClear {
@@ -120,17 +218,19 @@ fn push_kind(packet: &WidePacket, text: &mut Text)
             block,
         } => {
             text.push_number(b"CLEAR ch=", packet.channel);
+            push_format(packet.bit_8, text);
             push_reason(*cause, *diagnostic, text);
-            push_block(block, text);
+            push_block(packet.bit_8, block, text);
         }
         Kind::ClearConf { block } => {
             text.push_number(b"CLEARCONF ch=", packet.channel);
-            push_optional_block(block, text);
+            push_format(packet.bit_8, text);
+            push_optional_block(packet.bit_8, block, text);
         }
         Kind::Data { m, ps, pr, user } => {
             text.push_number(b"DATA ch=", packet.channel);
             push_numbers(*ps, *pr, text);
-            push_bits(*m, packet.q, text);
+            push_bits(*m, packet.bit_8, text);
             push_confirmation(packet.d, text);
             push_field(b" data=", user, text);
         }
@@ -172,7 +272,7 @@ fn push_kind(packet: &WidePacket, text: &mut Text)
 
 /// Appends a packet that has another form than a station writes, with the mark of that.
 pub fn push_wide_packet(packet: &WidePacket, text: &mut Text)
-    requires range { IsKind 128 (plain_kind packet.now.kind) }
+    requires range { IsKind packet.now.bit_8 128 (plain_kind packet.now.kind) }
     requires room { length text.old + MOST_PACKET_TEXT ≤ ROOM }
     ensures text { text.new ≡ text.old ++ wide_packet_text (plain packet.now) }
     ensures size { length text.new ≤ length text.old + MOST_PACKET_TEXT }

@@ -3,12 +3,25 @@ use x25_frame::{FrameError, Role, decode};
 use x25_text::{Text, push_other_frame, push_wide_frame, push_wide_information, push_wide_packet};
 
 /// The octets of a packet in hexadecimal, and its text.
-static PACKETS: [(&str, &str); 8] = [
+static PACKETS: [(&str, &str); 12] = [
     (
         "10010b431234567000",
         "CALL ch=1 called=123 calling=4567 fac=- data=-",
     ),
     ("50010b1112", "CALL ch=1 D=1 called=1 calling=2 ~ wide"),
+    (
+        "d0010b0605114930201320",
+        "CALL ch=1 A=1 D=1 called=1/1/4930 calling=2/0/132 ~ wide",
+    ),
+    (
+        "90010b07071149301132c50700",
+        "CALL ch=1 A=1 called=1/1/49301 calling=1/3/2c507 fac=- data=- ~ wide",
+    ),
+    (
+        "90010f02011350",
+        "ACCEPT ch=1 A=1 called=1/3/- calling=5 ~ wide",
+    ),
+    ("90011305", "CLEAR ch=1 A=1 cause=5 ~ wide"),
     (
         "10010f0000",
         "ACCEPT ch=1 called=- calling=- fac=- data=- ~ wide",

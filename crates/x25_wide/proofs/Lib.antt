@@ -1,4 +1,5 @@
 pub mod FacilityLemmas
+pub mod HalfLemmas
 pub mod FoundLaws
 pub mod AgainLaws
 pub mod NarrowLaws

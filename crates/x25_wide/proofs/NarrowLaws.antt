@@ -9,7 +9,7 @@ use Rattle.x25_packet.specs.Facilities as strict_field
 use Rattle.x25_packet.specs.Packet as strict
 use Rattle.x25_packet.specs.Spelling as strict_spelling
 use Rattle.x25_packet.specs.declared.facilities.Directions.{Directions}
-use Rattle.x25_wide.specs.Block.{PlainBlock, count_of}
+use Rattle.x25_wide.specs.Block.{PlainBlock}
 use Rattle.x25_wide.specs.Facilities.{class_b, none_own, own_in, IsFacilityField}
 use Rattle.x25_wide.specs.Narrowing.{field_said, narrow_of, narrowed, taken_of}
 use Rattle.x25_wide.specs.Packet.{PlainKind, PlainWide, call, accept, clear, clear_conf, user_data, rr, rnr, interrupt, interrupt_conf, reset, reset_conf, restart, restart_conf}
@@ -56,7 +56,7 @@ says_itself field (facilities, allowed, e) = subst SaysItself (sym e) (says faci
 -- ---- packets but CALL
 
 abbrev headed : ℕ → Bool → PlainKind → PlainWide
-headed channel q kind = record { channel = channel; q = q; d = false; kind = kind }
+headed channel q kind = record { channel = channel; bit_8 = q; d = false; kind = kind }
 
 -- the octets of v spell w, which is taken for v
 record Taken (most : ℕ) (v : strict.PlainPacket) : Type 0 where
@@ -86,7 +86,7 @@ accept_taken most channel [] on f = record {
 accept_taken most channel (octet ∷ rest) on f =
     let field = octet ∷ rest in
     let itself = says_itself field f in
-    let block : PlainBlock = record { lengths = 0; digits = []; fields = Some (record { facilities = field; user = [] }) } in
+    let block : PlainBlock = record { called = 0; calling = 0; addresses = []; fields = Some (record { facilities = field; user = [] }) } in
     let few = itself.few in
     record {
       wide = headed channel false (accept (Some block));
@@ -95,7 +95,7 @@ accept_taken most channel (octet ∷ rest) on f =
         place = on.0;
         marks = refl;
         kind = record {
-          digits = record { few = omega arith; size = refl; decimal = no_digits };
+          addresses = record { called = omega arith; calling = omega arith; size = refl; halves = no_digits };
           fields = record { facilities = itself.whole; few = omega arith; short = omega arith };
         };
       };
@@ -107,15 +107,15 @@ call_taken : (most channel : ℕ) (called calling field user : List ℕ) → mos
     → strict_field.IsFacilityField field → length user ≤ most → Taken most (strict.call channel called calling field user)
 call_taken most channel called calling field user within on a b f short =
     let itself = says_itself field f in
-    let lengths = 16 * length calling + length called in
-    let digits = packed (called ++ calling) in
     let few = a.short in
     let also = b.short in
     let field_few = itself.few in
-    let first : lengths % 16 ≡ length called = omega arith in
-    let second : lengths / 16 ≡ length calling = omega arith in
-    let count : count_of lengths ≡ length called + length calling = rw (first, second) refl in
-    let block : PlainBlock = record { lengths = lengths; digits = digits; fields = Some (record { facilities = field; user = user }) } in
+    let block : PlainBlock = record {
+      called = length called;
+      calling = length calling;
+      addresses = packed (called ++ calling);
+      fields = Some (record { facilities = field; user = user });
+    } in
     record {
       wide = headed channel false (call block);
       packet = record {
@@ -124,10 +124,11 @@ call_taken most channel called calling field user within on a b f short =
         marks = refl;
         kind = (
           record {
-            digits = record {
-              few = omega arith;
-              size = rw count (length-pairs called calling);
-              decimal = rw count (packed_holds called calling a b);
+            addresses = record {
+              called = omega arith;
+              calling = omega arith;
+              size = length-pairs called calling;
+              halves = packed_holds called calling a b;
             };
             fields = record { facilities = itself.whole; few = omega arith; short = omega arith };
           },
@@ -136,7 +137,7 @@ call_taken most channel called calling field user within on a b f short =
       };
       spelling = refl;
       taken = ap (narrowed (headed channel false (call block))) itself.said
-          ∙ rw (first, second, called_again called calling a b, calling_again called calling a b) refl;
+          ∙ rw (called_again called calling a b, calling_again called calling a b) refl;
     }
 
 data_taken : (most channel : ℕ) (q m : Bool) (ps pr : ℕ) (user : List ℕ) → strict_spelling.IsChannel channel → ps < 8 → pr < 8 → length user ≤ 4096
@@ -160,7 +161,7 @@ data_taken most channel q m ps pr user on h k few = record {
     first false = refl
 
 -- a packet of a channel without Q
-on_channel : (most channel : ℕ) (kind : PlainKind) → strict_spelling.IsChannel channel → HasPlace channel kind → may_have false false (type_of kind) ≡ true → IsKind most kind
+on_channel : (most channel : ℕ) (kind : PlainKind) → strict_spelling.IsChannel channel → HasPlace channel kind → may_have false false (type_of kind) ≡ true → IsKind false most kind
     → IsPacket most (headed channel false kind)
 on_channel most channel kind on place marks is = record { channel = on.1; place = place; marks = marks; kind = is }
 

@@ -1,17 +1,17 @@
 -- What a packet is taken for is in its ranges.
-use Rattle.std.proofs.Common.{ℕ, ◌/◌, ◌%◌, ◌≤◌, ◌≡◌, Bool, true, List, [], length, refl, sym, subst, inl, inr, arith, Option, Some, None, Result, Ok, Err, IfOk}
-use Rattle.std.specs.Prelude.{nat_le, ◌&&◌}
+use Rattle.std.proofs.Common.{ℕ, ◌+◌, ◌-◌, ◌<◌, ◌≤◌, ◌≡◌, Bool, true, false, List, [], length, refl, sym, subst, inl, inr, arith, Option, Some, None, Result, Ok, Err, IfOk}
+use Rattle.std.specs.Prelude.{nat_le, ◌&&◌, if◌then◌else◌}
 use Rattle.std.proofs.lemmas.Bool.{and_parts, leb-true}
 use Rattle.x25_packet.proofs.AddressLaws.{address_at, block_when}
-use Rattle.x25_packet.specs.Digits.{IsAddress, halves_at}
+use Rattle.x25_packet.specs.Digits.{IsAddress, halves_at, hold_digits}
 use Rattle.x25_packet.specs.Facilities as strict_field
 use Rattle.x25_packet.specs.Packet as strict
 use Rattle.x25_packet.specs.Spelling as strict_spelling
 use Rattle.x25_packet.specs.declared.error.PacketError.{PacketError}
 use Rattle.x25_packet.specs.declared.facilities.Directions.{Directions}
-use Rattle.x25_wide.specs.Block.{AreDigits, MayBeFields, PlainBlock, PlainFields, count_of}
+use Rattle.x25_wide.specs.Block.{AreAddresses, MayBeFields, PlainBlock, PlainFields}
 use Rattle.x25_wide.specs.Facilities.{none_own, own_in}
-use Rattle.x25_wide.specs.Narrowing.{are_within, field_in, field_said, field_taken, user_taken, with_field}
+use Rattle.x25_wide.specs.Narrowing.{are_within, field_in, field_said, field_taken, user_taken, called_taken, calling_taken, digits_behind, with_field}
 use Rattle.x25_wide.specs.Packet.{PlainKind, call, accept, clear, extended_clear, clear_conf, user_data, rr, rnr, rej, interrupt, interrupt_conf, reset, reset_conf, restart, restart_conf, diagnostic, registration, registration_conf}
 use Rattle.x25_wide.specs.Packet.Spelling.{HasPlace, IsKind}
 use Rattle.x25_wide.specs.Reading.{Gives}
@@ -81,25 +81,48 @@ user_few : (f : Option PlainFields) → MayBeFields 128 f → length (user_taken
 user_few None h = omega arith
 user_few (Some f) h = h.short
 
-called_address : (b : PlainBlock) → AreDigits b → IsAddress (halves_at b.digits 0 (b.lengths % 16))
-called_address b h =
-    let size = h.size in
-    address_at (count_of b.lengths) 0 (b.lengths % 16) b.digits (block_when (count_of b.lengths) b.digits h.decimal) (omega arith) (omega arith)
+no_digits : IsAddress []
+no_digits = record { short = omega arith; decimal = refl }
 
-calling_address : (b : PlainBlock) → AreDigits b → IsAddress (halves_at b.digits (b.lengths % 16) (b.lengths / 16))
-calling_address b h =
+behind_address : (b : PlainBlock) (start count : ℕ) → AreAddresses true b → start + count ≤ b.called + b.calling → IsAddress (digits_behind b start count)
+behind_address b start count h room = go _ refl
+  where
+    total : ℕ
+    total = b.called + b.calling
+
+    go : (are : Bool) → are ≡ (hold_digits total b.addresses && (nat_le 2 count && nat_le count 17))
+        → IsAddress (if are then halves_at b.addresses (start + 2) (count - 2) else [])
+    go true e =
+        let parts = and_parts (hold_digits total b.addresses) (nat_le 2 count && nat_le count 17) (sym e) in
+        let bounds = and_parts (nat_le 2 count) (nat_le count 17) parts.1 in
+        let two : 2 ≤ count = leb-true _ _ bounds.0 in
+        let few : count ≤ 17 = leb-true _ _ bounds.1 in
+        let size = h.size in
+        address_at total (start + 2) (count - 2) b.addresses (block_when total b.addresses parts.0) (omega arith) (omega arith)
+    go false e = no_digits
+
+called_address : (a : Bool) (b : PlainBlock) → AreAddresses a b → IsAddress (called_taken a b)
+called_address true b h = behind_address b 0 b.called h (omega arith)
+called_address false b h =
     let size = h.size in
-    let few = h.few in
-    address_at (count_of b.lengths) (b.lengths % 16) (b.lengths / 16) b.digits (block_when (count_of b.lengths) b.digits h.decimal) (omega arith) (omega arith)
+    let few : b.called < 16 = h.called in
+    address_at (b.called + b.calling) 0 b.called b.addresses (block_when (b.called + b.calling) b.addresses h.halves) (omega arith) (omega arith)
+
+calling_address : (a : Bool) (b : PlainBlock) → AreAddresses a b → IsAddress (calling_taken a b)
+calling_address true b h = behind_address b b.called b.calling h (omega arith)
+calling_address false b h =
+    let size = h.size in
+    let few : b.calling < 16 = h.calling in
+    address_at (b.called + b.calling) b.called b.calling b.addresses (block_when (b.called + b.calling) b.addresses h.halves) (omega arith) (omega arith)
 
 abbrev pub InRange : Result strict.PlainPacket PacketError → Type 0
 InRange (Ok v) = strict_spelling.IsInRange 128 v
 InRange (Err e) = Unit {0}
 
-pub in_range : (most channel : ℕ) (q : Bool) (k : PlainKind) (field : List ℕ) → channel ≤ 4095 → HasPlace channel k → IsKind most k
+pub in_range : (most channel : ℕ) (q : Bool) (k : PlainKind) (field : List ℕ) → channel ≤ 4095 → HasPlace channel k → IsKind q most k
     → strict_field.IsFacilityField field → InRange (with_field channel q k field)
 in_range most channel q (call block) field few place h f =
-    ((place, few), called_address block h.0.digits, calling_address block h.0.digits, f, user_few block.fields h.0.fields)
+    ((place, few), called_address q block h.0.addresses, calling_address q block h.0.addresses, f, user_few block.fields h.0.fields)
 in_range most channel q (accept block) field few place h f = ((place, few), f)
 in_range most channel q (clear cause reason) field few place h f = (place, few)
 in_range most channel q (extended_clear cause reason block) field few place h f = (place, few)

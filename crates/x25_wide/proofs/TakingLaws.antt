@@ -41,7 +41,7 @@ strict_names most (strict.restart cause reason) h has = absurd has
 strict_names most strict.restart_conf h has = absurd has
 
 wide_names : (w : PlainWide) → w.channel ≤ 4095 → channel_in (spelling_of w) ≡ Some w.channel
-wide_names w few = at w.channel (bit w.q) (bit w.d) few
+wide_names w few = at w.channel (bit w.bit_8) (bit w.d) few
   where
     at : (channel q d : ℕ) → channel ≤ 4095 → Some ((128 * q + 64 * d + 16 + channel / 256) % 16 * 256 + channel % 256) ≡ Some channel
     at channel q d few = ap (λ (n : ℕ). Some n) (omega (arith, few))
@@ -77,7 +77,7 @@ user_of (strict.user_data channel q m ps pr user) = user
 user_of other = []
 
 -- of data packets alone user data is a packet's body
-with_user : (channel : ℕ) (q : Bool) (k : PlainKind) (field : List ℕ) (v : strict.PlainPacket) → with_field channel q k field ≡ Ok v → IsData v → body_of k ≡ user_of v
+with_user : (channel : ℕ) (q : Bool) (k : PlainKind) (field : List ℕ) (v : strict.PlainPacket) → with_field channel q k field ≡ Ok v → IsData v → body_of q k ≡ user_of v
 with_user channel q (call block) field v e is_data = absurd (subst IsData (sym (ok_same e)) is_data)
 with_user channel q (accept block) field v e is_data = absurd (subst IsData (sym (ok_same e)) is_data)
 with_user channel q (clear cause reason) field v e is_data = absurd (subst IsData (sym (ok_same e)) is_data)
@@ -98,7 +98,7 @@ with_user channel q (registration octets) field v e is_data = absurd (ok_err e)
 with_user channel q (registration_conf octets) field v e is_data = absurd (ok_err e)
 
 -- with the field that is taken from it
-taken_with : {P : Type 0} (w : PlainWide) (v : strict.PlainPacket) → narrow_of w ≡ Ok v → ((field : List ℕ) → field_in w.kind ≡ Ok field → with_field w.channel w.q w.kind field ≡ Ok v → P) → P
+taken_with : {P : Type 0} (w : PlainWide) (v : strict.PlainPacket) → narrow_of w ≡ Ok v → ((field : List ℕ) → field_in w.kind ≡ Ok field → with_field w.channel w.bit_8 w.kind field ≡ Ok v → P) → P
 taken_with {P} w v e f = go (field_in w.kind) refl e
   where
     go : (r : Result (List ℕ) PacketError) → field_in w.kind ≡ r → narrowed w r ≡ Ok v → P
@@ -131,7 +131,7 @@ pub takes_on_its_channel : ReadsWhatIsSpelled → TakesOnItsChannel
 takes_on_its_channel reads wide most v octets small e has = in_either reads most v octets small (channel_in octets ≡ Some (channel_of v))
     (λ spells. ap channel_in spells.spelling ∙ strict_names most v spells.in_range has)
     (λ w spells is. ap channel_in spells.spelling ∙ wide_names w spells.packet.channel
-    ∙ taken_with w v is (λ field said h. ap (λ (n : ℕ). Some n) (sym (with_names w.channel w.q w.kind field v h has))))
+    ∙ taken_with w v is (λ field said h. ap (λ (n : ℕ). Some n) (sym (with_names w.channel w.bit_8 w.kind field v h has))))
     wide e
 
 header : (n : ℕ) → suc (suc (suc n)) ≡ 3 + n
@@ -142,7 +142,7 @@ takes_its_user_data reads wide most channel q m ps pr user octets small e =
     let v : strict.PlainPacket = strict.user_data channel q m ps pr user in
     in_either reads most v octets small (length octets ≡ 3 + length user)
     (λ spells. ap length spells.spelling ∙ header (length user))
-    (λ w spells is. ap length spells.spelling ∙ header (length (body_of w.kind)) ∙ taken_with w v is (λ field said h. ap (λ (body : List ℕ). 3 + length body) (with_user w.channel w.q w.kind field v h tt)))
+    (λ w spells is. ap length spells.spelling ∙ header (length (body_of w.bit_8 w.kind)) ∙ taken_with w v is (λ field said h. ap (λ (body : List ℕ). 3 + length body) (with_user w.channel w.bit_8 w.kind field v h tt)))
     wide e
 
 -- ---- the ranges of its fields
@@ -164,5 +164,5 @@ more_in_range most strict.restart_conf few h = h
 
 pub takes_in_range : ReadsWhatIsSpelled → TakesInRange
 takes_in_range reads wide most v octets few small e = in_either reads most v octets small (strict_spelling.IsInRange 128 v) (λ spells. more_in_range most v few spells.in_range)
-    (λ w spells is. taken_with w v is (λ field said h. subst InRange h (in_range most w.channel w.q w.kind field spells.packet.channel spells.packet.place spells.packet.kind (field_fits w.kind field said))))
+    (λ w spells is. taken_with w v is (λ field said h. subst InRange h (in_range most w.channel w.bit_8 w.kind field spells.packet.channel spells.packet.place spells.packet.kind (field_fits w.kind field said))))
     wide e

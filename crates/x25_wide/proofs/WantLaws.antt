@@ -6,12 +6,12 @@ use Rattle.x25_packet.specs.laws.ReadingLaw.{ReadsTheFirstError}
 use Rattle.x25_packet.specs.Reading.{packet_of}
 use Rattle.x25_packet.specs.declared.error.PacketError.{PacketError}
 use Rattle.x25_packet.specs.declared.error.PacketError.TheVariants.{NoMemory, TooShort, BadFormat, Unidentified, TooLong, BadDigit, BadParameter}
-use Rattle.x25_wide.specs.Block.{PlainBlock, PlainFields, count_of}
+use Rattle.x25_wide.specs.Block.{PlainBlock, PlainFields}
 use Rattle.x25_wide.specs.Narrowing.{field_in, field_said, field_taken, narrowed, taken_of, with_field}
 use Rattle.x25_wide.specs.Facilities.{none_own, own_in}
 use Rattle.x25_wide.specs.declared.facilities.Own.{Own}
 use Rattle.x25_wide.specs.Packet.{PlainKind, PlainWide, call, accept, clear, extended_clear, clear_conf, user_data, rr, rnr, rej, interrupt, interrupt_conf, reset, reset_conf, restart, restart_conf, diagnostic, registration, registration_conf}
-use Rattle.x25_wide.specs.Reading.{fields_of, with_digits, block_of, optional_block, mapped, bare, called, reason_of, caused, clear_of, interrupt_of, data_of, diagnostic_of, registered, unchannelled, named, channelled, kind_of, has_format, with_head, wide_of}
+use Rattle.x25_wide.specs.Reading.{fields_of, with_addresses, addressed, block_of, optional_block, mapped, bare, called, reason_of, caused, clear_of, interrupt_of, data_of, diagnostic_of, registered, unchannelled, named, channelled, kind_of, has_format, with_head, wide_of}
 use Rattle.x25_wide.specs.Taking.{or_taken}
 use Rattle.x25_wide.specs.laws.TakingLaw.{TakesWithoutMemory}
 
@@ -50,21 +50,28 @@ fields_read : (most : ℕ) (octets : List ℕ) → Reads (fields_of most octets)
 fields_read most [] = λ h. cc
 fields_read most (size ∷ rest) = either _ _ _ too_long (either _ _ _ too_short (either _ _ _ bad_parameter (either _ _ _ too_long is_read)))
 
-digits_read : (lengths : ℕ) (digits : List ℕ) (r : Result (Option PlainFields) PacketError) → Reads r → Reads (with_digits lengths digits r)
-digits_read lengths digits (Ok fields) reads = λ h. cc
-digits_read lengths digits (Err e) reads = λ h. reads (cc)
+addresses_read : (called calling : ℕ) (addresses : List ℕ) (r : Result (Option PlainFields) PacketError) → Reads r → Reads (with_addresses called calling addresses r)
+addresses_read called calling addresses (Ok fields) reads = λ h. cc
+addresses_read called calling addresses (Err e) reads = λ h. reads (cc)
 
-block_read : (most : ℕ) (octets : List ℕ) → Reads (block_of most octets)
-block_read most [] = λ h. cc
-block_read most (lengths ∷ octets) = either _ _ _ too_short (either _ _ _ bad_digit (digits_read lengths (take ((count_of lengths + 1) / 2) octets) _ (fields_read most (drop ((count_of lengths + 1) / 2) octets))))
+addressed_read : (a : Bool) (most called calling : ℕ) (octets : List ℕ) → Reads (addressed a most called calling octets)
+addressed_read a most called calling octets =
+    either _ _ _ too_short (either _ _ _ bad_digit (addresses_read called calling (take ((called + calling + 1) / 2) octets) _ (fields_read most (drop ((called + calling + 1) / 2) octets))))
+
+block_read : (a : Bool) (most : ℕ) (octets : List ℕ) → Reads (block_of a most octets)
+block_read false most [] = λ h. cc
+block_read false most (lengths ∷ octets) = addressed_read false most (lengths % 16) (lengths / 16) octets
+block_read true most [] = λ h. cc
+block_read true most (called ∷ []) = λ h. cc
+block_read true most (called ∷ calling ∷ octets) = addressed_read true most called calling octets
 
 mapped_read : {A B : Type 0} (f : A → B) (r : Result A PacketError) → Reads r → Reads (mapped f r)
 mapped_read f (Ok v) reads = λ h. cc
 mapped_read f (Err e) reads = λ h. reads (cc)
 
-optional_read : (most : ℕ) (octets : List ℕ) → Reads (optional_block most octets)
-optional_read most [] = λ h. cc
-optional_read most (octet ∷ rest) = mapped_read _ _ (block_read most (octet ∷ rest))
+optional_read : (a : Bool) (most : ℕ) (octets : List ℕ) → Reads (optional_block a most octets)
+optional_read a most [] = λ h. cc
+optional_read a most (octet ∷ rest) = mapped_read _ _ (block_read a most (octet ∷ rest))
 
 -- ---- bodies
 
@@ -86,11 +93,11 @@ caused_read : (kind : ℕ → Option ℕ → PlainKind) (r : Result (ℕ × Opti
 caused_read kind (Ok (cause, reason)) reads = λ h. cc
 caused_read kind (Err e) reads = λ h. reads (cc)
 
-clear_read : (octets : List ℕ) → Reads (clear_of octets)
-clear_read [] = λ h. cc
-clear_read (cause ∷ []) = λ h. cc
-clear_read (cause ∷ reason ∷ []) = λ h. cc
-clear_read (cause ∷ reason ∷ octet ∷ rest) = mapped_read _ _ (block_read 128 (octet ∷ rest))
+clear_read : (a : Bool) (octets : List ℕ) → Reads (clear_of a octets)
+clear_read a [] = λ h. cc
+clear_read a (cause ∷ []) = λ h. cc
+clear_read a (cause ∷ reason ∷ []) = λ h. cc
+clear_read a (cause ∷ reason ∷ octet ∷ rest) = mapped_read _ _ (block_read a 128 (octet ∷ rest))
 
 interrupt_read : (octets : List ℕ) → Reads (interrupt_of octets)
 interrupt_read [] = λ h. cc
@@ -113,19 +120,19 @@ unchannelled_read kind body =
     either _ _ _ (caused_read restart _ (reason_read body)) (either _ _ _ (bare_read restart_conf body) (either _ _ _ (diagnostic_read body)
     (either _ _ _ (mapped_read registration _ (registered_read body)) (either _ _ _ (mapped_read registration_conf _ (registered_read body)) is_unidentified))))
 
-named_read : (most kind : ℕ) (body : List ℕ) → Reads (named most kind body)
-named_read most kind body =
-    either _ _ _ (called_read most _ (block_read 128 body)) (either _ _ _ (mapped_read accept _ (optional_read 128 body)) (either _ _ _ (clear_read body)
-    (either _ _ _ (mapped_read clear_conf _ (optional_read 0 body)) (either _ _ _ (interrupt_read body) (either _ _ _ (bare_read interrupt_conf body)
+named_read : (a : Bool) (most kind : ℕ) (body : List ℕ) → Reads (named a most kind body)
+named_read a most kind body =
+    either _ _ _ (called_read most _ (block_read a 128 body)) (either _ _ _ (mapped_read accept _ (optional_read a 128 body)) (either _ _ _ (clear_read a body)
+    (either _ _ _ (mapped_read clear_conf _ (optional_read a 0 body)) (either _ _ _ (interrupt_read body) (either _ _ _ (bare_read interrupt_conf body)
     (either _ _ _ (caused_read reset _ (reason_read body)) (either _ _ _ (bare_read reset_conf body) is_unidentified)))))))
 
-channelled_read : (most kind : ℕ) (body : List ℕ) → Reads (channelled most kind body)
-channelled_read most kind body =
+channelled_read : (a : Bool) (most kind : ℕ) (body : List ℕ) → Reads (channelled a most kind body)
+channelled_read a most kind body =
     either _ _ _ (data_read kind body) (either _ _ _ (bare_read (rr (kind / 32)) body) (either _ _ _ (bare_read (rnr (kind / 32)) body)
-    (either _ _ _ (bare_read (rej (kind / 32)) body) (named_read most kind body))))
+    (either _ _ _ (bare_read (rej (kind / 32)) body) (named_read a most kind body))))
 
-kind_read : (most channel kind : ℕ) (body : List ℕ) → Reads (kind_of most channel kind body)
-kind_read most channel kind body = either _ _ _ (unchannelled_read kind body) (channelled_read most kind body)
+kind_read : (a : Bool) (most channel kind : ℕ) (body : List ℕ) → Reads (kind_of a most channel kind body)
+kind_read a most channel kind body = either _ _ _ (unchannelled_read kind body) (channelled_read a most kind body)
 
 head_read : (channel : ℕ) (q d : Bool) (r : Result PlainKind PacketError) → Reads r → Reads (with_head channel q d r)
 head_read channel q d (Ok kind) reads = λ h. cc
@@ -138,7 +145,7 @@ wide_read most (first ∷ []) = λ h. cc
 wide_read most (first ∷ second ∷ []) = λ h. cc
 wide_read most (first ∷ second ∷ kind ∷ body) =
     let channel = first % 16 * 256 + second in
-    either (has_format first kind) _ _ (head_read channel (first / 128 == 1) (first / 64 % 2 == 1) _ (kind_read most channel kind body)) bad_format
+    either (has_format first kind) _ _ (head_read channel (first / 128 == 1) (first / 64 % 2 == 1) _ (kind_read (first / 128 == 1) most channel kind body)) bad_format
 
 -- ---- what it is taken for
 
@@ -191,7 +198,7 @@ with_read channel q (registration octets) field = λ h. cc
 with_read channel q (registration_conf octets) field = λ h. cc
 
 narrowed_read : (w : PlainWide) (r : Result (List ℕ) PacketError) → Reads r → Reads (narrowed w r)
-narrowed_read w (Ok field) reads = with_read w.channel w.q w.kind field
+narrowed_read w (Ok field) reads = with_read w.channel w.bit_8 w.kind field
 narrowed_read w (Err e) reads = λ h. reads (cc)
 
 taken_read : (r : Result PlainWide PacketError) → Reads r → Reads (taken_of r)

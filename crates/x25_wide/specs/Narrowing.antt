@@ -1,13 +1,13 @@
 -- What a station takes a packet for: one of those that it writes, or an error (profile).
-use Rattle.std.specs.Prelude.{ℕ, ◌/◌, ◌%◌, ◌&&◌, Bool, true, false, List, [], take, drop, if◌then◌else◌, Option, Some}
-use Rattle.std.specs.Prelude.{None, Result, Ok, Err}
-use Rattle.x25_packet.specs.Digits.{halves_at}
+use Rattle.std.specs.Prelude.{ℕ, ◌+◌, ◌-◌, ◌&&◌, nat_le, Bool, true, false, List, [], take, drop, if◌then◌else◌, Option}
+use Rattle.std.specs.Prelude.{Some, None, Result, Ok, Err}
+use Rattle.x25_packet.specs.Digits.{halves_at, hold_digits}
 use Rattle.x25_packet.specs.Facilities.{field_of, is_within}
 use Rattle.x25_packet.specs.Packet as written
 use Rattle.x25_packet.specs.declared.error.PacketError.{PacketError}
 use Rattle.x25_packet.specs.declared.error.PacketError.TheVariants.{BadParameter, Unidentified}
 use Rattle.x25_packet.specs.declared.facilities.Directions.{Directions}
-use Rattle.x25_wide.specs.Block.{AreDigits, PlainFields}
+use Rattle.x25_wide.specs.Block.{AreAddresses, PlainBlock, PlainFields, called_in, calling_in}
 use Rattle.x25_wide.specs.Facilities.{none_own, own_in}
 use Rattle.x25_wide.specs.Packet.{PlainKind, PlainWide, call, accept, clear, extended_clear, clear_conf, user_data, rr}
 use Rattle.x25_wide.specs.Packet.{rnr}
@@ -40,10 +40,26 @@ field_in (call block) = field_taken block.fields
 field_in (accept (Some block)) = field_taken block.fields
 field_in _ = Ok []
 
--- the digits of a CALL are digits
-abbrev pub HasDigits : PlainKind → Type 0
-HasDigits (call block) = AreDigits block
-HasDigits _ = Unit {0}
+-- the addresses of a CALL are addresses
+abbrev pub HasAddresses : Bool → PlainKind → Type 0
+HasAddresses a (call block) = AreAddresses a block
+HasAddresses a _ = Unit {0}
+
+-- Of an address with its type and plan, which are its first two half octets, the digits behind these: where both
+-- addresses are of digits alone, and it has at most 15. Else there is none.
+abbrev pub digits_behind : PlainBlock → ℕ → ℕ → List ℕ
+digits_behind b start count =
+    if hold_digits (b.called + b.calling) b.addresses && (nat_le 2 count && nat_le count 17)
+    then halves_at b.addresses (start + 2) (count - 2)
+    else []
+
+abbrev pub called_taken : Bool → PlainBlock → List ℕ
+called_taken false b = called_in b
+called_taken true b = digits_behind b 0 b.called
+
+abbrev pub calling_taken : Bool → PlainBlock → List ℕ
+calling_taken false b = calling_in b
+calling_taken true b = digits_behind b b.called b.calling
 
 -- the octets of both, of which these are there
 abbrev pub field_shown : List ℕ → Bool → Bool → List ℕ
@@ -57,31 +73,31 @@ abbrev pub reason_taken : Option ℕ → ℕ
 reason_taken None = 0
 reason_taken (Some reason) = reason
 
--- D is taken off, and so are the addresses and user data of an answer; what has no place in a station's table is
--- unidentified, as it is there
+-- D is taken off, and so are types and plans of addresses, and the addresses and user data of an answer; what has no
+-- place in a station's table is unidentified, as it is there
 abbrev pub with_field : ℕ → Bool → PlainKind → List ℕ → Result written.PlainPacket PacketError
-with_field channel q (call block) field = Ok (written.call channel (halves_at block.digits 0 (block.lengths % 16))
-    (halves_at block.digits (block.lengths % 16) (block.lengths / 16)) field (user_taken block.fields))
-with_field channel q (accept block) field = Ok (written.accept channel field)
-with_field channel q (clear cause reason) field = Ok (written.clear channel cause (reason_taken reason))
-with_field channel q (extended_clear cause reason block) field = Ok (written.clear channel cause reason)
-with_field channel q (clear_conf block) field = Ok (written.clear_conf channel)
-with_field channel q (user_data m ps pr user) field = Ok (written.user_data channel q m ps pr user)
-with_field channel q (rr pr) field = Ok (written.rr channel pr)
-with_field channel q (rnr pr) field = Ok (written.rnr channel pr)
-with_field channel q (interrupt user) field = Ok (written.interrupt channel user)
-with_field channel q interrupt_conf field = Ok (written.interrupt_conf channel)
-with_field channel q (reset cause reason) field = Ok (written.reset channel cause (reason_taken reason))
-with_field channel q reset_conf field = Ok (written.reset_conf channel)
-with_field channel q (restart cause reason) field = Ok (written.restart cause (reason_taken reason))
-with_field channel q restart_conf field = Ok written.restart_conf
-with_field channel q (rej pr) field = Err Unidentified
-with_field channel q (diagnostic number explanation) field = Err Unidentified
-with_field channel q (registration octets) field = Err Unidentified
-with_field channel q (registration_conf octets) field = Err Unidentified
+with_field channel bit_8 (call block) field =
+    Ok (written.call channel (called_taken bit_8 block) (calling_taken bit_8 block) field (user_taken block.fields))
+with_field channel bit_8 (accept block) field = Ok (written.accept channel field)
+with_field channel bit_8 (clear cause reason) field = Ok (written.clear channel cause (reason_taken reason))
+with_field channel bit_8 (extended_clear cause reason block) field = Ok (written.clear channel cause reason)
+with_field channel bit_8 (clear_conf block) field = Ok (written.clear_conf channel)
+with_field channel bit_8 (user_data m ps pr user) field = Ok (written.user_data channel bit_8 m ps pr user)
+with_field channel bit_8 (rr pr) field = Ok (written.rr channel pr)
+with_field channel bit_8 (rnr pr) field = Ok (written.rnr channel pr)
+with_field channel bit_8 (interrupt user) field = Ok (written.interrupt channel user)
+with_field channel bit_8 interrupt_conf field = Ok (written.interrupt_conf channel)
+with_field channel bit_8 (reset cause reason) field = Ok (written.reset channel cause (reason_taken reason))
+with_field channel bit_8 reset_conf field = Ok (written.reset_conf channel)
+with_field channel bit_8 (restart cause reason) field = Ok (written.restart cause (reason_taken reason))
+with_field channel bit_8 restart_conf field = Ok written.restart_conf
+with_field channel bit_8 (rej pr) field = Err Unidentified
+with_field channel bit_8 (diagnostic number explanation) field = Err Unidentified
+with_field channel bit_8 (registration octets) field = Err Unidentified
+with_field channel bit_8 (registration_conf octets) field = Err Unidentified
 
 abbrev pub narrowed : PlainWide → Result (List ℕ) PacketError → Result written.PlainPacket PacketError
-narrowed w (Ok field) = with_field w.channel w.q w.kind field
+narrowed w (Ok field) = with_field w.channel w.bit_8 w.kind field
 narrowed w (Err e) = Err e
 
 abbrev pub narrow_of : PlainWide → Result written.PlainPacket PacketError

@@ -47,11 +47,12 @@ plain_kind (code.Diagnostic number explanation) = diagnostic number explanation.
 plain_kind (code.Registration octets) = registration octets.now
 plain_kind (code.RegistrationConf octets) = registration_conf octets.now
 
+-- bit 8 of the first octet is Q in DATA, and A in call set-up and clearing packets
 pub record PlainWide : Type 0 where
   pub channel : ℕ
-  pub q : Bool
+  pub bit_8 : Bool
   pub d : Bool
   pub kind : PlainKind
 
 abbrev pub plain : WidePacket → PlainWide
-plain w = record { channel = w.channel; q = w.q; d = w.d; kind = plain_kind w.kind }
+plain w = record { channel = w.channel; bit_8 = w.bit_8; d = w.d; kind = plain_kind w.kind }

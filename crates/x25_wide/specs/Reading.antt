@@ -1,12 +1,11 @@
 -- What octets read as: the packet that they spell, or else their first error, from the front. ITU-T X.25 (10/96),
 -- section 5; the order of the errors is of the profile.
-use Rattle.std.specs.Prelude.{ℕ, ◌+◌, ◌*◌, ◌/◌, ◌%◌, ◌==◌, ◌&&◌, ◌||◌, nat_lt, nat_le, Bool, not, true, List, [], ◌∷◌}
-use Rattle.std.specs.Prelude.{length, take, drop, if◌then◌else◌, Option, Some, None, Result, Ok, Err, ◌≡◌}
+use Rattle.std.specs.Prelude.{ℕ, ◌+◌, ◌*◌, ◌/◌, ◌%◌, ◌==◌, ◌&&◌, ◌||◌, nat_lt, nat_le, Bool, not, true, false, List}
+use Rattle.std.specs.Prelude.{[], ◌∷◌, length, take, drop, if◌then◌else◌, Option, Some, None, Result, Ok, Err, ◌≡◌}
 use Rattle.x25_packet.specs.declared.error.PacketError.{PacketError}
 use Rattle.x25_packet.specs.declared.error.PacketError.TheVariants.{TooShort, BadFormat, Unidentified, TooLong}
 use Rattle.x25_packet.specs.declared.error.PacketError.TheVariants.{BadDigit, BadParameter}
-use Rattle.x25_packet.specs.Digits.{hold_digits}
-use Rattle.x25_wide.specs.Block.{PlainBlock, PlainFields, count_of}
+use Rattle.x25_wide.specs.Block.{PlainBlock, PlainFields, hold_addresses}
 use Rattle.x25_wide.specs.Facilities.{are_facilities, asks_fast_select}
 use Rattle.x25_wide.specs.Packet.{PlainKind, PlainWide, call, accept, clear, extended_clear, clear_conf, user_data, rr}
 use Rattle.x25_wide.specs.Packet.{rnr}
@@ -34,21 +33,29 @@ fields_of most (size ∷ rest) =
     else if nat_lt most (length (drop size rest)) then Err TooLong
     else Ok (Some (record { facilities = take size rest; user = drop size rest }))
 
-abbrev pub with_digits : ℕ → List ℕ → Result (Option PlainFields) PacketError → Result PlainBlock PacketError
-with_digits lengths digits (Ok fields) = Ok (record { lengths = lengths; digits = digits; fields = fields })
-with_digits lengths digits (Err e) = Err e
+abbrev pub with_addresses : ℕ → ℕ → List ℕ → Result (Option PlainFields) PacketError → Result PlainBlock PacketError
+with_addresses called calling addresses (Ok fields) =
+    Ok (record { called = called; calling = calling; addresses = addresses; fields = fields })
+with_addresses called calling addresses (Err e) = Err e
 
-abbrev pub block_of : ℕ → List ℕ → Result PlainBlock PacketError
-block_of most [] = Err TooShort
-block_of most (lengths ∷ octets) =
-    let size = (count_of lengths + 1) / 2 in
+-- behind the lengths
+abbrev pub addressed : Bool → ℕ → ℕ → ℕ → List ℕ → Result PlainBlock PacketError
+addressed a most called calling octets =
+    let size = (called + calling + 1) / 2 in
     if nat_lt (length octets) size then Err TooShort
-    else if not (hold_digits (count_of lengths) (take size octets)) then Err BadDigit
-    else with_digits lengths (take size octets) (fields_of most (drop size octets))
+    else if not (hold_addresses a (called + calling) (take size octets)) then Err BadDigit
+    else with_addresses called calling (take size octets) (fields_of most (drop size octets))
 
-abbrev pub optional_block : ℕ → List ℕ → Result (Option PlainBlock) PacketError
-optional_block most [] = Ok None
-optional_block most (octet ∷ rest) = mapped Some (block_of most (octet ∷ rest))
+abbrev pub block_of : Bool → ℕ → List ℕ → Result PlainBlock PacketError
+block_of false most [] = Err TooShort
+block_of false most (lengths ∷ octets) = addressed false most (lengths % 16) (lengths / 16) octets
+block_of true most [] = Err TooShort
+block_of true most (called ∷ []) = Err TooShort
+block_of true most (called ∷ calling ∷ octets) = addressed true most called calling octets
+
+abbrev pub optional_block : Bool → ℕ → List ℕ → Result (Option PlainBlock) PacketError
+optional_block a most [] = Ok None
+optional_block a most (octet ∷ rest) = mapped Some (block_of a most (octet ∷ rest))
 
 -- ---- bodies
 
@@ -77,11 +84,11 @@ abbrev pub caused : (ℕ → Option ℕ → PlainKind) → Result (ℕ × Option
 caused kind (Ok (cause, reason)) = Ok (kind cause reason)
 caused kind (Err e) = Err e
 
-abbrev pub clear_of : List ℕ → Result PlainKind PacketError
-clear_of [] = Err TooShort
-clear_of (cause ∷ []) = Ok (clear cause None)
-clear_of (cause ∷ reason ∷ []) = Ok (clear cause (Some reason))
-clear_of (cause ∷ reason ∷ octet ∷ rest) = mapped (extended_clear cause reason) (block_of 128 (octet ∷ rest))
+abbrev pub clear_of : Bool → List ℕ → Result PlainKind PacketError
+clear_of a [] = Err TooShort
+clear_of a (cause ∷ []) = Ok (clear cause None)
+clear_of a (cause ∷ reason ∷ []) = Ok (clear cause (Some reason))
+clear_of a (cause ∷ reason ∷ octet ∷ rest) = mapped (extended_clear cause reason) (block_of a 128 (octet ∷ rest))
 
 abbrev pub interrupt_of : List ℕ → Result PlainKind PacketError
 interrupt_of [] = Err TooShort
@@ -115,12 +122,12 @@ unchannelled kind body =
     else Err Unidentified
 
 -- by a type without a number
-abbrev pub named : ℕ → ℕ → List ℕ → Result PlainKind PacketError
-named most kind body =
-    if kind == 11 then called most (block_of 128 body)
-    else if kind == 15 then mapped accept (optional_block 128 body)
-    else if kind == 19 then clear_of body
-    else if kind == 23 then mapped clear_conf (optional_block 0 body)
+abbrev pub named : Bool → ℕ → ℕ → List ℕ → Result PlainKind PacketError
+named a most kind body =
+    if kind == 11 then called most (block_of a 128 body)
+    else if kind == 15 then mapped accept (optional_block a 128 body)
+    else if kind == 19 then clear_of a body
+    else if kind == 23 then mapped clear_conf (optional_block a 0 body)
     else if kind == 35 then interrupt_of body
     else if kind == 39 then bare interrupt_conf body
     else if kind == 27 then caused reset (reason_of body)
@@ -128,24 +135,24 @@ named most kind body =
     else Err Unidentified
 
 -- on a channel
-abbrev pub channelled : ℕ → ℕ → List ℕ → Result PlainKind PacketError
-channelled most kind body =
+abbrev pub channelled : Bool → ℕ → ℕ → List ℕ → Result PlainKind PacketError
+channelled a most kind body =
     if kind % 2 == 0 then data_of kind body
     else if kind % 32 == 1 then bare (rr (kind / 32)) body
     else if kind % 32 == 5 then bare (rnr (kind / 32)) body
     else if kind % 32 == 9 then bare (rej (kind / 32)) body
-    else named most kind body
+    else named a most kind body
 
-abbrev pub kind_of : ℕ → ℕ → ℕ → List ℕ → Result PlainKind PacketError
-kind_of most channel kind body = if channel == 0 then unchannelled kind body else channelled most kind body
+abbrev pub kind_of : Bool → ℕ → ℕ → ℕ → List ℕ → Result PlainKind PacketError
+kind_of a most channel kind body = if channel == 0 then unchannelled kind body else channelled a most kind body
 
--- modulo 8, and Q and D where they may be
+-- modulo 8, and Q, A and D where they may be
 abbrev pub has_format : ℕ → ℕ → Bool
 has_format first kind = first / 16 % 4 == 1 && may_have (first / 128 == 1) (first / 64 % 2 == 1) kind
 
 abbrev pub with_head : ℕ → Bool → Bool → Result PlainKind PacketError → Result PlainWide PacketError
-with_head channel q d (Ok kind) = Ok (record { channel = channel; q = q; d = d; kind = kind })
-with_head channel q d (Err e) = Err e
+with_head channel bit_8 d (Ok kind) = Ok (record { channel = channel; bit_8 = bit_8; d = d; kind = kind })
+with_head channel bit_8 d (Err e) = Err e
 
 unfoldable pub wide_of : ℕ → List ℕ → Result PlainWide PacketError
 wide_of most [] = Err TooShort
@@ -154,5 +161,5 @@ wide_of most (first ∷ second ∷ []) = Err TooShort
 wide_of most (first ∷ second ∷ kind ∷ body) =
     if has_format first kind
     then with_head (first % 16 * 256 + second) (first / 128 == 1) (first / 64 % 2 == 1)
-    (kind_of most (first % 16 * 256 + second) kind body)
+    (kind_of (first / 128 == 1) most (first % 16 * 256 + second) kind body)
     else Err BadFormat

@@ -1,10 +1,12 @@
 //! Addresses, facilities and user data, as CALL, ACCEPT, CLEAR and CLEAR CONFIRMATION have them.
-ghost use Rattle.std.specs.Prelude.{◌≡◌, ◌≤◌, ◌/◌, ◌%◌, ◌+◌};
-ghost use Rattle.x25_packet.specs.Digits.{halves_at};
-ghost use Rattle.x25_wide.specs.Block.{AreDigits, plain_block, plain_fields, plain_optional};
-ghost use Rattle.x25_wide.specs.Reading.{Gives, block_of, fields_of, optional_block};
+ghost use Rattle.std.specs.Prelude.{◌≡◌, ◌≤◌, ◌/◌, ◌+◌, [], false, length, true};
+ghost use Rattle.x25_wide.specs.Block.{AreAddresses, called_in, calling_in, hold_addresses, plain_block, plain_fields};
+ghost use Rattle.x25_wide.specs.Block.{plain_optional};
+ghost use Rattle.x25_wide.specs.Narrowing.{called_taken, calling_taken, digits_behind};
+ghost use Rattle.x25_wide.specs.Reading.{Gives, addressed, block_of, fields_of, optional_block};
 
 use crate::facilities::are_facilities;
+use crate::halves::Halves;
 use x25_packet::{Digits, PacketError, hold_digits};
 
 /// The most octets of a facility field, section 7.1.
@@ -19,12 +21,14 @@ pub struct Fields<'a> {
 
 /// Addresses, and what may follow them.
 ///
-/// `lengths` has the number of digits of the calling address in its high half, and that of the called address in its
-/// low half. `digits` has both, the called address first, two to an octet.
+/// `called` and `calling` say how many half octets each address has: digits, or where the packet's A bit is 1 the type
+/// of address, the numbering plan and then digits. `addresses` has both, the called address first, two half octets to
+/// an octet.
 #[derive(Clone, Copy, Debug)]
 pub struct Block<'a> {
-    pub lengths: u8,
-    pub digits: &'a [u8],
+    pub called: u8,
+    pub calling: u8,
+    pub addresses: &'a [u8],
     pub fields: Option<Fields<'a>>,
 }
 
@@ -51,60 +55,163 @@ fn read_fields<'a>(most: usize, octets: &'a [u8]) -> Result<Option<Fields<'a>>, 
     Ok(Some(Fields { facilities, user }))
 }
 
-/// A block with at most `most` octets of user data.
-pub(crate) fn read_block<'a>(most: usize, octets: &'a [u8]) -> Result<Block<'a>, PacketError>
-    ensures { Gives plain_block result (block_of most octets.now) }
+/// Whether the half octets behind the first `count` are 0, and where A is 0 all are digits.
+fn hold_addresses(a: bool, count: usize, octets: &[u8]) -> bool
+    requires { length octets.now ≡ (count + 1) / 2 }
+    ensures { result ≡ hold_addresses a count octets.now }
 {
-    let [lengths, octets @ ..] = octets else {
-        return Err(PacketError::TooShort);
-    };
-    let lengths = *lengths;
-    let count = usize::from(lengths % 16) + usize::from(lengths / 16);
+    if !a {
+        return hold_digits(count, octets);
+    }
+    if count % 2 == 0 {
+        return true;
+    }
+    octets[count / 2] % 16 == 0
+}
+
+/// What stands behind the lengths of the addresses.
+fn read_addresses<'a>(
+    a: bool,
+    most: usize,
+    called: u8,
+    calling: u8,
+    octets: &'a [u8],
+) -> Result<Block<'a>, PacketError>
+    ensures { Gives plain_block result (addressed a most called calling octets.now) }
+{
+    let count = usize::from(called) + usize::from(calling);
     let size = (count + 1) / 2;
     if octets.len() < size {
         return Err(PacketError::TooShort);
     }
-    let (digits, rest) = octets.split_at(size);
-    if !hold_digits(count, digits) {
+    let (addresses, rest) = octets.split_at(size);
+    if !hold_addresses(a, count, addresses) {
         return Err(PacketError::BadDigit);
     }
     let fields = read_fields(most, rest)?;
     Ok(Block {
-        lengths,
-        digits,
+        called,
+        calling,
+        addresses,
         fields,
     })
 }
 
+/// A block with at most `most` octets of user data, in the format that the A bit says.
+pub(crate) fn read_block<'a>(
+    a: bool,
+    most: usize,
+    octets: &'a [u8],
+) -> Result<Block<'a>, PacketError>
+    ensures { Gives plain_block result (block_of a most octets.now) }
+{
+    if a {
+        let [called, calling, octets @ ..] = octets else {
+            return Err(PacketError::TooShort);
+        };
+        return read_addresses(true, most, *called, *calling, octets);
+    }
+    let [lengths, octets @ ..] = octets else {
+        return Err(PacketError::TooShort);
+    };
+    read_addresses(false, most, *lengths % 16, *lengths / 16, octets)
+}
+
 /// A block where there are octets.
 pub(crate) fn read_optional_block<'a>(
+    a: bool,
     most: usize,
     octets: &'a [u8],
 ) -> Result<Option<Block<'a>>, PacketError>
-    ensures { Gives plain_optional result (optional_block most octets.now) }
+    ensures { Gives plain_optional result (optional_block a most octets.now) }
 {
     if octets.is_empty() {
         return Ok(None);
     }
-    let block = read_block(most, octets)?;
+    let block = read_block(a, most, octets)?;
     Ok(Some(block))
 }
 
+#[tactic(auto, unfolding(x25_packet::specs::Digits::halves_of))]
+fn no_digits<'a>() -> Digits<'a>
+    ensures { result ≡ [] }
+{
+    Digits::in_halves(&[], 0, 0)
+}
+
 impl<'a> Block<'a> {
-    /// The digits of the called address.
-    pub fn called(&self) -> Digits<'a>
-        requires { AreDigits (plain_block self.now) }
-        ensures { result ≡ halves_at self.now.digits.now 0 (self.now.lengths % 16) }
+    /// The digits of the called address, where the A bit is 0.
+    pub fn called_digits(&self) -> Digits<'a>
+        requires { AreAddresses false (plain_block self.now) }
+        ensures { result ≡ called_in (plain_block self.now) }
     {
-        Digits::in_halves(self.digits, 0, usize::from(self.lengths % 16))
+        Digits::in_halves(self.addresses, 0, usize::from(self.called))
     }
 
-    /// The digits of the calling address.
-    pub fn calling(&self) -> Digits<'a>
-        requires { AreDigits (plain_block self.now) }
-        ensures { result ≡ halves_at self.now.digits.now (self.now.lengths % 16) (self.now.lengths / 16) }
+    /// The digits of the calling address, where the A bit is 0.
+    pub fn calling_digits(&self) -> Digits<'a>
+        requires { AreAddresses false (plain_block self.now) }
+        ensures { result ≡ calling_in (plain_block self.now) }
     {
-        let called = usize::from(self.lengths % 16);
-        Digits::in_halves(self.digits, called, usize::from(self.lengths / 16))
+        Digits::in_halves(
+            self.addresses,
+            usize::from(self.called),
+            usize::from(self.calling),
+        )
+    }
+
+    /// The half octets of the called address, where the A bit is 1.
+    pub fn called_halves(&self) -> Halves<'a>
+        requires { AreAddresses true (plain_block self.now) }
+        ensures { result ≡ called_in (plain_block self.now) }
+    {
+        Halves::of(self.addresses, 0, self.called)
+    }
+
+    /// The half octets of the calling address, where the A bit is 1.
+    pub fn calling_halves(&self) -> Halves<'a>
+        requires { AreAddresses true (plain_block self.now) }
+        ensures { result ≡ calling_in (plain_block self.now) }
+    {
+        Halves::of(self.addresses, usize::from(self.called), self.calling)
+    }
+
+    /// The digits behind the type and the plan of an address, which begins at the half octet `start`.
+    fn digits_behind(&self, start: usize, count: usize) -> Digits<'a>
+        requires addresses { AreAddresses true (plain_block self.now) }
+        requires there { start + count ≤ self.now.called + self.now.calling }
+        ensures { result ≡ digits_behind (plain_block self.now) start count }
+    {
+        let total = usize::from(self.called) + usize::from(self.calling);
+        if !hold_digits(total, self.addresses) || count < 2 || count > 17 {
+            return no_digits();
+        }
+        let first = start + 2;
+        let (_, octets) = self.addresses.split_at(first / 2);
+        Digits::in_halves(octets, first % 2, count - 2)
+    }
+
+    /// What a station takes the called address for.
+    pub(crate) fn called_taken(&self, a: bool) -> Digits<'a>
+        requires { AreAddresses a (plain_block self.now) }
+        ensures { result ≡ called_taken a (plain_block self.now) }
+    {
+        if a {
+            self.digits_behind(0, usize::from(self.called))
+        } else {
+            self.called_digits()
+        }
+    }
+
+    /// What a station takes the calling address for.
+    pub(crate) fn calling_taken(&self, a: bool) -> Digits<'a>
+        requires { AreAddresses a (plain_block self.now) }
+        ensures { result ≡ calling_taken a (plain_block self.now) }
+    {
+        if a {
+            self.digits_behind(usize::from(self.called), usize::from(self.calling))
+        } else {
+            self.calling_digits()
+        }
     }
 }

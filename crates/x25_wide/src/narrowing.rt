@@ -3,7 +3,7 @@ ghost use Rattle.std.specs.Prelude.{◌≡◌, ℕ, [], IfOk};
 ghost use Rattle.x25_packet.specs.Facilities.{IsFacilityField};
 ghost use Rattle.x25_packet.specs.Packet.{plain as plain_written};
 ghost use Rattle.x25_wide.specs.Block.{plain_fields};
-ghost use Rattle.x25_wide.specs.Narrowing.{HasDigits, are_within, field_in, field_said, field_taken, reason_taken};
+ghost use Rattle.x25_wide.specs.Narrowing.{HasAddresses, are_within, field_in, field_said, field_taken, reason_taken};
 ghost use Rattle.x25_wide.specs.Narrowing.{user_taken, with_field};
 ghost use Rattle.x25_packet.specs.Spelling.{IsInRange};
 ghost use Rattle.x25_wide.specs.Packet.{plain, plain_kind};
@@ -142,16 +142,16 @@ fn with_field<'a>(
     packet: &WidePacket<'a>,
     field: &'a NarrowField,
 ) -> Result<Packet<'a>, PacketError>
-    requires { HasDigits (plain_kind packet.now.kind) }
-    ensures { Gives plain_written result (with_field packet.now.channel packet.now.q
+    requires { HasAddresses packet.now.bit_8 (plain_kind packet.now.kind) }
+    ensures { Gives plain_written result (with_field packet.now.channel packet.now.bit_8
         (plain_kind packet.now.kind) field.now) }
 {
     let channel = packet.channel;
     match &packet.kind {
         Kind::Call { block } => Ok(Packet::Call {
             channel,
-            called: block.called(),
-            calling: block.calling(),
+            called: block.called_taken(packet.bit_8),
+            calling: block.calling_taken(packet.bit_8),
             facilities: field.as_slice(),
             user: user_taken(&block.fields),
         }),
@@ -176,7 +176,7 @@ fn with_field<'a>(
         Kind::ClearConf { .. } => Ok(Packet::ClearConf { channel }),
         Kind::Data { m, ps, pr, user } => Ok(Packet::Data {
             channel,
-            q: packet.q,
+            q: packet.bit_8,
             m: *m,
             ps: *ps,
             pr: *pr,
@@ -211,8 +211,8 @@ pub fn narrow<'a>(
     packet: &WidePacket<'a>,
     field: &'a NarrowField,
 ) -> Result<Packet<'a>, PacketError>
-    requires { HasDigits (plain_kind packet.now.kind) }
-    ensures exact { Gives plain_written result (with_field packet.now.channel packet.now.q
+    requires { HasAddresses packet.now.bit_8 (plain_kind packet.now.kind) }
+    ensures exact { Gives plain_written result (with_field packet.now.channel packet.now.bit_8
         (plain_kind packet.now.kind) field.now) }
     // Its fields are in their ranges, so that it can be spelled.
     ensures range { (most : ℕ) → IsPacket most (plain packet.now) → IsFacilityField field.now

@@ -66,11 +66,12 @@ pub enum Kind<'a> {
 /// A packet as a peer may send it. Its octets are borrowed.
 ///
 /// `channel` is the logical channel, group and number together: 0 for RESTART, DIAGNOSTIC and REGISTRATION, else 1 to
-/// 4,095. `q` is the qualifier, `d` the delivery confirmation bit.
+/// 4,095. `bit_8` of the first octet is the qualifier (Q) in DATA, and in CALL, ACCEPT, CLEAR and CLEAR CONFIRMATION
+/// the A bit: whether addresses have their types and plans. `d` is the delivery confirmation bit.
 #[derive(Clone, Copy, Debug)]
 pub struct WidePacket<'a> {
     pub channel: u16,
-    pub q: bool,
+    pub bit_8: bool,
     pub d: bool,
     pub kind: Kind<'a>,
 }

@@ -5,7 +5,7 @@ ghost use Rattle.x25_wide.specs.Reading.{Gives, bare, channelled, clear_of, data
 ghost use Rattle.x25_wide.specs.Reading.{interrupt_of, is_short, kind_of, named, reason_of, unchannelled, wide_of};
 ghost use Rattle.x25_wide.specs.Reading.{called, block_of, registered};
 ghost use Rattle.x25_wide.specs.Block.{plain_block, plain_fields};
-ghost use Rattle.x25_wide.specs.Narrowing.{HasDigits};
+ghost use Rattle.x25_wide.specs.Narrowing.{HasAddresses};
 ghost use Rattle.x25_wide.specs.Packet.Spelling.{Spells, may_have};
 
 use crate::block::{Fields, read_block, read_optional_block};
@@ -54,10 +54,10 @@ fn is_short(most: usize, fields: Option<Fields>) -> bool
     }
 }
 
-fn call<'a>(most: usize, body: &'a [u8]) -> Result<Kind<'a>, PacketError>
-    ensures { Gives plain_kind result (called most (block_of 128 body.now)) }
+fn call<'a>(a: bool, most: usize, body: &'a [u8]) -> Result<Kind<'a>, PacketError>
+    ensures { Gives plain_kind result (called most (block_of a 128 body.now)) }
 {
-    let block = read_block(FAST_SELECT_OCTETS, body)?;
+    let block = read_block(a, FAST_SELECT_OCTETS, body)?;
     if !is_short(most, block.fields) {
         return Err(PacketError::TooLong);
     }
@@ -76,8 +76,8 @@ fn reason(body: &[u8]) -> Result<(u8, Option<u8>), PacketError>
     }
 }
 
-fn clear<'a>(body: &'a [u8]) -> Result<Kind<'a>, PacketError>
-    ensures { Gives plain_kind result (clear_of body.now) }
+fn clear<'a>(a: bool, body: &'a [u8]) -> Result<Kind<'a>, PacketError>
+    ensures { Gives plain_kind result (clear_of a body.now) }
 {
     match body {
         [] => Err(PacketError::TooShort),
@@ -90,7 +90,7 @@ fn clear<'a>(body: &'a [u8]) -> Result<Kind<'a>, PacketError>
             diagnostic: Some(*diagnostic),
         }),
         [cause, diagnostic, rest @ ..] => {
-            let block = read_block(FAST_SELECT_OCTETS, rest)?;
+            let block = read_block(a, FAST_SELECT_OCTETS, rest)?;
             Ok(Kind::ExtendedClear {
                 cause: *cause,
                 diagnostic: *diagnostic,
@@ -175,18 +175,18 @@ fn unchannelled<'a>(kind: u8, body: &'a [u8]) -> Result<Kind<'a>, PacketError>
 }
 
 /// A packet of a channel whose type has no number.
-fn named<'a>(most: usize, kind: u8, body: &'a [u8]) -> Result<Kind<'a>, PacketError>
-    ensures { Gives plain_kind result (named most kind body.now) }
+fn named<'a>(a: bool, most: usize, kind: u8, body: &'a [u8]) -> Result<Kind<'a>, PacketError>
+    ensures { Gives plain_kind result (named a most kind body.now) }
 {
     match kind {
-        codes::CALL => call(most, body),
+        codes::CALL => call(a, most, body),
         codes::ACCEPT => {
-            let block = read_optional_block(FAST_SELECT_OCTETS, body)?;
+            let block = read_optional_block(a, FAST_SELECT_OCTETS, body)?;
             Ok(Kind::Accept { block })
         }
-        codes::CLEAR => clear(body),
+        codes::CLEAR => clear(a, body),
         codes::CLEAR_CONF => {
-            let block = read_optional_block(0, body)?;
+            let block = read_optional_block(a, 0, body)?;
             Ok(Kind::ClearConf { block })
         }
         codes::INTERRUPT => interrupt(body),
@@ -201,8 +201,8 @@ fn named<'a>(most: usize, kind: u8, body: &'a [u8]) -> Result<Kind<'a>, PacketEr
 }
 
 /// A packet of a channel.
-fn channelled<'a>(most: usize, kind: u8, body: &'a [u8]) -> Result<Kind<'a>, PacketError>
-    ensures { Gives plain_kind result (channelled most kind body.now) }
+fn channelled<'a>(a: bool, most: usize, kind: u8, body: &'a [u8]) -> Result<Kind<'a>, PacketError>
+    ensures { Gives plain_kind result (channelled a most kind body.now) }
 {
     if kind % 2 == 0 {
         return data(kind, body);
@@ -212,28 +212,36 @@ fn channelled<'a>(most: usize, kind: u8, body: &'a [u8]) -> Result<Kind<'a>, Pac
         codes::RR => bare(Kind::Rr { pr }, body),
         codes::RNR => bare(Kind::Rnr { pr }, body),
         REJ => bare(Kind::Rej { pr }, body),
-        _ => named(most, kind, body),
+        _ => named(a, most, kind, body),
     }
 }
 
-fn kind<'a>(most: usize, channel: u16, kind: u8, body: &'a [u8]) -> Result<Kind<'a>, PacketError>
-    ensures { Gives plain_kind result (kind_of most channel kind body.now) }
+fn kind<'a>(
+    a: bool,
+    most: usize,
+    channel: u16,
+    kind: u8,
+    body: &'a [u8],
+) -> Result<Kind<'a>, PacketError>
+    ensures { Gives plain_kind result (kind_of a most channel kind body.now) }
 {
     if channel == 0 {
         unchannelled(kind, body)
     } else {
-        channelled(most, kind, body)
+        channelled(a, most, kind, body)
     }
 }
 
 /// Whether the first octet is of a packet modulo 8 with this type.
-fn has_format(first: u8, q: bool, d: bool, kind: u8) -> bool
-    ensures { result ≡ (first / 16 % 4 == 1 && may_have q d kind) }
+fn has_format(first: u8, bit_8: bool, d: bool, kind: u8) -> bool
+    ensures { result ≡ (first / 16 % 4 == 1 && may_have bit_8 d kind) }
 {
     let is_data = kind % 2 == 0;
-    let may_q = !q || is_data;
-    let may_d = !d || is_data || kind == codes::CALL || kind == codes::ACCEPT;
-    first / 16 % 4 == 1 && may_q && may_d
+    let is_call = kind == codes::CALL || kind == codes::ACCEPT;
+    let is_clear = kind == codes::CLEAR || kind == codes::CLEAR_CONF;
+    let may_8 = !bit_8 || is_data || is_call || is_clear;
+    let may_d = !d || is_data || is_call;
+    first / 16 % 4 == 1 && may_8 && may_d
 }
 
 #[tactic(auto, unfolding(crate::specs::Reading::wide_of))]
@@ -243,16 +251,16 @@ fn read<'a>(most: usize, octets: &'a [u8]) -> Result<WidePacket<'a>, PacketError
     let [first, second, kind_octet, body @ ..] = octets else {
         return Err(PacketError::TooShort);
     };
-    let q = *first / 128 == 1;
+    let bit_8 = *first / 128 == 1;
     let d = *first / 64 % 2 == 1;
-    if !has_format(*first, q, d, *kind_octet) {
+    if !has_format(*first, bit_8, d, *kind_octet) {
         return Err(PacketError::BadFormat);
     }
     let channel = u16::from(*first % 16) * 256 + u16::from(*second);
-    let kind = kind(most, channel, *kind_octet, body)?;
+    let kind = kind(bit_8, most, channel, *kind_octet, body)?;
     Ok(WidePacket {
         channel,
-        q,
+        bit_8,
         d,
         kind,
     })
@@ -262,7 +270,8 @@ fn read<'a>(most: usize, octets: &'a [u8]) -> Result<WidePacket<'a>, PacketError
 ///
 /// ITU-T X.25 (10/96), section 5. Errors 20 to 24 and 26, the first that applies: fewer than three octets (20), the
 /// general format identifier (21), the type on this channel (22), then the body from its front to its end: octets
-/// missing (20), digits (24), a facility whose octets are missing (26), octets left over (23).
+/// missing (20), digits and the half octet left over (24), a facility whose octets are missing (26), octets left over
+/// (23).
 pub fn decode<'a>(most: usize, octets: &'a [u8]) -> Result<WidePacket<'a>, PacketError>
     ensures exact { Gives plain result (wide_of most octets.now) }
     // What is read is spelled so.
@@ -270,7 +279,7 @@ pub fn decode<'a>(most: usize, octets: &'a [u8]) -> Result<WidePacket<'a>, Packe
     // What is spelled so is read.
     ensures only { (v : PlainWide) → Spells most v octets.now → IsOkAnd result (λ w. plain w ≡ v) }
     // So that `narrow` takes it.
-    ensures digits { IfOk result (λ w. HasDigits (plain_kind w.kind)) }
+    ensures addresses { IfOk result (λ w. HasAddresses w.bit_8 (plain_kind w.kind)) }
 {
     read(most, octets)
 }

@@ -1,17 +1,22 @@
 use std::test::Fail;
-use x25_packet::{Packet, PacketError};
+use x25_packet::{Digits, Packet, PacketError};
 use x25_wide::{NarrowField, decode, narrow, read, reads_alike, take, taking_keeps_octets};
 
 /// What is taken of a packet: a cause, a diagnostic, and the facility field in hexadecimal.
 type Taken = (u8, u8, &'static str);
 
 /// Octets in hexadecimal, and what a station takes of them, or the number of the error that they are for it.
-static ROWS: [(&str, Result<Taken, u8>); 17] = [
+static ROWS: [(&str, Result<Taken, u8>); 19] = [
     ("10010b431234567000", Ok((0, 0, ""))),
     ("50010b11120201014142", Ok((0, 0, ""))),
     ("10010b111206430202420707", Ok((0, 0, "420707430202"))),
     ("10010b1112084207070000420808", Ok((0, 0, "420707"))),
     ("10010b1112", Ok((0, 0, ""))),
+    ("90010b0605114930201320064207", Err(20)),
+    (
+        "90010b060511493020132006420707430202",
+        Ok((0, 0, "420707430202")),
+    ),
     ("10010f0000", Ok((0, 0, ""))),
     ("10010f11120343020241", Ok((0, 0, "430202"))),
     ("10011305", Ok((5, 0, ""))),
@@ -107,5 +112,55 @@ fn taken_for_packets(rt: HostRuntime) -> Result<(), Fail> {
     assert_eq!(rt; strict_error(&[0x10, 0x01, 0x13, 0x05, 0x00]), 0);
     reads_alike();
     taking_keeps_octets();
+    Ok(())
+}
+
+/// The octets of a CALL whose addresses have their types and plans, and the addresses that a station takes.
+static TYPED: [(&str, &str, &str); 7] = [
+    ("90010b0605114930201320", "4930", "132"),
+    ("90010b0005132c50", "", ""),
+    ("90010b0203131320", "", "2"),
+    ("90010b0011131234567890123450", "", "123456789012345"),
+    (
+        "90010b1112131234567890123452112345678901234560",
+        "123456789012345",
+        "",
+    ),
+    ("90010b0105113498", "", "498"),
+    ("90010b040513c0134980", "", ""),
+];
+
+fn are_digits(found: &Digits, wanted: &str) -> bool {
+    let wanted = wanted.as_bytes();
+    if found.len() != wanted.len() {
+        return false;
+    }
+    for place in 0..wanted.len() {
+        if found.get(place) + 48 != wanted[place] {
+            return false;
+        }
+    }
+    true
+}
+
+#[test]
+fn addresses_with_types_taken(rt: HostRuntime) -> Result<(), Fail> {
+    for (text, wanted_called, wanted_calling) in TYPED {
+        let octets = hex::decode(rt.alloc(), text)?;
+        let mut field = NarrowField::none();
+        let taken = take(16, octets.as_slice(), &mut field);
+        let Ok(
+            Packet::Call {
+                called,
+                calling,
+                ..
+            },
+        ) = taken
+        else {
+            return Err(Fail::from("a CALL"));
+        };
+        assert!(rt; are_digits(&called, wanted_called), "{text}");
+        assert!(rt; are_digits(&calling, wanted_calling), "{text}");
+    }
     Ok(())
 }

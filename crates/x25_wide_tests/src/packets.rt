@@ -2,7 +2,7 @@ use std::test::Fail;
 use x25_wide::{Kind, WidePacket, decode};
 
 /// Octets in hexadecimal, and the number of their error, 0 where they spell a packet.
-static ROWS: [(&str, u8); 47] = [
+static ROWS: [(&str, u8); 61] = [
     // CALL: D; reverse charging; facilities of an OSI stack; no facility length; 17 octets of user data without and
     // with fast select; a field of 110 octets; a facility whose octets are missing; a digit that is none
     ("50010b111200", 0),
@@ -19,7 +19,24 @@ static ROWS: [(&str, u8); 47] = [
     ("10010b111a00", 24),
     ("10010b", 20),
     ("10010b11", 20),
-    ("d0010b111200", 21),
+    ("d0011b00", 21),
+    // addresses with their types and plans: two of digits; none; a type alone; an alternative address; the longest; a
+    // length is missing; octets are missing; a half octet that is left over isn't 0; in an ACCEPT, a CLEAR and its
+    // confirmation; without addresses; in a RESET and a RR, which have no A
+    ("90010b0708114930113208075000", 0),
+    ("90010b07071149301132080700", 0),
+    ("90010b0000", 0),
+    ("90010b010010", 0),
+    ("90010b0a0050c0a80001", 0),
+    ("d0010b060013123400", 0),
+    ("90010b00", 20),
+    ("90010b030013", 20),
+    ("90010b0300131f", 24),
+    ("90010f030313113200", 0),
+    ("90011305410300131000", 0),
+    ("90011703001310", 0),
+    ("900113", 20),
+    ("90011b00", 21),
     // ACCEPT: basic, lengths, a facility field, user data
     ("10010f", 0),
     ("10010f00", 0),
@@ -78,7 +95,7 @@ fn addresses_and_fields(rt: HostRuntime) -> Result<(), Fail> {
     let Ok(
         WidePacket {
             channel: 1,
-            q: false,
+            bit_8: false,
             d: true,
             kind: Kind::Call { block },
         },
@@ -86,12 +103,38 @@ fn addresses_and_fields(rt: HostRuntime) -> Result<(), Fail> {
     else {
         return Err(Fail::from("a CALL with D"));
     };
-    assert_eq!(rt; block.called().len(), 3);
-    assert_eq!(rt; block.called().get(2), 3);
-    assert_eq!(rt; block.calling().len(), 4);
-    assert_eq!(rt; block.calling().get(3), 7);
+    assert_eq!(rt; block.called_digits().len(), 3);
+    assert_eq!(rt; block.called_digits().get(2), 3);
+    assert_eq!(rt; block.calling_digits().len(), 4);
+    assert_eq!(rt; block.calling_digits().get(3), 7);
     let fields = block.fields.ok_or("a facility field")?;
     assert_eq!(rt; fields.facilities, [0x01, 0x01].as_slice());
     assert_eq!(rt; fields.user, [0x41, 0x42].as_slice());
+    Ok(())
+}
+
+#[test]
+fn addresses_with_types(rt: HostRuntime) -> Result<(), Fail> {
+    let octets = hex::decode(rt.alloc(), "90010b05061149313208f0")?;
+    let Ok(
+        WidePacket {
+            bit_8: true,
+            kind: Kind::Call { block },
+            ..
+        },
+    ) = decode(16, octets.as_slice())
+    else {
+        return Err(Fail::from("a CALL with A"));
+    };
+    let called = block.called_halves();
+    let calling = block.calling_halves();
+    assert_eq!(rt; called.len(), 5);
+    assert_eq!(rt; (called.get(0), called.get(1), called.get(4)), (1, 1, 3));
+    assert_eq!(rt; calling.len(), 6);
+    assert_eq!(rt;
+        (calling.get(0), calling.get(1), calling.get(5)),
+        (1, 3, 15)
+    );
+    assert_eq!(rt; (called.behind(2).len(), called.behind(2).get(0)), (3, 4));
     Ok(())
 }

@@ -36,35 +36,37 @@ abbrev pub reason_octets : ℕ → Option ℕ → List ℕ
 reason_octets cause None = cause ∷ []
 reason_octets cause (Some reason) = cause ∷ reason ∷ []
 
--- What follows the third octet. CLEAR and its confirmation have a basic format, and an extended one with a block.
-abbrev pub body_of : PlainKind → List ℕ
-body_of (call block) = block_octets block
-body_of (accept block) = optional_octets block
-body_of (clear cause reason) = reason_octets cause reason
-body_of (extended_clear cause reason block) = cause ∷ reason ∷ block_octets block
-body_of (clear_conf block) = optional_octets block
-body_of (user_data m ps pr user) = user
-body_of (interrupt user) = user
-body_of (reset cause reason) = reason_octets cause reason
-body_of (restart cause reason) = reason_octets cause reason
-body_of (diagnostic number explanation) = number ∷ explanation
-body_of (registration octets) = octets
-body_of (registration_conf octets) = octets
-body_of _ = []
+-- What follows the third octet, by A. CLEAR and its confirmation have a basic format, and an extended one with a block.
+abbrev pub body_of : Bool → PlainKind → List ℕ
+body_of a (call block) = block_octets a block
+body_of a (accept block) = optional_octets a block
+body_of a (clear cause reason) = reason_octets cause reason
+body_of a (extended_clear cause reason block) = cause ∷ reason ∷ block_octets a block
+body_of a (clear_conf block) = optional_octets a block
+body_of a (user_data m ps pr user) = user
+body_of a (interrupt user) = user
+body_of a (reset cause reason) = reason_octets cause reason
+body_of a (restart cause reason) = reason_octets cause reason
+body_of a (diagnostic number explanation) = number ∷ explanation
+body_of a (registration octets) = octets
+body_of a (registration_conf octets) = octets
+body_of a _ = []
 
 -- The first octet: the general format identifier (section 5.1.1) and the channel's group. Bits 5 and 6 are 01 for
--- sequence numbers modulo 8, bit 7 is D, bit 8 is Q.
+-- sequence numbers modulo 8, bit 7 is D, bit 8 is Q or A.
 abbrev pub first_of : PlainWide → ℕ
-first_of w = 128 * bit w.q + 64 * bit w.d + 16 + w.channel / 256
+first_of w = 128 * bit w.bit_8 + 64 * bit w.d + 16 + w.channel / 256
 
 abbrev pub spelling_of : PlainWide → List ℕ
-spelling_of w = first_of w ∷ w.channel % 256 ∷ type_of w.kind ∷ body_of w.kind
+spelling_of w = first_of w ∷ w.channel % 256 ∷ type_of w.kind ∷ body_of w.bit_8 w.kind
 
 -- ---- which values are packets
 
--- Q is of DATA, whose type is even, D of DATA, of CALL and of ACCEPT: section 5.1.1
+-- Q is of DATA, whose type is even, A of CALL, ACCEPT, CLEAR and CLEAR CONFIRMATION, D of DATA, CALL and ACCEPT:
+-- section 5.1.1
 abbrev pub may_have : Bool → Bool → ℕ → Bool
-may_have q d kind = (not q || kind % 2 == 0) && (not d || kind % 2 == 0 || kind == 11 || kind == 15)
+may_have bit_8 d kind = (not bit_8 || kind % 2 == 0 || kind == 11 || kind == 15 || kind == 19 || kind == 23)
+    && (not d || kind % 2 == 0 || kind == 11 || kind == 15)
 
 -- RESTART, DIAGNOSTIC and REGISTRATION are of channel 0, all others of a logical channel: section 5.1.2
 abbrev pub HasPlace : ℕ → PlainKind → Type 0
@@ -82,26 +84,26 @@ IsShort most (Some f) = (length f.user ≤ most) ⊎ (asks_fast_select f.facilit
 
 -- User data is at most 128 octets with fast select (section 6.16): called in ACCEPT, clear user data in CLEAR. Without
 -- it a CALL has at most `most`, which is 16 in the standard.
-abbrev pub IsKind : ℕ → PlainKind → Type 0
-IsKind most (call block) = IsBlock 128 block × IsShort most block.fields
-IsKind most (accept block) = MayBeBlock 128 block
-IsKind most (extended_clear cause reason block) = IsBlock 128 block
-IsKind most (clear_conf block) = MayBeBlock 0 block
-IsKind most (user_data m ps pr user) = (ps < 8) × (pr < 8) × (length user ≤ 4096)
-IsKind most (rr pr) = pr < 8
-IsKind most (rnr pr) = pr < 8
-IsKind most (rej pr) = pr < 8
-IsKind most (interrupt user) = (1 ≤ length user) × (length user ≤ 32)
-IsKind most (diagnostic number explanation) = length explanation ≤ 3
-IsKind most (registration octets) = length octets ≤ 4096
-IsKind most (registration_conf octets) = length octets ≤ 4096
-IsKind most _ = Unit {0}
+abbrev pub IsKind : Bool → ℕ → PlainKind → Type 0
+IsKind a most (call block) = IsBlock a 128 block × IsShort most block.fields
+IsKind a most (accept block) = MayBeBlock a 128 block
+IsKind a most (extended_clear cause reason block) = IsBlock a 128 block
+IsKind a most (clear_conf block) = MayBeBlock a 0 block
+IsKind a most (user_data m ps pr user) = (ps < 8) × (pr < 8) × (length user ≤ 4096)
+IsKind a most (rr pr) = pr < 8
+IsKind a most (rnr pr) = pr < 8
+IsKind a most (rej pr) = pr < 8
+IsKind a most (interrupt user) = (1 ≤ length user) × (length user ≤ 32)
+IsKind a most (diagnostic number explanation) = length explanation ≤ 3
+IsKind a most (registration octets) = length octets ≤ 4096
+IsKind a most (registration_conf octets) = length octets ≤ 4096
+IsKind a most _ = Unit {0}
 
 pub record IsPacket (most : ℕ) (w : PlainWide) : Type 0 where
   pub channel : w.channel ≤ 4095
   pub place : HasPlace w.channel w.kind
-  pub marks : may_have w.q w.d (type_of w.kind) ≡ true
-  pub kind : IsKind most w.kind
+  pub marks : may_have w.bit_8 w.d (type_of w.kind) ≡ true
+  pub kind : IsKind w.bit_8 most w.kind
 
 -- the octets spell the packet
 pub record Spells (most : ℕ) (w : PlainWide) (octets : List ℕ) : Type 0 where

@@ -1,4 +1,4 @@
-use Rattle.std.proofs.Common.{◌≡◌, ◌∙◌, ◌+◌, ◌-◌, ◌*◌, Result, Ok, Err, arith, length}
+use Rattle.std.proofs.Common.{◌∙◌, ◌-◌, Result, Ok, Err, arith, length}
 use Rattle.std.specs.Prelude.{IsOk, OnOk}
 use Rattle.x25_text.proofs.DigitLemmas.{encode_lower_is}
 use Rattle.x25_text.proofs.ShownLemmas.{shows_last, shows_more, shows_none}

@@ -1,14 +1,18 @@
 use Rattle.std.proofs.Common.{◌∙◌, ◌++◌, ap, append_assoc, codes, decimal}
 use Rattle.x25_wide.specs.Block.{plain_optional}
-use Rattle.x25_text.specs.WidePacketText.{optional_block_text}
+use Rattle.x25_text.specs.WidePacketText.{format_text, optional_block_text}
 use Rattle.x25_text.proofs.wide_packet_text.push_kind.Goals as goal
 
 pub returns-in-ClearConf-clause-text : goal.returns-in-ClearConf-clause-text
 returns-in-ClearConf-clause-text c =
-    let behind = optional_block_text (plain_optional c.in-ClearConf.block) in
+    let front = codes "CLEARCONF ch=" ++ decimal c.args.packet.now.channel in
+    let format = format_text c.args.packet.now.bit_8 in
+    let behind = optional_block_text c.args.packet.now.bit_8 (plain_optional c.in-ClearConf.block) in
     rw c.in-ClearConf.is
-    (c.push_optional_block-in-ClearConf.ensures.text ∙ ap (λ t. t ++ behind) c.push_number-in-ClearConf.ensures.text
-    ∙ append_assoc c.args.text.now (codes "CLEARCONF ch=" ++ decimal c.args.packet.now.channel) behind)
+    (c.push_optional_block-in-ClearConf.ensures.text
+    ∙ ap (λ t. t ++ behind) (c.push_format-in-ClearConf.ensures.text ∙ ap (λ t. t ++ format) c.push_number-in-ClearConf.ensures.text
+    ∙ append_assoc c.args.text.now front format)
+    ∙ append_assoc c.args.text.now (front ++ format) behind)
 
 pub returns-in-InterruptConf-clause-text : goal.returns-in-InterruptConf-clause-text
 returns-in-InterruptConf-clause-text c = rw c.in-InterruptConf.is c.push_number-in-InterruptConf.ensures.text

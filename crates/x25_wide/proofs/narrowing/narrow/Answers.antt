@@ -5,4 +5,4 @@ use Rattle.x25_wide.proofs.narrowing.narrow.Goals as goal
 
 pub returns-clause-range : goal.returns-clause-range
 returns-clause-range c = λ most is field. given_in_range plain_written c.with_field.result _ c.with_field.ensures
-    (in_range most c.args.packet.now.channel c.args.packet.now.q (plain_kind c.args.packet.now.kind) c.args.field.now is.channel is.place is.kind field)
+    (in_range most c.args.packet.now.channel c.args.packet.now.bit_8 (plain_kind c.args.packet.now.kind) c.args.field.now is.channel is.place is.kind field)

@@ -5,8 +5,8 @@ use Rattle.x25_wide.specs.Reading.{Gives, wide_of}
 use Rattle.x25_wide.specs.Packet.Spelling.{Spells}
 use Rattle.x25_wide.specs.declared.packet.WidePacket.{WidePacket}
 use Rattle.x25_wide.proofs.AgainLaws.{only_found}
-use Rattle.x25_wide.specs.Narrowing.{HasDigits}
-use Rattle.x25_wide.proofs.FoundLaws.{found_spells, has_digits, ok_err, ok_same}
+use Rattle.x25_wide.specs.Narrowing.{HasAddresses}
+use Rattle.x25_wide.proofs.FoundLaws.{found_spells, has_addresses, ok_err, ok_same}
 use Rattle.x25_wide.proofs.reading.decode.Goals as goal
 
 pub returns-clause-found : goal.returns-clause-found
@@ -24,9 +24,9 @@ returns-clause-only c = λ v spells. go c.read.result c.read.ensures v (only_fou
     go (Ok w) e v h = ok_same (sym e ∙ h)
     go (Err f) e v h = absurd (ok_err (sym e ∙ h))
 
-pub returns-clause-digits : goal.returns-clause-digits
-returns-clause-digits c = go c.read.result c.read.ensures
+pub returns-clause-addresses : goal.returns-clause-addresses
+returns-clause-addresses c = go c.read.result c.read.ensures
   where
-    go : (r : Result WidePacket PacketError) → Gives plain r (wide_of c.args.most c.args.octets.now) → IfOk r (λ w. HasDigits (plain_kind w.kind))
-    go (Ok w) e = has_digits c.args.most (plain_kind w.kind) (found_spells c.args.most c.args.octets.now (plain w) (λ i. omega (arith, c.type_inv.octets i)) e).packet.kind
+    go : (r : Result WidePacket PacketError) → Gives plain r (wide_of c.args.most c.args.octets.now) → IfOk r (λ w. HasAddresses w.bit_8 (plain_kind w.kind))
+    go (Ok w) e = has_addresses w.bit_8 c.args.most (plain_kind w.kind) (found_spells c.args.most c.args.octets.now (plain w) (λ i. omega (arith, c.type_inv.octets i)) e).packet.kind
     go (Err f) e = tt
