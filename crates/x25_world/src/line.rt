@@ -72,7 +72,7 @@ impl Line {
         }
         grow(&mut self.to_dce, frames)?;
         grow(&mut self.to_dte, frames)?;
-        self.room = frames;
+        self.room = free(&self.to_dce).min(free(&self.to_dte));
         Ok(())
     }
 
@@ -137,6 +137,14 @@ impl Line {
     }
 }
 
+// For how many frames more there are places.
+#[inline(always)]
+fn free(queue: &VecDeque<Vec<u8>>) -> usize
+    ensures { deque_len queue.now + result ≡ deque_capacity queue.now }
+{
+    queue.capacity() - queue.len()
+}
+
 // Makes room for so many frames more, by places for as many again as there are, or for those. Err: no memory.
 #[inline(always)]
 fn grow(queue: &mut VecDeque<Vec<u8>>, frames: usize) -> Result<(), AllocError>
@@ -146,7 +154,7 @@ fn grow(queue: &mut VecDeque<Vec<u8>>, frames: usize) -> Result<(), AllocError>
     ensures more { deque_capacity queue.old ≤ deque_capacity queue.new }
     ensures few { deque_capacity queue.new ≤ max (deque_capacity queue.old) (2 * deque_len queue.old + frames) }
 {
-    if queue.capacity() - queue.len() >= frames {
+    if free(queue) >= frames {
         return Ok(());
     }
     queue.reserve_exact(queue.len().max(frames))
