@@ -1,1 +1,2 @@
 pub mod SlotLemmas
+pub mod verdicts

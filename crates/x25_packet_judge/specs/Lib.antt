@@ -12,3 +12,4 @@ pub mod Layer
 pub mod Layers
 pub mod Book
 pub mod code
+pub mod laws

@@ -5,6 +5,7 @@
 
 mod book;
 mod flow;
+mod law;
 mod layer;
 mod layers;
 mod message;
@@ -19,6 +20,10 @@ mod talking;
 mod terms;
 
 pub use book::{Book, Verdict};
+pub use law::{
+    books_tell_of_channels, calls_begin, innocent_packets_stay_untold, resets_begin,
+    silent_packets_keep_the_rules,
+};
 pub use numbers::apart;
 pub use packet_rule::PacketRule;
 pub use packet_rule_text::{MOST_PACKET_RULE, push_packet_rule};

@@ -1,0 +1,10 @@
+-- Why the laws hold (src/law.rt).
+pub mod Flows
+pub mod Standing
+pub mod Saying
+pub mod Showing
+pub mod Leaving
+pub mod Innocents
+pub mod Silences
+pub mod Beginnings
+pub mod Books

@@ -1,0 +1,253 @@
+-- What the other end sends in the stretch, and on a channel of which nothing is known.
+use Rattle.std.proofs.Common.{◌≡◌, ◌==◌, ◌⊎◌, inl, inr, ℕ, ◌+◌, ◌-◌, ◌≤◌, arith, min, Bool, true, false, length, refl, sym, ap, ◌∙◌, subst}
+use Rattle.std.specs.Prelude.{nat_lt, ◌&&◌, ◌||◌, not}
+use Rattle.std.proofs.lemmas.Bool.{eqb-true, and_left, and_right, both_ways, cond_both, cond-true, cond-false}
+use Rattle.x25_bits.specs.declared.role.Role.{Role}
+use Rattle.x25_packet.specs.Packet.{PlainPacket, call, accept, clear, clear_conf, user_data, rr, rnr, interrupt, interrupt_conf, reset, reset_conf, restart, restart_conf}
+use Rattle.x25_packet_judge.specs.Flow as flow
+use Rattle.x25_packet_judge.specs.Numbers.{apart}
+use Rattle.x25_packet_judge.specs.Packets.{speaks, sends_known, sends_unknown, sends}
+use Rattle.x25_packet_judge.specs.Pair as pair
+use Rattle.x25_packet_judge.specs.Port as port
+use Rattle.x25_packet_judge.specs.Talking as talking
+use Rattle.x25_packet_judge.specs.Terms.{said, usual}
+use Rattle.x25_packet_judge.specs.declared.pair.Pair.{Pair}
+use Rattle.x25_packet_judge.specs.declared.port.Call.{Call}
+use Rattle.x25_packet_judge.specs.declared.port.Call.TheVariants.{Idle, Called, Calling, Collided, Answered, Open}
+use Rattle.x25_packet_judge.specs.declared.port.Talk.{Talk}
+use Rattle.x25_packet_judge.specs.declared.terms.Terms.{Terms}
+use Rattle.x25_packet_judge.specs.laws.Keeping.{Given, Come, takes_in, IsOfChannel}
+use Rattle.x25_packet_judge.proofs.verdicts.Flows.{heard_numbered, brings_one, others_sent, heard_next}
+use Rattle.x25_packet_judge.proofs.verdicts.Standing.{bit, not_true, Own, Level, Away, Gone}
+use Rattle.x25_packet_judge.proofs.verdicts.Saying.{before, going, awaits_none, owes_none, knows, enters, goes_on_so, together}
+
+-- ---- the other end sends: its port is the pair's own
+
+pub calls_gone : (k : Call) (terms : Terms) (v : Pair) → pair.may_talk_in k ≡ true → Gone (pair.calls_in k terms v).other
+calls_gone Idle terms v up = absurd (both_ways false refl up)
+calls_gone Called terms v up = absurd (both_ways false refl up)
+calls_gone Calling terms v up = absurd (both_ways false refl up)
+calls_gone Collided terms v up = absurd (both_ways false refl up)
+calls_gone Answered terms v up = record { known = refl; clearing = refl; call = refl }
+calls_gone Open terms v up = record { known = refl; clearing = refl; call = refl }
+
+pub accepts_none : (k : Call) (from : Role) → pair.may_talk_in k ≡ true → pair.may_accept_in k from ≡ false
+accepts_none Idle from up = absurd (both_ways false refl up)
+accepts_none Called from up = absurd (both_ways false refl up)
+accepts_none Calling from up = absurd (both_ways false refl up)
+accepts_none Collided from up = absurd (both_ways false refl up)
+accepts_none Answered from up = refl
+accepts_none Open from up = refl
+
+pub called_same : (k : Call) (terms : Terms) (v : Pair) → pair.may_talk_in k ≡ true → pair.called_in k terms v ≡ v.other
+called_same Idle terms v up = absurd (both_ways false refl up)
+called_same Called terms v up = absurd (both_ways false refl up)
+called_same Calling terms v up = absurd (both_ways false refl up)
+called_same Collided terms v up = absurd (both_ways false refl up)
+called_same Answered terms v up = refl
+called_same Open terms v up = refl
+
+pub answered_same : (k : Call) (terms : Terms) (v : Pair) → pair.may_talk_in k ≡ true → pair.answered_in k terms v ≡ v.other
+answered_same Idle terms v up = absurd (both_ways false refl up)
+answered_same Called terms v up = absurd (both_ways false refl up)
+answered_same Calling terms v up = absurd (both_ways false refl up)
+answered_same Collided terms v up = absurd (both_ways false refl up)
+answered_same Answered terms v up = refl
+answered_same Open terms v up = refl
+
+pub own_heard : (window most : ℕ) (k : Talk) (g : Given) (x y pr : ℕ) → Own window most k g x y → Own window most (port.with_flow (flow.heard pr k.flow).flow k) g (x + apart pr x) y
+own_heard window most k g x y pr o = record {
+  its_window = o.its_window;
+  its_most = o.its_most;
+  number = heard_next k.flow pr ∙ o.number;
+  numbered = heard_numbered k.flow (λ m u. (m ≡ g.sent) × (x ≤ u)) (λ m u. (m ≡ g.sent) × (x + apart pr x ≤ u)) pr (λ m u near fit. (fit.0, rises u fit.1)) o.numbered;
+  message = o.message;
+  interrupts = o.interrupts;
+}
+  where
+    rises : (u : ℕ) → x ≤ u → x + apart pr x ≤ u + apart pr u
+    rises u le = omega arith
+
+abbrev pub Turns : ℕ → ℕ → Given → Come → Pair → Type 0
+Turns window most g b v = Level window most v.reaches v.other v.own g b ⊎ (Away window most v.reaches v.other v.own g b ⊎ Gone v.other)
+
+-- from a stretch
+module _ (window most : ℕ) (s : Pair) (g : Given) (a : Come) (l : Level window most s.reaches s.other s.own g a) where
+  pub heard_level : (pr : ℕ) → Level window most (going s).reaches (talking.of_other (flow.heard pr s.other.talk.flow) (going s)).other (talking.of_other (flow.heard pr s.other.talk.flow) (going s)).own g (record a { acked = a.acked + apart pr a.acked })
+  heard_level pr = record {
+    reached = l.reached;
+    no_former = l.no_former;
+    go = record { known = l.go.known; up = l.go.up; others_known = l.go.others_known; none_cleared = l.go.none_cleared; none_reset = l.go.none_reset };
+    back = record { known = l.back.known; up = refl; others_known = l.back.others_known; none_cleared = l.back.none_cleared; none_reset = l.back.none_reset };
+    own = own_heard window most s.other.talk g a.acked a.confirmed pr l.own;
+    others = record { numbered = l.others.numbered; interrupts = l.others.interrupts };
+    on = l.on;
+  }
+
+  pub met : pair.is_together (going s) ≡ true
+  met = together s l.reached l.back l.go
+
+  pub hears_is : (pr : ℕ) → talking.hears pr (talking.goes_on (before s)) ≡ talking.of_other (flow.heard pr s.other.talk.flow) (going s)
+  hears_is pr = ap (talking.hears pr) (goes_on_so s l.back) ∙ cond-true (pair.is_together (going s)) (talking.of_other (flow.heard pr s.other.talk.flow) (going s)) _ met
+
+  pub shown_heard : (packet : PlainPacket) (pr : ℕ) → sends packet s ≡ talking.hears pr (talking.goes_on (before s)) → Turns window most g (record a { acked = a.acked + apart pr a.acked }) (sends packet s)
+  shown_heard packet pr is = subst (λ (v : Pair). Turns window most g (record a { acked = a.acked + apart pr a.acked }) v) (sym (is ∙ hears_is pr)) (inl (heard_level pr))
+
+  pub shown_data : (m q : Bool) (ps pr size : ℕ) → Turns window most g (record a { acked = a.acked + apart pr a.acked; taken = brings_one ps a.taken }) (talking.carries m q size (talking.numbers ps (talking.of_other (flow.heard pr s.other.talk.flow) (going s))))
+  shown_data m q ps pr size =
+      let k = heard_level pr in
+      inl (record {
+        reached = k.reached;
+        no_former = k.no_former;
+        go = record { known = k.go.known; up = k.go.up; others_known = k.go.others_known; none_cleared = k.go.none_cleared; none_reset = k.go.none_reset };
+        back = record { known = k.back.known; up = k.back.up; others_known = k.back.others_known; none_cleared = k.back.none_cleared; none_reset = k.back.none_reset };
+        own = k.own;
+        others = record { numbered = others_sent s.own.talk.flow s.own.talk.window ps a.taken g.told l.others.numbered; interrupts = l.others.interrupts };
+        on = k.on;
+      })
+
+  pub shown_asked : Turns window most g (record a { asked = a.asked + 1 }) (talking.interrupts (going s))
+  shown_asked = cond_both s.own.talk.is_interrupting _ _ (Turns window most g (record a { asked = a.asked + 1 }))
+      (λ _. inr (inr (record { known = refl; clearing = refl; call = refl })))
+      (λ none. inl (record {
+        reached = l.reached;
+        no_former = l.no_former;
+        go = record { known = l.go.known; up = l.go.up; others_known = l.go.others_known; none_cleared = l.go.none_cleared; none_reset = l.go.none_reset };
+        back = record { known = l.back.known; up = refl; others_known = l.back.others_known; none_cleared = l.back.none_cleared; none_reset = l.back.none_reset };
+        own = record { its_window = l.own.its_window; its_most = l.own.its_most; number = l.own.number; numbered = l.own.numbered; message = l.own.message; interrupts = l.own.interrupts };
+        others = record { numbered = l.others.numbered; interrupts = one_more a.asked g.answered (subst (λ b. a.asked ≤ bit b + g.answered) none l.others.interrupts) };
+        on = l.on;
+      }))
+    where
+      one_more : (x n : ℕ) → x ≤ 0 + n → x + 1 ≤ 1 + n
+      one_more x n le = omega arith
+
+  pub shown_confirmed : Turns window most g (record a { confirmed = a.confirmed + 1 }) (talking.confirms_interrupt (going s))
+  shown_confirmed = subst (Turns window most g (record a { confirmed = a.confirmed + 1 })) (sym (cond-true (pair.is_together (going s)) _ _ met))
+      (cond_both s.other.talk.is_interrupting _ _ (Turns window most g (record a { confirmed = a.confirmed + 1 }))
+      (λ out. inl (record {
+        reached = l.reached;
+        no_former = l.no_former;
+        go = record { known = l.go.known; up = l.go.up; others_known = l.go.others_known; none_cleared = l.go.none_cleared; none_reset = l.go.none_reset };
+        back = record { known = l.back.known; up = refl; others_known = l.back.others_known; none_cleared = l.back.none_cleared; none_reset = l.back.none_reset };
+        own = record { its_window = l.own.its_window; its_most = l.own.its_most; number = l.own.number; numbered = l.own.numbered; message = l.own.message; interrupts = one_more a.confirmed g.interrupts (subst (λ b. bit b + a.confirmed ≤ g.interrupts) out l.own.interrupts) };
+        others = record { numbered = l.others.numbered; interrupts = l.others.interrupts };
+        on = l.on;
+      }))
+      (λ _. inr (inr (record { known = refl; clearing = refl; call = refl }))))
+    where
+      one_more : (x n : ℕ) → 1 + x ≤ n → 0 + (x + 1) ≤ n
+      one_more x n le = omega arith
+
+  pub is_together_so : pair.is_together s ≡ true
+  is_together_so = together s l.reached l.back l.go
+
+  pub owes : (r b : Bool) (n : ℕ) → (r && ((port.more true n == 0) && b)) ≡ false
+  owes true b n = and_left (port.more true n == 0) b (not_true (port.more true n == 0) (λ e. some n (eqb-true (port.more true n) 0 e)))
+    where
+      some : (n : ℕ) → min (n + 1) 255 ≡ 0 → ⊥
+      some n e = omega arith
+  owes false b n = refl
+
+  pub owes_too : (r b : Bool) (n : ℕ) → (r && (b && (port.more true n == 0))) ≡ false
+  owes_too true b n = and_right b (port.more true n == 0) (not_true (port.more true n == 0) (λ e. some n (eqb-true (port.more true n) 0 e)))
+    where
+      some : (n : ℕ) → min (n + 1) 255 ≡ 0 → ⊥
+      some n e = omega arith
+  owes_too false b n = refl
+
+  pub owed_so : (s.reaches && s.own.owed == 0) ≡ true
+  owed_so = rw (l.reached, l.go.none_cleared) refl
+
+  pub reset_owed_so : (pair.is_matched (before s) && s.own.talk.owed == 0) ≡ true
+  reset_owed_so = rw (l.reached, l.go.none_cleared, l.back.none_cleared, l.go.none_reset) refl
+
+  pub owes_one : (n : ℕ) → 1 ≤ port.more true n
+  owes_one n = omega arith
+
+  pub shown_reset : Turns window most g (record a { is_over = true; is_reset = true }) (talking.resets (before s))
+  shown_reset = subst (Turns window most g (record a { is_over = true; is_reset = true })) (sym (cond-false (s.own.talk.is_resetting && nat_lt 0 s.other.talk.owed) _ _ (awaits_none s.own.talk.is_resetting s.other.talk.owed l.back.none_reset)))
+      (inr (inl (record {
+        go = record { known = l.go.known; up = l.go.up; others_known = l.go.others_known; none_cleared = l.go.none_cleared; none_reset = ap (λ x. x - 1) l.go.none_reset };
+        parted = subst (λ b. (s.reaches && (s.other.owed == 0 && port.more b s.other.talk.owed == 0)) ≡ false) (sym reset_owed_so) (owes_too s.reaches (s.other.owed == 0) s.other.talk.owed);
+        no_former = refl;
+        own = record { its_window = l.own.its_window; its_most = l.own.its_most; number = l.own.number; numbered = l.own.numbered; message = l.own.message; interrupts = l.own.interrupts };
+        others = λ _. record { numbered = l.others.numbered; interrupts = l.others.interrupts };
+        over = record { over = refl; reset = λ _. subst (λ b. 1 ≤ port.more b s.other.talk.owed) (sym reset_owed_so) (owes_one s.other.talk.owed); cleared = λ is. absurd (both_ways a.is_cleared l.on.uncleared is) };
+      })))
+
+  pub shown_clear : Turns window most g (record a { is_over = true; is_cleared = true }) (pair.clears s)
+  shown_clear = subst (Turns window most g (record a { is_over = true; is_cleared = true })) (sym (cond-false (pair.is_awaiting s) _ _ (awaits_none s.own.is_clearing s.other.owed l.back.none_cleared)))
+      (inr (inl (record {
+        go = record { known = l.go.known; up = l.go.up; others_known = l.go.others_known; none_cleared = ap (λ x. x - 1) l.go.none_cleared; none_reset = refl };
+        parted = subst (λ b. (s.reaches && (port.more b s.other.owed == 0 && s.other.talk.owed == 0)) ≡ false) (sym owed_so) (owes s.reaches (s.other.talk.owed == 0) s.other.owed);
+        no_former = refl;
+        own = record { its_window = l.own.its_window; its_most = l.own.its_most; number = l.own.number; numbered = l.own.numbered; message = l.own.message; interrupts = l.own.interrupts };
+        others = λ _. record { numbered = l.others.numbered; interrupts = l.others.interrupts };
+        over = record { over = refl; reset = λ is. absurd (both_ways a.is_reset l.on.unreset is); cleared = λ _. subst (λ b. 1 ≤ port.more b s.other.owed) (sym owed_so) (owes_one s.other.owed) };
+      })))
+
+  pub shown_level : (packet : PlainPacket) → IsOfChannel packet → Turns window most g (takes_in packet a) (sends packet s)
+  unfolding speaks sends_known
+  shown_level (user_data channel q m ps pr user) is =
+      subst (Turns window most g (takes_in (user_data channel q m ps pr user) a))
+      (sym (enters s l.back (user_data channel q m ps pr user) tt ∙ ap (λ (v : Pair). talking.carries m q (length user) (talking.numbers ps v)) (hears_is pr)))
+      (shown_data m q ps pr (length user))
+  shown_level (rr channel pr) is = shown_heard (rr channel pr) pr (enters s l.back (rr channel pr) tt)
+  shown_level (rnr channel pr) is = shown_heard (rnr channel pr) pr (enters s l.back (rnr channel pr) tt)
+  shown_level (interrupt channel user) is = subst (Turns window most g (takes_in (interrupt channel user) a)) (sym (enters s l.back (interrupt channel user) tt ∙ ap (λ (v : Pair). talking.interrupts v) (goes_on_so s l.back))) shown_asked
+  shown_level (interrupt_conf channel) is = subst (Turns window most g (takes_in (interrupt_conf channel) a)) (sym (enters s l.back (interrupt_conf channel) tt ∙ ap (λ (v : Pair). talking.confirms_interrupt v) (goes_on_so s l.back))) shown_confirmed
+  shown_level (reset channel cause diagnostic) is = subst (Turns window most g (takes_in (reset channel cause diagnostic) a)) (sym (enters s l.back (reset channel cause diagnostic) tt)) shown_reset
+  shown_level (reset_conf channel) is = subst (Turns window most g (takes_in (reset_conf channel) a)) (sym (enters s l.back (reset_conf channel) tt ∙ cond-false (nat_lt 0 s.own.talk.owed) _ _ (owes_none s.own.talk.owed l.go.none_reset))) (inr (inr (record { known = refl; clearing = refl; call = refl })))
+  shown_level (clear channel cause diagnostic) is = subst (Turns window most g (takes_in (clear channel cause diagnostic) a)) (sym (knows s l.back (clear channel cause diagnostic))) shown_clear
+  shown_level (clear_conf channel) is = subst (Turns window most g (takes_in (clear_conf channel) a)) (sym (knows s l.back (clear_conf channel) ∙ cond-false (nat_lt 0 s.own.owed) _ _ (owes_none s.own.owed l.go.none_cleared))) (inr (inr (record { known = refl; clearing = refl; call = refl })))
+  shown_level (call channel called calling facilities user) is = subst (Turns window most g (takes_in (call channel called calling facilities user) a)) (sym (knows s l.back (call channel called calling facilities user))) (inr (inr (calls_gone s.own.call (said facilities usual) (pair.starts s) l.back.up)))
+  shown_level (accept channel facilities) is =
+      subst (Turns window most g (takes_in (accept channel facilities) a))
+      (sym (knows s l.back (accept channel facilities) ∙ cond-false (pair.may_accept (pair.starts s)) _ _ (accepts_none s.own.call s.from l.back.up)))
+      (cond_both s.own.is_doubtful _ _ (Turns window most g (takes_in (accept channel facilities) a)) (λ _. inr (inr (record { known = refl; clearing = refl; call = refl }))) (λ _. inr (inr (record { known = refl; clearing = refl; call = refl }))))
+  shown_level (restart cause diagnostic) is = absurd is
+  shown_level restart_conf is = absurd is
+
+-- where nothing is known
+pub gone_unknown : (packet : PlainPacket) (v : Pair) → Gone v.other → Gone (sends_unknown packet v).other
+unfolding sends_unknown
+gone_unknown packet v k = go packet
+  where
+    kept : (w : Pair) → w.other ≡ v.other → Gone w.other
+    kept w is = subst Gone (sym is) k
+
+    cleared : Gone (pair.clears_unknown v).other
+    cleared = cond_both v.reaches _ _ (λ (w : Pair). Gone w.other) (λ _. record { known = k.known; clearing = refl; call = k.call }) (λ _. k)
+
+    hastened : (P : Pair → Pair) → Gone (P v).other → Gone (P (pair.with_own (port.doubted v.own) v)).other → Gone (P (pair.hastens v)).other
+    hastened P h j = cond_both (v.own.is_clearing || port.is_calling v.own.call) _ v (λ (w : Pair). Gone (P w).other) (λ _. j) (λ _. h)
+
+    sure_not : pair.is_sure_answer v ≡ false
+    sure_not = rw (k.clearing) refl
+
+    calling_not : port.is_calling v.other.call ≡ false
+    calling_not = ap port.is_calling k.call
+
+    go : (packet : PlainPacket) → Gone (sends_unknown packet v).other
+    go (clear channel cause diagnostic) = cleared
+    go (clear_conf channel) = subst (λ (w : Pair). Gone w.other) (sym (cond-false (pair.is_sure_answer v) _ _ sure_not))
+        (cond_both v.reaches _ _ (λ (w : Pair). Gone w.other) (λ _. record { known = k.known; clearing = refl; call = k.call }) (λ _. k))
+    go (call channel called calling facilities user) = hastened (pair.calls_unknown (said facilities usual)) k k
+    go (accept channel facilities) = subst (λ (w : Pair). Gone w.other) (sym (cond-false (pair.may_find_call v) _ _ (and_left (port.is_calling v.other.call) _ calling_not))) k
+    go (restart cause diagnostic) = k
+    go restart_conf = k
+    go (user_data channel q m ps pr user) = hastened pair.settles k k
+    go (rr channel pr) = hastened pair.settles k k
+    go (rnr channel pr) = hastened pair.settles k k
+    go (interrupt channel user) = hastened pair.settles k k
+    go (interrupt_conf channel) = hastened pair.settles k k
+    go (reset channel cause diagnostic) = hastened pair.settles k k
+    go (reset_conf channel) = hastened pair.settles k k
+
+pub shown_gone : (packet : PlainPacket) (s : Pair) → Gone s.other → Gone (sends packet s).other
+unfolding sends
+shown_gone packet s k = subst (λ (v : Pair). Gone v.other) (sym (cond-true (not (pair.is_known s)) (sends_unknown packet s) _ (unknown_so s.own.is_known s.other.is_known k.known))) (gone_unknown packet s k)
+  where
+    unknown_so : (b c : Bool) → c ≡ false → not (b && c) ≡ true
+    unknown_so b c none = ap not (and_right b c none)

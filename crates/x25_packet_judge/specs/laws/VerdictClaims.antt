@@ -1,0 +1,83 @@
+-- What the laws say of the judge of packets.
+use Rattle.std.specs.Prelude.{◌≡◌, ℕ, true, false, List, None}
+use Rattle.x25_bits.specs.declared.role.Role.{Role}
+use Rattle.x25_packet.specs.Packet.{PlainPacket, call, accept, reset, reset_conf}
+use Rattle.x25_packet_judge.specs.Book.{layers_of, pair_of, takes}
+use Rattle.x25_packet_judge.specs.Layers.{runs_early, are_sure, are_level}
+use Rattle.x25_packet_judge.specs.Message.{octets_of}
+use Rattle.x25_packet_judge.specs.Packets.{sends}
+use Rattle.x25_packet_judge.specs.Pair.{may_talk_in}
+use Rattle.x25_packet_judge.specs.Terms.{said, usual}
+use Rattle.x25_packet_judge.specs.declared.book.Book.{Book}
+use Rattle.x25_packet_judge.specs.declared.pair.Pair.{Pair}
+use Rattle.x25_packet_judge.specs.declared.port.Call.TheVariants.{Idle}
+use Rattle.x25_packet_judge.specs.declared.port.Port.{Port}
+use Rattle.x25_packet_judge.specs.declared.terms.Terms.{Terms}
+use Rattle.x25_packet_judge.specs.laws.Keeping.{Given, Come, MaySend, MayEnd, IsOfChannel, MayBe}
+use Rattle.x25_packet_judge.specs.laws.Keeping.{AreBegun, turned}
+use Rattle.x25_packet_judge.specs.laws.Watching.{Line, IsSilent, IsKept}
+
+-- no rule is told of what an end sends that keeps the rules
+abbrev pub NoInnocentPacketIsTold : Type 0
+NoInnocentPacketIsTold =
+    (window most : ℕ) (t : Pair) (g h : Given) (c : Come) (way : List PlainPacket) (packet : PlainPacket)
+    → MayBe window most t g c way → MaySend window most g c packet h → (sends packet t).rule ≡ None
+
+-- nor of how it ends the stretch
+abbrev pub NoEndingIsTold : Type 0
+NoEndingIsTold =
+    (window most : ℕ) (t : Pair) (g : Given) (c : Come) (way : List PlainPacket) (packet : PlainPacket)
+    → MayBe window most t g c way → MayEnd c packet → (sends packet t).rule ≡ None
+
+-- where nothing is told of either end, an end that keeps the rules may have sent what the first one did
+abbrev pub SilentPacketsKeepTheRules : Type 0
+SilentPacketsKeepTheRules =
+    (window most : ℕ) (t : Pair) (tape : List Line) → IsSilent window most t tape
+    → (g : Given) × (c : Come) × IsKept window most tape g c
+
+-- ---- where stretches begin
+
+-- the channel is known, and no CLEAR or RESET waits for its confirmation
+pub record IsClear (p : Port) : Type 0 where
+  pub known : p.is_known ≡ true
+  pub owed : p.owed ≡ 0
+  pub former : p.former.is_known ≡ false
+
+-- a packet of the first end, and one of the other that answers it
+abbrev pub answered : PlainPacket → PlainPacket → Pair → Pair
+answered asks answers t = turned (sends answers (turned (sends asks t)))
+
+-- at both ends, by the window and the packet size of each
+pub record BothBegin (window most others_window others_most : ℕ) (t : Pair) : Type 0 where
+  pub own : AreBegun window most t
+  pub other : AreBegun others_window others_most (turned t)
+
+abbrev pub terms_of : List ℕ → List ℕ → Terms
+terms_of proposed answer = said answer (said proposed usual)
+
+-- CALL and CALL ACCEPTED, where no call is
+abbrev pub CallsBegin : Type 0
+CallsBegin =
+    (t : Pair) (one two : ℕ) (to from proposed user answer : List ℕ) → t.reaches ≡ true → IsClear t.own
+    → IsClear t.other → t.own.call ≡ Idle → t.other.call ≡ Idle
+    → BothBegin (terms_of proposed answer).calling_window (octets_of (terms_of proposed answer).calling_size)
+    (terms_of proposed answer).called_window (octets_of (terms_of proposed answer).called_size)
+    (answered (call one to from proposed user) (accept two answer) t)
+
+-- RESET and its confirmation, where a call is up and no reset on the way
+abbrev pub ResetsBegin : Type 0
+ResetsBegin =
+    (t : Pair) (one two cause diagnostic : ℕ) → t.reaches ≡ true → IsClear t.own → IsClear t.other
+    → may_talk_in t.own.call ≡ true → may_talk_in t.other.call ≡ true → t.own.talk.owed ≡ 0 → t.other.talk.owed ≡ 0
+    → BothBegin t.own.talk.window t.own.talk.most t.other.talk.window t.other.talk.most
+    (answered (reset one cause diagnostic) (reset_conf two) t)
+
+-- ---- what is told of a trace
+
+-- of a packet on a channel, where its end has restarted, no RESTART of it waits, and restarts are known
+abbrev pub BooksTellOfChannels : Type 0
+BooksTellOfChannels =
+    (from : Role) (channel : ℕ) (packet : PlainPacket) (b : Book) → IsOfChannel packet
+    → runs_early (layers_of from b) ≡ false → are_sure (layers_of from b) ≡ true
+    → (takes from channel packet b).verdict.rule
+    ≡ (sends packet (pair_of from (are_level (layers_of from b)) channel b)).rule

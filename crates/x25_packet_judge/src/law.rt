@@ -1,0 +1,37 @@
+//! What a verdict on a channel means: no end that keeps the rules is told of, and where nothing is told they are kept.
+//! Each law is the contract of a function that does nothing.
+ghost use Rattle.x25_packet_judge.specs.laws.VerdictClaims.{BooksTellOfChannels, CallsBegin, NoEndingIsTold};
+ghost use Rattle.x25_packet_judge.specs.laws.VerdictClaims.{NoInnocentPacketIsTold, ResetsBegin};
+ghost use Rattle.x25_packet_judge.specs.laws.VerdictClaims.{SilentPacketsKeepTheRules};
+
+/// In one stretch of a call, an end that keeps the rules of docs/PEER.md is told of by no rule, whatever the other end
+/// sends on the channel, whether it keeps any rule or not, and whenever that comes: data, RR, RNR and interrupts that
+/// break rules, and RESTART, RESET, CLEAR and packets that belong to no stretch. Nor is it told of where it ends the
+/// stretch by RESET or CLEAR, or by the confirmation of the one that came.
+pub fn innocent_packets_stay_untold()
+    ensures sends { NoInnocentPacketIsTold }
+    ensures ends { NoEndingIsTold }
+{}
+
+/// In one stretch of a call, as long as no rule is told of either end, the packets of each are such as an end that
+/// keeps these rules may have sent, which took each packet of the other end as it was sent.
+pub fn silent_packets_keep_the_rules()
+    ensures { SilentPacketsKeepTheRules }
+{}
+
+/// CALL and CALL ACCEPTED, where the channel is known and has no call, begin such a stretch, with the windows and
+/// packet sizes of their facilities.
+pub fn calls_begin()
+    ensures { CallsBegin }
+{}
+
+/// RESET and its confirmation, where a call is up, begin another.
+pub fn resets_begin()
+    ensures { ResetsBegin }
+{}
+
+/// What the book tells of a packet on a channel is what both ends of the channel tell, of which the laws above speak,
+/// where its end has restarted, no RESTART of it waits for a confirmation, and restarts are known.
+pub fn books_tell_of_channels()
+    ensures { BooksTellOfChannels }
+{}
