@@ -160,7 +160,7 @@ pub others_sent : (f : Flow) (window ps g told : ℕ) → Numbered f (λ x y. (g
 others_sent f window ps g told h =
     cond_both (ps == f.next) _ (flow.moved ps f) (λ (z : FlowTold). Numbered z.flow Fits)
     (λ _. cond_both (f.is_sure && (nat_lt 0 window && nat_le window f.pending)) _ (flow.quiet (flow.grown (f.is_sure && nat_lt f.pending 7) f)) (λ (z : FlowTold). Numbered z.flow Fits)
-    (λ _. grown_numbered f _ Fits false (never_sure f) more h)
+    (λ test. grown_numbered f _ Fits (nat_lt f.pending 7) (λ few. ((and_parts f.is_sure (nat_lt 0 window && nat_le window f.pending) test).0, ltb-true f.pending 7 few)) more h)
     (λ _. grown_numbered f _ Fits (f.is_sure && nat_lt f.pending 7) (sure_and_few f) more h))
     (λ _. unsure _ Fits refl)
   where

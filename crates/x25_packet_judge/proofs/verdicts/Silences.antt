@@ -1,13 +1,13 @@
 -- Where nothing is told of either end of a stretch, the packets of each are those of an end that keeps the rules and takes all at once.
 use Rattle.std.proofs.Common.{◌≡◌, ◌==◌, ℕ, ◌+◌, ◌-◌, ◌%◌, ◌<◌, ◌≤◌, arith, min, Bool, true, false, if◌then◌else◌, List, length, Option, Some, None, refl, sym, ap, ◌∙◌, subst}
-use Rattle.std.specs.Prelude.{nat_lt, nat_le, ◌&&◌}
+use Rattle.std.specs.Prelude.{nat_lt, nat_le, ◌&&◌, not}
 use Rattle.std.proofs.lemmas.Bool.{eqb-true, eq-eqb, leb-true, leb-false, ltb-false, lt-ltb, both_ways, cond_both, cond-true, cond-false}
 use Rattle.std.proofs.lemmas.Option.{none-some}
 use Rattle.x25_packet.specs.Packet.{PlainPacket, call, accept, clear, clear_conf, user_data, rr, rnr, interrupt, interrupt_conf, reset, reset_conf, restart, restart_conf}
 use Rattle.x25_packet_judge.specs.Flow as flow
 use Rattle.x25_packet_judge.specs.Message.{broken, differs}
 use Rattle.x25_packet_judge.specs.Numbers.{apart}
-use Rattle.x25_packet_judge.specs.PacketRule.{first}
+use Rattle.x25_packet_judge.specs.PacketRule.{first, is_of_manners}
 use Rattle.x25_packet_judge.specs.Packets.{speaks, sends}
 use Rattle.x25_packet_judge.specs.Pair as pair
 use Rattle.x25_packet_judge.specs.Port as port
@@ -31,7 +31,8 @@ told_none rule e = absurd (none-some rule (sym e))
 
 both_none : (x y : Option PacketRule) → first x y ≡ None → (x ≡ None) × (y ≡ None)
 both_none None y e = (refl, e)
-both_none (Some rule) y e = told_none rule e
+both_none (Some rule) None e = told_none rule e
+both_none (Some rule) (Some next) e = cond_both (is_of_manners rule && not (is_of_manners next)) (Some next) (Some rule) (λ (o : Option PacketRule). o ≡ None → (Some rule ≡ None) × (Some next ≡ None)) (λ _. told_none next) (λ _. told_none rule) e
 
 -- ---- numbers
 
