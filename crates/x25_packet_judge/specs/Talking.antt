@@ -1,6 +1,6 @@
 -- Both ends of a logical channel: data, interrupts and resets, and the rules on them. ITU-T X.25 (10/96), sections 4.3
 -- and 4.4; what is said behind a fault is profile.
-use Rattle.std.specs.Prelude.{ℕ, ◌==◌, nat_lt, Bool, true, false, ◌&&◌, if◌then◌else◌, Some}
+use Rattle.std.specs.Prelude.{ℕ, ◌==◌, nat_lt, Bool, true, false, ◌&&◌, if◌then◌else◌}
 use Rattle.x25_packet_judge.specs.Flow.{heard, sent}
 use Rattle.x25_packet_judge.specs.Message.{after, broken}
 use Rattle.x25_packet_judge.specs.Pair.{with_own, with_other, tells, breaks, unknown, is_matched, is_together}
@@ -33,10 +33,9 @@ resets t = if t.own.talk.is_resetting && nat_lt 0 t.other.talk.owed then unknown
 abbrev pub confirms_reset : Pair → Pair
 confirms_reset t = if nat_lt 0 t.own.talk.owed then marks_reset false t else breaks ResetUnasked t
 
--- nothing else is sent until RESET is confirmed
+-- nothing else is sent until RESET is confirmed, since the other end may hear it behind its confirmation
 abbrev pub goes_on : Pair → Pair
-goes_on t = if t.own.talk.is_resetting && nat_lt 0 t.other.talk.owed
-    then tells (Some ResetAwaited) (with_own_talk (port.resetting false t.own.talk) t)
+goes_on t = if t.own.talk.is_resetting && nat_lt 0 t.other.talk.owed then breaks ResetAwaited t
     else with_own_talk (port.resetting false t.own.talk) t
 
 -- ---- data

@@ -56,15 +56,14 @@ impl Pair {
         }
     }
 
-    /// Nothing but a RESET is sent until it is confirmed.
+    /// Nothing else is sent until RESET is confirmed.
     pub(crate) fn goes_on(self) -> Pair
         ensures { result ≡ definition.goes_on self }
     {
-        let next = self.with_own_talk(self.own.talk.resetting(false));
         if self.own.talk.is_resetting && 0 < self.other.talk.owed {
-            next.tells(Some(PacketRule::ResetAwaited))
+            self.breaks(PacketRule::ResetAwaited)
         } else {
-            next
+            self.with_own_talk(self.own.talk.resetting(false))
         }
     }
 

@@ -42,10 +42,25 @@ module _ (window most : ℕ) (g : Given) (a : Come) where
   pub left_hears : (pr : ℕ) (v : Pair) → Left v → talking.hears pr v ≡ v
   left_hears pr v w = cond-false (pair.is_together v) _ _ (parted_back v w) ∙ cond-false v.other.former.is_known _ v w.no_former
 
-  pub left_goes_on : (v : Pair) → Left v → Left (talking.goes_on v)
-  left_goes_on v w = cond_both (v.own.talk.is_resetting && nat_lt 0 v.other.talk.owed) _ _ Left
-      (λ _. with_others v.reaches v.other v.own _ w w.go.others_known w.go.none_cleared w.go.none_reset refl)
-      (λ _. with_others v.reaches v.other v.own _ w w.go.others_known w.go.none_cleared w.go.none_reset refl)
+  pub left_goes_on : (v : Pair) → Left v → LeftOrGone (talking.goes_on v)
+  left_goes_on v w = cond_both (v.own.talk.is_resetting && nat_lt 0 v.other.talk.owed) _ _ LeftOrGone
+      (λ _. inr (record { known = refl; clearing = refl; call = refl }))
+      (λ _. inl (with_others v.reaches v.other v.own _ w w.go.others_known w.go.none_cleared w.go.none_reset refl))
+
+  -- where nothing is known it stays so
+  pub gone_hears : (pr : ℕ) (v : Pair) → Gone v.other → Gone (talking.hears pr v).other
+  gone_hears pr v k = cond_both (pair.is_together v) _ _ (λ (x : Pair). Gone x.other) (λ _. record { known = k.known; clearing = k.clearing; call = k.call })
+      (λ _. cond_both v.other.former.is_known _ v (λ (x : Pair). Gone x.other) (λ _. record { known = k.known; clearing = k.clearing; call = k.call }) (λ _. k))
+
+  pub gone_interrupts : (v : Pair) → Gone v.other → Gone (talking.interrupts v).other
+  gone_interrupts v k = cond_both v.own.talk.is_interrupting _ _ (λ (x : Pair). Gone x.other) (λ _. record { known = refl; clearing = refl; call = refl }) (λ _. k)
+
+  pub gone_confirms : (v : Pair) → Gone v.other → Gone (talking.confirms_interrupt v).other
+  gone_confirms v k = cond_both (pair.is_together v) _ _ (λ (x : Pair). Gone x.other)
+      (λ _. cond_both v.other.talk.is_interrupting _ _ (λ (x : Pair). Gone x.other) (λ _. record { known = k.known; clearing = k.clearing; call = k.call }) (λ _. record { known = refl; clearing = refl; call = refl }))
+      (λ _. cond_both v.other.former.is_known _ v (λ (x : Pair). Gone x.other)
+      (λ _. cond_both v.other.former.is_interrupting _ _ (λ (x : Pair). Gone x.other) (λ _. record { known = k.known; clearing = k.clearing; call = k.call }) (λ _. record { known = refl; clearing = refl; call = refl }))
+      (λ _. k))
 
   pub left_data : (m q : Bool) (ps pr size : ℕ) (v : Pair) → Left v → Left (talking.carries m q size (talking.numbers ps (talking.hears pr v)))
   left_data m q ps pr size v w = subst (λ (x : Pair). Left (talking.carries m q size (talking.numbers ps x))) (sym (left_hears pr v w)) (with_others v.reaches v.other v.own _ w w.go.others_known w.go.none_cleared w.go.none_reset refl)
@@ -128,13 +143,29 @@ module _ (window most : ℕ) (g : Given) (a : Come) where
       (λ _. inl (left_reached _ (pair.answered (said field v.own.terms) v) v (answered_same v.other.call (said field v.own.terms) v w.go.up) w.go.others_known w.go.none_cleared refl refl w))
       (λ _. cond_both v.own.is_doubtful _ _ LeftOrGone (λ _. inr (record { known = refl; clearing = refl; call = refl })) (λ _. inr (record { known = refl; clearing = refl; call = refl })))
 
+  pub left_heard : (pr : ℕ) (v : Pair) → LeftOrGone (talking.goes_on v) → LeftOrGone (talking.hears pr (talking.goes_on v))
+  left_heard pr v (inl x) = inl (subst Left (sym (left_hears pr (talking.goes_on v) x)) x)
+  left_heard pr v (inr k) = inr (gone_hears pr (talking.goes_on v) k)
+
   pub left_speaks : (packet : PlainPacket) (v : Pair) → Left v → LeftOrGone (speaks packet v)
   unfolding speaks
-  left_speaks (user_data channel q m ps pr user) v w = inl (left_data m q ps pr (length user) (talking.goes_on v) (left_goes_on v w))
-  left_speaks (rr channel pr) v w = inl (subst Left (sym (left_hears pr (talking.goes_on v) (left_goes_on v w))) (left_goes_on v w))
-  left_speaks (rnr channel pr) v w = inl (subst Left (sym (left_hears pr (talking.goes_on v) (left_goes_on v w))) (left_goes_on v w))
-  left_speaks (interrupt channel user) v w = left_interrupts (talking.goes_on v) (left_goes_on v w)
-  left_speaks (interrupt_conf channel) v w = inl (subst Left (sym (left_confirms (talking.goes_on v) (left_goes_on v w))) (left_goes_on v w))
+  left_speaks (user_data channel q m ps pr user) v w = go (left_goes_on v w)
+    where
+      go : LeftOrGone (talking.goes_on v) → LeftOrGone (talking.sends_data m q ps pr (length user) v)
+      go (inl x) = inl (left_data m q ps pr (length user) (talking.goes_on v) x)
+      go (inr k) = inr (gone_hears pr (talking.goes_on v) k)
+  left_speaks (rr channel pr) v w = left_heard pr v (left_goes_on v w)
+  left_speaks (rnr channel pr) v w = left_heard pr v (left_goes_on v w)
+  left_speaks (interrupt channel user) v w = go (left_goes_on v w)
+    where
+      go : LeftOrGone (talking.goes_on v) → LeftOrGone (talking.interrupts (talking.goes_on v))
+      go (inl x) = left_interrupts (talking.goes_on v) x
+      go (inr k) = inr (gone_interrupts (talking.goes_on v) k)
+  left_speaks (interrupt_conf channel) v w = go (left_goes_on v w)
+    where
+      go : LeftOrGone (talking.goes_on v) → LeftOrGone (talking.confirms_interrupt (talking.goes_on v))
+      go (inl x) = inl (subst Left (sym (left_confirms (talking.goes_on v) x)) x)
+      go (inr k) = inr (gone_confirms (talking.goes_on v) k)
   left_speaks (reset channel cause diagnostic) v w = left_resets v w
   left_speaks (reset_conf channel) v w = subst LeftOrGone (sym (cond-false (nat_lt 0 v.own.talk.owed) _ _ (owes_none v.own.talk.owed w.go.none_reset))) (inr (record { known = refl; clearing = refl; call = refl }))
   left_speaks (call channel called calling facilities user) v w = inl w
