@@ -260,11 +260,12 @@ impl Pair {
             .with_other(accepted_by(self.from).set_up(Call::Answered, false, terms))
     }
 
-    /// Whether an acceptance answers the CALL that was sent last.
+    /// Whether an acceptance answers the CALL that was sent last, and no CLEAR before it may still be confirmed.
     fn may_find_call(self) -> bool
         ensures { result ≡ definition.may_find_call self }
     {
-        self.other.is_calling() && (!self.own.is_calling() && !self.is_doubtful())
+        self.other.is_calling()
+            && (self.other.owed == 0 && (!self.own.is_calling() && !self.is_doubtful()))
     }
 
     /// An acceptance of a CALL makes the channel known, where not both ends called.
@@ -274,7 +275,7 @@ impl Pair {
         if self.may_find_call() {
             self.is_up(self.other.terms.said(field))
         } else {
-            self.settles()
+            self.hastens().settles()
         }
     }
 

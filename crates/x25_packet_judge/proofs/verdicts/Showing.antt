@@ -234,7 +234,7 @@ gone_unknown packet v k = go packet
     go (clear_conf channel) = subst (λ (w : Pair). Gone w.other) (sym (cond-false (pair.is_sure_answer v) _ _ sure_not))
         (cond_both v.reaches _ _ (λ (w : Pair). Gone w.other) (λ _. record { known = k.known; clearing = refl; call = k.call }) (λ _. k))
     go (call channel called calling facilities user) = hastened (pair.calls_unknown (said facilities usual)) k k
-    go (accept channel facilities) = subst (λ (w : Pair). Gone w.other) (sym (cond-false (pair.may_find_call v) _ _ (and_left (port.is_calling v.other.call) _ calling_not))) k
+    go (accept channel facilities) = subst (λ (w : Pair). Gone w.other) (sym (cond-false (pair.may_find_call v) _ _ (and_left (port.is_calling v.other.call) _ calling_not))) (hastened pair.settles k k)
     go (restart cause diagnostic) = k
     go restart_conf = k
     go (user_data channel q m ps pr user) = hastened pair.settles k k
