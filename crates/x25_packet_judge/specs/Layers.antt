@@ -179,13 +179,18 @@ confirms_lost t = goes_to Ready (with_other (strayed (with_restart Ready t.other
 abbrev pub confirms_again : Layers → Layers
 confirms_again t = strays (opens (with_own (confirmed_again t.own) t))
 
+-- A RESTART of the end waits where restarts aren't counted, so packets of its channels aren't followed.
+abbrev pub is_hasty : Layers → Bool
+is_hasty t = is_asking t.own.restart && not (are_counted t || are_lost t)
+
 -- A packet of a channel. Where no restart went before, or its confirmation didn't, nothing is said of restarts.
 abbrev pub runs : Layers → Layers
 runs t =
     if is_awaiting t then give_up (tells RestartAwaited t)
+    else if is_hasty t then give_up t
     else if is_begun t.own.restart then are_uncounted (goes_to Ready t)
     else goes_to Ready t
 
 -- where nothing is said of the channels of its sender either
 abbrev pub runs_early : Layers → Bool
-runs_early t = is_awaiting t || is_begun t.own.restart
+runs_early t = is_awaiting t || (is_hasty t || is_begun t.own.restart)

@@ -370,11 +370,18 @@ impl Layers {
         self.with_own(self.own.confirmed_again()).opens().strays()
     }
 
+    /// Whether a RESTART of the end waits where restarts aren't counted.
+    fn is_hasty(self) -> bool
+        ensures { result ≡ definition.is_hasty self }
+    {
+        self.own.is_asking() && !(self.are_counted() || self.are_lost())
+    }
+
     /// Whether a packet of a channel goes before a restart or its confirmation.
     pub(crate) fn runs_early(self) -> bool
         ensures { result ≡ definition.runs_early self }
     {
-        self.is_awaiting() || self.own.is_begun()
+        self.is_awaiting() || (self.is_hasty() || self.own.is_begun())
     }
 
     /// A packet of a channel.
@@ -383,6 +390,8 @@ impl Layers {
     {
         if self.is_awaiting() {
             self.tells(PacketRule::RestartAwaited).give_up()
+        } else if self.is_hasty() {
+            self.give_up()
         } else if self.own.is_begun() {
             self.goes_to(Restart::Ready).uncounted()
         } else {
