@@ -4,17 +4,17 @@ ghost use Rattle.x25_packet_judge.specs.laws.VerdictClaims.{BooksTellOfChannels,
 ghost use Rattle.x25_packet_judge.specs.laws.VerdictClaims.{NoInnocentPacketIsTold, ResetsBegin};
 ghost use Rattle.x25_packet_judge.specs.laws.VerdictClaims.{SilentPacketsKeepTheRules};
 
-/// In one stretch of a call, an end that keeps the rules of docs/PEER.md is told of by no rule, whatever the other end
-/// sends on the channel, whether it keeps any rule or not, and whenever that comes: data, RR, RNR and interrupts that
-/// break rules, and RESTART, RESET, CLEAR and packets that belong to no stretch. Nor is it told of where it ends the
-/// stretch by RESET or CLEAR, or by the confirmation of the one that came.
+/// In one stretch of a call, of an end that keeps the rules of docs/PEER.md neither a rule nor manners are told,
+/// whatever the other end sends on the channel, whether it keeps any rule or not, and whenever that comes: data, RR,
+/// RNR and interrupts that break rules, and RESTART, RESET, CLEAR and packets that belong to no stretch. Nor are they
+/// told where it ends the stretch by RESET or CLEAR, or by the confirmation of the one that came.
 pub fn innocent_packets_stay_untold()
     ensures sends { NoInnocentPacketIsTold }
     ensures ends { NoEndingIsTold }
 {}
 
-/// In one stretch of a call, as long as no rule is told of either end, the packets of each are such as an end that
-/// keeps these rules may have sent, which took each packet of the other end as it was sent.
+/// In one stretch of a call, as long as neither a rule nor manners are told of either end, the packets of each are such
+/// as an end that keeps these rules may have sent, which took each packet of the other end as it was sent.
 pub fn silent_packets_keep_the_rules()
     ensures { SilentPacketsKeepTheRules }
 {}
