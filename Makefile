@@ -9,7 +9,7 @@
 # make check-tools   a minute                             runs the tests of tools/; those for which something isn't there are left out
 # make judge-runs    5 minutes        build/x25           judges random runs: of two stations, of one beside an odd end, and with one frame changed
 # make refused       30 minutes       rt, cc, build/x25   refuses each allocation of stored cases and of scripts in turn
-# make wrong-bodies  a minute an edit rt                  tries wrong bodies that the gate leaves out; CRATE="NAME .." of these crates
+# make wrong-bodies  minutes a crate  rt                  tries wrong bodies that the gate leaves out; CRATE="NAME .." of these crates
 # make interop       20 minutes       build/x25, a guest  plays a station against Linux's X.25; interop/README.md says more
 # make install       a second         build/x25           installs the program, the scripts, the manual page, the documents and what make lib left
 # make uninstall     a second                             removes what that installed

@@ -7,21 +7,62 @@ import subprocess
 import support
 from support import ToolCase
 
-# Answers for each edit as its text says, and writes down which it tries.
+# Says of a crate what its sources say, and of each edit that it tries alone what the last line there says; writes down what it tries.
 RT = b"""#!/bin/sh
 [ "$1" = version ] && exit
 if [ "$1 $2" = "all check" ]; then
-    touch proved
+    touch crates/a/proved crates/b/proved
     exit
 fi
+if [ "$1" = check ]; then
+    [ "$2" ] || exit 0
+    echo "$(basename "$PWD")/check" >> "$(dirname "$0")/tried"
+    grep -q "no source" src/*.rt || sed -n 's/^ *says //p' src/*.rt | tr '|' '\\n'
+    exit 1
+fi
 for edit in crates/$2/must-fail/*.edit; do
-    echo "rt: must-fail $2/$(basename $edit): $(cat $edit)"
+    echo "rt: must-fail $2/$(basename $edit): $(tail -n 1 $edit)"
     echo "$2/$(basename $edit)" >> "$(dirname "$0")/tried"
 done
 """
 
-# The same, and refuses to try an edit where the crates aren't proved.
-RT_OF_PROVED = RT.replace(b"for edit", b"[ -e proved ] || exit 2\nfor edit")
+# The same, and refuses to try an edit where the crate isn't proved.
+RT_OF_PROVED = RT.replace(b"for edit", b"[ -e crates/$2/proved ] || exit 2\nfor edit")
+
+# Sources that have what the prover says of each function in its body.
+FUNCTION = """
+pub fn NAME(
+    octet: u8,
+) -> u8
+    ensures of_NAME { result ≡ octet }
+{
+    says fn a::NAME: proved
+
+    no error in NAME
+}
+"""
+METHOD = """impl<T: Into<u8>> fmt::Display for Kind<T> {
+    fn show(&self) {
+        says fn a::kind::KindDisplay::show: proved
+    }
+}
+"""
+SOURCES = {
+    "a/src/lib.rt": "".join(["const ONE: u8 = 1;\n", *(FUNCTION.replace("NAME", name) for name in ("one", "two", "three"))]).encode(),
+    "a/src/kind.rt": METHOD.encode(),
+    "a/specs/Lib.antt": b"one = 1\n",
+}
+NO_PROOF = "no proof: expected answers in ./proofs/Answers.antt; `search` did not prove `returns`"
+CALLS = "it calls `a::one`, which is not proved"
+GONE = "`returns`: record `After-one` has no field `two`"
+
+
+def edit(function, state, error=None, alone="", file="lib"):
+    """An edit behind which the prover says something else of a function, and of its proof files; and what it says where that is tried alone."""
+    lines = [f"file: src/{file}.rt", f"old: says fn a::{function}: proved", f"new: says fn a::{function}: {state}"]
+    if error:
+        lines += [f"old: no error in {function}", f"new: says ./proofs/{function}/Answers.antt:1:2: error: {error}"]
+    return "\n".join([*lines, alone]).encode()
 
 
 class WrongBodies(ToolCase):
@@ -76,7 +117,8 @@ class WrongBodies(ToolCase):
         self.assertEqual(self.tried({"a/wrong-bodies/1.edit": b""}, ["d"]), (2, "There is no crate d."))
 
     def test_rt_stops(self):
-        self.assertEqual(self.tried({"a/wrong-bodies/1.edit": b""}, rt=b"#!/bin/sh\nexit 2\n"), (2, "0 refused, 0 not refused"))
+        stops = b'#!/bin/sh\n[ "$1" = must-fail ] && exit 2\nexit 0\n'
+        self.assertEqual(self.tried({"a/wrong-bodies/1.edit": b""}, rt=stops), (2, "0 refused, 0 not refused"))
 
     def test_several_crates_are_proved_first(self):
         edits = {"a/wrong-bodies/1.edit": b"refused, as it must be", "b/wrong-bodies/1.edit": b"refused, as it must be"}
@@ -84,7 +126,8 @@ class WrongBodies(ToolCase):
 
     def test_a_crate_is_not_proved(self):
         edits = {"a/wrong-bodies/1.edit": b"refused, as it must be", "b/wrong-bodies/1.edit": b"refused, as it must be"}
-        self.assertEqual(self.tried(edits, rt=RT.replace(b"touch proved\n    exit", b"exit 1")), (2, "rt did not prove the crates."))
+        self.assertEqual(self.tried(edits, rt=RT.replace(b"    exit\n", b"    exit 1\n", 1)), (2, "rt did not prove the crates."))
+        self.assertEqual(self.tried({}, ["a"], rt=RT.replace(b"exit 0", b"exit 1")), (2, "rt did not prove the crates."))
 
     def test_what_is_refused_is_kept_until_something_that_was_read_changes(self):
         self.given({f"{name}/wrong-bodies/{edit}.edit": b"refused, as it must be" for name in "abc" for edit in (1, 2)})
@@ -118,3 +161,41 @@ class WrongBodies(ToolCase):
         self.given({"a/wrong-bodies/3.edit": b"refused, as it must be: another edit"})
         self.assertEqual(self.ran("a").stdout.splitlines()[-4], f"| a | 3 | 3 | - (2), {commit}+ (1) |")
         self.assertEqual(self.ran("b").stdout.splitlines()[-3], f"| b | 2 | 2 | {commit}+ |")
+
+    def tried_of_a(self, edits):
+        """The same of edits of crate a, by their names there."""
+        self.given(SOURCES)
+        return self.tried({f"a/wrong-bodies/{name}.edit": text for name, text in edits.items()})
+
+    def test_edits_of_different_functions_are_tried_together(self):
+        show = edit("kind::KindDisplay::show", NO_PROOF, file="kind")
+        edits = {"1": edit("one", NO_PROOF), "2": edit("two", "not proved", "`returns`: two types differ"), "3": show, "4": edit("one", f"{NO_PROOF}; {CALLS}")}
+        self.assertEqual(self.tried_of_a(edits), (0, "4 refused, 0 not refused"))
+        self.assertEqual(self.anew(), ["a/check", "a/check"])
+
+    def test_what_a_batch_leaves_open_is_tried_alone(self):
+        refused, proved = "refused, as it must be: `returns`", "NOT REFUSED: the crate is still proved with this edit"
+        show = edit("kind::KindDisplay::show", f"not proved; {CALLS}", alone=proved, file="kind")
+        edits = {"1": edit("one", "proved", alone=refused), "2": edit("two", NO_PROOF), "3": edit("three", f"no proof: {CALLS}", alone=refused), "4": show}
+        self.assertEqual(self.tried_of_a(edits), (1, "3 refused, 1 not refused"))
+        self.assertEqual(self.anew(), ["a/1.edit", "a/3.edit", "a/4.edit", "a/check"])
+
+    def test_what_is_refused_by_names_alone_is_named(self):
+        of_two = f"{GONE}|./proofs/two/Answers.antt:3:2: error: `returns`: two types differ"
+        alone = "refused, as it must be (only because a proof file names what the edit took away, so this says little of the contract)"
+        edits = {"1": edit("one", "not proved", GONE), "2": edit("two", "not proved", of_two), "3": edit("three", NO_PROOF, GONE), "4": alone.encode()}
+        self.assertEqual(self.tried_of_a(edits), (0, "4 refused, 0 not refused"))
+        said = ["| a | 4 | 4 | - |", "2 refused by names alone, to be written anew: a/1.edit, a/4.edit", "4 refused, 0 not refused"]
+        self.assertEqual(self.ran().stdout.splitlines()[-3:], said)
+
+    def test_a_batch_that_does_not_compile_is_tried_edit_by_edit(self):
+        edits = {"1": edit("one", "no source", alone="BAD EDIT: it did not reach the prover"), "2": edit("two", NO_PROOF, alone="refused, as it must be")}
+        self.assertEqual(self.tried_of_a(edits), (1, "1 refused, 1 not refused"))
+        self.assertEqual(self.anew(), ["a/1.edit", "a/2.edit", "a/check"])
+
+    def test_what_is_no_body_is_tried_alone(self):
+        texts = ["src/lib.rt\nold: u8 = 1\nnew: u8 = 2", "src/lib.rt\nold: of_one { result\nnew: of_one { 1", "specs/Lib.antt\nold: one = 1\nnew: one = 2"]
+        edits = {str(number): f"file: {text}\nrefused, as it must be".encode() for number, text in enumerate(texts)}
+        both = edit("one", NO_PROOF) + b"old: says fn a::two: proved\nnew: says fn a::two: not proved\nrefused, as it must be"
+        self.assertEqual(self.tried_of_a(edits | {"both": both}), (0, "4 refused, 0 not refused"))
+        self.assertEqual(self.anew(), ["a/0.edit", "a/1.edit", "a/2.edit", "a/both.edit"])
