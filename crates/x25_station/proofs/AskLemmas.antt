@@ -24,7 +24,7 @@ use Rattle.x25_station.specs.Error.{of_layer}
 use Rattle.x25_station.specs.Config.{Settings, link_settings, layer_settings, manner_of}
 use Rattle.x25_station.specs.Entry.{StationEntry}
 use Rattle.x25_station.specs.Station.{Station, all_put, view_of, waiting_after}
-use Rattle.x25_station.specs.Step.{Outcome, did, requests, entries_of_outcome}
+use Rattle.x25_station.specs.Step.{Outcome, Did, Refused, did, requests, entries_of_outcome}
 use Rattle.x25_station.specs.laws.KeepLaw.{KeptBy}
 use Rattle.x25_station.specs.code.PlainEntry.{plain_entry}
 use Rattle.x25_station.specs.code.FitsParts.{FitsParts}
@@ -76,12 +76,6 @@ abbrev pub IsNamed : Answered → Type 0
 IsNamed (Went p) = Unit {0}
 IsNamed (Refuses e) = of_layer e ≡ error.Layer e
 
-pub refused_did : (T U : Type 0) (e : LayerError) (found : StationError) (c : Settings) (s : LinkStation) (z : layer_code.Layer) (entries : List StationEntry) (a : Answered) → IsNamed a → found ≡ of_layer e
-    → (let x : Result T LayerError = Err e in LayerGives (layer_settings c) z x a) → (let x : Result U StationError = Err found in station.Refuses x (did c (alone s) entries a))
-refused_did T U e found c s z entries (Went p) named is layer = is ∙ ap of_layer layer
-refused_did T U e found c s z entries (Refuses x) named is layer = inl (is ∙ ap of_layer (err_is T LayerError e x layer) ∙ named)
-
--- the same, with nothing else in its place
 pub refused_exactly_did : (T U : Type 0) (e : LayerError) (found : StationError) (c : Settings) (s : LinkStation) (z : layer_code.Layer) (entries : List StationEntry) (a : Answered) → IsNamed a → found ≡ of_layer e
     → (let x : Result T LayerError = Err e in LayerGives (layer_settings c) z x a) → (let x : Result U StationError = Err found in station.RefusesExactly x (did c (alone s) entries a))
 refused_exactly_did T U e found c s z entries (Went p) named is layer = is ∙ ap of_layer layer
@@ -190,13 +184,27 @@ answers u c l m n y z r s request fits layers links same none made kept =
     }
 
 -- a call of the layer that is refused, or finds no memory
-pub refuses : {manner : Manner} (T U : Type 0) (e : LayerError) (found : StationError) (c : Settings) (l : ShownLink) (y z : layer_code.Layer) (s : Station) (request : LayerRequest) → FitsParts c manner l y s → found ≡ of_layer e
-    → (let x : Result T LayerError = Err e in Layers l y z x request) → (let x : Result U StationError = Err found in station.Refuses x (requests c s request))
-refuses T U e found c l y z s request fits is layers =
+pub refuses_exactly : {manner : Manner} (T U : Type 0) (e : LayerError) (found : StationError) (c : Settings) (l : ShownLink) (y z : layer_code.Layer) (s : Station) (request : LayerRequest) → FitsParts c manner l y s → found ≡ of_layer e
+    → (let x : Result T LayerError = Err e in Layers l y z x request) → (let x : Result U StationError = Err found in station.RefusesExactly x (requests c s request))
+refuses_exactly T U e found c l y z s request fits is layers =
     let x : Result T LayerError = Err e in
     let lc : LayerSettings = layer_settings c in
     let entries : List StationEntry = entries_of_outcome lc s.layer request (layer_outcome lc (waiting_after (link_settings c) s.link [] == 256) s.layer request) in
-    refused_did T U e found c s.link z entries (answered_by c s request) (calls_named (view_of (link_settings c) s.link) lc s.layer request) is (layer_gives x c l y z s request fits layers)
+    refused_exactly_did T U e found c s.link z entries (answered_by c s request) (calls_named (view_of (link_settings c) s.link) lc s.layer request) is (layer_gives x c l y z s request fits layers)
+
+-- it may be refused so where memory may be wanted first
+refused_of : (U : Type 0) (found : StationError) (o : Outcome) → (let x : Result U StationError = Err found in station.RefusesExactly x o) → (let x : Result U StationError = Err found in station.Refuses x o)
+refused_of U found (Did step) is = is
+refused_of U found (Refused e) is = inl (err_is U StationError found e is)
+
+pub refuses : {manner : Manner} (T U : Type 0) (e : LayerError) (found : StationError) (c : Settings) (l : ShownLink) (y z : layer_code.Layer) (s : Station) (request : LayerRequest) → FitsParts c manner l y s → found ≡ of_layer e
+    → (let x : Result T LayerError = Err e in Layers l y z x request) → (let x : Result U StationError = Err found in station.Refuses x (requests c s request))
+refuses T U e found c l y z s request fits is layers = refused_of U found (requests c s request) (refuses_exactly T U e found c l y z s request fits is layers)
+
+-- what isn't refused isn't refused exactly
+pub goes_exactly : (o : Outcome) → station.Refuses {T = Unit} (Ok tt) o → station.RefusesExactly {T = Unit} (Ok tt) o
+goes_exactly (Did step) goes = tt
+goes_exactly (Refused e) goes = absurd goes
 
 -- then the station is as before
 pub still_fits : {manner : Manner} (c : Settings) (l m : ShownLink) (y z : layer_code.Layer) (s : Station) → FitsParts c manner l y s → FitsLayer (layer_settings c) z s.layer → ((x : LinkState) → FitsWhole l x → FitsWhole m x) → FitsParts c manner m z s

@@ -1,5 +1,5 @@
 -- What a pull behind a step leaves, and what it sends.
-use Rattle.std.proofs.Common.{◌≡◌, List, [], ◌∷◌, ◌++◌, map, ◌==◌, Result, Ok, Err, OnOk, OnErr, ℕ, refl, ap, sym, subst, ◌∙◌}
+use Rattle.std.proofs.Common.{◌≡◌, List, [], ◌∷◌, ◌++◌, map, ◌==◌, Result, Ok, Err, OnOk, OnErr, Bool, true, false, if◌then◌else◌, ℕ, refl, ap, sym, subst, ◌∙◌}
 use Rattle.std.specs.Prelude.{◌≢◌}
 use Rattle.std.proofs.Math.Logic.{∥∥₁_elim}
 use Rattle.std.proofs.Math.Path.{fun_ext}
@@ -8,10 +8,12 @@ use Rattle.std.proofs.lemmas.List.{append-nil, append_assoc}
 use Rattle.x25_packet.specs.Packet.{PlainPacket}
 use Rattle.x25_packet.specs.Spelling as packet
 use Rattle.x25_frame.specs.Spelling.{spelling_of}
+use Rattle.x25_link.specs.Station.{is_up}
 use Rattle.x25_link.specs.Link.{alone, put_step}
 use Rattle.x25_link.specs.code.FitsLink.{ShownLink, LinkState, FitsWhole, up_at, waits_of, after_put_to}
-use Rattle.x25_layer.specs.Calls.{PullsAll, layer_outcome}
-use Rattle.x25_layer.specs.Rounds.{LinkView, Answered, Went, Refuses as LayerRefuses, calls}
+use Rattle.x25_layer.specs.Layer.{LayerSettings}
+use Rattle.x25_layer.specs.Calls.{PullsAll, layer_outcome, outcome_in}
+use Rattle.x25_layer.specs.Rounds.{LinkView, Answered, Went, Refuses as LayerRefuses, went, calls}
 use Rattle.x25_layer.specs.code.OverLink as over
 use Rattle.x25_layer.specs.code.OverLink.{after_all, LayerGives, LinkGives}
 use Rattle.x25_layer.specs.code.FitsLayer.{FitsLayer}
@@ -24,7 +26,7 @@ use Rattle.x25_station.specs.declared.error.StationError.TheVariants as error
 use Rattle.x25_station.specs.Error.{of_layer}
 use Rattle.x25_station.specs.Config.{Settings, link_settings, layer_settings, manner_of}
 use Rattle.x25_station.specs.Entry.{StationEntry}
-use Rattle.x25_station.specs.Pulling.{pulled_of, pulled}
+use Rattle.x25_station.specs.Pulling.{CanPull, pulled_of, pulled}
 use Rattle.x25_station.specs.Station.{Station, all_put, view_of, waiting_after}
 use Rattle.x25_station.specs.Step.{Step, Outcome, Did, Refused, did, requests, entries_of_outcome}
 use Rattle.x25_station.specs.laws.KeepLaw.{KeptBy}
@@ -165,9 +167,34 @@ none_of : (s : Station) (e : LayerError) (found : StationError) (o : Outcome) �
 none_of s e found (Did step) is other exactly = absurd (other (memory_is e (sym is ∙ exactly)))
 none_of s e found (Refused x) is other exactly = refl
 
+-- the layer wants memory only where something may be pulled
+wanted_at : (T : Type 0) (c : Settings) (z : layer_code.Layer) (s : Station) → (let x : Result T LayerError = Err layer_error.NoMemory in LayerGives (layer_settings c) z x (answered_by c s PullsAll)) → CanPull s
+wanted_at T c z s gives = by_up (is_up s.link.phase) refl gives
+  where
+    lc : LayerSettings
+    lc = layer_settings c
+
+    view : LinkView
+    view = view_of (link_settings c) s.link
+
+    result : Result T LayerError
+    result = Err layer_error.NoMemory
+
+    by_ready : (restarting : Bool) → s.layer.restarting ≡ restarting → is_up s.link.phase ≡ true → LayerGives lc z result (went view lc (outcome_in lc (view.waits [] == 256) restarting s.layer.restarts s.layer.circuits PullsAll)) → CanPull s
+    by_ready true at up gives = absurd (cc)
+    by_ready false at up gives = record { up = up; ready = at }
+
+    by_up : (up : Bool) → is_up s.link.phase ≡ up → LayerGives lc z result (if up then went view lc (layer_outcome lc (view.waits [] == 256) s.layer PullsAll) else LayerRefuses layer_error.NotUp) → CanPull s
+    by_up true up gives = by_ready s.layer.restarting refl up gives
+    by_up false up gives = absurd (cc)
+
 if_ok : {E : Type 0} {P Q : Type 0} (r : Result Unit E) → OnOk r P → (P → Q) → OnOk r Q
 if_ok (Ok u) p f = f p
 if_ok (Err e) p f = tt
+
+if_err : {E : Type 0} {P Q : Type 0} (r : Result Unit E) → OnErr r P → (P → Q) → OnErr r Q
+if_err (Ok u) p f = tt
+if_err (Err e) p f = f p
 
 module _ (T : Type 0) (e : LayerError) (result : Result Unit StationError) (other : OnOk result (e ≢ layer_error.NoMemory)) (c : Settings) (l g : ShownLink) (y z : layer_code.Layer) (s : Station) (manner : Manner) (fits : FitsParts c manner l y s)
     (same : g.station ≡ l.station) (layers : let x : Result T LayerError = Err e in Layers g y z x PullsAll) where
@@ -182,6 +209,12 @@ module _ (T : Type 0) (e : LayerError) (result : Result Unit StationError) (othe
 
   pub none_sent : (before after : List (List ℕ)) → after ≡ before → OnOk result (after ≡ before ++ map (spelling_of c.role) (pulled c s).out)
   none_sent before after unsent = if_ok result other (λ named. unsent ∙ sym (append-nil before) ∙ ap (λ (step : Step). before ++ map (spelling_of c.role) step.out) (sym (none named)))
+
+  pub wanted : OnErr result (e ≡ layer_error.NoMemory) → OnErr result (CanPull s)
+  wanted due =
+      let x : Result T LayerError = Err e in
+      let gives : LayerGives (layer_settings c) z x (answered_by c s PullsAll) = layer_gives c l g y s manner fits same x z layers in
+      if_err result due (λ is. wanted_at T c z s (subst (λ (found : LayerError). let r : Result T LayerError = Err found in LayerGives (layer_settings c) z r (answered_by c s PullsAll)) is gives))
 
 pub if_error : {E : Type 0} {P : Type 0} (r : Result Unit E) → P → OnErr r P
 if_error (Ok u) p = tt

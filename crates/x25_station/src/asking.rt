@@ -13,7 +13,7 @@ ghost use Rattle.x25_layer.specs.laws.TwoLayers.{shown};
 ghost use Rattle.x25_station.specs.Command.{Requests, answer_in_brief, command_of, proposal_said};
 ghost use Rattle.x25_station.specs.Entry.{of_channel};
 ghost use Rattle.x25_station.specs.code.Clock.{TellsTimer};
-ghost use Rattle.x25_station.specs.code.FitsStation.{FitsStation, Does, IsEmpty};
+ghost use Rattle.x25_station.specs.code.FitsStation.{FitsStation, Does, IsEmpty, RefusesExactly};
 ghost use Rattle.x25_station.specs.code.PlainEntry.{plain_entry, plain_asked, plain_said};
 ghost use Rattle.x25_station.specs.Config.{Settings};
 ghost use Rattle.x25_station.specs.Station.{Station as State};
@@ -187,13 +187,15 @@ impl Station {
     /// 13 where it is closed. The others are refused with 9 where the link isn't up, then with
     /// 40 while a restart is under way; one with a channel then with 42 where it isn't configured and a call with 41
     /// where no channel is free; then, but for a message, with 10 where 256 packets wait; and then as the circuit
-    /// refuses it, with 30 to 34. Else 70 alone, and 70 may come in place of each of these. The station is as before
-    /// then.
+    /// refuses it, with 30 to 34. Else 70 alone, and 70 may come in place of each of these but those of `Pull`. The
+    /// station is as before then.
     #[inline(always)]
     pub fn command(&mut self, command: Cmd<'_>, out: &mut Step) -> Result<(), StationError>
         ensures does { Does self.old self.new out.new result (λ c s. commands c s (command_of command.entry)) }
         ensures timer { TellsTimer self.old out.new.timer result false
             (λ c s. commands c s (command_of command.entry)) }
+        ensures pull { command_of command.entry ≡ Requests PullsAll → (c : Settings) (s : State)
+            → FitsStation c self.old s → RefusesExactly result (requests c s PullsAll) }
     {
         self.reuse(out);
         let before = self.clock();
@@ -206,7 +208,9 @@ impl Station {
     #[inline(never)]
     fn carry_out(&mut self, command: &Cmd<'_>, out: &mut Step) -> Result<(), StationError>
         requires { IsEmpty out.old }
-        ensures { Does self.old self.new out.new result (λ c s. commands c s (command_of command.now)) }
+        ensures does { Does self.old self.new out.new result (λ c s. commands c s (command_of command.now)) }
+        ensures pull { command_of command.now ≡ Requests PullsAll → (c : Settings) (s : State)
+            → FitsStation c self.old s → RefusesExactly result (requests c s PullsAll) }
     {
         match command {
             Cmd::Accept { channel, params } => self.accept(*channel, *params, out),
@@ -244,11 +248,12 @@ impl Station {
     // than 8 packets wait there (profile).
     fn pull_asked(&mut self, out: &mut Step) -> Result<(), StationError>
         requires { IsEmpty out.old }
-        ensures { Does self.old self.new out.new result (λ c s. requests c s PullsAll) }
+        ensures does { Does self.old self.new out.new result (λ c s. requests c s PullsAll) }
+        ensures exactly { (c : Settings) (s : State) → FitsStation c self.old s
+            → RefusesExactly result (requests c s PullsAll) }
     {
         steps_keep_bounds();
         holds_few();
-        out.make_room()?;
         match self.layer.pull(&mut self.link) {
             Ok(()) => {
                 self.link.swap_frames(&mut out.frames);

@@ -16,6 +16,7 @@ use x25_layer::LayerError;
 // Want of memory is an error, and any other refusal none.
 fn unless_refused(error: LayerError) -> Result<(), StationError>
     ensures other { OnOk result (error ≢ LayerError.NoMemory) }
+    ensures due { OnErr result (error ≡ LayerError.NoMemory) }
     ensures refused { IfErr result (λ e. e ≡ StationError.NoMemory) }
 {
     match error {
@@ -33,7 +34,8 @@ impl Station {
     /// that a message may wait in its circuit while nothing is on its way: one who calls this behind each step leaves
     /// none to wait so.
     ///
-    /// 70 alone. The station is as before then, and so are the frames of the step.
+    /// 70 alone, and that only where the link is up and no restart is under way. The station is as before then, and so
+    /// are the frames of the step.
     pub fn pull(&mut self, out: &mut Step) -> Result<(), StationError>
         ensures pulls { Pulls self.old self.new (map (λ f. f.items) out.old.frames.items)
             (map (λ f. f.items) out.new.frames.items) result }

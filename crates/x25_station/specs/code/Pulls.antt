@@ -4,11 +4,12 @@ use Rattle.x25_frame.specs.Spelling.{spelling_of}
 use Rattle.x25_station.specs.declared.error.StationError.{StationError}
 use Rattle.x25_station.specs.declared.station.Station as code
 use Rattle.x25_station.specs.Config.{Settings}
-use Rattle.x25_station.specs.Pulling.{pulled}
+use Rattle.x25_station.specs.Pulling.{CanPull, pulled}
 use Rattle.x25_station.specs.Station.{Station}
 use Rattle.x25_station.specs.code.FitsStation.{FitsStation}
 
--- Its frames come behind others; or memory is wanted, and the station and the frames are as before.
+-- Its frames come behind others; or memory is wanted, as it is only where something may be pulled, and the station and
+-- the frames are as before.
 pub record Pulls (old new : code.Station) (before after : List (List ℕ)) (result : Result Unit StationError)
     : Type 0 where
   pub state : (c : Settings) (s : Station) → FitsStation c old s → OnOk result (FitsStation c new (pulled c s).near)
@@ -16,3 +17,4 @@ pub record Pulls (old new : code.Station) (before after : List (List ℕ)) (resu
       OnOk result (after ≡ before ++ map (spelling_of c.role) (pulled c s).out)
   pub stays : (c : Settings) (s : Station) → FitsStation c old s → OnErr result (FitsStation c new s)
   pub unsent : OnErr result (after ≡ before)
+  pub due : (c : Settings) (s : Station) → FitsStation c old s → OnErr result (CanPull s)

@@ -5,7 +5,7 @@ use Rattle.x25_station.specs.code.PlainEntry.{plain_entry}
 use Rattle.x25_station.specs.Config.{layer_settings}
 use Rattle.x25_station.specs.Step.{requests}
 use Rattle.x25_station.proofs.OutcomeLemmas.{leaves_some, still_meant}
-use Rattle.x25_station.proofs.AskLemmas.{answers, still_fits}
+use Rattle.x25_station.proofs.AskLemmas.{answers, goes_exactly, refuses_exactly, still_fits}
 use Rattle.x25_station.proofs.DoesLemmas.{did_request, declines_request}
 use Rattle.x25_station.proofs.EnteredLemmas.{pull_enters}
 use Rattle.x25_station.proofs.station.Station.pull_asked.Goals as goal
@@ -14,8 +14,8 @@ pub invariant_of-self : goal.invariant_of-self
 invariant_of-self c = record {
   meant = still_meant _ _ _ _ c.args.self.now.meant (λ c' s fits.
       let request = PullsAll in
-      let a = answers c.in-Ok.field-0 c' _ c.pull.new.link c.swap_frames.new.self _ c.pull.new.self (record { frames = c.swap_frames.new.frames; entries = c.make_room.new.self.entries; timer = c.make_room.new.self.timer }) s request fits
-      c.in-Ok.ensures.layer c.in-Ok.ensures.link c.swap_frames.ensures.station (ap (λ o. o.made) c.swap_frames.ensures.outbox ∙ ap (map (λ frame. frame.items)) c.make_room.ensures.empty.frames) c.swap_frames.ensures.frames
+      let a = answers c.in-Ok.field-0 c' _ c.pull.new.link c.swap_frames.new.self _ c.pull.new.self (record { frames = c.swap_frames.new.frames; entries = c.args.out.now.entries; timer = c.args.out.now.timer }) s request fits
+      c.in-Ok.ensures.layer c.in-Ok.ensures.link c.swap_frames.ensures.station (ap (λ o. o.made) c.swap_frames.ensures.outbox ∙ ap (map (λ frame. frame.items)) c.requires.frames) c.swap_frames.ensures.frames
       (c.steps_keep_bounds.ensures.request c' s request fits.kept) in
       leaves_some c' _ _ (requests c' s request) a.state a.refused);
   aside =
@@ -39,15 +39,21 @@ invariant_of-self-in-Err-1 c = record {
       record { packets = omega (arith, packets, low); spares = omega (arith, spares, few); texts = before.texts };
 }
 
-pub returns-in-Ok : goal.returns-in-Ok
-returns-in-Ok c =
+pub returns-in-Ok-clause-does : goal.returns-in-Ok-clause-does
+returns-in-Ok-clause-does c =
     let request = PullsAll in
-    let r : code_step.Step = record { frames = c.swap_frames.new.frames; entries = c.make_room.new.self.entries; timer = c.make_room.new.self.timer } in
-    did_request c.in-Ok.field-0 c.args.self.now _ c.pull.new.link r request c.in-Ok.ensures.layer c.in-Ok.ensures.link c.swap_frames.ensures.station (ap (λ o. o.made) c.swap_frames.ensures.outbox ∙ ap (map (λ frame. frame.items)) c.make_room.ensures.empty.frames) c.swap_frames.ensures.frames
+    let r : code_step.Step = record { frames = c.swap_frames.new.frames; entries = c.args.out.now.entries; timer = c.args.out.now.timer } in
+    did_request c.in-Ok.field-0 c.args.self.now _ c.pull.new.link r request c.in-Ok.ensures.layer c.in-Ok.ensures.link c.swap_frames.ensures.station (ap (λ o. o.made) c.swap_frames.ensures.outbox ∙ ap (map (λ frame. frame.items)) c.requires.frames) c.swap_frames.ensures.frames
     c.steps_keep_bounds.ensures.request c.holds_few.ensures.window c.holds_few.ensures.stand
     (λ c' s fits.
-    pull_enters c' s r (ap (λ es. map plain_entry es) c.make_room.ensures.empty.entries))
-    (grind (arith, ap length c.make_room.ensures.empty.entries, c.make_room.new.self.entries.ok)) refl
+    pull_enters c' s r (ap (λ es. map plain_entry es) c.requires.entries))
+    (grind (arith, ap length c.requires.entries, c.args.out.now.entries.ok)) refl
 
-pub returns-in-Err : goal.returns-in-Err
-returns-in-Err c = declines_request _ c.in-Err.error _ c.args.self.now _ _ PullsAll c.of_layer.ensures c.in-Err.ensures.layer c.in-Err.ensures.layer_stays c.in-Err.ensures.link_stays c.make_room.ensures.empty refl
+pub returns-in-Err-clause-does : goal.returns-in-Err-clause-does
+returns-in-Err-clause-does c = declines_request _ c.in-Err.error _ c.args.self.now _ _ PullsAll c.of_layer.ensures c.in-Err.ensures.layer c.in-Err.ensures.layer_stays c.in-Err.ensures.link_stays c.requires refl
+
+pub returns-in-Ok-clause-exactly : goal.returns-in-Ok-clause-exactly
+returns-in-Ok-clause-exactly c = λ c' s fits. goes_exactly (requests c' s PullsAll) ((returns-in-Ok-clause-does c).refused c' s fits)
+
+pub returns-in-Err-clause-exactly : goal.returns-in-Err-clause-exactly
+returns-in-Err-clause-exactly c = λ c' s fits. refuses_exactly _ Unit c.in-Err.error _ c' c.args.self.now.link c.args.self.now.layer c.pull.new.self s PullsAll fits c.of_layer.ensures c.in-Err.ensures.layer

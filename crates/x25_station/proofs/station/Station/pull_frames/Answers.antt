@@ -7,7 +7,7 @@ use Rattle.x25_station.specs.Station.{Station}
 use Rattle.x25_station.specs.code.FitsParts.{FitsParts}
 use Rattle.x25_station.specs.code.FitsStation.{FitsStation}
 use Rattle.x25_station.proofs.OutcomeLemmas.{still_meant}
-use Rattle.x25_station.proofs.PullLemmas.{pulled_or_not, pulled_fits, pulled_made, same_made, still_fits, made_by_meaning, none_fits, none_sent, if_error}
+use Rattle.x25_station.proofs.PullLemmas.{pulled_or_not, pulled_fits, pulled_made, same_made, still_fits, made_by_meaning, none_fits, none_sent, wanted, if_error}
 use Rattle.x25_station.proofs.station.Station.pull_frames.Goals as goal
 
 pub invariant_of-self : goal.invariant_of-self
@@ -37,6 +37,7 @@ returns-in-Ok-clause-pulls c = record {
       ∙ ap (λ o. o.made ++ map (spelling_of c'.role) (pulled c' s).out) c.swap_frames.ensures.outbox;
   stays = λ c' s fits. tt;
   unsent = tt;
+  due = λ c' s fits. tt;
 }
 
 pub returns-in-Err-clause-pulls : goal.returns-in-Err-clause-pulls
@@ -55,4 +56,5 @@ returns-in-Err-clause-pulls c =
       frames = λ c' s fits. none_sent _ c.in-Err.error r c.unless_refused.ensures.other c' _ c.swap_frames.new.self _ c.pull-answer.new.self s _ fits c.swap_frames.ensures.station c.in-Err.ensures.layer _ _ same;
       stays = λ c' s fits. if_error r (still c' s fits);
       unsent = if_error r same;
+      due = λ c' s fits. wanted _ c.in-Err.error r c.unless_refused.ensures.other c' _ c.swap_frames.new.self _ c.pull-answer.new.self s _ fits c.swap_frames.ensures.station c.in-Err.ensures.layer c.unless_refused.ensures.due;
     }
