@@ -1,6 +1,5 @@
 //! What the user asks of the packet layer: the layer's call, and its entry.
 ghost use Rattle.std.specs.Prelude.{◌≡◌, ◌-◌, ◌≤◌, [], max, Some, None, true, false, string_bytes, vec_capacity, IfOk};
-ghost use Rattle.std.specs.Prelude.{IfErr};
 ghost use Rattle.x25_circuit.specs.Circuit.{Circuit};
 ghost use Rattle.x25_circuit.specs.Calling.{Calls, Accepts};
 ghost use Rattle.x25_circuit.specs.Request.{plain_request};
@@ -13,7 +12,7 @@ ghost use Rattle.x25_layer.specs.laws.TwoLayers.{shown};
 ghost use Rattle.x25_station.specs.Command.{Requests, answer_in_brief, command_of, proposal_said};
 ghost use Rattle.x25_station.specs.Entry.{of_channel};
 ghost use Rattle.x25_station.specs.code.Clock.{TellsTimer};
-ghost use Rattle.x25_station.specs.code.FitsStation.{FitsStation, Does, IsEmpty, RefusesExactly};
+ghost use Rattle.x25_station.specs.code.FitsStation.{FitsStation, Does, IsEmpty, RefusesExactly, RefusesForMemory};
 ghost use Rattle.x25_station.specs.code.PlainEntry.{plain_entry, plain_asked, plain_said};
 ghost use Rattle.x25_station.specs.Config.{Settings};
 ghost use Rattle.x25_station.specs.Station.{Station as State};
@@ -42,7 +41,7 @@ pub(crate) type MessageMemory = Pool<LONGEST_KEPT, 1>;
 #[inline(always)]
 fn copied(alloc: Global, octets: &[u8]) -> Result<Vec<u8>, StationError>
     ensures ok { IfOk result (λ copy. copy.items ≡ octets.now) }
-    ensures err { IfErr result (λ e. e ≡ StationError.NoMemory) }
+    ensures err { RefusesForMemory result }
 {
     match Vec::from_slice(alloc, octets) {
         Ok(copy) => Ok(copy),
@@ -53,7 +52,7 @@ fn copied(alloc: Global, octets: &[u8]) -> Result<Vec<u8>, StationError>
 // A copy of a text, for an entry.
 fn copied_text(alloc: Global, text: &str) -> Result<String, StationError>
     ensures ok { IfOk result (λ copy. string_bytes copy ≡ text.now) }
-    ensures err { IfErr result (λ e. e ≡ StationError.NoMemory) }
+    ensures err { RefusesForMemory result }
 {
     match String::from_str(alloc, text) {
         Ok(copy) => Ok(copy),
@@ -71,7 +70,7 @@ fn message_memory(
     ensures empty { IfOk result (λ memory. memory.items ≡ []) }
     ensures room { IfOk result (λ memory. count ≤ vec_capacity memory) }
     ensures most { IfOk result (λ memory. vec_capacity memory ≤ max count 4096) }
-    ensures err { IfErr result (λ e. e ≡ StationError.NoMemory) }
+    ensures err { RefusesForMemory result }
 {
     if let Some(memory) = messages.take(count) {
         return Ok(memory);
@@ -90,7 +89,7 @@ fn copied_message(
 ) -> Result<Vec<u8>, StationError>
     ensures fewer { messages.new.kept ≡ messages.old.kept - 1 }
     ensures ok { IfOk result (λ copy. copy.items ≡ user.now) }
-    ensures err { IfErr result (λ e. e ≡ StationError.NoMemory) }
+    ensures err { RefusesForMemory result }
 {
     let mut copy = message_memory(alloc, messages, user.len())?;
     copy.extend_from_slice(user).unwrap();
@@ -117,7 +116,7 @@ fn asked_of(
     ensures no_more { messages.new.kept ≤ messages.old.kept }
     ensures ok { IfOk result (λ asked. (x : Circuit)
         → shown x (plain_asked asked) ≡ shown x (plain_request request.now)) }
-    ensures err { IfErr result (λ e. e ≡ StationError.NoMemory) }
+    ensures err { RefusesForMemory result }
 {
     match request {
         Request::Call {
@@ -152,7 +151,7 @@ fn asked_call(
     params: Params,
 ) -> Result<Asked, StationError>
     ensures ok { IfOk result (λ asked. plain_asked asked ≡ Calls called.now calling.now user.now (in_brief params)) }
-    ensures err { IfErr result (λ e. e ≡ StationError.NoMemory) }
+    ensures err { RefusesForMemory result }
 {
     let called = copied_text(alloc, called)?;
     let calling = copied_text(alloc, calling)?;

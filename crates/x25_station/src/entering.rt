@@ -1,6 +1,5 @@
 //! Entries of what the packet layer tells, in memory that was set aside.
-ghost use Rattle.std.specs.Prelude.{◌≡◌, ℕ, ◌+◌, ◌<◌, ◌≤◌, ◌++◌, [], ◌∷◌, map, take, true, option_to_list, vec_len};
-ghost use Rattle.std.specs.Prelude.{vec_capacity};
+ghost use Rattle.std.specs.Prelude.{◌≡◌, ℕ, ◌+◌, ◌<◌, ◌≤◌, ◌++◌, [], ◌∷◌, map, take, true, option_to_list};
 ghost use Rattle.x25_circuit.specs.Notice.{deliveries};
 ghost use Rattle.x25_circuit.specs.code.Replies.{plain_notice, notices_of};
 ghost use Rattle.x25_layer.specs.Layer.{Layer as LayerState, LayerSettings, is_channel, notices_on};
@@ -11,6 +10,7 @@ ghost use Rattle.x25_station.specs.Entry.{bringing, entries_beside, may_bring, o
 ghost use Rattle.x25_station.specs.code.PlainEntry.{plain_entry, plain_said, plain_told};
 ghost use Rattle.x25_station.specs.Receiving.{IsShort, AreTellable};
 ghost use Rattle.x25_station.specs.Beside.{AreFew, plain_beside};
+ghost use Rattle.x25_station.specs.code.Aside.{GrowsBy, HasPlaces, UsesFew};
 
 use crate::beside::Beside;
 use crate::entry::{Entry, Said, Told};
@@ -32,9 +32,8 @@ pub(crate) type TextMemory = Promise<LONGEST_TEXT, MOST_TEXTS>;
 /// Enters what was said on a configured channel, under the name of its stretch, behind the other entries.
 #[inline(always)]
 pub(crate) fn enter(layer: &Layer, entries: &mut Vec<Entry>, channel: u16, said: Said)
-    requires { vec_len entries.old < vec_capacity entries.old }
-    ensures length { vec_len entries.new ≤ vec_len entries.old + 1 }
-    ensures capacity { vec_capacity entries.new ≡ vec_capacity entries.old }
+    requires { HasPlaces 1 entries.old }
+    ensures few { GrowsBy 1 entries.old entries.new }
     ensures entered { (c : LayerSettings) (l : LayerState) → FitsLayer c layer.now l
         → is_channel c.channels channel ≡ true →
         map plain_entry entries.new.items ≡ map plain_entry entries.old.items
@@ -57,9 +56,8 @@ pub(crate) fn enter_message(
     channel: u16,
     message: Option<Message>,
 )
-    requires { vec_len entries.old < vec_capacity entries.old }
-    ensures length { vec_len entries.new ≤ vec_len entries.old + 1 }
-    ensures capacity { vec_capacity entries.new ≡ vec_capacity entries.old }
+    requires { HasPlaces 1 entries.old }
+    ensures few { GrowsBy 1 entries.old entries.new }
     ensures entered { (c : LayerSettings) (l : LayerState) → FitsLayer c layer.now l
         → is_channel c.channels channel ≡ true →
         map plain_entry entries.new.items ≡ map plain_entry entries.old.items
@@ -105,8 +103,7 @@ fn kept_digits(texts: &mut TextMemory, digits: &Digits<'_>) -> Vec<u8>
 fn told_of(texts: &mut TextMemory, notice: Notice<'_>) -> Told
     requires { 3 ≤ texts.old }
     ensures told { IsShort (plain_notice notice.entry) → plain_told result ≡ plain_notice notice.entry }
-    ensures no_more { texts.new ≤ texts.old }
-    ensures left { texts.old ≤ texts.new + 3 }
+    ensures used { UsesFew 3 texts.old texts.new }
 {
     match notice {
         Notice::Incoming {
@@ -151,11 +148,9 @@ fn enter_notices(
     entries: &mut Vec<Entry>,
 )
     requires texts { 3 ≤ texts.old }
-    requires room { vec_len entries.old + 2 ≤ vec_capacity entries.old }
-    ensures length { vec_len entries.new ≤ vec_len entries.old + 2 }
-    ensures capacity { vec_capacity entries.new ≡ vec_capacity entries.old }
-    ensures no_more { texts.new ≤ texts.old }
-    ensures left { texts.old ≤ texts.new + 3 }
+    requires room { HasPlaces 2 entries.old }
+    ensures few { GrowsBy 2 entries.old entries.new }
+    ensures used { UsesFew 3 texts.old texts.new }
     ensures entered { (c : LayerSettings) (l : LayerState) → FitsLayer c layer.now l
         → AreTellable c (notices_on channel (notices_of collided notice.entry)) →
         map plain_entry entries.new.items ≡ map plain_entry entries.old.items
@@ -180,11 +175,9 @@ pub(crate) fn enter_told(
     entries: &mut Vec<Entry>,
 )
     requires texts { 3 ≤ texts.old }
-    requires room { vec_len entries.old + 2 ≤ vec_capacity entries.old }
-    ensures length { vec_len entries.new ≤ vec_len entries.old + 2 }
-    ensures capacity { vec_capacity entries.new ≡ vec_capacity entries.old }
-    ensures no_more { texts.new ≤ texts.old }
-    ensures left { texts.old ≤ texts.new + 3 }
+    requires room { HasPlaces 2 entries.old }
+    ensures few { GrowsBy 2 entries.old entries.new }
+    ensures used { UsesFew 3 texts.old texts.new }
     ensures entered { (c : LayerSettings) (l : LayerState) → FitsLayer c layer.now l
         → AreTellable c (plain_heard told.entry) →
         map plain_entry entries.new.items ≡ map plain_entry entries.old.items
@@ -240,10 +233,10 @@ pub(crate) fn enter_beside(
     entries: &mut Vec<Entry>,
 )
     requires texts { 2 ≤ texts.old }
-    requires room { vec_len entries.old < vec_capacity entries.old }
+    requires room { HasPlaces 1 entries.old }
     requires few { AreFew (plain_beside beside) }
-    ensures length { vec_len entries.new ≤ vec_len entries.old + 1 }
-    ensures no_more { texts.new ≤ texts.old }
+    ensures few { GrowsBy 1 entries.old entries.new }
+    ensures used { UsesFew 2 texts.old texts.new }
     ensures entered { map plain_entry entries.new.items ≡ map plain_entry entries.old.items
         ++ entries_beside (plain_beside beside.entry) channel }
 {

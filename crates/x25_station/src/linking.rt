@@ -1,9 +1,10 @@
 //! Calls that the link alone answers, and at LinkDown the packet layer.
-ghost use Rattle.std.specs.Prelude.{◌≡◌, ℕ, ◌+◌, ◌<◌, ◌≤◌, ◌++◌, map, true, false, None, vec_len, vec_capacity};
+ghost use Rattle.std.specs.Prelude.{◌≡◌, ℕ, ◌+◌, ◌++◌, map, true, false, None};
 ghost use Rattle.x25_layer.specs.Layer.{Layer as LayerState, LayerSettings};
 ghost use Rattle.x25_layer.specs.code.FitsLayer.{FitsLayer};
 ghost use Rattle.x25_layer.specs.Room.{HasRoom};
 ghost use Rattle.x25_station.specs.Entry.{entries_down};
+ghost use Rattle.x25_station.specs.code.Aside.{GrowsBy, HasPlaces};
 ghost use Rattle.x25_station.specs.code.Clock.{TellsTimer};
 ghost use Rattle.x25_station.specs.code.FitsStation.{FitsStation, Does, IsEmpty, RefusesExactly};
 ghost use Rattle.x25_station.specs.code.PlainEntry.{plain_entry};
@@ -120,9 +121,8 @@ impl Station {
 
 /// What the layer does where the link notes that it went down, or nothing. The entry goes behind the others.
 pub(crate) fn note_down(layer: &mut Layer, down: Option<Reason>, entries: &mut Vec<Entry>)
-    requires { vec_len entries.old < vec_capacity entries.old }
-    ensures length { vec_len entries.new ≤ vec_len entries.old + 1 }
-    ensures capacity { vec_capacity entries.new ≡ vec_capacity entries.old }
+    requires { HasPlaces 1 entries.old }
+    ensures few { GrowsBy 1 entries.old entries.new }
     ensures room { (len spares : ℕ) → HasRoom len layer.old spares → HasRoom len layer.new spares }
     ensures memory { layer.new.memory ≡ layer.old.memory }
     ensures same { down ≡ None → layer.new ≡ layer.old }

@@ -1,6 +1,6 @@
 //! What waits in the circuits is pulled behind a step.
-ghost use Rattle.std.specs.Prelude.{◌≡◌, ◌≢◌, map, IfErr, OnOk, OnErr};
-ghost use Rattle.x25_station.specs.code.FitsStation.{FitsStation};
+ghost use Rattle.std.specs.Prelude.{◌≡◌, ◌≢◌, map, OnOk, OnErr};
+ghost use Rattle.x25_station.specs.code.FitsStation.{FitsStation, RefusesForMemory};
 ghost use Rattle.x25_station.specs.code.Pulls.{Pulls};
 ghost use Rattle.x25_station.specs.Config.{Settings};
 ghost use Rattle.x25_station.specs.Pulling.{pulled};
@@ -17,7 +17,7 @@ use x25_layer::LayerError;
 fn unless_refused(error: LayerError) -> Result<(), StationError>
     ensures other { OnOk result (error ≢ LayerError.NoMemory) }
     ensures due { OnErr result (error ≡ LayerError.NoMemory) }
-    ensures refused { IfErr result (λ e. e ≡ StationError.NoMemory) }
+    ensures refused { RefusesForMemory result }
 {
     match error {
         LayerError::NoMemory => Err(StationError::NoMemory),
@@ -43,7 +43,7 @@ impl Station {
         ensures timer { (c : Settings) (s : State) → FitsStation c self.old s →
             OnOk result (out.new.timer ≡ timer_pulled out.old.timer s (pulled c s).near) }
         ensures untimed { OnErr result (out.new.timer ≡ out.old.timer) }
-        ensures refused { IfErr result (λ e. e ≡ StationError.NoMemory) }
+        ensures refused { RefusesForMemory result }
     {
         let before = self.clock();
         match self.pull_frames(&mut out.frames) {
@@ -59,7 +59,7 @@ impl Station {
     fn pull_frames(&mut self, frames: &mut Vec<Vec<u8>>) -> Result<(), StationError>
         ensures pulls { Pulls self.old self.new (map (λ f. f.items) frames.old.items)
             (map (λ f. f.items) frames.new.items) result }
-        ensures refused { IfErr result (λ e. e ≡ StationError.NoMemory) }
+        ensures refused { RefusesForMemory result }
     {
         steps_keep_bounds();
         self.link.swap_frames(frames);

@@ -1,6 +1,6 @@
 //! Octets that come: the step of the link, and what the packet layer does at it.
-ghost use Rattle.std.specs.Prelude.{◌≡◌, ℕ, ◌+◌, ◌-◌, ◌<◌, ◌≤◌, ◌++◌, List, length, max, map, true, false, None};
-ghost use Rattle.std.specs.Prelude.{is_some, option_copied, vec_len, vec_capacity, IfSome, IfErr, OnOk};
+ghost use Rattle.std.specs.Prelude.{◌≡◌, ℕ, ◌+◌, ◌-◌, ◌≤◌, ◌++◌, length, max, map, true, false, None, is_some};
+ghost use Rattle.std.specs.Prelude.{option_copied, IfSome, OnOk};
 ghost use Rattle.x25_link.specs.Station.{Side};
 ghost use Rattle.x25_link.specs.code.FitsLink.{FitsWhole, up_of};
 ghost use Rattle.x25_layer.specs.Layer.{Layer as LayerState};
@@ -8,8 +8,9 @@ ghost use Rattle.x25_layer.specs.code.FitsLayer.{FitsLayer};
 ghost use Rattle.x25_layer.specs.Room.{HasRoom, HaveAtMost, IsNotFull};
 ghost use Rattle.x25_layer.specs.Rounds.{Putting, hears, comes_up};
 ghost use Rattle.x25_station.specs.Entry.{bringing, entries_up, entries_noted};
+ghost use Rattle.x25_station.specs.code.Aside.{GrowsBy, HasPlaces, UsesFew};
 ghost use Rattle.x25_station.specs.code.Clock.{TellsTimer};
-ghost use Rattle.x25_station.specs.code.FitsStation.{FitsStation, Does, HasPlaces, IsEmpty};
+ghost use Rattle.x25_station.specs.code.FitsStation.{FitsStation, FitsStill, Does, IsEmpty, RefusesForMemory};
 ghost use Rattle.x25_station.specs.code.PlainEntry.{plain_entry};
 ghost use Rattle.x25_station.specs.Receiving.{kept_of, CanPut};
 ghost use Rattle.x25_station.specs.Config.{Settings, link_settings, layer_settings};
@@ -40,7 +41,7 @@ const HEADERS: usize = 2 + 2 + 3;
 fn come_up(layer: &mut Layer, link: &mut Link, entries: &mut Vec<Entry>)
     requires put { CanPut link.old }
     requires room { HasRoom 0 layer.old link.old.outbox.long }
-    requires entries { vec_len entries.old < vec_capacity entries.old }
+    requires entries { HasPlaces 1 entries.old }
     ensures layer { (c : Settings) (l : LayerState) (t : Side) → FitsLayer (layer_settings c) layer.old l
         → FitsWhole link.old (kept_of (link_settings c) t) →
         FitsLayer (layer_settings c) layer.new
@@ -50,7 +51,7 @@ fn come_up(layer: &mut Layer, link: &mut Link, entries: &mut Vec<Entry>)
         FitsWhole link.new (kept_of (link_settings c)
         (all_put (link_settings c) (comes_up (view_of (link_settings c) t.near) (layer_settings c)).step.put t)) }
     ensures entries { map plain_entry entries.new.items ≡ map plain_entry entries.old.items ++ entries_up true }
-    ensures length { vec_len entries.new ≡ vec_len entries.old + 1 }
+    ensures few { GrowsBy 1 entries.old entries.new }
     ensures most_memory { layer.new.memory ≤ max layer.old.memory 16 }
     ensures most_spares { link.new.outbox.long ≤ max link.old.outbox.long 16 }
 {
@@ -78,7 +79,7 @@ fn hear(
     requires left { IsNotFull layer.old }
     requires room { HasRoom (length packet.now - 3) layer.old link.old.outbox.long }
     requires texts { 3 ≤ texts.old }
-    requires entries { vec_len entries.old + 2 ≤ vec_capacity entries.old }
+    requires entries { HasPlaces 2 entries.old }
     ensures layer { (c : Settings) (l : LayerState) (t : Side) → FitsLayer (layer_settings c) layer.old l
         → FitsWhole link.old (kept_of (link_settings c) t) →
         FitsLayer (layer_settings c) layer.new
@@ -92,12 +93,10 @@ fn hear(
         → FitsWhole link.old (kept_of (link_settings c) t) →
         map plain_entry entries.new.items ≡ map plain_entry entries.old.items
         ++ entries_of_answer (layer_answer (layer_settings c) wide l packet.now) }
-    ensures length { vec_len entries.new ≤ vec_len entries.old + 2 }
+    ensures few { GrowsBy 2 entries.old entries.new }
     ensures most_memory { layer.new.memory ≤ max layer.old.memory 16 }
     ensures most_spares { link.new.outbox.long ≤ max link.old.outbox.long 16 }
-    ensures texts { texts.new ≤ texts.old }
-    ensures texts_left { texts.old ≤ texts.new + 3 }
-    ensures capacity { vec_capacity entries.new ≡ vec_capacity entries.old }
+    ensures used { UsesFew 3 texts.old texts.new }
     ensures bringing { (c : Settings) (l : LayerState) (t : Side) → FitsLayer (layer_settings c) layer.old l
         → FitsWhole link.old (kept_of (link_settings c) t) →
         result ≡ bringing (layer_answer (layer_settings c) wide l packet.now).notices }
@@ -130,7 +129,7 @@ fn follow(
     requires begun { HasRoom 0 layer.old link.old.outbox.long }
     requires room { IfSome packet (λ p. HasRoom (length p.now - 3) layer.old link.old.outbox.long) }
     requires texts { 5 ≤ texts.old }
-    requires entries { vec_len entries.old + 3 ≤ vec_capacity entries.old }
+    requires entries { HasPlaces 3 entries.old }
     ensures layer { (c : Settings) (l : LayerState) (t : Side) → FitsLayer (layer_settings c) layer.old l
         → FitsWhole link.old (kept_of (link_settings c) t) →
         FitsLayer (layer_settings c) layer.new
@@ -146,10 +145,10 @@ fn follow(
         map plain_entry entries.new.items ≡ map plain_entry entries.old.items
         ++ (entries_noted notes
         ++ entries_heard (layer_settings c) wide l (option_copied packet.entry) notes.down notes.up) }
-    ensures length { vec_len entries.new ≤ vec_len entries.old + 3 }
+    ensures few { GrowsBy 3 entries.old entries.new }
     ensures most_memory { layer.new.memory ≤ max layer.old.memory 16 }
     ensures most_spares { link.new.outbox.long ≤ max link.old.outbox.long 16 }
-    ensures texts { texts.new ≤ texts.old }
+    ensures used { UsesFew 5 texts.old texts.new }
 {
     note_down(layer, notes.down, entries);
     if notes.up {
@@ -173,7 +172,7 @@ impl Station {
     /// 70 alone. The octets aren't taken then, and the station is as before.
     pub fn receive(&mut self, octets: &[u8], out: &mut Step) -> Result<(), StationError>
         ensures does { Does self.old self.new out.new result (λ c s. Did (receives c s octets.now)) }
-        ensures refused { IfErr result (λ e. e ≡ StationError.NoMemory) }
+        ensures refused { RefusesForMemory result }
         ensures timer { TellsTimer self.old out.new.timer result false (λ c s. Did (receives c s octets.now)) }
     {
         self.reuse(out);
@@ -188,7 +187,7 @@ impl Station {
     fn come(&mut self, octets: &[u8], out: &mut Step) -> Result<(), StationError>
         requires { IsEmpty out.old }
         ensures does { Does self.old self.new out.new result (λ c s. Did (receives c s octets.now)) }
-        ensures refused { IfErr result (λ e. e ≡ StationError.NoMemory) }
+        ensures refused { RefusesForMemory result }
     {
         if self.is_full() {
             return self.abandon(octets, out);
@@ -217,7 +216,7 @@ impl Station {
         requires full { (c : Settings) (s : State) → FitsStation c self.old s → abandons c s ≡ true }
         requires empty { IsEmpty out.old }
         ensures does { Does self.old self.new out.new result (λ c s. Did (receives c s octets.now)) }
-        ensures refused { IfErr result (λ e. e ≡ StationError.NoMemory) }
+        ensures refused { RefusesForMemory result }
     {
         steps_keep_bounds();
         if out.entries.reserve(1).is_err() {
@@ -234,13 +233,13 @@ impl Station {
     // before.
     fn set_aside(&mut self, len: usize, out: &mut Step) -> Result<(), StationError>
         requires { IsEmpty out.old }
-        ensures fits { (c : Settings) (s : State) → FitsStation c self.old s → FitsStation c self.new s }
+        ensures fits { FitsStill self.old self.new }
         ensures left { IsNotFull self.old.layer → IsNotFull self.new.layer }
         ensures room { OnOk result (HasRoom len self.new.layer self.new.link.outbox.long) }
         ensures texts { OnOk result (5 ≤ self.new.texts) }
         ensures empty { IsEmpty out.new }
-        ensures places { OnOk result (HasPlaces out.new) }
-        ensures refused { IfErr result (λ e. e ≡ StationError.NoMemory) }
+        ensures places { OnOk result (HasPlaces 3 out.new.entries) }
+        ensures refused { RefusesForMemory result }
         ensures most_texts { self.new.texts ≤ max self.old.texts 5 }
         ensures most_memory { self.new.layer.memory ≤ max self.old.layer.memory 16 }
         ensures most_spares { self.new.link.outbox.long ≤ max self.old.link.outbox.long 16 }
@@ -264,7 +263,7 @@ impl Station {
         requires goes_on { (c : Settings) (s : State) → FitsStation c self.old s → abandons c s ≡ false }
         requires empty { IsEmpty out.old }
         ensures does { Does self.old self.new out.new result (λ c s. Did (receives c s octets.now)) }
-        ensures refused { IfErr result (λ e. e ≡ StationError.NoMemory) }
+        ensures refused { RefusesForMemory result }
     {
         steps_keep_bounds();
         notes_what_changes();

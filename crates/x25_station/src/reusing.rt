@@ -1,7 +1,7 @@
 //! Memory of a step that serves again, once it was read.
 ghost use Rattle.std.specs.Prelude.{◌≡◌, []};
 ghost use Rattle.x25_station.specs.code.Aside.{KeepsFrames};
-ghost use Rattle.x25_station.specs.code.FitsStation.{FitsStation, IsEmpty};
+ghost use Rattle.x25_station.specs.code.FitsStation.{FitsStation, FitsStill, IsEmpty};
 ghost use Rattle.x25_station.specs.Config.{Settings};
 ghost use Rattle.x25_station.specs.Station.{Station as State};
 ghost use Rattle.x25_station.specs.Timer.{standing};
@@ -31,7 +31,7 @@ impl Station {
     /// where 32 frames are kept, or one message for an entry and two of the channel.
     #[inline(always)]
     pub fn reuse(&mut self, out: &mut Step)
-        ensures fits { (c : Settings) (s : State) → FitsStation c self.old s → FitsStation c self.new s }
+        ensures fits { FitsStill self.old self.new }
         ensures empty { IsEmpty out.new }
         ensures timer { (c : Settings) (s : State) → FitsStation c self.old s → out.new.timer ≡ standing s }
     {
@@ -45,14 +45,14 @@ impl Station {
     }
 
     fn reuse_frames(&mut self, frames: &mut Vec<Vec<u8>>)
-        ensures fits { (c : Settings) (s : State) → FitsStation c self.old s → FitsStation c self.new s }
+        ensures fits { FitsStill self.old self.new }
         ensures empty { frames.new.items ≡ [] }
     {
         keep_frames(&mut self.link, frames);
     }
 
     fn reuse_entries(&mut self, entries: &mut Vec<Entry>)
-        ensures fits { (c : Settings) (s : State) → FitsStation c self.old s → FitsStation c self.new s }
+        ensures fits { FitsStill self.old self.new }
         ensures empty { entries.new.items ≡ [] }
     {
         if let Some(last) = entries.pop() {
@@ -64,7 +64,7 @@ impl Station {
     }
 
     fn reuse_entry(&mut self, entry: Entry)
-        ensures { (c : Settings) (s : State) → FitsStation c self.old s → FitsStation c self.new s }
+        ensures { FitsStill self.old self.new }
     {
         if let Entry::OnChannel { channel, said, .. } = entry {
             self.reuse_message(channel, said);
@@ -72,7 +72,7 @@ impl Station {
     }
 
     fn reuse_message(&mut self, channel: u16, said: Said)
-        ensures { (c : Settings) (s : State) → FitsStation c self.old s → FitsStation c self.new s }
+        ensures { FitsStill self.old self.new }
     {
         match said {
             Said::Asked(Asked::Send { user, .. }) => self.keep(channel, user),
@@ -83,7 +83,7 @@ impl Station {
 
     // Memory of a message serves the entry of another, where none is kept for that, or else its channel.
     fn keep(&mut self, channel: u16, memory: Vec<u8>)
-        ensures { (c : Settings) (s : State) → FitsStation c self.old s → FitsStation c self.new s }
+        ensures { FitsStill self.old self.new }
     {
         if self.messages.kept() == 0 {
             self.messages.keep(memory);

@@ -29,7 +29,7 @@ pub struct Station {
 
 impl Station {
     ghost use Rattle.std.specs.Prelude.{◌≡◌, ◌+◌, ◌≤◌, vec_capacity, IfOk};
-    ghost use Rattle.x25_station.specs.code.FitsStation.{FitsStation, RefusesWith};
+    ghost use Rattle.x25_station.specs.code.FitsStation.{FitsStation, FitsStill, RefusesWith};
     ghost use Rattle.x25_station.specs.Config.{Settings, layer_settings, settings_from, config_refusal};
     ghost use Rattle.x25_station.specs.Station.{Station as State, new_station};
     ghost use Rattle.x25_station.specs.Station.Told.{is_idle, is_at_rest, stretch};
@@ -144,7 +144,7 @@ impl Station {
     ///
     /// It is let go of where it is for more than 4,103 octets, and where 32 are kept.
     pub fn keep_frame(&mut self, octets: Vec<u8>)
-        ensures fits { (c : Settings) (s : State) → FitsStation c self.old s → FitsStation c self.new s }
+        ensures fits { FitsStill self.old self.new }
         ensures kept { KeepsOne self.old.link.outbox self.new.link.outbox (vec_capacity octets) }
     {
         self.link.keep(octets);

@@ -1,5 +1,6 @@
-ghost use Rattle.std.specs.Prelude.{◌≡◌, ◌+◌, ◌≤◌, max, vec_len, vec_capacity, OnOk, IfErr};
-ghost use Rattle.x25_station.specs.code.FitsStation.{HasPlaces, IsEmpty};
+ghost use Rattle.std.specs.Prelude.{◌≡◌, ◌≤◌, max, vec_capacity, OnOk};
+ghost use Rattle.x25_station.specs.code.Aside.{HasPlaces};
+ghost use Rattle.x25_station.specs.code.FitsStation.{IsEmpty, RefusesForMemory};
 
 use crate::entry::Entry;
 use crate::error::StationError;
@@ -40,9 +41,9 @@ impl Step {
     pub(crate) fn make_room(&mut self) -> Result<(), StationError>
         requires { IsEmpty self.old }
         ensures empty { IsEmpty self.new }
-        ensures places { OnOk result (HasPlaces self.new) }
+        ensures places { OnOk result (HasPlaces 3 self.new.entries) }
         ensures most { vec_capacity self.new.entries ≤ max (vec_capacity self.old.entries) 3 }
-        ensures refused { IfErr result (λ e. e ≡ StationError.NoMemory) }
+        ensures refused { RefusesForMemory result }
     {
         if self.entries.reserve_exact(MOST_ENTRIES).is_err() {
             return Err(StationError::NoMemory);

@@ -1,5 +1,5 @@
--- How much memory a station keeps set aside (profile).
-use Rattle.std.specs.Prelude.{◌≡◌, ℕ, ◌≤◌}
+-- How much memory a station keeps set aside (profile), and how much of it is used.
+use Rattle.std.specs.Prelude.{◌≡◌, ℕ, ◌+◌, ◌≤◌, Vec, vec_len, vec_capacity}
 use Rattle.x25_link.specs.code.FitsLink.{ShownLink}
 use Rattle.x25_layer.specs.declared.layer.Layer as layer_code
 
@@ -14,3 +14,17 @@ pub record KeepsFrames (old new : ShownLink) : Type 0 where
   pub station : new.station ≡ old.station
   pub outbox : new.outbox ≡ record old.outbox { sent = new.outbox.sent }
   pub no_fewer : old.outbox.sent.kept ≤ new.outbox.sent.kept
+
+-- a list has room for so many more
+abbrev pub HasPlaces : {X Z : Type 0} → ℕ → Vec X Z → Type 0
+HasPlaces count list = vec_len list + count ≤ vec_capacity list
+
+-- a list grew by so many at most, in the room that it had
+pub record GrowsBy {X Z : Type 0} (count : ℕ) (old new : Vec X Z) : Type 0 where
+  pub length : vec_len new ≤ vec_len old + count
+  pub capacity : vec_capacity new ≡ vec_capacity old
+
+-- of what was promised so many at most were used
+pub record UsesFew (count old new : ℕ) : Type 0 where
+  pub no_more : new ≤ old
+  pub left : old ≤ new + count

@@ -1,5 +1,5 @@
 -- Which states of the definition a station stands for, and what its calls answer.
-use Rattle.std.specs.Prelude.{◌≡◌, ◌+◌, ◌≤◌, ◌⊎◌, [], map, vec_len, vec_capacity, Option, Some, None, Result, Err}
+use Rattle.std.specs.Prelude.{◌≡◌, ◌≤◌, ◌⊎◌, [], map, vec_len, Option, Some, None, Result, Err}
 use Rattle.std.specs.Prelude.{OnOk}
 use Rattle.std.specs.Prelude.{OnErr, IfErr, IsErrAnd}
 use Rattle.x25_frame.specs.Spelling.{spelling_of}
@@ -18,6 +18,10 @@ use Rattle.x25_station.specs.code.PlainEntry.{plain_entry}
 
 abbrev pub FitsStation : Settings → code.Station → Station → Type 0
 FitsStation c v s = FitsParts c v.manner v.link v.layer s
+
+-- it stands for what it stood for
+abbrev pub FitsStill : code.Station → code.Station → Type 0
+FitsStill old new = (c : Settings) (s : Station) → FitsStation c old s → FitsStation c new s
 
 -- ---- what a call leaves and answers, by what the definition says of it
 
@@ -41,24 +45,24 @@ abbrev pub Enters : {T : Type 0} → code_step.Step → Result T StationError �
 Enters out result (Did step) = OnOk result (map plain_entry out.entries.items ≡ step.entries)
 Enters out result (Refused e) = Unit {0}
 
+-- a call is refused for want of memory alone
+abbrev pub RefusesForMemory : {T : Type 0} → Result T StationError → Type 0
+RefusesForMemory result = IfErr result (λ e. e ≡ error.NoMemory)
+
 -- a call is refused where the definition refuses it, with its error or with 70, and else with 70 alone
 abbrev pub Refuses : {T : Type 0} → Result T StationError → Outcome → Type 0
-Refuses result (Did step) = IfErr result (λ e. e ≡ error.NoMemory)
+Refuses result (Did step) = RefusesForMemory result
 Refuses result (Refused e) = IsErrAnd result (λ found. (found ≡ e) ⊎ (found ≡ error.NoMemory))
 
 -- a call is refused where the definition refuses it, with its error and nothing else
 abbrev pub RefusesExactly : {T : Type 0} → Result T StationError → Outcome → Type 0
-RefusesExactly result (Did step) = IfErr result (λ e. e ≡ error.NoMemory)
+RefusesExactly result (Did step) = RefusesForMemory result
 RefusesExactly result (Refused e) = result ≡ Err e
 
 -- nothing is in it
 pub record IsEmpty (out : code_step.Step) : Type 0 where
   pub frames : out.frames.items ≡ []
   pub entries : out.entries.items ≡ []
-
--- it has room for the entries of a call
-pub record HasPlaces (out : code_step.Step) : Type 0 where
-  pub entries : vec_len out.entries + 3 ≤ vec_capacity out.entries
 
 -- A call does what the definition says of it: of each state that the station stood for it leaves that step's, and
 -- answers its frames and entries; or it is refused, the station is as before, and nothing is answered. It answers at
@@ -76,5 +80,5 @@ pub record Does (old new : code.Station) (out : code_step.Step) (result : Result
 
 -- a call that makes a station is refused with this, or else with 70 alone
 abbrev pub RefusesWith : {T : Type 0} → Result T StationError → Option StationError → Type 0
-RefusesWith result None = IfErr result (λ e. e ≡ error.NoMemory)
+RefusesWith result None = RefusesForMemory result
 RefusesWith result (Some e) = result ≡ Err e

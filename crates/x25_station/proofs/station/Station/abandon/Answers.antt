@@ -61,5 +61,5 @@ returns-clause-does c = record {
       own_few c.swap_frames.new.frames.items (λ frame. frame.items) c.args.self.now.link.outbox.made c.abandon-heard.new.self.outbox.made fits.sent
       (c.abandon-heard.ensures.few (link_settings c') s.link fits.link) c.swap_frames.ensures.frames) in
       grind (arith, few, c.swap_frames.new.frames.ok));
-  few_entries = grind (arith, c.note_down.ensures.length, c.reserve.ensures.len, ap length c.requires.empty.entries, c.args.out.now.entries.ok);
+  few_entries = grind (arith, c.note_down.ensures.few.length, c.reserve.ensures.len, ap length c.requires.empty.entries, c.args.out.now.entries.ok);
 }

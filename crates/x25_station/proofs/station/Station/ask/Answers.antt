@@ -69,7 +69,7 @@ returns-in-Ok c =
     c.enter.ensures.entered (layer_settings c') k after configured
     ∙ ap (λ es. map plain_entry es ++ of_channel (record { channel = h; name = name_of k h; said = plain_said (said.Asked c.as_shown-asked.result) }) ∷ []) c.make_room.ensures.empty.entries
     ∙ ap (λ q. of_channel (record { channel = h; name = name_of k h; said = Asked q }) ∷ []) (c.as_shown-asked.ensures (layer_settings c') k after configured ∙ c.in_ok-asked.ensures.ok (k.circuits h))))
-    (grind (arith, c.enter.ensures.length, ap length c.make_room.ensures.empty.entries, c.make_room.new.self.entries.ok)) refl
+    (grind (arith, c.enter.ensures.few.length, ap length c.make_room.ensures.empty.entries, c.make_room.new.self.entries.ok)) refl
 
 pub returns-in-Err : goal.returns-in-Err
 returns-in-Err c = declines_request _ c.in-Err.error _ c.args.self.now _ _ (Asks c.args.channel (plain_request c.args.request)) c.of_layer-in-Err.ensures c.in-Err.ensures.layer c.in-Err.ensures.layer_stays c.in-Err.ensures.link_stays c.make_room.ensures.empty refl

@@ -61,7 +61,7 @@ returns-in-Ok c =
     c.enter.ensures.entered (layer_settings c') k after configured
     ∙ ap (λ es. map plain_entry es ++ of_channel (record { channel = h; name = name_of k h; said = plain_said (said.Asked c.in_ok-asked.asked) }) ∷ []) c.make_room.ensures.empty.entries
     ∙ ap (λ q. of_channel (record { channel = h; name = name_of k h; said = Asked q }) ∷ []) (c.in_ok-asked.ensures.ok ∙ ap (λ (p : Params). Calls c.args.called.now c.args.calling.now c.args.user.now (in_brief p)) c.params.ensures)))
-    (grind (arith, c.enter.ensures.length, ap length c.make_room.ensures.empty.entries, c.make_room.new.self.entries.ok)) refl
+    (grind (arith, c.enter.ensures.few.length, ap length c.make_room.ensures.empty.entries, c.make_room.new.self.entries.ok)) refl
 
 pub returns-in-Err : goal.returns-in-Err
 returns-in-Err c = declines_request _ c.in-Err.error _ c.args.self.now _ _ (Dials c.args.called.now c.args.calling.now c.args.user.now c.args.proposal.now) c.of_layer-in-Err.ensures c.in-Err.ensures.does.layer c.in-Err.ensures.does.layer_stays c.in-Err.ensures.does.link_stays c.make_room.ensures.empty refl

@@ -71,7 +71,7 @@ returns-in-Ok c = record {
       own_few c.swap_frames.new.frames.items (λ frame. frame.items) c.args.self.now.link.outbox.made c.disconnect.new.self.outbox.made fits.sent
       (c.in-Ok.ensures.few (link_settings c') s.link fits.link) c.swap_frames.ensures.frames) in
       grind (arith, few, c.swap_frames.new.frames.ok));
-  few_entries = grind (arith, c.note_down.ensures.length, c.push_reserved.ensures.len, c.reserve.ensures.len, ap length c.requires.entries, c.args.out.now.entries.ok);
+  few_entries = grind (arith, c.note_down.ensures.few.length, c.push_reserved.ensures.len, c.reserve.ensures.len, ap length c.requires.entries, c.args.out.now.entries.ok);
 }
 
 pub returns-in-Err : goal.returns-in-Err

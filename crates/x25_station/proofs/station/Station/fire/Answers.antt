@@ -66,7 +66,7 @@ returns-in-Ok c = record {
       own_few c.swap_frames.new.frames.items (λ frame. frame.items) c.args.self.now.link.outbox.made c.t1.new.self.outbox.made fits.sent
       (c.in-Ok.ensures.few (link_settings c') s.link fits.link) c.swap_frames.ensures.frames) in
       grind (arith, few, c.swap_frames.new.frames.ok));
-  few_entries = grind (arith, c.note_down.ensures.length, ap length c.make_room.ensures.empty.entries, c.make_room.new.self.entries.ok);
+  few_entries = grind (arith, c.note_down.ensures.few.length, ap length c.make_room.ensures.empty.entries, c.make_room.new.self.entries.ok);
 }
 
 pub returns-in-Err : goal.returns-in-Err

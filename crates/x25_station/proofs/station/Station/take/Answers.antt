@@ -77,7 +77,7 @@ invariant_of-self c = record {
       let low = before.packets in
       let few = before.texts in
       let packets = c.follow.ensures.most_memory in
-      let texts = c.follow.ensures.texts in
+      let texts = c.follow.ensures.used.no_more in
       let spares : c.swap_frames.new.self.outbox.long ≡ 0 = ap (λ o. o.long) c.swap_frames.ensures.outbox in
       record { packets = omega (arith, packets, low); spares = omega (arith, spares); texts = omega (arith, texts, few) };
 }
@@ -132,5 +132,5 @@ returns-in-Ok-clause-does c = record {
       let all : length (map (λ frame. frame.items) c.swap_frames.new.frames.items) ≡ length c.follow.new.link.outbox.made = ap length c.swap_frames.ensures.frames in
       let held = c.swap_frames.new.frames.ok.0 in
       omega (arith, most, same, all, held);
-  few_entries = grind (arith, c.follow.ensures.length, ap length c.set_aside.ensures.empty.entries, c.set_aside.new.out.entries.ok);
+  few_entries = grind (arith, c.follow.ensures.few.length, ap length c.set_aside.ensures.empty.entries, c.set_aside.new.out.entries.ok);
 }
