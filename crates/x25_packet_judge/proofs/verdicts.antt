@@ -4,6 +4,7 @@ pub mod Standing
 pub mod Saying
 pub mod Showing
 pub mod Leaving
+pub mod Stretches
 pub mod Innocents
 pub mod Silences
 pub mod Beginnings

@@ -2,12 +2,13 @@
 //! Each law is the contract of a function that does nothing.
 ghost use Rattle.x25_packet_judge.specs.laws.VerdictClaims.{BooksTellOfChannels, CallsBegin, NoEndingIsTold};
 ghost use Rattle.x25_packet_judge.specs.laws.VerdictClaims.{NoInnocentPacketIsTold, ResetsBegin};
-ghost use Rattle.x25_packet_judge.specs.laws.VerdictClaims.{SilentPacketsKeepTheRules};
+ghost use Rattle.x25_packet_judge.specs.laws.VerdictClaims.{SilentPacketsKeepTheRules, StretchesFollow};
 
-/// In one stretch of a call, of an end that keeps the rules of docs/PEER.md neither a rule nor manners are told,
-/// whatever the other end sends on the channel, whether it keeps any rule or not, and whenever that comes: data, RR,
-/// RNR and interrupts that break rules, and RESTART, RESET, CLEAR and packets that belong to no stretch. Nor are they
-/// told where it ends the stretch by RESET or CLEAR, or by the confirmation of the one that came.
+/// In a call, of an end that keeps the rules of docs/PEER.md neither a rule nor manners are told, in one stretch and in
+/// the next ones, behind RESETs of either end, whatever the other end sends on the channel, whether it keeps any rule or
+/// not, and whenever that comes: data, RR, RNR and interrupts that break rules, and RESTART, RESET, CLEAR and packets
+/// that belong to no stretch. Nor are they told where it leaves the call by CLEAR, or by the confirmation of the one that
+/// came.
 pub fn innocent_packets_stay_untold()
     ensures sends { NoInnocentPacketIsTold }
     ensures ends { NoEndingIsTold }
@@ -28,6 +29,11 @@ pub fn calls_begin()
 /// RESET and its confirmation, where a call is up, begin another.
 pub fn resets_begin()
     ensures { ResetsBegin }
+{}
+
+/// Where RESET is confirmed, whichever end sent it, the end stands at the beginning of the next stretch.
+pub fn stretches_follow()
+    ensures { StretchesFollow }
 {}
 
 /// What the book tells of a packet on a channel is what both ends of the channel tell, of which the laws above speak,
