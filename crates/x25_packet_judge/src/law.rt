@@ -5,9 +5,9 @@ ghost use Rattle.x25_packet_judge.specs.laws.VerdictClaims.{NoInnocentPacketIsTo
 ghost use Rattle.x25_packet_judge.specs.laws.VerdictClaims.{SilentPacketsKeepTheRules, StretchesFollow};
 
 /// In a call, of an end that keeps the rules of docs/PEER.md neither a rule nor manners are told, in one stretch and in
-/// the next ones, behind RESETs of either end, whatever the other end sends on the channel, whether it keeps any rule or
-/// not, and whenever that comes: data, RR, RNR and interrupts that break rules, and RESTART, RESET, CLEAR and packets
-/// that belong to no stretch. Nor are they told where it leaves the call by CLEAR, or by the confirmation of the one that
+/// the next ones, behind RESETs of either end, whatever the other end sends on the channel, whether it keeps any rule
+/// or not, and whenever that comes: data, RR, RNR and interrupts that break rules, and RESTART, RESET, CLEAR and what
+/// belongs to no stretch. Nor are they told where it leaves the call by CLEAR, or by the confirmation of the one that
 /// came.
 pub fn innocent_packets_stay_untold()
     ensures sends { NoInnocentPacketIsTold }

@@ -24,7 +24,7 @@ use Rattle.x25_packet_judge.specs.laws.VerdictClaims.{SilentPacketsKeepTheRules}
 use Rattle.x25_packet_judge.proofs.verdicts.Flows.{Counts, acknowledged_counts, next_grown}
 use Rattle.x25_packet_judge.proofs.verdicts.Standing.{bit, message_of, after_is, MayGo}
 use Rattle.x25_packet_judge.proofs.verdicts.Saying.{before, going, enters, goes_on_so, together}
-use Rattle.x25_packet_judge.proofs.verdicts.Innocents.{flow_begins}
+use Rattle.x25_packet_judge.proofs.verdicts.Stretches.{flow_begins}
 
 told_none : {P : Type 0} (rule : PacketRule) → Some rule ≡ None → P
 told_none rule e = absurd (none-some rule (sym e))
