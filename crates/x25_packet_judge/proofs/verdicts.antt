@@ -9,3 +9,6 @@ pub mod Innocents
 pub mod Silences
 pub mod Beginnings
 pub mod Books
+pub mod Parts
+pub mod Dark
+pub mod Tapes

@@ -1,8 +1,9 @@
 //! What a verdict on a channel means: no end that keeps the rules is told of, and where nothing is told they are kept.
 //! Each law is the contract of a function that does nothing.
 ghost use Rattle.x25_packet_judge.specs.laws.VerdictClaims.{BooksTellOfChannels, CallsBegin, NoEndingIsTold};
-ghost use Rattle.x25_packet_judge.specs.laws.VerdictClaims.{NoInnocentPacketIsTold, ResetsBegin};
-ghost use Rattle.x25_packet_judge.specs.laws.VerdictClaims.{SilentPacketsKeepTheRules, StretchesFollow};
+ghost use Rattle.x25_packet_judge.specs.laws.VerdictClaims.{NoEndOfTapeIsTold, NoInnocentPacketIsTold};
+ghost use Rattle.x25_packet_judge.specs.laws.VerdictClaims.{NoInnocentTapeIsTold, ResetsBegin};
+ghost use Rattle.x25_packet_judge.specs.laws.VerdictClaims.{SilentPacketsKeepTheRules, StretchesFollow, TapesBegin};
 
 /// In a call, of an end that keeps the rules of docs/PEER.md neither a rule nor manners are told, in one stretch and in
 /// the next ones, behind RESETs of either end, whatever the other end sends on the channel, whether it keeps any rule
@@ -40,4 +41,13 @@ pub fn stretches_follow()
 /// where its end has restarted, no RESTART of it waits for a confirmation, and restarts are known.
 pub fn books_tell_of_channels()
     ensures { BooksTellOfChannels }
+{}
+
+/// In a call on a channel, of an end that keeps the rules neither a rule nor manners are told there in the run of a
+/// book, whatever the other end sends on that channel and on all others, RESTART and its confirmation too, and whatever
+/// the end itself sends on others. Such runs there are.
+pub fn innocent_tapes_stay_untold()
+    ensures sends { NoInnocentTapeIsTold }
+    ensures ends { NoEndOfTapeIsTold }
+    ensures begins { TapesBegin }
 {}

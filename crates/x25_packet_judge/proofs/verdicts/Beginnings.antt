@@ -12,7 +12,7 @@ use Rattle.x25_packet_judge.specs.Terms.{said, usual}
 use Rattle.x25_packet_judge.specs.declared.pair.Pair.{Pair}
 use Rattle.x25_packet_judge.specs.declared.port.Call.TheVariants.{Idle, Called, Calling, Answered, Open}
 use Rattle.x25_packet_judge.specs.declared.terms.Terms.{Terms}
-use Rattle.x25_packet_judge.specs.laws.Keeping.{AreBegun, Resets, fresh_phase, next, turned, MayBe, Begins, Does, Shown, Comes}
+use Rattle.x25_packet_judge.specs.laws.Keeping.{Resets, fresh_phase, next, turned, Begins, Does, Shown, Comes}
 use Rattle.x25_packet_judge.specs.laws.VerdictClaims.{IsClear, BothBegin, CallsBegin, ResetsBegin, BeginsAnew, StretchesFollow, terms_of}
 use Rattle.x25_packet_judge.proofs.verdicts.Standing.{MayGo}
 use Rattle.x25_packet_judge.proofs.verdicts.Saying.{before, enters, awaits_none}

@@ -3,20 +3,17 @@ use Rattle.std.proofs.Common.{◌≡◌, ◌⊎◌, inl, inr, ℕ, ◌+◌, ◌�
 use Rattle.std.specs.Prelude.{nat_lt, ◌&&◌, ◌||◌, not}
 use Rattle.std.proofs.lemmas.Bool.{lt-ltb, and_left, and_right, both_ways, cond_both, cond-true, cond-false}
 use Rattle.x25_packet.specs.Packet.{PlainPacket, call, accept, clear, clear_conf, user_data, rr, rnr, interrupt, interrupt_conf, reset, reset_conf, restart, restart_conf}
-use Rattle.x25_packet_judge.specs.Flow as flow
 use Rattle.x25_packet_judge.specs.Packets.{speaks, sends_known, is_clearing, sends_unknown, sends}
 use Rattle.x25_packet_judge.specs.Pair as pair
 use Rattle.x25_packet_judge.specs.Port as port
 use Rattle.x25_packet_judge.specs.Talking as talking
 use Rattle.x25_packet_judge.specs.declared.pair.Pair.{Pair}
-use Rattle.x25_packet_judge.specs.declared.port.Port.{Port}
-use Rattle.x25_packet_judge.specs.laws.Keeping.{Given, Come, nothing_given, nothing_came, Phase, Talks, Resets, WasReset, WasCleared, WasRestarted, fresh_phase, MaySend, MayDo, MayEnd, takes, comes, MayTake, IsOfChannel, AreBegun, next, turned, MayBe, Begins, Does, Shown, Comes, restarted, Restarts}
+use Rattle.x25_packet_judge.specs.laws.Keeping.{Given, Come, nothing_given, nothing_came, Phase, Talks, Resets, WasReset, WasCleared, WasRestarted, fresh_phase, MaySend, MayDo, MayEnd, comes, MayTake, IsOfChannel, AreBegun, turned, MayBe, Begins, Does, Shown, Comes, restarted, Restarts}
 use Rattle.x25_packet_judge.specs.laws.VerdictClaims.{NoInnocentPacketIsTold, NoEndingIsTold}
 use Rattle.x25_packet_judge.proofs.verdicts.Standing.{ahead, ahead_low, tail_of, more_tail, none_left, tail_more_none, tail_more_some, ahead_more_none, ahead_more_some, bit, MayGo, Due, Behind, Any, Level, Away, Gone, Stands}
 use Rattle.x25_packet_judge.proofs.verdicts.Saying.{before, awaits_none, knows, enters, Goes, says_unknown, says}
-use Rattle.x25_packet_judge.proofs.verdicts.Showing.{Turns, shown_level, shown_gone}
-use Rattle.x25_packet_judge.proofs.verdicts.Leaving.{LeftOrGone}
-use Rattle.x25_packet_judge.proofs.verdicts.Stretches.{flow_begins, Talking, Asking, Waiting, with_tail, begins_anew, asks, Turned, cleared_shown, away_shown, asked_shown}
+use Rattle.x25_packet_judge.proofs.verdicts.Showing.{shown_level, shown_gone}
+use Rattle.x25_packet_judge.proofs.verdicts.Stretches.{flow_begins, Talking, Waiting, with_tail, begins_anew, asks, Turned, cleared_shown, away_shown, asked_shown}
 
 -- ---- where the channel stands beside the end
 
@@ -190,7 +187,7 @@ module _ (t : Pair) (packet : PlainPacket) (is : IsOfChannel packet) where
       at (interrupt_conf channel ∷ rest) some s = absurd s
       at (restart_conf ∷ rest) some s = absurd s
 
-  standing_shown : (s : Phase) (way : List PlainPacket) → Standing t s way → Standing v s (way ++ packet ∷ [])
+  pub standing_shown : (s : Phase) (way : List PlainPacket) → Standing t s way → Standing v s (way ++ packet ∷ [])
   standing_shown (Talks window most g c) way s = talking_shown window most g c way s
   standing_shown (Resets window most) way (inl s) = waiting_shown window most way s
   standing_shown (Resets window most) way (inr k) = inr (gone_shown k)
@@ -316,7 +313,7 @@ module _ (t : Pair) (cause diagnostic : ℕ) where
       at (interrupt_conf channel ∷ rest) some s = absurd s
       at (restart_conf ∷ rest) some s = absurd s
 
-  standing_restarted : (s : Phase) (way : List PlainPacket) → Standing t s way → Standing (restarted t) s (way ++ r ∷ [])
+  pub standing_restarted : (s : Phase) (way : List PlainPacket) → Standing t s way → Standing (restarted t) s (way ++ r ∷ [])
   standing_restarted (Talks window most g c) way s = talking_restarted window most g c way s
   standing_restarted (Resets window most) way (inl s) = inl (waiting_restarted window most way s)
   standing_restarted (Resets window most) way (inr k) = inr k
@@ -387,7 +384,7 @@ module _ (t : Pair) (way : List PlainPacket) where
   resets_comes window most (clear_conf channel) s = s
   resets_comes window most restart_conf s = s
 
-  standing_comes : (s : Phase) (packet : PlainPacket) → MayTake s → Standing t s (packet ∷ way) → Standing t (comes s packet) way
+  pub standing_comes : (s : Phase) (packet : PlainPacket) → MayTake s → Standing t s (packet ∷ way) → Standing t (comes s packet) way
   standing_comes (Talks window most g c) packet may s = talking_comes window most g c packet s
   standing_comes (Resets window most) packet may s = resets_comes window most packet s
   standing_comes (WasReset window most) packet may s = absurd may
@@ -408,7 +405,7 @@ no_innocent_packet_is_told t s r way packet may_be may = (sound_does t s r way p
 
 -- ---- how it leaves the call
 
-clear_quiet : (t : Pair) (channel cause diagnostic : ℕ) → t.rule ≡ None → (sends (clear channel cause diagnostic) t).rule ≡ None
+pub clear_quiet : (t : Pair) (channel cause diagnostic : ℕ) → t.rule ≡ None → (sends (clear channel cause diagnostic) t).rule ≡ None
 unfolding sends sends_known sends_unknown is_clearing
 clear_quiet t channel cause diagnostic quiet = cond_both (not (pair.is_known t)) (pair.clears_unknown t) _ (λ (v : Pair). v.rule ≡ None)
     (λ _. unknown t quiet)
@@ -418,16 +415,24 @@ clear_quiet t channel cause diagnostic quiet = cond_both (not (pair.is_known t))
     unknown : (x : Pair) → x.rule ≡ None → (pair.clears_unknown x).rule ≡ None
     unknown x quiet = cond_both x.reaches _ _ (λ (y : Pair). y.rule ≡ None) (λ _. quiet) (λ _. quiet)
 
-clear_conf_quiet : (t : Pair) (channel : ℕ) → t.rule ≡ None → Standing t WasCleared [] → (sends (clear_conf channel) t).rule ≡ None
-unfolding sends sends_known sends_unknown
-clear_conf_quiet t channel quiet (inl (window, most, g, a, w)) = ap (λ (v : Pair). v.rule) (knows t w.go (clear_conf channel) ∙ cond-true (nat_lt 0 t.own.owed) (pair.marks false t) _ (lt-ltb 0 t.own.owed (omega (arith, w.over)))) ∙ quiet
-clear_conf_quiet t channel quiet (inr k) = ap (λ (v : Pair). v.rule) (cond-true (not (pair.is_known t)) (sends_unknown (clear_conf channel) t) _ (rw (k.known) refl))
+-- where the channel isn't known
+pub clear_conf_unknown : (t : Pair) (channel : ℕ) → t.rule ≡ None → pair.is_known t ≡ false → (sends (clear_conf channel) t).rule ≡ None
+unfolding sends sends_unknown
+clear_conf_unknown t channel quiet unknown = ap (λ (v : Pair). v.rule) (cond-true (not (pair.is_known t)) (sends_unknown (clear_conf channel) t) _ (ap not unknown))
     ∙ cond_both (pair.is_sure_answer t) _ _ (λ (v : Pair). v.rule ≡ None) (λ _. quiet) (λ _. cond_both t.reaches _ _ (λ (v : Pair). v.rule ≡ None) (λ _. quiet) (λ _. quiet))
 
-pub no_ending_is_told : NoEndingIsTold
-no_ending_is_told t s way packet may_be may = let h = sound t s way may_be in go s h.quiet h.stands packet may
+clear_conf_quiet : (t : Pair) (channel : ℕ) → t.rule ≡ None → Standing t WasCleared [] → (sends (clear_conf channel) t).rule ≡ None
+unfolding sends_known
+clear_conf_quiet t channel quiet (inl (window, most, g, a, w)) = ap (λ (v : Pair). v.rule) (knows t w.go (clear_conf channel) ∙ cond-true (nat_lt 0 t.own.owed) (pair.marks false t) _ (lt-ltb 0 t.own.owed (omega (arith, w.over)))) ∙ quiet
+clear_conf_quiet t channel quiet (inr k) = clear_conf_unknown t channel quiet (and_left t.own.is_known t.other.is_known k.known)
+
+pub sound_ends : (t : Pair) (s : Phase) (way : List PlainPacket) (packet : PlainPacket) → t.rule ≡ None → Standing t s way → MayEnd s packet → (sends packet t).rule ≡ None
+sound_ends t s way packet quiet stands may = go s quiet stands packet may
   where
     go : (s : Phase) → t.rule ≡ None → Standing t s way → (packet : PlainPacket) → MayEnd s packet → (sends packet t).rule ≡ None
     go s quiet stands (clear channel cause diagnostic) may = clear_quiet t channel cause diagnostic quiet
     go WasCleared quiet stands (clear_conf channel) may = clear_conf_quiet t channel quiet stands
     go s quiet stands packet may = absurd may
+
+pub no_ending_is_told : NoEndingIsTold
+no_ending_is_told t s way packet may_be may = let h = sound t s way may_be in sound_ends t s way packet h.quiet h.stands may

@@ -1,5 +1,5 @@
 -- What the other end sends in the stretch, and on a channel of which nothing is known.
-use Rattle.std.proofs.Common.{◌≡◌, ◌==◌, ◌⊎◌, inl, inr, ℕ, ◌+◌, ◌-◌, ◌≤◌, arith, min, Bool, true, false, List, [], ◌∷◌, length, refl, sym, ap, ◌∙◌, subst}
+use Rattle.std.proofs.Common.{◌≡◌, ◌==◌, inl, inr, ℕ, ◌+◌, ◌-◌, ◌≤◌, arith, min, Bool, true, false, List, [], ◌∷◌, length, refl, sym, ap, ◌∙◌, subst}
 use Rattle.std.specs.Prelude.{nat_lt, ◌&&◌, ◌||◌, not}
 use Rattle.std.proofs.lemmas.Bool.{eqb-true, and_left, and_right, both_ways, cond_both, cond-true, cond-false}
 use Rattle.x25_bits.specs.declared.role.Role.{Role}
@@ -18,7 +18,7 @@ use Rattle.x25_packet_judge.specs.declared.port.Talk.{Talk}
 use Rattle.x25_packet_judge.specs.declared.terms.Terms.{Terms}
 use Rattle.x25_packet_judge.specs.laws.Keeping.{Given, Come, takes, IsOfChannel}
 use Rattle.x25_packet_judge.proofs.verdicts.Flows.{heard_numbered, brings_one, others_sent, heard_next}
-use Rattle.x25_packet_judge.proofs.verdicts.Standing.{more_tail, bit, not_true, Own, Level, Away, Gone, Stands}
+use Rattle.x25_packet_judge.proofs.verdicts.Standing.{more_tail, bit, not_true, Own, Level, Gone, Stands}
 use Rattle.x25_packet_judge.proofs.verdicts.Saying.{before, going, awaits_none, owes_none, knows, enters, goes_on_so, together}
 
 -- ---- the other end sends: its port is the pair's own

@@ -1,7 +1,7 @@
 -- Where nothing is told of either end of a stretch, the packets of each are those of an end that keeps the rules and takes all at once.
 use Rattle.std.proofs.Common.{◌≡◌, ◌==◌, ℕ, ◌+◌, ◌-◌, ◌%◌, ◌<◌, ◌≤◌, arith, min, Bool, true, false, if◌then◌else◌, List, length, Option, Some, None, refl, sym, ap, ◌∙◌, subst}
 use Rattle.std.specs.Prelude.{nat_lt, nat_le, ◌&&◌, not}
-use Rattle.std.proofs.lemmas.Bool.{eqb-true, eq-eqb, leb-true, leb-false, ltb-false, lt-ltb, both_ways, cond_both, cond-true, cond-false}
+use Rattle.std.proofs.lemmas.Bool.{eqb-true, eq-eqb, leb-true, leb-false, ltb-false, lt-ltb, both_ways, cond_both, cond-true}
 use Rattle.std.proofs.lemmas.Option.{none-some}
 use Rattle.x25_packet.specs.Packet.{PlainPacket, call, accept, clear, clear_conf, user_data, rr, rnr, interrupt, interrupt_conf, reset, reset_conf, restart, restart_conf}
 use Rattle.x25_packet_judge.specs.Flow as flow

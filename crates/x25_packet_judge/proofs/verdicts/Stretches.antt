@@ -1,7 +1,7 @@
 -- Where an end stands from one stretch of a call to the next, and what either end sends there.
 use Rattle.std.proofs.Common.{◌≡◌, ◌==◌, ◌⊎◌, inl, inr, ℕ, ◌+◌, ◌-◌, ◌≤◌, arith, min, Bool, true, false, List, [], ◌∷◌, ◌++◌, length, refl, sym, ap, ◌∙◌, subst}
 use Rattle.std.specs.Prelude.{nat_lt, ◌&&◌, not}
-use Rattle.std.proofs.lemmas.Bool.{eqb-true, and_left, and_right, both_ways, cond_both, cond-true, cond-false, lt-ltb}
+use Rattle.std.proofs.lemmas.Bool.{eqb-true, and_left, and_right, both_ways, cond_both, cond-true, cond-false}
 use Rattle.x25_packet.specs.Packet.{PlainPacket, call, accept, clear, clear_conf, user_data, rr, rnr, interrupt, interrupt_conf, reset, reset_conf, restart, restart_conf}
 use Rattle.x25_packet_judge.specs.Flow as flow
 use Rattle.x25_packet_judge.specs.Packets.{speaks, talks, sends_known, is_clearing, sends_unknown, sends}
@@ -19,7 +19,7 @@ use Rattle.x25_packet_judge.proofs.verdicts.Flows.{Counts}
 use Rattle.x25_packet_judge.proofs.verdicts.Standing.{ahead, tail_of, more_tail, none_left, not_true, Own, Others, MayGo, Due, Waits, Behind, Behinds, Any, Level, Away, Gone, Stands}
 use Rattle.x25_packet_judge.proofs.verdicts.Saying.{before, going, awaits_none, owes_none, enters, speaks_so, goes_on_so, parted_so}
 use Rattle.x25_packet_judge.proofs.verdicts.Showing.{calls_gone, accepts_none}
-use Rattle.x25_packet_judge.proofs.verdicts.Leaving.{LeftOrGone, more_due, gone_hears, gone_interrupts, gone_confirms, shown_left}
+use Rattle.x25_packet_judge.proofs.verdicts.Leaving.{LeftOrGone, gone_hears, gone_interrupts, gone_confirms, shown_left}
 
 lots : (n : ℕ) → 1 ≤ n → (n == 0) ≡ false
 lots n due = not_true (n == 0) (λ e. none n due (eqb-true n 0 e))

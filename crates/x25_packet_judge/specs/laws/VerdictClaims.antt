@@ -14,7 +14,8 @@ use Rattle.x25_packet_judge.specs.declared.port.Call.TheVariants.{Idle}
 use Rattle.x25_packet_judge.specs.declared.port.Port.{Port}
 use Rattle.x25_packet_judge.specs.declared.terms.Terms.{Terms}
 use Rattle.x25_packet_judge.specs.laws.Keeping.{Given, Come, Phase, MayDo, MayEnd, IsOfChannel, MayBe}
-use Rattle.x25_packet_judge.specs.laws.Keeping.{AreBegun, fresh_phase, next, turned}
+use Rattle.x25_packet_judge.specs.laws.Keeping.{IsBegun, AreBegun, fresh_phase, next, turned}
+use Rattle.x25_packet_judge.specs.laws.Tape.{MayStand, all_in_call}
 use Rattle.x25_packet_judge.specs.laws.Watching.{Line, IsSilent, IsKept}
 
 -- no rule is told of what an end sends that keeps the rules, in any stretch of a call
@@ -95,3 +96,20 @@ BooksTellOfChannels =
     → runs_early (layers_of from b) ≡ false → are_sure (layers_of from b) ≡ true
     → (takes from channel packet b).verdict.rule
     ≡ (sends packet (pair_of from (are_level (layers_of from b)) channel b)).rule
+
+-- of an end in a call, whatever the other end sends on any channel, in as many stretches as there are
+abbrev pub NoInnocentTapeIsTold : Type 0
+NoInnocentTapeIsTold =
+    (from : Role) (channel : ℕ) (b : Book) (s r : Phase) (way : List PlainPacket) (packet : PlainPacket)
+    → MayStand from channel b s way → MayDo s packet r → (takes from channel packet b).verdict.rule ≡ None
+
+abbrev pub NoEndOfTapeIsTold : Type 0
+NoEndOfTapeIsTold =
+    (from : Role) (channel : ℕ) (b : Book) (s : Phase) (way : List PlainPacket) (packet : PlainPacket)
+    → MayStand from channel b s way → MayEnd s packet → (takes from channel packet b).verdict.rule ≡ None
+
+-- such an end there is, and its numbers begin as the channel's do
+abbrev pub TapesBegin : Type 0
+TapesBegin =
+    (from : Role) (channel : ℕ) (p : Port) → IsBegun p
+    → MayStand from channel (all_in_call p) (fresh_phase p.talk.window p.talk.most) []
