@@ -4,7 +4,11 @@ pub mod Standing
 pub mod Saying
 pub mod Showing
 pub mod Leaving
+pub mod Stretches
 pub mod Innocents
 pub mod Silences
 pub mod Beginnings
 pub mod Books
+pub mod Parts
+pub mod Dark
+pub mod Tapes

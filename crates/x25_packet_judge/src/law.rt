@@ -1,13 +1,15 @@
 //! What a verdict on a channel means: no end that keeps the rules is told of, and where nothing is told they are kept.
 //! Each law is the contract of a function that does nothing.
 ghost use Rattle.x25_packet_judge.specs.laws.VerdictClaims.{BooksTellOfChannels, CallsBegin, NoEndingIsTold};
-ghost use Rattle.x25_packet_judge.specs.laws.VerdictClaims.{NoInnocentPacketIsTold, ResetsBegin};
-ghost use Rattle.x25_packet_judge.specs.laws.VerdictClaims.{SilentPacketsKeepTheRules};
+ghost use Rattle.x25_packet_judge.specs.laws.VerdictClaims.{NoEndOfTapeIsTold, NoInnocentPacketIsTold};
+ghost use Rattle.x25_packet_judge.specs.laws.VerdictClaims.{NoInnocentTapeIsTold, ResetsBegin};
+ghost use Rattle.x25_packet_judge.specs.laws.VerdictClaims.{SilentPacketsKeepTheRules, StretchesFollow, TapesBegin};
 
-/// In one stretch of a call, of an end that keeps the rules of docs/PEER.md neither a rule nor manners are told,
-/// whatever the other end sends on the channel, whether it keeps any rule or not, and whenever that comes: data, RR,
-/// RNR and interrupts that break rules, and RESTART, RESET, CLEAR and packets that belong to no stretch. Nor are they
-/// told where it ends the stretch by RESET or CLEAR, or by the confirmation of the one that came.
+/// In a call, of an end that keeps the rules of docs/PEER.md neither a rule nor manners are told, in one stretch and in
+/// the next ones, behind RESETs of either end, whatever the other end sends on the channel, whether it keeps any rule
+/// or not, and whenever that comes: data, RR, RNR and interrupts that break rules, and RESTART, RESET, CLEAR and what
+/// belongs to no stretch. Nor are they told where it leaves the call by CLEAR, or by the confirmation of the one that
+/// came.
 pub fn innocent_packets_stay_untold()
     ensures sends { NoInnocentPacketIsTold }
     ensures ends { NoEndingIsTold }
@@ -30,8 +32,22 @@ pub fn resets_begin()
     ensures { ResetsBegin }
 {}
 
+/// Where RESET is confirmed, whichever end sent it, the end stands at the beginning of the next stretch.
+pub fn stretches_follow()
+    ensures { StretchesFollow }
+{}
+
 /// What the book tells of a packet on a channel is what both ends of the channel tell, of which the laws above speak,
 /// where its end has restarted, no RESTART of it waits for a confirmation, and restarts are known.
 pub fn books_tell_of_channels()
     ensures { BooksTellOfChannels }
+{}
+
+/// In a call on a channel, of an end that keeps the rules neither a rule nor manners are told there in the run of a
+/// book, whatever the other end sends on that channel and on all others, RESTART and its confirmation too, and whatever
+/// the end itself sends on others. Such runs there are.
+pub fn innocent_tapes_stay_untold()
+    ensures sends { NoInnocentTapeIsTold }
+    ensures ends { NoEndOfTapeIsTold }
+    ensures begins { TapesBegin }
 {}

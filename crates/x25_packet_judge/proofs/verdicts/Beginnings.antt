@@ -1,5 +1,5 @@
 -- A stretch begins where a CALL is accepted, and where a RESET is confirmed.
-use Rattle.std.proofs.Common.{◌≡◌, ◌==◌, ℕ, ◌+◌, ◌-◌, min, true, false, List, refl, sym, ap, ◌∙◌, subst}
+use Rattle.std.proofs.Common.{◌≡◌, ◌==◌, ℕ, ◌+◌, ◌-◌, min, true, false, List, [], refl, sym, ap, ◌∙◌, subst}
 use Rattle.std.specs.Prelude.{nat_lt, ◌&&◌, not}
 use Rattle.std.proofs.lemmas.Bool.{and_left, and_right, cond-true, cond-false}
 use Rattle.x25_packet.specs.Packet.{PlainPacket, call, accept, reset, reset_conf}
@@ -12,8 +12,8 @@ use Rattle.x25_packet_judge.specs.Terms.{said, usual}
 use Rattle.x25_packet_judge.specs.declared.pair.Pair.{Pair}
 use Rattle.x25_packet_judge.specs.declared.port.Call.TheVariants.{Idle, Called, Calling, Answered, Open}
 use Rattle.x25_packet_judge.specs.declared.terms.Terms.{Terms}
-use Rattle.x25_packet_judge.specs.laws.Keeping.{turned}
-use Rattle.x25_packet_judge.specs.laws.VerdictClaims.{IsClear, BothBegin, CallsBegin, ResetsBegin, terms_of}
+use Rattle.x25_packet_judge.specs.laws.Keeping.{Resets, fresh_phase, next, turned, Begins, Does, Shown, Comes}
+use Rattle.x25_packet_judge.specs.laws.VerdictClaims.{IsClear, BothBegin, CallsBegin, ResetsBegin, BeginsAnew, StretchesFollow, terms_of}
 use Rattle.x25_packet_judge.proofs.verdicts.Standing.{MayGo}
 use Rattle.x25_packet_judge.proofs.verdicts.Saying.{before, enters, awaits_none}
 
@@ -131,3 +131,30 @@ resets_begin t one two cause diagnostic reaches p o up ups none nones =
 
     here : port.more (pair.is_matched (before there) && there.own.talk.owed == 0) (t.own.talk.owed - 1) ≡ 0
     here = ap (λ b. port.more b (t.own.talk.owed - 1)) (and_right (pair.is_matched (before there)) (there.own.talk.owed == 0) (ap (λ x. x == 0) owed)) ∙ less
+
+-- ---- from stretch to stretch
+
+pub stretches_follow : StretchesFollow
+stretches_follow window most t one two cause diagnostic b = (theirs, ours)
+  where
+    clear_own : IsClear t.own
+    clear_own = record { known = b.own.known; owed = b.own.owed; former = b.own.former }
+
+    clear_other : IsClear t.other
+    clear_other = record { known = b.other.known; owed = b.other.owed; former = b.other.former }
+
+    theirs : BeginsAnew window most (next (sends (reset_conf two) (turned (sends (reset one cause diagnostic) (turned t)))))
+    theirs =
+        let both = resets_begin (turned t) one two cause diagnostic b.reaches clear_other clear_own b.other.up b.own.up b.other.reset b.own.reset in
+        record {
+          stands = Does _ _ _ [] (reset_conf two) refl (Comes _ _ (reset one cause diagnostic) [] tt (Shown t (fresh_phase window most) [] (reset one cause diagnostic) tt (Begins window most t b)));
+          begun = record { reaches = both.other.reaches; quiet = refl; own = both.other.own; other = both.other.other; its_window = both.other.its_window ∙ b.its_window; its_most = both.other.its_most ∙ b.its_most };
+        }
+
+    ours : BeginsAnew window most (turned (sends (reset_conf two) (turned (next (sends (reset one cause diagnostic) t)))))
+    ours =
+        let both = resets_begin t one two cause diagnostic b.reaches clear_own clear_other b.own.up b.other.up b.own.reset b.other.reset in
+        record {
+          stands = Comes _ _ (reset_conf two) [] tt (Shown _ (Resets window most) [] (reset_conf two) tt (Does t (fresh_phase window most) (Resets window most) [] (reset one cause diagnostic) refl (Begins window most t b)));
+          begun = record { reaches = both.own.reaches; quiet = refl; own = both.own.own; other = both.own.other; its_window = both.own.its_window ∙ b.its_window; its_most = both.own.its_most ∙ b.its_most };
+        }

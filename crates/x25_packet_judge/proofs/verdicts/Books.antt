@@ -30,10 +30,10 @@ first : (b c : Bool) → (b || c) ≡ false → b ≡ false
 first true c h = h
 first false c h = refl
 
-put : (from : Role) (channel : ℕ) (p : Pair) (b : Book) → (book.put_by from channel p p.rule b).verdict.rule ≡ p.rule
+pub put : (from : Role) (channel : ℕ) (p : Pair) (b : Book) → (book.put_by from channel p p.rule b).verdict.rule ≡ p.rule
 put from channel p b = cond_both (pair.is_known p || is_some p.rule) _ _ (λ (s : book.Seen). s.verdict.rule ≡ p.rule) (λ _. refl) (λ unknown. none_of p.rule (second (pair.is_known p) (is_some p.rule) unknown))
 
-runs_on : (t : Layers) → layers.runs_early t ≡ false → layers.runs t ≡ layers.goes_to Ready t
+pub runs_on : (t : Layers) → layers.runs_early t ≡ false → layers.runs t ≡ layers.goes_to Ready t
 runs_on t early = cond-false (layers.is_awaiting t) _ _ (first (layers.is_awaiting t) (layers.is_hasty t || layer.is_begun t.own.restart) early)
     ∙ cond-false (layers.is_hasty t) _ _ (first (layers.is_hasty t) (layer.is_begun t.own.restart) rest)
     ∙ cond-false (layer.is_begun t.own.restart) _ _ (second (layers.is_hasty t) (layer.is_begun t.own.restart) rest)
@@ -41,7 +41,7 @@ runs_on t early = cond-false (layers.is_awaiting t) _ _ (first (layers.is_awaiti
     rest : (layers.is_hasty t || layer.is_begun t.own.restart) ≡ false
     rest = second (layers.is_awaiting t) (layers.is_hasty t || layer.is_begun t.own.restart) early
 
-none_yet : (from : Role) (b : Book) → (book.layers_of from b).rule ≡ None
+pub none_yet : (from : Role) (b : Book) → (book.layers_of from b).rule ≡ None
 none_yet Dte b = refl
 none_yet Dce b = refl
 

@@ -1,5 +1,5 @@
 -- What the other end sends behind its RESET or CLEAR.
-use Rattle.std.proofs.Common.{◌≡◌, ◌==◌, ◌⊎◌, inl, inr, ℕ, ◌+◌, ◌≤◌, ◌-◌, arith, min, Bool, true, false, List, length, refl, sym, ap, ◌∙◌, subst}
+use Rattle.std.proofs.Common.{◌≡◌, ◌==◌, ◌⊎◌, inl, inr, ℕ, ◌+◌, ◌≤◌, ◌-◌, arith, min, Bool, true, false, List, [], ◌∷◌, length, refl, sym, ap, ◌∙◌, subst}
 use Rattle.std.specs.Prelude.{nat_lt, ◌&&◌, not}
 use Rattle.std.proofs.lemmas.Bool.{eqb-true, and_left, and_right, both_ways, cond_both, cond-false}
 use Rattle.x25_packet.specs.Packet.{PlainPacket, call, accept, clear, clear_conf, user_data, rr, rnr, interrupt, interrupt_conf, reset, reset_conf, restart, restart_conf}
@@ -14,19 +14,19 @@ use Rattle.x25_packet_judge.specs.declared.port.Call.TheVariants.{Idle, Called, 
 use Rattle.x25_packet_judge.specs.declared.port.Port.{Port}
 use Rattle.x25_packet_judge.specs.declared.terms.Terms.{Terms}
 use Rattle.x25_packet_judge.specs.laws.Keeping.{Given, Come}
-use Rattle.x25_packet_judge.proofs.verdicts.Standing.{not_true, Others, Away, Gone}
+use Rattle.x25_packet_judge.proofs.verdicts.Standing.{Due, Any, not_true, Others, Away, Gone}
 use Rattle.x25_packet_judge.proofs.verdicts.Saying.{owes_none, parted_second}
 use Rattle.x25_packet_judge.proofs.verdicts.Showing.{called_same, answered_same, gone_unknown}
 
 -- behind a reset or a clear of the other end
-module _ (window most : ℕ) (g : Given) (a : Come) where
+module _ (window most : ℕ) (tail : List PlainPacket) (g : Given) (a : Come) where
   abbrev pub Left : Pair → Type 0
-  Left v = Away window most v.reaches v.other v.own g a
+  Left v = Away window most tail Any v.reaches v.other v.own g a
 
   abbrev pub LeftOrGone : Pair → Type 0
-  LeftOrGone v = Away window most v.reaches v.other v.own g a ⊎ Gone v.other
+  LeftOrGone v = Away window most tail Any v.reaches v.other v.own g a ⊎ Gone v.other
 
-  pub with_others : (reaches : Bool) (p o o2 : Port) → Away window most reaches p o g a → o2.is_known ≡ true → o2.owed ≡ 0 → o2.talk.owed ≡ 0 → o2.former ≡ o.former → Away window most reaches p o2 g a
+  pub with_others : (reaches : Bool) (p o o2 : Port) → Away window most tail Any reaches p o g a → o2.is_known ≡ true → o2.owed ≡ 0 → o2.talk.owed ≡ 0 → o2.former ≡ o.former → Away window most tail Any reaches p o2 g a
   with_others reaches p o o2 w known owed none former = record {
     go = record { known = w.go.known; up = w.go.up; others_known = known; none_cleared = owed; none_reset = none };
     parted = w.parted;
@@ -34,6 +34,7 @@ module _ (window most : ℕ) (g : Given) (a : Come) where
     own = w.own;
     others = λ is. subst (λ f. Others f.flow f.is_interrupting g a.taken a.asked) (sym former) (w.others (ap (λ f. f.is_known) (sym former) ∙ is));
     over = w.over;
+    behind = tt;
   }
 
   pub parted_back : (v : Pair) → Left v → pair.is_together v ≡ false
@@ -84,6 +85,38 @@ module _ (window most : ℕ) (g : Given) (a : Come) where
   more_due true n some = omega (arith, some)
   more_due false n some = some
 
+  pub more_due_reset : (tail : List PlainPacket) (reaches : Bool) (owed n : ℕ) (b : Bool) → Due tail reaches owed n → Due tail reaches owed (port.more b n)
+  more_due_reset (reset channel cause diagnostic ∷ rest) reaches owed n b due = more_due b n due
+  more_due_reset (clear channel cause diagnostic ∷ rest) reaches owed n b due = due
+  more_due_reset (restart cause diagnostic ∷ rest) reaches owed n b due = due
+  more_due_reset [] reaches owed n b due = due
+  more_due_reset (reset_conf channel ∷ rest) reaches owed n b due = due
+  more_due_reset (call channel called calling facilities user ∷ rest) reaches owed n b due = due
+  more_due_reset (accept channel facilities ∷ rest) reaches owed n b due = due
+  more_due_reset (clear_conf channel ∷ rest) reaches owed n b due = due
+  more_due_reset (user_data channel q m ps pr user ∷ rest) reaches owed n b due = due
+  more_due_reset (rr channel pr ∷ rest) reaches owed n b due = due
+  more_due_reset (rnr channel pr ∷ rest) reaches owed n b due = due
+  more_due_reset (interrupt channel user ∷ rest) reaches owed n b due = due
+  more_due_reset (interrupt_conf channel ∷ rest) reaches owed n b due = due
+  more_due_reset (restart_conf ∷ rest) reaches owed n b due = due
+
+  pub more_due_clear : (tail : List PlainPacket) (reaches : Bool) (n owed : ℕ) (b : Bool) → Due tail reaches n owed → Due tail reaches (port.more b n) owed
+  more_due_clear (reset channel cause diagnostic ∷ rest) reaches n owed b due = due
+  more_due_clear (clear channel cause diagnostic ∷ rest) reaches n owed b due = more_due b n due
+  more_due_clear (restart cause diagnostic ∷ rest) reaches n owed b due = due
+  more_due_clear [] reaches n owed b due = due
+  more_due_clear (reset_conf channel ∷ rest) reaches n owed b due = due
+  more_due_clear (call channel called calling facilities user ∷ rest) reaches n owed b due = due
+  more_due_clear (accept channel facilities ∷ rest) reaches n owed b due = due
+  more_due_clear (clear_conf channel ∷ rest) reaches n owed b due = due
+  more_due_clear (user_data channel q m ps pr user ∷ rest) reaches n owed b due = due
+  more_due_clear (rr channel pr ∷ rest) reaches n owed b due = due
+  more_due_clear (rnr channel pr ∷ rest) reaches n owed b due = due
+  more_due_clear (interrupt channel user ∷ rest) reaches n owed b due = due
+  more_due_clear (interrupt_conf channel ∷ rest) reaches n owed b due = due
+  more_due_clear (restart_conf ∷ rest) reaches n owed b due = due
+
   -- owed once more
   pub still : (r b c : Bool) (n : ℕ) → (r && ((n == 0) && c)) ≡ false → (r && ((port.more b n == 0) && c)) ≡ false
   still true b true n h = and_left (port.more b n == 0) true (more_some b n (drop_true (n == 0) h))
@@ -108,7 +141,8 @@ module _ (window most : ℕ) (g : Given) (a : Come) where
         no_former = refl;
         own = record { its_window = w.own.its_window; its_most = w.own.its_most; number = w.own.number; numbered = w.own.numbered; message = w.own.message; interrupts = w.own.interrupts };
         others = λ known. absurd (both_ways (pair.is_together v) (parted_back v w) known);
-        over = record { over = w.over.over; reset = λ is. more_due (pair.is_matched v && v.own.talk.owed == 0) v.other.talk.owed (w.over.reset is); cleared = w.over.cleared };
+        over = more_due_reset tail v.reaches v.other.owed v.other.talk.owed (pair.is_matched v && v.own.talk.owed == 0) w.over;
+        behind = tt;
       }))
 
   pub left_clears : (v : Pair) → Left v → LeftOrGone (pair.clears v)
@@ -120,12 +154,13 @@ module _ (window most : ℕ) (g : Given) (a : Come) where
         no_former = refl;
         own = record { its_window = w.own.its_window; its_most = w.own.its_most; number = w.own.number; numbered = w.own.numbered; message = w.own.message; interrupts = w.own.interrupts };
         others = λ known. absurd (both_ways (pair.is_together v) (parted_back v w) known);
-        over = record { over = w.over.over; reset = w.over.reset; cleared = λ is. more_due (v.reaches && v.own.owed == 0) v.other.owed (w.over.cleared is) };
+        over = more_due_clear tail v.reaches v.other.owed v.other.talk.owed (v.reaches && v.own.owed == 0) w.over;
+        behind = tt;
       }))
 
   pub left_reached : (o2 x : Port) (v : Pair) → x ≡ v.other → o2.is_known ≡ true → o2.owed ≡ 0 → o2.talk.owed ≡ 0 → o2.former ≡ v.own.former → Left v → Left (pair.with_own o2 (pair.reaches_with x v))
   left_reached o2 x v unchanged known owed none former w = cond_both (pair.is_matched v) (pair.with_other x v) v (λ (z : Pair). Left (pair.with_own o2 z))
-      (λ _. subst (λ z. Away window most v.reaches z o2 g a) (sym unchanged) (with_others v.reaches v.other v.own o2 w known owed none former))
+      (λ _. subst (λ z. Away window most tail Any v.reaches z o2 g a) (sym unchanged) (with_others v.reaches v.other v.own o2 w known owed none former))
       (λ _. with_others v.reaches v.other v.own o2 w known owed none former)
 
   pub left_calls : (k : Call) (terms : Terms) (v : Pair) → Left v → LeftOrGone (pair.calls_in k terms v)

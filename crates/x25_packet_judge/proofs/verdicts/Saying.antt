@@ -1,5 +1,5 @@
 -- What an end sends that keeps the rules: no rule is told, and the channel stands as it may.
-use Rattle.std.proofs.Common.{◌≡◌, ◌==◌, ◌⊎◌, inl, inr, ℕ, ◌+◌, ◌<◌, ◌≤◌, arith, Bool, true, false, if◌then◌else◌, length, Option, Some, None, refl, sym, ap, ◌∙◌, subst}
+use Rattle.std.proofs.Common.{◌≡◌, ◌==◌, ◌⊎◌, inl, inr, ℕ, ◌+◌, ◌<◌, ◌≤◌, arith, Bool, true, false, if◌then◌else◌, List, length, Option, Some, None, refl, sym, ap, ◌∙◌, subst}
 use Rattle.std.specs.Prelude.{nat_lt, ◌&&◌, ◌||◌, not}
 use Rattle.std.proofs.lemmas.Bool.{and_left, and_right, both_ways, cond_both, cond-true, cond-false}
 use Rattle.x25_packet.specs.Packet.{PlainPacket, call, accept, clear, clear_conf, user_data, rr, rnr, interrupt, interrupt_conf, reset, reset_conf, restart, restart_conf}
@@ -19,7 +19,7 @@ use Rattle.x25_packet_judge.specs.declared.port.Call.TheVariants.{Open}
 use Rattle.x25_packet_judge.specs.declared.port.Talk.{Talk}
 use Rattle.x25_packet_judge.specs.laws.Keeping.{Given, Come, MayAcknowledge, MayFollow, MaySend}
 use Rattle.x25_packet_judge.proofs.verdicts.Flows.{Answers, heard_fair, Sent, sent_fair}
-use Rattle.x25_packet_judge.proofs.verdicts.Standing.{Low, bit, after_is, whole, Own, Others, MayGo, Level, Away, Gone}
+use Rattle.x25_packet_judge.proofs.verdicts.Standing.{Low, bit, after_is, whole, Own, Others, MayGo, Behinds, Level, Away, Gone}
 
 -- ---- a packet of the end that may send
 
@@ -99,9 +99,9 @@ first_none x y h k = rw (h, k) refl
 
 -- ---- the end sends
 
-pub record Goes (window most : ℕ) (v : Pair) (g : Given) (a : Come) : Type 0 where
+pub record Goes (window most : ℕ) (tail : List PlainPacket) (B : Behinds) (v : Pair) (g : Given) (a : Come) : Type 0 where
   pub quiet : v.rule ≡ None
-  pub stands : Level window most v.reaches v.own v.other g a ⊎ Away window most v.reaches v.own v.other g a
+  pub stands : Level window most tail v.reaches v.own v.other g a ⊎ Away window most tail B v.reaches v.own v.other g a
 
 pub own_told : (window most : ℕ) (k : Talk) (g : Given) (x y u : ℕ) → Own window most k g x y → Own window most k (record g { told = u }) x y
 own_told window most k g x y u o = record { its_window = o.its_window; its_most = o.its_most; number = o.number; numbered = o.numbered; message = o.message; interrupts = o.interrupts }
@@ -143,8 +143,8 @@ puts window most k g c a m q ps size low follow o =
     sent : Sent (flow.sent k.window ps k.flow) (g.sent + 1) a.acked
     sent = sent_fair k.flow k.window g.sent a.acked ps follow.number o.number room o.numbered
 
-pub going_level : (window most : ℕ) (t : Pair) (g : Given) (a : Come) → Level window most t.reaches t.own t.other g a → Level window most (going t).reaches (going t).own (going t).other g a
-going_level window most t g a l = record {
+pub going_level : (window most : ℕ) (tail : List PlainPacket) (t : Pair) (g : Given) (a : Come) → Level window most tail t.reaches t.own t.other g a → Level window most tail (going t).reaches (going t).own (going t).other g a
+going_level window most tail t g a l = record {
   reached = l.reached;
   no_former = l.no_former;
   go = record { known = l.go.known; up = refl; others_known = l.go.others_known; none_cleared = l.go.none_cleared; none_reset = l.go.none_reset };
@@ -154,24 +154,25 @@ going_level window most t g a l = record {
   on = l.on;
 }
 
-pub going_away : (window most : ℕ) (t : Pair) (g : Given) (a : Come) → Away window most t.reaches t.own t.other g a → Away window most (going t).reaches (going t).own (going t).other g a
-going_away window most t g a w = record {
+pub going_away : (window most : ℕ) (tail : List PlainPacket) (B : Behinds) (t : Pair) (g : Given) (a : Come) → Away window most tail B t.reaches t.own t.other g a → Away window most tail B (going t).reaches (going t).own (going t).other g a
+going_away window most tail B t g a w = record {
   go = record { known = w.go.known; up = refl; others_known = w.go.others_known; none_cleared = w.go.none_cleared; none_reset = w.go.none_reset };
   parted = w.parted;
   no_former = w.no_former;
   own = record { its_window = w.own.its_window; its_most = w.own.its_most; number = w.own.number; numbered = w.own.numbered; message = w.own.message; interrupts = w.own.interrupts };
   others = w.others;
   over = w.over;
+  behind = w.behind;
 }
 
-pub parted_so : (window most : ℕ) (t : Pair) (g : Given) (a : Come) → Away window most t.reaches t.own t.other g a → pair.is_together t ≡ false
-parted_so window most t g a w = rw (w.go.none_cleared, w.go.none_reset) (parted_first t.reaches (t.own.owed == 0) (t.own.talk.owed == 0) w.parted)
+pub parted_so : (window most : ℕ) (tail : List PlainPacket) (B : Behinds) (t : Pair) (g : Given) (a : Come) → Away window most tail B t.reaches t.own t.other g a → pair.is_together t ≡ false
+parted_so window most tail B t g a w = rw (w.go.none_cleared, w.go.none_reset) (parted_first t.reaches (t.own.owed == 0) (t.own.talk.owed == 0) w.parted)
 
-module _ (window most : ℕ) (t : Pair) (g : Given) (c a : Come) (low : Low c a) (quiet : t.rule ≡ None) where
-  pub hears_level : (pr u : ℕ) → MayAcknowledge g c pr u → Level window most t.reaches t.own t.other g a → pair.is_together t ≡ true → Goes window most (talking.hears pr t) (record g { told = u }) a
+module _ (window most : ℕ) (tail : List PlainPacket) (B : Behinds) (t : Pair) (g : Given) (c a : Come) (low : Low c a) (quiet : t.rule ≡ None) where
+  pub hears_level : (pr u : ℕ) → MayAcknowledge g c pr u → Level window most tail t.reaches t.own t.other g a → pair.is_together t ≡ true → Goes window most tail B (talking.hears pr t) (record g { told = u }) a
   hears_level pr u ack l met =
       let said = says_heard t.other.talk.flow t.other.talk.is_interrupting g c a pr u low ack l.others in
-      subst (λ (v : Pair). Goes window most v (record g { told = u }) a)
+      subst (λ (v : Pair). Goes window most tail B v (record g { told = u }) a)
       (sym (cond-true (pair.is_together t) (talking.of_other (flow.heard pr t.other.talk.flow) t) _ met))
       (record {
         quiet = first_none t.rule (flow.heard pr t.other.talk.flow).rule quiet said.quiet;
@@ -186,11 +187,11 @@ module _ (window most : ℕ) (t : Pair) (g : Given) (c a : Come) (low : Low c a)
         });
       })
 
-  pub hears_away : (pr u : ℕ) → MayAcknowledge g c pr u → Away window most t.reaches t.own t.other g a → Goes window most (talking.hears pr t) (record g { told = u }) a
+  pub hears_away : (pr u : ℕ) → MayAcknowledge g c pr u → Away window most tail B t.reaches t.own t.other g a → Goes window most tail B (talking.hears pr t) (record g { told = u }) a
   hears_away pr u ack w =
-      subst (λ (v : Pair). Goes window most v (record g { told = u }) a)
-      (sym (cond-false (pair.is_together t) (talking.of_other (flow.heard pr t.other.talk.flow) t) _ (parted_so window most t g a w)))
-      (cond_both t.other.former.is_known (talking.of_former (flow.heard pr t.other.former.flow) t) t (λ (v : Pair). Goes window most v (record g { told = u }) a)
+      subst (λ (v : Pair). Goes window most tail B v (record g { told = u }) a)
+      (sym (cond-false (pair.is_together t) (talking.of_other (flow.heard pr t.other.talk.flow) t) _ (parted_so window most tail B t g a w)))
+      (cond_both t.other.former.is_known (talking.of_former (flow.heard pr t.other.former.flow) t) t (λ (v : Pair). Goes window most tail B v (record g { told = u }) a)
       (λ known.
       let said = says_heard t.other.former.flow t.other.former.is_interrupting g c a pr u low ack (w.others known) in
       record {
@@ -202,6 +203,7 @@ module _ (window most : ℕ) (t : Pair) (g : Given) (c a : Come) (low : Low c a)
           own = own_told window most t.own.talk g a.acked a.confirmed u w.own;
           others = λ _. said.others;
           over = w.over;
+          behind = w.behind;
         });
       })
       (λ unknown. record {
@@ -213,11 +215,12 @@ module _ (window most : ℕ) (t : Pair) (g : Given) (c a : Come) (low : Low c a)
           own = own_told window most t.own.talk g a.acked a.confirmed u w.own;
           others = λ known. absurd (both_ways t.other.former.is_known unknown known);
           over = w.over;
+          behind = w.behind;
         });
       }))
 
-  pub carried : (m q : Bool) (ps size : ℕ) → MayFollow window most g c m q ps size → Level window most t.reaches t.own t.other g a ⊎ Away window most t.reaches t.own t.other g a
-      → Goes window most (talking.carries m q size (talking.numbers ps t)) (record g { sent = g.sent + 1; begun = if m then Some q else None }) a
+  pub carried : (m q : Bool) (ps size : ℕ) → MayFollow window most g c m q ps size → Level window most tail t.reaches t.own t.other g a ⊎ Away window most tail B t.reaches t.own t.other g a
+      → Goes window most tail B (talking.carries m q size (talking.numbers ps t)) (record g { sent = g.sent + 1; begun = if m then Some q else None }) a
   carried m q ps size follow (inl l) =
       let put = puts window most t.own.talk g c a m q ps size low follow l.own in
       record {
@@ -243,15 +246,16 @@ module _ (window most : ℕ) (t : Pair) (g : Given) (c a : Come) (low : Low c a)
           own = put.own;
           others = λ known. record { numbered = (w.others known).numbered; interrupts = (w.others known).interrupts };
           over = w.over;
+          behind = w.behind;
         });
       }
 
-  pub asked : c.confirmed ≡ g.interrupts → Level window most t.reaches t.own t.other g a ⊎ Away window most t.reaches t.own t.other g a → Goes window most (talking.interrupts t) (record g { interrupts = g.interrupts + 1 }) a
-  asked none stands = cond_both t.own.talk.is_interrupting _ _ (λ (v : Pair). Goes window most v (record g { interrupts = g.interrupts + 1 }) a)
+  pub asked : c.confirmed ≡ g.interrupts → Level window most tail t.reaches t.own t.other g a ⊎ Away window most tail B t.reaches t.own t.other g a → Goes window most tail B (talking.interrupts t) (record g { interrupts = g.interrupts + 1 }) a
+  asked none stands = cond_both t.own.talk.is_interrupting _ _ (λ (v : Pair). Goes window most tail B v (record g { interrupts = g.interrupts + 1 }) a)
       (λ out. absurd (never (own stands).interrupts out low.confirmed))
       (λ _. record { quiet = quiet; stands = go stands })
     where
-      own : Level window most t.reaches t.own t.other g a ⊎ Away window most t.reaches t.own t.other g a → Own window most t.own.talk g a.acked a.confirmed
+      own : Level window most tail t.reaches t.own t.other g a ⊎ Away window most tail B t.reaches t.own t.other g a → Own window most t.own.talk g a.acked a.confirmed
       own (inl l) = l.own
       own (inr w) = w.own
 
@@ -267,7 +271,7 @@ module _ (window most : ℕ) (t : Pair) (g : Given) (c a : Come) (low : Low c a)
       new : Own window most t.own.talk g a.acked a.confirmed → Own window most (port.interrupting true t.own.talk) (record g { interrupts = g.interrupts + 1 }) a.acked a.confirmed
       new o = record { its_window = o.its_window; its_most = o.its_most; number = o.number; numbered = o.numbered; message = o.message; interrupts = one_more (bit t.own.talk.is_interrupting) a.confirmed g.interrupts o.interrupts }
 
-      go : Level window most t.reaches t.own t.other g a ⊎ Away window most t.reaches t.own t.other g a → Level window most t.reaches (port.with_talk (port.interrupting true t.own.talk) t.own) t.other (record g { interrupts = g.interrupts + 1 }) a ⊎ Away window most t.reaches (port.with_talk (port.interrupting true t.own.talk) t.own) t.other (record g { interrupts = g.interrupts + 1 }) a
+      go : Level window most tail t.reaches t.own t.other g a ⊎ Away window most tail B t.reaches t.own t.other g a → Level window most tail t.reaches (port.with_talk (port.interrupting true t.own.talk) t.own) t.other (record g { interrupts = g.interrupts + 1 }) a ⊎ Away window most tail B t.reaches (port.with_talk (port.interrupting true t.own.talk) t.own) t.other (record g { interrupts = g.interrupts + 1 }) a
       go (inl l) = inl (record {
         reached = l.reached;
         no_former = l.no_former;
@@ -284,6 +288,7 @@ module _ (window most : ℕ) (t : Pair) (g : Given) (c a : Come) (low : Low c a)
         own = new w.own;
         others = λ known. record { numbered = (w.others known).numbered; interrupts = (w.others known).interrupts };
         over = w.over;
+        behind = w.behind;
       })
 
   pub own_answered : Own window most t.own.talk g a.acked a.confirmed → Own window most t.own.talk (record g { answered = g.answered + 1 }) a.acked a.confirmed
@@ -301,10 +306,10 @@ module _ (window most : ℕ) (t : Pair) (g : Given) (c a : Come) (low : Low c a)
       over : (n x y : ℕ) → n < x → x ≤ y → y ≤ 0 + n → ⊥
       over n x y h k l = omega arith
 
-  pub answered_level : g.answered < c.asked → Level window most t.reaches t.own t.other g a → pair.is_together t ≡ true → Goes window most (talking.confirms_interrupt t) (record g { answered = g.answered + 1 }) a
+  pub answered_level : g.answered < c.asked → Level window most tail t.reaches t.own t.other g a → pair.is_together t ≡ true → Goes window most tail B (talking.confirms_interrupt t) (record g { answered = g.answered + 1 }) a
   answered_level due l met =
-      subst (λ (v : Pair). Goes window most v (record g { answered = g.answered + 1 }) a) (sym (cond-true (pair.is_together t) _ _ met))
-      (cond_both t.other.talk.is_interrupting _ _ (λ (v : Pair). Goes window most v (record g { answered = g.answered + 1 }) a)
+      subst (λ (v : Pair). Goes window most tail B v (record g { answered = g.answered + 1 }) a) (sym (cond-true (pair.is_together t) _ _ met))
+      (cond_both t.other.talk.is_interrupting _ _ (λ (v : Pair). Goes window most tail B v (record g { answered = g.answered + 1 }) a)
       (λ out. record {
         quiet = quiet;
         stands = inl (record {
@@ -319,11 +324,11 @@ module _ (window most : ℕ) (t : Pair) (g : Given) (c a : Come) (low : Low c a)
       })
       (λ none. absurd (none_out t.other.talk.is_interrupting none due l.others.interrupts)))
 
-  pub answered_away : g.answered < c.asked → Away window most t.reaches t.own t.other g a → Goes window most (talking.confirms_interrupt t) (record g { answered = g.answered + 1 }) a
+  pub answered_away : g.answered < c.asked → Away window most tail B t.reaches t.own t.other g a → Goes window most tail B (talking.confirms_interrupt t) (record g { answered = g.answered + 1 }) a
   answered_away due w =
-      subst (λ (v : Pair). Goes window most v (record g { answered = g.answered + 1 }) a) (sym (cond-false (pair.is_together t) _ _ (parted_so window most t g a w)))
-      (cond_both t.other.former.is_known _ t (λ (v : Pair). Goes window most v (record g { answered = g.answered + 1 }) a)
-      (λ known. cond_both t.other.former.is_interrupting _ _ (λ (v : Pair). Goes window most v (record g { answered = g.answered + 1 }) a)
+      subst (λ (v : Pair). Goes window most tail B v (record g { answered = g.answered + 1 }) a) (sym (cond-false (pair.is_together t) _ _ (parted_so window most tail B t g a w)))
+      (cond_both t.other.former.is_known _ t (λ (v : Pair). Goes window most tail B v (record g { answered = g.answered + 1 }) a)
+      (λ known. cond_both t.other.former.is_interrupting _ _ (λ (v : Pair). Goes window most tail B v (record g { answered = g.answered + 1 }) a)
       (λ out. record {
         quiet = quiet;
         stands = inr (record {
@@ -333,6 +338,7 @@ module _ (window most : ℕ) (t : Pair) (g : Given) (c a : Come) (low : Low c a)
           own = own_answered w.own;
           others = λ _. one_less t.other.former.flow t.other.former.is_interrupting out (w.others known);
           over = w.over;
+          behind = w.behind;
         });
       })
       (λ none. absurd (none_out t.other.former.is_interrupting none due (w.others known).interrupts)))
@@ -345,6 +351,7 @@ module _ (window most : ℕ) (t : Pair) (g : Given) (c a : Come) (low : Low c a)
           own = own_answered w.own;
           others = λ known. absurd (both_ways t.other.former.is_known unknown known);
           over = w.over;
+          behind = w.behind;
         });
       }))
 
@@ -378,43 +385,43 @@ module _ (t : Pair) (quiet : t.rule ≡ None) (k : Gone t.own) where
   says_unknown window most g h c restart_conf may = absurd may
 
 -- where the end may send
-module _ (window most : ℕ) (t : Pair) (g : Given) (c a : Come) (low : Low c a) (quiet : t.rule ≡ None) where
-  pub may_go : Level window most t.reaches t.own t.other g a ⊎ Away window most t.reaches t.own t.other g a → MayGo t.own t.other
+module _ (window most : ℕ) (tail : List PlainPacket) (B : Behinds) (t : Pair) (g : Given) (c a : Come) (low : Low c a) (quiet : t.rule ≡ None) where
+  pub may_go : Level window most tail t.reaches t.own t.other g a ⊎ Away window most tail B t.reaches t.own t.other g a → MayGo t.own t.other
   may_go (inl l) = l.go
   may_go (inr w) = w.go
 
-  pub going_stands : Level window most t.reaches t.own t.other g a ⊎ Away window most t.reaches t.own t.other g a → Level window most (going t).reaches (going t).own (going t).other g a ⊎ Away window most (going t).reaches (going t).own (going t).other g a
-  going_stands (inl l) = inl (going_level window most t g a l)
-  going_stands (inr w) = inr (going_away window most t g a w)
+  pub going_stands : Level window most tail t.reaches t.own t.other g a ⊎ Away window most tail B t.reaches t.own t.other g a → Level window most tail (going t).reaches (going t).own (going t).other g a ⊎ Away window most tail B (going t).reaches (going t).own (going t).other g a
+  going_stands (inl l) = inl (going_level window most tail t g a l)
+  going_stands (inr w) = inr (going_away window most tail B t g a w)
 
-  pub hears_so : (pr u : ℕ) → MayAcknowledge g c pr u → Level window most t.reaches t.own t.other g a ⊎ Away window most t.reaches t.own t.other g a → Goes window most (talking.hears pr (going t)) (record g { told = u }) a
-  hears_so pr u ack (inl l) = hears_level window most (going t) g c a low quiet pr u ack (going_level window most t g a l) (together t l.reached l.go l.back)
-  hears_so pr u ack (inr w) = hears_away window most (going t) g c a low quiet pr u ack (going_away window most t g a w)
+  pub hears_so : (pr u : ℕ) → MayAcknowledge g c pr u → Level window most tail t.reaches t.own t.other g a ⊎ Away window most tail B t.reaches t.own t.other g a → Goes window most tail B (talking.hears pr (going t)) (record g { told = u }) a
+  hears_so pr u ack (inl l) = hears_level window most tail B (going t) g c a low quiet pr u ack (going_level window most tail t g a l) (together t l.reached l.go l.back)
+  hears_so pr u ack (inr w) = hears_away window most tail B (going t) g c a low quiet pr u ack (going_away window most tail B t g a w)
 
-  pub answered_so : g.answered < c.asked → Level window most t.reaches t.own t.other g a ⊎ Away window most t.reaches t.own t.other g a → Goes window most (talking.confirms_interrupt (going t)) (record g { answered = g.answered + 1 }) a
-  answered_so due (inl l) = answered_level window most (going t) g c a low quiet due (going_level window most t g a l) (together t l.reached l.go l.back)
-  answered_so due (inr w) = answered_away window most (going t) g c a low quiet due (going_away window most t g a w)
+  pub answered_so : g.answered < c.asked → Level window most tail t.reaches t.own t.other g a ⊎ Away window most tail B t.reaches t.own t.other g a → Goes window most tail B (talking.confirms_interrupt (going t)) (record g { answered = g.answered + 1 }) a
+  answered_so due (inl l) = answered_level window most tail B (going t) g c a low quiet due (going_level window most tail t g a l) (together t l.reached l.go l.back)
+  answered_so due (inr w) = answered_away window most tail B (going t) g c a low quiet due (going_away window most tail B t g a w)
 
-  pub says : Level window most t.reaches t.own t.other g a ⊎ Away window most t.reaches t.own t.other g a → (packet : PlainPacket) (h : Given) → MaySend window most g c packet h → Goes window most (sends packet t) h a
+  pub says : Level window most tail t.reaches t.own t.other g a ⊎ Away window most tail B t.reaches t.own t.other g a → (packet : PlainPacket) (h : Given) → MaySend window most g c packet h → Goes window most tail B (sends packet t) h a
   unfolding speaks
   says stands (user_data channel q m ps pr user) h (u, ack, follow, is) =
       let heard = hears_so pr u ack stands in
-      subst (λ (z : Given). Goes window most (sends (user_data channel q m ps pr user) t) z a) (sym is)
-      (subst (λ (v : Pair). Goes window most v (record g { sent = g.sent + 1; told = u; begun = if m then Some q else None }) a)
+      subst (λ (z : Given). Goes window most tail B (sends (user_data channel q m ps pr user) t) z a) (sym is)
+      (subst (λ (v : Pair). Goes window most tail B v (record g { sent = g.sent + 1; told = u; begun = if m then Some q else None }) a)
       (sym (enters t (may_go stands) (user_data channel q m ps pr user) tt ∙ ap (λ (v : Pair). talking.carries m q (length user) (talking.numbers ps (talking.hears pr v))) (goes_on_so t (may_go stands))))
-      (carried window most (talking.hears pr (going t)) (record g { told = u }) c a low heard.quiet m q ps (length user) (record { number = follow.number; room = follow.room; fits = follow.fits; full = follow.full; same = follow.same }) heard.stands))
+      (carried window most tail B (talking.hears pr (going t)) (record g { told = u }) c a low heard.quiet m q ps (length user) (record { number = follow.number; room = follow.room; fits = follow.fits; full = follow.full; same = follow.same }) heard.stands))
   says stands (rr channel pr) h (u, ack, is) =
-      subst (λ (z : Given). Goes window most (sends (rr channel pr) t) z a) (sym is)
-      (subst (λ (v : Pair). Goes window most v (record g { told = u }) a) (sym (enters t (may_go stands) (rr channel pr) tt ∙ ap (λ (v : Pair). talking.hears pr v) (goes_on_so t (may_go stands)))) (hears_so pr u ack stands))
+      subst (λ (z : Given). Goes window most tail B (sends (rr channel pr) t) z a) (sym is)
+      (subst (λ (v : Pair). Goes window most tail B v (record g { told = u }) a) (sym (enters t (may_go stands) (rr channel pr) tt ∙ ap (λ (v : Pair). talking.hears pr v) (goes_on_so t (may_go stands)))) (hears_so pr u ack stands))
   says stands (rnr channel pr) h (u, ack, is) =
-      subst (λ (z : Given). Goes window most (sends (rnr channel pr) t) z a) (sym is)
-      (subst (λ (v : Pair). Goes window most v (record g { told = u }) a) (sym (enters t (may_go stands) (rnr channel pr) tt ∙ ap (λ (v : Pair). talking.hears pr v) (goes_on_so t (may_go stands)))) (hears_so pr u ack stands))
+      subst (λ (z : Given). Goes window most tail B (sends (rnr channel pr) t) z a) (sym is)
+      (subst (λ (v : Pair). Goes window most tail B v (record g { told = u }) a) (sym (enters t (may_go stands) (rnr channel pr) tt ∙ ap (λ (v : Pair). talking.hears pr v) (goes_on_so t (may_go stands)))) (hears_so pr u ack stands))
   says stands (interrupt channel user) h (none, is) =
-      subst (λ (z : Given). Goes window most (sends (interrupt channel user) t) z a) (sym is)
-      (subst (λ (v : Pair). Goes window most v (record g { interrupts = g.interrupts + 1 }) a) (sym (enters t (may_go stands) (interrupt channel user) tt ∙ ap (λ (v : Pair). talking.interrupts v) (goes_on_so t (may_go stands)))) (asked window most (going t) g c a low quiet none (going_stands stands)))
+      subst (λ (z : Given). Goes window most tail B (sends (interrupt channel user) t) z a) (sym is)
+      (subst (λ (v : Pair). Goes window most tail B v (record g { interrupts = g.interrupts + 1 }) a) (sym (enters t (may_go stands) (interrupt channel user) tt ∙ ap (λ (v : Pair). talking.interrupts v) (goes_on_so t (may_go stands)))) (asked window most tail B (going t) g c a low quiet none (going_stands stands)))
   says stands (interrupt_conf channel) h (due, is) =
-      subst (λ (z : Given). Goes window most (sends (interrupt_conf channel) t) z a) (sym is)
-      (subst (λ (v : Pair). Goes window most v (record g { answered = g.answered + 1 }) a) (sym (enters t (may_go stands) (interrupt_conf channel) tt ∙ ap (λ (v : Pair). talking.confirms_interrupt v) (goes_on_so t (may_go stands)))) (answered_so due stands))
+      subst (λ (z : Given). Goes window most tail B (sends (interrupt_conf channel) t) z a) (sym is)
+      (subst (λ (v : Pair). Goes window most tail B v (record g { answered = g.answered + 1 }) a) (sym (enters t (may_go stands) (interrupt_conf channel) tt ∙ ap (λ (v : Pair). talking.confirms_interrupt v) (goes_on_so t (may_go stands)))) (answered_so due stands))
   says stands (reset channel cause diagnostic) h may = absurd may
   says stands (reset_conf channel) h may = absurd may
   says stands (call channel called calling facilities user) h may = absurd may

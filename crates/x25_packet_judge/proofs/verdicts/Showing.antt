@@ -1,5 +1,5 @@
 -- What the other end sends in the stretch, and on a channel of which nothing is known.
-use Rattle.std.proofs.Common.{◌≡◌, ◌==◌, ◌⊎◌, inl, inr, ℕ, ◌+◌, ◌-◌, ◌≤◌, arith, min, Bool, true, false, length, refl, sym, ap, ◌∙◌, subst}
+use Rattle.std.proofs.Common.{◌≡◌, ◌==◌, inl, inr, ℕ, ◌+◌, ◌-◌, ◌≤◌, arith, min, Bool, true, false, List, [], ◌∷◌, length, refl, sym, ap, ◌∙◌, subst}
 use Rattle.std.specs.Prelude.{nat_lt, ◌&&◌, ◌||◌, not}
 use Rattle.std.proofs.lemmas.Bool.{eqb-true, and_left, and_right, both_ways, cond_both, cond-true, cond-false}
 use Rattle.x25_bits.specs.declared.role.Role.{Role}
@@ -16,9 +16,9 @@ use Rattle.x25_packet_judge.specs.declared.port.Call.{Call}
 use Rattle.x25_packet_judge.specs.declared.port.Call.TheVariants.{Idle, Called, Calling, Collided, Answered, Open}
 use Rattle.x25_packet_judge.specs.declared.port.Talk.{Talk}
 use Rattle.x25_packet_judge.specs.declared.terms.Terms.{Terms}
-use Rattle.x25_packet_judge.specs.laws.Keeping.{Given, Come, takes_in, IsOfChannel}
+use Rattle.x25_packet_judge.specs.laws.Keeping.{Given, Come, takes, IsOfChannel}
 use Rattle.x25_packet_judge.proofs.verdicts.Flows.{heard_numbered, brings_one, others_sent, heard_next}
-use Rattle.x25_packet_judge.proofs.verdicts.Standing.{bit, not_true, Own, Level, Away, Gone}
+use Rattle.x25_packet_judge.proofs.verdicts.Standing.{more_tail, bit, not_true, Own, Level, Gone, Stands}
 use Rattle.x25_packet_judge.proofs.verdicts.Saying.{before, going, awaits_none, owes_none, knows, enters, goes_on_so, together}
 
 -- ---- the other end sends: its port is the pair's own
@@ -68,12 +68,12 @@ own_heard window most k g x y pr o = record {
     rises : (u : ℕ) → x ≤ u → x + apart pr x ≤ u + apart pr u
     rises u le = omega arith
 
-abbrev pub Turns : ℕ → ℕ → Given → Come → Pair → Type 0
-Turns window most g b v = Level window most v.reaches v.other v.own g b ⊎ (Away window most v.reaches v.other v.own g b ⊎ Gone v.other)
+abbrev pub Turns : ℕ → ℕ → List PlainPacket → Given → Come → Pair → Type 0
+Turns window most tail g b v = Stands window most tail v.reaches v.other v.own g b
 
 -- from a stretch
-module _ (window most : ℕ) (s : Pair) (g : Given) (a : Come) (l : Level window most s.reaches s.other s.own g a) where
-  pub heard_level : (pr : ℕ) → Level window most (going s).reaches (talking.of_other (flow.heard pr s.other.talk.flow) (going s)).other (talking.of_other (flow.heard pr s.other.talk.flow) (going s)).own g (record a { acked = a.acked + apart pr a.acked })
+module _ (window most : ℕ) (tail : List PlainPacket) (s : Pair) (g : Given) (a : Come) (l : Level window most tail s.reaches s.other s.own g a) where
+  pub heard_level : (pr : ℕ) → Level window most tail (going s).reaches (talking.of_other (flow.heard pr s.other.talk.flow) (going s)).other (talking.of_other (flow.heard pr s.other.talk.flow) (going s)).own g (record a { acked = a.acked + apart pr a.acked })
   heard_level pr = record {
     reached = l.reached;
     no_former = l.no_former;
@@ -90,10 +90,10 @@ module _ (window most : ℕ) (s : Pair) (g : Given) (a : Come) (l : Level window
   pub hears_is : (pr : ℕ) → talking.hears pr (talking.goes_on (before s)) ≡ talking.of_other (flow.heard pr s.other.talk.flow) (going s)
   hears_is pr = ap (talking.hears pr) (goes_on_so s l.back) ∙ cond-true (pair.is_together (going s)) (talking.of_other (flow.heard pr s.other.talk.flow) (going s)) _ met
 
-  pub shown_heard : (packet : PlainPacket) (pr : ℕ) → sends packet s ≡ talking.hears pr (talking.goes_on (before s)) → Turns window most g (record a { acked = a.acked + apart pr a.acked }) (sends packet s)
-  shown_heard packet pr is = subst (λ (v : Pair). Turns window most g (record a { acked = a.acked + apart pr a.acked }) v) (sym (is ∙ hears_is pr)) (inl (heard_level pr))
+  pub shown_heard : (packet : PlainPacket) (pr : ℕ) → sends packet s ≡ talking.hears pr (talking.goes_on (before s)) → Turns window most tail g (record a { acked = a.acked + apart pr a.acked }) (sends packet s)
+  shown_heard packet pr is = subst (λ (v : Pair). Turns window most tail g (record a { acked = a.acked + apart pr a.acked }) v) (sym (is ∙ hears_is pr)) (inl (heard_level pr))
 
-  pub shown_data : (m q : Bool) (ps pr size : ℕ) → Turns window most g (record a { acked = a.acked + apart pr a.acked; taken = brings_one ps a.taken }) (talking.carries m q size (talking.numbers ps (talking.of_other (flow.heard pr s.other.talk.flow) (going s))))
+  pub shown_data : (m q : Bool) (ps pr size : ℕ) → Turns window most tail g (record a { acked = a.acked + apart pr a.acked; taken = brings_one ps a.taken }) (talking.carries m q size (talking.numbers ps (talking.of_other (flow.heard pr s.other.talk.flow) (going s))))
   shown_data m q ps pr size =
       let k = heard_level pr in
       inl (record {
@@ -106,8 +106,8 @@ module _ (window most : ℕ) (s : Pair) (g : Given) (a : Come) (l : Level window
         on = k.on;
       })
 
-  pub shown_asked : Turns window most g (record a { asked = a.asked + 1 }) (talking.interrupts (going s))
-  shown_asked = cond_both s.own.talk.is_interrupting _ _ (Turns window most g (record a { asked = a.asked + 1 }))
+  pub shown_asked : Turns window most tail g (record a { asked = a.asked + 1 }) (talking.interrupts (going s))
+  shown_asked = cond_both s.own.talk.is_interrupting _ _ (Turns window most tail g (record a { asked = a.asked + 1 }))
       (λ _. inr (inr (record { known = refl; clearing = refl; call = refl })))
       (λ none. inl (record {
         reached = l.reached;
@@ -122,9 +122,9 @@ module _ (window most : ℕ) (s : Pair) (g : Given) (a : Come) (l : Level window
       one_more : (x n : ℕ) → x ≤ 0 + n → x + 1 ≤ 1 + n
       one_more x n le = omega arith
 
-  pub shown_confirmed : Turns window most g (record a { confirmed = a.confirmed + 1 }) (talking.confirms_interrupt (going s))
-  shown_confirmed = subst (Turns window most g (record a { confirmed = a.confirmed + 1 })) (sym (cond-true (pair.is_together (going s)) _ _ met))
-      (cond_both s.other.talk.is_interrupting _ _ (Turns window most g (record a { confirmed = a.confirmed + 1 }))
+  pub shown_confirmed : Turns window most tail g (record a { confirmed = a.confirmed + 1 }) (talking.confirms_interrupt (going s))
+  shown_confirmed = subst (Turns window most tail g (record a { confirmed = a.confirmed + 1 })) (sym (cond-true (pair.is_together (going s)) _ _ met))
+      (cond_both s.other.talk.is_interrupting _ _ (Turns window most tail g (record a { confirmed = a.confirmed + 1 }))
       (λ out. inl (record {
         reached = l.reached;
         no_former = l.no_former;
@@ -165,47 +165,49 @@ module _ (window most : ℕ) (s : Pair) (g : Given) (a : Come) (l : Level window
   pub owes_one : (n : ℕ) → 1 ≤ port.more true n
   owes_one n = omega arith
 
-  pub shown_reset : Turns window most g (record a { is_over = true; is_reset = true }) (talking.resets (before s))
-  shown_reset = subst (Turns window most g (record a { is_over = true; is_reset = true })) (sym (cond-false (s.own.talk.is_resetting && nat_lt 0 s.other.talk.owed) _ _ (awaits_none s.own.talk.is_resetting s.other.talk.owed l.back.none_reset)))
+  pub shown_reset : (channel cause diagnostic : ℕ) → Turns window most (reset channel cause diagnostic ∷ []) g a (talking.resets (before s))
+  shown_reset channel cause diagnostic = subst (Turns window most (reset channel cause diagnostic ∷ []) g a) (sym (cond-false (s.own.talk.is_resetting && nat_lt 0 s.other.talk.owed) _ _ (awaits_none s.own.talk.is_resetting s.other.talk.owed l.back.none_reset)))
       (inr (inl (record {
         go = record { known = l.go.known; up = l.go.up; others_known = l.go.others_known; none_cleared = l.go.none_cleared; none_reset = ap (λ x. x - 1) l.go.none_reset };
         parted = subst (λ b. (s.reaches && (s.other.owed == 0 && port.more b s.other.talk.owed == 0)) ≡ false) (sym reset_owed_so) (owes_too s.reaches (s.other.owed == 0) s.other.talk.owed);
         no_former = refl;
         own = record { its_window = l.own.its_window; its_most = l.own.its_most; number = l.own.number; numbered = l.own.numbered; message = l.own.message; interrupts = l.own.interrupts };
         others = λ _. record { numbered = l.others.numbered; interrupts = l.others.interrupts };
-        over = record { over = refl; reset = λ _. subst (λ b. 1 ≤ port.more b s.other.talk.owed) (sym reset_owed_so) (owes_one s.other.talk.owed); cleared = λ is. absurd (both_ways a.is_cleared l.on.uncleared is) };
+        over = subst (λ b. 1 ≤ port.more b s.other.talk.owed) (sym reset_owed_so) (owes_one s.other.talk.owed);
+        behind = record { reached = l.reached; none_cleared = l.back.none_cleared; once = ap (λ b. port.more b s.other.talk.owed) reset_owed_so ∙ ap (λ x. min (x + 1) 255) l.back.none_reset; up = refl; resetting = refl; flow = refl; interrupt = refl };
       })))
 
-  pub shown_clear : Turns window most g (record a { is_over = true; is_cleared = true }) (pair.clears s)
-  shown_clear = subst (Turns window most g (record a { is_over = true; is_cleared = true })) (sym (cond-false (pair.is_awaiting s) _ _ (awaits_none s.own.is_clearing s.other.owed l.back.none_cleared)))
+  pub shown_clear : (channel cause diagnostic : ℕ) → Turns window most (clear channel cause diagnostic ∷ []) g a (pair.clears s)
+  shown_clear channel cause diagnostic = subst (Turns window most (clear channel cause diagnostic ∷ []) g a) (sym (cond-false (pair.is_awaiting s) _ _ (awaits_none s.own.is_clearing s.other.owed l.back.none_cleared)))
       (inr (inl (record {
         go = record { known = l.go.known; up = l.go.up; others_known = l.go.others_known; none_cleared = ap (λ x. x - 1) l.go.none_cleared; none_reset = refl };
         parted = subst (λ b. (s.reaches && (port.more b s.other.owed == 0 && s.other.talk.owed == 0)) ≡ false) (sym owed_so) (owes s.reaches (s.other.talk.owed == 0) s.other.owed);
         no_former = refl;
         own = record { its_window = l.own.its_window; its_most = l.own.its_most; number = l.own.number; numbered = l.own.numbered; message = l.own.message; interrupts = l.own.interrupts };
         others = λ _. record { numbered = l.others.numbered; interrupts = l.others.interrupts };
-        over = record { over = refl; reset = λ is. absurd (both_ways a.is_reset l.on.unreset is); cleared = λ _. subst (λ b. 1 ≤ port.more b s.other.owed) (sym owed_so) (owes_one s.other.owed) };
+        over = subst (λ b. 1 ≤ port.more b s.other.owed) (sym owed_so) (owes_one s.other.owed);
+        behind = tt;
       })))
 
-  pub shown_level : (packet : PlainPacket) → IsOfChannel packet → Turns window most g (takes_in packet a) (sends packet s)
+  pub shown_level : (packet : PlainPacket) → IsOfChannel packet → Turns window most (more_tail packet tail) g (takes packet a) (sends packet s)
   unfolding speaks sends_known
   shown_level (user_data channel q m ps pr user) is =
-      subst (Turns window most g (takes_in (user_data channel q m ps pr user) a))
+      subst (Turns window most (more_tail (user_data channel q m ps pr user) tail) g (takes (user_data channel q m ps pr user) a))
       (sym (enters s l.back (user_data channel q m ps pr user) tt ∙ ap (λ (v : Pair). talking.carries m q (length user) (talking.numbers ps v)) (hears_is pr)))
       (shown_data m q ps pr (length user))
   shown_level (rr channel pr) is = shown_heard (rr channel pr) pr (enters s l.back (rr channel pr) tt)
   shown_level (rnr channel pr) is = shown_heard (rnr channel pr) pr (enters s l.back (rnr channel pr) tt)
-  shown_level (interrupt channel user) is = subst (Turns window most g (takes_in (interrupt channel user) a)) (sym (enters s l.back (interrupt channel user) tt ∙ ap (λ (v : Pair). talking.interrupts v) (goes_on_so s l.back))) shown_asked
-  shown_level (interrupt_conf channel) is = subst (Turns window most g (takes_in (interrupt_conf channel) a)) (sym (enters s l.back (interrupt_conf channel) tt ∙ ap (λ (v : Pair). talking.confirms_interrupt v) (goes_on_so s l.back))) shown_confirmed
-  shown_level (reset channel cause diagnostic) is = subst (Turns window most g (takes_in (reset channel cause diagnostic) a)) (sym (enters s l.back (reset channel cause diagnostic) tt)) shown_reset
-  shown_level (reset_conf channel) is = subst (Turns window most g (takes_in (reset_conf channel) a)) (sym (enters s l.back (reset_conf channel) tt ∙ cond-false (nat_lt 0 s.own.talk.owed) _ _ (owes_none s.own.talk.owed l.go.none_reset))) (inr (inr (record { known = refl; clearing = refl; call = refl })))
-  shown_level (clear channel cause diagnostic) is = subst (Turns window most g (takes_in (clear channel cause diagnostic) a)) (sym (knows s l.back (clear channel cause diagnostic))) shown_clear
-  shown_level (clear_conf channel) is = subst (Turns window most g (takes_in (clear_conf channel) a)) (sym (knows s l.back (clear_conf channel) ∙ cond-false (nat_lt 0 s.own.owed) _ _ (owes_none s.own.owed l.go.none_cleared))) (inr (inr (record { known = refl; clearing = refl; call = refl })))
-  shown_level (call channel called calling facilities user) is = subst (Turns window most g (takes_in (call channel called calling facilities user) a)) (sym (knows s l.back (call channel called calling facilities user))) (inr (inr (calls_gone s.own.call (said facilities usual) (pair.starts s) l.back.up)))
+  shown_level (interrupt channel user) is = subst (Turns window most (more_tail (interrupt channel user) tail) g (takes (interrupt channel user) a)) (sym (enters s l.back (interrupt channel user) tt ∙ ap (λ (v : Pair). talking.interrupts v) (goes_on_so s l.back))) shown_asked
+  shown_level (interrupt_conf channel) is = subst (Turns window most (more_tail (interrupt_conf channel) tail) g (takes (interrupt_conf channel) a)) (sym (enters s l.back (interrupt_conf channel) tt ∙ ap (λ (v : Pair). talking.confirms_interrupt v) (goes_on_so s l.back))) shown_confirmed
+  shown_level (reset channel cause diagnostic) is = subst (Turns window most (more_tail (reset channel cause diagnostic) tail) g (takes (reset channel cause diagnostic) a)) (sym (enters s l.back (reset channel cause diagnostic) tt)) (shown_reset channel cause diagnostic)
+  shown_level (reset_conf channel) is = subst (Turns window most (more_tail (reset_conf channel) tail) g (takes (reset_conf channel) a)) (sym (enters s l.back (reset_conf channel) tt ∙ cond-false (nat_lt 0 s.own.talk.owed) _ _ (owes_none s.own.talk.owed l.go.none_reset))) (inr (inr (record { known = refl; clearing = refl; call = refl })))
+  shown_level (clear channel cause diagnostic) is = subst (Turns window most (more_tail (clear channel cause diagnostic) tail) g (takes (clear channel cause diagnostic) a)) (sym (knows s l.back (clear channel cause diagnostic))) (shown_clear channel cause diagnostic)
+  shown_level (clear_conf channel) is = subst (Turns window most (more_tail (clear_conf channel) tail) g (takes (clear_conf channel) a)) (sym (knows s l.back (clear_conf channel) ∙ cond-false (nat_lt 0 s.own.owed) _ _ (owes_none s.own.owed l.go.none_cleared))) (inr (inr (record { known = refl; clearing = refl; call = refl })))
+  shown_level (call channel called calling facilities user) is = subst (Turns window most (more_tail (call channel called calling facilities user) tail) g (takes (call channel called calling facilities user) a)) (sym (knows s l.back (call channel called calling facilities user))) (inr (inr (calls_gone s.own.call (said facilities usual) (pair.starts s) l.back.up)))
   shown_level (accept channel facilities) is =
-      subst (Turns window most g (takes_in (accept channel facilities) a))
+      subst (Turns window most (more_tail (accept channel facilities) tail) g (takes (accept channel facilities) a))
       (sym (knows s l.back (accept channel facilities) ∙ cond-false (pair.may_accept (pair.starts s)) _ _ (accepts_none s.own.call s.from l.back.up)))
-      (cond_both s.own.is_doubtful _ _ (Turns window most g (takes_in (accept channel facilities) a)) (λ _. inr (inr (record { known = refl; clearing = refl; call = refl }))) (λ _. inr (inr (record { known = refl; clearing = refl; call = refl }))))
+      (cond_both s.own.is_doubtful _ _ (Turns window most (more_tail (accept channel facilities) tail) g (takes (accept channel facilities) a)) (λ _. inr (inr (record { known = refl; clearing = refl; call = refl }))) (λ _. inr (inr (record { known = refl; clearing = refl; call = refl }))))
   shown_level (restart cause diagnostic) is = absurd is
   shown_level restart_conf is = absurd is
 

@@ -1,7 +1,7 @@
 -- Where nothing is told of either end of a stretch, the packets of each are those of an end that keeps the rules and takes all at once.
 use Rattle.std.proofs.Common.{◌≡◌, ◌==◌, ℕ, ◌+◌, ◌-◌, ◌%◌, ◌<◌, ◌≤◌, arith, min, Bool, true, false, if◌then◌else◌, List, length, Option, Some, None, refl, sym, ap, ◌∙◌, subst}
 use Rattle.std.specs.Prelude.{nat_lt, nat_le, ◌&&◌, not}
-use Rattle.std.proofs.lemmas.Bool.{eqb-true, eq-eqb, leb-true, leb-false, ltb-false, lt-ltb, both_ways, cond_both, cond-true, cond-false}
+use Rattle.std.proofs.lemmas.Bool.{eqb-true, eq-eqb, leb-true, leb-false, ltb-false, lt-ltb, both_ways, cond_both, cond-true}
 use Rattle.std.proofs.lemmas.Option.{none-some}
 use Rattle.x25_packet.specs.Packet.{PlainPacket, call, accept, clear, clear_conf, user_data, rr, rnr, interrupt, interrupt_conf, reset, reset_conf, restart, restart_conf}
 use Rattle.x25_packet_judge.specs.Flow as flow
@@ -18,13 +18,13 @@ use Rattle.x25_packet_judge.specs.declared.packet_rule.PacketRule.{PacketRule}
 use Rattle.x25_packet_judge.specs.declared.packet_rule.PacketRule.TheVariants.{InterruptUnasked}
 use Rattle.x25_packet_judge.specs.declared.pair.Pair.{Pair}
 use Rattle.x25_packet_judge.specs.declared.port.Port.{Port}
-use Rattle.x25_packet_judge.specs.laws.Keeping.{Given, Come, nothing_given, nothing_came, IsOneMessage, MaySend, takes_in, takes, turned}
+use Rattle.x25_packet_judge.specs.laws.Keeping.{Given, Come, nothing_given, nothing_came, IsOneMessage, MaySend, takes, turned}
 use Rattle.x25_packet_judge.specs.laws.Watching.{Line, IsRead, IsWindow, IsSilent, IsKept, Nothing, Sends, Takes, Begins, Says, Shows}
 use Rattle.x25_packet_judge.specs.laws.VerdictClaims.{SilentPacketsKeepTheRules}
 use Rattle.x25_packet_judge.proofs.verdicts.Flows.{Counts, acknowledged_counts, next_grown}
 use Rattle.x25_packet_judge.proofs.verdicts.Standing.{bit, message_of, after_is, MayGo}
 use Rattle.x25_packet_judge.proofs.verdicts.Saying.{before, going, enters, goes_on_so, together}
-use Rattle.x25_packet_judge.proofs.verdicts.Innocents.{flow_begins}
+use Rattle.x25_packet_judge.proofs.verdicts.Stretches.{flow_begins}
 
 told_none : {P : Type 0} (rule : PacketRule) → Some rule ≡ None → P
 told_none rule e = absurd (none-some rule (sym e))
@@ -150,7 +150,6 @@ record Even (window most : ℕ) (reaches : Bool) (p o : Port) (g : Given) (c : C
   pub message : p.talk.message ≡ message_of g.begun
   pub interrupts : bit p.talk.is_interrupting + c.confirmed ≡ g.interrupts
   pub asked : bit o.talk.is_interrupting + g.answered ≡ c.asked
-  pub on : c.is_over ≡ false
 
 go_on : (p o p2 o2 : Port) → MayGo p o → p2.is_known ≡ p.is_known → pair.may_talk_in p2.call ≡ true → o2.is_known ≡ o.is_known → o2.owed ≡ o.owed → o2.talk.owed ≡ o.talk.owed → MayGo p2 o2
 go_on p o p2 o2 k known up others owed talk = record { known = known ∙ k.known; up = up; others_known = others ∙ k.others_known; none_cleared = owed ∙ k.none_cleared; none_reset = talk ∙ k.none_reset }
@@ -191,7 +190,6 @@ module _ (window most : ℕ) (t : Pair) (g : Given) (c : Come) (e : Even window 
     message = e.message;
     interrupts = e.interrupts;
     asked = e.asked;
-    on = e.on;
   })
 
   kept : (packet : PlainPacket) → IsRead packet → (sends packet t).rule ≡ None → Kept window most t g c packet
@@ -220,7 +218,6 @@ module _ (window most : ℕ) (t : Pair) (g : Given) (c : Come) (e : Even window 
           message = after_is m q;
           interrupts = e.interrupts;
           asked = e.asked;
-          on = e.on;
         });
       }
   kept (rr channel pr) small none =
@@ -267,7 +264,6 @@ module _ (window most : ℕ) (t : Pair) (g : Given) (c : Come) (e : Even window 
         message = e.message;
         interrupts = one_more c.confirmed g.interrupts (asks idle);
         asked = e.asked;
-        on = e.on;
       }
 
       both : (talking.interrupts (going t)).rule ≡ None → (c.confirmed ≡ g.interrupts) × Even window most (talking.interrupts (going t)).reaches (talking.interrupts (going t)).own (talking.interrupts (going t)).other (record g { interrupts = g.interrupts + 1 }) c
@@ -318,7 +314,6 @@ module _ (window most : ℕ) (t : Pair) (g : Given) (c : Come) (e : Even window 
               message = e.message;
               interrupts = e.interrupts;
               asked = one_more g.answered c.asked (subst (λ b. bit b + g.answered ≡ c.asked) out e.asked);
-              on = e.on;
             },
           ))
           (λ _ none. told_none _ (both_none t.rule _ none).1)
@@ -357,10 +352,9 @@ module _ (window most : ℕ) (s : Pair) (g : Given) (c : Come) (e : Even window 
         message = e.message;
         interrupts = e.interrupts;
         asked = e.asked;
-        on = e.on;
       })
 
-  shown_even : (packet : PlainPacket) → IsRead packet → (sends packet s).rule ≡ None → Even window most (sends packet s).reaches (sends packet s).other (sends packet s).own g (takes_in packet c)
+  shown_even : (packet : PlainPacket) → IsRead packet → (sends packet s).rule ≡ None → Even window most (sends packet s).reaches (sends packet s).other (sends packet s).own g (takes packet c)
   unfolding speaks
   shown_even (user_data channel q m ps pr user) small none =
       let is = enters s e.back (user_data channel q m ps pr user) tt ∙ ap (λ (v : Pair). talking.carries m q (length user) (talking.numbers ps v)) (shown_so pr) in
@@ -368,7 +362,7 @@ module _ (window most : ℕ) (s : Pair) (g : Given) (c : Come) (e : Even window 
       let told = both_none (first s.rule (flow.heard pr s.other.talk.flow).rule) (flow.sent s.own.talk.window ps s.own.talk.flow).rule parts.0 in
       let heard = shown_heard pr small told.0 in
       let sent = sends_silent s.own.talk.flow s.own.talk.window c.taken g.told ps e.others_window.some e.others_window.few e.others told.1 in
-      subst (λ (v : Pair). Even window most v.reaches v.other v.own g (takes_in (user_data channel q m ps pr user) c)) (sym is) (record {
+      subst (λ (v : Pair). Even window most v.reaches v.other v.own g (takes (user_data channel q m ps pr user) c)) (sym is) (record {
         reached = e.reached;
         go = go_on s.other s.own _ _ e.go refl e.go.up refl refl refl;
         back = go_on s.own s.other _ _ e.back refl refl refl refl refl;
@@ -382,7 +376,6 @@ module _ (window most : ℕ) (s : Pair) (g : Given) (c : Come) (e : Even window 
         message = e.message;
         interrupts = e.interrupts;
         asked = e.asked;
-        on = e.on;
       })
   shown_even (rr channel pr) small none = shown_numbered (rr channel pr) pr small (enters s e.back (rr channel pr) tt ∙ shown_so pr) none
   shown_even (rnr channel pr) small none = shown_numbered (rnr channel pr) pr small (enters s e.back (rnr channel pr) tt ∙ shown_so pr) none
@@ -410,7 +403,6 @@ module _ (window most : ℕ) (s : Pair) (g : Given) (c : Come) (e : Even window 
             message = e.message;
             interrupts = e.interrupts;
             asked = one_more g.answered c.asked (subst (λ b. bit b + g.answered ≡ c.asked) idle e.asked);
-            on = e.on;
           })
   shown_even (interrupt_conf channel) small none =
       let is = enters s e.back (interrupt_conf channel) tt ∙ ap (λ (v : Pair). talking.confirms_interrupt v) (goes_on_so s e.back) ∙ cond-true (pair.is_together (going s)) _ _ (together s e.reached e.back e.go) in
@@ -436,7 +428,6 @@ module _ (window most : ℕ) (s : Pair) (g : Given) (c : Come) (e : Even window 
             message = e.message;
             interrupts = one_more c.confirmed g.interrupts (subst (λ b. bit b + c.confirmed ≡ g.interrupts) out e.interrupts);
             asked = e.asked;
-            on = e.on;
           })
           (λ _ none. told_none _ (both_none s.rule _ none).1)
   shown_even (reset channel cause diagnostic) is none = absurd is
@@ -475,7 +466,6 @@ explained window most _ _ (Begins t b own others) = record {
     message = b.own.message;
     interrupts = ap (λ x. bit x + 0) b.own.interrupt;
     asked = ap (λ x. bit x + 0) b.other.interrupt;
-    on = refl;
   };
 }
 explained window most _ _ (Says t tape packet is none was) =
@@ -489,7 +479,7 @@ explained window most _ _ (Shows t tape packet is none was) =
       g = x.g;
       c = takes packet x.c;
       kept = Takes tape x.g x.c packet x.kept;
-      even = subst (λ c. Even window most (sends packet (turned t)).reaches (sends packet (turned t)).other (sends packet (turned t)).own x.g c) (sym (cond-false x.c.is_over x.c (takes_in packet x.c) x.even.on)) e;
+      even = e;
     }
 
 pub silent_packets_keep_the_rules : SilentPacketsKeepTheRules

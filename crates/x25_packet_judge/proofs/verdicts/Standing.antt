@@ -1,43 +1,104 @@
 -- What comes to an end where all that is on the way has come, and where the channel may stand beside that.
-use Rattle.std.proofs.Common.{◌≡◌, ◌==◌, ◌⊎◌, ℕ, ◌+◌, ◌%◌, ◌<◌, ◌≤◌, arith, Bool, true, false, if◌then◌else◌, List, [], ◌∷◌, ◌++◌, Option, Some, None, refl, sym, ◌∙◌}
+use Rattle.std.proofs.Common.{◌≡◌, ◌==◌, ◌⊎◌, ℕ, ◌+◌, ◌%◌, ◌<◌, ◌≤◌, arith, Bool, true, false, if◌then◌else◌, List, [], ◌∷◌, ◌++◌, Option, Some, None, refl, sym, ap, ◌∙◌, subst}
 use Rattle.std.specs.Prelude.{nat_lt, ◌&&◌}
-use Rattle.std.proofs.lemmas.Bool.{ltb-true, and_parts, cond_both, cond-false}
+use Rattle.std.proofs.lemmas.Bool.{ltb-true, and_parts, both_ways, cond_both, cond-true, cond-false}
 use Rattle.x25_packet.specs.Packet.{PlainPacket, call, accept, clear, clear_conf, user_data, rr, rnr, interrupt, interrupt_conf, reset, reset_conf, restart, restart_conf}
+use Rattle.x25_packet_judge.specs.Flow.{fresh}
 use Rattle.x25_packet_judge.specs.Message.{after, broken, differs}
 use Rattle.x25_packet_judge.specs.Numbers.{apart}
 use Rattle.x25_packet_judge.specs.Pair as pair
 use Rattle.x25_packet_judge.specs.declared.flow.Flow.{Flow}
 use Rattle.x25_packet_judge.specs.declared.message.Message.{Message}
 use Rattle.x25_packet_judge.specs.declared.message.Message.TheVariants.{Ended, Plain, Qualified}
+use Rattle.x25_packet_judge.specs.declared.port.Call.{Call}
 use Rattle.x25_packet_judge.specs.declared.port.Call.TheVariants.{Idle}
 use Rattle.x25_packet_judge.specs.declared.port.Port.{Port}
 use Rattle.x25_packet_judge.specs.declared.port.Talk.{Talk}
-use Rattle.x25_packet_judge.specs.laws.Keeping.{Given, Come, IsOneMessage, takes_in, takes}
+use Rattle.x25_packet_judge.specs.laws.Keeping.{Given, Come, IsOneMessage, takes}
 use Rattle.x25_packet_judge.proofs.verdicts.Flows.{Numbered}
 
 -- ---- what is on the way
 
-abbrev pub all_come : List PlainPacket → Come → Come
-all_come [] c = c
-all_come (packet ∷ way) c = all_come way (takes packet c)
+abbrev Filled : List PlainPacket → Type 0
+Filled [] = ⊥
+Filled (packet ∷ way) = Unit {0}
 
-pub all_come_more : (way : List PlainPacket) (packet : PlainPacket) (c : Come) → all_come (way ++ packet ∷ []) c ≡ takes packet (all_come way c)
-all_come_more [] packet c = refl
-all_come_more (p ∷ way) packet c = all_come_more way packet (takes p c)
+pub none_left : (packet : PlainPacket) (way : List PlainPacket) → packet ∷ way ≡ [] → ⊥
+none_left packet way e = subst Filled e tt
+
+-- what ends a stretch, or the wait for a confirmation
+abbrev pub ends : PlainPacket → Bool
+ends (reset channel cause diagnostic) = true
+ends (reset_conf channel) = true
+ends (clear channel cause diagnostic) = true
+ends (restart cause diagnostic) = true
+ends packet = false
+
+-- what has come in the stretch where all on the way has
+abbrev pub ahead : List PlainPacket → Come → Come
+ahead [] c = c
+ahead (packet ∷ way) c = if ends packet then c else ahead way (takes packet c)
+
+-- from the first on that ends it
+abbrev pub tail_of : List PlainPacket → List PlainPacket
+tail_of [] = []
+tail_of (packet ∷ way) = if ends packet then packet ∷ way else tail_of way
+
+-- behind one more packet, where nothing ended it
+abbrev pub more_tail : PlainPacket → List PlainPacket → List PlainPacket
+more_tail packet tail = if ends packet then packet ∷ [] else tail
+
+pub takes_end : (packet : PlainPacket) (c : Come) → ends packet ≡ true → takes packet c ≡ c
+takes_end (reset channel cause diagnostic) c e = refl
+takes_end (reset_conf channel) c e = refl
+takes_end (clear channel cause diagnostic) c e = refl
+takes_end (restart cause diagnostic) c e = refl
+takes_end (user_data channel q m ps pr user) c e = absurd (both_ways false refl e)
+takes_end (rr channel pr) c e = absurd (both_ways false refl e)
+takes_end (rnr channel pr) c e = absurd (both_ways false refl e)
+takes_end (interrupt channel user) c e = absurd (both_ways false refl e)
+takes_end (interrupt_conf channel) c e = absurd (both_ways false refl e)
+takes_end (call channel called calling facilities user) c e = refl
+takes_end (accept channel facilities) c e = refl
+takes_end (clear_conf channel) c e = refl
+takes_end restart_conf c e = refl
+
+module _ (packet : PlainPacket) where
+  pub tail_more_none : (way : List PlainPacket) → tail_of way ≡ [] → tail_of (way ++ packet ∷ []) ≡ more_tail packet []
+  tail_more_none [] h = refl
+  tail_more_none (p ∷ way) h = cond_both (ends p) (p ∷ way) (tail_of way) (λ x. x ≡ [] → (if ends p then p ∷ (way ++ packet ∷ []) else tail_of (way ++ packet ∷ [])) ≡ more_tail packet [])
+      (λ _ e. absurd (none_left p way e))
+      (λ test e. cond-false (ends p) _ _ test ∙ tail_more_none way e) h
+
+  pub ahead_more_none : (way : List PlainPacket) (c : Come) → tail_of way ≡ [] → ahead (way ++ packet ∷ []) c ≡ takes packet (ahead way c)
+  ahead_more_none [] c h = cond_both (ends packet) c (takes packet c) (λ x. x ≡ takes packet c) (λ test. sym (takes_end packet c test)) (λ _. refl)
+  ahead_more_none (p ∷ way) c h = cond_both (ends p) (p ∷ way) (tail_of way) (λ x. x ≡ [] → (if ends p then c else ahead (way ++ packet ∷ []) (takes p c)) ≡ takes packet (if ends p then c else ahead way (takes p c)))
+      (λ _ e. absurd (none_left p way e))
+      (λ test e. cond-false (ends p) _ _ test ∙ ahead_more_none way (takes p c) e ∙ ap (takes packet) (sym (cond-false (ends p) c (ahead way (takes p c)) test))) h
+
+  pub tail_more_some : (x : PlainPacket) (rest way : List PlainPacket) → tail_of way ≡ x ∷ rest → tail_of (way ++ packet ∷ []) ≡ x ∷ (rest ++ packet ∷ [])
+  tail_more_some x rest [] h = absurd (none_left x rest (sym h))
+  tail_more_some x rest (p ∷ way) h = cond_both (ends p) (p ∷ way) (tail_of way) (λ y. y ≡ x ∷ rest → (if ends p then p ∷ (way ++ packet ∷ []) else tail_of (way ++ packet ∷ [])) ≡ x ∷ (rest ++ packet ∷ []))
+      (λ test e. cond-true (ends p) _ _ test ∙ ap (λ y. y ++ packet ∷ []) e)
+      (λ test e. cond-false (ends p) _ _ test ∙ tail_more_some x rest way e) h
+
+  pub ahead_more_some : (x : PlainPacket) (rest way : List PlainPacket) (c : Come) → tail_of way ≡ x ∷ rest → ahead (way ++ packet ∷ []) c ≡ ahead way c
+  ahead_more_some x rest [] c h = absurd (none_left x rest (sym h))
+  ahead_more_some x rest (p ∷ way) c h = cond_both (ends p) (p ∷ way) (tail_of way) (λ y. y ≡ x ∷ rest → (if ends p then c else ahead (way ++ packet ∷ []) (takes p c)) ≡ (if ends p then c else ahead way (takes p c)))
+      (λ test e. cond-true (ends p) _ _ test ∙ sym (cond-true (ends p) _ _ test))
+      (λ test e. cond-false (ends p) _ _ test ∙ ahead_more_some x rest way (takes p c) e ∙ sym (cond-false (ends p) _ _ test)) h
 
 pub record Low (c d : Come) : Type 0 where
   pub acked : c.acked ≤ d.acked
   pub taken : c.taken ≤ d.taken
   pub confirmed : c.confirmed ≤ d.confirmed
   pub asked : c.asked ≤ d.asked
-  pub reset : c.is_reset ≡ true → d.is_reset ≡ true
-  pub cleared : c.is_cleared ≡ true → d.is_cleared ≡ true
 
 pub low_self : (c : Come) → Low c c
-low_self c = record { acked = omega arith; taken = omega arith; confirmed = omega arith; asked = omega arith; reset = λ is. is; cleared = λ is. is }
+low_self c = record { acked = omega arith; taken = omega arith; confirmed = omega arith; asked = omega arith }
 
 pub low_both : (c d e : Come) → Low c d → Low d e → Low c e
-low_both c d e h k = record { acked = le c.acked d.acked e.acked h.acked k.acked; taken = le c.taken d.taken e.taken h.taken k.taken; confirmed = le c.confirmed d.confirmed e.confirmed h.confirmed k.confirmed; asked = le c.asked d.asked e.asked h.asked k.asked; reset = λ is. k.reset (h.reset is); cleared = λ is. k.cleared (h.cleared is) }
+low_both c d e h k = record { acked = le c.acked d.acked e.acked h.acked k.acked; taken = le c.taken d.taken e.taken h.taken k.taken; confirmed = le c.confirmed d.confirmed e.confirmed h.confirmed k.confirmed; asked = le c.asked d.asked e.asked h.asked k.asked }
   where
     le : (x y z : ℕ) → x ≤ y → y ≤ z → x ≤ z
     le x y z h k = omega arith
@@ -49,27 +110,24 @@ module _ (c : Come) where
   pub more : (x y : ℕ) → x ≤ x + y
   more x y = omega arith
 
-  pub in_low : (packet : PlainPacket) → Low c (takes_in packet c)
-  in_low (user_data channel q m ps pr user) = record { acked = more c.acked (apart pr c.acked); taken = cond_both (ps == c.taken % 8) (c.taken + 1) c.taken (λ x. c.taken ≤ x) (λ _. more c.taken 1) (λ _. same c.taken); confirmed = same c.confirmed; asked = same c.asked; reset = λ is. is; cleared = λ is. is }
-  in_low (rr channel pr) = record { acked = more c.acked (apart pr c.acked); taken = same c.taken; confirmed = same c.confirmed; asked = same c.asked; reset = λ is. is; cleared = λ is. is }
-  in_low (rnr channel pr) = record { acked = more c.acked (apart pr c.acked); taken = same c.taken; confirmed = same c.confirmed; asked = same c.asked; reset = λ is. is; cleared = λ is. is }
-  in_low (interrupt channel user) = record { acked = same c.acked; taken = same c.taken; confirmed = same c.confirmed; asked = more c.asked 1; reset = λ is. is; cleared = λ is. is }
-  in_low (interrupt_conf channel) = record { acked = same c.acked; taken = same c.taken; confirmed = more c.confirmed 1; asked = same c.asked; reset = λ is. is; cleared = λ is. is }
-  in_low (reset channel cause diagnostic) = record { acked = same c.acked; taken = same c.taken; confirmed = same c.confirmed; asked = same c.asked; reset = λ _. refl; cleared = λ is. is }
-  in_low (reset_conf channel) = record { acked = same c.acked; taken = same c.taken; confirmed = same c.confirmed; asked = same c.asked; reset = λ is. is; cleared = λ is. is }
-  in_low (call channel called calling facilities user) = record { acked = same c.acked; taken = same c.taken; confirmed = same c.confirmed; asked = same c.asked; reset = λ is. is; cleared = λ is. is }
-  in_low (accept channel facilities) = record { acked = same c.acked; taken = same c.taken; confirmed = same c.confirmed; asked = same c.asked; reset = λ is. is; cleared = λ is. is }
-  in_low (clear channel cause diagnostic) = record { acked = same c.acked; taken = same c.taken; confirmed = same c.confirmed; asked = same c.asked; reset = λ is. is; cleared = λ _. refl }
-  in_low (clear_conf channel) = record { acked = same c.acked; taken = same c.taken; confirmed = same c.confirmed; asked = same c.asked; reset = λ is. is; cleared = λ is. is }
-  in_low (restart cause diagnostic) = record { acked = same c.acked; taken = same c.taken; confirmed = same c.confirmed; asked = same c.asked; reset = λ is. is; cleared = λ is. is }
-  in_low restart_conf = record { acked = same c.acked; taken = same c.taken; confirmed = same c.confirmed; asked = same c.asked; reset = λ is. is; cleared = λ is. is }
-
   pub takes_low : (packet : PlainPacket) → Low c (takes packet c)
-  takes_low packet = cond_both c.is_over c (takes_in packet c) (Low c) (λ _. low_self c) (λ _. in_low packet)
+  takes_low (user_data channel q m ps pr user) = record { acked = more c.acked (apart pr c.acked); taken = cond_both (ps == c.taken % 8) (c.taken + 1) c.taken (λ x. c.taken ≤ x) (λ _. more c.taken 1) (λ _. same c.taken); confirmed = same c.confirmed; asked = same c.asked }
+  takes_low (rr channel pr) = record { acked = more c.acked (apart pr c.acked); taken = same c.taken; confirmed = same c.confirmed; asked = same c.asked }
+  takes_low (rnr channel pr) = record { acked = more c.acked (apart pr c.acked); taken = same c.taken; confirmed = same c.confirmed; asked = same c.asked }
+  takes_low (interrupt channel user) = record { acked = same c.acked; taken = same c.taken; confirmed = same c.confirmed; asked = more c.asked 1 }
+  takes_low (interrupt_conf channel) = record { acked = same c.acked; taken = same c.taken; confirmed = more c.confirmed 1; asked = same c.asked }
+  takes_low (reset channel cause diagnostic) = low_self c
+  takes_low (reset_conf channel) = low_self c
+  takes_low (call channel called calling facilities user) = low_self c
+  takes_low (accept channel facilities) = low_self c
+  takes_low (clear channel cause diagnostic) = low_self c
+  takes_low (clear_conf channel) = low_self c
+  takes_low (restart cause diagnostic) = low_self c
+  takes_low restart_conf = low_self c
 
-pub all_low : (way : List PlainPacket) (c : Come) → Low c (all_come way c)
-all_low [] c = low_self c
-all_low (packet ∷ way) c = low_both c (takes packet c) (all_come way (takes packet c)) (takes_low c packet) (all_low way (takes packet c))
+pub ahead_low : (way : List PlainPacket) (c : Come) → Low c (ahead way c)
+ahead_low [] c = low_self c
+ahead_low (packet ∷ way) c = cond_both (ends packet) c (ahead way (takes packet c)) (Low c) (λ _. low_self c) (λ _. low_both c (takes packet c) (ahead way (takes packet c)) (takes_low c packet) (ahead_low way (takes packet c)))
 
 -- ---- the message and the interrupts
 
@@ -140,36 +198,56 @@ pub record MayGo (p o : Port) : Type 0 where
   pub none_cleared : o.owed ≡ 0
   pub none_reset : o.talk.owed ≡ 0
 
--- nothing on the way ends the stretch
-pub record IsOn (is_over is_reset is_cleared : Bool) : Type 0 where
-  pub on : is_over ≡ false
-  pub unreset : is_reset ≡ false
-  pub uncleared : is_cleared ≡ false
+-- RESET or CLEAR waits for a confirmation, by the first packet on the way that ends the stretch
+abbrev pub Due : List PlainPacket → Bool → ℕ → ℕ → Type 0
+Due (reset channel cause diagnostic ∷ rest) reaches owed reset_owed = 1 ≤ reset_owed
+Due (clear channel cause diagnostic ∷ rest) reaches owed reset_owed = 1 ≤ owed
+Due (restart cause diagnostic ∷ rest) reaches owed reset_owed = reaches ≡ false
+Due tail reaches owed reset_owed = ⊥
 
--- a packet on the way does: RESET or CLEAR waits for a confirmation
-pub record IsOver (is_over is_reset is_cleared : Bool) (owed reset_owed : ℕ) : Type 0 where
-  pub over : is_over ≡ true
-  pub reset : is_reset ≡ true → 1 ≤ reset_owed
-  pub cleared : is_cleared ≡ true → 1 ≤ owed
+-- the other end sent RESET, and nothing behind it
+pub record Waits (reaches : Bool) (owed reset_owed : ℕ) (k : Call) (talk : Talk) : Type 0 where
+  pub reached : reaches ≡ true
+  pub none_cleared : owed ≡ 0
+  pub once : reset_owed ≡ 1
+  pub up : pair.may_talk_in k ≡ true
+  pub resetting : talk.is_resetting ≡ true
+  pub flow : talk.flow ≡ fresh
+  pub interrupt : talk.is_interrupting ≡ false
+
+-- or CLEAR or RESTART behind it
+abbrev pub Behind : List PlainPacket → Bool → ℕ → ℕ → Call → Talk → Type 0
+Behind (reset channel cause diagnostic ∷ []) reaches owed reset_owed k talk = Waits reaches owed reset_owed k talk
+Behind (reset channel cause diagnostic ∷ clear two causes diagnostics ∷ rest) reaches owed reset_owed k talk = 1 ≤ owed
+Behind (reset channel cause diagnostic ∷ restart causes diagnostics ∷ rest) reaches owed reset_owed k talk = reaches ≡ false
+Behind (reset channel cause diagnostic ∷ packet ∷ rest) reaches owed reset_owed k talk = ⊥
+Behind tail reaches owed reset_owed k talk = Unit {0}
+
+abbrev pub Behinds : Type 1
+Behinds = Bool → ℕ → ℕ → Call → Talk → Type 0
+
+abbrev pub Any : Behinds
+Any reaches owed reset_owed k talk = Unit {0}
 
 -- both ends are in the stretch
-pub record Level (window most : ℕ) (reaches : Bool) (p o : Port) (g : Given) (a : Come) : Type 0 where
+pub record Level (window most : ℕ) (tail : List PlainPacket) (reaches : Bool) (p o : Port) (g : Given) (a : Come) : Type 0 where
   pub reached : reaches ≡ true
   pub no_former : p.former.is_known ≡ false
   pub go : MayGo p o
   pub back : MayGo o p
   pub own : Own window most p.talk g a.acked a.confirmed
   pub others : Others o.talk.flow o.talk.is_interrupting g a.taken a.asked
-  pub on : IsOn a.is_over a.is_reset a.is_cleared
+  pub on : tail ≡ []
 
 -- the other end has left it
-pub record Away (window most : ℕ) (reaches : Bool) (p o : Port) (g : Given) (a : Come) : Type 0 where
+pub record Away (window most : ℕ) (tail : List PlainPacket) (B : Behinds) (reaches : Bool) (p o : Port) (g : Given) (a : Come) : Type 0 where
   pub go : MayGo p o
   pub parted : (reaches && (p.owed == 0 && p.talk.owed == 0)) ≡ false
   pub no_former : p.former.is_known ≡ false
   pub own : Own window most p.talk g a.acked a.confirmed
   pub others : o.former.is_known ≡ true → Others o.former.flow o.former.is_interrupting g a.taken a.asked
-  pub over : IsOver a.is_over a.is_reset a.is_cleared p.owed p.talk.owed
+  pub over : Due tail reaches p.owed p.talk.owed
+  pub behind : B reaches p.owed p.talk.owed o.call o.talk
 
 -- nothing is known
 pub record Gone (p : Port) : Type 0 where
@@ -177,5 +255,5 @@ pub record Gone (p : Port) : Type 0 where
   pub clearing : p.is_clearing ≡ false
   pub call : p.call ≡ Idle
 
-abbrev pub Stands : ℕ → ℕ → Bool → Port → Port → Given → Come → Type 0
-Stands window most reaches p o g a = Level window most reaches p o g a ⊎ (Away window most reaches p o g a ⊎ Gone p)
+abbrev pub Stands : ℕ → ℕ → List PlainPacket → Bool → Port → Port → Given → Come → Type 0
+Stands window most tail reaches p o g a = Level window most tail reaches p o g a ⊎ (Away window most tail (Behind tail) reaches p o g a ⊎ Gone p)

@@ -1,6 +1,6 @@
--- An end in data transfer that keeps rules 15 to 19 of docs/PEER.md, beside one that does what it likes: what the two
--- ends of the channel are behind what both have sent in one stretch, and which states the end may be in.
--- ITU-T X.25 (10/96), sections 4.3 and 4.4.1.
+-- An end that keeps rules 9 to 12 and 15 to 19 of docs/PEER.md in a call, beside one that does what it likes: what the
+-- two ends of the channel are behind what both have sent, and which states the end may be in.
+-- ITU-T X.25 (10/96), sections 4.3, 4.4.1 and 4.4.3.
 use Rattle.std.specs.Prelude.{◌≡◌, ◌==◌, ℕ, ◌+◌, ◌%◌, ◌<◌, ◌≤◌, Bool, true, false, List, [], ◌∷◌, ◌++◌, length}
 use Rattle.std.specs.Prelude.{Option, Some, None, if◌then◌else◌}
 use Rattle.x25_packet.specs.Packet.{PlainPacket, clear, clear_conf, user_data, rr, rnr, interrupt, interrupt_conf}
@@ -27,29 +27,31 @@ pub record Given : Type 0 where
   pub answered : ℕ
 
 -- What came to it: how many of its data packets are acknowledged, the data packets that it took, confirmations of its
--- interrupts, and interrupts; and whether a packet came that ends the stretch, and RESET or CLEAR as that.
+-- interrupts, and interrupts.
 pub record Come : Type 0 where
   pub acked : ℕ
   pub taken : ℕ
   pub confirmed : ℕ
   pub asked : ℕ
-  pub is_over : Bool
-  pub is_reset : Bool
-  pub is_cleared : Bool
+
+-- Where it stands in a call, that gives it this window and packet size: in flow control ready (d1), with what it sent
+-- and what came in the stretch; its RESET waits for the confirmation (d2); RESET came (d3), CLEAR (p7) or RESTART (r3).
+pub data Phase : Type 0 where
+  Talks : (window most : ℕ) → Given → Come → Phase
+  Resets : (window most : ℕ) → Phase
+  WasReset : (window most : ℕ) → Phase
+  WasCleared : Phase
+  WasRestarted : Phase
 
 abbrev pub nothing_given : Given
 nothing_given = record { sent = 0; told = 0; begun = None; interrupts = 0; answered = 0 }
 
 abbrev pub nothing_came : Come
-nothing_came = record {
-  acked = 0;
-  taken = 0;
-  confirmed = 0;
-  asked = 0;
-  is_over = false;
-  is_reset = false;
-  is_cleared = false;
-}
+nothing_came = record { acked = 0; taken = 0; confirmed = 0; asked = 0 }
+
+-- numbers begin anew, and no interrupt is out (section 4.4.3)
+abbrev pub fresh_phase : ℕ → ℕ → Phase
+fresh_phase window most = Talks window most nothing_given nothing_came
 
 -- a P(R) acknowledges no more than it took, and no less than its last one (section 4.4.1.3)
 pub record MayAcknowledge (g : Given) (c : Come) (pr t : ℕ) : Type 0 where
@@ -71,7 +73,7 @@ pub record MayFollow (window most : ℕ) (g : Given) (c : Come) (m q : Bool) (ps
   pub full : m ≡ true → most ≤ size
   pub same : IsOneMessage g.begun q
 
--- what it may send, and what it has sent then
+-- what it may send in the stretch, and what it has sent then
 abbrev pub MaySend : ℕ → ℕ → Given → Come → PlainPacket → Given → Type 0
 MaySend window most g c (user_data channel q m ps pr user) h =
     (t : ℕ) × MayAcknowledge g c pr t × MayFollow window most g c m q ps (length user)
@@ -84,35 +86,54 @@ MaySend window most g c (interrupt_conf channel) h =
     (g.answered < c.asked) × (h ≡ record g { answered = g.answered + 1 })
 MaySend window most g c packet h = ⊥
 
--- How it may end the stretch: by RESET or CLEAR at any moment, or the confirmation of the one that came.
-abbrev pub MayEnd : Come → PlainPacket → Type 0
-MayEnd c (reset channel cause diagnostic) = Unit {0}
-MayEnd c (clear channel cause diagnostic) = Unit {0}
-MayEnd c (reset_conf channel) = c.is_reset ≡ true
-MayEnd c (clear_conf channel) = c.is_cleared ≡ true
-MayEnd c packet = ⊥
+-- What it may send in the call, and where it stands then: RESET at any moment of a stretch, behind which it sends
+-- nothing; and behind the RESET that came its confirmation (section 4.4.3).
+abbrev pub MayDo : Phase → PlainPacket → Phase → Type 0
+MayDo (Talks window most g c) (reset channel cause diagnostic) s = s ≡ Resets window most
+MayDo (Talks window most g c) packet s = (h : Given) × MaySend window most g c packet h × (s ≡ Talks window most h c)
+MayDo (WasReset window most) (reset_conf channel) s = s ≡ fresh_phase window most
+MayDo s packet r = ⊥
+
+-- How it may leave the call: by CLEAR at any moment, or the confirmation of the one that came (section 4.1.7).
+abbrev pub MayEnd : Phase → PlainPacket → Type 0
+MayEnd s (clear channel cause diagnostic) = Unit {0}
+MayEnd WasCleared (clear_conf channel) = Unit {0}
+MayEnd s packet = ⊥
 
 -- What it makes of what comes in the stretch: all below a P(R) is acknowledged, to the next number that equals it
--- modulo 8, and a data packet is taken where P(S) is the next one.
+-- modulo 8, and a data packet is taken where P(S) is the next one. What belongs to no stretch changes nothing.
 abbrev pub hears : ℕ → Come → Come
 hears pr c = record c { acked = c.acked + apart pr c.acked }
 
-abbrev pub takes_in : PlainPacket → Come → Come
-takes_in (user_data channel q m ps pr user) c =
-    record (hears pr c) { taken = if ps == c.taken % 8 then c.taken + 1 else c.taken }
-takes_in (rr channel pr) c = hears pr c
-takes_in (rnr channel pr) c = hears pr c
-takes_in (interrupt channel user) c = record c { asked = c.asked + 1 }
-takes_in (interrupt_conf channel) c = record c { confirmed = c.confirmed + 1 }
-takes_in (reset channel cause diagnostic) c = record c { is_over = true; is_reset = true }
-takes_in (clear channel cause diagnostic) c = record c { is_over = true; is_cleared = true }
-takes_in packet c = record c { is_over = true }
-
--- behind RESET, CLEAR and what belongs to no stretch, nothing more comes to it in this one
 abbrev pub takes : PlainPacket → Come → Come
-takes packet c = if c.is_over then c else takes_in packet c
+takes (user_data channel q m ps pr user) c =
+    record (hears pr c) { taken = if ps == c.taken % 8 then c.taken + 1 else c.taken }
+takes (rr channel pr) c = hears pr c
+takes (rnr channel pr) c = hears pr c
+takes (interrupt channel user) c = record c { asked = c.asked + 1 }
+takes (interrupt_conf channel) c = record c { confirmed = c.confirmed + 1 }
+takes packet c = c
 
--- ---- a stretch
+-- Where it stands behind a packet that comes. While its RESET waits all is dropped but RESET and its confirmation,
+-- either of which ends that (section 4.4.3.3), and what ends the call.
+abbrev pub comes : Phase → PlainPacket → Phase
+comes (Talks window most g c) (reset channel cause diagnostic) = WasReset window most
+comes (Talks window most g c) (clear channel cause diagnostic) = WasCleared
+comes (Talks window most g c) (restart cause diagnostic) = WasRestarted
+comes (Talks window most g c) packet = Talks window most g (takes packet c)
+comes (Resets window most) (reset channel cause diagnostic) = fresh_phase window most
+comes (Resets window most) (reset_conf channel) = fresh_phase window most
+comes (Resets window most) (clear channel cause diagnostic) = WasCleared
+comes (Resets window most) (restart cause diagnostic) = WasRestarted
+comes s packet = s
+
+-- RESET, CLEAR and RESTART are answered before it takes what comes behind them.
+abbrev pub MayTake : Phase → Type 0
+MayTake (Talks window most g c) = Unit {0}
+MayTake (Resets window most) = Unit {0}
+MayTake s = ⊥
+
+-- ---- a run
 
 abbrev pub IsOfChannel : PlainPacket → Type 0
 IsOfChannel (restart cause diagnostic) = ⊥
@@ -150,20 +171,19 @@ turned t = record { from = other t.from; reaches = t.reaches; own = t.other; oth
 abbrev pub restarted : Pair → Pair
 restarted t = record t { reaches = false; other = port.fresh }
 
--- The first end has sent this, and that came to it, where the channel is so, and such packets of the other end are on
--- the way to it, front first.
-pub data MayBe (window most : ℕ) : Pair → Given → Come → List PlainPacket → Type 0 where
-  Begins : (t : Pair) → AreBegun window most t → MayBe window most t nothing_given nothing_came []
+-- The first end may stand so, where the channel is so, and such packets of the other end are on the way to it, front
+-- first.
+pub data MayBe : Pair → Phase → List PlainPacket → Type 0 where
+  Begins : (window most : ℕ) (t : Pair) → AreBegun window most t → MayBe t (fresh_phase window most) []
   -- it sends what the rules allow
-  Sends : (t : Pair) (g h : Given) (c : Come) (way : List PlainPacket) (packet : PlainPacket)
-      → MaySend window most g c packet h → MayBe window most t g c way
-      → MayBe window most (next (sends packet t)) h c way
+  Does : (t : Pair) (s r : Phase) (way : List PlainPacket) (packet : PlainPacket) → MayDo s packet r
+      → MayBe t s way → MayBe (next (sends packet t)) r way
   -- the other end sends any packet on the channel
-  Shown : (t : Pair) (g : Given) (c : Come) (way : List PlainPacket) (packet : PlainPacket) → IsOfChannel packet
-      → MayBe window most t g c way → MayBe window most (turned (sends packet (turned t))) g c (way ++ packet ∷ [])
+  Shown : (t : Pair) (s : Phase) (way : List PlainPacket) (packet : PlainPacket) → IsOfChannel packet
+      → MayBe t s way → MayBe (turned (sends packet (turned t))) s (way ++ packet ∷ [])
   -- or RESTART
-  Restarts : (t : Pair) (g : Given) (c : Come) (way : List PlainPacket) (cause diagnostic : ℕ)
-      → MayBe window most t g c way → MayBe window most (restarted t) g c (way ++ restart cause diagnostic ∷ [])
+  Restarts : (t : Pair) (s : Phase) (way : List PlainPacket) (cause diagnostic : ℕ)
+      → MayBe t s way → MayBe (restarted t) s (way ++ restart cause diagnostic ∷ [])
   -- the front one comes
-  Comes : (t : Pair) (g : Given) (c : Come) (packet : PlainPacket) (way : List PlainPacket)
-      → MayBe window most t g c (packet ∷ way) → MayBe window most t g (takes packet c) way
+  Comes : (t : Pair) (s : Phase) (packet : PlainPacket) (way : List PlainPacket) → MayTake s
+      → MayBe t s (packet ∷ way) → MayBe t (comes s packet) way

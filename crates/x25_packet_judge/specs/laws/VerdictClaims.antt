@@ -1,5 +1,5 @@
 -- What the laws say of the judge of packets.
-use Rattle.std.specs.Prelude.{◌≡◌, ℕ, true, false, List, None}
+use Rattle.std.specs.Prelude.{◌≡◌, ℕ, true, false, List, [], None}
 use Rattle.x25_bits.specs.declared.role.Role.{Role}
 use Rattle.x25_packet.specs.Packet.{PlainPacket, call, accept, reset, reset_conf}
 use Rattle.x25_packet_judge.specs.Book.{layers_of, pair_of, takes}
@@ -13,21 +13,22 @@ use Rattle.x25_packet_judge.specs.declared.pair.Pair.{Pair}
 use Rattle.x25_packet_judge.specs.declared.port.Call.TheVariants.{Idle}
 use Rattle.x25_packet_judge.specs.declared.port.Port.{Port}
 use Rattle.x25_packet_judge.specs.declared.terms.Terms.{Terms}
-use Rattle.x25_packet_judge.specs.laws.Keeping.{Given, Come, MaySend, MayEnd, IsOfChannel, MayBe}
-use Rattle.x25_packet_judge.specs.laws.Keeping.{AreBegun, turned}
+use Rattle.x25_packet_judge.specs.laws.Keeping.{Given, Come, Phase, MayDo, MayEnd, IsOfChannel, MayBe}
+use Rattle.x25_packet_judge.specs.laws.Keeping.{IsBegun, AreBegun, fresh_phase, next, turned}
+use Rattle.x25_packet_judge.specs.laws.Tape.{MayStand, all_in_call}
 use Rattle.x25_packet_judge.specs.laws.Watching.{Line, IsSilent, IsKept}
 
--- no rule is told of what an end sends that keeps the rules
+-- no rule is told of what an end sends that keeps the rules, in any stretch of a call
 abbrev pub NoInnocentPacketIsTold : Type 0
 NoInnocentPacketIsTold =
-    (window most : ℕ) (t : Pair) (g h : Given) (c : Come) (way : List PlainPacket) (packet : PlainPacket)
-    → MayBe window most t g c way → MaySend window most g c packet h → (sends packet t).rule ≡ None
+    (t : Pair) (s r : Phase) (way : List PlainPacket) (packet : PlainPacket) → MayBe t s way → MayDo s packet r
+    → (sends packet t).rule ≡ None
 
--- nor of how it ends the stretch
+-- nor of how it leaves the call
 abbrev pub NoEndingIsTold : Type 0
 NoEndingIsTold =
-    (window most : ℕ) (t : Pair) (g : Given) (c : Come) (way : List PlainPacket) (packet : PlainPacket)
-    → MayBe window most t g c way → MayEnd c packet → (sends packet t).rule ≡ None
+    (t : Pair) (s : Phase) (way : List PlainPacket) (packet : PlainPacket) → MayBe t s way → MayEnd s packet
+    → (sends packet t).rule ≡ None
 
 -- where nothing is told of either end, an end that keeps the rules may have sent what the first one did
 abbrev pub SilentPacketsKeepTheRules : Type 0
@@ -72,6 +73,20 @@ ResetsBegin =
     → BothBegin t.own.talk.window t.own.talk.most t.other.talk.window t.other.talk.most
     (answered (reset one cause diagnostic) (reset_conf two) t)
 
+-- ---- from stretch to stretch
+
+-- The other end resets, and the end confirms; or the end resets, and the other one confirms, which comes: it stands at
+-- the beginning of the next stretch, and so does the channel.
+pub record BeginsAnew (window most : ℕ) (t : Pair) : Type 0 where
+  pub stands : MayBe t (fresh_phase window most) []
+  pub begun : AreBegun window most t
+
+abbrev pub StretchesFollow : Type 0
+StretchesFollow =
+    (window most : ℕ) (t : Pair) (one two cause diagnostic : ℕ) → AreBegun window most t
+    → BeginsAnew window most (next (sends (reset_conf two) (turned (sends (reset one cause diagnostic) (turned t)))))
+    × BeginsAnew window most (turned (sends (reset_conf two) (turned (next (sends (reset one cause diagnostic) t)))))
+
 -- ---- what is told of a trace
 
 -- of a packet on a channel, where its end has restarted, no RESTART of it waits, and restarts are known
@@ -81,3 +96,20 @@ BooksTellOfChannels =
     → runs_early (layers_of from b) ≡ false → are_sure (layers_of from b) ≡ true
     → (takes from channel packet b).verdict.rule
     ≡ (sends packet (pair_of from (are_level (layers_of from b)) channel b)).rule
+
+-- of an end in a call, whatever the other end sends on any channel, in as many stretches as there are
+abbrev pub NoInnocentTapeIsTold : Type 0
+NoInnocentTapeIsTold =
+    (from : Role) (channel : ℕ) (b : Book) (s r : Phase) (way : List PlainPacket) (packet : PlainPacket)
+    → MayStand from channel b s way → MayDo s packet r → (takes from channel packet b).verdict.rule ≡ None
+
+abbrev pub NoEndOfTapeIsTold : Type 0
+NoEndOfTapeIsTold =
+    (from : Role) (channel : ℕ) (b : Book) (s : Phase) (way : List PlainPacket) (packet : PlainPacket)
+    → MayStand from channel b s way → MayEnd s packet → (takes from channel packet b).verdict.rule ≡ None
+
+-- such an end there is, and its numbers begin as the channel's do
+abbrev pub TapesBegin : Type 0
+TapesBegin =
+    (from : Role) (channel : ℕ) (p : Port) → IsBegun p
+    → MayStand from channel (all_in_call p) (fresh_phase p.talk.window p.talk.most) []

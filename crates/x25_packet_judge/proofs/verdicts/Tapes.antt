@@ -1,0 +1,674 @@
+-- Why no end in a call is told of in a trace, whatever the other end sends on any channel.
+use Rattle.std.proofs.Common.{◌≡◌, ◌==◌, ◌⊎◌, inl, inr, ℕ, ◌+◌, ◌-◌, ◌<◌, arith, min, Bool, true, false, if◌then◌else◌, List, [], ◌∷◌, ◌++◌, Option, None, refl, sym, ap, ◌∙◌, subst}
+use Rattle.std.specs.Prelude.{◌&&◌, ◌||◌, not, is_some, nat_lt}
+use Rattle.std.proofs.lemmas.Bool.{eqb-true, ltb-true, and_parts, and_left, and_right, both_ways, cond_both, cond-true, cond-false}
+use Rattle.x25_bits.specs.declared.role.Role.{Role}
+use Rattle.x25_bits.specs.declared.role.Role.TheVariants.{Dte, Dce}
+use Rattle.x25_packet.specs.Packet.{PlainPacket, call, accept, clear, clear_conf, user_data, rr, rnr, interrupt, interrupt_conf, reset, reset_conf, restart, restart_conf}
+use Rattle.x25_packet_judge.specs.Book as book
+use Rattle.x25_packet_judge.specs.Book.{other, layers_of, pair_of, keeps, fills, puts}
+use Rattle.x25_packet_judge.specs.Layers as layers
+use Rattle.x25_packet_judge.specs.Layer as layer
+use Rattle.x25_packet_judge.specs.Packets.{sends}
+use Rattle.x25_packet_judge.specs.Pair as pair
+use Rattle.x25_packet_judge.specs.Port as port
+use Rattle.x25_packet_judge.specs.declared.book.Book.{Book}
+use Rattle.x25_packet_judge.specs.declared.layer.Layer.{Layer}
+use Rattle.x25_packet_judge.specs.declared.layer.Restart.TheVariants.{Asking, Ready}
+use Rattle.x25_packet_judge.specs.declared.layers.Layers.{Layers}
+use Rattle.x25_packet_judge.specs.declared.packet_rule.PacketRule.{PacketRule}
+use Rattle.x25_packet_judge.specs.declared.pair.Pair.{Pair}
+use Rattle.x25_packet_judge.specs.declared.port.Call.{Call}
+use Rattle.x25_packet_judge.specs.declared.port.Call.TheVariants.{Idle, Called, Calling, Collided, Answered, Open}
+use Rattle.x25_packet_judge.specs.declared.port.Port.{Port}
+use Rattle.x25_packet_judge.specs.laws.Keeping.{Given, Come, nothing_given, nothing_came, Phase, Talks, Resets, WasReset, WasCleared, WasRestarted, fresh_phase, MayDo, MayEnd, comes, MayTake, IsOfChannel, AreBegun, turned}
+use Rattle.x25_packet_judge.specs.laws.Tape.{all_in_call, IsBook, AreApart, AreRunning, view, MayStand, Begins, Does, DoesApart, Shown, ShownApart, Restarts, Confirms, Comes}
+use Rattle.x25_packet_judge.specs.laws.VerdictClaims.{NoInnocentTapeIsTold, NoEndOfTapeIsTold, TapesBegin}
+use Rattle.x25_packet_judge.proofs.verdicts.Standing.{tail_of, Behind, Behinds, Any, Level, Away, Gone}
+use Rattle.x25_packet_judge.proofs.verdicts.Stretches.{Talking, Asking as Asked, Waiting}
+use Rattle.x25_packet_judge.proofs.verdicts.Innocents.{Standing, sound_begins, sound_does, standing_shown, standing_restarted, standing_comes, clear_quiet, clear_conf_unknown, sound_ends}
+use Rattle.x25_packet_judge.proofs.verdicts.Books.{put, runs_on, none_yet}
+use Rattle.x25_packet_judge.proofs.verdicts.Parts.{filled, filled_full, layer_at, port_at, Parts, Left, of_channel, takes_on_parts, takes_on_apart, takes_on_any, kept_fills, fills_book, confirms_parts}
+use Rattle.x25_packet_judge.proofs.verdicts.Dark.{Dark, dark_does, dark_shown, sends_reaches}
+
+-- ---- what is noted changes nothing
+
+module _ (window most : ℕ) (tail : List PlainPacket) (reaches : Bool) (p o : Port) (g : Given) (a : Come) where
+  noted_level : Level window most tail reaches p o g a → Level window most tail reaches (port.noted p) (port.noted o) g a
+  noted_level l = record {
+    reached = l.reached;
+    no_former = l.no_former;
+    go = record { known = l.go.known; up = l.go.up; others_known = l.go.others_known; none_cleared = l.go.none_cleared; none_reset = l.go.none_reset };
+    back = record { known = l.back.known; up = l.back.up; others_known = l.back.others_known; none_cleared = l.back.none_cleared; none_reset = l.back.none_reset };
+    own = l.own;
+    others = l.others;
+    on = l.on;
+  }
+
+  noted_away : (B : Behinds) → Away window most tail B reaches p o g a → Away window most tail B reaches (port.noted p) (port.noted o) g a
+  noted_away B w = record {
+    go = record { known = w.go.known; up = w.go.up; others_known = w.go.others_known; none_cleared = w.go.none_cleared; none_reset = w.go.none_reset };
+    parted = w.parted;
+    no_former = w.no_former;
+    own = w.own;
+    others = w.others;
+    over = w.over;
+    behind = w.behind;
+  }
+
+noted_gone : (p : Port) → Gone p → Gone (port.noted p)
+noted_gone p k = record { known = k.known; clearing = k.clearing; call = k.call }
+
+noted_asking : (window most : ℕ) (reaches : Bool) (p o : Port) → Asked window most reaches p o → Asked window most reaches (port.noted p) (port.noted o)
+noted_asking window most reaches p o k = record {
+  reached = k.reached;
+  go = k.go;
+  up = k.up;
+  back = record { known = k.back.known; up = k.back.up; others_known = k.back.others_known; none_cleared = k.back.none_cleared; none_reset = k.back.none_reset };
+  others_cleared = k.others_cleared;
+  once = k.once;
+  own = k.own;
+}
+
+module _ (t : Pair) where
+  noted_talking : (window most : ℕ) (g : Given) (c : Come) (way : List PlainPacket) → Talking window most t g c way → Talking window most (pair.noted t) g c way
+  noted_talking window most g c way (inl l) = inl (noted_level window most (tail_of way) t.reaches t.own t.other g _ l)
+  noted_talking window most g c way (inr (inl w)) = inr (inl (noted_away window most (tail_of way) t.reaches t.own t.other g _ (Behind (tail_of way)) w))
+  noted_talking window most g c way (inr (inr k)) = inr (inr (noted_gone t.own k))
+
+  noted_waiting : (window most : ℕ) (tail : List PlainPacket) → Waiting window most t tail → Waiting window most (pair.noted t) tail
+  noted_waiting window most [] k = noted_asking window most t.reaches t.own t.other k
+  noted_waiting window most (reset channel cause diagnostic ∷ rest) s = noted_talking window most nothing_given nothing_came rest s
+  noted_waiting window most (reset_conf channel ∷ rest) s = noted_talking window most nothing_given nothing_came rest s
+  noted_waiting window most (clear channel cause diagnostic ∷ rest) w = noted_away window most _ t.reaches t.own t.other nothing_given nothing_came Any w
+  noted_waiting window most (restart cause diagnostic ∷ rest) s = tt
+  noted_waiting window most (call channel called calling facilities user ∷ rest) s = absurd s
+  noted_waiting window most (accept channel facilities ∷ rest) s = absurd s
+  noted_waiting window most (clear_conf channel ∷ rest) s = absurd s
+  noted_waiting window most (user_data channel q m ps pr user ∷ rest) s = absurd s
+  noted_waiting window most (rr channel pr ∷ rest) s = absurd s
+  noted_waiting window most (rnr channel pr ∷ rest) s = absurd s
+  noted_waiting window most (interrupt channel user ∷ rest) s = absurd s
+  noted_waiting window most (interrupt_conf channel ∷ rest) s = absurd s
+  noted_waiting window most (restart_conf ∷ rest) s = absurd s
+
+  noted_standing : (s : Phase) (way : List PlainPacket) → Standing t s way → Standing (pair.noted t) s way
+  noted_standing (Talks window most g c) way s = noted_talking window most g c way s
+  noted_standing (Resets window most) way (inl s) = inl (noted_waiting window most (tail_of way) s)
+  noted_standing (Resets window most) way (inr k) = inr (noted_gone t.own k)
+  noted_standing (WasReset window most) way (inl (g, a, w)) = inl (g, a, noted_away window most _ t.reaches t.own t.other g a _ w)
+  noted_standing (WasReset window most) way (inr k) = inr (noted_gone t.own k)
+  noted_standing WasCleared way (inl (window, most, g, a, w)) = inl (window, most, g, a, noted_away window most _ t.reaches t.own t.other g a Any w)
+  noted_standing WasCleared way (inr k) = inr (noted_gone t.own k)
+  noted_standing WasRestarted way s = tt
+
+-- nor does from which end the last packet came
+abbrev as_of : Role → Option PacketRule → Pair → Pair
+as_of from rule t = record { from = from; reaches = t.reaches; own = t.own; other = t.other; rule = rule }
+
+module _ (from : Role) (rule : Option PacketRule) (t : Pair) where
+  waiting_of : (window most : ℕ) (tail : List PlainPacket) → Waiting window most t tail → Waiting window most (as_of from rule t) tail
+  waiting_of window most [] k = k
+  waiting_of window most (reset channel cause diagnostic ∷ rest) s = s
+  waiting_of window most (reset_conf channel ∷ rest) s = s
+  waiting_of window most (clear channel cause diagnostic ∷ rest) w = w
+  waiting_of window most (restart cause diagnostic ∷ rest) s = tt
+  waiting_of window most (call channel called calling facilities user ∷ rest) s = absurd s
+  waiting_of window most (accept channel facilities ∷ rest) s = absurd s
+  waiting_of window most (clear_conf channel ∷ rest) s = absurd s
+  waiting_of window most (user_data channel q m ps pr user ∷ rest) s = absurd s
+  waiting_of window most (rr channel pr ∷ rest) s = absurd s
+  waiting_of window most (rnr channel pr ∷ rest) s = absurd s
+  waiting_of window most (interrupt channel user ∷ rest) s = absurd s
+  waiting_of window most (interrupt_conf channel ∷ rest) s = absurd s
+  waiting_of window most (restart_conf ∷ rest) s = absurd s
+
+  standing_of : (s : Phase) (way : List PlainPacket) → Standing t s way → Standing (as_of from rule t) s way
+  standing_of (Talks window most g c) way s = s
+  standing_of (Resets window most) way (inl s) = inl (waiting_of window most (tail_of way) s)
+  standing_of (Resets window most) way (inr k) = inr k
+  standing_of (WasReset window most) way s = s
+  standing_of WasCleared way s = s
+  standing_of WasRestarted way s = tt
+
+-- ---- where restarts are known
+
+abbrev at_once : Layer → Layer → Bool
+at_once P O = P.owed == 0 && O.owed == 0
+
+abbrev pair_at : Role → Layer → Layer → Port → Port → Pair
+pair_at from P O p o = record { from = from; reaches = at_once P O; own = p; other = o; rule = None }
+
+-- the channel is dark, and stays so where the other end restarts
+record Out (counted : Bool) (p o : Port) : Type 0 where
+  pub dark : Dark p o
+  pub still : (p.is_known ≡ false) ⊎ (counted ≡ false)
+
+abbrev On : Role → Phase → List PlainPacket → Layer → Layer → Port → Port → Type 0
+On from s way P O p o = Standing (pair_at from P O p o) s way ⊎ Out (P.is_counted && O.is_counted) p o
+
+on_noted : (from : Role) (s : Phase) (way : List PlainPacket) (P O : Layer) (p o : Port) → On from s way P O p o → On from s way P O (port.noted p) (port.noted o)
+on_noted from s way P O p o (inl h) = inl (noted_standing (pair_at from P O p o) s way h)
+on_noted from s way P O p o (inr k) = inr (record { dark = record { known = k.dark.known; unsure = k.dark.unsure; uncalled = k.dark.uncalled }; still = k.still })
+
+-- the end sends
+record Sent (from : Role) (s : Phase) (way : List PlainPacket) (P O : Layer) (q : Pair) : Type 0 where
+  pub quiet : q.rule ≡ None
+  pub on : On from s way P O q.own q.other
+
+on_does : (from : Role) (s r : Phase) (way : List PlainPacket) (P O : Layer) (p o : Port) (packet : PlainPacket) → MayDo s packet r → On from s way P O p o → Sent from r way P O (sends packet (pair_at from P O p o))
+on_does from s r way P O p o packet may (inl h) =
+    let k = sound_does (pair_at from P O p o) s r way packet may (record { quiet = refl; stands = h }) in
+    record {
+      quiet = k.quiet;
+      on = inl (subst (λ b. Standing (record { from = from; reaches = b; own = (sends packet (pair_at from P O p o)).own; other = (sends packet (pair_at from P O p o)).other; rule = None }) r way) (sends_reaches packet (pair_at from P O p o))
+          (standing_of from None (sends packet (pair_at from P O p o)) r way k.stands));
+    }
+on_does from s r way P O p o packet may (inr k) =
+    let d = dark_does (pair_at from P O p o) refl k.dark s r packet may in
+    record { quiet = d.quiet; on = inr (record { dark = d.dark; still = go d.same k.still }) }
+  where
+    go : (sends packet (pair_at from P O p o)).own.is_known ≡ p.is_known → (p.is_known ≡ false) ⊎ ((P.is_counted && O.is_counted) ≡ false) → ((sends packet (pair_at from P O p o)).own.is_known ≡ false) ⊎ ((P.is_counted && O.is_counted) ≡ false)
+    go same (inl e) = inl (same ∙ e)
+    go same (inr e) = inr e
+
+-- the other end sends
+and_turned : (a b : Bool) → (a && b) ≡ (b && a)
+and_turned true true = refl
+and_turned true false = refl
+and_turned false true = refl
+and_turned false false = refl
+
+on_shown : (from : Role) (s : Phase) (way : List PlainPacket) (P O : Layer) (p o : Port) (packet : PlainPacket) → IsOfChannel packet → On from s way P O p o
+    → On from s (way ++ packet ∷ []) P O (sends packet (pair_at (other from) O P o p)).other (sends packet (pair_at (other from) O P o p)).own
+on_shown from s way P O p o packet is (inl h) =
+    inl (subst (λ b. Standing (record { from = from; reaches = b; own = (sends packet (pair_at (other from) O P o p)).other; other = (sends packet (pair_at (other from) O P o p)).own; rule = None }) s (way ++ packet ∷ [])) (sends_reaches packet (pair_at (other from) O P o p) ∙ and_turned (O.owed == 0) (P.owed == 0))
+    (standing_of from None (turned (sends packet (pair_at (other from) O P o p))) s (way ++ packet ∷ [])
+    (subst (λ b. Standing (turned (sends packet (record { from = other from; reaches = b; own = o; other = p; rule = None }))) s (way ++ packet ∷ [])) (and_turned (P.owed == 0) (O.owed == 0))
+    (standing_shown (pair_at from P O p o) packet is s way h))))
+on_shown from s way P O p o packet is (inr k) =
+    let d = dark_shown (pair_at (other from) O P o p) k.dark packet in
+    inr (record { dark = d.dark; still = go d.same k.still })
+  where
+    go : (sends packet (pair_at (other from) O P o p)).other.is_known ≡ p.is_known → (p.is_known ≡ false) ⊎ ((P.is_counted && O.is_counted) ≡ false) → ((sends packet (pair_at (other from) O P o p)).other.is_known ≡ false) ⊎ ((P.is_counted && O.is_counted) ≡ false)
+    go same (inl e) = inl (same ∙ e)
+    go same (inr e) = inr e
+
+-- the other end restarts, where restarts are counted
+on_restarted : (from : Role) (s : Phase) (way : List PlainPacket) (P O P2 O2 : Layer) (p o : Port) (cause diagnostic : ℕ) → (P.is_counted && O.is_counted) ≡ true → at_once P2 O2 ≡ false → On from s way P O p o → On from s (way ++ restart cause diagnostic ∷ []) P2 O2 p port.fresh
+on_restarted from s way P O P2 O2 p o cause diagnostic counted parted (inl h) =
+    inl (subst (λ b. Standing (record { from = from; reaches = b; own = p; other = port.fresh; rule = None }) s (way ++ restart cause diagnostic ∷ [])) (sym parted) (standing_restarted (pair_at from P O p o) cause diagnostic s way h))
+on_restarted from s way P O P2 O2 p o cause diagnostic counted parted (inr k) = go k.still
+  where
+    go : (p.is_known ≡ false) ⊎ ((P.is_counted && O.is_counted) ≡ false) → On from s (way ++ restart cause diagnostic ∷ []) P2 O2 p port.fresh
+    go (inl e) = inr (record { dark = record { known = and_left p.is_known _ e; unsure = inr refl; uncalled = k.dark.uncalled }; still = inl e })
+    go (inr e) = absurd (both_ways (P.is_counted && O.is_counted) e counted)
+
+-- its channels become unknown, and restarts aren't counted
+talks_on : (k : Call) → pair.may_talk_in k ≡ true → port.is_calling k ≡ false
+talks_on Idle up = refl
+talks_on Called up = refl
+talks_on Calling up = absurd (both_ways false refl up)
+talks_on Collided up = refl
+talks_on Answered up = refl
+talks_on Open up = refl
+
+module _ (from : Role) (P O P2 O2 : Layer) (p o : Port) (uncounted : (P2.is_counted && O2.is_counted) ≡ false) where
+  out_of : port.is_calling p.call ≡ false → Out (P2.is_counted && O2.is_counted) p port.blank
+  out_of e = record { dark = record { known = and_right p.is_known false refl; unsure = inr refl; uncalled = e }; still = inr uncounted }
+
+  gone_out : Gone p → Out (P2.is_counted && O2.is_counted) p port.blank
+  gone_out k = out_of (ap port.is_calling k.call)
+
+  talking_out : (window most : ℕ) (g : Given) (c : Come) (way : List PlainPacket) → Talking window most (pair_at from P O p o) g c way → Out (P2.is_counted && O2.is_counted) p port.blank
+  talking_out window most g c way (inl l) = out_of (talks_on p.call l.go.up)
+  talking_out window most g c way (inr (inl w)) = out_of (talks_on p.call w.go.up)
+  talking_out window most g c way (inr (inr k)) = gone_out k
+
+  waiting_out : (window most : ℕ) (way tail : List PlainPacket) → tail_of way ≡ tail → Waiting window most (pair_at from P O p o) tail → On from (Resets window most) way P2 O2 p port.blank
+  waiting_out window most way [] is k = inr (out_of (talks_on p.call k.up))
+  waiting_out window most way (reset channel cause diagnostic ∷ rest) is s = inr (talking_out window most nothing_given nothing_came rest s)
+  waiting_out window most way (reset_conf channel ∷ rest) is s = inr (talking_out window most nothing_given nothing_came rest s)
+  waiting_out window most way (clear channel cause diagnostic ∷ rest) is w = inr (out_of (talks_on p.call w.go.up))
+  waiting_out window most way (restart cause diagnostic ∷ rest) is s = inl (inl (subst (Waiting window most (pair_at from P2 O2 p port.blank)) (sym is) tt))
+  waiting_out window most way (call channel called calling facilities user ∷ rest) is s = absurd s
+  waiting_out window most way (accept channel facilities ∷ rest) is s = absurd s
+  waiting_out window most way (clear_conf channel ∷ rest) is s = absurd s
+  waiting_out window most way (user_data channel q m ps pr user ∷ rest) is s = absurd s
+  waiting_out window most way (rr channel pr ∷ rest) is s = absurd s
+  waiting_out window most way (rnr channel pr ∷ rest) is s = absurd s
+  waiting_out window most way (interrupt channel user ∷ rest) is s = absurd s
+  waiting_out window most way (interrupt_conf channel ∷ rest) is s = absurd s
+  waiting_out window most way (restart_conf ∷ rest) is s = absurd s
+
+  on_blank : (s : Phase) (way : List PlainPacket) → On from s way P O p o → On from s way P2 O2 p port.blank
+  on_blank (Talks window most g c) way (inl s) = inr (talking_out window most g c way s)
+  on_blank (Resets window most) way (inl (inl s)) = waiting_out window most way (tail_of way) refl s
+  on_blank (Resets window most) way (inl (inr k)) = inr (gone_out k)
+  on_blank (WasReset window most) way (inl (inl (g, a, w))) = inr (out_of (talks_on p.call w.go.up))
+  on_blank (WasReset window most) way (inl (inr k)) = inr (gone_out k)
+  on_blank WasCleared way (inl (inl (window, most, g, a, w))) = inr (out_of (talks_on p.call w.go.up))
+  on_blank WasCleared way (inl (inr k)) = inr (gone_out k)
+  on_blank WasRestarted way (inl s) = inl tt
+  on_blank s way (inr k) = inr (out_of k.dark.uncalled)
+
+-- ---- what is known of restarts
+
+abbrev are_sure : Layer → Layer → Bool
+are_sure P O = P.is_sure && O.is_sure
+
+abbrev are_counted : Layer → Layer → Bool
+are_counted P O = P.is_counted && O.is_counted
+
+abbrev are_lost : Layer → Layer → Bool
+are_lost P O = P.is_lost || O.is_lost
+
+record Fits (from : Role) (s : Phase) (way : List PlainPacket) (P O : Layer) (p o : Port) : Type 0 where
+  pub ready : P.restart ≡ Ready
+  pub begun : layer.is_begun O.restart ≡ false
+  pub found : are_sure P O ≡ true → are_lost P O ≡ false
+  pub uncounted : are_sure P O ≡ false → are_counted P O ≡ false
+  pub owed : are_sure P O ≡ true → O.owed ≡ 0
+  pub on : are_sure P O ≡ true → On from s way P O p o
+
+not_both : {X : Type 0} (b : Bool) → b ≡ false → b ≡ true → X
+not_both b e is = absurd (both_ways b e is)
+
+-- restarts aren't known
+lost_fits : (from : Role) (s : Phase) (way : List PlainPacket) (P O : Layer) (p o : Port) → P.restart ≡ Ready → layer.is_begun O.restart ≡ false → are_sure P O ≡ false → are_counted P O ≡ false → Fits from s way P O p o
+lost_fits from s way P O p o ready begun unsure uncounted = record {
+  ready = ready;
+  begun = begun;
+  found = λ e. not_both (are_sure P O) unsure e;
+  uncounted = λ _. uncounted;
+  owed = λ e. not_both (are_sure P O) unsure e;
+  on = λ e. not_both (are_sure P O) unsure e;
+}
+
+or_turned : (a b : Bool) → (a || b) ≡ (b || a)
+or_turned true true = refl
+or_turned true false = refl
+or_turned false true = refl
+or_turned false false = refl
+
+abbrev at_ready : Layer → Layer
+at_ready l = layer.with_restart Ready l
+
+-- both layers, the other end's first
+abbrev theirs : Layer → Layer → Layers
+theirs P O = record { own = O; other = P; rule = None }
+
+module _ (from : Role) (s : Phase) (way : List PlainPacket) (P O : Layer) (p o : Port) (h : Fits from s way P O p o) where
+  asks_not : layer.is_asking P.restart ≡ false
+  asks_not = ap layer.is_asking h.ready
+
+  -- the end sends, or the other one does
+  fits_on : (r : Phase) (way2 : List PlainPacket) (p2 o2 : Port) → (are_sure P O ≡ true → On from r way2 P O p2 o2) → Fits from r way2 (at_ready P) O p2 o2
+  fits_on r way2 p2 o2 on = record { ready = refl; begun = h.begun; found = h.found; uncounted = h.uncounted; owed = h.owed; on = on }
+
+  fits_theirs : (way2 : List PlainPacket) (p2 o2 : Port) → (are_sure P O ≡ true → On from s way2 P O p2 o2) → Fits from s way2 P (at_ready O) p2 o2
+  fits_theirs way2 p2 o2 on = record { ready = h.ready; begun = refl; found = h.found; uncounted = h.uncounted; owed = h.owed; on = on }
+
+  does_fits : (r : Phase) (packet : PlainPacket) → MayDo s packet r → Fits from r way (at_ready P) O (sends packet (pair_at from P O p o)).own (sends packet (pair_at from P O p o)).other
+  does_fits r packet may = fits_on r way (sends packet (pair_at from P O p o)).own (sends packet (pair_at from P O p o)).other (λ k. (on_does from s r way P O p o packet may (h.on k)).on)
+
+  does_noted : (r : Phase) (packet : PlainPacket) → MayDo s packet r → Fits from r way (at_ready P) O (port.noted (sends packet (pair_at from P O p o)).own) (port.noted (sends packet (pair_at from P O p o)).other)
+  does_noted r packet may = fits_on r way (port.noted (sends packet (pair_at from P O p o)).own) (port.noted (sends packet (pair_at from P O p o)).other)
+      (λ k. on_noted from r way P O (sends packet (pair_at from P O p o)).own (sends packet (pair_at from P O p o)).other (on_does from s r way P O p o packet may (h.on k)).on)
+
+  does_lost : (r : Phase) (p2 o2 : Port) → are_sure P O ≡ false → Fits from r way (at_ready P) O p2 o2
+  does_lost r p2 o2 e = lost_fits from r way (at_ready P) O p2 o2 refl h.begun e (h.uncounted e)
+
+  shown_fits : (packet : PlainPacket) → IsOfChannel packet → Fits from s (way ++ packet ∷ []) P (at_ready O) (sends packet (pair_at (other from) O P o p)).other (sends packet (pair_at (other from) O P o p)).own
+  shown_fits packet is = fits_theirs (way ++ packet ∷ []) (sends packet (pair_at (other from) O P o p)).other (sends packet (pair_at (other from) O P o p)).own (λ k. on_shown from s way P O p o packet is (h.on k))
+
+  shown_noted : (packet : PlainPacket) → IsOfChannel packet → Fits from s (way ++ packet ∷ []) P (at_ready O) (port.noted (sends packet (pair_at (other from) O P o p)).other) (port.noted (sends packet (pair_at (other from) O P o p)).own)
+  shown_noted packet is = fits_theirs (way ++ packet ∷ []) (port.noted (sends packet (pair_at (other from) O P o p)).other) (port.noted (sends packet (pair_at (other from) O P o p)).own)
+      (λ k. on_noted from s (way ++ packet ∷ []) P O (sends packet (pair_at (other from) O P o p)).other (sends packet (pair_at (other from) O P o p)).own (on_shown from s way P O p o packet is (h.on k)))
+
+  shown_lost : (way2 : List PlainPacket) (p2 o2 : Port) → are_sure P O ≡ false → Fits from s way2 P (at_ready O) p2 o2
+  shown_lost way2 p2 o2 e = lost_fits from s way2 P (at_ready O) p2 o2 h.ready refl e (h.uncounted e)
+
+  sure_so : layers.are_sure (theirs P O) ≡ true → are_sure P O ≡ true
+  sure_so e = and_turned P.is_sure O.is_sure ∙ e
+
+  unsure_so : layers.are_sure (theirs P O) ≡ false → are_sure P O ≡ false
+  unsure_so e = and_turned P.is_sure O.is_sure ∙ e
+
+  -- a packet of the other end where its RESTART waits
+  early_fits : layers.runs_early (theirs P O) ≡ true → (way2 : List PlainPacket) (p2 o2 : Port) → Fits from s way2 (layers.runs (theirs P O)).other (layers.runs (theirs P O)).own p2 o2
+  early_fits early way2 p2 o2 = cond_both (layers.is_awaiting (theirs P O)) _ _ (λ (T : Layers). Fits from s way2 T.other T.own p2 o2)
+      (λ _. lost_fits from s way2 _ _ p2 o2 refl refl refl refl)
+      (λ calm. cond_both (layers.is_hasty (theirs P O)) _ _ (λ (T : Layers). Fits from s way2 T.other T.own p2 o2)
+      (λ _. lost_fits from s way2 _ _ p2 o2 refl refl refl refl)
+      (λ slow. not_both (layers.runs_early (theirs P O)) (neither (layers.is_awaiting (theirs P O)) (layers.is_hasty (theirs P O)) (layer.is_begun O.restart) calm slow h.begun) early))
+    where
+      neither : (a b c : Bool) → a ≡ false → b ≡ false → c ≡ false → (a || (b || c)) ≡ false
+      neither a b c x y z = rw (x, y, z) refl
+
+  -- RESTART
+  abbrev Restarted : ℕ → ℕ → Layers → Type 0
+  Restarted cause diagnostic T = Fits from s (way ++ restart cause diagnostic ∷ []) T.other T.own p port.fresh
+
+  restarts_fits : (cause diagnostic : ℕ) → Fits from s (way ++ restart cause diagnostic ∷ []) (layers.restarts (theirs P O)).other (layers.restarts (theirs P O)).own p port.fresh
+  restarts_fits cause diagnostic = cond_both (layers.are_lost (theirs P O)) _ _ (Restarted cause diagnostic)
+      (λ lost. lost_fits from s (way ++ restart cause diagnostic ∷ []) _ _ p port.fresh h.ready refl (unsure lost) (h.uncounted (unsure lost)))
+      (λ _. cond_both (not (layers.are_counted (theirs P O))) _ _ (Restarted cause diagnostic)
+      (λ _. cond_both (layer.is_asking P.restart) _ _ (Restarted cause diagnostic) (λ e. not_both (layer.is_asking P.restart) asks_not e) (λ _. lost_fits from s (way ++ restart cause diagnostic ∷ []) _ _ p port.fresh h.ready refl refl refl))
+      (λ counted. cond_both (layers.is_awaiting (theirs P O)) _ _ (Restarted cause diagnostic)
+      (λ awaits. record {
+        ready = h.ready;
+        begun = h.begun;
+        found = h.found;
+        uncounted = h.uncounted;
+        owed = h.owed;
+        on = λ e. on_restarted from s way P O (layer.asked_again P) O p o cause diagnostic (counts counted) (and_left (P.owed == 0) _ (some P.owed (ltb-true 0 P.owed (and_parts _ (nat_lt 0 P.owed) (and_parts (layer.is_asking O.restart) _ awaits).1).1))) (h.on e);
+      })
+      (λ _. record {
+        ready = h.ready;
+        begun = refl;
+        found = h.found;
+        uncounted = h.uncounted;
+        owed = λ e. ap (λ n. n - 1) (h.owed e);
+        on = λ e. on_restarted from s way P O (layer.owing (O.owed == 0) P) (layer.restarted Asking O) p o cause diagnostic (counts counted) (and_left ((layer.owing (O.owed == 0) P).owed == 0) _ (ap (λ b. (if b then min (P.owed + 1) 255 else P.owed) == 0) (ap (λ n. n == 0) (h.owed e)) ∙ more P.owed)) (h.on e);
+      })))
+    where
+      unsure : layers.are_lost (theirs P O) ≡ true → are_sure P O ≡ false
+      unsure lost = go (are_sure P O) refl
+        where
+          go : (b : Bool) → are_sure P O ≡ b → are_sure P O ≡ false
+          go true e = not_both (are_lost P O) (h.found e) (or_turned P.is_lost O.is_lost ∙ lost)
+          go false e = e
+
+      counts : not (layers.are_counted (theirs P O)) ≡ false → (P.is_counted && O.is_counted) ≡ true
+      counts e = and_turned P.is_counted O.is_counted ∙ back (layers.are_counted (theirs P O)) e
+        where
+          back : (x : Bool) → not x ≡ false → x ≡ true
+          back true e = refl
+          back false e = absurd (both_ways true e refl)
+
+      some : (n : ℕ) → 0 < n → (n == 0) ≡ false
+      some n due = not_true2 (n == 0) (λ e. none n due (eqb-true n 0 e))
+        where
+          none : (n : ℕ) → 0 < n → n ≡ 0 → ⊥
+          none n due e = omega arith
+
+          not_true2 : (b : Bool) → (b ≡ true → ⊥) → b ≡ false
+          not_true2 true never = absurd (never refl)
+          not_true2 false never = refl
+
+      more : (n : ℕ) → (min (n + 1) 255 == 0) ≡ false
+      more n = some (min (n + 1) 255) (one n)
+        where
+          one : (n : ℕ) → 0 < min (n + 1) 255
+          one n = omega arith
+
+  -- its confirmation, that answers none
+  sure_answer_not : layers.is_sure_answer (theirs P O) ≡ false
+  sure_answer_not = and_left (layer.is_asking P.restart && O.owed == 1) _ (and_left (layer.is_asking P.restart) _ asks_not)
+
+  counted_sure : layers.are_counted (theirs P O) ≡ true → are_sure P O ≡ true
+  counted_sure e = go (are_sure P O) refl
+    where
+      go : (b : Bool) → are_sure P O ≡ b → are_sure P O ≡ true
+      go true is = is
+      go false is = not_both (are_counted P O) (h.uncounted is) (and_turned P.is_counted O.is_counted ∙ e)
+
+  answer_not : layers.is_answer (theirs P O) ≡ false
+  answer_not = cond_both (layers.are_counted (theirs P O)) _ _ (λ b. b ≡ false)
+      (λ e. ap (λ n. nat_lt 0 n) (h.owed (counted_sure e)))
+      (λ _. and_left (layer.is_asking P.restart) _ asks_not)
+
+  lost_unsure : layers.are_lost (theirs P O) ≡ true → are_sure P O ≡ false
+  lost_unsure lost = go (are_sure P O) refl
+    where
+      go : (b : Bool) → are_sure P O ≡ b → are_sure P O ≡ false
+      go true e = not_both (are_lost P O) (h.found e) (or_turned P.is_lost O.is_lost ∙ lost)
+      go false e = e
+
+  confirms_lost_fits : layers.are_lost (theirs P O) ≡ true → Fits from s way (layers.confirms_lost (theirs P O)).other (layers.confirms_lost (theirs P O)).own p o
+  confirms_lost_fits lost = lost_fits from s way _ _ p o refl refl (lost_unsure lost) (h.uncounted (lost_unsure lost))
+
+  opened_fits : (P2 O2 : Layer) (o2 : Port) → P2.restart ≡ Ready → O2.restart ≡ Ready → are_lost P2 O2 ≡ false → are_counted P2 O2 ≡ false → are_sure P2 O2 ≡ true → O2.owed ≡ 0 → On from s way P2 O2 p o2 → Fits from s way P2 O2 p o2
+  opened_fits P2 O2 o2 ready begun found uncounted sure owed on = record { ready = ready; begun = ap layer.is_begun begun; found = λ _. found; uncounted = λ _. uncounted; owed = λ _. owed; on = λ _. on }
+
+  again_fits : layers.are_lost (theirs P O) ≡ false → layers.are_counted (theirs P O) ≡ true → Fits from s way (layers.confirms_again (theirs P O)).other (layers.confirms_again (theirs P O)).own p port.blank
+  again_fits found counted = opened_fits (layers.confirms_again (theirs P O)).other (layers.confirms_again (theirs P O)).own port.blank refl refl (or_turned P.is_lost O.is_lost ∙ found) refl refl refl (on_blank from P O (layers.confirms_again (theirs P O)).other (layers.confirms_again (theirs P O)).own p o refl s way (h.on (counted_sure counted)))
+
+  unseen_counted : layers.are_lost (theirs P O) ≡ false → layers.are_counted (theirs P O) ≡ true → Fits from s way (layers.confirms_unseen (theirs P O)).other (layers.confirms_unseen (theirs P O)).own p port.blank
+  unseen_counted found counted = subst (λ (T : Layers). Fits from s way T.other T.own p port.blank) (sym (cond-true (layers.are_counted (theirs P O)) _ _ counted)) (lost_fits from s way _ _ p port.blank refl refl refl refl)
+
+  unseen_sure : layers.are_lost (theirs P O) ≡ false → layers.are_counted (theirs P O) ≡ false → layers.are_sure (theirs P O) ≡ true → Fits from s way (layers.confirms_unseen (theirs P O)).other (layers.confirms_unseen (theirs P O)).own p port.blank
+  unseen_sure found uncounted sure = subst (λ (T : Layers). Fits from s way T.other T.own p port.blank) (sym (cond-false (layers.are_counted (theirs P O)) _ _ uncounted))
+      (opened_fits (layers.opens (theirs P O)).other (layers.opens (theirs P O)).own port.blank refl refl (or_turned P.is_lost O.is_lost ∙ found) refl refl refl (on_blank from P O (layers.opens (theirs P O)).other (layers.opens (theirs P O)).own p o refl s way (h.on (sure_so sure))))
+
+unseen_dark : (from : Role) (s : Phase) (way : List PlainPacket) (P O : Layer) → layers.are_lost (theirs P O) ≡ false → layers.are_counted (theirs P O) ≡ false → Fits from s way (layers.confirms_unseen (theirs P O)).other (layers.confirms_unseen (theirs P O)).own port.blank port.blank
+unseen_dark from s way P O found uncounted = subst (λ (T : Layers). Fits from s way T.other T.own port.blank port.blank) (sym (cond-false (layers.are_counted (theirs P O)) _ _ uncounted))
+    (record { ready = refl; begun = refl; found = λ _. or_turned P.is_lost O.is_lost ∙ found; uncounted = λ _. refl; owed = λ _. refl; on = λ _. inr (record { dark = record { known = refl; unsure = inl refl; uncalled = refl }; still = inl refl }) })
+
+-- ---- the book
+
+abbrev At : Role → ℕ → Phase → List PlainPacket → Book → Type 0
+At from channel s way b = Left from channel (Fits from s way) b
+
+early_not : (t : Layers) → t.own.restart ≡ Ready → layers.runs_early t ≡ false
+early_not t ready = rw ready refl
+
+runs_calm : (from : Role) (channel : ℕ) (packet : PlainPacket) (b : Book) → IsOfChannel packet → layers.runs_early (layers_of from b) ≡ false → book.takes from channel packet b ≡ book.takes_on from (layers.goes_to Ready (layers_of from b)) channel packet b
+unfolding book.runs
+runs_calm from channel packet b is early = of_channel from channel packet b is
+    ∙ cond-false (layers.runs_early (layers_of from b)) _ (book.takes_on from (layers.runs (layers_of from b)) channel packet b) early
+    ∙ ap (λ (t : Layers). book.takes_on from t channel packet b) (runs_on (layers_of from b) early)
+
+runs_haste : (from : Role) (channel : ℕ) (packet : PlainPacket) (b : Book) → IsOfChannel packet → layers.runs_early (layers_of from b) ≡ true → book.takes from channel packet b ≡ book.takes_on from (layers.runs (layers_of from b)) channel packet (fills from port.blank b)
+unfolding book.runs
+runs_haste from channel packet b is early = of_channel from channel packet b is ∙ cond-true (layers.runs_early (layers_of from b)) (book.takes_on from (layers.runs (layers_of from b)) channel packet (fills from port.blank b)) _ early
+
+-- the end sends
+may_of : (s r : Phase) (packet : PlainPacket) → MayDo s packet r → IsOfChannel packet
+may_of s r (user_data channel q m ps pr user) may = tt
+may_of s r (rr channel pr) may = tt
+may_of s r (rnr channel pr) may = tt
+may_of s r (interrupt channel user) may = tt
+may_of s r (interrupt_conf channel) may = tt
+may_of s r (reset channel cause diagnostic) may = tt
+may_of s r (reset_conf channel) may = tt
+may_of s r (call channel called calling facilities user) may = tt
+may_of s r (accept channel facilities) may = tt
+may_of s r (clear channel cause diagnostic) may = tt
+may_of s r (clear_conf channel) may = tt
+may_of (Talks window most g c) r (restart cause diagnostic) (n, may, is) = absurd may
+may_of (Resets window most) r (restart cause diagnostic) may = absurd may
+may_of (WasReset window most) r (restart cause diagnostic) may = absurd may
+may_of WasCleared r (restart cause diagnostic) may = absurd may
+may_of WasRestarted r (restart cause diagnostic) may = absurd may
+may_of (Talks window most g c) r restart_conf (n, may, is) = absurd may
+may_of (Resets window most) r restart_conf may = absurd may
+may_of (WasReset window most) r restart_conf may = absurd may
+may_of WasCleared r restart_conf may = absurd may
+may_of WasRestarted r restart_conf may = absurd may
+
+untold : (from : Role) (channel : ℕ) (b : Book) (packet : PlainPacket) → IsOfChannel packet → layers.runs_early (layers_of from b) ≡ false
+    → (layers.are_sure (layers_of from b) ≡ true → (sends packet (view from channel b)).rule ≡ None) → (book.takes from channel packet b).verdict.rule ≡ None
+unfolding book.takes_on
+untold from channel b packet is early quiet = ap (λ (z : book.Seen). z.verdict.rule) (runs_calm from channel packet b is early ∙ cond-false (is_some (layers_of from b).rule) _ _ (ap (λ (r : Option PacketRule). is_some r) (none_yet from b)))
+    ∙ cond_both (not (layers.are_sure (layers_of from b))) _ _ (λ (z : book.Seen). z.verdict.rule ≡ None)
+    (λ _. refl)
+    (λ e. put from channel (sends packet (view from channel b)) _ ∙ quiet (back (layers.are_sure (layers_of from b)) e))
+  where
+    back : (x : Bool) → not x ≡ false → x ≡ true
+    back true e = refl
+    back false e = absurd (both_ways true e refl)
+
+bool_self : (b : Bool) → b ≡ (if b then true else false)
+bool_self true = refl
+bool_self false = refl
+
+may_end : (s : Phase) (packet : PlainPacket) → MayEnd s packet → IsOfChannel packet
+may_end s (clear channel cause diagnostic) may = tt
+may_end s (clear_conf channel) may = tt
+may_end s (user_data channel q m ps pr user) may = tt
+may_end s (rr channel pr) may = tt
+may_end s (rnr channel pr) may = tt
+may_end s (interrupt channel user) may = tt
+may_end s (interrupt_conf channel) may = tt
+may_end s (reset channel cause diagnostic) may = tt
+may_end s (reset_conf channel) may = tt
+may_end s (call channel called calling facilities user) may = tt
+may_end s (accept channel facilities) may = tt
+may_end s (restart cause diagnostic) may = absurd may
+may_end s restart_conf may = absurd may
+
+on_ends : (from : Role) (s : Phase) (way : List PlainPacket) (P O : Layer) (p o : Port) (packet : PlainPacket) → MayEnd s packet → On from s way P O p o → (sends packet (pair_at from P O p o)).rule ≡ None
+on_ends from s way P O p o packet may (inl h) = sound_ends (pair_at from P O p o) s way packet refl h may
+on_ends from s way P O p o (clear channel cause diagnostic) may (inr k) = clear_quiet (pair_at from P O p o) channel cause diagnostic refl
+on_ends from WasCleared way P O p o (clear_conf channel) may (inr k) = clear_conf_unknown (pair_at from P O p o) channel refl k.dark.known
+on_ends from s way P O p o packet may (inr k) = absurd may
+
+module _ (channel : ℕ) (b : Book) (s : Phase) (way : List PlainPacket) where
+  -- seen from the other end
+  abbrev Theirs : Role → List PlainPacket → Parts
+  Theirs from way2 O P o p = Fits from s way2 P O p o
+
+  as_dte : (way2 : List PlainPacket) (b2 : Book) → Left Dce channel (Theirs Dte way2) b2 → At Dte channel s way2 b2
+  as_dte way2 b2 x = record { book = x.book; parts = x.parts }
+
+  as_dce : (way2 : List PlainPacket) (b2 : Book) → Left Dte channel (Theirs Dce way2) b2 → At Dce channel s way2 b2
+  as_dce way2 b2 x = record { book = x.book; parts = x.parts }
+
+  does_at : (from : Role) (r : Phase) (packet : PlainPacket) → MayDo s packet r → At from channel s way b → At from channel r way (book.takes from channel packet b).book
+  does_at Dte r packet may x =
+      subst (λ (z : book.Seen). At Dte channel r way z.book) (sym (runs_calm Dte channel packet b (may_of s r packet may) (early_not (layers_of Dte b) x.parts.ready)))
+      (takes_on_parts Dte channel (layers.goes_to Ready (layers_of Dte b)) packet b (Fits Dte r way) x.book refl
+      (λ e. does_lost Dte s way b.dte b.dce (port_at Dte channel b) (port_at Dce channel b) x.parts r (port.noted (port_at Dte channel b)) (port.noted (port_at Dce channel b)) e)
+      (λ _. does_fits Dte s way b.dte b.dce (port_at Dte channel b) (port_at Dce channel b) x.parts r packet may)
+      (λ _. does_noted Dte s way b.dte b.dce (port_at Dte channel b) (port_at Dce channel b) x.parts r packet may))
+  does_at Dce r packet may x =
+      subst (λ (z : book.Seen). At Dce channel r way z.book) (sym (runs_calm Dce channel packet b (may_of s r packet may) (early_not (layers_of Dce b) x.parts.ready)))
+      (takes_on_parts Dce channel (layers.goes_to Ready (layers_of Dce b)) packet b (Fits Dce r way) x.book refl
+      (λ e. does_lost Dce s way b.dce b.dte (port_at Dce channel b) (port_at Dte channel b) x.parts r (port.noted (port_at Dce channel b)) (port.noted (port_at Dte channel b)) e)
+      (λ _. does_fits Dce s way b.dce b.dte (port_at Dce channel b) (port_at Dte channel b) x.parts r packet may)
+      (λ _. does_noted Dce s way b.dce b.dte (port_at Dce channel b) (port_at Dte channel b) x.parts r packet may))
+
+  does_apart : (from : Role) (two : ℕ) (packet : PlainPacket) → IsOfChannel packet → AreApart channel two → At from channel s way b → At from channel s way (book.takes from two packet b).book
+  does_apart Dte two packet is far x =
+      subst (λ (z : book.Seen). At Dte channel s way z.book) (sym (runs_calm Dte two packet b is (early_not (layers_of Dte b) x.parts.ready)))
+      (takes_on_apart Dte channel two (layers.goes_to Ready (layers_of Dte b)) packet b (Fits Dte s way) far x.book (fits_on Dte s way b.dte b.dce (port_at Dte channel b) (port_at Dce channel b) x.parts s way (port_at Dte channel b) (port_at Dce channel b) x.parts.on))
+  does_apart Dce two packet is far x =
+      subst (λ (z : book.Seen). At Dce channel s way z.book) (sym (runs_calm Dce two packet b is (early_not (layers_of Dce b) x.parts.ready)))
+      (takes_on_apart Dce channel two (layers.goes_to Ready (layers_of Dce b)) packet b (Fits Dce s way) far x.book (fits_on Dce s way b.dce b.dte (port_at Dce channel b) (port_at Dte channel b) x.parts s way (port_at Dce channel b) (port_at Dte channel b) x.parts.on))
+
+  shown_at : (from : Role) (packet : PlainPacket) → IsOfChannel packet → At from channel s way b → At from channel s (way ++ packet ∷ []) (book.takes (other from) channel packet b).book
+  shown_at Dte packet is x = cond_both (layers.runs_early (layers_of Dce b)) true false (λ (early : Bool). layers.runs_early (layers_of Dce b) ≡ early → At Dte channel s (way ++ packet ∷ []) (book.takes Dce channel packet b).book)
+      (λ _ early. as_dte (way ++ packet ∷ []) _ (subst (λ (z : book.Seen). Left Dce channel (Theirs Dte (way ++ packet ∷ [])) z.book) (sym (runs_haste Dce channel packet b is early))
+      (takes_on_any Dce channel channel (layers.runs (layers_of Dce b)) packet (fills Dce port.blank b) (Theirs Dte (way ++ packet ∷ [])) (fills_book Dce port.blank b x.book) (λ o2 p2. early_fits Dte s way b.dte b.dce (port_at Dte channel b) (port_at Dce channel b) x.parts early (way ++ packet ∷ []) p2 o2))))
+      (λ _ early. as_dte (way ++ packet ∷ []) _ (subst (λ (z : book.Seen). Left Dce channel (Theirs Dte (way ++ packet ∷ [])) z.book) (sym (runs_calm Dce channel packet b is early))
+      (takes_on_parts Dce channel (layers.goes_to Ready (layers_of Dce b)) packet b (Theirs Dte (way ++ packet ∷ [])) x.book refl
+      (λ e. shown_lost Dte s way b.dte b.dce (port_at Dte channel b) (port_at Dce channel b) x.parts (way ++ packet ∷ []) (port.noted (port_at Dte channel b)) (port.noted (port_at Dce channel b)) (unsure_so Dte s way b.dte b.dce (port_at Dte channel b) (port_at Dce channel b) x.parts e))
+      (λ _. shown_fits Dte s way b.dte b.dce (port_at Dte channel b) (port_at Dce channel b) x.parts packet is)
+      (λ _. shown_noted Dte s way b.dte b.dce (port_at Dte channel b) (port_at Dce channel b) x.parts packet is))))
+      (bool_self (layers.runs_early (layers_of Dce b)))
+  shown_at Dce packet is x = cond_both (layers.runs_early (layers_of Dte b)) true false (λ (early : Bool). layers.runs_early (layers_of Dte b) ≡ early → At Dce channel s (way ++ packet ∷ []) (book.takes Dte channel packet b).book)
+      (λ _ early. as_dce (way ++ packet ∷ []) _ (subst (λ (z : book.Seen). Left Dte channel (Theirs Dce (way ++ packet ∷ [])) z.book) (sym (runs_haste Dte channel packet b is early))
+      (takes_on_any Dte channel channel (layers.runs (layers_of Dte b)) packet (fills Dte port.blank b) (Theirs Dce (way ++ packet ∷ [])) (fills_book Dte port.blank b x.book) (λ o2 p2. early_fits Dce s way b.dce b.dte (port_at Dce channel b) (port_at Dte channel b) x.parts early (way ++ packet ∷ []) p2 o2))))
+      (λ _ early. as_dce (way ++ packet ∷ []) _ (subst (λ (z : book.Seen). Left Dte channel (Theirs Dce (way ++ packet ∷ [])) z.book) (sym (runs_calm Dte channel packet b is early))
+      (takes_on_parts Dte channel (layers.goes_to Ready (layers_of Dte b)) packet b (Theirs Dce (way ++ packet ∷ [])) x.book refl
+      (λ e. shown_lost Dce s way b.dce b.dte (port_at Dce channel b) (port_at Dte channel b) x.parts (way ++ packet ∷ []) (port.noted (port_at Dce channel b)) (port.noted (port_at Dte channel b)) (unsure_so Dce s way b.dce b.dte (port_at Dce channel b) (port_at Dte channel b) x.parts e))
+      (λ _. shown_fits Dce s way b.dce b.dte (port_at Dce channel b) (port_at Dte channel b) x.parts packet is)
+      (λ _. shown_noted Dce s way b.dce b.dte (port_at Dce channel b) (port_at Dte channel b) x.parts packet is))))
+      (bool_self (layers.runs_early (layers_of Dte b)))
+
+  shown_apart : (from : Role) (two : ℕ) (packet : PlainPacket) → IsOfChannel packet → AreApart channel two → At from channel s way b → At from channel s way (book.takes (other from) two packet b).book
+  shown_apart Dte two packet is far x = cond_both (layers.runs_early (layers_of Dce b)) true false (λ (early : Bool). layers.runs_early (layers_of Dce b) ≡ early → At Dte channel s way (book.takes Dce two packet b).book)
+      (λ _ early. as_dte way _ (subst (λ (z : book.Seen). Left Dce channel (Theirs Dte way) z.book) (sym (runs_haste Dce two packet b is early))
+      (takes_on_any Dce channel two (layers.runs (layers_of Dce b)) packet (fills Dce port.blank b) (Theirs Dte way) (fills_book Dce port.blank b x.book) (λ o2 p2. early_fits Dte s way b.dte b.dce (port_at Dte channel b) (port_at Dce channel b) x.parts early way p2 o2))))
+      (λ _ early. as_dte way _ (subst (λ (z : book.Seen). Left Dce channel (Theirs Dte way) z.book) (sym (runs_calm Dce two packet b is early))
+      (takes_on_apart Dce channel two (layers.goes_to Ready (layers_of Dce b)) packet b (Theirs Dte way) far x.book (fits_theirs Dte s way b.dte b.dce (port_at Dte channel b) (port_at Dce channel b) x.parts way (port_at Dte channel b) (port_at Dce channel b) x.parts.on))))
+      (bool_self (layers.runs_early (layers_of Dce b)))
+  shown_apart Dce two packet is far x = cond_both (layers.runs_early (layers_of Dte b)) true false (λ (early : Bool). layers.runs_early (layers_of Dte b) ≡ early → At Dce channel s way (book.takes Dte two packet b).book)
+      (λ _ early. as_dce way _ (subst (λ (z : book.Seen). Left Dte channel (Theirs Dce way) z.book) (sym (runs_haste Dte two packet b is early))
+      (takes_on_any Dte channel two (layers.runs (layers_of Dte b)) packet (fills Dte port.blank b) (Theirs Dce way) (fills_book Dte port.blank b x.book) (λ o2 p2. early_fits Dce s way b.dce b.dte (port_at Dce channel b) (port_at Dte channel b) x.parts early way p2 o2))))
+      (λ _ early. as_dce way _ (subst (λ (z : book.Seen). Left Dte channel (Theirs Dce way) z.book) (sym (runs_calm Dte two packet b is early))
+      (takes_on_apart Dte channel two (layers.goes_to Ready (layers_of Dte b)) packet b (Theirs Dce way) far x.book (fits_theirs Dce s way b.dce b.dte (port_at Dce channel b) (port_at Dte channel b) x.parts way (port_at Dce channel b) (port_at Dte channel b) x.parts.on))))
+      (bool_self (layers.runs_early (layers_of Dte b)))
+
+  restarts_at : (from : Role) (cause diagnostic : ℕ) → At from channel s way b → At from channel s (way ++ restart cause diagnostic ∷ []) (book.takes (other from) 0 (restart cause diagnostic) b).book
+  unfolding book.takes book.restarts
+  restarts_at Dte cause diagnostic x = as_dte (way ++ restart cause diagnostic ∷ []) _ (kept_fills Dce channel (layers.restarts (layers_of Dce b)) port.fresh b (Theirs Dte (way ++ restart cause diagnostic ∷ [])) x.book (restarts_fits Dte s way b.dte b.dce (port_at Dte channel b) (port_at Dce channel b) x.parts cause diagnostic))
+  restarts_at Dce cause diagnostic x = as_dce (way ++ restart cause diagnostic ∷ []) _ (kept_fills Dte channel (layers.restarts (layers_of Dte b)) port.fresh b (Theirs Dce (way ++ restart cause diagnostic ∷ [])) x.book (restarts_fits Dce s way b.dce b.dte (port_at Dce channel b) (port_at Dte channel b) x.parts cause diagnostic))
+
+  confirms_at : (from : Role) → At from channel s way b → At from channel s way (book.takes (other from) 0 restart_conf b).book
+  unfolding book.takes
+  confirms_at Dte x = as_dte way _ (confirms_parts Dce channel (layers_of Dce b) b (Theirs Dte way) x.book (sure_answer_not Dte s way b.dte b.dce (port_at Dte channel b) (port_at Dce channel b) x.parts) (λ _. answer_not Dte s way b.dte b.dce (port_at Dte channel b) (port_at Dce channel b) x.parts)
+      (λ lost. confirms_lost_fits Dte s way b.dte b.dce (port_at Dte channel b) (port_at Dce channel b) x.parts lost)
+      (λ found counted. again_fits Dte s way b.dte b.dce (port_at Dte channel b) (port_at Dce channel b) x.parts found counted)
+      (λ found counted. unseen_counted Dte s way b.dte b.dce (port_at Dte channel b) (port_at Dce channel b) x.parts found counted)
+      (λ found uncounted sure. unseen_sure Dte s way b.dte b.dce (port_at Dte channel b) (port_at Dce channel b) x.parts found uncounted sure)
+      (λ found uncounted. unseen_dark Dte s way b.dte b.dce found uncounted))
+  confirms_at Dce x = as_dce way _ (confirms_parts Dte channel (layers_of Dte b) b (Theirs Dce way) x.book (sure_answer_not Dce s way b.dce b.dte (port_at Dce channel b) (port_at Dte channel b) x.parts) (λ _. answer_not Dce s way b.dce b.dte (port_at Dce channel b) (port_at Dte channel b) x.parts)
+      (λ lost. confirms_lost_fits Dce s way b.dce b.dte (port_at Dce channel b) (port_at Dte channel b) x.parts lost)
+      (λ found counted. again_fits Dce s way b.dce b.dte (port_at Dce channel b) (port_at Dte channel b) x.parts found counted)
+      (λ found counted. unseen_counted Dce s way b.dce b.dte (port_at Dce channel b) (port_at Dte channel b) x.parts found counted)
+      (λ found uncounted sure. unseen_sure Dce s way b.dce b.dte (port_at Dce channel b) (port_at Dte channel b) x.parts found uncounted sure)
+      (λ found uncounted. unseen_dark Dce s way b.dce b.dte found uncounted))
+
+  quiet_at : (from : Role) (r : Phase) (packet : PlainPacket) → MayDo s packet r → At from channel s way b → (book.takes from channel packet b).verdict.rule ≡ None
+  quiet_at Dte r packet may x = untold Dte channel b packet (may_of s r packet may) (early_not (layers_of Dte b) x.parts.ready) (λ e. (on_does Dte s r way b.dte b.dce (port_at Dte channel b) (port_at Dce channel b) packet may (x.parts.on e)).quiet)
+  quiet_at Dce r packet may x = untold Dce channel b packet (may_of s r packet may) (early_not (layers_of Dce b) x.parts.ready) (λ e. (on_does Dce s r way b.dce b.dte (port_at Dce channel b) (port_at Dte channel b) packet may (x.parts.on e)).quiet)
+
+  end_at : (from : Role) (packet : PlainPacket) → MayEnd s packet → At from channel s way b → (book.takes from channel packet b).verdict.rule ≡ None
+  end_at Dte packet may x = untold Dte channel b packet (may_end s packet may) (early_not (layers_of Dte b) x.parts.ready) (λ e. on_ends Dte s way b.dte b.dce (port_at Dte channel b) (port_at Dce channel b) packet may (x.parts.on e))
+  end_at Dce packet may x = untold Dce channel b packet (may_end s packet may) (early_not (layers_of Dce b) x.parts.ready) (λ e. on_ends Dce s way b.dce b.dte (port_at Dce channel b) (port_at Dte channel b) packet may (x.parts.on e))
+
+-- ---- any run
+
+begins_at : (from : Role) (channel window most : ℕ) (b : Book) → IsBook b → AreRunning (layers_of from b) → AreBegun window most (view from channel b) → At from channel (fresh_phase window most) [] b
+begins_at Dte channel window most b full run begun = record {
+  book = full;
+  parts = record { ready = run.ready; begun = run.begun; found = λ _. run.found; uncounted = λ e. not_both (are_sure b.dte b.dce) e run.sure; owed = λ _. eqb-true b.dce.owed 0 (and_parts (b.dte.owed == 0) (b.dce.owed == 0) begun.reaches).1; on = λ _. inl (sound_begins window most (view Dte channel b) begun).stands };
+}
+begins_at Dce channel window most b full run begun = record {
+  book = full;
+  parts = record { ready = run.ready; begun = run.begun; found = λ _. run.found; uncounted = λ e. not_both (are_sure b.dce b.dte) e run.sure; owed = λ _. eqb-true b.dte.owed 0 (and_parts (b.dce.owed == 0) (b.dte.owed == 0) begun.reaches).1; on = λ _. inl (sound_begins window most (view Dce channel b) begun).stands };
+}
+
+comes_at : (from : Role) (channel : ℕ) (b : Book) (s : Phase) (packet : PlainPacket) (way : List PlainPacket) → MayTake s → At from channel s (packet ∷ way) b → At from channel (comes s packet) way b
+comes_at from channel b s packet way may x = record {
+  book = x.book;
+  parts = record { ready = x.parts.ready; begun = x.parts.begun; found = x.parts.found; uncounted = x.parts.uncounted; owed = x.parts.owed; on = λ e. go (x.parts.on e) };
+}
+  where
+    go : On from s (packet ∷ way) (layer_at from b) (layer_at (other from) b) (port_at from channel b) (port_at (other from) channel b) → On from (comes s packet) way (layer_at from b) (layer_at (other from) b) (port_at from channel b) (port_at (other from) channel b)
+    go (inl h) = inl (standing_comes (pair_at from (layer_at from b) (layer_at (other from) b) (port_at from channel b) (port_at (other from) channel b)) way s packet may h)
+    go (inr k) = inr k
+
+runs_at : (from : Role) (channel : ℕ) (b : Book) (s : Phase) (way : List PlainPacket) → MayStand from channel b s way → At from channel s way b
+runs_at from channel _ _ _ (Begins window most b full run begun) = begins_at from channel window most b full run begun
+runs_at from channel _ _ _ (Does b s r way packet may was) = does_at channel b s way from r packet may (runs_at from channel b s way was)
+runs_at from channel _ _ _ (DoesApart b s way two packet is far was) = does_apart channel b s way from two packet is far (runs_at from channel b s way was)
+runs_at from channel _ _ _ (Shown b s way packet is was) = shown_at channel b s way from packet is (runs_at from channel b s way was)
+runs_at from channel _ _ _ (ShownApart b s way two packet is far was) = shown_apart channel b s way from two packet is far (runs_at from channel b s way was)
+runs_at from channel _ _ _ (Restarts b s way cause diagnostic was) = restarts_at channel b s way from cause diagnostic (runs_at from channel b s way was)
+runs_at from channel _ _ _ (Confirms b s way was) = confirms_at channel b s way from (runs_at from channel b s way was)
+runs_at from channel _ _ _ (Comes b s packet way may was) = comes_at from channel b s packet way may (runs_at from channel b s (packet ∷ way) was)
+
+pub no_innocent_tape_is_told : NoInnocentTapeIsTold
+no_innocent_tape_is_told from channel b s r way packet stands may = quiet_at channel b s way from r packet may (runs_at from channel b s way stands)
+
+pub no_end_of_tape_is_told : NoEndOfTapeIsTold
+no_end_of_tape_is_told from channel b s way packet stands may = end_at channel b s way from packet may (runs_at from channel b s way stands)
+
+pub tapes_begin : TapesBegin
+tapes_begin from channel p b = Begins p.talk.window p.talk.most (all_in_call p) (record { dte = filled_full p; dce = filled_full p }) (running_so from) (begun_so from)
+  where
+    running_so : (from : Role) → AreRunning (layers_of from (all_in_call p))
+    running_so Dte = record { ready = refl; begun = refl; sure = refl; found = refl }
+    running_so Dce = record { ready = refl; begun = refl; sure = refl; found = refl }
+
+    pair_so : (from : Role) (q r : Port) → q ≡ p → r ≡ p → AreBegun p.talk.window p.talk.most (record { from = from; reaches = true; own = q; other = r; rule = None })
+    pair_so from q r e f = subst (λ x. AreBegun p.talk.window p.talk.most (record { from = from; reaches = true; own = x; other = r; rule = None })) (sym e)
+        (subst (λ x. AreBegun p.talk.window p.talk.most (record { from = from; reaches = true; own = p; other = x; rule = None })) (sym f) (record { reaches = refl; quiet = refl; own = b; other = b; its_window = refl; its_most = refl }))
+
+    begun_so : (from : Role) → AreBegun p.talk.window p.talk.most (view from channel (all_in_call p))
+    begun_so Dte = pair_so Dte (port_at Dte channel (all_in_call p)) (port_at Dce channel (all_in_call p)) (filled channel p) (filled channel p)
+    begun_so Dce = pair_so Dce (port_at Dce channel (all_in_call p)) (port_at Dte channel (all_in_call p)) (filled channel p) (filled channel p)
