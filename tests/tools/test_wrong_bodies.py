@@ -7,27 +7,22 @@ import subprocess
 import support
 from support import ToolCase
 
-# Says of a crate what its sources say, and of each edit that it tries alone what the last line there says; writes down what it tries.
+# Proves a crate at the first check. Says of it what its sources say from then on, and of each edit that it tries alone what the last line there
+# says; writes down what it tries.
 RT = b"""#!/bin/sh
 [ "$1" = version ] && exit
-if [ "$1 $2" = "all check" ]; then
-    touch crates/a/proved crates/b/proved
-    exit
-fi
 if [ "$1" = check ]; then
-    [ "$2" ] || exit 0
+    [ -e proved ] || { touch proved; exit 0; }
     echo "$(basename "$PWD")/check" >> "$(dirname "$0")/tried"
     grep -q "no source" src/*.rt || sed -n 's/^ *says //p' src/*.rt | tr '|' '\\n'
     exit 1
 fi
+[ -e crates/$2/proved ] || exit 2
 for edit in crates/$2/must-fail/*.edit; do
     echo "rt: must-fail $2/$(basename $edit): $(tail -n 1 $edit)"
     echo "$2/$(basename $edit)" >> "$(dirname "$0")/tried"
 done
 """
-
-# The same, and refuses to try an edit where the crate isn't proved.
-RT_OF_PROVED = RT.replace(b"for edit", b"[ -e crates/$2/proved ] || exit 2\nfor edit")
 
 # Sources that have what the prover says of each function in its body.
 FUNCTION = """
@@ -120,14 +115,10 @@ class WrongBodies(ToolCase):
         stops = b'#!/bin/sh\n[ "$1" = must-fail ] && exit 2\nexit 0\n'
         self.assertEqual(self.tried({"a/wrong-bodies/1.edit": b""}, rt=stops), (2, "0 refused, 0 not refused"))
 
-    def test_several_crates_are_proved_first(self):
-        edits = {"a/wrong-bodies/1.edit": b"refused, as it must be", "b/wrong-bodies/1.edit": b"refused, as it must be"}
-        self.assertEqual(self.tried(edits, rt=RT_OF_PROVED), (0, "2 refused, 0 not refused"))
-
     def test_a_crate_is_not_proved(self):
         edits = {"a/wrong-bodies/1.edit": b"refused, as it must be", "b/wrong-bodies/1.edit": b"refused, as it must be"}
-        self.assertEqual(self.tried(edits, rt=RT.replace(b"    exit\n", b"    exit 1\n", 1)), (2, "rt did not prove the crates."))
-        self.assertEqual(self.tried({}, ["a"], rt=RT.replace(b"exit 0", b"exit 1")), (2, "rt did not prove the crates."))
+        self.assertEqual(self.tried(edits, rt=RT.replace(b"exit 0", b'[ "${PWD##*/}" = a ]; exit')), (2, "1 refused, 0 not refused"))
+        self.assertEqual(self.anew(), ["a/1.edit"])
 
     def test_what_is_refused_is_kept_until_something_that_was_read_changes(self):
         self.given({f"{name}/wrong-bodies/{edit}.edit": b"refused, as it must be" for name in "abc" for edit in (1, 2)})
@@ -169,33 +160,40 @@ class WrongBodies(ToolCase):
 
     def test_edits_of_different_functions_are_tried_together(self):
         show = edit("kind::KindDisplay::show", NO_PROOF, file="kind")
-        edits = {"1": edit("one", NO_PROOF), "2": edit("two", "not proved", "`returns`: two types differ"), "3": show, "4": edit("one", f"{NO_PROOF}; {CALLS}")}
+        two = edit("two", "not proved", "`returns`: two types differ")
+        edits = {"lib.one.1": edit("one", NO_PROOF), "lib.two.2": two, "kind.show.3": show, "lib.one.4": edit("one", f"{NO_PROOF}; {CALLS}")}
         self.assertEqual(self.tried_of_a(edits), (0, "4 refused, 0 not refused"))
         self.assertEqual(self.anew(), ["a/check", "a/check"])
 
     def test_what_a_batch_leaves_open_is_tried_alone(self):
         refused, proved = "refused, as it must be: `returns`", "NOT REFUSED: the crate is still proved with this edit"
         show = edit("kind::KindDisplay::show", f"not proved; {CALLS}", alone=proved, file="kind")
-        edits = {"1": edit("one", "proved", alone=refused), "2": edit("two", NO_PROOF), "3": edit("three", f"no proof: {CALLS}", alone=refused), "4": show}
+        three = edit("three", f"no proof: {CALLS}", alone=refused)
+        edits = {"lib.one.1": edit("one", "proved", alone=refused), "lib.two.2": edit("two", NO_PROOF), "lib.three.3": three, "kind.show.4": show}
         self.assertEqual(self.tried_of_a(edits), (1, "3 refused, 1 not refused"))
-        self.assertEqual(self.anew(), ["a/1.edit", "a/3.edit", "a/4.edit", "a/check"])
+        self.assertEqual(self.anew(), ["a/check", "a/kind.show.4.edit", "a/lib.one.1.edit", "a/lib.three.3.edit"])
 
     def test_what_is_refused_by_names_alone_is_named(self):
         of_two = f"{GONE}|./proofs/two/Answers.antt:3:2: error: `returns`: two types differ"
         alone = "refused, as it must be (only because a proof file names what the edit took away, so this says little of the contract)"
-        edits = {"1": edit("one", "not proved", GONE), "2": edit("two", "not proved", of_two), "3": edit("three", NO_PROOF, GONE), "4": alone.encode()}
-        self.assertEqual(self.tried_of_a(edits), (0, "4 refused, 0 not refused"))
-        said = ["| a | 4 | 4 | - |", "2 refused by names alone, to be written anew: a/1.edit, a/4.edit", "4 refused, 0 not refused"]
+        edits = {"lib.one.1": edit("one", "not proved", GONE), "lib.two.2": edit("two", "not proved", of_two), "lib.three.3": edit("three", NO_PROOF, GONE)}
+        self.assertEqual(self.tried_of_a(edits | {"lib.ONE.4": alone.encode()}), (0, "4 refused, 0 not refused"))
+        said = ["| a | 4 | 4 | - |", "2 refused by names alone, to be written anew: a/lib.ONE.4.edit, a/lib.one.1.edit", "4 refused, 0 not refused"]
         self.assertEqual(self.ran().stdout.splitlines()[-3:], said)
 
     def test_a_batch_that_does_not_compile_is_tried_edit_by_edit(self):
-        edits = {"1": edit("one", "no source", alone="BAD EDIT: it did not reach the prover"), "2": edit("two", NO_PROOF, alone="refused, as it must be")}
-        self.assertEqual(self.tried_of_a(edits), (1, "1 refused, 1 not refused"))
-        self.assertEqual(self.anew(), ["a/1.edit", "a/2.edit", "a/check"])
+        bad = edit("one", "no source", alone="BAD EDIT: it did not reach the prover")
+        self.assertEqual(self.tried_of_a({"lib.one.1": bad, "lib.two.2": edit("two", NO_PROOF, alone="refused, as it must be")}), (1, "1 refused, 1 not refused"))
+        self.assertEqual(self.anew(), ["a/check", "a/lib.one.1.edit", "a/lib.two.2.edit"])
+
+    def test_what_does_not_fit_is_tried_alone(self):
+        misfit = edit("two", NO_PROOF) + b"\nold: no error\nnew: says an error\nBAD EDIT: no such text"
+        self.assertEqual(self.tried_of_a({"lib.two.1": misfit}), (1, "0 refused, 1 not refused"))
+        self.assertEqual(self.anew(), ["a/check", "a/lib.two.1.edit"])
 
     def test_what_is_no_body_is_tried_alone(self):
-        texts = ["src/lib.rt\nold: u8 = 1\nnew: u8 = 2", "src/lib.rt\nold: of_one { result\nnew: of_one { 1", "specs/Lib.antt\nold: one = 1\nnew: one = 2"]
-        edits = {str(number): f"file: {text}\nrefused, as it must be".encode() for number, text in enumerate(texts)}
-        both = edit("one", NO_PROOF) + b"old: says fn a::two: proved\nnew: says fn a::two: not proved\nrefused, as it must be"
-        self.assertEqual(self.tried_of_a(edits | {"both": both}), (0, "4 refused, 0 not refused"))
-        self.assertEqual(self.anew(), ["a/0.edit", "a/1.edit", "a/2.edit", "a/both.edit"])
+        edits = {"lib.ONE.1": "src/lib.rt\nold: u8 = 1\nnew: u8 = 2", "Lib.one.2": "specs/Lib.antt\nold: one = 1\nnew: one = 2"}
+        edits = {name: f"file: {text}\nrefused, as it must be".encode() for name, text in edits.items()}
+        both = edit("one", NO_PROOF) + b"\nfile: specs/Lib.antt\nold: one = 1\nnew: one = 2\nrefused, as it must be"
+        self.assertEqual(self.tried_of_a(edits | {"lib.one.3": both}), (0, "3 refused, 0 not refused"))
+        self.assertEqual(self.anew(), ["a/Lib.one.2.edit", "a/lib.ONE.1.edit", "a/lib.one.3.edit"])
