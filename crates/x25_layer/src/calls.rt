@@ -8,12 +8,13 @@
 //!
 //! An accepted call puts its packet, and then the data packets of all channels in rounds, while fewer than 8 packets
 //! wait. The link takes packets of 4,099 octets.
-ghost use Rattle.std.specs.Prelude.{◌≡◌, ◌≤◌, Some, IfOk};
+ghost use Rattle.std.specs.Prelude.{◌≡◌, ◌≢◌, ℕ, ◌<◌, ◌≤◌, List, length, Some, true, false, IfOk, IfErr};
+ghost use Rattle.x25_circuit.specs.Params.{Proposal as Proposed};
 ghost use Rattle.x25_circuit.specs.Request.{plain_request};
-ghost use Rattle.x25_layer.specs.Layer.{LayerSettings};
+ghost use Rattle.x25_layer.specs.Layer.{LayerSettings, is_channel};
 ghost use Rattle.x25_layer.specs.Layer.{Layer as State};
 ghost use Rattle.x25_layer.specs.code.FitsLayer.{FitsLayer};
-ghost use Rattle.x25_layer.specs.Rounds.{calls, refusal_of};
+ghost use Rattle.x25_layer.specs.Rounds.{Refuses, calls, refusal_of};
 ghost use Rattle.x25_layer.specs.code.OverLink.{Answers, view_of};
 ghost use Rattle.x25_layer.specs.Calls.{Asks, Dials, free_channel};
 
@@ -64,6 +65,32 @@ impl Layer {
         self.circuit_refusal(channel, request)
     }
 
+    // The channel of a new call, or why there is none for any: as `unready`, then 41 NoFreeChannel, then 10 QueueFull.
+    fn call_channel<L: OrderedLink>(&self, link: &L) -> Result<u16, LayerError>
+        ensures refused { (c : LayerSettings) (l : State) (x : L.State) (called calling user : List ℕ)
+            (proposal : Proposed) → FitsLayer c self.now l → L.fits link.now x
+            → IfErr result (λ e. calls (view_of L.up_in L.waits_in L.after_put x) c l
+            (Dials called calling user proposal) ≡ Refuses e) }
+        ensures kinds { IfErr result (λ e. e ≢ LayerError.NoMemory) }
+        ensures value { (c : LayerSettings) (l : State) → FitsLayer c self.now l
+            → IfOk result (λ channel. free_channel c.circuit.role l.circuits c.channels ≡ Some channel) }
+        ensures channel { IfOk result (λ channel. is_channel (length self.now.circuits.items) channel ≡ true) }
+        ensures ready { IfOk result (λ _. self.now.restarting ≡ false) }
+        ensures up { IfOk result (λ _. L.up link.now ≡ true) }
+        ensures free { IfOk result (λ _. L.waits link.now < 256) }
+    {
+        if let Some(error) = self.unready(link) {
+            return Err(error);
+        }
+        let Some(channel) = self.free_channel() else {
+            return Err(LayerError::NoFreeChannel);
+        };
+        if link.waiting() == 256 {
+            return Err(LayerError::QueueFull);
+        }
+        Ok(channel)
+    }
+
     /// Calls the other end, with addresses of 0 to 15 digits and at most 16 octets of user data (128 where it may be
     /// long), on the highest free channel at a DTE and on the lowest at a DCE, which it answers. It proposes these
     /// packet sizes and windows: sizes of 4 to 12, and windows of 1 to 7. What isn't the default stands in the CALL,
@@ -85,15 +112,7 @@ impl Layer {
         ensures channel { (c : LayerSettings) (l : State) → FitsLayer c self.old l
             → IfOk result (λ channel. free_channel c.circuit.role l.circuits c.channels ≡ Some channel) }
     {
-        if let Some(error) = self.unready(link) {
-            return Err(error);
-        }
-        let Some(channel) = self.free_channel() else {
-            return Err(LayerError::NoFreeChannel);
-        };
-        if link.waiting() == 256 {
-            return Err(LayerError::QueueFull);
-        }
+        let channel = self.call_channel(link)?;
         let request = Request::Call {
             called,
             calling,
@@ -117,15 +136,10 @@ impl Layer {
             → result ≡ refusal_of (calls (view_of L.up_in L.waits_in L.after_put x) c l
             (Dials called.now calling.now user.now proposal.now)) }
     {
-        if let Some(error) = self.unready(link) {
-            return Some(error);
-        }
-        let Some(channel) = self.free_channel() else {
-            return Some(LayerError::NoFreeChannel);
+        let channel = match self.call_channel(link) {
+            Ok(channel) => channel,
+            Err(error) => return Some(error),
         };
-        if link.waiting() == 256 {
-            return Some(LayerError::QueueFull);
-        }
         let request = Request::Call {
             called,
             calling,
