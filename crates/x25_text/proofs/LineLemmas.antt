@@ -4,7 +4,7 @@ use Rattle.std.specs.Int.{trailing_zeros, w64}
 use Rattle.std.specs.Prelude.{◌&&◌, IfSome, nat_eq, nat_lt, nat_le}
 use Rattle.std.specs.List.{list_all, prefix_len}
 use Rattle.std.proofs.lemmas.Bool.{le-leb, lt-leb, ltb-false, ltb-true}
-use Rattle.std.proofs.lemmas.List.{length-map, length-take-le, take-map, take-take}
+use Rattle.std.proofs.lemmas.List.{length-drop, length-map, length-take-le, take-map, take-take}
 use Rattle.std.proofs.lemmas.Simd.{first_set_mask_l, mask_l-mod}
 use Rattle.std.specs.Simd.Lanes.{mask_l, put_chunk, top}
 use Rattle.std.proofs.Math.Seq.{take-add}
@@ -21,6 +21,43 @@ front_all p (suc n) (x ∷ xs) h = go (p x) h (λ le. front_all p n xs le)
     go : (b : Bool) → suc n ≤ cond b (1 + prefix_len p xs) 0 → (n ≤ prefix_len p xs → list_all p (take n xs) ≡ true) → (b && list_all p (take n xs)) ≡ true
     go true h rest = rest (omega (arith, h))
     go false h rest = absurd (omega (arith, h))
+
+-- of a front so many pass as of the whole, but no more than there are
+prefix_take : (p : ℕ → Bool) (n : ℕ) (xs : List ℕ) → (prefix_len p (take n xs) ≤ prefix_len p xs)
+    × (prefix_len p (take n xs) < n → n ≤ length xs → prefix_len p xs ≡ prefix_len p (take n xs))
+prefix_take p zero xs = (omega arith, λ less long. absurd (omega (arith, less)))
+prefix_take p (suc n) [] = (omega arith, λ less long. absurd (omega (arith, long)))
+prefix_take p (suc n) (x ∷ xs) = go (p x) (prefix_take p n xs)
+  where
+    go : (b : Bool) → (prefix_len p (take n xs) ≤ prefix_len p xs)
+        × (prefix_len p (take n xs) < n → n ≤ length xs → prefix_len p xs ≡ prefix_len p (take n xs))
+        → (cond b (1 + prefix_len p (take n xs)) 0 ≤ cond b (1 + prefix_len p xs) 0)
+        × (cond b (1 + prefix_len p (take n xs)) 0 < suc n → suc n ≤ suc (length xs)
+        → cond b (1 + prefix_len p xs) 0 ≡ cond b (1 + prefix_len p (take n xs)) 0)
+    go true h = (omega (arith, h.0), λ less long. omega (arith, h.1 (omega (arith, less)) (omega (arith, long))))
+    go false h = (omega arith, λ less long. refl)
+
+-- behind a front that passes as a whole
+prefix_drop : (p : ℕ → Bool) (n : ℕ) (xs : List ℕ) → n ≤ prefix_len p xs → prefix_len p xs ≡ n + prefix_len p (drop n xs)
+prefix_drop p zero xs h = omega arith
+prefix_drop p (suc n) [] h = absurd (omega (arith, h))
+prefix_drop p (suc n) (x ∷ xs) h = go (p x) h (prefix_drop p n xs)
+  where
+    go : (b : Bool) → suc n ≤ cond b (1 + prefix_len p xs) 0 → (n ≤ prefix_len p xs → prefix_len p xs ≡ n + prefix_len p (drop n xs))
+        → cond b (1 + prefix_len p xs) 0 ≡ suc n + prefix_len p (drop n xs)
+    go true h rest = omega (arith, rest (omega (arith, h)))
+    go false h rest = absurd (omega (arith, h))
+
+-- the digits go on in a block of so many characters, or end there
+pub digits_on : (p : ℕ → Bool) (n block : ℕ) (xs : List ℕ) → n ≤ prefix_len p xs → n + block ≤ length xs
+    → (prefix_len p (take block (drop n xs)) ≡ block → n + block ≤ prefix_len p xs)
+    × (prefix_len p (take block (drop n xs)) < block → prefix_len p xs ≡ n + prefix_len p (take block (drop n xs)))
+digits_on p n block xs front within =
+    let whole = prefix_drop p n xs front in
+    let part = prefix_take p block (drop n xs) in (
+      λ all. omega (arith, whole, part.0, all),
+      λ less. omega (arith, whole, part.1 less (omega (arith, within, length-drop n xs))),
+    )
 
 not_above : (x : ℕ) → not (nat_le 16 x) ≡ nat_lt x 16
 not_above x = go (nat_lt x 16) refl

@@ -3,7 +3,7 @@ use Rattle.std.proofs.Common.{ℕ, suc, ◌≡◌, ◌<◌, ◌≤◌, ◌+◌, 
 use Rattle.std.specs.Prelude.{◌==◌, ◌&&◌, nat_le, nat_lt}
 use Rattle.std.specs.Simd.Lanes.{sel_l, top, zip2}
 use Rattle.std.specs.Char.{is_ascii_hexdigit}
-use Rattle.std.specs.List.{list_all}
+use Rattle.std.specs.List.{list_all, prefix_len}
 use Rattle.std.proofs.lemmas.Bool.{agree_below, agree_below_at, and_parts, eqb-true, le-leb, leb-true, ltb-false, ltb-true}
 use Rattle.std.proofs.lemmas.List.{length-drop, take_all, take-append-drop, take-take}
 use Rattle.std.proofs.lemmas.List.Folds.{list_all-append}
@@ -20,6 +20,13 @@ digits_tested [] h = refl
 digits_tested (x ∷ v) h =
     let here : nat_lt (value_of x) 16 ≡ is_ascii_hexdigit x = agree_below_at (λ c. nat_lt (value_of c) 16) is_ascii_hexdigit 256 x all_tested (h 0) in
     λ i. here i && digits_tested v (λ j. h (suc j)) i
+
+-- and so many of them in front
+pub digits_leading : (v : List ℕ) → ((i : ℕ) → get_or v i 0 < 256) → prefix_len (λ x. nat_lt x 16) (map value_of v) ≡ prefix_len is_ascii_hexdigit v
+digits_leading [] h = refl
+digits_leading (x ∷ v) h =
+    let here : nat_lt (value_of x) 16 ≡ is_ascii_hexdigit x = agree_below_at (λ c. nat_lt (value_of c) 16) is_ascii_hexdigit 256 x all_tested (h 0) in
+    λ i. cond (here i) (1 + digits_leading v (λ j. h (suc j)) i) 0
 
 -- the same, by marks from 246 up
 pub marks_tested : (f : ℕ → ℕ) (v : List ℕ) → agree_below (λ c. nat_le 246 (f c)) is_ascii_hexdigit 256 ≡ true → ((i : ℕ) → get_or v i 0 < 256)

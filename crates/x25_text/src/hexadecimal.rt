@@ -251,7 +251,7 @@ fn leading(values: u8x16) -> usize
 fn read_leading(text: &[u8], octets: &mut [u8], place: usize) -> usize
     requires text { 2 * place + 16 ≤ length text.now }
     requires room { place + 8 ≤ length octets.old }
-    ensures few { result ≤ 16 }
+    ensures digits { result ≡ prefix_len is_ascii_hexdigit (take 16 (drop (2 * place) text.now)) }
     ensures octets { (count : ℕ) → 2 * count ≤ result
         → octets_of (take (2 * count) (drop (2 * place) text.now)) ≡ Some (take count (drop place octets.new)) }
     ensures before { take place octets.new ≡ take place octets.old }
@@ -267,6 +267,8 @@ fn octets_before(text: &[u8], before: usize, more: usize) -> Option<usize>
     requires { 2 * before + more < length text.now }
     ensures count { IfSome result (λ count. 2 * count ≡ 2 * before + more) }
     ensures end { IfSome result (λ _. slice_index text.now (2 * before + more) ≡ 10) }
+    ensures found { (count : ℕ) → 2 * count ≡ 2 * before + more → slice_index text.now (2 * count) ≡ 10
+        → result ≡ Some count }
 {
     if more % 2 == 1 || text[2 * before + more] != b'\n' {
         return None;
@@ -279,6 +281,7 @@ fn octets_before(text: &[u8], before: usize, more: usize) -> Option<usize>
 fn blocks(characters: usize, room: usize) -> usize
     ensures characters { 16 * result ≤ characters }
     ensures room { 8 * result ≤ room }
+    ensures most { (count : ℕ) → 16 * count ≤ characters → 8 * count ≤ room → count ≤ result }
 {
     let whole = characters / 16;
     let most = room / 8;
@@ -288,13 +291,16 @@ fn blocks(characters: usize, room: usize) -> usize
 /// Reads the octets that the digits write at the front of a text, up to its first line feed, and answers how many they
 /// are.
 ///
-/// Eight octets at a time, so that the line feed is found on the way. `None` says nothing of the text: it comes also
-/// where fewer than sixteen characters are left, or room for fewer than eight octets.
+/// Eight octets at a time, so that the line feed is found on the way. `None`: no line of digits ends there, or fewer
+/// than sixteen characters, from its line feed on, or room for fewer than eight octets more are left.
 pub fn read_line(text: &[u8], octets: &mut [u8]) -> Option<usize>
     ensures room { IfSome result (λ count. count ≤ length octets.new) }
     ensures end { IfSome result (λ count. (2 * count < length text.now) × (slice_index text.now (2 * count) ≡ 10)) }
     ensures octets { IfSome result (λ count. result_ok (decode_of (take (2 * count) text.now))
         ≡ Some (take count octets.new)) }
+    ensures found { (count : ℕ) → prefix_len is_ascii_hexdigit text.now ≡ 2 * count
+        → slice_index text.now (2 * count) ≡ 10 → 2 * count + 16 ≤ length text.now → count + 8 ≤ length octets.old
+        → result ≡ Some count }
 {
     for eight in 0..blocks(text.len(), octets.len()) {
         let more = read_leading(text, octets, 8 * eight);

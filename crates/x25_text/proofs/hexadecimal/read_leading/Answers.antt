@@ -3,19 +3,18 @@ use Rattle.std.proofs.lemmas.List.{length-map, take-take}
 use Rattle.std.proofs.lemmas.List.Sums.{prefix_len-le-length}
 use Rattle.std.proofs.lemmas.Simd.{chunk-fits, length-chunk}
 use Rattle.std.specs.Prelude.{nat_lt}
+use Rattle.std.specs.List.{prefix_len}
 use Rattle.x25_text.specs.Hexadecimal.{octets_of, value_of}
 use Rattle.x25_text.proofs.BlockLemmas.{before_block}
 use Rattle.x25_text.proofs.LaneLemmas.{fits_each}
 use Rattle.x25_text.proofs.LineLemmas.{front_all, front_read, stored_front}
+use Rattle.x25_text.proofs.TestedLemmas.{digits_leading}
 use Rattle.x25_text.proofs.hexadecimal.read_leading.Goals as goal
 
-pub returns-clause-few : goal.returns-clause-few
-returns-clause-few c =
-    let v = take 16 (drop (2 * c.args.place) c.args.text.now) in
-    let long : length v ≡ 16 = length-chunk (2 * c.args.place) 16 c.args.text.now c.requires.text in
-    let size : length c.values-values.result ≡ 16 = ap length c.values-values.ensures ∙ length-map v value_of ∙ long in
-    let most = prefix_len-le-length (λ x. nat_lt x 16) c.values-values.result in
-    omega (arith, c.leading.ensures, most, size)
+pub returns-clause-digits : goal.returns-clause-digits
+returns-clause-digits c =
+    let fits = fits_each (take 16 (drop (2 * c.args.place) c.args.text.now)) (chunk-fits w8 (2 * c.args.place) 16 c.args.text.now c.type_inv.text) in
+    c.leading.ensures ∙ ap (prefix_len (λ x. nat_lt x 16)) c.values-values.ensures ∙ digits_leading _ fits
 
 pub returns-clause-octets : goal.returns-clause-octets
 returns-clause-octets c = λ count le.
