@@ -17,7 +17,7 @@ mod rounds;
 mod sending;
 mod stretch;
 mod taking;
-mod told;
+mod report;
 
 pub use error::LayerError;
 pub use law::{
@@ -27,6 +27,6 @@ pub use law::{
 pub use layer::Layer;
 pub use stretch::Stretch;
 pub use taking::Delivery;
-pub use told::Told;
+pub use report::Report;
 pub use x25_bits::Role;
 pub use x25_circuit::{Params, Proposal};

@@ -53,7 +53,7 @@ fn come_up(layer: &mut Layer, link: &mut Link, entries: &mut Vec<Entry>)
     ensures entries { map plain_entry entries.new.items ≡ map plain_entry entries.old.items ++ entries_up true }
     ensures few { GrowsBy 1 entries.old entries.new }
     ensures most_memory { layer.new.memory ≤ max layer.old.memory 16 }
-    ensures most_spares { link.new.outbox.long ≤ max link.old.outbox.long 16 }
+    ensures most_promised { link.new.outbox.long ≤ max link.old.outbox.long 16 }
 {
     entries.push_reserved(Entry::LinkUp);
     layer.up(link).unwrap();
@@ -95,7 +95,7 @@ fn hear(
         ++ entries_of_answer (layer_answer (layer_settings c) wide l packet.now) }
     ensures few { GrowsBy 2 entries.old entries.new }
     ensures most_memory { layer.new.memory ≤ max layer.old.memory 16 }
-    ensures most_spares { link.new.outbox.long ≤ max link.old.outbox.long 16 }
+    ensures most_promised { link.new.outbox.long ≤ max link.old.outbox.long 16 }
     ensures used { UsesFew 3 texts.old texts.new }
     ensures bringing { (c : Settings) (l : LayerState) (t : Side) → FitsLayer (layer_settings c) layer.old l
         → FitsWhole link.old (kept_of (link_settings c) t) →
@@ -147,7 +147,7 @@ fn follow(
         ++ entries_heard (layer_settings c) wide l (option_copied packet.entry) notes.down notes.up) }
     ensures few { GrowsBy 3 entries.old entries.new }
     ensures most_memory { layer.new.memory ≤ max layer.old.memory 16 }
-    ensures most_spares { link.new.outbox.long ≤ max link.old.outbox.long 16 }
+    ensures most_promised { link.new.outbox.long ≤ max link.old.outbox.long 16 }
     ensures used { UsesFew 5 texts.old texts.new }
 {
     note_down(layer, notes.down, entries);
@@ -231,7 +231,7 @@ impl Station {
     // Sets memory aside for all that octets may bring, with so many of user data: room for frames and entries, and
     // their texts. However many they are, it is for 16 packets, 5 texts and 4,096 octets a circuit, or for what was
     // before.
-    fn set_aside(&mut self, len: usize, out: &mut Step) -> Result<(), StationError>
+    fn reserve(&mut self, len: usize, out: &mut Step) -> Result<(), StationError>
         requires { IsEmpty out.old }
         ensures fits { FitsStill self.old self.new }
         ensures left { IsNotFull self.old.layer → IsNotFull self.new.layer }
@@ -242,15 +242,15 @@ impl Station {
         ensures refused { RefusesForMemory result }
         ensures most_texts { self.new.texts ≤ max self.old.texts 5 }
         ensures most_memory { self.new.layer.memory ≤ max self.old.layer.memory 16 }
-        ensures most_spares { self.new.link.outbox.long ≤ max self.old.link.outbox.long 16 }
+        ensures most_promised { self.new.link.outbox.long ≤ max self.old.link.outbox.long 16 }
         ensures most_circuits { (bound : ℕ) → 4096 ≤ bound → HaveAtMost bound self.old.layer.circuits.items
             → HaveAtMost bound self.new.layer.circuits.items }
     {
-        out.make_room()?;
+        out.reserve()?;
         if self.texts.reserve(MOST_TEXTS).is_err() {
             return Err(StationError::NoMemory);
         }
-        match self.layer.room(&mut self.link, len) {
+        match self.layer.reserve(&mut self.link, len) {
             Ok(()) => Ok(()),
             Err(error) => Err(StationError::of_layer(error)),
         }
@@ -269,7 +269,7 @@ impl Station {
         notes_what_changes();
         holds_few();
         reads_frames();
-        self.set_aside(octets.len().saturating_sub(HEADERS), out)?;
+        self.reserve(octets.len().saturating_sub(HEADERS), out)?;
         match self.link.take(octets) {
             Ok(heard) => {
                 follow(

@@ -22,8 +22,8 @@ invariant_of-self c = record {
       let before = c.args.self.now.aside in
       let packets = c.in-Ok.ensures.most_memory in
       let low = before.packets in
-      let spares : c.swap_frames.new.self.outbox.long ≡ 0 = ap (λ o. o.long) c.swap_frames.ensures.outbox in
-      record { packets = omega (arith, packets, low); spares = omega (arith, spares); texts = before.texts };
+      let promised : c.swap_frames.new.self.outbox.long ≡ 0 = ap (λ o. o.long) c.swap_frames.ensures.outbox in
+      record { packets = omega (arith, packets, low); promised = omega (arith, promised); texts = before.texts };
 }
 
 pub invariant_of-self-in-Err-1 : goal.invariant_of-self-in-Err-1
@@ -33,10 +33,10 @@ invariant_of-self-in-Err-1 c = record {
   aside =
       let before = c.args.self.now.aside in
       let packets = c.in-Err.ensures.most_memory in
-      let spares = c.in-Err.ensures.most_spares in
+      let promised = c.in-Err.ensures.most_promised in
       let low = before.packets in
-      let few = before.spares in
-      record { packets = omega (arith, packets, low); spares = omega (arith, spares, few); texts = before.texts };
+      let few = before.promised in
+      record { packets = omega (arith, packets, low); promised = omega (arith, promised, few); texts = before.texts };
 }
 
 pub returns-in-Ok-clause-does : goal.returns-in-Ok-clause-does
