@@ -166,7 +166,7 @@ impl Circuit {
     /// than the 4,096 octets of the longest data packet.
     ///
     /// 70 alone.
-    pub fn room(&mut self, count: usize) -> Result<(), CircuitError>
+    pub fn reserve(&mut self, count: usize) -> Result<(), CircuitError>
         ensures fits { (c : Settings) (x : Channel) → FitsCircuit c self.old x → FitsCircuit c self.new x }
         ensures ok { OnOk result (min count 4096 ≤ room_of self.new) }
         ensures clears { clears_of self.new ≡ clears_of self.old }

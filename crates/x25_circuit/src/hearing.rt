@@ -155,7 +155,7 @@ impl Circuit {
     /// Takes a packet that came for this channel, and answers the packet to send and what is reported to the user, by
     /// the table of the circuit. The channel that the packet names isn't looked at.
     ///
-    /// 70 alone, and only for a data packet for which `room` set no memory aside. What it set aside stays where no
+    /// 70 alone, and only for a data packet for which `reserve` set no memory aside. What it set aside stays where no
     /// packet is to be sent.
     pub fn packet<'a>(&mut self, packet: &Packet<'a>) -> Result<Reply<'a>, CircuitError>
         requires kind { HasChannel (plain packet.now) }

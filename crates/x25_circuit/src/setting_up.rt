@@ -108,8 +108,8 @@ fn incoming<'a>(
         ≡ incoming (record { called = called.now; calling = calling.now; user = user.now; params = params }) }
 {
     Notice::Incoming {
-        called: called.again(),
-        calling: calling.again(),
+        called: called.copied(),
+        calling: calling.copied(),
         user,
         params,
     }

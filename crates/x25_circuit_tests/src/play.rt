@@ -279,7 +279,7 @@ impl Player {
 
     fn data(&mut self, s: u8, r: u8, m: bool, q: bool, count: usize) -> Result<String, Fail> {
         let octets = vec![in self.alloc; 0u8; count]?;
-        self.circuit.room(count)?;
+        self.circuit.reserve(count)?;
         self.take_packet(&Packet::Data {
             channel: 1,
             q,
@@ -299,7 +299,7 @@ impl Player {
 
     fn pass_data(&mut self, s: u8, r: u8, m: bool, q: bool, count: usize) -> Result<String, Fail> {
         let octets = vec![in self.alloc; 0u8; count]?;
-        self.circuit.room(count)?;
+        self.circuit.reserve(count)?;
         Ok(self.pass(&Flow::Data {
             q,
             m,

@@ -9,7 +9,7 @@ use x25_script::{Command, HexDigits};
 use x25_station::Cmd;
 
 /// Makes a list that has fewer octets so long. Err: no memory; the list is as it was then.
-fn make_room(octets: &mut Vec<u8>, count: usize) -> Result<(), AllocError>
+fn reserve(octets: &mut Vec<u8>, count: usize) -> Result<(), AllocError>
     ensures room { OnOk result (length octets.new.items ≡ max (length octets.old.items) count) }
     ensures unchanged { OnErr result (octets.new.items ≡ octets.old.items) }
 {
@@ -39,7 +39,7 @@ pub fn read_octets(digits: &HexDigits, octets: &mut Vec<u8>) -> Result<usize, Al
     ensures unchanged { OnErr result (octets.new.items ≡ octets.old.items) }
 {
     let count = digits.len();
-    make_room(octets, count)?;
+    reserve(octets, count)?;
     write_front(digits, octets.as_mut_slice());
     Ok(count)
 }

@@ -16,7 +16,7 @@ use Rattle.x25_layer.specs.Asking.{with_circuit}
 use Rattle.x25_layer.specs.Receiving.{plain_read, IsOfChannel, brings, circuit_hears, channel_hears, hears_on}
 use Rattle.x25_link.specs.declared.ordered_link.OrderedLink.{Ghosts}
 use Rattle.x25_layer.specs.declared.layer.Layer as code
-use Rattle.x25_layer.specs.declared.told.Told.{Told}
+use Rattle.x25_layer.specs.declared.report.Report.{Report}
 use Rattle.x25_layer.specs.code.FitsLayer.{FitsLayer}
 use Rattle.x25_layer.specs.code.OverLink.{after_all, Hears}
 use Rattle.x25_layer.proofs.FitLemmas.{read_at}
@@ -99,7 +99,7 @@ hears_read law wide most c l octets h (Ok packet) bytes exact has at =
 hears_read law wide most c l octets h (Err e) bytes exact has at = ap (λ (r : Result PlainPacket PacketError). answer_to c l octets r) exact ∙ hears_error c l octets h e at
 
 -- what was heard, by the same answer
-pub heard_same : {D : Type 0} (g : Ghosts D) (old : code.Layer) (below : D) (new : code.Layer) (below₂ : D) (told : Told) (f h : LayerSettings → Layer → LayerAnswer) → ((c : LayerSettings) (l : Layer) → f c l ≡ h c l)
+pub heard_same : {D : Type 0} (g : Ghosts D) (old : code.Layer) (below : D) (new : code.Layer) (below₂ : D) (told : Report) (f h : LayerSettings → Layer → LayerAnswer) → ((c : LayerSettings) (l : Layer) → f c l ≡ h c l)
     → Hears g old below new below₂ told f → Hears g old below new below₂ told h
 heard_same g old below new below₂ told f h same by = record {
   layer = λ c l fits. subst (λ (a : LayerAnswer). FitsLayer c new a.next) (same c l) (by.layer c l fits);

@@ -94,7 +94,7 @@ pub stands_more : {X : Type 0} (fits fits₂ : X → Type 0) (lists : X → List
     → m ≤ m₂ + length (option_to_list (pulled_where (nat_lt (waits_in (after_all after x t.put)) 8) c.circuit (t.layer.circuits (suc i))).packet)
     → n ≤ n₂ + length (option_to_list (pulled_where (nat_lt (waits_in (after_all after x t.put)) 8) c.circuit (t.layer.circuits (suc i))).packet)
     → Stands fits₂ lists after c (set vs i v) m₂ n₂ x (pull_one (view_of up_in waits_in after x) c (suc i) t)
-stands_more {X} fits fits₂ lists after up_in waits_in c i vs v m n m₂ n₂ x t adds s fit link memory spares = room (nat_lt (waits_in (after_all after x t.put)) 8) fit link memory spares
+stands_more {X} fits fits₂ lists after up_in waits_in c i vs v m n m₂ n₂ x t adds s fit link memory promised = room (nat_lt (waits_in (after_all after x t.put)) 8) fit link memory promised
   where
     y : X
     y = after_all after x t.put
@@ -103,18 +103,18 @@ stands_more {X} fits fits₂ lists after up_in waits_in c i vs v m n m₂ n₂ x
     now = t.layer.circuits (suc i)
 
     same : FitsCircuit c.circuit v now → fits₂ y → m ≤ m₂ + 0 → n ≤ n₂ + 0 → Stands fits₂ lists after c (set vs i v) m₂ n₂ x t
-    same fit link memory spares = record {
+    same fit link memory promised = record {
       channels = length-set vs i v ∙ s.channels;
       circuits = fits_same c vs t.layer.circuits i v s.circuits fit;
       link = link;
       memory = enough_still (lists y) m m₂ s.memory memory;
-      spares = enough_still (lists y) n n₂ s.spares spares;
+      promised = enough_still (lists y) n n₂ s.promised promised;
     }
 
     given : (o : Option PlainPacket) → (pulled c.circuit now).packet ≡ o → FitsCircuit c.circuit v (pulled c.circuit now).next → fits₂ (after_all after y (option_to_list (packet_on (suc i) o)))
         → m ≤ m₂ + length (option_to_list o) → n ≤ n₂ + length (option_to_list o) → Stands fits₂ lists after c (set vs i v) m₂ n₂ x (with_pulled t (layer_pulled c t.layer (suc i)) (packet_on (suc i) o))
-    given None found fit link memory spares = same (subst (λ (z : Circuit). FitsCircuit c.circuit v z) (none_kept c.circuit now found) fit) link memory spares
-    given (Some packet) found fit link memory spares =
+    given None found fit link memory promised = same (subst (λ (z : Circuit). FitsCircuit c.circuit v z) (none_kept c.circuit now found) fit) link memory promised
+    given (Some packet) found fit link memory promised =
         let more : lists (after_all after x (t.put ++ moved_to (suc i) packet ∷ [])) ≡ handed_down (lists y) (spelling_of (moved_to (suc i) packet)) =
         ap lists (after_more after x t.put (moved_to (suc i) packet)) ∙ adds y (spelling_of (moved_to (suc i) packet)) in
         record {
@@ -122,7 +122,7 @@ stands_more {X} fits fits₂ lists after up_in waits_in c i vs v m n m₂ n₂ x
           circuits = fits_put c vs t.layer.circuits i v (pulled c.circuit now).next s.circuits fit;
           link = subst fits₂ (sym (after_more after x t.put (moved_to (suc i) packet))) link;
           memory = enough_more (lists y) _ (spelling_of (moved_to (suc i) packet)) m m₂ more s.memory memory;
-          spares = enough_more (lists y) _ (spelling_of (moved_to (suc i) packet)) n n₂ more s.spares spares;
+          promised = enough_more (lists y) _ (spelling_of (moved_to (suc i) packet)) n n₂ more s.promised promised;
         }
 
     room : (b : Bool) → FitsCircuit c.circuit v (pulled_where b c.circuit now).next → fits₂ (after_all after y (option_to_list (packet_on (suc i) (pulled_where b c.circuit now).packet)))

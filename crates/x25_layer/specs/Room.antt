@@ -27,7 +27,7 @@ HaveAtMost bound vs = (k : ℕ) (v : circuit_code.Circuit) → slice_get vs k �
 -- the user data.
 pub record HasRoom (len : ℕ) (v : code.Layer) (n : ℕ) : Type 0 where
   pub memory : 16 ≤ v.memory
-  pub spares : 16 ≤ n
+  pub promised : 16 ≤ n
   pub circuits : HaveRoom len v.circuits.items
 
 -- A promise of this kind stands across a call that takes nothing of what is set aside in the link: it puts nothing.

@@ -148,7 +148,7 @@ impl Layer {
             (λ view c l. went view c (outcome_on l.restarts l.circuits channel
             (outcome c.circuit (l.circuits channel) (plain_request request.entry)))) }
     {
-        if self.set_aside(link, MOST_PUT).is_err() {
+        if self.reserve_packets(link, MOST_PUT).is_err() {
             return Err(self.without_memory(channel, &request));
         }
         let packet = self.ask_circuit(channel, request)?;

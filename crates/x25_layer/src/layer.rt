@@ -139,7 +139,7 @@ impl Layer {
     }
 
     /// How many octets of memory are kept for the message of which some packets came on a channel: for these octets,
-    /// and for those for which `room` set memory aside. They are 69,631 at most, those of the longest message and of
+    /// and for those for which `reserve` set memory aside. They are 69,631 at most, those of the longest message and of
     /// one packet more; 0 where the channel isn't configured.
     pub fn octets_kept(&self, channel: u16) -> usize
         ensures value { KeepsOn self.now channel result }
@@ -165,7 +165,7 @@ impl Layer {
     /// until `up` sets them to 0. Memory that was set aside is kept.
     pub fn down(&mut self)
         ensures layer { (c : LayerSettings) (l : State) → FitsLayer c self.old l → FitsLayer c self.new (rested l) }
-        ensures room { (len spares : ℕ) → HasRoom len self.old spares → HasRoom len self.new spares }
+        ensures room { (len promised : ℕ) → HasRoom len self.old promised → HasRoom len self.new promised }
         ensures memory { self.new.memory ≡ self.old.memory }
     {
         self.restarting = false;

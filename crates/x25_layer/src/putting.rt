@@ -25,7 +25,7 @@ impl Layer {
     ///
     /// 70 alone, and only where memory is set aside for fewer.
     #[inline(always)]
-    pub(crate) fn set_aside<L: OrderedLink>(
+    pub(crate) fn reserve_packets<L: OrderedLink>(
         &mut self,
         link: &mut L,
         count: usize,
@@ -33,22 +33,22 @@ impl Layer {
         ensures layer { self.new ≡ record self.old { memory = self.new.memory } }
         ensures fits { (c : LayerSettings) (l : State) → FitsLayer c self.old l → FitsLayer c self.new l }
         ensures memory { OnOk result (count ≤ self.new.memory) }
-        ensures spares { OnOk result (count ≤ L.spares link.new) }
+        ensures promised { OnOk result (count ≤ L.promised link.new) }
         ensures no_fewer { self.old.memory ≤ self.new.memory }
-        ensures no_fewer_spares { L.spares link.old ≤ L.spares link.new }
+        ensures no_fewer_promised { L.promised link.old ≤ L.promised link.new }
         ensures most_memory { self.new.memory ≤ max self.old.memory count }
-        ensures most_spares { L.spares link.new ≤ max (L.spares link.old) count }
+        ensures most_promised { L.promised link.new ≤ max (L.promised link.old) count }
         ensures link { (x : L.State) → L.fits link.old x → L.fits link.new x }
         ensures longest { L.longest link.new ≡ L.longest link.old }
         ensures waits { L.waits link.new ≡ L.waits link.old }
         ensures up { L.up link.new ≡ L.up link.old }
-        ensures missing { OnErr result (LacksMemory count self.old (L.spares link.old)) }
+        ensures missing { OnErr result (LacksMemory count self.old (L.promised link.old)) }
         ensures err { IfErr result (λ e. e ≡ LayerError.NoMemory) }
     {
         if self.memory.reserve(count).is_err() {
             return Err(LayerError::NoMemory);
         }
-        if link.room(count).is_err() {
+        if link.reserve(count).is_err() {
             return Err(LayerError::NoMemory);
         }
         Ok(())
@@ -61,7 +61,7 @@ impl Layer {
         requires short { length (spelling_of (plain packet.now)) ≤ most }
         requires most { most ≤ 4099 }
         requires memory { 0 < self.old.memory }
-        requires spares { 0 < L.spares link.old }
+        requires promised { 0 < L.promised link.old }
         requires up { L.up link.old ≡ true }
         requires free { L.waits link.old < 256 }
         requires longest { 4099 ≤ L.longest link.old }
@@ -70,7 +70,7 @@ impl Layer {
         ensures memory { self.new.memory + 1 ≡ self.old.memory }
         ensures link { (x : L.State) → L.fits link.old x
             → L.fits link.new (L.after_put x (spelling_of (plain packet.now))) }
-        ensures spares { L.spares link.new ≡ L.spares link.old - 1 }
+        ensures promised { L.promised link.new ≡ L.promised link.old - 1 }
         ensures longest { L.longest link.new ≡ L.longest link.old }
         ensures up { L.up link.new ≡ L.up link.old }
         ensures waits { L.waits link.new ≤ L.waits link.old + 1 }
@@ -91,14 +91,14 @@ pub(crate) fn put<L: OrderedLink>(
     requires short { length (spelling_of (plain packet.now)) ≤ most }
     requires most { most ≤ 4099 }
     requires memory { 0 < memory.old }
-    requires spares { 0 < L.spares link.old }
+    requires promised { 0 < L.promised link.old }
     requires up { L.up link.old ≡ true }
     requires free { L.waits link.old < 256 }
     requires longest { 4099 ≤ L.longest link.old }
     ensures memory { memory.new + 1 ≡ memory.old }
     ensures link { (x : L.State) → L.fits link.old x
         → L.fits link.new (L.after_put x (spelling_of (plain packet.now))) }
-    ensures spares { L.spares link.new ≡ L.spares link.old - 1 }
+    ensures promised { L.promised link.new ≡ L.promised link.old - 1 }
     ensures longest { L.longest link.new ≡ L.longest link.old }
     ensures up { L.up link.new ≡ L.up link.old }
     ensures waits { L.waits link.new ≤ L.waits link.old + 1 }
@@ -118,7 +118,7 @@ fn packet_memory<L: OrderedLink>(memory: &mut PacketMemory, link: &mut L, most: 
     ensures few { vec_capacity result ≤ 4099 }
     ensures fewer { memory.new + 1 ≡ memory.old }
     ensures link { (x : L.State) → L.fits link.old x → L.fits link.new x }
-    ensures spares { L.spares link.new ≡ L.spares link.old }
+    ensures promised { L.promised link.new ≡ L.promised link.old }
     ensures longest { L.longest link.new ≡ L.longest link.old }
     ensures up { L.up link.new ≡ L.up link.old }
     ensures waits { L.waits link.new ≡ L.waits link.old }

@@ -15,13 +15,13 @@ ghost use Rattle.x25_layer.specs.Rounds.{LinkView, answer_to, hears};
 ghost use Rattle.x25_layer.specs.Asking.{with_circuit};
 ghost use Rattle.x25_layer.specs.Room.{HasCountsLeft, HaveCountsLeft, IsNotFull, HaveRoom, HaveRoomStill};
 ghost use Rattle.x25_layer.specs.Room.{HasRoom, KeepsRoom};
-ghost use Rattle.x25_layer.specs.Told.{plain_told};
+ghost use Rattle.x25_layer.specs.Report.{plain_report};
 ghost use Rattle.x25_layer.specs.Receiving.{plain_read, IsOfChannel, brings, circuit_hears, hears_on};
 
 use crate::error::LayerError;
 use crate::layer::Layer;
 use crate::putting::MOST_PUT;
-use crate::told::Told;
+use crate::report::Report;
 use x25_circuit::{Circuit, CircuitError, Notice, Reply};
 use x25_link::OrderedLink;
 use x25_packet::{Packet, PacketError, channel, longest_user};
@@ -51,22 +51,22 @@ fn hear_circuit<'a>(
 }
 
 // What the user of a channel is told by its circuit.
-fn told_on<'a>(channel: u16, collided: bool, notice: Option<Notice<'a>>) -> Told<'a>
-    ensures told { plain_told result ≡ notices_on channel (notices_of collided notice.entry) }
-    ensures nothing { plain_told result ≡ [] → result ≡ Told.Nothing }
+fn told_on<'a>(channel: u16, collided: bool, notice: Option<Notice<'a>>) -> Report<'a>
+    ensures told { plain_report result ≡ notices_on channel (notices_of collided notice.entry) }
+    ensures nothing { plain_report result ≡ [] → result ≡ Report.Nothing }
 {
     match notice {
-        Some(notice) => Told::Channel {
+        Some(notice) => Report::Channel {
             channel,
             collided,
             notice: Some(notice),
         },
-        None if collided => Told::Channel {
+        None if collided => Report::Channel {
             channel,
             collided: true,
             notice: None,
         },
-        None => Told::Nothing,
+        None => Report::Nothing,
     }
 }
 
@@ -112,7 +112,7 @@ impl Layer {
         link: &mut L,
         channel: u16,
         read: &Result<Packet<'a>, PacketError>,
-    ) -> Result<Told<'a>, LayerError>
+    ) -> Result<Report<'a>, LayerError>
         requires kind { IsOfChannel (plain_read read.now) }
         requires left { HaveCountsLeft self.old.circuits.items }
         requires place { TakesPacket L.OrderedLink self.old.memory link.old }
@@ -124,10 +124,10 @@ impl Layer {
             → IsOk result }
     {
         if self.restarting {
-            return Ok(Told::Nothing);
+            return Ok(Report::Nothing);
         }
         if self.circuit(channel).is_none() {
-            return Ok(Told::Nothing);
+            return Ok(Report::Nothing);
         }
         let reply = self.hear_channel(channel, read)?;
         let Reply {
@@ -146,7 +146,7 @@ impl Layer {
         link: &mut L,
         octets: &'a [u8],
         field: Option<&'a mut NarrowField>,
-    ) -> Result<Told<'a>, LayerError>
+    ) -> Result<Report<'a>, LayerError>
         requires left { IsNotFull self.old }
         requires place { TakesPacket L.OrderedLink self.old.memory link.old }
         ensures hears { IfOk result (λ told. Hears L.OrderedLink self.old link.old self.new link.new told
@@ -157,7 +157,7 @@ impl Layer {
         ensures enough { (len : ℕ) → length octets.now ≤ len + 3 → HaveRoom len self.old.circuits.items → IsOk result }
     {
         let Some(channel) = channel(octets) else {
-            return Ok(Told::Nothing);
+            return Ok(Report::Nothing);
         };
         taking_keeps_octets();
         let read = read(longest_user(self.long_data), octets, field);
@@ -173,7 +173,7 @@ impl Layer {
     }
 
     /// Takes octets that the link handed up, puts the packet that is owed for them, and pulls data packets. It answers
-    /// what is reported to the users, `Told::Nothing` exactly where that is nothing; a stretch has its name after the
+    /// what is reported to the users, `Report::Nothing` exactly where that is nothing; a stretch has its name after the
     /// call.
     ///
     /// Without `field` they are read in the form that a station writes alone. With it they are read in any form that
@@ -183,15 +183,15 @@ impl Layer {
     /// Octets that spell no packet go to the channel that the first two name. They are dropped where they name no
     /// configured channel, and, but for RESTART and its confirmation, while this end's restart isn't confirmed.
     ///
-    /// 70 alone, and not where `room` set memory aside for the octets behind the first three. The layer and the link
-    /// are as before then. Of what `room` set aside a call takes as much here as in the link: for each packet that it
-    /// puts. Where it puts none, the promise stands.
+    /// 70 alone, and not where `reserve` set memory aside for the octets behind the first three. The layer and the link
+    /// are as before then. Of what `reserve` set aside a call takes as much here as in the link: for each packet that
+    /// it puts. Where it puts none, the promise stands.
     pub fn packet<'a, L: OrderedLink>(
         &mut self,
         link: &mut L,
         octets: &'a [u8],
         field: Option<&'a mut NarrowField>,
-    ) -> Result<Told<'a>, LayerError>
+    ) -> Result<Report<'a>, LayerError>
         requires left { IsNotFull self.old }
         requires up { L.up link.old ≡ true }
         requires free { L.waits link.old < 256 }
@@ -203,24 +203,24 @@ impl Layer {
             → OnOk result (L.fits link.new (after_all L.after_put x
             (hears (view_of L.up_in L.waits_in L.after_put x) c (is_some field.entry) l octets.now).step.put)) }
         ensures told { (c : LayerSettings) (l : State) (view : LinkView) → FitsLayer c self.old l
-            → IfOk result (λ told. plain_told told ≡ (hears view c (is_some field.entry) l octets.now).notices) }
-        ensures nothing { IfOk result (λ told. plain_told told ≡ [] → told ≡ Told.Nothing) }
+            → IfOk result (λ told. plain_report told ≡ (hears view c (is_some field.entry) l octets.now).notices) }
+        ensures nothing { IfOk result (λ told. plain_report told ≡ [] → told ≡ Report.Nothing) }
         ensures longest { L.longest link.new ≡ L.longest link.old }
         ensures err { IfErr result (λ e. e ≡ LayerError.NoMemory) }
-        ensures enough { (len : ℕ) → length octets.now ≤ len + 3 → HasRoom len self.old (L.spares link.old)
+        ensures enough { (len : ℕ) → length octets.now ≤ len + 3 → HasRoom len self.old (L.promised link.old)
             → IsOk result }
         ensures most_memory { self.new.memory ≤ max self.old.memory 16 }
-        ensures most_spares { L.spares link.new ≤ max (L.spares link.old) 16 }
+        ensures most_promised { L.promised link.new ≤ max (L.promised link.old) 16 }
         ensures layer_stays { (c : LayerSettings) (l : State) → FitsLayer c self.old l
             → OnErr result (FitsLayer c self.new l) }
         ensures link_stays { (x : L.State) → L.fits link.old x → OnErr result (L.fits link.new x) }
-        ensures used { 16 ≤ self.old.memory → 16 ≤ L.spares link.old
-            → OnOk result (self.old.memory + L.spares link.new ≡ self.new.memory + L.spares link.old) }
-        ensures room { OnOk result (KeepsRoom self.old (L.spares link.old) self.new (L.spares link.new)) }
-        ensures room_stays { (len : ℕ) → HasRoom len self.old (L.spares link.old)
-            → OnErr result (HasRoom len self.new (L.spares link.new)) }
+        ensures used { 16 ≤ self.old.memory → 16 ≤ L.promised link.old
+            → OnOk result (self.old.memory + L.promised link.new ≡ self.new.memory + L.promised link.old) }
+        ensures room { OnOk result (KeepsRoom self.old (L.promised link.old) self.new (L.promised link.new)) }
+        ensures room_stays { (len : ℕ) → HasRoom len self.old (L.promised link.old)
+            → OnErr result (HasRoom len self.new (L.promised link.new)) }
     {
-        self.set_aside(link, MOST_PUT)?;
+        self.reserve_packets(link, MOST_PUT)?;
         let told = self.hear(link, octets, field)?;
         self.pull_all(link);
         Ok(told)

@@ -16,7 +16,7 @@ ghost use Rattle.x25_layer.specs.Room.{HasRoom, HaveRoomStill};
 use crate::circuits::{begin_all, forget_all};
 use crate::error::LayerError;
 use crate::layer::Layer;
-use crate::told::Told;
+use crate::report::Report;
 use x25_bits::Role;
 use x25_link::OrderedLink;
 use x25_packet::Packet;
@@ -52,7 +52,7 @@ impl Layer {
     /// Begins afresh with a RESTART, at LinkUp. The link is up, fewer than 256 packets wait in it, and it takes packets
     /// of 4,099 octets.
     ///
-    /// 70 alone, and not where `room` set memory aside. The layer and the link are as before then.
+    /// 70 alone, and not where `reserve` set memory aside. The layer and the link are as before then.
     pub fn up<L: OrderedLink>(&mut self, link: &mut L) -> Result<(), LayerError>
         requires up { L.up link.old ≡ true }
         requires free { L.waits link.old < 256 }
@@ -64,15 +64,15 @@ impl Layer {
             (comes_up (view_of L.up_in L.waits_in L.after_put x) c).step.put)) }
         ensures err { IfErr result (λ e. e ≡ LayerError.NoMemory) }
         ensures longest { L.longest link.new ≡ L.longest link.old }
-        ensures missing { OnErr result (LacksMemory 1 self.old (L.spares link.old)) }
+        ensures missing { OnErr result (LacksMemory 1 self.old (L.promised link.old)) }
         ensures most_memory { self.new.memory ≤ max self.old.memory 16 }
-        ensures most_spares { L.spares link.new ≤ max (L.spares link.old) 16 }
-        ensures enough { (len : ℕ) → HasRoom len self.old (L.spares link.old) → IsOk result }
+        ensures most_promised { L.promised link.new ≤ max (L.promised link.old) 16 }
+        ensures enough { (len : ℕ) → HasRoom len self.old (L.promised link.old) → IsOk result }
         ensures layer_stays { (c : LayerSettings) (l : State) → FitsLayer c self.old l
             → OnErr result (FitsLayer c self.new l) }
         ensures link_stays { (x : L.State) → L.fits link.old x → OnErr result (L.fits link.new x) }
     {
-        self.set_aside(link, 1)?;
+        self.reserve_packets(link, 1)?;
         self.restarting = true;
         self.restarts = 0;
         self.quiet = false;
@@ -101,7 +101,7 @@ impl Layer {
         if link.waiting() == 256 {
             return Err(LayerError::QueueFull);
         }
-        self.set_aside(link, 1)?;
+        self.reserve_packets(link, 1)?;
         self.send_restart(link, 0, 0);
         Ok(())
     }
@@ -114,7 +114,7 @@ impl Layer {
         ensures link { (x : L.State) → L.fits link.old x
             → L.fits link.new (L.after_put x (spelling_of (restart cause diagnostic))) }
         ensures memory { self.new.memory + 1 ≡ self.old.memory }
-        ensures spares { L.spares link.new ≡ L.spares link.old - 1 }
+        ensures promised { L.promised link.new ≡ L.promised link.old - 1 }
         ensures longest { L.longest link.new ≡ L.longest link.old }
         ensures up { L.up link.new ≡ L.up link.old }
         ensures room { HaveRoomStill self.old.circuits.items self.new.circuits.items }
@@ -148,7 +148,7 @@ impl Layer {
         link: &mut L,
         cause: u8,
         diagnostic: u8,
-    ) -> Told<'a>
+    ) -> Report<'a>
         requires restarts { self.old.restarts < 2 ^ 64 - 1 }
         requires place { TakesPacket L.OrderedLink self.old.memory link.old }
         ensures hears { Hears L.OrderedLink self.old link.old self.new link.new result
@@ -157,16 +157,16 @@ impl Layer {
     {
         if self.restarting {
             self.restart_is_done();
-            return Told::Restarted { cause, diagnostic };
+            return Report::Restarted { cause, diagnostic };
         }
         self.restart_is_done();
         self.put(link, &Packet::RestartConf, RESTART_OCTETS);
-        Told::Restarted { cause, diagnostic }
+        Report::Restarted { cause, diagnostic }
     }
 
     /// RESTART CONFIRMATION. Where this end restarts nothing, it is an error of procedure, answered by RESTART
     /// (profile).
-    pub(crate) fn hear_restart_conf<'a, L: OrderedLink>(&mut self, link: &mut L) -> Told<'a>
+    pub(crate) fn hear_restart_conf<'a, L: OrderedLink>(&mut self, link: &mut L) -> Report<'a>
         requires restarts { self.old.restarts < 2 ^ 64 - 1 }
         requires place { TakesPacket L.OrderedLink self.old.memory link.old }
         ensures hears { Hears L.OrderedLink self.old link.old self.new link.new result
@@ -175,10 +175,10 @@ impl Layer {
     {
         if self.restarting {
             self.restart_is_done();
-            return Told::RestartDone;
+            return Report::RestartDone;
         }
         self.send_restart(link, fault_cause(self.role), NO_RESTART);
-        Told::Fault {
+        Report::Fault {
             diagnostic: NO_RESTART,
         }
     }

@@ -41,7 +41,7 @@ fn any_full(circuits: &[Circuit]) -> bool
 
 // Sets memory aside in each circuit for so many octets of user data of a packet, but for no more than the longest has.
 // For none no circuit is asked.
-fn room_in_all(circuits: &mut Vec<Circuit>, len: usize) -> Result<(), LayerError>
+fn reserve_in_all(circuits: &mut Vec<Circuit>, len: usize) -> Result<(), LayerError>
     ensures fits { (c : LayerSettings) (f : ℕ → Channel) → FitsCircuits c circuits.old.items f
         → FitsCircuits c circuits.new.items f }
     ensures count { length circuits.new.items ≡ length circuits.old.items }
@@ -57,7 +57,7 @@ fn room_in_all(circuits: &mut Vec<Circuit>, len: usize) -> Result<(), LayerError
         return Ok(());
     }
     for circuit in circuits.iter_mut() {
-        if circuit.room(len).is_err() {
+        if circuit.reserve(len).is_err() {
             return Err(LayerError::NoMemory);
         }
     }
@@ -82,23 +82,23 @@ impl Layer {
     /// put, and in each circuit for 4,096 octets, or for what was before.
     ///
     /// 70 alone, and only where less was set aside.
-    pub fn room<L: OrderedLink>(&mut self, link: &mut L, len: usize) -> Result<(), LayerError>
+    pub fn reserve<L: OrderedLink>(&mut self, link: &mut L, len: usize) -> Result<(), LayerError>
         ensures layer { FitsStill self.old self.new }
         ensures link { (x : L.State) → L.fits link.old x → L.fits link.new x }
-        ensures room { OnOk result (HasRoom len self.new (L.spares link.new)) }
+        ensures room { OnOk result (HasRoom len self.new (L.promised link.new)) }
         ensures left { IsNotFull self.old → IsNotFull self.new }
         ensures longest { L.longest link.new ≡ L.longest link.old }
         ensures waits { L.waits link.new ≡ L.waits link.old }
         ensures up { L.up link.new ≡ L.up link.old }
-        ensures enough { HasRoom len self.old (L.spares link.old) → IsOk result }
+        ensures enough { HasRoom len self.old (L.promised link.old) → IsOk result }
         ensures most_memory { self.new.memory ≤ max self.old.memory 16 }
-        ensures most_spares { L.spares link.new ≤ max (L.spares link.old) 16 }
+        ensures most_promised { L.promised link.new ≤ max (L.promised link.old) 16 }
         ensures most_circuits { (bound : ℕ) → 4096 ≤ bound → HaveAtMost bound self.old.circuits.items
             → HaveAtMost bound self.new.circuits.items }
         ensures err { IfErr result (λ e. e ≡ LayerError.NoMemory) }
     {
         self.counts_left = !self.full();
-        room_in_all(&mut self.circuits, len)?;
-        self.set_aside(link, MOST_PUT)
+        reserve_in_all(&mut self.circuits, len)?;
+        self.reserve_packets(link, MOST_PUT)
     }
 }

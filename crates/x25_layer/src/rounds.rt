@@ -26,11 +26,11 @@ const FEW: usize = 8;
 fn may_pull<L: OrderedLink>(link: &L, memory: &PacketMemory) -> bool
     ensures few { result ≡ true → L.waits link.now < 8 }
     ensures memory { result ≡ true → 0 < memory.now }
-    ensures spares { result ≡ true → 0 < L.spares link.now }
+    ensures promised { result ≡ true → 0 < L.promised link.now }
     ensures state { (y : L.State) → L.fits link.now y → IsEnough (L.lists y) memory.now
-        → IsEnough (L.lists y) (L.spares link.now) → result ≡ nat_lt (L.waits_in y) 8 }
+        → IsEnough (L.lists y) (L.promised link.now) → result ≡ nat_lt (L.waits_in y) 8 }
 {
-    link.waiting() < FEW && memory.promised() > 0 && link.spare() > 0
+    link.waiting() < FEW && memory.promised() > 0 && link.promised() > 0
 }
 
 // Puts the next data packet of a circuit, where it may send one and fewer than 8 packets wait in the link: whether it
@@ -147,7 +147,7 @@ impl Layer {
         if let Some(error) = self.unready(link) {
             return Err(error);
         }
-        self.set_aside(link, MOST_PUT)?;
+        self.reserve_packets(link, MOST_PUT)?;
         self.pull_all(link);
         Ok(())
     }
@@ -161,7 +161,7 @@ impl Layer {
         requires up { L.up link.old ≡ true }
         requires longest { 4099 ≤ L.longest link.old }
         requires memory { 15 ≤ self.old.memory }
-        requires spares { 15 ≤ L.spares link.old }
+        requires promised { 15 ≤ L.promised link.old }
         ensures layer { (c : LayerSettings) (s : Putting) (x : L.State) → FitsLayer c self.old s.layer
             → L.fits link.old (after_all L.after_put x s.put)
             → FitsLayer c self.new (rounds (view_of L.up_in L.waits_in L.after_put x) c s).layer }

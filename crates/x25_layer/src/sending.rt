@@ -59,7 +59,7 @@ impl Layer {
         requires channel { IsChannel channel }
         requires range { IsSendable (plain_sent packet) }
         requires memory { 0 < self.old.memory }
-        requires spares { 0 < L.spares link.old }
+        requires promised { 0 < L.promised link.old }
         requires up { L.up link.old ≡ true }
         requires free { IfSome packet (λ _. L.waits link.old < 256) }
         requires longest { 4099 ≤ L.longest link.old }
@@ -85,7 +85,7 @@ impl Layer {
         requires channel { IsChannel channel }
         requires range { IsSendable (plain_owed owed) }
         requires memory { 0 < self.old.memory }
-        requires spares { 0 < L.spares link.old }
+        requires promised { 0 < L.promised link.old }
         requires up { L.up link.old ≡ true }
         requires free { IfSome owed (λ _. L.waits link.old < 256) }
         requires longest { 4099 ≤ L.longest link.old }

@@ -125,11 +125,11 @@ impl Layer {
 
     /// Takes octets that the link handed up where they spell a data packet, RR or RNR with which nothing is wrong, as
     /// `packet` does, and answers the channel and the message that ends with the packet. It takes no memory: it is for
-    /// packets for which `room` set memory aside, and it spares them the way through `packet`.
+    /// packets for which `reserve` set memory aside, and it spares them the way through `packet`.
     ///
     /// None of other octets and packets, while a restart is under way, of a channel that isn't configured or isn't in
     /// p4 with d1, and where memory is missing; it may be None of any octets. Layer and link are as before then, and
-    /// what `room` promised stands.
+    /// what `reserve` promised stands.
     pub fn transfer<L: OrderedLink>(&mut self, link: &mut L, octets: &[u8]) -> Option<Delivery>
         requires up { L.up link.old ≡ true }
         requires free { L.waits link.old < 256 }
@@ -149,15 +149,15 @@ impl Layer {
             → IfSome result (λ delivery. is_channel c.channels delivery.channel ≡ true) }
         ensures longest { L.longest link.new ≡ L.longest link.old }
         ensures no_more { self.new.memory ≤ self.old.memory }
-        ensures used { self.old.memory + L.spares link.new ≡ self.new.memory + L.spares link.old }
+        ensures used { self.old.memory + L.promised link.new ≡ self.new.memory + L.promised link.old }
         ensures layer_stays { (c : LayerSettings) (l : State) → FitsLayer c self.old l
             → IfNone result (FitsLayer c self.new l) }
         ensures link_stays { IfNone result (link.new ≡ link.old) }
         ensures left { IsNotFull self.old → IfNone result (IsNotFull self.new) }
-        ensures room_stays { (len : ℕ) → HasRoom len self.old (L.spares link.old)
-            → IfNone result (HasRoom len self.new (L.spares link.new)) }
+        ensures room_stays { (len : ℕ) → HasRoom len self.old (L.promised link.old)
+            → IfNone result (HasRoom len self.new (L.promised link.new)) }
     {
-        if self.restarting || self.memory.promised() < MOST_PUT || link.spare() < MOST_PUT {
+        if self.restarting || self.memory.promised() < MOST_PUT || link.promised() < MOST_PUT {
             return None;
         }
         let (channel, flow) = read(octets)?;

@@ -1,7 +1,7 @@
 //! Octets that the link handed up: what the users are told, and what is owed.
 
 use crate::play::Event::{
-    Accept, Call, Full, Restart, Room, Send, State, Take, TakeWide, Transfer,
+    Accept, Call, Full, Reserve, Restart, Send, State, Take, TakeWide, Transfer,
 };
 use crate::play::{Row, play};
 use std::test::Fail;
@@ -64,9 +64,9 @@ static TRANSFERS: [Row; 16] = [
     (Accept(2), "ok", "10020f"),
     // No memory is set aside for 16 packets any more, as one was put.
     (Transfer("100210aa"), "none", ""),
-    (Room, "true", ""),
+    (Reserve, "true", ""),
     (Transfer("100210aa"), "2", "100221"),
-    (Room, "true", ""),
+    (Reserve, "true", ""),
     // The qualifier of another packet, another channel, an RR with the qualifier, one that is too long, RESET.
     (Transfer("900202bb"), "none", ""),
     (Transfer("100102bb"), "none", ""),
@@ -75,7 +75,7 @@ static TRANSFERS: [Row; 16] = [
     (Transfer("10021b0000"), "none", ""),
     (Transfer("100202bb"), "2: message 2", "100241"),
     (Send(2, false, 1), "ok", "10024000"),
-    (Room, "true", ""),
+    (Reserve, "true", ""),
     (Transfer("100221"), "2", ""),
     (State(2), "0.0.0, open", ""),
 ];

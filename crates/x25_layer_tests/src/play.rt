@@ -47,7 +47,7 @@ pub enum Event<'a> {
     /// So many packets of the octet 7 are handed down to the link, by another than the layer.
     Fill(usize),
     /// Memory is set aside for what comes. The text is that for 16 packets is.
-    Room,
+    Reserve,
     /// Nothing happens. The text is the channel's name, and whether it is open.
     State(u16),
     /// Nothing happens. The text is the channel's packet sizes and windows.
@@ -64,7 +64,7 @@ pub enum Event<'a> {
 
 use Event::{
     Accept, AcceptWith, Agreed, Call, CallWith, Clear, Down, Fill, Full, Interrupt, Joined,
-    NotReady, Pull, Ready, Reset, Restart, Room, Send, State, Take, TakeWide, Transfer, Up,
+    NotReady, Pull, Ready, Reserve, Reset, Restart, Send, State, Take, TakeWide, Transfer, Up,
     Waiting, Waits,
 };
 
@@ -162,9 +162,9 @@ fn transfer<L: OrderedLink>(
 }
 
 // Sets memory aside for packets with 4,096 octets of user data.
-fn room<L: OrderedLink>(alloc: Global, layer: &mut Layer, link: &mut L) -> Result<String, Fail> {
-    layer.room(link, 4096)?;
-    let enough = link.spare() >= 16;
+fn reserve<L: OrderedLink>(alloc: Global, layer: &mut Layer, link: &mut L) -> Result<String, Fail> {
+    layer.reserve(link, 4096)?;
+    let enough = link.promised() >= 16;
     Ok(format!(in alloc; "{enough}")?)
 }
 
@@ -241,7 +241,7 @@ pub fn happens<L: OrderedLink>(
         }
         Transfer(octets) => return transfer(alloc, layer, link, octets),
         Fill(count) => return fill(alloc, link, count),
-        Room => return room(alloc, layer, link),
+        Reserve => return reserve(alloc, layer, link),
         Down => {
             layer.down();
             Ok(String::new(alloc))

@@ -1,7 +1,7 @@
 //! A layer over a link station.
 
 use crate::play::Event::{
-    Accept, Call, Clear, Down, Interrupt, NotReady, Ready, Reset, Restart, Room, Send, Take, Up,
+    Accept, Call, Clear, Down, Interrupt, NotReady, Ready, Reserve, Reset, Restart, Send, Take, Up,
 };
 use crate::play::{Shown, plays_over};
 use crate::texts::append;
@@ -93,7 +93,7 @@ fn a_call_goes_over_a_station(rt: HostRuntime) -> Result<(), Fail> {
 }
 
 static HEARD: [Shown; 6] = [
-    (Room, "true"),
+    (Reserve, "true"),
     (Down, ""),
     (Up, "ok"),
     (Take("1000ff"), "restart done"),

@@ -2,7 +2,7 @@
 
 use std::alloc::{AllocError, Global};
 use x25_circuit::Notice;
-use x25_layer::{Layer, LayerError, Told};
+use x25_layer::{Layer, LayerError, Report};
 use x25_link::{OrderedLink, PlainLink};
 
 /// What a call answered that answers no value.
@@ -30,10 +30,10 @@ fn refused_text(alloc: Global, error: LayerError) -> Result<String, AllocError> 
 }
 
 /// What the users are told.
-pub fn told_text(alloc: Global, told: &Told) -> Result<String, AllocError> {
+pub fn told_text(alloc: Global, told: &Report) -> Result<String, AllocError> {
     match told {
-        Told::Nothing => format!(in alloc; "nothing"),
-        Told::Channel {
+        Report::Nothing => format!(in alloc; "nothing"),
+        Report::Channel {
             channel,
             collided,
             notice,
@@ -47,11 +47,11 @@ pub fn told_text(alloc: Global, told: &Told) -> Result<String, AllocError> {
                 None => format!(in alloc; "{channel}{place}"),
             }
         }
-        Told::Restarted { cause, diagnostic } => format!(in alloc;
+        Report::Restarted { cause, diagnostic } => format!(in alloc;
             "restarted {cause} {diagnostic}"
         ),
-        Told::RestartDone => format!(in alloc; "restart done"),
-        Told::Fault { diagnostic } => format!(in alloc; "fault {diagnostic}"),
+        Report::RestartDone => format!(in alloc; "restart done"),
+        Report::Fault { diagnostic } => format!(in alloc; "fault {diagnostic}"),
     }
 }
 

@@ -138,7 +138,7 @@ impl RawEnd {
     pub fn go_back(&mut self)
         ensures { (e : End ℕ) (place : ℕ) → FitsEnd self.old e place → FitsEnd self.new e e.acked }
     {
-        self.sender.again();
+        self.sender.go_back();
     }
 
     /// A frame without an item goes on the line. 70 alone; the line is as before then.

@@ -5,7 +5,7 @@ use Rattle.x25_link.specs.OrderedLink.{Lists}
 -- the packets that wait, and for how many calls of `put` memory is set aside
 pub record ShownPlain : Type 0 where
   pub queue : List (List ℕ)
-  pub spare : ℕ
+  pub promised : ℕ
 
 -- what waits is what was handed down and isn't acknowledged
 pub record FitsPlain (v : ShownPlain) (x : Lists) : Type 0 where

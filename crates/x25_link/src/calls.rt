@@ -15,7 +15,7 @@ use x25_frame::Frame;
 
 impl LinkStation {
     /// Lets a packet wait, and sends it where it may go. Memory for one I frame is used or let go.
-    pub fn give(&mut self, packet: Octets, out: &mut Outbox)
+    pub fn put(&mut self, packet: Octets, out: &mut Outbox)
         requires free { length self.old.outgoing.queue < 256 }
         requires long { 0 < out.old.long }
         ensures step { (c : Settings) (before : List (List ℕ)) (s : StationState)

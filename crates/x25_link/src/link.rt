@@ -229,14 +229,14 @@ impl Link {
 
     // Hands a packet down, and keeps the frames.
     #[inline(always)]
-    fn give(&mut self, packet: Vec<u8>) -> Result<(), LinkError>
+    fn hand_down(&mut self, packet: Vec<u8>) -> Result<(), LinkError>
         requires { vec_len packet ≤ limit_of self.old }
         ensures state { (c : Settings) (s : StationState) → FitsLink c self.old s
             → OnOk result (FitsLink c self.new (put_step c packet.items s).side.near) }
         ensures made { (c : Settings) (s : StationState) → FitsLink c self.old s →
             OnOk result (self.new.outbox.made
             ≡ self.old.outbox.made ++ map (spelling_of c.role) (put_step c packet.items s).side.out) }
-        ensures spare { OnOk result (self.new.outbox.long ≡ self.old.outbox.long - 1) }
+        ensures promised { OnOk result (self.new.outbox.long ≡ self.old.outbox.long - 1) }
         ensures places { self.new.outbox.places ≤ max self.old.outbox.places
             (length self.old.outbox.made + (max self.old.outbox.long 1 + self.old.outbox.short)) }
         ensures refused { (c : Settings) (s : StationState) → FitsLink c self.old s → Refuses (put_refusal s) result }
@@ -257,7 +257,7 @@ impl Link {
             return Err(LinkError::QueueFull);
         }
         self.outbox.reserve(1, 0)?;
-        self.station.give(Octets::of(packet), &mut self.outbox);
+        self.station.put(Octets::of(packet), &mut self.outbox);
         Ok(())
     }
 }

@@ -38,7 +38,7 @@ pub trait OrderedLink {
     ghost up: { Self → Bool };
 
     /// For how many calls of `put` memory is set aside.
-    ghost spares: { Self → ℕ };
+    ghost promised: { Self → ℕ };
 
     /// The most octets of a packet.
     fn limit(&self) -> usize
@@ -54,30 +54,30 @@ pub trait OrderedLink {
         ensures { result ≡ up self.now };
 
     /// For how many calls of `put` memory is set aside.
-    fn spare(&self) -> usize
-        ensures { result ≡ spares self.now };
+    fn promised(&self) -> usize
+        ensures { result ≡ promised self.now };
 
     /// Sets memory aside for at least so many calls of `put`, and for no more than these or those before. It changes
     /// nothing else.
     ///
     /// Refused with 70 alone, and only where memory is set aside for fewer: also where the link has memory for fewer.
-    fn room(&mut self, count: usize) -> Result<(), LinkError>
-        ensures enough { OnOk result (count ≤ spares self.new) }
-        ensures no_fewer { spares self.old ≤ spares self.new }
-        ensures most { spares self.new ≤ max (spares self.old) count }
+    fn reserve(&mut self, count: usize) -> Result<(), LinkError>
+        ensures enough { OnOk result (count ≤ promised self.new) }
+        ensures no_fewer { promised self.old ≤ promised self.new }
+        ensures most { promised self.new ≤ max (promised self.old) count }
         ensures state { (x : State) → fits self.old x → fits self.new x }
         ensures longest_stays { longest self.new ≡ longest self.old }
         ensures waits_stays { waits self.new ≡ waits self.old }
         ensures up_stays { up self.new ≡ up self.old }
         ensures refused { IfErr result (λ e. e ≡ LinkError.NoMemory) }
-        ensures missing { OnErr result (spares self.old < count) }
+        ensures missing { OnErr result (promised self.old < count) }
         ensures err { OnErr result (self.new ≡ self.old) };
 
     /// Memory of a packet that is no longer kept, for one of so many octets and for 4,099 at most, where there is some.
     /// The link is as before.
     fn spent_memory(&mut self, length: usize) -> Option<Vec<u8>>
         ensures state { (x : State) → fits self.old x → fits self.new x }
-        ensures spares_stay { spares self.new ≡ spares self.old }
+        ensures promised_stay { promised self.new ≡ promised self.old }
         ensures longest_stays { longest self.new ≡ longest self.old }
         ensures waits_stays { waits self.new ≡ waits self.old }
         ensures up_stays { up self.new ≡ up self.old }
@@ -92,15 +92,15 @@ pub trait OrderedLink {
     fn put(&mut self, packet: Vec<u8>) -> Result<(), LinkError>
         requires { vec_len packet ≤ longest self.old }
         ensures state { (x : State) → fits self.old x → OnOk result (fits self.new (after_put x packet.items)) }
-        ensures spares_fall { OnOk result (spares self.new ≡ spares self.old - 1) }
+        ensures promised_fall { OnOk result (promised self.new ≡ promised self.old - 1) }
         ensures longest_stays { longest self.new ≡ longest self.old }
         ensures up_stays { up self.new ≡ up self.old }
         ensures waits_more { OnOk result (waits self.new ≤ waits self.old + 1) }
         ensures not_up { IsErrOf result LinkError.NotUp ↔ (up self.old ≡ false) }
         ensures full { IsErrOf result LinkError.QueueFull ↔ ((up self.old ≡ true) × (waits self.old ≡ 256)) }
         ensures kinds { IfErr result RefusesPut }
-        ensures memory { IsErrOf result LinkError.NoMemory → spares self.old ≡ 0 }
-        ensures accepted { up self.old ≡ true → waits self.old < 256 → 0 < spares self.old → IsOk result }
+        ensures memory { IsErrOf result LinkError.NoMemory → promised self.old ≡ 0 }
+        ensures accepted { up self.old ≡ true → waits self.old < 256 → 0 < promised self.old → IsOk result }
         ensures err { OnErr result (self.new ≡ self.old) };
 
     /// A `put` hands its packet down, behind all others.

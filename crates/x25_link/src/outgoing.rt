@@ -160,7 +160,7 @@ impl Outgoing {
             → FitsOutgoing k self.new (gone_back o) }
         ensures window { window_of self.new ≡ window_of self.old }
     {
-        self.sender.again();
+        self.sender.go_back();
     }
 
     /// Drops all packets.

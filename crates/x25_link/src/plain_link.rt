@@ -15,7 +15,7 @@ use x25_frame::N1;
 #[derive(Drop)]
 pub struct PlainLink {
     queue: WaitingPackets,
-    spare: usize,
+    promised: usize,
 }
 
 impl Model for PlainLink {
@@ -23,7 +23,7 @@ impl Model for PlainLink {
 
     ghost Value = { ShownPlain };
 
-    ghost view = { λ l. record { queue = l.queue; spare = l.spare } };
+    ghost view = { λ l. record { queue = l.queue; promised = l.promised } };
 
     ghost invariant = { λ _. Unit {0} };
 }
@@ -32,11 +32,11 @@ impl PlainLink {
     /// A link in which nothing waits. Refused with 70 alone.
     pub fn new(alloc: Global) -> Result<PlainLink, LinkError>
         ensures ok { IfOk result (λ l. FitsPlain l no_packets) }
-        ensures spare { IfOk result (λ l. l.spare ≡ 0) }
+        ensures promised { IfOk result (λ l. l.promised ≡ 0) }
         ensures err { IfErr result (λ e. e ≡ LinkError.NoMemory) }
     {
         let queue = WaitingPackets::new(alloc)?;
-        Ok(PlainLink { queue, spare: 0 })
+        Ok(PlainLink { queue, promised: 0 })
     }
 
     /// Takes the first packet that waits, which counts as acknowledged by that. It takes no memory.
@@ -46,7 +46,7 @@ impl PlainLink {
         ensures front { (x : Lists) → FitsPlain self.old x
             → IfSome result (λ packet. slice_get x.given x.acked ≡ Some packet.items) }
         ensures value { MatchOption result ((self.old.queue ≡ []) × (self.new ≡ self.old))
-            (λ packet. (self.old.queue ≡ packet.items ∷ self.new.queue) × (self.new.spare ≡ self.old.spare)) }
+            (λ packet. (self.old.queue ≡ packet.items ∷ self.new.queue) × (self.new.promised ≡ self.old.promised)) }
     {
         let packet = self.queue.pop()?;
         Some(packet.into_vec())
@@ -91,7 +91,7 @@ impl OrderedLink for PlainLink {
 
     ghost up = { λ _. true };
 
-    ghost spares = { λ l. l.spare };
+    ghost promised = { λ l. l.promised };
 
     fn limit(&self) -> usize {
         N1
@@ -105,13 +105,13 @@ impl OrderedLink for PlainLink {
         true
     }
 
-    fn spare(&self) -> usize {
-        self.spare
+    fn promised(&self) -> usize {
+        self.promised
     }
 
-    fn room(&mut self, count: usize) -> Result<(), LinkError> {
-        if self.spare < count {
-            self.spare = count;
+    fn reserve(&mut self, count: usize) -> Result<(), LinkError> {
+        if self.promised < count {
+            self.promised = count;
         }
         Ok(())
     }
@@ -126,7 +126,7 @@ impl OrderedLink for PlainLink {
             return Err(LinkError::QueueFull);
         }
         self.queue.push(Octets::of(packet));
-        self.spare = self.spare.saturating_sub(1);
+        self.promised = self.promised.saturating_sub(1);
         Ok(())
     }
 }

@@ -90,6 +90,6 @@ pub fn put(link: &mut Link, alloc: Global, octet: u8) -> Result<(), LinkError> {
     if packet.len() > link.limit() {
         return Err(LinkError::BadConfig);
     }
-    link.room(1)?;
+    link.reserve(1)?;
     link.put(packet)
 }

@@ -25,7 +25,7 @@ fn answer_and_pull<L: OrderedLink>(
     ensures refused { IfErr result (λ e. e ≡ LinkError.NoMemory) }
     ensures err { OnErr result (link.new ≡ link.old) }
 {
-    link.room(2)?;
+    link.reserve(2)?;
     link.put(answer).unwrap();
     if link.waiting() < 8 {
         link.put(further).unwrap();

@@ -11,7 +11,7 @@ use x25_link::{LinkError, OrderedLink, PlainLink};
 fn put_one<L: OrderedLink>(link: &mut L, alloc: Global, octet: u8) -> Result<(), LinkError>
     requires { 1 ≤ L.longest link.old }
 {
-    link.room(1)?;
+    link.reserve(1)?;
     link.put(vec![in alloc; octet]?)
 }
 
@@ -51,7 +51,7 @@ fn what_is_put_comes_out(rt: HostRuntime) -> Result<(), Fail> {
 }
 
 fn fill(link: &mut PlainLink, alloc: Global) -> Result<(), LinkError> {
-    link.room(2)?;
+    link.reserve(2)?;
     for _ in 0..256u16 {
         put_empty(link, alloc)?;
     }
@@ -63,7 +63,7 @@ fn put_empty(link: &mut PlainLink, alloc: Global) -> Result<(), LinkError> {
 }
 
 fn takes_no_more(rt: &impl Abort, alloc: Global, link: &mut PlainLink) {
-    assert_eq!(rt; link.spare(), 0);
+    assert_eq!(rt; link.promised(), 0);
     assert_eq!(rt; put_empty(link, alloc), Err(LinkError::QueueFull));
     assert_eq!(rt; link.waiting(), 256);
     assert_eq!(rt; LinkError::QueueFull.number(), 10);

@@ -117,7 +117,7 @@ impl<'a> Digits<'a> {
     }
 
     /// The same digits once more, borrowed from where these are. It takes no memory.
-    pub fn again(&self) -> Digits<'a>
+    pub fn copied(&self) -> Digits<'a>
         ensures { result ≡ self.now }
     {
         Digits { place: self.place }

@@ -56,7 +56,7 @@ pub(crate) enum Holds {
         acknowledged: u8,
         is_up: bool,
         waiting: usize,
-        spare: usize,
+        promised: usize,
         limit: usize,
     },
     Stretch(Option<Stretch>),

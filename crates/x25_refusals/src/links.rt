@@ -1,4 +1,4 @@
-//! Two links, and the lines between them. What a user sends is handed down as one packet by `room` and `put`, as the
+//! Two links, and the lines between them. What a user sends is handed down as one packet by `reserve` and `put`, as the
 //! packet layer hands packets down.
 ghost use Rattle.std.specs.Prelude.{◌≤◌, vec_len};
 ghost use Rattle.x25_link.specs.code.FitsLink.{limit_of};
@@ -146,7 +146,7 @@ fn packet_of(alloc: Global, octets: &[u8]) -> Result<Vec<u8>, AllocError> {
 fn room_and_put(link: &mut Link, packet: Vec<u8>) -> Result<(), LinkError>
     requires { vec_len packet ≤ limit_of link.old }
 {
-    link.room(1)?;
+    link.reserve(1)?;
     link.put(packet)
 }
 
@@ -253,7 +253,7 @@ impl End {
                 acknowledged: self.link.acknowledged().get(),
                 is_up: self.link.is_up(),
                 waiting: self.link.waiting(),
-                spare: self.link.spare(),
+                promised: self.link.promised(),
                 limit: self.link.limit(),
             },
         }

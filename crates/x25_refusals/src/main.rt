@@ -32,7 +32,7 @@ use worlds::Worlds;
 /// The calls of a link.
 static CALLS_OF_LINKS: [(Kind, &str); 7] = [
     (Kind::New, "Link::new"),
-    (Kind::Send, "Link::room and put"),
+    (Kind::Send, "Link::reserve and put"),
     (Kind::Connect, "Link::connect"),
     (Kind::Disconnect, "Link::disconnect"),
     (Kind::Deliver, "Link::take"),

@@ -69,7 +69,7 @@ pub frames_aside : (l m : ShownLink) (y : layer_code.Layer) (texts : ℕ) → Ke
     → IsFewAside m y texts
 frames_aside l m y texts keeps few = record {
   packets = few.packets;
-  spares = subst (λ n. n ≤ 16) (sym (ap (λ o. o.long) keeps.outbox)) few.spares;
+  promised = subst (λ n. n ≤ 16) (sym (ap (λ o. o.long) keeps.outbox)) few.promised;
   texts = few.texts;
 }
 

@@ -135,7 +135,7 @@ handed_was_up hands c l octets s p fits is = ap is_up fits.near.phase ∙ ap is_
 pub less_room : (n m : ℕ) (y : layer_code.Layer) (a b : ℕ) → n ≤ m → a ≡ b → HasRoom m y a → HasRoom n y b
 less_room n m y a b low same room = record {
   memory = room.memory;
-  spares = subst (λ (x : ℕ). 16 ≤ x) same room.spares;
+  promised = subst (λ (x : ℕ). 16 ≤ x) same room.promised;
   circuits = λ k v is. (let high : min m 4096 ≤ room_of v = room.circuits k v is in omega (arith, low, high));
 }
 

@@ -6,8 +6,8 @@ use Rattle.x25_circuit.specs.declared.message.Message.{Message}
 use Rattle.x25_circuit.specs.Notice.{collided, deliveries}
 use Rattle.x25_circuit.specs.code.Replies.{plain_notice, notices_of}
 use Rattle.x25_handshakes.specs.laws.Names.{Name}
-use Rattle.x25_layer.specs.declared.told.Told.{Told as Heard}
-use Rattle.x25_layer.specs.Told.{plain_told as plain_heard}
+use Rattle.x25_layer.specs.declared.report.Report.{Report}
+use Rattle.x25_layer.specs.Report.{plain_report}
 use Rattle.x25_layer.specs.laws.Transcript.{Told, name_of}
 use Rattle.x25_layer.specs.Layer.{LayerSettings, Layer, LayerNotice, on_channel, restarted, restart_done, layer_fault, notices_on}
 use Rattle.x25_station.specs.Entry.{StationEntry, of_channel, was_restarted, restart_confirmed, at_fault, bringing, entry_told, may_bring, station_told}
@@ -45,8 +45,8 @@ same_told l m (restarted cause diagnostic ∷ notices) same = ap (λ (es : List 
 same_told l m (restart_done ∷ notices) same = ap (λ (es : List StationEntry). restart_confirmed ∷ es) (same_told l m notices same)
 same_told l m (layer_fault diagnostic ∷ notices) same = ap (λ (es : List StationEntry). at_fault diagnostic ∷ es) (same_told l m notices same)
 
-pub told_is : {E : Type 0} (r : Result Heard E) (told : Heard) (notices : List LayerNotice) → r ≡ Ok told → IfOk r (λ t. plain_heard t ≡ notices) → plain_heard told ≡ notices
-told_is {E = E} r told notices is h = subst (λ (x : Result Heard E). IfOk x (λ t. plain_heard t ≡ notices)) is h
+pub told_is : {E : Type 0} (r : Result Report E) (told : Report) (notices : List LayerNotice) → r ≡ Ok told → IfOk r (λ t. plain_report t ≡ notices) → plain_report told ≡ notices
+told_is {E = E} r told notices is h = subst (λ (x : Result Report E). IfOk x (λ t. plain_report t ≡ notices)) is h
 
 -- ---- what may bring more
 

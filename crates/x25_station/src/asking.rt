@@ -248,7 +248,7 @@ impl Station {
     {
         steps_keep_bounds();
         holds_few();
-        out.make_room()?;
+        out.reserve()?;
         match self.layer.pull(&mut self.link) {
             Ok(()) => {
                 self.link.swap_frames(&mut out.frames);
@@ -346,7 +346,7 @@ impl Station {
             return Err(StationError::of_layer(error));
         }
         let asked = asked_call(self.alloc, called, calling, user, proposal.params())?;
-        out.make_room()?;
+        out.reserve()?;
         match self
             .layer
             .call(&mut self.link, called, calling, user, proposal)
@@ -379,7 +379,7 @@ impl Station {
         if let Some(error) = self.layer.refusal(&self.link, channel, &judged) {
             return Err(StationError::of_layer(error));
         }
-        out.make_room()?;
+        out.reserve()?;
         let asked = asked_of(self.alloc, &mut self.messages, &request)?;
         match self.layer.ask(&mut self.link, channel, request) {
             Ok(()) => {
@@ -402,7 +402,7 @@ impl Station {
     {
         steps_keep_bounds();
         holds_few();
-        out.make_room()?;
+        out.reserve()?;
         match self.layer.restart(&mut self.link) {
             Ok(()) => {
                 out.entries.push_reserved(Entry::RestartAsked);

@@ -6,7 +6,7 @@ ghost use Rattle.x25_circuit.specs.code.Replies.{plain_notice, notices_of};
 ghost use Rattle.x25_layer.specs.Layer.{Layer as LayerState, LayerSettings, is_channel, notices_on};
 ghost use Rattle.x25_layer.specs.code.FitsLayer.{FitsLayer};
 ghost use Rattle.x25_layer.specs.laws.Transcript.{name_of};
-ghost use Rattle.x25_layer.specs.Told.{plain_told as plain_heard};
+ghost use Rattle.x25_layer.specs.Report.{plain_report};
 ghost use Rattle.x25_station.specs.Entry.{bringing, entries_beside, may_bring, of_channel, station_told};
 ghost use Rattle.x25_station.specs.code.PlainEntry.{plain_entry, plain_said, plain_told};
 ghost use Rattle.x25_station.specs.Receiving.{IsShort, AreTellable};
@@ -16,7 +16,7 @@ use crate::beside::Beside;
 use crate::entry::{Entry, Said, Told};
 use x25_bits::Promise;
 use x25_circuit::{Message, Notice};
-use x25_layer::{Layer, Told as Heard};
+use x25_layer::{Layer, Report};
 use x25_packet::Digits;
 
 /// The most octets of a text in an entry: those of the user data of a call, where it may be long. Interrupts and
@@ -176,7 +176,7 @@ fn enter_notices(
 pub(crate) fn enter_told(
     layer: &Layer,
     texts: &mut TextMemory,
-    told: Heard<'_>,
+    told: Report<'_>,
     entries: &mut Vec<Entry>,
 )
     requires texts { 3 ≤ texts.old }
@@ -186,22 +186,22 @@ pub(crate) fn enter_told(
     ensures no_more { texts.new ≤ texts.old }
     ensures left { texts.old ≤ texts.new + 3 }
     ensures entered { (c : LayerSettings) (l : LayerState) → FitsLayer c layer.now l
-        → AreTellable c (plain_heard told.entry) →
+        → AreTellable c (plain_report told.entry) →
         map plain_entry entries.new.items ≡ map plain_entry entries.old.items
-        ++ station_told l (plain_heard told.entry) }
+        ++ station_told l (plain_report told.entry) }
 {
     match told {
-        Heard::Nothing => {}
-        Heard::Channel {
+        Report::Nothing => {}
+        Report::Channel {
             channel,
             collided,
             notice,
         } => enter_notices(layer, texts, channel, collided, notice, entries),
-        Heard::Restarted { cause, diagnostic } => {
+        Report::Restarted { cause, diagnostic } => {
             entries.push_reserved(Entry::WasRestarted { cause, diagnostic });
         }
-        Heard::RestartDone => entries.push_reserved(Entry::RestartDone),
-        Heard::Fault { diagnostic } => entries.push_reserved(Entry::Fault { diagnostic }),
+        Report::RestartDone => entries.push_reserved(Entry::RestartDone),
+        Report::Fault { diagnostic } => entries.push_reserved(Entry::Fault { diagnostic }),
     }
 }
 
@@ -219,11 +219,11 @@ fn may_bring(notice: &Notice<'_>) -> bool
 }
 
 /// The channel of what the layer reported, where that is of a packet that may bring more.
-pub(crate) fn bringing(told: &Heard<'_>) -> Option<u16>
-    ensures { result ≡ bringing (plain_heard told.now) }
+pub(crate) fn bringing(told: &Report<'_>) -> Option<u16>
+    ensures { result ≡ bringing (plain_report told.now) }
 {
     match told {
-        Heard::Channel {
+        Report::Channel {
             channel,
             notice: Some(notice),
             ..

@@ -86,7 +86,7 @@ impl Station {
         ensures { Does self.old self.new out.new result fires }
     {
         steps_keep_bounds();
-        out.make_room()?;
+        out.reserve()?;
         match self.link.t1() {
             Ok(heard) => {
                 self.link.swap_frames(&mut out.frames);
@@ -123,7 +123,7 @@ pub(crate) fn note_down(layer: &mut Layer, down: Option<Reason>, entries: &mut V
     requires { vec_len entries.old < vec_capacity entries.old }
     ensures length { vec_len entries.new ≤ vec_len entries.old + 1 }
     ensures capacity { vec_capacity entries.new ≡ vec_capacity entries.old }
-    ensures room { (len spares : ℕ) → HasRoom len layer.old spares → HasRoom len layer.new spares }
+    ensures room { (len promised : ℕ) → HasRoom len layer.old promised → HasRoom len layer.new promised }
     ensures memory { layer.new.memory ≡ layer.old.memory }
     ensures same { down ≡ None → layer.new ≡ layer.old }
     ensures nothing { down ≡ None → entries.new ≡ entries.old }

@@ -52,7 +52,7 @@ fn come_up(layer: &mut Layer, link: &mut Link, entries: &mut Vec<Entry>)
     ensures entries { map plain_entry entries.new.items ≡ map plain_entry entries.old.items ++ entries_up true }
     ensures length { vec_len entries.new ≡ vec_len entries.old + 1 }
     ensures most_memory { layer.new.memory ≤ max layer.old.memory 16 }
-    ensures most_spares { link.new.outbox.long ≤ max link.old.outbox.long 16 }
+    ensures most_promised { link.new.outbox.long ≤ max link.old.outbox.long 16 }
 {
     entries.push_reserved(Entry::LinkUp);
     layer.up(link).unwrap();
@@ -94,7 +94,7 @@ fn hear(
         ++ entries_of_answer (layer_answer (layer_settings c) wide l packet.now) }
     ensures length { vec_len entries.new ≤ vec_len entries.old + 2 }
     ensures most_memory { layer.new.memory ≤ max layer.old.memory 16 }
-    ensures most_spares { link.new.outbox.long ≤ max link.old.outbox.long 16 }
+    ensures most_promised { link.new.outbox.long ≤ max link.old.outbox.long 16 }
     ensures texts { texts.new ≤ texts.old }
     ensures texts_left { texts.old ≤ texts.new + 3 }
     ensures capacity { vec_capacity entries.new ≡ vec_capacity entries.old }
@@ -148,7 +148,7 @@ fn follow(
         ++ entries_heard (layer_settings c) wide l (option_copied packet.entry) notes.down notes.up) }
     ensures length { vec_len entries.new ≤ vec_len entries.old + 3 }
     ensures most_memory { layer.new.memory ≤ max layer.old.memory 16 }
-    ensures most_spares { link.new.outbox.long ≤ max link.old.outbox.long 16 }
+    ensures most_promised { link.new.outbox.long ≤ max link.old.outbox.long 16 }
     ensures texts { texts.new ≤ texts.old }
 {
     note_down(layer, notes.down, entries);
@@ -232,7 +232,7 @@ impl Station {
     // Sets memory aside for all that octets may bring, with so many of user data: room for frames and entries, and
     // their texts. However many they are, it is for 16 packets, 5 texts and 4,096 octets a circuit, or for what was
     // before.
-    fn set_aside(&mut self, len: usize, out: &mut Step) -> Result<(), StationError>
+    fn reserve(&mut self, len: usize, out: &mut Step) -> Result<(), StationError>
         requires { IsEmpty out.old }
         ensures fits { (c : Settings) (s : State) → FitsStation c self.old s → FitsStation c self.new s }
         ensures left { IsNotFull self.old.layer → IsNotFull self.new.layer }
@@ -243,15 +243,15 @@ impl Station {
         ensures refused { IfErr result (λ e. e ≡ StationError.NoMemory) }
         ensures most_texts { self.new.texts ≤ max self.old.texts 5 }
         ensures most_memory { self.new.layer.memory ≤ max self.old.layer.memory 16 }
-        ensures most_spares { self.new.link.outbox.long ≤ max self.old.link.outbox.long 16 }
+        ensures most_promised { self.new.link.outbox.long ≤ max self.old.link.outbox.long 16 }
         ensures most_circuits { (bound : ℕ) → 4096 ≤ bound → HaveAtMost bound self.old.layer.circuits.items
             → HaveAtMost bound self.new.layer.circuits.items }
     {
-        out.make_room()?;
+        out.reserve()?;
         if self.texts.reserve(MOST_TEXTS).is_err() {
             return Err(StationError::NoMemory);
         }
-        match self.layer.room(&mut self.link, len) {
+        match self.layer.reserve(&mut self.link, len) {
             Ok(()) => Ok(()),
             Err(error) => Err(StationError::of_layer(error)),
         }
@@ -270,7 +270,7 @@ impl Station {
         notes_what_changes();
         holds_few();
         reads_frames();
-        self.set_aside(octets.len().saturating_sub(HEADERS), out)?;
+        self.reserve(octets.len().saturating_sub(HEADERS), out)?;
         match self.link.take(octets) {
             Ok(heard) => {
                 follow(

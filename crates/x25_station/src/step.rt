@@ -37,7 +37,7 @@ impl Step {
 
     /// Room for the entries of a call, and no more, or what there was. The list of its frames comes from the link.
     #[inline(always)]
-    pub(crate) fn make_room(&mut self) -> Result<(), StationError>
+    pub(crate) fn reserve(&mut self) -> Result<(), StationError>
         requires { IsEmpty self.old }
         ensures empty { IsEmpty self.new }
         ensures places { OnOk result (HasPlaces self.new) }

@@ -51,7 +51,7 @@ fn grow(buffer: &mut Vec<u8>, count: usize, more: usize) -> Result<(), AllocErro
 
 /// Makes room for `more` characters behind the first `count`, which stay.
 #[inline(always)]
-fn make_room(buffer: &mut Vec<u8>, count: usize, more: usize) -> Result<(), AllocError>
+fn reserve(buffer: &mut Vec<u8>, count: usize, more: usize) -> Result<(), AllocError>
     requires { count ≤ length buffer.old.items }
     ensures room { OnOk result (length buffer.new.items ≡ max (length buffer.old.items) (count + more)) }
     ensures kept { take count buffer.new.items ≡ take count buffer.old.items }
@@ -238,7 +238,7 @@ impl Text {
         ensures text { OnOk result (self.new ≡ self.old ++ characters.now) }
         ensures unchanged { OnErr result (self.new ≡ self.old) }
     {
-        make_room(&mut self.buffer, self.count, characters.len())?;
+        reserve(&mut self.buffer, self.count, characters.len())?;
         self.count = put(self.buffer.as_mut_slice(), self.count, characters);
         Ok(())
     }
@@ -249,7 +249,7 @@ impl Text {
         ensures text { OnOk result (self.new ≡ self.old ++ (first.now ++ second.now)) }
         ensures unchanged { OnErr result (self.new ≡ self.old) }
     {
-        make_room(&mut self.buffer, self.count, first.len() + second.len())?;
+        reserve(&mut self.buffer, self.count, first.len() + second.len())?;
         let buffer = self.buffer.as_mut_slice();
         let middle = put(buffer, self.count, first);
         self.count = put(buffer, middle, second);
@@ -274,7 +274,7 @@ impl Text {
         ensures text { OnOk result (self.new ≡ self.old ++ flat_map octet_text octets.now) }
         ensures unchanged { OnErr result (self.new ≡ self.old) }
     {
-        make_room(&mut self.buffer, self.count, 2 * octets.len())?;
+        reserve(&mut self.buffer, self.count, 2 * octets.len())?;
         self.count = put_hexadecimal(self.buffer.as_mut_slice(), self.count, octets);
         Ok(())
     }

@@ -126,7 +126,7 @@ impl<T> Sender<T> {
     }
 
     /// Moves the place to send from back to the first item that isn't acknowledged.
-    pub fn again(&mut self)
+    pub fn go_back(&mut self)
         ensures state { (w : Sending T) → Fits self.old w → Fits self.new (from_acked w) }
         ensures held { self.new ≡ record self.old { before = 0 } }
     {
@@ -251,7 +251,7 @@ impl<T> Sender<T> {
         ensures state { (w : Sending T) → Fits self.old w → Fits self.new (fresh w.window) }
         ensures held { Fits self.new (fresh self.old.window) }
     {
-        self.again();
+        self.go_back();
         self.items.clear();
         self.first = Seq::ZERO;
     }

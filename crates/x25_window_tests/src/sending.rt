@@ -35,7 +35,7 @@ fn play(sender: &mut Sender<u8>, call: Call) -> Answer {
             None => Answer::Nothing,
         },
         Call::Again => {
-            sender.again();
+            sender.go_back();
             Answer::Nothing
         }
         Call::Ack(number) => match sender.ack(Seq::modulo(number)) {

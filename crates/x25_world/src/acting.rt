@@ -93,7 +93,7 @@ fn command(
         HasActed cfg at near.new line.new (entered at (map plain_entry out.new.entries.items)) result w
         (of_station (settings_from at cfg) w (commands (settings_from at cfg) w.near (command_of cmd.entry))) }
 {
-    make_room(line)?;
+    reserve_frames(line)?;
     match near.command(cmd, out) {
         Ok(()) => {
             put(at, line, &mut out.frames);
@@ -113,14 +113,14 @@ fn deliver(at: Role, near: &mut Station, line: &mut Line, out: &mut Step) -> Res
         HasActed cfg at near.new line.new (entered at (map plain_entry out.new.entries.items)) result w
         (delivered (settings_from at cfg) w w.back) }
 {
-    make_room(line)?;
+    reserve_frames(line)?;
     let Some(octets) = line.get(at, 0) else {
         return Err(WorldError::Empty);
     };
     match near.receive(octets, out) {
         Ok(()) => {
             let octets = line.remove(at, 0);
-            give_back(near, octets);
+            keep_frame(near, octets);
             put(at, line, &mut out.frames);
             Ok(())
         }
@@ -152,7 +152,7 @@ fn put(at: Role, line: &mut Line, frames: &mut Vec<Vec<u8>>)
 
 // The memory of a frame that came serves frames that the end sends later.
 #[inline(always)]
-fn give_back(near: &mut Station, octets: Option<Vec<u8>>)
+fn keep_frame(near: &mut Station, octets: Option<Vec<u8>>)
     ensures { (c : Settings) (s : StationState) → FitsStation c near.old s → FitsStation c near.new s }
 {
     if let Some(octets) = octets {
@@ -173,7 +173,7 @@ fn fire(at: Role, near: &mut Station, line: &mut Line, out: &mut Step) -> Result
     if awaits_frames(at, near, line) {
         return Err(WorldError::OnLine);
     }
-    make_room(line)?;
+    reserve_frames(line)?;
     match near.t1(out) {
         Ok(()) => {
             put(at, line, &mut out.frames);
@@ -205,7 +205,7 @@ pub fn connect(
         HasActed cfg at near.new line.new (entered at (map plain_entry out.new.entries.items)) result w
         (of_station (settings_from at cfg) w (connects (settings_from at cfg) w.near)) }
 {
-    make_room(line)?;
+    reserve_frames(line)?;
     match near.connect(out) {
         Ok(()) => {
             put(at, line, &mut out.frames);
@@ -216,7 +216,7 @@ pub fn connect(
 }
 
 // Room for the frames that a step of a station answers.
-fn make_room(line: &mut Line) -> Result<(), WorldError>
+fn reserve_frames(line: &mut Line) -> Result<(), WorldError>
     ensures frames { OnOk result (17 ≤ line.new.room) }
     ensures line { line.new ≡ with_room_of line.new line.old }
     ensures few { TakesFew 17 line.old line.new }
@@ -229,7 +229,7 @@ fn make_room(line: &mut Line) -> Result<(), WorldError>
 }
 
 /// Room for what an event tells, for which what is lost takes none.
-pub fn make_room_to_enter(transcript: &mut Vec<Entered>, event: Event) -> Result<(), WorldError>
+pub fn reserve_entries(transcript: &mut Vec<Entered>, event: Event) -> Result<(), WorldError>
     ensures room { OnOk result (vec_len transcript.new + most_told
         (event_of event.entry).act ≤ vec_capacity transcript.new) }
     ensures items { transcript.new.items ≡ transcript.old.items }

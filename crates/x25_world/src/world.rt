@@ -19,7 +19,7 @@ ghost use Rattle.x25_world.specs.World as definition;
 ghost use Rattle.x25_world.specs.World.{AtEnd, entered, tapped, event_of, happens, after, refusal_of, start};
 ghost use Rattle.x25_world.specs.World.{connected, established, Commands};
 
-use crate::acting::{act_at_end, connect, enter, make_room_to_enter};
+use crate::acting::{act_at_end, connect, enter, reserve_entries};
 use crate::bit_damage::octets_of_damage;
 use crate::error::WorldError;
 use crate::event::{Event, SABM_ARRIVES, UA_ARRIVES};
@@ -221,7 +221,7 @@ impl World {
             Tells cfg (telling self.old told.old.items) w before →
             OnErr result (Tells cfg (telling self.new told.new.items) w before) }
     {
-        make_room_to_enter(told, event)?;
+        reserve_entries(told, event)?;
         let mut out = Step::new(self.alloc);
         self.happen(event, &mut out)?;
         enter(event.at(), &mut out.entries, told);

@@ -6,13 +6,13 @@ use Rattle.x25_packet.specs.Spelling.{spelling_of}
 use Rattle.x25_layer.specs.declared.error.LayerError.{LayerError}
 use Rattle.x25_layer.specs.declared.error.LayerError.TheVariants as error
 use Rattle.x25_layer.specs.declared.layer.Layer as code
-use Rattle.x25_layer.specs.declared.told.Told.{Told}
-use Rattle.x25_layer.specs.declared.told.Told.TheVariants as tells
+use Rattle.x25_layer.specs.declared.report.Report.{Report}
+use Rattle.x25_layer.specs.declared.report.Report.TheVariants as tells
 use Rattle.x25_link.specs.declared.ordered_link.OrderedLink.{Ghosts}
 use Rattle.x25_layer.specs.Layer.{LayerSettings, Layer, LayerAnswer, packet_on}
 use Rattle.x25_layer.specs.Calls.{LayerRequest, copies}
 use Rattle.x25_layer.specs.Room.{HaveRoom, HaveRoomStill, HasRoom, KeepsRoom}
-use Rattle.x25_layer.specs.Told.{plain_told}
+use Rattle.x25_layer.specs.Report.{plain_report}
 use Rattle.x25_layer.specs.code.FitsLayer.{FitsLayer, FitsStill}
 use Rattle.x25_layer.specs.Rounds.{LinkView, Answered, Went, Refuses, calls}
 
@@ -31,14 +31,14 @@ view_of up_in waits_in after x = record { is_up = up_in x; waits = λ packets. w
 -- both take one. The link is as it was, up or not, and takes packets as long.
 pub record TakesAlike {D : Type 0} (g : Ghosts D) (m : ℕ) (below : D) (m₂ : ℕ) (below₂ : D) : Type 0 where
   pub no_more : m₂ ≤ m
-  pub used : m + g.spares below₂ ≡ m₂ + g.spares below
+  pub used : m + g.promised below₂ ≡ m₂ + g.promised below
   pub longest : g.longest below₂ ≡ g.longest below
   pub up : g.up below₂ ≡ g.up below
 
 -- The link is up and takes one packet more, of 4,099 octets, and memory for one is set aside in both.
 pub record TakesPacket {D : Type 0} (g : Ghosts D) (m : ℕ) (below : D) : Type 0 where
   pub memory : 0 < m
-  pub spares : 0 < g.spares below
+  pub promised : 0 < g.promised below
   pub up : g.up below ≡ true
   pub free : g.waits below < 256
   pub longest : 4099 ≤ g.longest below
@@ -54,20 +54,20 @@ pub record PutsOn {D : Type 0} (g : Ghosts D) (old : code.Layer) (below : D) (ne
       → g.fits below₂ (after_all g.after_put x (option_to_list (packet_on channel packet)))
   pub takes : TakesAlike g old.memory below new.memory below₂
   pub memory : old.memory ≤ new.memory + 1
-  pub put : IfSome packet (λ _. g.spares below₂ + 1 ≡ g.spares below)
+  pub put : IfSome packet (λ _. g.promised below₂ + 1 ≡ g.promised below)
 
 -- What came is heard as the answer says, and the packet owed for it is put. Where none is, the circuits keep the memory
 -- that they have.
-pub record Hears {D : Type 0} (g : Ghosts D) (old : code.Layer) (below : D) (new : code.Layer) (below₂ : D) (t : Told)
+pub record Hears {D : Type 0} (g : Ghosts D) (old : code.Layer) (below : D) (new : code.Layer) (below₂ : D) (t : Report)
     (answer : LayerSettings → Layer → LayerAnswer) : Type 0 where
   pub layer : (c : LayerSettings) (l : Layer) → FitsLayer c old l → FitsLayer c new (answer c l).next
   pub link : (c : LayerSettings) (l : Layer) (x : g.State) → FitsLayer c old l → g.fits below x
       → g.fits below₂ (after_all g.after_put x (option_to_list (answer c l).owed))
-  pub told : (c : LayerSettings) (l : Layer) → FitsLayer c old l → plain_told t ≡ (answer c l).notices
-  pub nothing : plain_told t ≡ [] → t ≡ tells.Nothing
+  pub told : (c : LayerSettings) (l : Layer) → FitsLayer c old l → plain_report t ≡ (answer c l).notices
+  pub nothing : plain_report t ≡ [] → t ≡ tells.Nothing
   pub takes : TakesAlike g old.memory below new.memory below₂
   pub memory : old.memory ≤ new.memory + 1
-  pub room : (len : ℕ) → HaveRoom len old.circuits.items → g.spares below₂ ≡ g.spares below
+  pub room : (len : ℕ) → HaveRoom len old.circuits.items → g.promised below₂ ≡ g.promised below
       → HaveRoom len new.circuits.items
 
 -- It isn't heard: the link is as before, the layer fits what it fitted, and no less memory is set aside.
@@ -91,12 +91,12 @@ LinkGives fits after x result (Refuses e) = result ≡ Err e
 
 -- memory for fewer packets than so many is set aside, in the layer or in its link
 abbrev pub LacksMemory : ℕ → code.Layer → ℕ → Type 0
-LacksMemory count v spares = (v.memory < count) ⊎ (spares < count)
+LacksMemory count v promised = (v.memory < count) ⊎ (promised < count)
 
 -- where 70 may be answered: for what is copied always
 abbrev pub MayLack : Bool → ℕ → code.Layer → ℕ → Type 0
-MayLack true count v spares = Unit {0}
-MayLack false count v spares = LacksMemory count v spares
+MayLack true count v promised = Unit {0}
+MayLack false count v promised = LacksMemory count v promised
 
 -- A call of the user does to a layer and to the link below it what the definition says of it, or it is refused and both
 -- are as before. 70 comes only for a message, which is copied, or where memory for fewer packets than so many is set
@@ -111,11 +111,11 @@ pub record Does {D T : Type 0} (g : Ghosts D) (old : code.Layer) (below : D) (ne
   pub layer_stays : (c : LayerSettings) (l : Layer) → FitsLayer c old l → OnErr result (FitsLayer c new l)
   pub link_stays : (x : g.State) → g.fits below x → OnErr result (g.fits below₂ x)
   pub longest : g.longest below₂ ≡ g.longest below
-  pub missing : IsErrOf result error.NoMemory → MayLack copies count old (g.spares below)
+  pub missing : IsErrOf result error.NoMemory → MayLack copies count old (g.promised below)
   pub most_memory : new.memory ≤ max old.memory 16
-  pub most_spares : g.spares below₂ ≤ max (g.spares below) 16
-  pub room : KeepsRoom old (g.spares below) new (g.spares below₂)
-  pub room_stays : (len : ℕ) → HasRoom len old (g.spares below) → OnErr result (HasRoom len new (g.spares below₂))
+  pub most_promised : g.promised below₂ ≤ max (g.promised below) 16
+  pub room : KeepsRoom old (g.promised below) new (g.promised below₂)
+  pub room_stays : (len : ℕ) → HasRoom len old (g.promised below) → OnErr result (HasRoom len new (g.promised below₂))
 
 -- a call does what the definition says of this request
 abbrev pub Answers : {D T : Type 0} → Ghosts D → code.Layer → D → code.Layer → D → Result T LayerError → ℕ

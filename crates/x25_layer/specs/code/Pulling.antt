@@ -18,7 +18,7 @@ use Rattle.x25_layer.specs.code.OverLink.{after_all, view_of, TakesAlike}
 -- become more than 15, since each is pulled where fewer than 8 wait, and of those that don't wait at most 7 aren't
 -- acknowledged.
 abbrev pub IsEnough : Lists → ℕ → Type 0
-IsEnough lists spares = lists.acked + 15 ≤ length lists.given + spares
+IsEnough lists promised = lists.acked + 15 ≤ length lists.given + promised
 
 -- the next data packet of a circuit, where the link has room
 abbrev pub pulled_where : Bool → Settings → Circuit → Pulled
@@ -32,7 +32,7 @@ pub record Stands {X : Type 0} (fits : X → Type 0) (lists : X → Lists) (afte
   pub circuits : FitsCircuits c vs s.layer.circuits
   pub link : fits (after_all after x s.put)
   pub memory : IsEnough (lists (after_all after x s.put)) m
-  pub spares : IsEnough (lists (after_all after x s.put)) n
+  pub promised : IsEnough (lists (after_all after x s.put)) n
 
 -- By this pull from the circuit of a channel a circuit and the link are left so, where the link was in state y and m
 -- packets had memory, of which m₂ have it still. Where the answer is that none was put, there was none.
@@ -47,7 +47,7 @@ pub record PutsPulled {D : Type 0} (g : Ghosts D) (c : Settings) (channel : ℕ)
 pub record PullsOne {D : Type 0} (g : Ghosts D) (channel : ℕ) (old : circuit_code.Circuit) (below : D) (m : ℕ)
     (new : circuit_code.Circuit) (below₂ : D) (m₂ : ℕ) (is_put : Bool) : Type 0 where
   pub pulls : (c : Settings) (x : Circuit) (y : g.State) → FitsCircuit c old x → g.fits below y
-      → IsEnough (g.lists y) m → IsEnough (g.lists y) (g.spares below)
+      → IsEnough (g.lists y) m → IsEnough (g.lists y) (g.promised below)
       → PutsPulled g c channel y (pulled_where (nat_lt (g.waits_in y) 8) c x) new below₂ m m₂ is_put
   pub takes : TakesAlike g m below m₂ below₂
   pub room : room_of old ≤ room_of new
@@ -59,11 +59,11 @@ pub record PullsOne {D : Type 0} (g : Ghosts D) (channel : ℕ) (old : circuit_c
 pub record GoesRound {D : Type 0} (g : Ghosts D) (old : List circuit_code.Circuit) (below : D) (m : ℕ)
     (new : List circuit_code.Circuit) (below₂ : D) (m₂ : ℕ) (is_put is_quiet : Bool) : Type 0 where
   pub stands : (c : LayerSettings) (x : g.State) (s : Putting)
-      → Stands (g.fits below) g.lists g.after_put c old m (g.spares below) x s
-      → Stands (g.fits below₂) g.lists g.after_put c new m₂ (g.spares below₂) x
+      → Stands (g.fits below) g.lists g.after_put c old m (g.promised below) x s
+      → Stands (g.fits below₂) g.lists g.after_put c new m₂ (g.promised below₂) x
       (round (view_of g.up_in g.waits_in g.after_put x) c c.channels s)
   pub none : (c : LayerSettings) (x : g.State) (s : Putting)
-      → Stands (g.fits below) g.lists g.after_put c old m (g.spares below) x s → is_put ≡ false
+      → Stands (g.fits below) g.lists g.after_put c old m (g.promised below) x s → is_put ≡ false
       → round (view_of g.up_in g.waits_in g.after_put x) c c.channels s ≡ s
   pub takes : TakesAlike g m below m₂ below₂
   pub count : length new ≡ length old

@@ -43,7 +43,7 @@ impl OrderedLink for Link {
 
     ghost up = { up_of };
 
-    ghost spares = { λ l. l.outbox.long };
+    ghost promised = { λ l. l.outbox.long };
 
     fn limit(&self) -> usize {
         self.station.parameters.n1
@@ -57,12 +57,12 @@ impl OrderedLink for Link {
         self.station.phase.is_up()
     }
 
-    fn spare(&self) -> usize {
+    fn promised(&self) -> usize {
         self.outbox.long()
     }
 
     #[inline(always)]
-    fn room(&mut self, count: usize) -> Result<(), LinkError> {
+    fn reserve(&mut self, count: usize) -> Result<(), LinkError> {
         self.outbox.reserve(count, 0)?;
         Ok(())
     }
@@ -73,6 +73,6 @@ impl OrderedLink for Link {
 
     #[inline(always)]
     fn put(&mut self, packet: Vec<u8>) -> Result<(), LinkError> {
-        self.give(packet)
+        self.hand_down(packet)
     }
 }

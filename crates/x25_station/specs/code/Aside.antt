@@ -6,7 +6,7 @@ use Rattle.x25_layer.specs.declared.layer.Layer as layer_code
 -- for so many packets that its layer puts, as many packets that are handed down to its link, and texts of entries
 pub record IsFewAside (l : ShownLink) (y : layer_code.Layer) (texts_aside : ℕ) : Type 0 where
   pub packets : y.memory ≤ 16
-  pub spares : l.outbox.long ≤ 16
+  pub promised : l.outbox.long ≤ 16
   pub texts : texts_aside ≤ 5
 
 -- of frames that were sent no fewer buffers are kept, and all else is as before

@@ -28,12 +28,12 @@ loop-circuit-preserved g c =
           let t₂ : Putting = round view s i t in
           let y : g.L.OrderedLink.State = after_all g.L.OrderedLink.after_put x t₂.put in
           let found = now.circuits i _ read in
-          let one = p.pulls s.circuit (t₂.layer.circuits (suc i)) y found now.link now.memory now.spares in
+          let one = p.pulls s.circuit (t₂.layer.circuits (suc i)) y found now.link now.memory now.promised in
           let memory = one.memory in
           let used = p.takes.used in
-          subst (λ (k : ℕ). Stands (g.L.OrderedLink.fits c.pull_one-is_put.new.link) g.L.OrderedLink.lists g.L.OrderedLink.after_put s (set c.loop-circuit.circuit-items i c.pull_one-is_put.new.circuit) c.pull_one-is_put.new.memory (g.L.OrderedLink.spares c.pull_one-is_put.new.link) x (round view s k t)) next
+          subst (λ (k : ℕ). Stands (g.L.OrderedLink.fits c.pull_one-is_put.new.link) g.L.OrderedLink.lists g.L.OrderedLink.after_put s (set c.loop-circuit.circuit-items i c.pull_one-is_put.new.circuit) c.pull_one-is_put.new.memory (g.L.OrderedLink.promised c.pull_one-is_put.new.link) x (round view s k t)) next
           (stands_more (g.L.OrderedLink.fits c.loop-circuit.link) (g.L.OrderedLink.fits c.pull_one-is_put.new.link) g.L.OrderedLink.lists g.L.OrderedLink.after_put g.L.OrderedLink.up_in g.L.OrderedLink.waits_in s i c.loop-circuit.circuit-items
-          c.pull_one-is_put.new.circuit c.loop-circuit.memory (g.L.OrderedLink.spares c.loop-circuit.link) c.pull_one-is_put.new.memory (g.L.OrderedLink.spares c.pull_one-is_put.new.link) x t₂
+          c.pull_one-is_put.new.circuit c.loop-circuit.memory (g.L.OrderedLink.promised c.loop-circuit.link) c.pull_one-is_put.new.memory (g.L.OrderedLink.promised c.pull_one-is_put.new.link) x t₂
           (λ z packet. g.met.L.OrderedLink.adds z packet) now
           one.circuit
           (subst (λ (k : ℕ). g.L.OrderedLink.fits c.pull_one-is_put.new.link (after_all g.L.OrderedLink.after_put y (option_to_list (packet_on k (pulled_where (nat_lt (g.L.OrderedLink.waits_in y) 8) s.circuit (t₂.layer.circuits (suc i))).packet)))) channel one.link)
@@ -46,7 +46,7 @@ loop-circuit-preserved g c =
           let found = now.circuits i _ read in
           let both = neither c.loop-circuit.is_put c.pull_one-is_put.result is in
           subst (λ (k : ℕ). round view s k t ≡ t) next
-          (one_none view s (suc i) t₂ ((p.pulls s.circuit (t₂.layer.circuits (suc i)) y found now.link now.memory now.spares).none both.1) ∙ c.loop-circuit.invariant.none both.0 s x t before);
+          (one_none view s (suc i) t₂ ((p.pulls s.circuit (t₂.layer.circuits (suc i)) y found now.link now.memory now.promised).none both.1) ∙ c.loop-circuit.invariant.none both.0 s x t before);
       room = λ len have.
           let before = c.loop-circuit.invariant.room len have in
           let here = before i _ read in
@@ -74,17 +74,17 @@ returns g c =
           let view : LinkView = view_of g.L.OrderedLink.up_in g.L.OrderedLink.waits_in g.L.OrderedLink.after_put x in
           let channels = before.channels in
           let here : c.loop-circuit.circuit-index ≡ s.channels = omega (arith, channels) in
-          subst (λ (vs : List circuit_code.Circuit). Stands (g.L.OrderedLink.fits c.loop-circuit.link) g.L.OrderedLink.lists g.L.OrderedLink.after_put s vs c.loop-circuit.memory (g.L.OrderedLink.spares c.loop-circuit.link) x (round view s s.channels t)) (sym all)
-          (subst (λ (k : ℕ). Stands (g.L.OrderedLink.fits c.loop-circuit.link) g.L.OrderedLink.lists g.L.OrderedLink.after_put s c.loop-circuit.circuit-items c.loop-circuit.memory (g.L.OrderedLink.spares c.loop-circuit.link) x (round view s k t)) here
+          subst (λ (vs : List circuit_code.Circuit). Stands (g.L.OrderedLink.fits c.loop-circuit.link) g.L.OrderedLink.lists g.L.OrderedLink.after_put s vs c.loop-circuit.memory (g.L.OrderedLink.promised c.loop-circuit.link) x (round view s s.channels t)) (sym all)
+          (subst (λ (k : ℕ). Stands (g.L.OrderedLink.fits c.loop-circuit.link) g.L.OrderedLink.lists g.L.OrderedLink.after_put s c.loop-circuit.circuit-items c.loop-circuit.memory (g.L.OrderedLink.promised c.loop-circuit.link) x (round view s k t)) here
           (c.loop-circuit.invariant.stands s x t
-          (subst (λ (vs : List circuit_code.Circuit). Stands (g.L.OrderedLink.fits c.args.link.now) g.L.OrderedLink.lists g.L.OrderedLink.after_put s vs c.args.memory.now (g.L.OrderedLink.spares c.args.link.now) x t) same before)));
+          (subst (λ (vs : List circuit_code.Circuit). Stands (g.L.OrderedLink.fits c.args.link.now) g.L.OrderedLink.lists g.L.OrderedLink.after_put s vs c.args.memory.now (g.L.OrderedLink.promised c.args.link.now) x t) same before)));
       none = λ s x t before is.
           let view : LinkView = view_of g.L.OrderedLink.up_in g.L.OrderedLink.waits_in g.L.OrderedLink.after_put x in
           let channels = before.channels in
           let here : c.loop-circuit.circuit-index ≡ s.channels = omega (arith, channels) in
           subst (λ (k : ℕ). round view s k t ≡ t) here
           (c.loop-circuit.invariant.none is s x t
-          (subst (λ (vs : List circuit_code.Circuit). Stands (g.L.OrderedLink.fits c.args.link.now) g.L.OrderedLink.lists g.L.OrderedLink.after_put s vs c.args.memory.now (g.L.OrderedLink.spares c.args.link.now) x t) same before));
+          (subst (λ (vs : List circuit_code.Circuit). Stands (g.L.OrderedLink.fits c.args.link.now) g.L.OrderedLink.lists g.L.OrderedLink.after_put s vs c.args.memory.now (g.L.OrderedLink.promised c.args.link.now) x t) same before));
       takes = search rules;
       count = search rules;
       room = λ len have.

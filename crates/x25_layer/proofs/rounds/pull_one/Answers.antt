@@ -8,7 +8,7 @@ use Rattle.x25_layer.proofs.rounds.pull_one.Goals as goal
 
 pub returns-then-waits-eq0-clause-pulls : goal.returns-then-waits-eq0-clause-pulls
 returns-then-waits-eq0-clause-pulls g c = record {
-  pulls = λ s x y fits link memory spares.
+  pulls = λ s x y fits link memory promised.
       let none = where_nothing (nat_lt (g.L.OrderedLink.waits_in y) 8) s x (c.waits.ensures.none s x fits c.if-waits-eq0.true) in
       record {
         circuit = subst (λ (p : Pulled). FitsCircuit s c.args.circuit.now p.next) (sym none) fits;

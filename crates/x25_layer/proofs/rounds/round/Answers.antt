@@ -10,12 +10,12 @@ returns-then-not-may_pull g c = record {
   stands = λ s x t before.
       let view : LinkView = view_of g.L.OrderedLink.up_in g.L.OrderedLink.waits_in g.L.OrderedLink.after_put x in
       let y : g.L.OrderedLink.State = after_all g.L.OrderedLink.after_put x t.put in
-      let shut = sym (c.if-not-may_pull.ensures.state y before.link before.memory before.spares) in
-      subst (λ (u : Putting). Stands (g.L.OrderedLink.fits c.args.link.now) g.L.OrderedLink.lists g.L.OrderedLink.after_put s c.args.circuits.now.items c.args.memory.now (g.L.OrderedLink.spares c.args.link.now) x u) (sym (round_shut view s s.channels t shut)) before;
+      let shut = sym (c.if-not-may_pull.ensures.state y before.link before.memory before.promised) in
+      subst (λ (u : Putting). Stands (g.L.OrderedLink.fits c.args.link.now) g.L.OrderedLink.lists g.L.OrderedLink.after_put s c.args.circuits.now.items c.args.memory.now (g.L.OrderedLink.promised c.args.link.now) x u) (sym (round_shut view s s.channels t shut)) before;
   none = λ s x t before is.
       let view : LinkView = view_of g.L.OrderedLink.up_in g.L.OrderedLink.waits_in g.L.OrderedLink.after_put x in
       let y : g.L.OrderedLink.State = after_all g.L.OrderedLink.after_put x t.put in
-      round_shut view s s.channels t (sym (c.if-not-may_pull.ensures.state y before.link before.memory before.spares));
+      round_shut view s s.channels t (sym (c.if-not-may_pull.ensures.state y before.link before.memory before.promised));
   takes = search rules;
   count = search rules;
   room = search rules;
@@ -31,7 +31,7 @@ returns-then-quiet g c = record {
       let view : LinkView = view_of g.L.OrderedLink.up_in g.L.OrderedLink.waits_in g.L.OrderedLink.after_put x in
       let channels = before.channels in
       let all : s.channels ≤ length c.args.circuits.now.items = omega (arith, channels) in
-      subst (λ (u : Putting). Stands (g.L.OrderedLink.fits c.args.link.now) g.L.OrderedLink.lists g.L.OrderedLink.after_put s c.args.circuits.now.items c.args.memory.now (g.L.OrderedLink.spares c.args.link.now) x u)
+      subst (λ (u : Putting). Stands (g.L.OrderedLink.fits c.args.link.now) g.L.OrderedLink.lists g.L.OrderedLink.after_put s c.args.circuits.now.items c.args.memory.now (g.L.OrderedLink.promised c.args.link.now) x u)
       (sym (round_still c.what_waits_is_pulled.ensures view s c.args.circuits.now.items s.channels t all before.circuits (c.requires.still c.if-quiet.true))) before;
   none = λ s x t before is.
       let view : LinkView = view_of g.L.OrderedLink.up_in g.L.OrderedLink.waits_in g.L.OrderedLink.after_put x in

@@ -5,7 +5,7 @@ use Rattle.x25_world.proofs.acting.command.Goals as goal
 pub returns-in-Ok-clause-acted : goal.returns-in-Ok-clause-acted
 returns-in-Ok-clause-acted c = λ cfg w side.
     let fits = side.near in
-    let shared = rw (sym c.make_room.ensures.line) at (shared_of cfg c.args.at _ c.args.line.now w c.make_room.new.line side) in
+    let shared = rw (sym c.reserve_frames.ensures.line) at (shared_of cfg c.args.at _ c.args.line.now w c.reserve_frames.new.line side) in
     let called = c.in-Ok.ensures.does in
     record {
       happened = rw c.put.ensures.line
@@ -22,8 +22,8 @@ returns-in-Err-clause-acted c = λ cfg w side.
     record {
       happened = tt;
       refused = rw c.of_station.ensures (is_refusal cfg c.args.at w _ c.in-Err.error (called.refused _ _ fits));
-      stays = rw c.make_room.ensures.line (side_stays cfg c.args.at _ _ c.args.line.now w c.make_room.new.line side (called.stays _ _ fits));
+      stays = rw c.reserve_frames.ensures.line (side_stays cfg c.args.at _ _ c.args.line.now w c.reserve_frames.new.line side (called.stays _ _ fits));
     }
 
 pub returns-in-Ok-clause-places : goal.returns-in-Ok-clause-places
-returns-in-Ok-clause-places c = rw c.put.ensures.line (few_put 17 c.args.line.now c.make_room.new.line c.args.at _ c.make_room.ensures.few)
+returns-in-Ok-clause-places c = rw c.put.ensures.line (few_put 17 c.args.line.now c.reserve_frames.new.line c.args.at _ c.reserve_frames.ensures.few)

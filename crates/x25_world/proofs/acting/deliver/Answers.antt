@@ -6,13 +6,13 @@ use Rattle.x25_world.proofs.acting.deliver.Goals as goal
 pub returns-in-Ok-clause-acted : goal.returns-in-Ok-clause-acted
 returns-in-Ok-clause-acted c = λ cfg w side.
     let fits = side.near in
-    let shared = rw (sym c.make_room.ensures.line) at (shared_of cfg c.args.at _ c.args.line.now w c.make_room.new.line side) in
+    let shared = rw (sym c.reserve_frames.ensures.line) at (shared_of cfg c.args.at _ c.args.line.now w c.reserve_frames.new.line side) in
     let called = c.in-Ok.ensures.does in
     let front : Some c.in-Some.octets.now ≡ slice_get w.back 0 = c.in-Some.ensures ∙ ap (λ l. slice_get l 0) shared.back in
     record {
       happened = rw (c.put.ensures.line, c.remove-octets.ensures)
-          (has_arrived cfg c.args.at c.receive.new.self c.give_back.new.near c.make_room.new.line w w.back c.in-Some.octets.now
-          c.receive.new.out c.give_back.ensures shared front
+          (has_arrived cfg c.args.at c.receive.new.self c.keep_frame.new.near c.reserve_frames.new.line w w.back c.in-Some.octets.now
+          c.receive.new.out c.keep_frame.ensures shared front
           (called.state _ _ fits) (called.frames _ _ fits) (called.entries _ _ fits));
       refused = tt;
       stays = tt;
@@ -25,8 +25,8 @@ returns-in-Err-clause-acted c = λ cfg w side.
     record {
       happened = tt;
       refused = inr (c.refused_arrival.ensures ∙ ap error_of called.refused);
-      stays = rw c.make_room.ensures.line (side_stays cfg c.args.at _ _ c.args.line.now w c.make_room.new.line side (called.does.stays _ _ fits));
+      stays = rw c.reserve_frames.ensures.line (side_stays cfg c.args.at _ _ c.args.line.now w c.reserve_frames.new.line side (called.does.stays _ _ fits));
     }
 
 pub returns-in-Ok-clause-places : goal.returns-in-Ok-clause-places
-returns-in-Ok-clause-places c = rw (c.put.ensures.line, c.remove-octets.ensures) (few_put 17 c.args.line.now _ c.args.at _ (few_changed 17 c.args.line.now c.make_room.new.line c.args.at _ c.make_room.ensures.few))
+returns-in-Ok-clause-places c = rw (c.put.ensures.line, c.remove-octets.ensures) (few_put 17 c.args.line.now _ c.args.at _ (few_changed 17 c.args.line.now c.reserve_frames.new.line c.args.at _ c.reserve_frames.ensures.few))

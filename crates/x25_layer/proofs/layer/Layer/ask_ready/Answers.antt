@@ -16,17 +16,17 @@ use Rattle.x25_layer.proofs.layer.Layer.ask_ready.Goals as goal
 pub returns-then-is_err : goal.returns-then-is_err
 returns-then-is_err g c = record {
   layer = λ s l x fits link.
-      short_layer (Unit {0}) s _ c.args.self.now l c.args.channel _ (outcome s.circuit (l.circuits c.args.channel) (plain_request c.args.request)) (c.without_memory.ensures s l (c.set_aside.ensures.fits s l fits));
+      short_layer (Unit {0}) s _ c.args.self.now l c.args.channel _ (outcome s.circuit (l.circuits c.args.channel) (plain_request c.args.request)) (c.without_memory.ensures s l (c.reserve_packets.ensures.fits s l fits));
   link = λ s l x fits link.
-      short_link (Unit {0}) (g.L.OrderedLink.fits c.set_aside.new.link) g.L.OrderedLink.after_put x s _ l c.args.channel _ (outcome s.circuit (l.circuits c.args.channel) (plain_request c.args.request)) (c.without_memory.ensures s l (c.set_aside.ensures.fits s l fits));
+      short_link (Unit {0}) (g.L.OrderedLink.fits c.reserve_packets.new.link) g.L.OrderedLink.after_put x s _ l c.args.channel _ (outcome s.circuit (l.circuits c.args.channel) (plain_request c.args.request)) (c.without_memory.ensures s l (c.reserve_packets.ensures.fits s l fits));
   layer_stays = search rules;
   link_stays = search rules;
   longest = search rules;
   missing = λ is.
-      let lacks : LacksMemory 16 c.args.self.now (g.L.OrderedLink.spares c.args.link.now) = search rules in
-      may_lack (is_message (plain_request c.args.request)) 16 c.args.self.now (g.L.OrderedLink.spares c.args.link.now) lacks;
+      let lacks : LacksMemory 16 c.args.self.now (g.L.OrderedLink.promised c.args.link.now) = search rules in
+      may_lack (is_message (plain_request c.args.request)) 16 c.args.self.now (g.L.OrderedLink.promised c.args.link.now) lacks;
   most_memory = search rules;
-  most_spares = search rules;
+  most_promised = search rules;
   room = search rules;
   room_stays = search rules;
 }
@@ -35,39 +35,39 @@ pub returns-in_err-packet : goal.returns-in_err-packet
 returns-in_err-packet g c = record {
   layer = λ s l x fits link.
       declined_layer c.from_residual.result s _ c.ask_circuit.new.self c.ask_circuit.new.self l c.args.channel c.in_err-packet.field-0.0 (outcome s.circuit (l.circuits c.args.channel) (plain_request c.args.request))
-      (c.in_err-packet.ensures.outcome s l (c.set_aside.ensures.fits s l fits)) c.from_residual.ensures.1;
+      (c.in_err-packet.ensures.outcome s l (c.reserve_packets.ensures.fits s l fits)) c.from_residual.ensures.1;
   link = λ s l x fits link.
-      declined_link c.from_residual.result (g.L.OrderedLink.fits c.set_aside.new.link) g.L.OrderedLink.after_put x s _ c.ask_circuit.new.self l c.args.channel c.in_err-packet.field-0.0 (outcome s.circuit (l.circuits c.args.channel) (plain_request c.args.request))
-      (c.in_err-packet.ensures.outcome s l (c.set_aside.ensures.fits s l fits)) c.from_residual.ensures.1;
-  layer_stays = λ s l fits. on_err c.from_residual.result (c.in_err-packet.ensures.fits s l (c.set_aside.ensures.fits s l fits));
+      declined_link c.from_residual.result (g.L.OrderedLink.fits c.reserve_packets.new.link) g.L.OrderedLink.after_put x s _ c.ask_circuit.new.self l c.args.channel c.in_err-packet.field-0.0 (outcome s.circuit (l.circuits c.args.channel) (plain_request c.args.request))
+      (c.in_err-packet.ensures.outcome s l (c.reserve_packets.ensures.fits s l fits)) c.from_residual.ensures.1;
+  layer_stays = λ s l fits. on_err c.from_residual.result (c.in_err-packet.ensures.fits s l (c.reserve_packets.ensures.fits s l fits));
   link_stays = search rules;
   longest = search rules;
   missing = λ is.
-      may_copy (is_message (plain_request c.args.request)) 16 c.args.self.now (g.L.OrderedLink.spares c.args.link.now)
+      may_copy (is_message (plain_request c.args.request)) 16 c.args.self.now (g.L.OrderedLink.promised c.args.link.now)
       (c.in_err-packet.ensures.missing (ap (λ (e : LayerError). Err e) (same_err c.from_residual.result c.in_err-packet.field-0.0 error.NoMemory c.from_residual.ensures.1 is)));
   most_memory = search rules;
-  most_spares = search rules;
+  most_promised = search rules;
   room = λ len has still.
       let same = c.ask_circuit.ensures.memory in
-      let more = c.set_aside.ensures.no_fewer in
-      let more_spares = c.set_aside.ensures.no_fewer_spares in
+      let more = c.reserve_packets.ensures.no_fewer in
+      let more_promised = c.reserve_packets.ensures.no_fewer_promised in
       let memory = has.memory in
-      let spares = has.spares in
+      let promised = has.promised in
       record {
         memory = omega (arith, same, more, memory);
-        spares = omega (arith, more_spares, spares);
-        circuits = c.ask_circuit.ensures.room len (subst (λ (v : code.Layer). HaveRoom len v.circuits.items) (sym c.set_aside.ensures.layer) has.circuits);
+        promised = omega (arith, more_promised, promised);
+        circuits = c.ask_circuit.ensures.room len (subst (λ (v : code.Layer). HaveRoom len v.circuits.items) (sym c.reserve_packets.ensures.layer) has.circuits);
       };
   room_stays = λ len has.
       let same = c.ask_circuit.ensures.memory in
-      let more = c.set_aside.ensures.no_fewer in
-      let more_spares = c.set_aside.ensures.no_fewer_spares in
+      let more = c.reserve_packets.ensures.no_fewer in
+      let more_promised = c.reserve_packets.ensures.no_fewer_promised in
       let memory = has.memory in
-      let spares = has.spares in
+      let promised = has.promised in
       on_err c.from_residual.result (record {
         memory = omega (arith, same, more, memory);
-        spares = omega (arith, more_spares, spares);
-        circuits = c.ask_circuit.ensures.room len (subst (λ (v : code.Layer). HaveRoom len v.circuits.items) (sym c.set_aside.ensures.layer) has.circuits);
+        promised = omega (arith, more_promised, promised);
+        circuits = c.ask_circuit.ensures.room len (subst (λ (v : code.Layer). HaveRoom len v.circuits.items) (sym c.reserve_packets.ensures.layer) has.circuits);
       });
 }
 
@@ -76,35 +76,35 @@ returns g c = record {
   layer = λ s l x fits link.
       let view : LinkView = view_of g.L.OrderedLink.up_in g.L.OrderedLink.waits_in g.L.OrderedLink.after_put x in
       let o : Outcome = outcome s.circuit (l.circuits c.args.channel) (plain_request c.args.request) in
-      let a : IsAccepted s c.ask_circuit.new.self l c.args.channel c.in_ok-packet.packet o = is_accepted s c.ask_circuit.new.self l c.args.channel c.in_ok-packet.packet o (sym fits.restarting ∙ c.requires.ready) (c.in_ok-packet.ensures.outcome s l (c.set_aside.ensures.fits s l fits)) in
+      let a : IsAccepted s c.ask_circuit.new.self l c.args.channel c.in_ok-packet.packet o = is_accepted s c.ask_circuit.new.self l c.args.channel c.in_ok-packet.packet o (sym fits.restarting ∙ c.requires.ready) (c.in_ok-packet.ensures.outcome s l (c.reserve_packets.ensures.fits s l fits)) in
       subst (λ (r : Answered). LayerGives s c.pull_all.new.self (Ok tt) r) (sym (ap (went view s) a.accepted))
-      (c.pull_all.ensures.layer s (begin a.next (packet_on c.args.channel (plain_sent c.in_ok-packet.packet))) x (c.put_sent.ensures.fits s a.next a.fits) (c.put_sent.ensures.link x (c.set_aside.ensures.link x link)));
+      (c.pull_all.ensures.layer s (begin a.next (packet_on c.args.channel (plain_sent c.in_ok-packet.packet))) x (c.put_sent.ensures.fits s a.next a.fits) (c.put_sent.ensures.link x (c.reserve_packets.ensures.link x link)));
   link = λ s l x fits link.
       let view : LinkView = view_of g.L.OrderedLink.up_in g.L.OrderedLink.waits_in g.L.OrderedLink.after_put x in
       let o : Outcome = outcome s.circuit (l.circuits c.args.channel) (plain_request c.args.request) in
-      let a : IsAccepted s c.ask_circuit.new.self l c.args.channel c.in_ok-packet.packet o = is_accepted s c.ask_circuit.new.self l c.args.channel c.in_ok-packet.packet o (sym fits.restarting ∙ c.requires.ready) (c.in_ok-packet.ensures.outcome s l (c.set_aside.ensures.fits s l fits)) in
+      let a : IsAccepted s c.ask_circuit.new.self l c.args.channel c.in_ok-packet.packet o = is_accepted s c.ask_circuit.new.self l c.args.channel c.in_ok-packet.packet o (sym fits.restarting ∙ c.requires.ready) (c.in_ok-packet.ensures.outcome s l (c.reserve_packets.ensures.fits s l fits)) in
       subst (λ (r : Answered). LinkGives (g.L.OrderedLink.fits c.pull_all.new.link) g.L.OrderedLink.after_put x (Ok tt) r) (sym (ap (went view s) a.accepted))
-      (c.pull_all.ensures.link s (begin a.next (packet_on c.args.channel (plain_sent c.in_ok-packet.packet))) x (c.put_sent.ensures.fits s a.next a.fits) (c.put_sent.ensures.link x (c.set_aside.ensures.link x link)));
+      (c.pull_all.ensures.link s (begin a.next (packet_on c.args.channel (plain_sent c.in_ok-packet.packet))) x (c.put_sent.ensures.fits s a.next a.fits) (c.put_sent.ensures.link x (c.reserve_packets.ensures.link x link)));
   layer_stays = search rules;
   link_stays = search rules;
   longest = search rules;
   missing = search rules;
   most_memory = search rules;
-  most_spares = search rules;
+  most_promised = search rules;
   room = λ len has still.
       let same = c.ask_circuit.ensures.memory in
-      let more = c.set_aside.ensures.no_fewer in
-      let more_spares = c.set_aside.ensures.no_fewer_spares in
-      let most_spares = c.set_aside.ensures.most_spares in
+      let more = c.reserve_packets.ensures.no_fewer in
+      let more_promised = c.reserve_packets.ensures.no_fewer_promised in
+      let most_promised = c.reserve_packets.ensures.most_promised in
       let owed = c.put_sent.ensures.takes.used in
       let pulled = c.pull_all.ensures.takes.used in
       let memory = has.memory in
-      let spares = has.spares in
+      let promised = has.promised in
       record {
-        memory = omega (arith, same, more, more_spares, most_spares, owed, pulled, memory, spares, still);
-        spares = omega (arith, spares, still);
+        memory = omega (arith, same, more, more_promised, most_promised, owed, pulled, memory, promised, still);
+        promised = omega (arith, promised, still);
         circuits = c.pull_all.ensures.room len (subst (λ v. HaveRoom len v.items) (sym c.put_sent.ensures.circuits)
-            (c.ask_circuit.ensures.room len (subst (λ (v : code.Layer). HaveRoom len v.circuits.items) (sym c.set_aside.ensures.layer) has.circuits)));
+            (c.ask_circuit.ensures.room len (subst (λ (v : code.Layer). HaveRoom len v.circuits.items) (sym c.reserve_packets.ensures.layer) has.circuits)));
       };
   room_stays = search rules;
 }

@@ -47,7 +47,7 @@ returns-in_err-ask_ready-clause-does g c = record {
   longest = search rules;
   missing = search rules;
   most_memory = search rules;
-  most_spares = search rules;
+  most_promised = search rules;
   room = search rules;
   room_stays = search rules;
 }

@@ -12,4 +12,4 @@ returns-clause-layer c = λ s l fits. record {
 }
 
 pub returns-clause-room : goal.returns-clause-room
-returns-clause-room c = λ len spares has. record { memory = has.memory; spares = has.spares; circuits = c.forget_all.ensures.room len has.circuits }
+returns-clause-room c = λ len promised has. record { memory = has.memory; promised = has.promised; circuits = c.forget_all.ensures.room len has.circuits }

@@ -23,7 +23,7 @@ returns-clause-hears g c = record {
   memory = search rules;
   room = λ len have still.
       subst (λ v. HaveRoom len v.items) (sym c.put_owed.ensures.circuits)
-      (kept_unless (plain_owed c.in_ok-reply.reply.packet) (g.L.OrderedLink.spares c.put_owed.new.link) (g.L.OrderedLink.spares c.args.link.now) (none_owed _ c.in_ok-reply.reply.packet (c.in_ok-reply.ensures.room len have)) c.put_owed.ensures.put still);
+      (kept_unless (plain_owed c.in_ok-reply.reply.packet) (g.L.OrderedLink.promised c.put_owed.new.link) (g.L.OrderedLink.promised c.args.link.now) (none_owed _ c.in_ok-reply.reply.packet (c.in_ok-reply.ensures.room len have)) c.put_owed.ensures.put still);
 }
 
 pub returns-in_err-reply-clause-stays : goal.returns-in_err-reply-clause-stays

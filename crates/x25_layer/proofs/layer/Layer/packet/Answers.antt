@@ -6,81 +6,81 @@ use Rattle.x25_layer.specs.code.FitsLayer.{FitsLayer}
 use Rattle.x25_layer.specs.code.OverLink.{after_all}
 use Rattle.x25_layer.specs.Rounds.{answer_to, begin}
 use Rattle.x25_layer.specs.Room.{HaveRoom}
-use Rattle.x25_layer.specs.Told.{plain_told}
+use Rattle.x25_layer.specs.Report.{plain_report}
 use Rattle.x25_layer.specs.declared.layer.Layer as code
 use Rattle.x25_layer.proofs.FitLemmas.{on_err}
 use Rattle.x25_layer.proofs.layer.Layer.packet.Goals as goal
 
-pub returns-in_err-set_aside-clause-layer_stays : goal.returns-in_err-set_aside-clause-layer_stays
-returns-in_err-set_aside-clause-layer_stays g c = λ s l fits. on_err c.from_residual.result (c.set_aside.ensures.fits s l fits)
+pub returns-in_err-reserve_packets-clause-layer_stays : goal.returns-in_err-reserve_packets-clause-layer_stays
+returns-in_err-reserve_packets-clause-layer_stays g c = λ s l fits. on_err c.from_residual.result (c.reserve_packets.ensures.fits s l fits)
 
 pub returns-in_err-told-clause-layer_stays : goal.returns-in_err-told-clause-layer_stays
-returns-in_err-told-clause-layer_stays g c = λ s l fits. on_err c.from_residual-in_err-told.result (c.in_err-told.ensures.stays.layer s l (c.set_aside.ensures.fits s l fits))
+returns-in_err-told-clause-layer_stays g c = λ s l fits. on_err c.from_residual-in_err-told.result (c.in_err-told.ensures.stays.layer s l (c.reserve_packets.ensures.fits s l fits))
 
 pub returns-clause-layer : goal.returns-clause-layer
 returns-clause-layer g c = λ s l x fits link.
-    let before = c.set_aside.ensures.fits s l fits in
+    let before = c.reserve_packets.ensures.fits s l fits in
     let octets = c.args.octets.now in
     let a : Bool → LayerAnswer = λ b. answer_to s l octets (read_in (is_some c.args.field) (longest_user b) octets) in
     c.pull_all.ensures.layer s (begin (a s.circuit.long_data).next (a s.circuit.long_data).owed) x
     (subst (λ (b : Bool). FitsLayer s c.hear.new.self (a b).next) before.long_data (c.in_ok-told.ensures.hears.layer s l before))
-    (subst (λ (b : Bool). g.L.OrderedLink.fits c.hear.new.link (after_all g.L.OrderedLink.after_put x (option_to_list (a b).owed))) before.long_data (c.in_ok-told.ensures.hears.link s l x before (c.set_aside.ensures.link x link)))
+    (subst (λ (b : Bool). g.L.OrderedLink.fits c.hear.new.link (after_all g.L.OrderedLink.after_put x (option_to_list (a b).owed))) before.long_data (c.in_ok-told.ensures.hears.link s l x before (c.reserve_packets.ensures.link x link)))
 
 pub returns-clause-link : goal.returns-clause-link
 returns-clause-link g c = λ s l x fits link.
-    let before = c.set_aside.ensures.fits s l fits in
+    let before = c.reserve_packets.ensures.fits s l fits in
     let octets = c.args.octets.now in
     let a : Bool → LayerAnswer = λ b. answer_to s l octets (read_in (is_some c.args.field) (longest_user b) octets) in
     c.pull_all.ensures.link s (begin (a s.circuit.long_data).next (a s.circuit.long_data).owed) x
     (subst (λ (b : Bool). FitsLayer s c.hear.new.self (a b).next) before.long_data (c.in_ok-told.ensures.hears.layer s l before))
-    (subst (λ (b : Bool). g.L.OrderedLink.fits c.hear.new.link (after_all g.L.OrderedLink.after_put x (option_to_list (a b).owed))) before.long_data (c.in_ok-told.ensures.hears.link s l x before (c.set_aside.ensures.link x link)))
+    (subst (λ (b : Bool). g.L.OrderedLink.fits c.hear.new.link (after_all g.L.OrderedLink.after_put x (option_to_list (a b).owed))) before.long_data (c.in_ok-told.ensures.hears.link s l x before (c.reserve_packets.ensures.link x link)))
 
 pub returns-clause-told : goal.returns-clause-told
 returns-clause-told g c = λ s l view fits.
-    let before = c.set_aside.ensures.fits s l fits in
+    let before = c.reserve_packets.ensures.fits s l fits in
     let octets = c.args.octets.now in
-    subst (λ (b : Bool). plain_told c.in_ok-told.told ≡ (answer_to s l octets (read_in (is_some c.args.field) (longest_user b) octets)).notices) before.long_data (c.in_ok-told.ensures.hears.told s l before)
+    subst (λ (b : Bool). plain_report c.in_ok-told.told ≡ (answer_to s l octets (read_in (is_some c.args.field) (longest_user b) octets)).notices) before.long_data (c.in_ok-told.ensures.hears.told s l before)
 
 -- of what is set aside as much is taken here as in the link
 
 pub returns-clause-used : goal.returns-clause-used
-returns-clause-used g c = λ memory spares.
-    let more = c.set_aside.ensures.no_fewer in
-    let most = c.set_aside.ensures.most_memory in
-    let more_spares = c.set_aside.ensures.no_fewer_spares in
-    let most_spares = c.set_aside.ensures.most_spares in
+returns-clause-used g c = λ memory promised.
+    let more = c.reserve_packets.ensures.no_fewer in
+    let most = c.reserve_packets.ensures.most_memory in
+    let more_promised = c.reserve_packets.ensures.no_fewer_promised in
+    let most_promised = c.reserve_packets.ensures.most_promised in
     let heard = c.in_ok-told.ensures.hears.takes.used in
     let pulled = c.pull_all.ensures.takes.used in
-    omega (arith, memory, spares, more, most, more_spares, most_spares, heard, pulled)
+    omega (arith, memory, promised, more, most, more_promised, most_promised, heard, pulled)
 
 pub returns-clause-room : goal.returns-clause-room
 returns-clause-room g c = λ len has still.
     let memory = has.memory in
-    let spares = has.spares in
-    let more = c.set_aside.ensures.no_fewer in
-    let more_spares = c.set_aside.ensures.no_fewer_spares in
-    let most_spares = c.set_aside.ensures.most_spares in
+    let promised = has.promised in
+    let more = c.reserve_packets.ensures.no_fewer in
+    let more_promised = c.reserve_packets.ensures.no_fewer_promised in
+    let most_promised = c.reserve_packets.ensures.most_promised in
     let heard = c.in_ok-told.ensures.hears.takes.used in
     let fewer = c.in_ok-told.ensures.hears.takes.no_more in
     let pulled = c.pull_all.ensures.takes.used in
     let lower = c.pull_all.ensures.takes.no_more in
-    let same : g.L.OrderedLink.spares c.hear.new.link ≡ g.L.OrderedLink.spares c.set_aside.new.link = omega (arith, spares, more_spares, most_spares, heard, fewer, pulled, lower, still) in
+    let same : g.L.OrderedLink.promised c.hear.new.link ≡ g.L.OrderedLink.promised c.reserve_packets.new.link = omega (arith, promised, more_promised, most_promised, heard, fewer, pulled, lower, still) in
     record {
-      memory = omega (arith, memory, spares, more, more_spares, most_spares, heard, pulled, lower, fewer, still);
-      spares = omega (arith, spares, still);
-      circuits = c.pull_all.ensures.room len (c.in_ok-told.ensures.hears.room len (subst (λ (v : code.Layer). HaveRoom len v.circuits.items) (sym c.set_aside.ensures.layer) has.circuits) same);
+      memory = omega (arith, memory, promised, more, more_promised, most_promised, heard, pulled, lower, fewer, still);
+      promised = omega (arith, promised, still);
+      circuits = c.pull_all.ensures.room len (c.in_ok-told.ensures.hears.room len (subst (λ (v : code.Layer). HaveRoom len v.circuits.items) (sym c.reserve_packets.ensures.layer) has.circuits) same);
     }
 
 pub returns-in_err-told-clause-room_stays : goal.returns-in_err-told-clause-room_stays
 returns-in_err-told-clause-room_stays g c = λ len has.
     let memory = has.memory in
-    let spares = has.spares in
-    let more = c.set_aside.ensures.no_fewer in
-    let more_spares = c.set_aside.ensures.no_fewer_spares in
+    let promised = has.promised in
+    let more = c.reserve_packets.ensures.no_fewer in
+    let more_promised = c.reserve_packets.ensures.no_fewer_promised in
     let same = c.in_err-told.ensures.stays.memory in
-    let same_spares = ap g.L.OrderedLink.spares c.in_err-told.ensures.stays.link in
+    let same_promised = ap g.L.OrderedLink.promised c.in_err-told.ensures.stays.link in
     on_err c.from_residual-in_err-told.result (record {
       memory = omega (arith, memory, more, same);
-      spares = omega (arith, spares, more_spares, same_spares);
-      circuits = c.in_err-told.ensures.stays.room len (subst (λ (v : code.Layer). HaveRoom len v.circuits.items) (sym c.set_aside.ensures.layer) has.circuits);
+      promised = omega (arith, promised, more_promised, same_promised);
+      circuits = c.in_err-told.ensures.stays.room len (subst (λ (v : code.Layer). HaveRoom len v.circuits.items) (sym c.reserve_packets.ensures.layer) has.circuits);
     })

@@ -9,16 +9,16 @@ use Rattle.x25_layer.proofs.CallLemmas.{refuses_all}
 use Rattle.x25_layer.proofs.SettleLemmas.{pulls_go}
 use Rattle.x25_layer.proofs.layer.Layer.pull.Goals as goal
 
-pub returns-in_err-set_aside : goal.returns-in_err-set_aside
-returns-in_err-set_aside g c = record {
+pub returns-in_err-reserve_packets : goal.returns-in_err-reserve_packets
+returns-in_err-reserve_packets g c = record {
   layer = search rules;
   link = search rules;
-  layer_stays = λ s l fits. on_err c.from_residual.result (c.set_aside.ensures.fits s l fits);
+  layer_stays = λ s l fits. on_err c.from_residual.result (c.reserve_packets.ensures.fits s l fits);
   link_stays = search rules;
   longest = search rules;
   missing = search rules;
   most_memory = search rules;
-  most_spares = search rules;
+  most_promised = search rules;
   room = search rules;
   room_stays = search rules;
 }
@@ -36,7 +36,7 @@ returns g c = record {
       let up : g.L.OrderedLink.up_in x ≡ true = search rules in
       let at_l : l.restarting ≡ false = sym fits.restarting ∙ c.in_default.ensures.ready in
       subst (λ (a : Answered). LayerGives s c.pull_all.new.self (Ok tt) a) (sym (pulls_go view s l up at_l))
-      (c.pull_all.ensures.layer s (begin l None) x (c.set_aside.ensures.fits s l fits) (c.set_aside.ensures.link x link));
+      (c.pull_all.ensures.layer s (begin l None) x (c.reserve_packets.ensures.fits s l fits) (c.reserve_packets.ensures.link x link));
   link = λ s l x fits link.
       let view : LinkView = view_of g.L.OrderedLink.up_in g.L.OrderedLink.waits_in g.L.OrderedLink.after_put x in
       let up_law = g.met.L.OrderedLink.up_is c.args.link.now x link in
@@ -44,24 +44,24 @@ returns g c = record {
       let up : g.L.OrderedLink.up_in x ≡ true = search rules in
       let at_l : l.restarting ≡ false = sym fits.restarting ∙ c.in_default.ensures.ready in
       subst (λ (a : Answered). LinkGives (g.L.OrderedLink.fits c.pull_all.new.link) g.L.OrderedLink.after_put x (Ok tt) a) (sym (pulls_go view s l up at_l))
-      (c.pull_all.ensures.link s (begin l None) x (c.set_aside.ensures.fits s l fits) (c.set_aside.ensures.link x link));
+      (c.pull_all.ensures.link s (begin l None) x (c.reserve_packets.ensures.fits s l fits) (c.reserve_packets.ensures.link x link));
   layer_stays = search rules;
   link_stays = search rules;
   longest = search rules;
   missing = search rules;
   most_memory = search rules;
-  most_spares = search rules;
+  most_promised = search rules;
   room = λ len has still.
-      let more = c.set_aside.ensures.no_fewer in
-      let more_spares = c.set_aside.ensures.no_fewer_spares in
-      let most_spares = c.set_aside.ensures.most_spares in
+      let more = c.reserve_packets.ensures.no_fewer in
+      let more_promised = c.reserve_packets.ensures.no_fewer_promised in
+      let most_promised = c.reserve_packets.ensures.most_promised in
       let pulled = c.pull_all.ensures.takes.used in
       let memory = has.memory in
-      let spares = has.spares in
+      let promised = has.promised in
       record {
-        memory = omega (arith, more, more_spares, most_spares, pulled, memory, spares, still);
-        spares = omega (arith, spares, still);
-        circuits = c.pull_all.ensures.room len (subst (λ (v : code.Layer). HaveRoom len v.circuits.items) (sym c.set_aside.ensures.layer) has.circuits);
+        memory = omega (arith, more, more_promised, most_promised, pulled, memory, promised, still);
+        promised = omega (arith, promised, still);
+        circuits = c.pull_all.ensures.room len (subst (λ (v : code.Layer). HaveRoom len v.circuits.items) (sym c.reserve_packets.ensures.layer) has.circuits);
       };
   room_stays = search rules;
 }

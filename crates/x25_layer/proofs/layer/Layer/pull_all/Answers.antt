@@ -34,7 +34,7 @@ loop-preserved g c =
 record Ended (g : given.Over) (c : goal.After-loop g) (s : LayerSettings) (x : g.L.OrderedLink.State) (p : Putting) : Type 0 where
   step : Putting
   keeps : KeepsRestarts p step
-  stands : Stands (g.L.OrderedLink.fits c.round.new.link) g.L.OrderedLink.lists g.L.OrderedLink.after_put s c.round.new.circuits.items c.round.new.memory (g.L.OrderedLink.spares c.round.new.link) x step
+  stands : Stands (g.L.OrderedLink.fits c.round.new.link) g.L.OrderedLink.lists g.L.OrderedLink.after_put s c.round.new.circuits.items c.round.new.memory (g.L.OrderedLink.promised c.round.new.link) x step
   end : rounds (view_of g.L.OrderedLink.up_in g.L.OrderedLink.waits_in g.L.OrderedLink.after_put x) s p ≡ step
 
 ended : (g : given.Over) (c : goal.After-loop g) (s : LayerSettings) (x : g.L.OrderedLink.State) (p : Putting) → FitsLayer s c.args.self.now p.layer → g.L.OrderedLink.fits c.args.link.now (after_all g.L.OrderedLink.after_put x p.put) → Ended g c s x p
@@ -43,20 +43,20 @@ ended g c s x p fits link =
     let y : g.L.OrderedLink.State = after_all g.L.OrderedLink.after_put x p.put in
     let begins = g.met.L.OrderedLink.begins c.args.link.now y link in
     let here = c.requires.memory in
-    let there = c.requires.spares in
+    let there = c.requires.promised in
     let found = c.loop.invariant.stands s x p (record {
       channels = fits.channels;
       circuits = fits.circuits;
       link = link;
       memory = (let e : IsEnough (g.L.OrderedLink.lists y) c.args.self.now.memory = omega (arith, begins, here) in e);
-      spares = (let e : IsEnough (g.L.OrderedLink.lists y) (g.L.OrderedLink.spares c.args.link.now) = omega (arith, begins, there) in e);
+      promised = (let e : IsEnough (g.L.OrderedLink.lists y) (g.L.OrderedLink.promised c.args.link.now) = omega (arith, begins, there) in e);
     }) in
     let t : Putting = found.0 in
     let none = c.round.ensures.none s x t found.2 c.loop-test.false in
     record {
       step = t;
       keeps = found.1;
-      stands = subst (λ (u : Putting). Stands (g.L.OrderedLink.fits c.round.new.link) g.L.OrderedLink.lists g.L.OrderedLink.after_put s c.round.new.circuits.items c.round.new.memory (g.L.OrderedLink.spares c.round.new.link) x u) none
+      stands = subst (λ (u : Putting). Stands (g.L.OrderedLink.fits c.round.new.link) g.L.OrderedLink.lists g.L.OrderedLink.after_put s c.round.new.circuits.items c.round.new.memory (g.L.OrderedLink.promised c.round.new.link) x u) none
           (c.round.ensures.stands s x t found.2);
       end = sym found.3 ∙ rounds_at_end view s t none;
     }

@@ -17,9 +17,9 @@ invariant-loop g l = record {
   room : (len : ℕ) → HaveRoom len l.initial.self.circuits.items → HaveRoom len l.self.circuits.items;
   takes : TakesAlike g.L.OrderedLink l.initial.self.memory l.initial.link l.self.memory l.link;
   stands : (c : LayerSettings) (x : g.L.OrderedLink.State) (s : Putting)
-      → Stands (g.L.OrderedLink.fits l.initial.link) g.L.OrderedLink.lists g.L.OrderedLink.after_put c l.initial.self.circuits.items l.initial.self.memory (g.L.OrderedLink.spares l.initial.link) x s
+      → Stands (g.L.OrderedLink.fits l.initial.link) g.L.OrderedLink.lists g.L.OrderedLink.after_put c l.initial.self.circuits.items l.initial.self.memory (g.L.OrderedLink.promised l.initial.link) x s
       → (t : Putting) × KeepsRestarts s t
-      × Stands (g.L.OrderedLink.fits l.link) g.L.OrderedLink.lists g.L.OrderedLink.after_put c l.self.circuits.items l.self.memory (g.L.OrderedLink.spares l.link) x t
+      × Stands (g.L.OrderedLink.fits l.link) g.L.OrderedLink.lists g.L.OrderedLink.after_put c l.self.circuits.items l.self.memory (g.L.OrderedLink.promised l.link) x t
       × (rounds (view_of g.L.OrderedLink.up_in g.L.OrderedLink.waits_in g.L.OrderedLink.after_put x) c t ≡ rounds (view_of g.L.OrderedLink.up_in g.L.OrderedLink.waits_in g.L.OrderedLink.after_put x) c s);
 }
 

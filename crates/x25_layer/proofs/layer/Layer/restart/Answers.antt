@@ -7,16 +7,16 @@ use Rattle.x25_layer.proofs.CallLemmas.{refuses_all}
 use Rattle.x25_layer.proofs.SettleLemmas.{restart_goes}
 use Rattle.x25_layer.proofs.layer.Layer.restart.Goals as goal
 
-pub returns-in_err-set_aside : goal.returns-in_err-set_aside
-returns-in_err-set_aside g c = record {
+pub returns-in_err-reserve_packets : goal.returns-in_err-reserve_packets
+returns-in_err-reserve_packets g c = record {
   layer = search rules;
   link = search rules;
-  layer_stays = λ s l fits. on_err c.from_residual.result (c.set_aside.ensures.fits s l fits);
+  layer_stays = λ s l fits. on_err c.from_residual.result (c.reserve_packets.ensures.fits s l fits);
   link_stays = search rules;
   longest = search rules;
   missing = search rules;
   most_memory = search rules;
-  most_spares = search rules;
+  most_promised = search rules;
   room = search rules;
   room_stays = search rules;
 }
@@ -28,7 +28,7 @@ returns-in-Some g c = refuses_all _ g.L.OrderedLink c.args.self.now c.args.link.
 pub returns : goal.returns
 returns g c = record {
   layer = λ s l x fits link.
-      let before = c.set_aside.ensures.fits s l fits in
+      let before = c.reserve_packets.ensures.fits s l fits in
       let view : LinkView = view_of g.L.OrderedLink.up_in g.L.OrderedLink.waits_in g.L.OrderedLink.after_put x in
       let up_law = g.met.L.OrderedLink.up_is c.args.link.now x link in
       let waits_law = g.met.L.OrderedLink.waits_are c.args.link.now x link in
@@ -47,13 +47,13 @@ returns g c = record {
       let at_l : l.restarting ≡ false = sym fits.restarting ∙ c.in_default.ensures.ready in
       let free : g.L.OrderedLink.waits_in x ≡ 256 → ⊥ = λ full. grind (arith, full, waits_law, c.waiting.ensures.value, c.if-waiting-eq256.false) in
       subst (λ (a : Answered). LinkGives (g.L.OrderedLink.fits c.send_restart.new.link) g.L.OrderedLink.after_put x (Ok tt) a) (sym (restart_goes view s l up at_l free))
-      (c.send_restart.ensures.link x (c.set_aside.ensures.link x link));
+      (c.send_restart.ensures.link x (c.reserve_packets.ensures.link x link));
   layer_stays = search rules;
   link_stays = search rules;
   longest = search rules;
   missing = search rules;
   most_memory = search rules;
-  most_spares = search rules;
+  most_promised = search rules;
   room = search rules;
   room_stays = search rules;
 }

@@ -59,8 +59,8 @@ pub returns-in_err-owed-clause-room_stays : goal.returns-in_err-owed-clause-room
 returns-in_err-owed-clause-room_stays g c = λ len has.
     let same = c.take_on.ensures.memory in
     let memory = has.memory in
-    none_keeps c.from_residual-in_err-owed.result (HasRoom len c.take_on.new.self (g.L.OrderedLink.spares c.args.link.now)) (record {
+    none_keeps c.from_residual-in_err-owed.result (HasRoom len c.take_on.new.self (g.L.OrderedLink.promised c.args.link.now)) (record {
       memory = omega (arith, same, memory);
-      spares = has.spares;
+      promised = has.promised;
       circuits = c.in_err-owed.ensures.room_stays len has.circuits;
     })

@@ -9,12 +9,12 @@ use Rattle.x25_layer.proofs.FitLemmas.{on_err}
 use Rattle.x25_layer.proofs.SettleLemmas.{comes_up_alone}
 use Rattle.x25_layer.proofs.layer.Layer.up.Goals as goal
 
-pub returns-in_err-set_aside-clause-layer_stays : goal.returns-in_err-set_aside-clause-layer_stays
-returns-in_err-set_aside-clause-layer_stays g c = λ s l fits. on_err c.from_residual.result (c.set_aside.ensures.fits s l fits)
+pub returns-in_err-reserve_packets-clause-layer_stays : goal.returns-in_err-reserve_packets-clause-layer_stays
+returns-in_err-reserve_packets-clause-layer_stays g c = λ s l fits. on_err c.from_residual.result (c.reserve_packets.ensures.fits s l fits)
 
 pub returns-clause-layer : goal.returns-clause-layer
 returns-clause-layer g c = λ s l x fits link.
-    let before = c.set_aside.ensures.fits s l fits in
+    let before = c.reserve_packets.ensures.fits s l fits in
     subst (λ (p : Putting). FitsLayer s c.put.new.self p.layer) (sym (comes_up_alone (view_of g.L.OrderedLink.up_in g.L.OrderedLink.waits_in g.L.OrderedLink.after_put x) s))
     (c.put.ensures.fits s _ (record {
       role = before.role;
@@ -27,7 +27,7 @@ returns-clause-layer g c = λ s l x fits link.
 
 pub returns-clause-link : goal.returns-clause-link
 returns-clause-link g c = λ s l x fits link.
-    let before = c.set_aside.ensures.fits s l fits in
+    let before = c.reserve_packets.ensures.fits s l fits in
     let cause : c.restart_cause.result ≡ restart_cause s.circuit.role = subst (λ r. c.restart_cause.result ≡ restart_cause r) before.role c.restart_cause.ensures in
     subst (λ (p : Putting). g.L.OrderedLink.fits c.put.new.link (after_all g.L.OrderedLink.after_put x p.put)) (sym (comes_up_alone (view_of g.L.OrderedLink.up_in g.L.OrderedLink.waits_in g.L.OrderedLink.after_put x) s))
-    (subst (λ (n : ℕ). g.L.OrderedLink.fits c.put.new.link (g.L.OrderedLink.after_put x (spelling_of (restart n 0)))) cause (c.put.ensures.link x (c.set_aside.ensures.link x link)))
+    (subst (λ (n : ℕ). g.L.OrderedLink.fits c.put.new.link (g.L.OrderedLink.after_put x (spelling_of (restart n 0)))) cause (c.put.ensures.link x (c.reserve_packets.ensures.link x link)))

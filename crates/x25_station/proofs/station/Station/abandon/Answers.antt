@@ -30,8 +30,8 @@ invariant_of-self c = record {
       let before = c.args.self.now.aside in
       let low = before.packets in
       let memory = c.note_down.ensures.memory in
-      let spares : c.swap_frames.new.self.outbox.long ≡ 0 = ap (λ o. o.long) c.swap_frames.ensures.outbox in
-      record { packets = omega (arith, memory, low); spares = omega (arith, spares); texts = before.texts };
+      let promised : c.swap_frames.new.self.outbox.long ≡ 0 = ap (λ o. o.long) c.swap_frames.ensures.outbox in
+      record { packets = omega (arith, memory, low); promised = omega (arith, promised); texts = before.texts };
 }
 
 pub returns-clause-does : goal.returns-clause-does

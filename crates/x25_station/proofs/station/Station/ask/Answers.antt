@@ -19,11 +19,11 @@ pub returns-in-Some : goal.returns-in-Some
 returns-in-Some c = declines_request (Unit {0}) c.in-Some.error _ c.args.self.now _ _ (Asks c.args.channel (plain_request c.args.request)) c.of_layer.ensures
     (λ d k x fits link. refuses_early (Unit {0}) d c.args.self.now.layer c.in-Some.error _ (sym c.in-Some.is ∙ c.refusal.ensures d k x fits link)) (λ d k fits. fits) (λ x fits. fits) c.requires refl
 
-pub returns-in_err-make_room : goal.returns-in_err-make_room
-returns-in_err-make_room c = hands_on c.args.self.now _ _ c.from_residual.result c.in_err-make_room.field-0.0 _ c.from_residual.ensures.1 c.in_err-make_room.ensures.refused c.make_room.ensures.empty (λ c' s fits. fits)
+pub returns-in_err-reserve : goal.returns-in_err-reserve
+returns-in_err-reserve c = hands_on c.args.self.now _ _ c.from_residual.result c.in_err-reserve.field-0.0 _ c.from_residual.ensures.1 c.in_err-reserve.ensures.refused c.reserve.ensures.empty (λ c' s fits. fits)
 
 pub returns-in_err-asked : goal.returns-in_err-asked
-returns-in_err-asked c = hands_on c.args.self.now _ _ c.from_residual-in_err-asked.result c.in_err-asked.field-0.0 _ c.from_residual-in_err-asked.ensures.1 c.in_err-asked.ensures.err c.make_room.ensures.empty (λ c' s fits. fits)
+returns-in_err-asked c = hands_on c.args.self.now _ _ c.from_residual-in_err-asked.result c.in_err-asked.field-0.0 _ c.from_residual-in_err-asked.ensures.1 c.in_err-asked.ensures.err c.reserve.ensures.empty (λ c' s fits. fits)
 
 pub ask-requires : goal.ask-requires
 ask-requires c = takes_longest c.args.self.now.link c.args.self.now.layer c.args.self.now.meant
@@ -32,16 +32,16 @@ pub invariant_of-self-in-Ok : goal.invariant_of-self-in-Ok
 invariant_of-self-in-Ok c = record {
   meant = still_meant _ _ _ _ c.args.self.now.meant (λ c' s fits.
       let request = Asks c.args.channel (plain_request c.args.request) in
-      let a = answers c.in-Ok.field-0 c' _ c.ask.new.link c.swap_frames.new.self _ c.ask.new.self (record { frames = c.swap_frames.new.frames; entries = c.enter.new.entries; timer = c.make_room.new.self.timer }) s request fits
-      c.in-Ok.ensures.layer c.in-Ok.ensures.link c.swap_frames.ensures.station (ap (λ o. o.made) c.swap_frames.ensures.outbox ∙ ap (map (λ frame. frame.items)) c.make_room.ensures.empty.frames) c.swap_frames.ensures.frames
+      let a = answers c.in-Ok.field-0 c' _ c.ask.new.link c.swap_frames.new.self _ c.ask.new.self (record { frames = c.swap_frames.new.frames; entries = c.enter.new.entries; timer = c.reserve.new.self.timer }) s request fits
+      c.in-Ok.ensures.layer c.in-Ok.ensures.link c.swap_frames.ensures.station (ap (λ o. o.made) c.swap_frames.ensures.outbox ∙ ap (map (λ frame. frame.items)) c.reserve.ensures.empty.frames) c.swap_frames.ensures.frames
       (c.steps_keep_bounds.ensures.request c' s request fits.kept) in
       leaves_some c' _ _ (requests c' s request) a.state a.refused);
   aside =
       let before = c.args.self.now.aside in
       let packets = c.in-Ok.ensures.most_memory in
       let low = before.packets in
-      let spares : c.swap_frames.new.self.outbox.long ≡ 0 = ap (λ o. o.long) c.swap_frames.ensures.outbox in
-      record { packets = omega (arith, packets, low); spares = omega (arith, spares); texts = before.texts };
+      let promised : c.swap_frames.new.self.outbox.long ≡ 0 = ap (λ o. o.long) c.swap_frames.ensures.outbox in
+      record { packets = omega (arith, packets, low); promised = omega (arith, promised); texts = before.texts };
 }
 
 pub invariant_of-self-in-Err : goal.invariant_of-self-in-Err
@@ -51,25 +51,25 @@ invariant_of-self-in-Err c = record {
   aside =
       let before = c.args.self.now.aside in
       let packets = c.in-Err.ensures.most_memory in
-      let spares = c.in-Err.ensures.most_spares in
+      let promised = c.in-Err.ensures.most_promised in
       let low = before.packets in
-      let few = before.spares in
-      record { packets = omega (arith, packets, low); spares = omega (arith, spares, few); texts = before.texts };
+      let few = before.promised in
+      record { packets = omega (arith, packets, low); promised = omega (arith, promised, few); texts = before.texts };
 }
 
 pub returns-in-Ok : goal.returns-in-Ok
 returns-in-Ok c =
     let request = Asks c.args.channel (plain_request c.args.request) in
-    let r : code_step.Step = record { frames = c.swap_frames.new.frames; entries = c.enter.new.entries; timer = c.make_room.new.self.timer } in
-    did_request c.in-Ok.field-0 c.args.self.now _ c.ask.new.link r request c.in-Ok.ensures.layer c.in-Ok.ensures.link c.swap_frames.ensures.station (ap (λ o. o.made) c.swap_frames.ensures.outbox ∙ ap (map (λ frame. frame.items)) c.make_room.ensures.empty.frames) c.swap_frames.ensures.frames
+    let r : code_step.Step = record { frames = c.swap_frames.new.frames; entries = c.enter.new.entries; timer = c.reserve.new.self.timer } in
+    did_request c.in-Ok.field-0 c.args.self.now _ c.ask.new.link r request c.in-Ok.ensures.layer c.in-Ok.ensures.link c.swap_frames.ensures.station (ap (λ o. o.made) c.swap_frames.ensures.outbox ∙ ap (map (λ frame. frame.items)) c.reserve.ensures.empty.frames) c.swap_frames.ensures.frames
     c.steps_keep_bounds.ensures.request c.holds_few.ensures.window c.holds_few.ensures.stand
     (λ c' s fits.
     let h = c.args.channel in
     asked_enters c.in-Ok.field-0 c' _ _ c.ask.new.self s r h (plain_request c.args.request) fits c.in-Ok.ensures.layer (λ k after configured.
     c.enter.ensures.entered (layer_settings c') k after configured
-    ∙ ap (λ es. map plain_entry es ++ of_channel (record { channel = h; name = name_of k h; said = plain_said (said.Asked c.as_shown-asked.result) }) ∷ []) c.make_room.ensures.empty.entries
+    ∙ ap (λ es. map plain_entry es ++ of_channel (record { channel = h; name = name_of k h; said = plain_said (said.Asked c.as_shown-asked.result) }) ∷ []) c.reserve.ensures.empty.entries
     ∙ ap (λ q. of_channel (record { channel = h; name = name_of k h; said = Asked q }) ∷ []) (c.as_shown-asked.ensures (layer_settings c') k after configured ∙ c.in_ok-asked.ensures.ok (k.circuits h))))
-    (grind (arith, c.enter.ensures.length, ap length c.make_room.ensures.empty.entries, c.make_room.new.self.entries.ok)) refl
+    (grind (arith, c.enter.ensures.length, ap length c.reserve.ensures.empty.entries, c.reserve.new.self.entries.ok)) refl
 
 pub returns-in-Err : goal.returns-in-Err
-returns-in-Err c = declines_request _ c.in-Err.error _ c.args.self.now _ _ (Asks c.args.channel (plain_request c.args.request)) c.of_layer-in-Err.ensures c.in-Err.ensures.layer c.in-Err.ensures.layer_stays c.in-Err.ensures.link_stays c.make_room.ensures.empty refl
+returns-in-Err c = declines_request _ c.in-Err.error _ c.args.self.now _ _ (Asks c.args.channel (plain_request c.args.request)) c.of_layer-in-Err.ensures c.in-Err.ensures.layer c.in-Err.ensures.layer_stays c.in-Err.ensures.link_stays c.reserve.ensures.empty refl

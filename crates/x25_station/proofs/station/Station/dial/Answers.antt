@@ -24,16 +24,16 @@ pub invariant_of-self-in-Ok : goal.invariant_of-self-in-Ok
 invariant_of-self-in-Ok c = record {
   meant = still_meant _ _ _ _ c.args.self.now.meant (λ c' s fits.
       let request = Dials c.args.called.now c.args.calling.now c.args.user.now c.args.proposal.now in
-      let a = answers c.in-Ok.channel c' _ c.call.new.link c.swap_frames.new.self _ c.call.new.self (record { frames = c.swap_frames.new.frames; entries = c.enter.new.entries; timer = c.make_room.new.self.timer }) s request fits
-      c.in-Ok.ensures.does.layer c.in-Ok.ensures.does.link c.swap_frames.ensures.station (ap (λ o. o.made) c.swap_frames.ensures.outbox ∙ ap (map (λ frame. frame.items)) c.make_room.ensures.empty.frames) c.swap_frames.ensures.frames
+      let a = answers c.in-Ok.channel c' _ c.call.new.link c.swap_frames.new.self _ c.call.new.self (record { frames = c.swap_frames.new.frames; entries = c.enter.new.entries; timer = c.reserve.new.self.timer }) s request fits
+      c.in-Ok.ensures.does.layer c.in-Ok.ensures.does.link c.swap_frames.ensures.station (ap (λ o. o.made) c.swap_frames.ensures.outbox ∙ ap (map (λ frame. frame.items)) c.reserve.ensures.empty.frames) c.swap_frames.ensures.frames
       (c.steps_keep_bounds.ensures.request c' s request fits.kept) in
       leaves_some c' _ _ (requests c' s request) a.state a.refused);
   aside =
       let before = c.args.self.now.aside in
       let packets = c.in-Ok.ensures.does.most_memory in
       let low = before.packets in
-      let spares : c.swap_frames.new.self.outbox.long ≡ 0 = ap (λ o. o.long) c.swap_frames.ensures.outbox in
-      record { packets = omega (arith, packets, low); spares = omega (arith, spares); texts = before.texts };
+      let promised : c.swap_frames.new.self.outbox.long ≡ 0 = ap (λ o. o.long) c.swap_frames.ensures.outbox in
+      record { packets = omega (arith, packets, low); promised = omega (arith, promised); texts = before.texts };
 }
 
 pub invariant_of-self-in-Err-1 : goal.invariant_of-self-in-Err-1
@@ -43,25 +43,25 @@ invariant_of-self-in-Err-1 c = record {
   aside =
       let before = c.args.self.now.aside in
       let packets = c.in-Err.ensures.does.most_memory in
-      let spares = c.in-Err.ensures.does.most_spares in
+      let promised = c.in-Err.ensures.does.most_promised in
       let low = before.packets in
-      let few = before.spares in
-      record { packets = omega (arith, packets, low); spares = omega (arith, spares, few); texts = before.texts };
+      let few = before.promised in
+      record { packets = omega (arith, packets, low); promised = omega (arith, promised, few); texts = before.texts };
 }
 
 pub returns-in-Ok : goal.returns-in-Ok
 returns-in-Ok c =
     let request = Dials c.args.called.now c.args.calling.now c.args.user.now c.args.proposal.now in
-    let r : code_step.Step = record { frames = c.swap_frames.new.frames; entries = c.enter.new.entries; timer = c.make_room.new.self.timer } in
-    did_request c.in-Ok.channel c.args.self.now _ c.call.new.link r request c.in-Ok.ensures.does.layer c.in-Ok.ensures.does.link c.swap_frames.ensures.station (ap (λ o. o.made) c.swap_frames.ensures.outbox ∙ ap (map (λ frame. frame.items)) c.make_room.ensures.empty.frames) c.swap_frames.ensures.frames
+    let r : code_step.Step = record { frames = c.swap_frames.new.frames; entries = c.enter.new.entries; timer = c.reserve.new.self.timer } in
+    did_request c.in-Ok.channel c.args.self.now _ c.call.new.link r request c.in-Ok.ensures.does.layer c.in-Ok.ensures.does.link c.swap_frames.ensures.station (ap (λ o. o.made) c.swap_frames.ensures.outbox ∙ ap (map (λ frame. frame.items)) c.reserve.ensures.empty.frames) c.swap_frames.ensures.frames
     c.steps_keep_bounds.ensures.request c.holds_few.ensures.window c.holds_few.ensures.stand
     (λ c' s fits.
     let h = c.in-Ok.channel in
     dialled_enters c' _ _ c.call.new.self s r h c.args.called.now c.args.calling.now c.args.user.now c.args.proposal.now fits c.in-Ok.ensures.does.layer (c.in-Ok.ensures.channel (layer_settings c') s.layer fits.layer) (λ k after configured.
     c.enter.ensures.entered (layer_settings c') k after configured
-    ∙ ap (λ es. map plain_entry es ++ of_channel (record { channel = h; name = name_of k h; said = plain_said (said.Asked c.in_ok-asked.asked) }) ∷ []) c.make_room.ensures.empty.entries
+    ∙ ap (λ es. map plain_entry es ++ of_channel (record { channel = h; name = name_of k h; said = plain_said (said.Asked c.in_ok-asked.asked) }) ∷ []) c.reserve.ensures.empty.entries
     ∙ ap (λ q. of_channel (record { channel = h; name = name_of k h; said = Asked q }) ∷ []) (c.in_ok-asked.ensures.ok ∙ ap (λ (p : Params). Calls c.args.called.now c.args.calling.now c.args.user.now (in_brief p)) c.params.ensures)))
-    (grind (arith, c.enter.ensures.length, ap length c.make_room.ensures.empty.entries, c.make_room.new.self.entries.ok)) refl
+    (grind (arith, c.enter.ensures.length, ap length c.reserve.ensures.empty.entries, c.reserve.new.self.entries.ok)) refl
 
 pub returns-in-Err : goal.returns-in-Err
-returns-in-Err c = declines_request _ c.in-Err.error _ c.args.self.now _ _ (Dials c.args.called.now c.args.calling.now c.args.user.now c.args.proposal.now) c.of_layer-in-Err.ensures c.in-Err.ensures.does.layer c.in-Err.ensures.does.layer_stays c.in-Err.ensures.does.link_stays c.make_room.ensures.empty refl
+returns-in-Err c = declines_request _ c.in-Err.error _ c.args.self.now _ _ (Dials c.args.called.now c.args.calling.now c.args.user.now c.args.proposal.now) c.of_layer-in-Err.ensures c.in-Err.ensures.does.layer c.in-Err.ensures.does.layer_stays c.in-Err.ensures.does.link_stays c.reserve.ensures.empty refl

@@ -24,15 +24,15 @@ invariant_of-self c = record {
       (ap (λ n. n.down) (c.in-Ok.ensures.heard (link_settings c') s.link fits.link).notes)
       (taken_link (link_settings c') c.t1.new.self c.swap_frames.new.self k.side.near c.swap_frames.ensures.station (c.in-Ok.ensures.state (link_settings c') s.link fits.link))
       (c.note_down.ensures.layer (layer_settings c') s.layer fits.layer)
-      (ap (λ o. o.made) c.swap_frames.ensures.outbox ∙ ap (map (λ frame. frame.items)) c.make_room.ensures.empty.frames)
+      (ap (λ o. o.made) c.swap_frames.ensures.outbox ∙ ap (map (λ frame. frame.items)) c.reserve.ensures.empty.frames)
       (c.steps_keep_bounds.ensures.timer c' s fits.kept))
       (goes _ (timer_refusal s.link) step (c.in-Ok.ensures.refused (link_settings c') s.link fits.link)));
   aside =
       let before = c.args.self.now.aside in
       let low = before.packets in
       let memory = c.note_down.ensures.memory in
-      let spares : c.swap_frames.new.self.outbox.long ≡ 0 = ap (λ o. o.long) c.swap_frames.ensures.outbox in
-      record { packets = omega (arith, memory, low); spares = omega (arith, spares); texts = before.texts };
+      let promised : c.swap_frames.new.self.outbox.long ≡ 0 = ap (λ o. o.long) c.swap_frames.ensures.outbox in
+      record { packets = omega (arith, memory, low); promised = omega (arith, promised); texts = before.texts };
 }
 
 pub invariant_of-self-in-Err-1 : goal.invariant_of-self-in-Err-1
@@ -47,17 +47,17 @@ returns-in-Ok c = record {
       (ap (λ n. n.down) (c.in-Ok.ensures.heard (link_settings c') s.link fits.link).notes)
       (taken_link (link_settings c') c.t1.new.self c.swap_frames.new.self k.side.near c.swap_frames.ensures.station (c.in-Ok.ensures.state (link_settings c') s.link fits.link))
       (c.note_down.ensures.layer (layer_settings c') s.layer fits.layer)
-      (ap (λ o. o.made) c.swap_frames.ensures.outbox ∙ ap (map (λ frame. frame.items)) c.make_room.ensures.empty.frames)
+      (ap (λ o. o.made) c.swap_frames.ensures.outbox ∙ ap (map (λ frame. frame.items)) c.reserve.ensures.empty.frames)
       (c.steps_keep_bounds.ensures.timer c' s fits.kept);
   frames = λ c' s fits.
       let k = timer_step (link_settings c') s.link in
-      sends_unless c' (record { frames = c.swap_frames.new.frames; entries = c.note_down.new.entries; timer = c.make_room.new.self.timer }) (timer_refusal s.link) (follows c' s.layer k)
+      sends_unless c' (record { frames = c.swap_frames.new.frames; entries = c.note_down.new.entries; timer = c.reserve.new.self.timer }) (timer_refusal s.link) (follows c' s.layer k)
       (frames_down c' s.layer k _ (follows c' s.layer k) (timer_down c' s.layer s.link) (own_frames c'.role _ _ (map (λ frame. frame.items) c.swap_frames.new.frames.items) k.side.out fits.sent (c.in-Ok.ensures.frames (link_settings c') s.link fits.link) c.swap_frames.ensures.frames));
   entries = λ c' s fits.
       let k = timer_step (link_settings c') s.link in
-      enters_unless (record { frames = c.swap_frames.new.frames; entries = c.note_down.new.entries; timer = c.make_room.new.self.timer }) (timer_refusal s.link) (follows c' s.layer k)
+      enters_unless (record { frames = c.swap_frames.new.frames; entries = c.note_down.new.entries; timer = c.reserve.new.self.timer }) (timer_refusal s.link) (follows c' s.layer k)
       (entries_noted_down s.layer k [] _ _ (follows c' s.layer k) (timer_down c' s.layer s.link) (ap (λ n. n.down) (c.in-Ok.ensures.heard (link_settings c') s.link fits.link).notes)
-      (c.note_down.ensures.entries ∙ ap (λ es. map plain_entry es ++ entries_down c.in-Ok.heard.notes.down) c.make_room.ensures.empty.entries));
+      (c.note_down.ensures.entries ∙ ap (λ es. map plain_entry es ++ entries_down c.in-Ok.heard.notes.down) c.reserve.ensures.empty.entries));
   refused = λ c' s fits.
       goes _ (timer_refusal s.link) (follows c' s.layer (timer_step (link_settings c') s.link)) (c.in-Ok.ensures.refused (link_settings c') s.link fits.link);
   stays = λ c' s fits. tt;
@@ -66,7 +66,7 @@ returns-in-Ok c = record {
       own_few c.swap_frames.new.frames.items (λ frame. frame.items) c.args.self.now.link.outbox.made c.t1.new.self.outbox.made fits.sent
       (c.in-Ok.ensures.few (link_settings c') s.link fits.link) c.swap_frames.ensures.frames) in
       grind (arith, few, c.swap_frames.new.frames.ok));
-  few_entries = grind (arith, c.note_down.ensures.length, ap length c.make_room.ensures.empty.entries, c.make_room.new.self.entries.ok);
+  few_entries = grind (arith, c.note_down.ensures.length, ap length c.reserve.ensures.empty.entries, c.reserve.new.self.entries.ok);
 }
 
 pub returns-in-Err : goal.returns-in-Err
@@ -74,4 +74,4 @@ returns-in-Err c = declines c.args.self.now _ _ _ fires (λ c' s fits.
     refused Heard Unit c.in-Err.error _ (timer_refusal s.link) (follows c' s.layer (timer_step (link_settings c') s.link)) (timer_named s.link) c.of_link.ensures
     (c.in-Err.ensures.refused (link_settings c') s.link fits.link))
     (λ c' s fits. subst (λ l. FitsParts c' c.args.self.now.manner l c.args.self.now.layer s) (sym c.in-Err.ensures.err) fits)
-    c.make_room.ensures.empty
+    c.reserve.ensures.empty

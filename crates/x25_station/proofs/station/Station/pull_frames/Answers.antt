@@ -21,8 +21,8 @@ invariant_of-self c = record {
       let before = c.args.self.now.aside in
       let packets = c.pull-answer.ensures.most_memory in
       let low = before.packets in
-      let spares : c.swap_frames-2.new.self.outbox.long ≡ 0 = ap (λ o. o.long) c.swap_frames-2.ensures.outbox in
-      record { packets = omega (arith, packets, low); spares = omega (arith, spares); texts = before.texts };
+      let promised : c.swap_frames-2.new.self.outbox.long ≡ 0 = ap (λ o. o.long) c.swap_frames-2.ensures.outbox in
+      record { packets = omega (arith, packets, low); promised = omega (arith, promised); texts = before.texts };
 }
 
 pub returns-in-Ok-clause-pulls : goal.returns-in-Ok-clause-pulls

@@ -29,8 +29,8 @@ invariant_of-self c = record {
       (goes _ (connect_refusal s.link.phase) step (c.in-Ok.ensures.refused (link_settings c') s.link fits.link)));
   aside =
       let before = c.args.self.now.aside in
-      let spares : c.swap_frames.new.self.outbox.long ≡ 0 = ap (λ o. o.long) c.swap_frames.ensures.outbox in
-      record { packets = before.packets; spares = omega (arith, spares); texts = before.texts };
+      let promised : c.swap_frames.new.self.outbox.long ≡ 0 = ap (λ o. o.long) c.swap_frames.ensures.outbox in
+      record { packets = before.packets; promised = omega (arith, promised); texts = before.texts };
 }
 
 pub invariant_of-self-in-Err-1 : goal.invariant_of-self-in-Err-1

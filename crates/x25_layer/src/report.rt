@@ -3,7 +3,7 @@ use x25_circuit::Notice;
 /// What is reported to the users of octets that were handed up. Addresses and user data are borrowed from the octets; a
 /// message is handed over whole.
 #[derive(Debug, Drop)]
-pub enum Told<'a> {
+pub enum Report<'a> {
     /// Nothing: they were dropped, or there is nothing to tell of them.
     Nothing,
     /// The user of a channel, by a notice, or at least that this end's own call was dropped.

@@ -6,7 +6,7 @@ use Rattle.x25_layer.specs.Layer.{LayerSettings}
 use Rattle.x25_layer.specs.code.FitsLayer.{FitsCircuits}
 use Rattle.x25_layer.specs.code.Waiting.{NoneWaits}
 use Rattle.x25_layer.specs.Room.{HaveCountsLeft, HaveRoom, HaveAtMost}
-use Rattle.x25_layer.proofs.room.room_in_all.Given as goal
+use Rattle.x25_layer.proofs.room.reserve_in_all.Given as goal
 
 abbrev pub invariant-loop-circuit : goal.invariant-loop-circuit
 invariant-loop-circuit l = record {

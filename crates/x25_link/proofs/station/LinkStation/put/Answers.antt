@@ -5,8 +5,8 @@ use Rattle.x25_link.specs.code.Fits.{FitsSide}
 use Rattle.x25_link.proofs.OutgoingLemmas.{sent_length, added_fits}
 use Rattle.x25_link.proofs.FitsLemmas.{with_outgoing, pump_fits, may_send_is}
 use Rattle.x25_link.proofs.EndLemmas.{with_packet, put_once, once_none}
-use Rattle.x25_link.proofs.station.LinkStation.give.Goals.{then-not-is_up-via-then-not-is_up, then-not-is_up-via-else-not-is_up+then-self, then-not-is_up-via-else-not-is_up+else-self+then-self-2}
-use Rattle.x25_link.proofs.station.LinkStation.give.Goals as goal
+use Rattle.x25_link.proofs.station.LinkStation.put.Goals.{then-not-is_up-via-then-not-is_up, then-not-is_up-via-else-not-is_up+then-self, then-not-is_up-via-else-not-is_up+else-self+then-self-2}
+use Rattle.x25_link.proofs.station.LinkStation.put.Goals as goal
 
 pub returns-then-not-is_up-clause-step : goal.returns-then-not-is_up-clause-step
 returns-then-not-is_up-clause-step c = λ d before s fits settled calm.

@@ -8,7 +8,7 @@ use Rattle.x25_layer.specs.code.FitsLayer.{FitsCircuits}
 use Rattle.x25_layer.specs.code.Waiting.{NoneWaits}
 use Rattle.x25_layer.specs.Room.{HasCountsLeft, HaveCountsLeft, HaveRoom, HaveAtMost}
 use Rattle.x25_layer.proofs.FitLemmas.{counts_left, refused_with, written_back, all_changed, below_changed}
-use Rattle.x25_layer.proofs.room.room_in_all.Goals as goal
+use Rattle.x25_layer.proofs.room.reserve_in_all.Goals as goal
 
 -- what holds where a call isn't refused
 kept_ok : {T E P : Type 0} (r : Result T E) → is_err r ≡ false → OnOk r P → P
@@ -22,25 +22,25 @@ loop-circuit-preserved c =
     record {
       fits = λ s f fits.
           let before = c.loop-circuit.invariant.fits s f fits in
-          all_changed (λ (k : ℕ) (v : circuit_code.Circuit). FitsCircuit s.circuit v (f (suc k))) c.loop-circuit.circuit-items i c.room.new.self before (c.room.ensures.fits s.circuit (f (suc i)) (before i _ found));
+          all_changed (λ (k : ℕ) (v : circuit_code.Circuit). FitsCircuit s.circuit v (f (suc k))) c.loop-circuit.circuit-items i c.reserve.new.self before (c.reserve.ensures.fits s.circuit (f (suc i)) (before i _ found));
       left = λ all.
           let before = c.loop-circuit.invariant.left all in
-          all_changed (λ (k : ℕ) (v : circuit_code.Circuit). HasCountsLeft v) c.loop-circuit.circuit-items i c.room.new.self before (counts_left _ c.room.new.self c.room.ensures.clears c.room.ensures.resets (before i _ found));
+          all_changed (λ (k : ℕ) (v : circuit_code.Circuit). HasCountsLeft v) c.loop-circuit.circuit-items i c.reserve.new.self before (counts_left _ c.reserve.new.self c.reserve.ensures.clears c.reserve.ensures.resets (before i _ found));
       still = λ all.
           let before = c.loop-circuit.invariant.still all in
-          all_changed (λ (k : ℕ) (v : circuit_code.Circuit). waits_of v ≡ 0) c.loop-circuit.circuit-items i c.room.new.self before (c.room.ensures.waits ∙ before i _ found);
+          all_changed (λ (k : ℕ) (v : circuit_code.Circuit). waits_of v ≡ 0) c.loop-circuit.circuit-items i c.reserve.new.self before (c.reserve.ensures.waits ∙ before i _ found);
       enough = λ all.
           let before = c.loop-circuit.invariant.enough all in
           let here = before i _ found in
-          let grows = c.room.ensures.grows in
-          all_changed (λ (k : ℕ) (v : circuit_code.Circuit). min c.args.len 4096 ≤ room_of v) c.loop-circuit.circuit-items i c.room.new.self before (omega (arith, here, grows));
+          let grows = c.reserve.ensures.grows in
+          all_changed (λ (k : ℕ) (v : circuit_code.Circuit). min c.args.len 4096 ≤ room_of v) c.loop-circuit.circuit-items i c.reserve.new.self before (omega (arith, here, grows));
       most = λ bound high all.
           let before = c.loop-circuit.invariant.most bound high all in
           let here = before i _ found in
-          let most = c.room.ensures.most in
-          all_changed (λ (k : ℕ) (v : circuit_code.Circuit). room_of v ≤ bound) c.loop-circuit.circuit-items i c.room.new.self before (omega (arith, here, most, high));
-      room = below_changed (λ (v : circuit_code.Circuit). min c.args.len 4096 ≤ room_of v) c.loop-circuit.circuit-items i c.room.new.self c.loop-circuit.invariant.room
-          (kept_ok c.room.result (sym c.is_err.ensures.value ∙ c.if-is_err.false) c.room.ensures.ok);
+          let most = c.reserve.ensures.most in
+          all_changed (λ (k : ℕ) (v : circuit_code.Circuit). room_of v ≤ bound) c.loop-circuit.circuit-items i c.reserve.new.self before (omega (arith, here, most, high));
+      room = below_changed (λ (v : circuit_code.Circuit). min c.args.len 4096 ≤ room_of v) c.loop-circuit.circuit-items i c.reserve.new.self c.loop-circuit.invariant.room
+          (kept_ok c.reserve.result (sym c.is_err.ensures.value ∙ c.if-is_err.false) c.reserve.ensures.ok);
     }
 
 -- ---- for none
@@ -53,52 +53,52 @@ returns-then-len-eq0-clause-room c = λ k v at. (let none = c.if-len-eq0.true in
 pub returns-then-is_err-clause-fits : goal.returns-then-is_err-clause-fits
 returns-then-is_err-clause-fits c =
     let i : ℕ = c.loop-circuit.circuit-index in
-    let items : List circuit_code.Circuit = set c.loop-circuit.circuit-items i c.room.new.self in
+    let items : List circuit_code.Circuit = set c.loop-circuit.circuit-items i c.reserve.new.self in
     let found = slice_get-get_or c.loop-circuit.circuit-items i c.circuit-item.result (omega arith) in
-    let long : length items ≡ length c.loop-circuit.circuit-items = length-set c.loop-circuit.circuit-items i c.room.new.self in
+    let long : length items ≡ length c.loop-circuit.circuit-items = length-set c.loop-circuit.circuit-items i c.reserve.new.self in
     let all = written_back c.args.circuits.now.len c.args.circuits.now.items items (omega arith) (omega (arith, long)) in
     λ s f fits.
     let before = c.loop-circuit.invariant.fits s f (subst (λ (vs : List circuit_code.Circuit). FitsCircuits s vs f) (sym c.deref_mut-circuit-items.ensures.value) fits) in
     subst (λ (vs : List circuit_code.Circuit). FitsCircuits s vs f) (sym all)
-    (all_changed (λ (k : ℕ) (v : circuit_code.Circuit). FitsCircuit s.circuit v (f (suc k))) c.loop-circuit.circuit-items i c.room.new.self before (c.room.ensures.fits s.circuit (f (suc i)) (before i _ found)))
+    (all_changed (λ (k : ℕ) (v : circuit_code.Circuit). FitsCircuit s.circuit v (f (suc k))) c.loop-circuit.circuit-items i c.reserve.new.self before (c.reserve.ensures.fits s.circuit (f (suc i)) (before i _ found)))
 
 pub returns-then-is_err-clause-left : goal.returns-then-is_err-clause-left
 returns-then-is_err-clause-left c =
     let i : ℕ = c.loop-circuit.circuit-index in
-    let items : List circuit_code.Circuit = set c.loop-circuit.circuit-items i c.room.new.self in
+    let items : List circuit_code.Circuit = set c.loop-circuit.circuit-items i c.reserve.new.self in
     let found = slice_get-get_or c.loop-circuit.circuit-items i c.circuit-item.result (omega arith) in
-    let long : length items ≡ length c.loop-circuit.circuit-items = length-set c.loop-circuit.circuit-items i c.room.new.self in
+    let long : length items ≡ length c.loop-circuit.circuit-items = length-set c.loop-circuit.circuit-items i c.reserve.new.self in
     let all = written_back c.args.circuits.now.len c.args.circuits.now.items items (omega arith) (omega (arith, long)) in
     λ left.
     let before = c.loop-circuit.invariant.left (subst (λ (vs : List circuit_code.Circuit). HaveCountsLeft vs) (sym c.deref_mut-circuit-items.ensures.value) left) in
     subst (λ (vs : List circuit_code.Circuit). HaveCountsLeft vs) (sym all)
-    (all_changed (λ (k : ℕ) (v : circuit_code.Circuit). HasCountsLeft v) c.loop-circuit.circuit-items i c.room.new.self before (counts_left _ c.room.new.self c.room.ensures.clears c.room.ensures.resets (before i _ found)))
+    (all_changed (λ (k : ℕ) (v : circuit_code.Circuit). HasCountsLeft v) c.loop-circuit.circuit-items i c.reserve.new.self before (counts_left _ c.reserve.new.self c.reserve.ensures.clears c.reserve.ensures.resets (before i _ found)))
 
 pub returns-then-is_err-clause-still : goal.returns-then-is_err-clause-still
 returns-then-is_err-clause-still c =
     let i : ℕ = c.loop-circuit.circuit-index in
-    let items : List circuit_code.Circuit = set c.loop-circuit.circuit-items i c.room.new.self in
+    let items : List circuit_code.Circuit = set c.loop-circuit.circuit-items i c.reserve.new.self in
     let found = slice_get-get_or c.loop-circuit.circuit-items i c.circuit-item.result (omega arith) in
-    let long : length items ≡ length c.loop-circuit.circuit-items = length-set c.loop-circuit.circuit-items i c.room.new.self in
+    let long : length items ≡ length c.loop-circuit.circuit-items = length-set c.loop-circuit.circuit-items i c.reserve.new.self in
     let all = written_back c.args.circuits.now.len c.args.circuits.now.items items (omega arith) (omega (arith, long)) in
     λ none.
     let before = c.loop-circuit.invariant.still (subst (λ (vs : List circuit_code.Circuit). NoneWaits vs) (sym c.deref_mut-circuit-items.ensures.value) none) in
     subst (λ (vs : List circuit_code.Circuit). NoneWaits vs) (sym all)
-    (all_changed (λ (k : ℕ) (v : circuit_code.Circuit). waits_of v ≡ 0) c.loop-circuit.circuit-items i c.room.new.self before (c.room.ensures.waits ∙ before i _ found))
+    (all_changed (λ (k : ℕ) (v : circuit_code.Circuit). waits_of v ≡ 0) c.loop-circuit.circuit-items i c.reserve.new.self before (c.reserve.ensures.waits ∙ before i _ found))
 
 pub returns-then-is_err-clause-most : goal.returns-then-is_err-clause-most
 returns-then-is_err-clause-most c =
     let i : ℕ = c.loop-circuit.circuit-index in
-    let items : List circuit_code.Circuit = set c.loop-circuit.circuit-items i c.room.new.self in
+    let items : List circuit_code.Circuit = set c.loop-circuit.circuit-items i c.reserve.new.self in
     let found = slice_get-get_or c.loop-circuit.circuit-items i c.circuit-item.result (omega arith) in
-    let long : length items ≡ length c.loop-circuit.circuit-items = length-set c.loop-circuit.circuit-items i c.room.new.self in
+    let long : length items ≡ length c.loop-circuit.circuit-items = length-set c.loop-circuit.circuit-items i c.reserve.new.self in
     let all = written_back c.args.circuits.now.len c.args.circuits.now.items items (omega arith) (omega (arith, long)) in
     λ bound high few.
     let before = c.loop-circuit.invariant.most bound high (subst (λ (vs : List circuit_code.Circuit). HaveAtMost bound vs) (sym c.deref_mut-circuit-items.ensures.value) few) in
     let here = before i _ found in
-    let most = c.room.ensures.most in
+    let most = c.reserve.ensures.most in
     subst (λ (vs : List circuit_code.Circuit). HaveAtMost bound vs) (sym all)
-    (all_changed (λ (k : ℕ) (v : circuit_code.Circuit). room_of v ≤ bound) c.loop-circuit.circuit-items i c.room.new.self before (omega (arith, here, most, high)))
+    (all_changed (λ (k : ℕ) (v : circuit_code.Circuit). room_of v ≤ bound) c.loop-circuit.circuit-items i c.reserve.new.self before (omega (arith, here, most, high)))
 
 -- no memory is taken where there is enough
 pub returns-then-is_err-clause-enough : goal.returns-then-is_err-clause-enough
@@ -107,7 +107,7 @@ returns-then-is_err-clause-enough c = λ enough.
     let found = slice_get-get_or c.loop-circuit.circuit-items i c.circuit-item.result (omega arith) in
     let before = c.loop-circuit.invariant.enough (subst (λ (vs : List circuit_code.Circuit). HaveRoom c.args.len vs) (sym c.deref_mut-circuit-items.ensures.value) enough) in
     let here = before i _ found in
-    let missing = refused_with c.room.result (sym c.is_err.ensures.value ∙ c.if-is_err.true) c.room.ensures.missing in
+    let missing = refused_with c.reserve.result (sym c.is_err.ensures.value ∙ c.if-is_err.true) c.reserve.ensures.missing in
     absurd (omega (arith, here, missing))
 
 -- ---- at the end

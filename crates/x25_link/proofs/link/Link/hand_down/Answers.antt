@@ -1,12 +1,12 @@
 use Rattle.std.proofs.Common.{sym, subst, append-nil}
 use Rattle.x25_link.specs.code.FitsLink.{ShownLink, FitsLink}
 use Rattle.x25_link.proofs.EndLemmas.{with_packet, ended_settled, ended_calm}
-use Rattle.x25_link.proofs.link.Link.give.Goals as goal
+use Rattle.x25_link.proofs.link.Link.hand_down.Goals as goal
 
 pub returns-clause-state : goal.returns-clause-state
 returns-clause-state c = λ d s fits.
     let inside = subst (λ (v : ShownLink). FitsLink d v s) (sym c.self.view_is) fits in
-    let side = rw c.of.ensures at (c.give.ensures.step d _ s (record { near = inside.near; out = sym (append-nil _) }) inside.settled inside.calm) in
+    let side = rw c.of.ensures at (c.put.ensures.step d _ s (record { near = inside.near; out = sym (append-nil _) }) inside.settled inside.calm) in
     let sound = inside.near.outgoing.sender.sound in
     record {
       near = side.near;
