@@ -11,13 +11,13 @@ mod law;
 mod layer;
 mod putting;
 mod receiving;
+mod report;
 mod restarting;
 mod room;
 mod rounds;
 mod sending;
 mod stretch;
 mod taking;
-mod report;
 
 pub use error::LayerError;
 pub use law::{
@@ -25,8 +25,8 @@ pub use law::{
     messages_wait_for_users, names_are_told, two_layers_keep_order,
 };
 pub use layer::Layer;
+pub use report::Report;
 pub use stretch::Stretch;
 pub use taking::Delivery;
-pub use report::Report;
 pub use x25_bits::Role;
 pub use x25_circuit::{Params, Proposal};

@@ -1,7 +1,7 @@
 //! Octets that the link handed up: what the users are told, and what is owed.
 
 use crate::play::Event::{
-    Accept, Call, Full, Restart, Reserve, Send, State, Take, TakeWide, Transfer,
+    Accept, Call, Full, Reserve, Restart, Send, State, Take, TakeWide, Transfer,
 };
 use crate::play::{Row, play};
 use std::test::Fail;

@@ -64,7 +64,7 @@ pub enum Event<'a> {
 
 use Event::{
     Accept, AcceptWith, Agreed, Call, CallWith, Clear, Down, Fill, Full, Interrupt, Joined,
-    NotReady, Pull, Ready, Reset, Restart, Reserve, Send, State, Take, TakeWide, Transfer, Up,
+    NotReady, Pull, Ready, Reserve, Reset, Restart, Send, State, Take, TakeWide, Transfer, Up,
     Waiting, Waits,
 };
 

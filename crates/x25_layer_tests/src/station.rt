@@ -1,7 +1,7 @@
 //! A layer over a link station.
 
 use crate::play::Event::{
-    Accept, Call, Clear, Down, Interrupt, NotReady, Ready, Reset, Restart, Reserve, Send, Take, Up,
+    Accept, Call, Clear, Down, Interrupt, NotReady, Ready, Reserve, Reset, Restart, Send, Take, Up,
 };
 use crate::play::{Shown, plays_over};
 use crate::texts::append;
