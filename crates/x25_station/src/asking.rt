@@ -195,7 +195,7 @@ impl Station {
         ensures timer { TellsTimer self.old out.new.timer result false
             (λ c s. commands c s (command_of command.entry)) }
     {
-        self.reuse(out);
+        self.empty(out);
         let before = self.clock();
         let answer = self.carry_out(&command, out);
         out.timer = self.timer_behind(before, false, out.entries.as_slice());
