@@ -196,7 +196,7 @@ impl Station {
         ensures pull { command_of command.entry ≡ Requests PullsAll → (c : Settings) (s : State)
             → FitsStation c self.old s → RefusesExactly result (requests c s PullsAll) }
     {
-        self.reuse(out);
+        self.empty(out);
         let before = self.clock();
         let answer = self.carry_out(&command, out);
         out.timer = self.timer_behind(before, false, out.entries.as_slice());

@@ -1,5 +1,5 @@
 //! What a packet brings beside what the station takes it for.
-ghost use Rattle.std.specs.Prelude.{◌≡◌};
+ghost use Rattle.std.specs.Prelude.{◌≡◌, true};
 ghost use Rattle.x25_station.specs.Beside.{AreFew, beside_in, beside_kind, of_block, of_fields, plain_beside};
 ghost use Rattle.x25_station.specs.Beside.{without_user};
 ghost use Rattle.x25_wide.specs.Block.{plain_fields, plain_optional};
@@ -66,12 +66,12 @@ fn beside_kind<'a>(kind: Kind<'a>) -> Beside<'a>
 
 /// What octets bring beside the packet that a station takes them for, where it reads packets in all their forms.
 /// Nothing where they are a packet in the form that it writes, or none. A CALL may have 128 octets of user data here.
-pub(crate) fn beside_of<'a>(wide: bool, octets: &'a [u8]) -> Beside<'a>
-    ensures exact { plain_beside result ≡ beside_in wide octets.now }
+pub(crate) fn beside_of<'a>(octets: &'a [u8]) -> Beside<'a>
+    ensures exact { plain_beside result ≡ beside_in true octets.now }
     // At most 109 octets of facilities, and 128 of user data.
     ensures few { AreFew (plain_beside result) }
 {
-    if !wide || decode_within(FAST_SELECT_OCTETS, octets).is_ok() {
+    if decode_within(FAST_SELECT_OCTETS, octets).is_ok() {
         return Beside::Nothing;
     }
     match decode(FAST_SELECT_OCTETS, octets) {

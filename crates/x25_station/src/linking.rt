@@ -30,7 +30,7 @@ impl Station {
         ensures exactly { (c : Settings) (s : State) → FitsStation c self.old s → RefusesExactly result (connects c s) }
         ensures timer { TellsTimer self.old out.new.timer result false connects }
     {
-        self.reuse(out);
+        self.empty(out);
         let before = self.clock();
         let answer = self.set_up(out);
         out.timer = self.timer_behind(before, false, out.entries.as_slice());
@@ -74,7 +74,7 @@ impl Station {
         ensures does { Does self.old self.new out.new result fires }
         ensures timer { TellsTimer self.old out.new.timer result true fires }
     {
-        self.reuse(out);
+        self.empty(out);
         let before = self.clock();
         let answer = self.fire(out);
         out.timer = self.timer_behind(before, answer.is_ok(), out.entries.as_slice());

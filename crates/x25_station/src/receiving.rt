@@ -160,7 +160,9 @@ fn follow(
     }
     if let Some(packet) = packet {
         let channel = hear(layer, link, texts, wide, packet, entries);
-        enter_beside(texts, beside_of(wide, packet), channel, entries);
+        if wide {
+            enter_beside(texts, beside_of(packet), channel, entries);
+        }
     }
 }
 
@@ -175,7 +177,7 @@ impl Station {
         ensures refused { RefusesForMemory result }
         ensures timer { TellsTimer self.old out.new.timer result false (λ c s. Did (receives c s octets.now)) }
     {
-        self.reuse(out);
+        self.empty(out);
         let before = self.clock();
         let answer = self.come(octets, out);
         out.timer = self.timer_behind(before, false, out.entries.as_slice());

@@ -35,7 +35,16 @@ impl Station {
         ensures empty { IsEmpty out.new }
         ensures timer { (c : Settings) (s : State) → FitsStation c self.old s → out.new.timer ≡ standing s }
     {
+        self.empty(out);
         out.timer = self.clock().standing();
+    }
+
+    /// As `reuse`, but for timer T1, of which a call says at its end what becomes of it.
+    #[inline(always)]
+    pub(crate) fn empty(&mut self, out: &mut Step)
+        ensures fits { (c : Settings) (s : State) → FitsStation c self.old s → FitsStation c self.new s }
+        ensures empty { IsEmpty out.new }
+    {
         if !out.frames.is_empty() {
             self.reuse_frames(&mut out.frames);
         }

@@ -1,7 +1,9 @@
 use Rattle.std.proofs.Common.{option_copied, ◌++◌, map, ap, sym, subst, ◌∙◌}
+use Rattle.std.proofs.lemmas.List.{append-nil}
 use Rattle.x25_link.specs.code.FitsLink.{FitsWhole}
 use Rattle.x25_layer.specs.code.FitsLayer.{FitsLayer}
 use Rattle.x25_layer.specs.Rounds.{Putting}
+use Rattle.x25_station.specs.Beside.{beside_in}
 use Rattle.x25_station.specs.Config.{link_settings, layer_settings}
 use Rattle.x25_station.specs.Receiving.{kept_of}
 use Rattle.x25_station.specs.Station.{all_put, view_of}
@@ -29,21 +31,21 @@ returns-then-is_some-clause-layer c = λ c' l t fits link.
     at_down (λ (s : Putting). FitsLayer lc c.note_down.new.layer s.layer) (view_of (link_settings c') t.near) lc c.args.wide l (option_copied c.args.packet) c.args.notes.down c.args.notes.up c.if-notes.false
     (sym c.is_some.ensures ∙ c.if-is_some.true) (c.note_down.ensures.layer lc l fits)
 
-pub returns-in-Some-clause-layer : goal.returns-in-Some-clause-layer
-returns-in-Some-clause-layer c = λ c' l t fits link.
+pub returns-then-wide-clause-layer : goal.returns-then-wide-clause-layer
+returns-then-wide-clause-layer c = λ c' l t fits link.
     let lc = layer_settings c' in
     at_heard (λ (s : Putting). FitsLayer lc c.hear-channel.new.layer s.layer) (view_of (link_settings c') t.near) lc c.args.wide l (option_copied c.args.packet) c.in-Some.packet.now c.args.notes.down c.args.notes.up c.if-notes.false
     (sym c.is_some.ensures ∙ c.if-is_some.false) (ap option_copied c.in-Some.is) (c.hear-channel.ensures.layer c' l t (subst (λ y. FitsLayer lc y l) (sym (c.note_down.ensures.same (is_none _ (sym c.is_some.ensures ∙ c.if-is_some.false)))) fits) link)
 
-pub returns-in-Some-clause-link : goal.returns-in-Some-clause-link
-returns-in-Some-clause-link c = λ c' l t fits link.
+pub returns-then-wide-clause-link : goal.returns-then-wide-clause-link
+returns-then-wide-clause-link c = λ c' l t fits link.
     let lc = layer_settings c' in
     let lk = link_settings c' in
     at_heard (λ (s : Putting). FitsWhole c.hear-channel.new.link (kept_of lk (all_put lk s.put t))) (view_of lk t.near) lc c.args.wide l (option_copied c.args.packet) c.in-Some.packet.now c.args.notes.down c.args.notes.up c.if-notes.false
     (sym c.is_some.ensures ∙ c.if-is_some.false) (ap option_copied c.in-Some.is) (c.hear-channel.ensures.link c' l t (subst (λ y. FitsLayer lc y l) (sym (c.note_down.ensures.same (is_none _ (sym c.is_some.ensures ∙ c.if-is_some.false)))) fits) link)
 
-pub returns-in-Some-clause-entries : goal.returns-in-Some-clause-entries
-returns-in-Some-clause-entries c = λ c' l t fits link.
+pub returns-then-wide-clause-entries : goal.returns-then-wide-clause-entries
+returns-then-wide-clause-entries c = λ c' l t fits link.
     let lc = layer_settings c' in
     let none = is_none _ (sym c.is_some.ensures ∙ c.if-is_some.false) in
     let stays = subst (λ y. FitsLayer lc y l) (sym (c.note_down.ensures.same none)) fits in
@@ -51,7 +53,31 @@ returns-in-Some-clause-entries c = λ c' l t fits link.
     heard_entries lc c.args.wide l (option_copied c.args.packet) c.in-Some.packet.now c.args.notes (map plain_entry c.args.entries.now.items) _ _ _ _
     c.if-notes.false none (ap option_copied c.in-Some.is)
     (c.hear-channel.ensures.entries c' l t stays link ∙ ap (λ es. map plain_entry es.items ++ told) (c.note_down.ensures.nothing none))
-    (c.hear-channel.ensures.bringing c' l t stays link) c.beside_of.ensures.exact c.enter_beside.ensures.entered
+    (c.hear-channel.ensures.bringing c' l t stays link) (c.beside_of.ensures.exact ∙ ap (λ b. beside_in b c.in-Some.packet.now) (sym c.if-wide.true)) c.enter_beside.ensures.entered
+
+pub returns-else-wide-clause-layer : goal.returns-else-wide-clause-layer
+returns-else-wide-clause-layer c = λ c' l t fits link.
+    let lc = layer_settings c' in
+    at_heard (λ (s : Putting). FitsLayer lc c.hear-channel.new.layer s.layer) (view_of (link_settings c') t.near) lc c.args.wide l (option_copied c.args.packet) c.in-Some.packet.now c.args.notes.down c.args.notes.up c.if-notes.false
+    (sym c.is_some.ensures ∙ c.if-is_some.false) (ap option_copied c.in-Some.is) (c.hear-channel.ensures.layer c' l t (subst (λ y. FitsLayer lc y l) (sym (c.note_down.ensures.same (is_none _ (sym c.is_some.ensures ∙ c.if-is_some.false)))) fits) link)
+
+pub returns-else-wide-clause-link : goal.returns-else-wide-clause-link
+returns-else-wide-clause-link c = λ c' l t fits link.
+    let lc = layer_settings c' in
+    let lk = link_settings c' in
+    at_heard (λ (s : Putting). FitsWhole c.hear-channel.new.link (kept_of lk (all_put lk s.put t))) (view_of lk t.near) lc c.args.wide l (option_copied c.args.packet) c.in-Some.packet.now c.args.notes.down c.args.notes.up c.if-notes.false
+    (sym c.is_some.ensures ∙ c.if-is_some.false) (ap option_copied c.in-Some.is) (c.hear-channel.ensures.link c' l t (subst (λ y. FitsLayer lc y l) (sym (c.note_down.ensures.same (is_none _ (sym c.is_some.ensures ∙ c.if-is_some.false)))) fits) link)
+
+pub returns-else-wide-clause-entries : goal.returns-else-wide-clause-entries
+returns-else-wide-clause-entries c = λ c' l t fits link.
+    let lc = layer_settings c' in
+    let none = is_none _ (sym c.is_some.ensures ∙ c.if-is_some.false) in
+    let stays = subst (λ y. FitsLayer lc y l) (sym (c.note_down.ensures.same none)) fits in
+    let told = entries_of_answer (layer_answer lc c.args.wide l c.in-Some.packet.now) in
+    heard_entries lc c.args.wide l (option_copied c.args.packet) c.in-Some.packet.now c.args.notes (map plain_entry c.args.entries.now.items) _ _ _ _
+    c.if-notes.false none (ap option_copied c.in-Some.is)
+    (c.hear-channel.ensures.entries c' l t stays link ∙ ap (λ es. map plain_entry es.items ++ told) (c.note_down.ensures.nothing none))
+    (c.hear-channel.ensures.bringing c' l t stays link) (ap (λ b. beside_in b c.in-Some.packet.now) (sym c.if-wide.false)) (sym (append-nil _))
 
 pub returns-in_default-clause-layer : goal.returns-in_default-clause-layer
 returns-in_default-clause-layer c = λ c' l t fits link.

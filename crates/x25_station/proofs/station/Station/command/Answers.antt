@@ -5,13 +5,13 @@ use Rattle.x25_station.proofs.DoesLemmas.{reused}
 use Rattle.x25_station.proofs.station.Station.command.Goals as goal
 
 pub returns-clause-does : goal.returns-clause-does
-returns-clause-does c = reused _ c.reuse.new.self _ c.carry_out-answer.new.out c.timer_behind-out.result _ _ c.reuse.ensures.fits c.carry_out-answer.ensures.does
+returns-clause-does c = reused _ c.empty.new.self _ c.carry_out-answer.new.out c.timer_behind-out.result _ _ c.empty.ensures.fits c.carry_out-answer.ensures.does
 
 pub returns-clause-timer : goal.returns-clause-timer
 returns-clause-timer c = λ c' s fits.
-    let now = c.reuse.ensures.fits c' s fits in
-    timed c' s c.reuse.new.self c.carry_out-answer.new.self c.carry_out-answer.new.out c.timer_behind-out.result now c.carry_out-answer.result _ false false c.carry_out-answer.ensures.does (always c.carry_out-answer.result refl) (not_ever c.carry_out-answer.result refl)
+    let now = c.empty.ensures.fits c' s fits in
+    timed c' s c.empty.new.self c.carry_out-answer.new.self c.carry_out-answer.new.out c.timer_behind-out.result now c.carry_out-answer.result _ false false c.carry_out-answer.ensures.does (always c.carry_out-answer.result refl) (not_ever c.carry_out-answer.result refl)
     (λ step near entries. c.timer_behind-out.ensures c' s step (c.clock-before.ensures c' s now) near (ap (map plain_entry) c.as_slice.ensures.value ∙ entries))
 
 pub returns-clause-pull : goal.returns-clause-pull
-returns-clause-pull c = λ is c' s fits. c.carry_out-answer.ensures.pull is c' s (c.reuse.ensures.fits c' s fits)
+returns-clause-pull c = λ is c' s fits. c.carry_out-answer.ensures.pull is c' s (c.empty.ensures.fits c' s fits)

@@ -5,13 +5,13 @@ use Rattle.x25_station.proofs.DoesLemmas.{reused}
 use Rattle.x25_station.proofs.station.Station.connect.Goals as goal
 
 pub returns-clause-does : goal.returns-clause-does
-returns-clause-does c = reused _ c.reuse.new.self _ c.set_up-answer.new.out c.timer_behind-out.result _ _ c.reuse.ensures.fits c.set_up-answer.ensures.does
+returns-clause-does c = reused _ c.empty.new.self _ c.set_up-answer.new.out c.timer_behind-out.result _ _ c.empty.ensures.fits c.set_up-answer.ensures.does
 
 pub returns-clause-timer : goal.returns-clause-timer
 returns-clause-timer c = λ c' s fits.
-    let now = c.reuse.ensures.fits c' s fits in
-    timed c' s c.reuse.new.self c.set_up-answer.new.self c.set_up-answer.new.out c.timer_behind-out.result now c.set_up-answer.result _ false false c.set_up-answer.ensures.does (always c.set_up-answer.result refl) (not_ever c.set_up-answer.result refl)
+    let now = c.empty.ensures.fits c' s fits in
+    timed c' s c.empty.new.self c.set_up-answer.new.self c.set_up-answer.new.out c.timer_behind-out.result now c.set_up-answer.result _ false false c.set_up-answer.ensures.does (always c.set_up-answer.result refl) (not_ever c.set_up-answer.result refl)
     (λ step near entries. c.timer_behind-out.ensures c' s step (c.clock-before.ensures c' s now) near (ap (map plain_entry) c.as_slice.ensures.value ∙ entries))
 
 pub returns-clause-exactly : goal.returns-clause-exactly
-returns-clause-exactly c = λ c' s fits. c.set_up-answer.ensures.exactly c' s (c.reuse.ensures.fits c' s fits)
+returns-clause-exactly c = λ c' s fits. c.set_up-answer.ensures.exactly c' s (c.empty.ensures.fits c' s fits)

@@ -5,10 +5,10 @@ use Rattle.x25_station.proofs.DoesLemmas.{reused}
 use Rattle.x25_station.proofs.station.Station.receive.Goals as goal
 
 pub returns-clause-does : goal.returns-clause-does
-returns-clause-does c = reused _ c.reuse.new.self _ c.come-answer.new.out c.timer_behind-out.result _ _ c.reuse.ensures.fits c.come-answer.ensures.does
+returns-clause-does c = reused _ c.empty.new.self _ c.come-answer.new.out c.timer_behind-out.result _ _ c.empty.ensures.fits c.come-answer.ensures.does
 
 pub returns-clause-timer : goal.returns-clause-timer
 returns-clause-timer c = λ c' s fits.
-    let now = c.reuse.ensures.fits c' s fits in
-    timed c' s c.reuse.new.self c.come-answer.new.self c.come-answer.new.out c.timer_behind-out.result now c.come-answer.result _ false false c.come-answer.ensures.does (always c.come-answer.result refl) (not_ever c.come-answer.result refl)
+    let now = c.empty.ensures.fits c' s fits in
+    timed c' s c.empty.new.self c.come-answer.new.self c.come-answer.new.out c.timer_behind-out.result now c.come-answer.result _ false false c.come-answer.ensures.does (always c.come-answer.result refl) (not_ever c.come-answer.result refl)
     (λ step near entries. c.timer_behind-out.ensures c' s step (c.clock-before.ensures c' s now) near (ap (map plain_entry) c.as_slice.ensures.value ∙ entries))
