@@ -6,6 +6,7 @@ pub mod Frames
 pub mod Lines
 pub mod Octets
 pub mod Innocents
+pub mod Sessions
 pub mod Silences
 pub mod Lag
 pub mod Stations

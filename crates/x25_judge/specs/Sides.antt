@@ -82,9 +82,9 @@ accepted Waiting = Answered
 accepted Answered = Answered
 accepted Up = Up
 
--- behind a DM that it sent: an end that awaits UA goes on to
+-- behind a DM that it sent: an end that awaits UA, or may do so, goes on to
 abbrev pub declining : Phase → Phase
-declining Unseen = Out
+declining Unseen = Unseen
 declining Out = Out
 declining Waiting = Waiting
 declining Answered = Answered
@@ -230,9 +230,15 @@ answers t = with_other (with_asked (fewer t.other.asked) t.other) t
 abbrev pub is_unasked : Sides → Bool
 is_unasked t = t.other.is_followed && t.other.asked == 0
 
+-- the I frames of an end behind a SABM that it sent: they begin anew, but where UA answered one before
+abbrev pub asking_way : Phase → Way → Way → Way
+asking_way Answered anew w = w
+asking_way phase anew w = anew
+
 -- SABM: its numbers begin anew, and so do the N(R)s of an end that awaits UA itself
 abbrev pub asks : Sides → Sides
-asks t = with_own (with_phase (asking t.own.phase) (with_way (fresh (awaits_ua t.other.phase)) t.own)) t
+asks t = with_own (with_phase (asking t.own.phase)
+    (with_way (asking_way t.own.phase (fresh (awaits_ua t.other.phase)) t.own.way) t.own)) t
 
 -- the I frames of an end behind a UA that it sent, by where the other end stands: its numbers begin anew
 abbrev pub accepting_way : Phase → Way → Way
@@ -247,7 +253,7 @@ abbrev pub accepted_way : Phase → Way → Way
 accepted_way Unseen w = lost w
 accepted_way Out w = lost w
 accepted_way Waiting w = answered w
-accepted_way Answered w = answered w
+accepted_way Answered w = answered_again w
 accepted_way Up w = answered_again w
 
 -- UA

@@ -110,7 +110,7 @@ answered_again w = if w.is_missed then lost w else w
 -- The end answers again: its numbers begin anew, but the N(R)s of the other end, which is up by the first answer, go on
 -- where I frames were sent since.
 abbrev pub answering_again : Way → Way
-answering_again w = begun (if is_fresh w then Sure else Deaf)
+answering_again w = begun (if is_fresh w then w.sight else Deaf)
 
 -- the lowest N(R) that may come: the last one
 abbrev pub awaited : Way → ℕ

@@ -2,7 +2,7 @@
 //! kept. Each law is the contract of a function that does nothing.
 ghost use Rattle.x25_frame.specs.laws.ReadingLaw.{ReadsSpelled, ReadsWhatIsSpelled};
 ghost use Rattle.x25_judge.specs.laws.VerdictClaims.{NoInnocentIsAccused, NoStationIsAccused};
-ghost use Rattle.x25_judge.specs.laws.VerdictClaims.{SilenceMeansOrder, SetUpsBegin};
+ghost use Rattle.x25_judge.specs.laws.VerdictClaims.{NoSessionIsAccused, SilenceMeansOrder, SetUpsBegin};
 ghost use Rattle.x25_line.specs.laws.LawsBelow.{Laws};
 ghost use Rattle.x25_line.specs.laws.PeerClaims.{KeepsOrder, OnAnySilentTape};
 ghost use Rattle.x25_line.specs.laws.StationClaims.{EachEventHandsOne};
@@ -24,6 +24,15 @@ pub fn set_ups_begin()
 /// from a set-up on to the next frame without a number.
 pub fn innocents_stay_untold()
     ensures { NoInnocentIsAccused }
+{}
+
+/// The same over any number of link set-ups, of the whole trace from its first line on: an end that keeps these rules
+/// and those of set-up of docs/PEER.md is told of by no rule of order of the link layer, whatever the other end sends,
+/// SABM, UA, DISC and DM at any moment too, and whatever of it comes or is damaged. Beyond those rules it leaves its
+/// session as it sends DM or FRMR and as it answers DISC, and it answers SABM before frames with numbers stand behind
+/// it.
+pub fn sessions_stay_untold()
+    ensures { NoSessionIsAccused }
 {}
 
 /// A station of ours is such an end: whatever the other end sends, and whatever the line does, no rule of order is told

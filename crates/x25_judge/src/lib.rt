@@ -18,4 +18,7 @@ mod way;
 
 pub use judge::Strictness;
 pub use judging::judge_lines;
-pub use law::{innocents_stay_untold, set_ups_begin, silence_means_order, stations_stay_untold};
+pub use law::{
+    innocents_stay_untold, sessions_stay_untold, set_ups_begin, silence_means_order,
+    stations_stay_untold,
+};

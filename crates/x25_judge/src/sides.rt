@@ -130,6 +130,17 @@ impl Phase {
         }
     }
 
+    /// The I frames of an end in this phase behind a SABM that it sent, with which they begin anew, but where UA
+    /// answered one before.
+    fn asking_way(self, anew: Way, way: Way) -> Way
+        ensures { result ≡ definition.asking_way self anew way }
+    {
+        match self {
+            Phase::Answered => way,
+            Phase::Unseen | Phase::Out | Phase::Waiting | Phase::Up => anew,
+        }
+    }
+
     /// The I frames of an end behind a UA that it sent to one in this phase.
     fn accepting_way(self, way: Way) -> Way
         ensures { result ≡ definition.accepting_way self way }
@@ -147,19 +158,18 @@ impl Phase {
     {
         match self {
             Phase::Unseen | Phase::Out => way.lost(),
-            Phase::Waiting | Phase::Answered => way.answered(),
-            Phase::Up => way.answered_again(),
+            Phase::Waiting => way.answered(),
+            Phase::Answered | Phase::Up => way.answered_again(),
         }
     }
 
-    /// Behind a DM that it sent.
+    /// Behind a DM that it sent: one that may await UA goes on to.
     fn declining(self) -> Phase
         ensures { result ≡ definition.declining self }
     {
         match self {
-            Phase::Waiting => Phase::Waiting,
-            Phase::Answered => Phase::Answered,
-            Phase::Unseen | Phase::Out | Phase::Up => Phase::Out,
+            Phase::Unseen | Phase::Waiting | Phase::Answered => self,
+            Phase::Out | Phase::Up => Phase::Out,
         }
     }
 
@@ -451,8 +461,9 @@ impl Sides {
     fn asks(self) -> Sides
         ensures { result ≡ definition.asks self }
     {
-        let own = self.own.with_way(Way::fresh(self.other.phase.awaits_ua()));
-        self.with_own(own.with_phase(self.own.phase.asking()))
+        let anew = Way::fresh(self.other.phase.awaits_ua());
+        let way = self.own.phase.asking_way(anew, self.own.way);
+        self.with_own(self.own.with_way(way).with_phase(self.own.phase.asking()))
     }
 
     fn accepts(self) -> Sides

@@ -220,7 +220,7 @@ impl Way {
         ensures { result ≡ definition.answering_again self }
     {
         Way::begun(if self.is_fresh() {
-            Sight::Sure
+            self.sight
         } else {
             Sight::Deaf
         })

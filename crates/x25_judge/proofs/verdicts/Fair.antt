@@ -1,5 +1,5 @@
 -- What an end sends that keeps the rules breaks none of order.
-use Rattle.std.proofs.Common.{◌≡◌, ◌==◌, ℕ, ◌+◌, ◌-◌, ◌%◌, ◌<◌, ◌≤◌, arith, min, Bool, true, false, if◌then◌else◌, Some, None, refl, sym, ap, ◌∙◌, subst}
+use Rattle.std.proofs.Common.{◌≡◌, ◌==◌, ◌⊎◌, inl, inr, ℕ, ◌+◌, ◌-◌, ◌%◌, ◌<◌, ◌≤◌, arith, min, Bool, true, false, if◌then◌else◌, Some, None, refl, sym, ap, ◌∙◌, subst}
 use Rattle.std.specs.Prelude.{nat_le, nat_lt, ◌&&◌, ◌||◌, not}
 use Rattle.std.proofs.lemmas.Bool.{eqb-true, leb-true, leb-false, ltb-false, le-leb, and_parts, and_from, or_left, both_ways, cond_both}
 use Rattle.x25_judge.specs.Way as way
@@ -7,7 +7,7 @@ use Rattle.x25_judge.specs.declared.note.Note.TheVariants.{SentBehindDamage, Hea
 use Rattle.x25_judge.specs.declared.rule.Rule.{Rule}
 use Rattle.x25_judge.specs.declared.rule.Rule.TheVariants.{OverWindow, Skips, Repeats}
 use Rattle.x25_judge.specs.declared.way.Sight.{Sight}
-use Rattle.x25_judge.specs.declared.way.Sight.TheVariants.{Deaf}
+use Rattle.x25_judge.specs.declared.way.Sight.TheVariants.{Unseen, Deaf, Astray, Sure}
 use Rattle.x25_judge.specs.declared.way.Told.{Told}
 use Rattle.x25_judge.specs.declared.way.Way.{Way}
 use Rattle.x25_packet_judge.specs.Numbers.{apart}
@@ -26,15 +26,19 @@ pub record Own (w : Way) (m u : ℕ) : Type 0 where
   pub whole : w.is_missed ≡ false
   pub numbered : Numbered w (λ x y. (x ≡ m) × (u ≤ y))
 
+-- or its numbers aren't known, and nothing is said of it
+abbrev pub OwnIf : Way → ℕ → ℕ → Type 0
+OwnIf w m u = (way.is_unseen w ≡ true) ⊎ Own w m u
+
 pub record Fair (t : Told) (m u : ℕ) : Type 0 where
   pub quiet : is_of_order t.rule ≡ false
-  pub own : Own t.way m u
+  pub own : OwnIf t.way m u
 
 told_fair : (v w : Way) (rule : Rule) (m u : ℕ) → is_of_order (Some rule) ≡ false → Own v m u → Fair (way.told v rule w) m u
-told_fair v w rule m u quiet own = cond_both w.is_missed (way.notes SentBehindDamage v) (way.breaks rule v) (λ (t : Told). Fair t m u) (λ _. record { quiet = refl; own = own }) (λ _. record { quiet = quiet; own = own })
+told_fair v w rule m u quiet own = cond_both w.is_missed (way.notes SentBehindDamage v) (way.breaks rule v) (λ (t : Told). Fair t m u) (λ _. record { quiet = refl; own = inr own }) (λ _. record { quiet = quiet; own = inr own })
 
 again_fair : (v w : Way) (rule : Rule) (m u : ℕ) → is_of_order (Some rule) ≡ false → Own v m u → Fair (way.told_again v rule w) m u
-again_fair v w rule m u quiet own = cond_both w.is_missed (way.notes SentBehindDamage v) (way.sent_before (way.breaks rule v)) (λ (t : Told). Fair t m u) (λ _. record { quiet = refl; own = own }) (λ _. record { quiet = quiet; own = own })
+again_fair v w rule m u quiet own = cond_both w.is_missed (way.notes SentBehindDamage v) (way.sent_before (way.breaks rule v)) (λ (t : Told). Fair t m u) (λ _. record { quiet = refl; own = inr own }) (λ _. record { quiet = quiet; own = inr own })
 
 unseen_if : (b : Bool) (s : Sight) → way.is_unseen_sight s ≡ false → way.is_unseen_sight (if b then Deaf else s) ≡ false
 unseen_if true s h = refl
@@ -69,7 +73,7 @@ new_at w window m u is_poll is_same large near h =
     cond_both (w.behind == 0 || way.known_pending w == 0) (way.sent_new window w) (way.unexplained is_same 0 w) (λ (t : Told). Fair t (m + 1) u)
     (λ _. cond_both (way.is_sure w && nat_le window w.pending) (way.breaks (OverWindow (way.passed window w)) (way.grown 1 w)) (way.quiet (way.grown 1 w)) (λ (t : Told). Fair t (m + 1) u)
     (λ test. let parts = and_parts (way.is_sure w) (nat_le window w.pending) test in absurd (never (leb-true window w.pending parts.1) (h.numbered.counts (sure_hears w.sight parts.0))))
-    (λ _. record { quiet = refl; own = grown_own w m u h }))
+    (λ _. record { quiet = refl; own = inr (grown_own w m u h) }))
     (λ _. subst (λ b. Fair (way.skips b 1 w) (m + 1) u) (sym room) (told_fair (way.grown 1 w) w (Skips (way.place w)) (m + 1) u refl (grown_own w m u h)))
   where
     few : ((x : ℕ) × (y : ℕ) × ((x ≡ m) × (u ≤ y)) × Counts w x y) → min (w.pending + 1) 255 ≤ 7
@@ -94,9 +98,9 @@ old_at : (w : Way) (window m u back : ℕ) (is_poll : Bool) → 0 < back → bac
 old_at w window m u back is_poll some few there h =
     cond_both (nat_lt 0 back) (way.sent_again is_poll true back w) _ (λ (t : Told). Fair t m u)
     (λ _. cond_both (back == w.behind || (nat_le (way.known_pending w) back && nat_lt back w.behind)) (way.again true back (way.repeated back w) w) _ (λ (t : Told). Fair t m u)
-    (λ _. record { quiet = refl; own = repeated_own w m u back h })
+    (λ _. record { quiet = refl; own = inr (repeated_own w m u back h) })
     (λ _. cond_both (way.may_go_back is_poll back w) (way.again true back (way.gone_back is_poll back w) w) (way.unexplained true back w) (λ (t : Told). Fair t m u)
-    (λ _. record { quiet = refl; own = gone_back_own is_poll w m u back h })
+    (λ _. record { quiet = refl; own = inr (gone_back_own is_poll w m u back h) })
     (λ _. unexplained)))
     (λ test. absurd (none back some (ltb-false 0 back test)))
   where
@@ -123,8 +127,16 @@ old_at w window m u back is_poll some few there h =
         (λ _. again_fair (way.repeated back w) w (Repeats (way.place w)) m u refl (repeated_own w m u back h))
         (λ test. absurd (both_ways (way.was_sent true back w) test was))))
 
-pub new_fair : (w : Way) (window m u : ℕ) (is_poll is_same : Bool) → 7 ≤ window → m < u + 7 → Own w m u → Fair (way.sent window (m % 8) is_poll is_same w) (m + 1) u
-new_fair w window m u is_poll is_same large near h =
+-- where its numbers aren't known
+unseen_fair : (w : Way) (window ns m u : ℕ) (is_poll is_same : Bool) → way.is_unseen w ≡ true → Fair (way.sent window ns is_poll is_same w) m u
+unseen_fair w window ns m u is_poll is_same unseen =
+    cond_both (way.is_unseen w) (way.quiet (way.counted w)) (way.sent_number window is_poll is_same (apart w.next ns) w) (λ (t : Told). Fair t m u)
+    (λ _. record { quiet = refl; own = inl unseen })
+    (λ test. absurd (both_ways (way.is_unseen w) test unseen))
+
+pub new_fair : (w : Way) (window m u : ℕ) (is_poll is_same : Bool) → 7 ≤ window → m < u + 7 → OwnIf w m u → Fair (way.sent window (m % 8) is_poll is_same w) (m + 1) u
+new_fair w window m u is_poll is_same large near (inl unseen) = unseen_fair w window (m % 8) (m + 1) u is_poll is_same unseen
+new_fair w window m u is_poll is_same large near (inr h) =
     cond_both (way.is_unseen w) (way.quiet (way.counted w)) (way.sent_number window is_poll is_same (apart w.next (m % 8)) w) (λ (t : Told). Fair t (m + 1) u)
     (λ test. absurd (both_ways (way.is_unseen w) h.seen test))
     (λ _. subst (λ b. Fair (way.sent_number window is_poll is_same b w) (m + 1) u) (sym (ap (λ x. apart x (m % 8)) h.next ∙ same m)) (new_at w window m u is_poll is_same large near h))
@@ -132,8 +144,9 @@ new_fair w window m u is_poll is_same large near h =
     same : (m : ℕ) → apart (m % 8) (m % 8) ≡ 0
     same m = omega arith
 
-pub old_fair : (w : Way) (window m u n : ℕ) (is_poll is_same : Bool) → n < m → m ≤ n + 7 → is_same ≡ true → Own w m u → Fair (way.sent window (n % 8) is_poll is_same w) m u
-old_fair w window m u n is_poll is_same before near same h =
+pub old_fair : (w : Way) (window m u n : ℕ) (is_poll is_same : Bool) → n < m → m ≤ n + 7 → is_same ≡ true → OwnIf w m u → Fair (way.sent window (n % 8) is_poll is_same w) m u
+old_fair w window m u n is_poll is_same before near same (inl unseen) = unseen_fair w window (n % 8) m u is_poll is_same unseen
+old_fair w window m u n is_poll is_same before near same (inr h) =
     cond_both (way.is_unseen w) (way.quiet (way.counted w)) (way.sent_number window is_poll is_same (apart w.next (n % 8)) w) (λ (t : Told). Fair t m u)
     (λ test. absurd (both_ways (way.is_unseen w) h.seen test))
     (λ _. subst (λ b. Fair (way.sent_number window is_poll is_same b w) m u) (sym (ap (λ x. apart x (n % 8)) h.next ∙ apart_is m n (below m n before) near))
@@ -169,6 +182,19 @@ heard_any w nr P same astray deaf acknowledged =
   where
     ahead : ℕ
     ahead = apart nr (way.awaited w)
+
+-- what isn't known stays so
+pub unseen_deaf : (s : Sight) → way.is_unseen_sight s ≡ true → way.may_hear_sight s ≡ false
+unseen_deaf Unseen e = refl
+unseen_deaf Deaf e = refl
+unseen_deaf Astray e = absurd (both_ways false refl e)
+unseen_deaf Sure e = absurd (both_ways false refl e)
+
+pub unseen_heard : (w : Way) (nr : ℕ) → way.is_unseen w ≡ true → way.is_unseen (way.heard nr w).way ≡ true
+unseen_heard w nr unseen =
+    cond_both (way.may_hear w) (way.heard_ahead (apart nr (way.awaited w)) w) (way.quiet w) (λ (t : Told). way.is_unseen t.way ≡ true)
+    (λ test. absurd (both_ways (way.may_hear w) (unseen_deaf w.sight unseen) test))
+    (λ _. unseen)
 
 pub heard_own : (w : Way) (m u nr : ℕ) → Own w m u → Own (way.heard nr w).way m (resolved u nr)
 heard_own w m u nr h =
@@ -213,3 +239,19 @@ heard_fair w g u t rising taken h =
 
     is : (x y : ℕ) → x ≤ y + 7 → g ≤ x → y ≡ u → resolved y (t % 8) ≡ t
     is x y near le same = omega (arith, rising, taken)
+
+pub heard_own_if : (w : Way) (m u nr : ℕ) → OwnIf w m u → OwnIf (way.heard nr w).way m (resolved u nr)
+heard_own_if w m u nr (inl unseen) = inl (unseen_heard w nr unseen)
+heard_own_if w m u nr (inr h) = inr (heard_own w m u nr h)
+
+pub unseen_sent : (w : Way) (window ns : ℕ) (is_poll is_same : Bool) → way.is_unseen w ≡ true → way.is_unseen (way.sent window ns is_poll is_same w).way ≡ true
+unseen_sent w window ns is_poll is_same unseen =
+    cond_both (way.is_unseen w) (way.quiet (way.counted w)) (way.sent_number window is_poll is_same (apart w.next ns) w) (λ (t : Told). way.is_unseen t.way ≡ true)
+    (λ _. unseen)
+    (λ test. absurd (both_ways (way.is_unseen w) test unseen))
+
+pub unseen_sure : (s : Sight) → way.is_unseen_sight s ≡ true → way.is_sure_sight s ≡ false
+unseen_sure Unseen e = refl
+unseen_sure Deaf e = refl
+unseen_sure Astray e = refl
+unseen_sure Sure e = absurd (both_ways false refl e)

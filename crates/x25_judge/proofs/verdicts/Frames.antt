@@ -2,6 +2,7 @@
 use Rattle.std.proofs.Common.{◌≡◌, ℕ, Bool, true, false, Option, Some, None, refl, sym, ap, ◌∙◌, subst}
 use Rattle.std.specs.Prelude.{◌==◌, ◌&&◌, not}
 use Rattle.std.proofs.lemmas.Bool.{both_ways, cond_both}
+use Rattle.x25_frame.specs.Frame.{PlainFrame, info, rr, rnr, rej, sabm, disc, ua, dm, frmr}
 use Rattle.x25_judge.specs.Rule.{is_of_manners}
 use Rattle.x25_judge.specs.Sides as sides
 use Rattle.x25_judge.specs.Way as way
@@ -14,38 +15,48 @@ use Rattle.x25_judge.specs.declared.sides.Phase.TheVariants.{Unseen, Out, Waitin
 use Rattle.x25_judge.specs.declared.sides.Sides.{Sides}
 use Rattle.x25_judge.specs.declared.way.Told.{Told}
 use Rattle.x25_judge.specs.declared.way.Way.{Way}
-use Rattle.x25_judge.specs.laws.Session.{is_of_order}
+use Rattle.x25_judge.specs.laws.Session.{IsNumbered, is_of_order}
+use Rattle.x25_judge.proofs.verdicts.Fair.{unseen_heard, unseen_sent}
 
--- ---- the link is up
+-- ---- the sender is up
 
-pub record AreUp (t : Sides) : Type 0 where
-  pub own : sides.may_run t.own.phase ≡ true
-  pub other : sides.may_run t.other.phase ≡ true
+abbrev pub IsUp : Sides → Type 0
+IsUp t = sides.may_run t.own.phase ≡ true
+
+-- the other end stands where it stood, and as much may be answered of each
+pub record AreSame (t v : Sides) : Type 0 where
+  pub phase : v.other.phase ≡ t.other.phase
+  pub asked : v.own.asked ≡ t.own.asked
+  pub other_asked : v.other.asked ≡ t.other.asked
 
 -- the ways are as they were, and no rule of order is told
 record Bare (t v : Sides) : Type 0 where
-  pub up : AreUp v
+  pub up : v.own.phase ≡ sides.running t.own.phase
+  pub same : AreSame t v
   pub own : v.own.way ≡ t.own.way
   pub other : v.other.way ≡ t.other.way
   pub plain : is_of_order v.rule ≡ false
 
-runs_on : (p : Phase) → sides.may_run p ≡ true → sides.may_run (sides.running p) ≡ true
+pub runs_on : (p : Phase) → sides.may_run p ≡ true → sides.may_run (sides.running p) ≡ true
 runs_on Unseen h = refl
 runs_on Out h = absurd (both_ways false refl h)
 runs_on Waiting h = absurd (both_ways false refl h)
 runs_on Answered h = refl
 runs_on Up h = refl
 
-runs_bare : (t : Sides) → AreUp t → t.rule ≡ None → Bare t (sides.runs t)
+runs_bare : (t : Sides) → IsUp t → t.rule ≡ None → Bare t (sides.runs t)
 runs_bare t up none = cond_both (sides.may_run t.own.phase) (sides.with_own (sides.with_phase (sides.running t.own.phase) t.own) t) _ (λ v. Bare t v)
-    (λ _. record { up = record { own = runs_on t.own.phase up.own; other = up.other }; own = refl; other = refl; plain = ap is_of_order none })
-    (λ test. absurd (both_ways (sides.may_run t.own.phase) test up.own))
+    (λ _. record { up = refl; same = same; own = refl; other = refl; plain = ap is_of_order none })
+    (λ test. absurd (both_ways (sides.may_run t.own.phase) test up))
+  where
+    same : AreSame t (sides.with_own (sides.with_phase (sides.running t.own.phase) t.own) t)
+    same = record { phase = refl; asked = refl; other_asked = refl }
 
 polls_bare : (t v : Sides) → Bare t v → Bare t (sides.polls v)
 polls_bare t v h = cond_both v.own.is_polling (sides.notes (Some PollAgain) (sides.asks_on true v)) (sides.asks_on true v) (λ x. Bare t x) (λ _. asked) (λ _. asked)
   where
     asked : {note : Option Note} → Bare t (record (sides.asks_on true v) { note = note })
-    asked = record { up = record { own = h.up.own; other = h.up.other }; own = h.own; other = h.other; plain = h.plain }
+    asked = record { up = h.up; same = record { phase = h.same.phase; asked = h.same.asked; other_asked = h.same.other_asked }; own = h.own; other = h.other; plain = h.plain }
 
 pub first_of_order : (r last : Option Rule) → is_of_order r ≡ false → is_of_order last ≡ false → is_of_order (sides.first r last) ≡ false
 first_of_order None last h k = k
@@ -58,17 +69,17 @@ first_plain r h = first_of_order r (Some NoPoll) h refl
 answers_bare : (t v : Sides) → Bare t v → Bare t (sides.answers_poll true v)
 answers_bare t v h =
     cond_both (not (v.other.polls == 0)) (sides.poll_answered v) _ (λ x. Bare t x)
-    (λ _. record { up = record { own = h.up.own; other = h.up.other }; own = h.own; other = h.other; plain = h.plain })
+    (λ _. record { up = h.up; same = record { phase = h.same.phase; asked = h.same.asked; other_asked = h.same.other_asked }; own = h.own; other = h.other; plain = h.plain })
     (λ _. cond_both (true && not (sides.is_unseen v.own.phase)) (sides.tells (Some NoPoll) (sides.poll_answered v)) (sides.notes (Some PollUnseen) (sides.poll_answered v)) (λ x. Bare t x)
-    (λ _. record { up = record { own = h.up.own; other = h.up.other }; own = h.own; other = h.other; plain = first_plain v.rule h.plain })
-    (λ _. record { up = record { own = h.up.own; other = h.up.other }; own = h.own; other = h.other; plain = h.plain }))
+    (λ _. record { up = h.up; same = record { phase = h.same.phase; asked = h.same.asked; other_asked = h.same.other_asked }; own = h.own; other = h.other; plain = first_plain v.rule h.plain })
+    (λ _. record { up = h.up; same = record { phase = h.same.phase; asked = h.same.asked; other_asked = h.same.other_asked }; own = h.own; other = h.other; plain = h.plain }))
 
 bits_bare : (command pf : Bool) (t v : Sides) → Bare t v → Bare t (sides.bits command pf v)
 bits_bare command false t v h = h
 bits_bare true true t v h = polls_bare t v h
 bits_bare false true t v h = answers_bare t v h
 
-begun_bare : (command pf : Bool) (t : Sides) → AreUp t → t.rule ≡ None → Bare t (sides.bits command pf (sides.runs t))
+begun_bare : (command pf : Bool) (t : Sides) → IsUp t → t.rule ≡ None → Bare t (sides.bits command pf (sides.runs t))
 begun_bare command pf t up none = bits_bare command pf t (sides.runs t) (runs_bare t up none)
 
 -- ---- what a frame makes of the ways
@@ -88,7 +99,8 @@ alike w = record { sight = refl; next = refl; ever = refl; kept = refl; behind =
 
 -- a frame with this N(R) makes this of its sender's way, and tells this rule last
 pub record Sees (t v : Sides) (nr : ℕ) (mine : Way) (last : Option Rule) : Type 0 where
-  pub up : AreUp v
+  pub up : v.own.phase ≡ sides.running t.own.phase
+  pub same : AreSame t v
   pub own : v.own.way ≡ mine
   pub other : AreAlike (way.heard nr t.other.way).way v.other.way
   pub before : Option Rule
@@ -101,7 +113,8 @@ no_more (Some rule) = refl
 
 heard_sees : (t v : Sides) (nr : ℕ) → Bare t v → Sees t (sides.hears nr v) nr t.own.way None
 heard_sees t v nr h = record {
-  up = record { own = h.up.own; other = h.up.other };
+  up = h.up;
+  same = record { phase = h.same.phase; asked = h.same.asked; other_asked = h.same.other_asked };
   own = h.own;
   other = subst (λ w. AreAlike (way.heard nr t.other.way).way (way.heard nr w).way) (sym h.other) (alike (way.heard nr t.other.way).way);
   before = v.rule;
@@ -111,14 +124,15 @@ heard_sees t v nr h = record {
 
 -- ---- frames
 
-pub info_sees : (window ns nr : ℕ) (p is_same : Bool) (t : Sides) → AreUp t → t.rule ≡ None
+pub info_sees : (window ns nr : ℕ) (p is_same : Bool) (t : Sides) → IsUp t → t.rule ≡ None
     → Sees t (sides.sends_info window ns nr p is_same t) nr (way.sent window ns p is_same t.own.way).way (way.sent window ns p is_same t.own.way).rule
 unfolding sides.sends_info
 info_sees window ns nr p is_same t up none =
     let h = heard_sees t (sides.bits true p (sides.runs t)) nr (begun_bare true p t up none) in
     let v = sides.hears nr (sides.bits true p (sides.runs t)) in
     record {
-      up = record { own = h.up.own; other = h.up.other };
+      up = h.up;
+      same = record { phase = h.same.phase; asked = h.same.asked; other_asked = h.same.other_asked };
       own = ap (λ w. (way.sent window ns p is_same w).way) h.own;
       other = h.other;
       before = h.before;
@@ -129,7 +143,8 @@ info_sees window ns nr p is_same t up none =
 
 back_sees : (nr back : ℕ) (t v : Sides) (own : Way) (last : Option Rule) → Sees t v nr own last → Sees t (sides.sends_back back v) nr own last
 back_sees nr back t v own last h = record {
-  up = record { own = h.up.own; other = h.up.other };
+  up = h.up;
+  same = record { phase = h.same.phase; asked = h.same.asked; other_asked = h.same.other_asked };
   own = h.own;
   other = record { sight = h.other.sight; next = h.other.next; ever = h.other.ever; kept = h.other.kept; behind = h.other.behind; pending = h.other.pending; whole = h.other.whole };
   before = h.before;
@@ -140,7 +155,7 @@ back_sees nr back t v own last h = record {
 answer_sees : (command pf : Bool) (nr : ℕ) (t v : Sides) (own : Way) (last : Option Rule) → Sees t v nr own last → Sees t (sides.if_answer command pf nr v) nr own last
 answer_sees command pf nr t v own last h = cond_both (pf && not command) (sides.sends_back nr v) v (λ x. Sees t x nr own last) (λ _. back_sees nr nr t v own last h) (λ _. h)
 
-pub ready_sees : (command : Bool) (nr : ℕ) (pf : Bool) (t : Sides) → AreUp t → t.rule ≡ None → Sees t (sides.sends_ready command nr pf t) nr t.own.way None
+pub ready_sees : (command : Bool) (nr : ℕ) (pf : Bool) (t : Sides) → IsUp t → t.rule ≡ None → Sees t (sides.sends_ready command nr pf t) nr t.own.way None
 unfolding sides.sends_ready
 ready_sees command nr pf t up none =
     answer_sees command pf nr t (sides.hears nr (sides.bits command pf (sides.runs t))) t.own.way None (heard_sees t (sides.bits command pf (sides.runs t)) nr (begun_bare command pf t up none))
@@ -156,7 +171,7 @@ pub record Rejects (t v : Sides) (nr : ℕ) : Type 0 where
   pub plain : is_of_order last ≡ false
   pub sees : Sees t v nr t.own.way last
 
-pub reject_sees : (command : Bool) (nr : ℕ) (pf : Bool) (t : Sides) → AreUp t → t.rule ≡ None → Rejects t (sides.sends_reject command nr pf t) nr
+pub reject_sees : (command : Bool) (nr : ℕ) (pf : Bool) (t : Sides) → IsUp t → t.rule ≡ None → Rejects t (sides.sends_reject command nr pf t) nr
 unfolding sides.sends_reject
 reject_sees command nr pf t up none =
     let v = sides.hears nr (sides.bits command pf (sides.runs t)) in
@@ -166,7 +181,8 @@ reject_sees command nr pf t up none =
       last = (way.rejected v.other.way).rule;
       plain = r.0;
       sees = back_sees nr nr t (sides.rejects v) t.own.way (way.rejected v.other.way).rule (record {
-        up = record { own = h.up.own; other = h.up.other };
+        up = h.up;
+        same = record { phase = h.same.phase; asked = h.same.asked; other_asked = h.same.other_asked };
         own = h.own;
         other = record { sight = r.1.sight ∙ h.other.sight; next = r.1.next ∙ h.other.next; ever = r.1.ever ∙ h.other.ever; kept = r.1.kept ∙ h.other.kept; behind = r.1.behind ∙ h.other.behind; pending = r.1.pending ∙ h.other.pending; whole = r.1.whole ∙ h.other.whole };
         before = h.before;
@@ -184,3 +200,80 @@ pub first_none : (r last : Option Rule) → sides.first r last ≡ None → (r �
 first_none None last h = (refl, h)
 first_none (Some rule) None h = absurd (never rule h)
 first_none (Some rule) (Some last) h = absurd (cond_both (is_of_manners rule && not (is_of_manners last)) (Some last) (Some rule) (λ (o : Option Rule). o ≡ None → ⊥) (λ _. never last) (λ _. never rule) h)
+
+-- ---- the sender isn't up
+
+-- nothing is known of the numbers of either end
+pub record Strays (t v : Sides) : Type 0 where
+  pub same : AreSame t v
+  pub phase : v.own.phase ≡ Unseen
+  pub own : way.is_unseen v.own.way ≡ true
+  pub other : way.is_unseen v.other.way ≡ true
+
+runs_strays : (t : Sides) → sides.may_run t.own.phase ≡ false → Strays t (sides.runs t)
+runs_strays t out = cond_both (sides.may_run t.own.phase) (sides.with_own (sides.with_phase (sides.running t.own.phase) t.own) t) _ (λ v. Strays t v)
+    (λ test. absurd (both_ways (sides.may_run t.own.phase) out test))
+    (λ _. record { same = record { phase = refl; asked = refl; other_asked = refl }; phase = refl; own = refl; other = refl })
+
+polls_strays : (t v : Sides) → Strays t v → Strays t (sides.polls v)
+polls_strays t v h = cond_both v.own.is_polling (sides.notes (Some PollAgain) (sides.asks_on true v)) (sides.asks_on true v) (λ x. Strays t x)
+    (λ _. record { same = record { phase = h.same.phase; asked = h.same.asked; other_asked = h.same.other_asked }; phase = h.phase; own = h.own; other = h.other })
+    (λ _. record { same = record { phase = h.same.phase; asked = h.same.asked; other_asked = h.same.other_asked }; phase = h.phase; own = h.own; other = h.other })
+
+answers_strays : (t v : Sides) → Strays t v → Strays t (sides.answers_poll true v)
+answers_strays t v h =
+    cond_both (not (v.other.polls == 0)) (sides.poll_answered v) _ (λ x. Strays t x)
+    (λ _. record { same = record { phase = h.same.phase; asked = h.same.asked; other_asked = h.same.other_asked }; phase = h.phase; own = h.own; other = h.other })
+    (λ _. cond_both (true && not (sides.is_unseen v.own.phase)) (sides.tells (Some NoPoll) (sides.poll_answered v)) (sides.notes (Some PollUnseen) (sides.poll_answered v)) (λ x. Strays t x)
+    (λ _. record { same = record { phase = h.same.phase; asked = h.same.asked; other_asked = h.same.other_asked }; phase = h.phase; own = h.own; other = h.other })
+    (λ _. record { same = record { phase = h.same.phase; asked = h.same.asked; other_asked = h.same.other_asked }; phase = h.phase; own = h.own; other = h.other }))
+
+bits_strays : (command pf : Bool) (t v : Sides) → Strays t v → Strays t (sides.bits command pf v)
+bits_strays command false t v h = h
+bits_strays true true t v h = polls_strays t v h
+bits_strays false true t v h = answers_strays t v h
+
+hears_strays : (nr : ℕ) (t v : Sides) → Strays t v → Strays t (sides.hears nr v)
+hears_strays nr t v h = record { same = record { phase = h.same.phase; asked = h.same.asked; other_asked = h.same.other_asked }; phase = h.phase; own = h.own; other = unseen_heard v.other.way nr h.other }
+
+back_strays : (nr : ℕ) (t v : Sides) → Strays t v → Strays t (sides.sends_back nr v)
+back_strays nr t v h = record { same = record { phase = h.same.phase; asked = h.same.asked; other_asked = h.same.other_asked }; phase = h.phase; own = h.own; other = h.other }
+
+rejects_strays : (t v : Sides) → Strays t v → Strays t (sides.rejects v)
+rejects_strays t v h = record {
+  same = record { phase = h.same.phase; asked = h.same.asked; other_asked = h.same.other_asked };
+  phase = h.phase;
+  own = h.own;
+  other = ap way.is_unseen_sight (rejected_plain v.other.way).1.sight ∙ h.other;
+}
+
+numbers_strays : (window ns : ℕ) (p s : Bool) (t v : Sides) → Strays t v → Strays t (sides.numbers window ns p s v)
+numbers_strays window ns p s t v h =
+    record { same = record { phase = h.same.phase; asked = h.same.asked; other_asked = h.same.other_asked }; phase = h.phase; own = unseen_sent v.own.way window ns p s h.own; other = h.other }
+
+pub strays : (window : ℕ) (s : Bool) (frame : PlainFrame) (t : Sides) → IsNumbered frame → sides.may_run t.own.phase ≡ false → Strays t (sides.sees window s frame t)
+unfolding sides.sees sides.sends_info sides.sends_ready sides.sends_reject
+strays window s (info ns nr p octets) t is out =
+    numbers_strays window ns p s t (sides.hears nr (sides.bits true p (sides.runs t))) (hears_strays nr t (sides.bits true p (sides.runs t)) (bits_strays true p t (sides.runs t) (runs_strays t out)))
+strays window s (rr command nr pf) t is out = ready command nr pf
+  where
+    ready : (command : Bool) (nr : ℕ) (pf : Bool) → Strays t (sides.if_answer command pf nr (sides.hears nr (sides.bits command pf (sides.runs t))))
+    ready command nr pf =
+        let v = sides.hears nr (sides.bits command pf (sides.runs t)) in
+        let h = hears_strays nr t (sides.bits command pf (sides.runs t)) (bits_strays command pf t (sides.runs t) (runs_strays t out)) in
+        cond_both (pf && not command) (sides.sends_back nr v) v (λ x. Strays t x) (λ _. back_strays nr t v h) (λ _. h)
+strays window s (rnr command nr pf) t is out = ready command nr pf
+  where
+    ready : (command : Bool) (nr : ℕ) (pf : Bool) → Strays t (sides.if_answer command pf nr (sides.hears nr (sides.bits command pf (sides.runs t))))
+    ready command nr pf =
+        let v = sides.hears nr (sides.bits command pf (sides.runs t)) in
+        let h = hears_strays nr t (sides.bits command pf (sides.runs t)) (bits_strays command pf t (sides.runs t) (runs_strays t out)) in
+        cond_both (pf && not command) (sides.sends_back nr v) v (λ x. Strays t x) (λ _. back_strays nr t v h) (λ _. h)
+strays window s (rej command nr pf) t is out =
+    let v = sides.hears nr (sides.bits command pf (sides.runs t)) in
+    back_strays nr t (sides.rejects v) (rejects_strays t v (hears_strays nr t (sides.bits command pf (sides.runs t)) (bits_strays command pf t (sides.runs t) (runs_strays t out))))
+strays window s (sabm b) t is out = absurd is
+strays window s (disc b) t is out = absurd is
+strays window s (ua f) t is out = absurd is
+strays window s (dm f) t is out = absurd is
+strays window s (frmr f why) t is out = absurd is

@@ -1,6 +1,7 @@
 -- An end that keeps the rules beside the judge: what the judge counts is what the end may have come to, or more.
-use Rattle.std.proofs.Common.{◌≡◌, ◌==◌, ◌⊎◌, inl, inr, ℕ, ◌+◌, ◌%◌, ◌<◌, ◌≤◌, arith, max, Bool, true, false, if◌then◌else◌, List, [], ◌∷◌, ◌++◌, length, Option, None, Ok, refl, sym, ap, ◌∙◌, subst}
-use Rattle.std.proofs.lemmas.Bool.{eqb-true, eq-eqb, cond_both, cond-true, cases_eq}
+use Rattle.std.proofs.Common.{◌≡◌, ◌==◌, ◌⊎◌, inl, inr, ℕ, ◌+◌, ◌-◌, ◌%◌, min, ◌<◌, ◌≤◌, arith, max, Bool, true, false, if◌then◌else◌, List, [], ◌∷◌, ◌++◌, length, Option, None, Ok, refl, sym, ap, ◌∙◌, subst}
+use Rattle.std.specs.Prelude.{nat_le, nat_lt, ◌&&◌, ◌||◌, not}
+use Rattle.std.proofs.lemmas.Bool.{eqb-true, eqb-false, eq-eqb, ltb-true, leb-true, and_parts, both_ways, cond_both, cond-true, cases_eq}
 use Rattle.std.proofs.lemmas.List.{length_push}
 use Rattle.x25_bits.specs.declared.role.Role.{Role}
 use Rattle.x25_bits.specs.declared.role.Role.TheVariants.{Dte, Dce}
@@ -14,7 +15,11 @@ use Rattle.x25_judge.specs.Rule.{breaks_order}
 use Rattle.x25_judge.specs.Sides as sides
 use Rattle.x25_judge.specs.Way as way
 use Rattle.x25_judge.specs.declared.judge.Judge.{Judge}
+use Rattle.x25_judge.specs.declared.note.Note.TheVariants.{SentAgain, SentBehindDamage, HeardBehindDamage}
 use Rattle.x25_judge.specs.declared.rule.Rule.{Rule}
+use Rattle.x25_judge.specs.declared.rule.Rule.TheVariants.{OverWindow, Skips, Repeats, Differs}
+use Rattle.x25_judge.specs.declared.way.Told.{Told}
+use Rattle.x25_packet_judge.specs.Numbers.{apart}
 use Rattle.x25_judge.specs.declared.sides.End.{End}
 use Rattle.x25_judge.specs.declared.sides.Phase.{Phase}
 use Rattle.x25_judge.specs.declared.sides.Phase.TheVariants.{Unseen, Out, Waiting, Answered, Up}
@@ -24,23 +29,23 @@ use Rattle.x25_judge.specs.laws.Keeping.{MaySend, MayBe, Begins, HandsDown, Send
 use Rattle.x25_judge.specs.laws.Session.{end_of, IsSetUp, IsNumbered, is_of_order}
 use Rattle.x25_judge.specs.laws.VerdictClaims.{NoInnocentIsAccused}
 use Rattle.x25_packet_judge.specs.Book as book
-use Rattle.x25_judge.proofs.verdicts.Ways.{Numbered, same_numbered, unheard_numbered, sent_numbered}
-use Rattle.x25_judge.proofs.verdicts.Fair.{Own, Fair, new_fair, old_fair, heard_own, Answers, heard_fair}
-use Rattle.x25_judge.proofs.verdicts.Frames.{AreUp, AreAlike, Sees, info_sees, ready_sees, reject_sees, first_of_order}
+use Rattle.x25_judge.proofs.verdicts.Ways.{Numbered, apart_low, deaf_numbered, same_numbered, unheard_numbered, sent_numbered}
+use Rattle.x25_judge.proofs.verdicts.Fair.{Own, OwnIf, Fair, new_fair, old_fair, heard_own_if, unseen_deaf, unseen_sure, heard_fair}
+use Rattle.x25_judge.proofs.verdicts.Frames.{IsUp, AreSame, AreAlike, Sees, Strays, strays, runs_on, info_sees, ready_sees, reject_sees, first_of_order}
 use Rattle.x25_judge.proofs.verdicts.Lines.{other_twice, Goes, goes, Past, past, stands, told_of_order}
 use Rattle.x25_judge.proofs.verdicts.Octets.{IsHeld, IsSupervisory, begun_held, pushed_held, same_held, sent_held, same_octets, bare_held}
 
 -- ---- what is on the way
 
 -- how many are acknowledged where all that is on the way is heard
-abbrev acks : PlainFrame → ℕ → ℕ
+abbrev pub acks : PlainFrame → ℕ → ℕ
 acks (info ns nr pf packet) a = resolved a nr
 acks (rr command nr pf) a = resolved a nr
 acks (rnr command nr pf) a = resolved a nr
 acks (rej command nr pf) a = resolved a nr
 acks frame a = a
 
-abbrev heard_all : List PlainFrame → ℕ → ℕ
+abbrev pub heard_all : List PlainFrame → ℕ → ℕ
 heard_all [] a = a
 heard_all (frame ∷ frames) a = heard_all frames (acks frame a)
 
@@ -48,11 +53,11 @@ abbrev takes : ℕ → ℕ → ℕ
 takes ns g = if ns == g % 8 then g + 1 else g
 
 -- how many are taken where all that is on the way is taken that may be
-abbrev brings : PlainFrame → ℕ → ℕ
+abbrev pub brings : PlainFrame → ℕ → ℕ
 brings (info ns nr pf packet) g = takes ns g
 brings frame g = g
 
-abbrev took_all : List PlainFrame → ℕ → ℕ
+abbrev pub took_all : List PlainFrame → ℕ → ℕ
 took_all [] g = g
 took_all (frame ∷ frames) g = took_all frames (brings frame g)
 
@@ -70,15 +75,15 @@ acks_rises (ua f) a b le = le
 acks_rises (dm f) a b le = le
 acks_rises (frmr f why) a b le = le
 
-heard_rises : (frames : List PlainFrame) (a b : ℕ) → a ≤ b → heard_all frames a ≤ heard_all frames b
+pub heard_rises : (frames : List PlainFrame) (a b : ℕ) → a ≤ b → heard_all frames a ≤ heard_all frames b
 heard_rises [] a b le = le
 heard_rises (frame ∷ frames) a b le = heard_rises frames (acks frame a) (acks frame b) (acks_rises frame a b le)
 
-heard_more : (frames : List PlainFrame) (frame : PlainFrame) (a : ℕ) → heard_all (frames ++ frame ∷ []) a ≡ acks frame (heard_all frames a)
+pub heard_more : (frames : List PlainFrame) (frame : PlainFrame) (a : ℕ) → heard_all (frames ++ frame ∷ []) a ≡ acks frame (heard_all frames a)
 heard_more [] frame a = refl
 heard_more (f ∷ frames) frame a = heard_more frames frame (acks f a)
 
-acks_low : (frame : PlainFrame) (a : ℕ) → a ≤ acks frame a
+pub acks_low : (frame : PlainFrame) (a : ℕ) → a ≤ acks frame a
 acks_low (info ns nr pf packet) a = omega arith
 acks_low (rr command nr pf) a = omega arith
 acks_low (rnr command nr pf) a = omega arith
@@ -89,7 +94,7 @@ acks_low (ua f) a = omega arith
 acks_low (dm f) a = omega arith
 acks_low (frmr f why) a = omega arith
 
-heard_low : (frames : List PlainFrame) (a : ℕ) → a ≤ heard_all frames a
+pub heard_low : (frames : List PlainFrame) (a : ℕ) → a ≤ heard_all frames a
 heard_low [] a = omega arith
 heard_low (frame ∷ frames) a = both a (acks frame a) (heard_all frames (acks frame a)) (acks_low frame a) (heard_low frames (acks frame a))
   where
@@ -126,7 +131,7 @@ brings_rises (ua f) a b le = le
 brings_rises (dm f) a b le = le
 brings_rises (frmr f why) a b le = le
 
-brings_low : (frame : PlainFrame) (a : ℕ) → a ≤ brings frame a
+pub brings_low : (frame : PlainFrame) (a : ℕ) → a ≤ brings frame a
 brings_low (info ns nr pf packet) a = takes_low ns a
 brings_low (rr command nr pf) a = omega arith
 brings_low (rnr command nr pf) a = omega arith
@@ -137,15 +142,15 @@ brings_low (ua f) a = omega arith
 brings_low (dm f) a = omega arith
 brings_low (frmr f why) a = omega arith
 
-took_rises : (frames : List PlainFrame) (a b : ℕ) → a ≤ b → took_all frames a ≤ took_all frames b
+pub took_rises : (frames : List PlainFrame) (a b : ℕ) → a ≤ b → took_all frames a ≤ took_all frames b
 took_rises [] a b le = le
 took_rises (frame ∷ frames) a b le = took_rises frames (brings frame a) (brings frame b) (brings_rises frame a b le)
 
-took_more : (frames : List PlainFrame) (frame : PlainFrame) (a : ℕ) → took_all (frames ++ frame ∷ []) a ≡ brings frame (took_all frames a)
+pub took_more : (frames : List PlainFrame) (frame : PlainFrame) (a : ℕ) → took_all (frames ++ frame ∷ []) a ≡ brings frame (took_all frames a)
 took_more [] frame a = refl
 took_more (f ∷ frames) frame a = took_more frames frame (brings f a)
 
-took_low : (frames : List PlainFrame) (a : ℕ) → a ≤ took_all frames a
+pub took_low : (frames : List PlainFrame) (a : ℕ) → a ≤ took_all frames a
 took_low [] a = omega arith
 took_low (frame ∷ frames) a = both a (brings frame a) (took_all frames (brings frame a)) (brings_low frame a) (took_low frames (brings frame a))
   where
@@ -160,12 +165,26 @@ Own_fit m u x y = (x ≡ m) × (u ≤ y)
 abbrev Hears_fit : ℕ → ℕ → ℕ → ℕ → Type 0
 Hears_fit g t x y = (g ≤ x) × (y ≡ t)
 
-record Beside (from : Role) (j : Judge) (p : Peer) (frames : List PlainFrame) : Type 0 where
+-- what the judge says of the N(R)s of an end that took g and said t: where no I frame was sent since the numbers began,
+-- none was taken
+pub record Hears (w : Way) (g t : ℕ) : Type 0 where
+  pub numbered : Numbered w (Hears_fit g t)
+  pub begun : way.may_hear w ≡ true → w.ever ≡ 0 → (w.behind ≡ 0) × (w.kept ≡ 0)
+  pub none : way.may_hear w ≡ true → w.ever ≡ 0 → (g ≡ 0) × (t ≡ 0)
+
+-- the judge beside an end that sent m I frames, of which u are acknowledged at most, and took g at most, and said t
+pub record Seen (a b : End) (m u g t : ℕ) : Type 0 where
+  pub up : sides.may_run a.phase ≡ true
+  pub own : OwnIf a.way m u
+  pub hears : Hears b.way g t
+
+abbrev pub SeenBy : Role → Judge → ℕ → ℕ → ℕ → ℕ → Type 0
+SeenBy from j m u g t = Seen (end_of from j) (end_of (other from) j) m u g t
+
+-- in a session, with such frames on the way
+pub record Beside (from : Role) (j : Judge) (p : Peer) (frames : List PlainFrame) : Type 0 where
   pub window : 7 ≤ j.window
-  pub up : sides.may_run (end_of from j).phase ≡ true
-  pub other_up : sides.may_run (end_of (other from) j).phase ≡ true
-  pub own : Own (end_of from j).way p.sent (heard_all frames p.acked)
-  pub hears : Numbered (end_of (other from) j).way (Hears_fit (took_all frames (length p.taken)) p.told)
+  pub seen : SeenBy from j p.sent (heard_all frames p.acked) (took_all frames (length p.taken)) p.told
   pub held : IsHeld (held_of from j) p.given p.sent
 
 own_alike : (w v : Way) (m u : ℕ) → AreAlike w v → Own w m u → Own v m u
@@ -177,6 +196,10 @@ own_alike w v m u a h = record {
   whole = a.whole ∙ h.whole;
   numbered = same_numbered w v (Own_fit m u) (Own_fit m u) a.sight a.next a.pending (λ x y next fit. fit) h.numbered;
 }
+
+own_if_alike : (w v : Way) (m u : ℕ) → AreAlike w v → OwnIf w m u → OwnIf v m u
+own_if_alike w v m u a (inl unseen) = inl (ap way.is_unseen_sight a.sight ∙ unseen)
+own_if_alike w v m u a (inr h) = inr (own_alike w v m u a h)
 
 own_less : (w : Way) (m u t : ℕ) → t ≤ u → Own w m u → Own w m t
 own_less w m u t le h = record {
@@ -191,14 +214,52 @@ own_less w m u t le h = record {
     below : (y : ℕ) → u ≤ y → t ≤ y
     below y h = omega (arith, le)
 
+pub own_if_less : (w : Way) (m u t : ℕ) → t ≤ u → OwnIf w m u → OwnIf w m t
+own_if_less w m u t le (inl unseen) = inl unseen
+own_if_less w m u t le (inr h) = inr (own_less w m u t le h)
+
 numbered_less : (w : Way) (g h t : ℕ) → h ≤ g → Numbered w (Hears_fit g t) → Numbered w (Hears_fit h t)
 numbered_less w g h t le n = same_numbered w w (Hears_fit g t) (Hears_fit h t) refl refl refl (λ x y next fit. (below x fit.0, fit.1)) n
   where
     below : (x : ℕ) → g ≤ x → h ≤ x
     below x k = omega (arith, le)
 
-numbered_alike : (w v : Way) (g t : ℕ) → AreAlike w v → Numbered w (Hears_fit g t) → Numbered v (Hears_fit g t)
-numbered_alike w v g t a n = same_numbered w v (Hears_fit g t) (Hears_fit g t) a.sight a.next a.pending (λ x y next fit. fit) n
+pub hears_less : (w : Way) (g h t : ℕ) → h ≤ g → Hears w g t → Hears w h t
+hears_less w g h t le n = record {
+  numbered = numbered_less w g h t le n.numbered;
+  begun = n.begun;
+  none = λ hears ever. let (a, b) = n.none hears ever in (none a, b);
+}
+  where
+    none : g ≡ 0 → h ≡ 0
+    none e = omega (arith, le)
+
+hears_alike : (w v : Way) (g t : ℕ) → AreAlike w v → Hears w g t → Hears v g t
+hears_alike w v g t a n =
+    let hears : way.may_hear v ≡ true → way.may_hear w ≡ true = λ (h : way.may_hear v ≡ true). sym (ap way.may_hear_sight a.sight) ∙ h in
+    record {
+      numbered = same_numbered w v (Hears_fit g t) (Hears_fit g t) a.sight a.next a.pending (λ x y next fit. fit) n.numbered;
+      begun = λ h ever. let (b, c) = n.begun (hears h) (sym a.ever ∙ ever) in (a.behind ∙ b, a.kept ∙ c);
+      none = λ h ever. n.none (hears h) (sym a.ever ∙ ever);
+    }
+
+pub deaf_hears : (w : Way) (g t : ℕ) → way.may_hear w ≡ false → Hears w g t
+deaf_hears w g t deaf = record {
+  numbered = deaf_numbered w (Hears_fit g t) deaf;
+  begun = λ hears. absurd (both_ways (way.may_hear w) deaf hears);
+  none = λ hears. absurd (both_ways (way.may_hear w) deaf hears);
+}
+
+-- no I frame was sent since the numbers began, if anything is said of what answers them
+pub record Rested (w : Way) : Type 0 where
+  pub hears : Hears w 0 0
+  pub none : way.may_hear w ≡ true → w.ever ≡ 0
+
+pub rested_alike : (w v : Way) → AreAlike w v → Rested w → Rested v
+rested_alike w v a r = record { hears = hears_alike w v 0 0 a r.hears; none = λ hears. a.ever ∙ r.none (sym (ap way.may_hear_sight a.sight) ∙ hears) }
+
+pub seen_less : (a b : End) (m u v g h t : ℕ) → v ≤ u → h ≤ g → Seen a b m u g t → Seen a b m v h t
+seen_less a b m u v g h t less fewer s = record { up = s.up; own = own_if_less a.way m u v less s.own; hears = hears_less b.way g h t fewer s.hears }
 
 -- ---- a frame comes, or is lost
 
@@ -246,55 +307,130 @@ comes (ua f) p q is = subst (λ (x : Peer). AtMost (ua f) p x) (sym is) (nothing
 comes (dm f) p q is = subst (λ (x : Peer). AtMost (dm f) p x) (sym is) (nothing (dm f) p)
 comes (frmr f why) p q is = subst (λ (x : Peer). AtMost (frmr f why) p x) (sym is) (nothing (frmr f why) p)
 
-came_beside : (from : Role) (j : Judge) (p q : Peer) (frame : PlainFrame) (frames : List PlainFrame) → MayHear p (Ok frame) q → Beside from j p (frame ∷ frames) → Beside from j q frames
+pub came_beside : (from : Role) (j : Judge) (p q : Peer) (frame : PlainFrame) (frames : List PlainFrame) → MayHear p (Ok frame) q → Beside from j p (frame ∷ frames) → Beside from j q frames
 came_beside from j p q frame frames may h =
     let c = comes frame p q may in
     record {
       window = h.window;
-      up = h.up;
-      other_up = h.other_up;
-      own = subst (λ m. Own (end_of from j).way m (heard_all frames q.acked)) (sym c.sent)
-          (own_less (end_of from j).way p.sent (heard_all frames (acks frame p.acked)) (heard_all frames q.acked) (heard_rises frames q.acked (acks frame p.acked) c.acked) h.own);
-      hears = subst (λ t. Numbered (end_of (other from) j).way (Hears_fit (took_all frames (length q.taken)) t)) (sym c.told)
-          (numbered_less (end_of (other from) j).way (took_all frames (brings frame (length p.taken))) (took_all frames (length q.taken)) p.told (took_rises frames (length q.taken) (brings frame (length p.taken)) c.taken) h.hears);
+      seen = subst (λ m. SeenBy from j m (heard_all frames q.acked) (took_all frames (length q.taken)) q.told) (sym c.sent)
+          (subst (λ t. SeenBy from j p.sent (heard_all frames q.acked) (took_all frames (length q.taken)) t) (sym c.told)
+          (seen_less (end_of from j) (end_of (other from) j) p.sent (heard_all frames (acks frame p.acked)) (heard_all frames q.acked) (took_all frames (brings frame (length p.taken))) (took_all frames (length q.taken)) p.told
+          (heard_rises frames q.acked (acks frame p.acked) c.acked) (took_rises frames (length q.taken) (brings frame (length p.taken)) c.taken) h.seen));
       held = same_held (held_of from j) p.given q.given p.sent q.sent c.given c.sent h.held;
     }
 
 -- ---- the end sends
 
-record IsUntold (from : Role) (j k : Judge) (q : Peer) (frames : List PlainFrame) (frame : PlainFrame) : Type 0 where
+pub is_bool : (b : Bool) → (b ≡ true) ⊎ (b ≡ false)
+is_bool true = inl refl
+is_bool false = inr refl
+
+-- an N(R), as the judge takes it
+record Heeds (w : Way) (nr g t : ℕ) : Type 0 where
+  pub quiet : (way.heard nr w).rule ≡ None
+  pub hears : Hears (way.heard nr w).way g t
+  pub rests : Rested w → Rested (way.heard nr w).way
+
+-- it changes nothing of what was sent
+record Leaves (w v : Way) : Type 0 where
+  pub hears : way.may_hear v ≡ true → way.may_hear w ≡ true
+  pub ever : v.ever ≡ w.ever
+  pub behind : v.behind ≡ w.behind
+  pub kept : v.kept ≡ w.kept
+
+heard_leaves : (w : Way) (nr : ℕ) → Leaves w (way.heard nr w).way
+heard_leaves w nr =
+    cond_both (way.may_hear w) (way.heard_ahead ahead w) (way.quiet w) (λ (t : Told). Leaves w t.way)
+    (λ test. cond_both (nat_le ahead w.pending) (way.quiet (way.acknowledged ahead w)) (way.strayed ahead w) (λ (t : Told). Leaves w t.way)
+    (λ _. record { hears = λ _. test; ever = refl; behind = refl; kept = refl })
+    (λ _. cond_both (not (way.is_sure w)) (if w.is_missed then way.quiet (way.astray w) else way.quiet (way.deaf w)) (if w.is_missed then way.notes HeardBehindDamage (way.astray w) else way.breaks (way.invalid ahead w) (way.deaf w)) (λ (t : Told). Leaves w t.way)
+    (λ _. cond_both w.is_missed (way.quiet (way.astray w)) (way.quiet (way.deaf w)) (λ (t : Told). Leaves w t.way)
+    (λ _. record { hears = λ _. test; ever = refl; behind = refl; kept = refl })
+    (λ _. record { hears = λ _. test; ever = refl; behind = refl; kept = refl }))
+    (λ _. cond_both w.is_missed (way.notes HeardBehindDamage (way.astray w)) (way.breaks (way.invalid ahead w) (way.deaf w)) (λ (t : Told). Leaves w t.way)
+    (λ _. record { hears = λ _. test; ever = refl; behind = refl; kept = refl })
+    (λ _. record { hears = λ _. test; ever = refl; behind = refl; kept = refl }))))
+    (λ _. record { hears = λ h. h; ever = refl; behind = refl; kept = refl })
+  where
+    ahead : ℕ
+    ahead = apart nr (way.awaited w)
+
+heeds : (w : Way) (g u t : ℕ) → u ≤ t → t ≤ g → Hears w g u → Heeds w (t % 8) g t
+heeds w g u t rising taken h =
+    let a = heard_fair w g u t rising taken h.numbered in
+    let l = heard_leaves w (t % 8) in
+    record {
+      quiet = a.quiet;
+      hears = record {
+        numbered = a.numbered;
+        begun = λ hears ever. let (b, c) = h.begun (l.hears hears) (sym l.ever ∙ ever) in (l.behind ∙ b, l.kept ∙ c);
+        none = λ hears ever. let (b, c) = h.none (l.hears hears) (sym l.ever ∙ ever) in (b, none b);
+      };
+      rests = λ rested. record {
+        hears = elim (is_bool (way.may_hear (way.heard (t % 8) w).way)) [ inl hears ↦ rest rested (l.hears hears) | inr deaf ↦ deaf_hears (way.heard (t % 8) w).way 0 0 deaf ];
+        none = λ hears. l.ever ∙ rested.none (l.hears hears);
+      };
+    }
+  where
+    none : g ≡ 0 → t ≡ 0
+    none e = omega (arith, taken)
+
+    none_before : t ≡ 0 → u ≡ 0
+    none_before e = omega (arith, rising)
+
+    rest : Rested w → way.may_hear w ≡ true → Hears (way.heard (t % 8) w).way 0 0
+    rest rested hears =
+        let is = none (h.none hears (rested.none hears)).0 in
+        subst (λ x. Hears (way.heard (x % 8) w).way 0 0) (sym is) (at_none rested.hears)
+      where
+        at_none : Hears w 0 0 → Hears (way.heard (0 % 8) w).way 0 0
+        at_none r =
+            let a = heard_fair w 0 0 0 (omega arith) (omega arith) r.numbered in
+            let l = heard_leaves w (0 % 8) in
+            record {
+              numbered = a.numbered;
+              begun = λ hears ever. let (b, c) = r.begun (l.hears hears) (sym l.ever ∙ ever) in (l.behind ∙ b, l.kept ∙ c);
+              none = λ hears ever. (refl, refl);
+            }
+
+pub record IsUntold (from : Role) (j k : Judge) (q : Peer) (frames : List PlainFrame) (frame : PlainFrame) : Type 0 where
   pub quiet : is_of_order (seen_by j from frame).rule ≡ false
   pub beside : Beside from k q frames
+  pub up : (seen_by j from frame).own.phase ≡ sides.running (sides_of from j).own.phase
+  pub same : AreSame (sides_of from j) (seen_by j from frame)
+  pub rests : Rested (sides_of from j).other.way → Rested (seen_by j from frame).other.way
 
-are_up : (from : Role) (j : Judge) (p : Peer) (frames : List PlainFrame) → Beside from j p frames → AreUp (sides_of from j)
-are_up from j p frames h = record {
-  own = ap (λ (e : End). sides.may_run e.phase) (stands j from).own ∙ h.up;
-  other = ap (λ (e : End). sides.may_run e.phase) (stands j from).opposite ∙ h.other_up;
-}
+is_up : (from : Role) (j : Judge) (p : Peer) (frames : List PlainFrame) → Beside from j p frames → IsUp (sides_of from j)
+is_up from j p frames h = ap (λ (e : End). sides.may_run e.phase) (stands j from).own ∙ h.seen.up
 
 untold : (from : Role) (j k : Judge) (p q : Peer) (frames : List PlainFrame) (frame : PlainFrame) (nr : ℕ) (mine : Way) (last : Option Rule)
     → Beside from j p frames → Goes j k from (seen_by j from frame) frame → Sees (sides_of from j) (seen_by j from frame) nr mine last → is_of_order last ≡ false
-    → Own mine q.sent (heard_all frames q.acked) → Answers (way.heard nr (end_of (other from) j).way) (took_all frames (length q.taken)) q.told
+    → OwnIf mine q.sent (heard_all frames q.acked) → Heeds (end_of (other from) j).way nr (took_all frames (length q.taken)) q.told
     → IsHeld (keeps (held_of from j) frame) q.given q.sent → IsUntold from j k q frames frame
-untold from j k p q frames frame nr mine last h g s plain own answers held =
+untold from j k p q frames frame nr mine last h g s plain own heeds held =
     let opposite = ap (λ (e : End). e.way) (stands j from).opposite in
-    let heard_none : (way.heard nr (sides_of from j).other.way).rule ≡ None = ap (λ w. (way.heard nr w).rule) opposite ∙ answers.quiet in
+    let heard_none : (way.heard nr (sides_of from j).other.way).rule ≡ None = ap (λ w. (way.heard nr w).rule) opposite ∙ heeds.quiet in
     record {
       quiet = ap is_of_order s.rule ∙ first_of_order (sides.first s.before (way.heard nr (sides_of from j).other.way).rule) last (first_of_order s.before (way.heard nr (sides_of from j).other.way).rule s.plain (ap is_of_order heard_none)) plain;
       beside = record {
         window = subst (λ x. 7 ≤ x) (sym g.window) h.window;
-        up = ap (λ (e : End). sides.may_run e.phase) g.own ∙ s.up.own;
-        other_up = ap (λ (e : End). sides.may_run e.phase) g.opposite ∙ s.up.other;
-        own = subst (λ w. Own w q.sent (heard_all frames q.acked)) (sym (ap (λ (e : End). e.way) g.own ∙ s.own)) own;
-        hears = subst (λ w. Numbered w (Hears_fit (took_all frames (length q.taken)) q.told)) (sym (ap (λ (e : End). e.way) g.opposite))
-            (numbered_alike (way.heard nr (sides_of from j).other.way).way (seen_by j from frame).other.way (took_all frames (length q.taken)) q.told s.other
-            (subst (λ w. Numbered (way.heard nr w).way (Hears_fit (took_all frames (length q.taken)) q.told)) (sym opposite) answers.numbered));
+        seen = record {
+          up = ap (λ (e : End). sides.may_run e.phase) g.own ∙ ap sides.may_run s.up ∙ runs_on (sides_of from j).own.phase (is_up from j p frames h);
+          own = subst (λ w. OwnIf w q.sent (heard_all frames q.acked)) (sym (ap (λ (e : End). e.way) g.own ∙ s.own)) own;
+          hears = subst (λ w. Hears w (took_all frames (length q.taken)) q.told) (sym (ap (λ (e : End). e.way) g.opposite))
+              (hears_alike (way.heard nr (sides_of from j).other.way).way (seen_by j from frame).other.way (took_all frames (length q.taken)) q.told s.other
+              (subst (λ w. Hears (way.heard nr w).way (took_all frames (length q.taken)) q.told) (sym opposite) heeds.hears));
+        };
         held = subst (λ (hs : List (List ℕ)). IsHeld hs q.given q.sent) (sym g.held) held;
       };
+      up = s.up;
+      same = s.same;
+      rests = λ rested. rested_alike (way.heard nr (sides_of from j).other.way).way (seen_by j from frame).other.way s.other
+          (subst (λ w. Rested w → Rested (way.heard nr w).way) (sym opposite) heeds.rests rested);
     }
 
 -- a number that the rules allow, new or again
-sent_fair : (w : Way) (window m u n ns : ℕ) (p s : Bool) → 7 ≤ window → ns ≡ n % 8 → n ≤ m → m ≤ n + 7 → n < u + 7 → (n < m → s ≡ true) → Own w m u → Fair (way.sent window ns p s w) (max m (n + 1)) u
+sent_fair : (w : Way) (window m u n ns : ℕ) (p s : Bool) → 7 ≤ window → ns ≡ n % 8 → n ≤ m → m ≤ n + 7 → n < u + 7 → (n < m → s ≡ true) → OwnIf w m u → Fair (way.sent window ns p s w) (max m (n + 1)) u
 sent_fair w window m u n ns p s large number le near room same h = subst (λ x. Fair (way.sent window x p s w) (max m (n + 1)) u) (sym number) (go (cases_eq n m))
   where
     new_top : n ≡ m → m + 1 ≡ max m (n + 1)
@@ -312,10 +448,10 @@ sent_fair w window m u n ns p s large number le near room same h = subst (λ x. 
     go (inr ne) = subst (λ x. Fair (way.sent window (n % 8) p s w) x u) (old_top (below ne)) (old_fair w window m u n p s (below ne) near (same (below ne)) h)
 
 acknowledged : (from : Role) (j : Judge) (p : Peer) (frames : List PlainFrame) (nr t : ℕ) → MayAcknowledge p nr t → Beside from j p frames
-    → Answers (way.heard nr (end_of (other from) j).way) (took_all frames (length p.taken)) t
+    → Heeds (end_of (other from) j).way nr (took_all frames (length p.taken)) t
 acknowledged from j p frames nr t may h =
-    subst (λ x. Answers (way.heard x (end_of (other from) j).way) (took_all frames (length p.taken)) t) (sym may.number)
-    (heard_fair (end_of (other from) j).way (took_all frames (length p.taken)) p.told t may.rising (both t (length p.taken) (took_all frames (length p.taken)) may.taken (took_low frames (length p.taken))) h.hears)
+    subst (λ x. Heeds (end_of (other from) j).way x (took_all frames (length p.taken)) t) (sym may.number)
+    (heeds (end_of (other from) j).way (took_all frames (length p.taken)) p.told t may.rising (both t (length p.taken) (took_all frames (length p.taken)) may.taken (took_low frames (length p.taken))) h.seen.hears)
   where
     both : (a b c : ℕ) → a ≤ b → b ≤ c → a ≤ c
     both a b c h k = omega arith
@@ -325,21 +461,21 @@ told_end : (from : Role) (j k : Judge) (p : Peer) (frames : List PlainFrame) (fr
     → IsUntold from j k (told_to t p) frames frame
 told_end from j k p frames frame nr t last bare may h g s plain =
     untold from j k p (told_to t p) frames frame nr (sides_of from j).own.way last h g s plain
-    (subst (λ w. Own w p.sent (heard_all frames p.acked)) (sym (ap (λ (e : End). e.way) (stands j from).own)) h.own)
+    (subst (λ w. OwnIf w p.sent (heard_all frames p.acked)) (sym (ap (λ (e : End). e.way) (stands j from).own)) h.seen.own)
     (acknowledged from j p frames nr t may h)
     (subst (λ (hs : List (List ℕ)). IsHeld hs p.given p.sent) (sym (bare_held (held_of from j) frame bare)) h.held)
 
-sends : (from : Role) (j k : Judge) (p q : Peer) (frames : List PlainFrame) (frame : PlainFrame) → MaySend p frame q → Beside from j p frames → Goes j k from (seen_by j from frame) frame → IsUntold from j k q frames frame
+pub sends : (from : Role) (j k : Judge) (p q : Peer) (frames : List PlainFrame) (frame : PlainFrame) → MaySend p frame q → Beside from j p frames → Goes j k from (seen_by j from frame) frame → IsUntold from j k q frames frame
 unfolding sides.sees
 sends from j k p q frames (info ns nr pf packet) (n, t, number, le, fits, may, is) h g =
     let frame = info ns nr pf packet in
     let hs = held_of from j in
     let w = (end_of from j).way in
-    let s = info_sees j.window ns nr pf (is_same hs frame) (sides_of from j) (are_up from j p frames h) (stands j from).none in
+    let s = info_sees j.window ns nr pf (is_same hs frame) (sides_of from j) (is_up from j p frames h) (stands j from).none in
     let own_is = ap (λ (e : End). e.way) (stands j from).own in
     let f : Fair (way.sent j.window ns pf (is_same hs frame) w) (max p.sent (n + 1)) (heard_all frames p.acked) =
     sent_fair w j.window p.sent (heard_all frames p.acked) n ns pf (is_same hs frame) h.window number.number le number.again (near (heard_all frames p.acked) (heard_low frames p.acked))
-    (λ before. same_octets hs p.given p.sent n ns nr pf packet number.number before number.again number.same h.held) h.own in
+    (λ before. same_octets hs p.given p.sent n ns nr pf packet number.number before number.again number.same h.held) h.seen.own in
     let f0 = subst (λ (x : Way). Fair (way.sent j.window ns pf (is_same hs frame) x) (max p.sent (n + 1)) (heard_all frames p.acked)) (sym own_is) f in
     subst (λ (x : Peer). IsUntold from j k x frames frame) (sym is)
     (untold from j k p (told_to t (numbered_to n p)) frames frame nr (way.sent j.window ns pf (is_same hs frame) (sides_of from j).own.way).way (way.sent j.window ns pf (is_same hs frame) (sides_of from j).own.way).rule h g s f0.quiet f0.own
@@ -350,12 +486,12 @@ sends from j k p q frames (info ns nr pf packet) (n, t, number, le, fits, may, i
     near u low = omega (arith, number.window)
 sends from j k p q frames (rr command nr pf) (t, may, is) h g =
     subst (λ (x : Peer). IsUntold from j k x frames (rr command nr pf)) (sym is)
-    (told_end from j k p frames (rr command nr pf) nr t None tt may h g (ready_sees command nr pf (sides_of from j) (are_up from j p frames h) (stands j from).none) refl)
+    (told_end from j k p frames (rr command nr pf) nr t None tt may h g (ready_sees command nr pf (sides_of from j) (is_up from j p frames h) (stands j from).none) refl)
 sends from j k p q frames (rnr command nr pf) (t, may, is) h g =
     subst (λ (x : Peer). IsUntold from j k x frames (rnr command nr pf)) (sym is)
-    (told_end from j k p frames (rnr command nr pf) nr t None tt may h g (ready_sees command nr pf (sides_of from j) (are_up from j p frames h) (stands j from).none) refl)
+    (told_end from j k p frames (rnr command nr pf) nr t None tt may h g (ready_sees command nr pf (sides_of from j) (is_up from j p frames h) (stands j from).none) refl)
 sends from j k p q frames (rej command nr pf) (t, may, is) h g =
-    let r = reject_sees command nr pf (sides_of from j) (are_up from j p frames h) (stands j from).none in
+    let r = reject_sees command nr pf (sides_of from j) (is_up from j p frames h) (stands j from).none in
     subst (λ (x : Peer). IsUntold from j k x frames (rej command nr pf)) (sym is)
     (told_end from j k p frames (rej command nr pf) nr t r.last tt may h g r.sees r.plain)
 sends from j k p q frames (sabm b) may h g = absurd may
@@ -385,81 +521,175 @@ takes_more ns g m c le one = both (takes ns g) (takes_within ns g)
     both : (x : ℕ) → x ≤ g + 1 → x ≤ m + c
     both x h = omega (arith, le, one)
 
+abbrev IsSome : Told → Type 0
+IsSome t = way.may_hear t.way ≡ true → t.way.ever ≡ 0 → ⊥
+
+-- behind an I frame of the other end one was sent
+sent_some : (w : Way) (window ns : ℕ) (p s : Bool) → (way.may_hear w ≡ true → w.ever ≡ 0 → (w.behind ≡ 0) × (w.kept ≡ 0)) → way.may_hear (way.sent window ns p s w).way ≡ true
+    → (way.sent window ns p s w).way.ever ≡ 0 → ⊥
+sent_some w window ns p s begun =
+    cond_both (way.is_unseen w) (way.quiet (way.counted w)) (way.sent_number window p s back w) IsSome
+    (λ _ hears e. more w.ever 1 (omega arith) e)
+    (λ _. cond_both (nat_lt 0 back) (way.sent_again p s back w) _ IsSome
+    (λ test. again (ltb-true 0 back test))
+    (λ _. cond_both (w.behind == 0 || way.known_pending w == 0) (way.sent_new window w) (way.unexplained s back w) IsSome
+    (λ _. cond_both (way.is_sure w && nat_le window w.pending) (way.breaks (OverWindow (way.passed window w)) (way.grown 1 w)) (way.quiet (way.grown 1 w)) IsSome
+    (λ _. grows 1 (omega arith)) (λ _. grows 1 (omega arith)))
+    (λ _. unexplained)))
+  where
+    back : ℕ
+    back = apart w.next ns
+
+    more : (e c : ℕ) → 1 ≤ c → min (e + c) 255 ≡ 0 → ⊥
+    more e c one is = omega arith
+
+    grows : (c : ℕ) → 1 ≤ c → way.may_hear (way.grown c w) ≡ true → (way.grown c w).ever ≡ 0 → ⊥
+    grows c one hears e = more w.ever c one e
+
+    told_one : (in_order : Bool) (c : ℕ) → 1 ≤ c → IsSome (way.skips in_order c w)
+    told_one in_order c one = cond_both w.is_missed (way.notes SentBehindDamage (way.grown c w)) (way.breaks (if in_order then Skips (way.place w) else OverWindow 7) (way.grown c w)) IsSome (λ _. grows c one) (λ _. grows c one)
+
+    left : (b : ℕ) → b ≤ 7 → 1 ≤ 9 - b
+    left b low = omega arith
+
+    never : (b x : ℕ) → 0 < b → b ≤ x → x ≡ 0 → ⊥
+    never b x lt le e = omega arith
+
+    less : (b x : ℕ) → b < x → x ≡ 0 → ⊥
+    less b x lt e = omega arith
+
+    unexplained : IsSome (way.unexplained s back w)
+    unexplained =
+        cond_both (back == 0) (way.skips (way.has_room 1 w) 1 w) _ IsSome
+        (λ _. told_one (way.has_room 1 w) 1 (omega arith))
+        (λ zero. let some = positive back (eqb-false back 0 zero) in
+        cond_both (way.is_other s back w) (if way.has_room (9 - back) w then way.skips true (9 - back) w else way.told_again (way.repeated back w) Differs w) _ IsSome
+        (λ test. cond_both (way.has_room (9 - back) w) (way.skips true (9 - back) w) (way.told_again (way.repeated back w) Differs w) IsSome
+        (λ _. told_one true (9 - back) (left back (apart_low w.next ns)))
+        (λ _. told_again Differs (λ hears e. never back w.kept some (leb-true back w.kept (and_parts (nat_le back w.kept) (not w.is_missed) (and_parts (not s) (nat_le back w.kept && not w.is_missed) test).1).0) (begun hears e).1)))
+        (λ _. cond_both (nat_lt back w.behind) (way.told_again (way.repeated back w) (Skips (way.place w)) w) _ IsSome
+        (λ test. told_again (Skips (way.place w)) (λ hears e. less back w.behind (ltb-true back w.behind test) (begun hears e).0))
+        (λ _. cond_both (way.was_sent s back w) (way.told_again (way.repeated back w) (Repeats (way.place w)) w) (way.skips (nat_le back w.ever || way.has_room (9 - back) w) (9 - back) w) IsSome
+        (λ test. told_again (Repeats (way.place w)) (λ hears e. never back w.ever some (leb-true back w.ever (and_parts (nat_le back w.ever) (way.is_repeated s back w || (nat_le back w.pending || nat_le back 4)) test).0) e))
+        (λ _. told_one (nat_le back w.ever || way.has_room (9 - back) w) (9 - back) (left back (apart_low w.next ns))))))
+      where
+        positive : (b : ℕ) → (b ≡ 0 → ⊥) → 0 < b
+        positive b ne = omega (arith, ne)
+
+        told_again : (rule : Rule) → (way.may_hear w ≡ true → w.ever ≡ 0 → ⊥) → IsSome (way.told_again (way.repeated back w) rule w)
+        told_again rule h = cond_both w.is_missed (way.notes SentBehindDamage (way.repeated back w)) (way.sent_before (way.breaks rule (way.repeated back w))) IsSome (λ _. h) (λ _. h)
+
+    again_one : (v : Way) → (way.may_hear v ≡ true → v.ever ≡ 0 → ⊥) → IsSome (way.again s back v w)
+    again_one v h = cond_both (way.is_other s back w) (way.sent_before (way.breaks Differs v)) (way.sent_before (way.notes SentAgain v)) IsSome (λ _. h) (λ _. h)
+
+    either : (a b : Bool) (Q : Type 0) → (a ≡ true → Q) → (b ≡ true → Q) → (a || b) ≡ true → Q
+    either true b Q f g e = f refl
+    either false b Q f g e = g e
+
+    gone : (is_poll : Bool) → (way.may_hear w ≡ true → w.ever ≡ 0 → ⊥) → way.may_hear (way.gone_back is_poll back w) ≡ true → (way.gone_back is_poll back w).ever ≡ 0 → ⊥
+    gone true h = h
+    gone false h = h
+
+    again : 0 < back → IsSome (way.sent_again p s back w)
+    again some =
+        cond_both (back == w.behind || (nat_le (way.known_pending w) back && nat_lt back w.behind)) (way.again s back (way.repeated back w) w) _ IsSome
+        (λ test. again_one (way.repeated back w) (λ hears e. either (back == w.behind) (nat_le (way.known_pending w) back && nat_lt back w.behind) ⊥
+        (λ is. never back w.behind some (same back w.behind (eqb-true back w.behind is)) (begun hears e).0)
+        (λ parts. less back w.behind (ltb-true back w.behind (and_parts (nat_le (way.known_pending w) back) (nat_lt back w.behind) parts).1) (begun hears e).0) test))
+        (λ _. cond_both (way.may_go_back p back w) (way.again s back (way.gone_back p back w) w) (way.unexplained s back w) IsSome
+        (λ test. again_one (way.gone_back p back w) (gone p (λ hears e. never back w.ever some
+        (leb-true back w.ever (and_parts (nat_le back w.ever) (p || (nat_lt 0 w.causes && nat_le back w.farthest))
+        (and_parts (nat_le (way.known_pending w) back) (nat_le back w.ever && (p || (nat_lt 0 w.causes && nat_le back w.farthest)))
+        (and_parts (nat_lt w.behind back) (nat_le (way.known_pending w) back && (nat_le back w.ever && (p || (nat_lt 0 w.causes && nat_le back w.farthest)))) test).1).1).0) e)))
+        (λ _. unexplained))
+      where
+        same : (b x : ℕ) → b ≡ x → b ≤ x
+        same b x e = omega arith
+
 -- the N(S) of the other end
-others_sent : (w : Way) (window ns nr g told : ℕ) (p s : Bool) → 7 ≤ window → Numbered w (Hears_fit g told) → Numbered (way.sent window ns p s w).way (Hears_fit (takes ns g) told)
-others_sent w window ns nr g told p s large h =
-    sent_numbered w (Hears_fit g told) (Hears_fit (takes ns g) told) h (λ m u c one next fit. (takes_more ns g m c fit.0 one, fit.1)) ns (λ m u ne fit. (takes_still ns g m fit.0 ne, fit.1)) window p s large
-
-shown_at : (o : Role) (j k : Judge) (p : Peer) (frames : List PlainFrame) (frame : PlainFrame) (nr : ℕ) (mine : Way) (last : Option Rule)
-    → Beside (other o) j p frames → Goes j k o (seen_by j o frame) frame → Sees (sides_of o j) (seen_by j o frame) nr mine last
-    → ((u : ℕ) → acks frame u ≡ resolved u nr) → Numbered mine (Hears_fit (took_all (frames ++ frame ∷ []) (length p.taken)) p.told)
-    → Beside (other o) k p (frames ++ frame ∷ [])
-shown_at o j k p frames frame nr mine last h g s acks_it numbered =
-    let back = other_twice o in
-    record {
-      window = subst (λ x. 7 ≤ x) (sym g.window) h.window;
-      up = ap (λ (e : End). sides.may_run e.phase) g.opposite ∙ s.up.other;
-      other_up = subst (λ r. sides.may_run (end_of r k).phase ≡ true) (sym back) (ap (λ (e : End). sides.may_run e.phase) g.own ∙ s.up.own);
-      own = subst (λ u. Own (end_of (other o) k).way p.sent u) (sym (heard_more frames frame p.acked ∙ acks_it (heard_all frames p.acked)))
-          (subst (λ w. Own w p.sent (resolved (heard_all frames p.acked) nr)) (sym (ap (λ (e : End). e.way) g.opposite))
-          (own_alike (way.heard nr (sides_of o j).other.way).way (seen_by j o frame).other.way p.sent (resolved (heard_all frames p.acked) nr) s.other
-          (subst (λ w. Own (way.heard nr w).way p.sent (resolved (heard_all frames p.acked) nr)) (sym (ap (λ (e : End). e.way) (stands j o).opposite)) (heard_own (end_of (other o) j).way p.sent (heard_all frames p.acked) nr h.own))));
-      hears = subst (λ r. Numbered (end_of r k).way (Hears_fit (took_all (frames ++ frame ∷ []) (length p.taken)) p.told)) (sym back)
-          (subst (λ w. Numbered w (Hears_fit (took_all (frames ++ frame ∷ []) (length p.taken)) p.told)) (sym (ap (λ (e : End). e.way) g.own ∙ s.own)) numbered);
-      held = subst (λ (hs : List (List ℕ)). IsHeld hs p.given p.sent) (sym g.other_held) h.held;
-    }
-
-others_up : (o : Role) (j : Judge) (p : Peer) (frames : List PlainFrame) → Beside (other o) j p frames → AreUp (sides_of o j)
-others_up o j p frames h = record {
-  own = ap (λ (e : End). sides.may_run e.phase) (stands j o).own ∙ subst (λ r. sides.may_run (end_of r j).phase ≡ true) (other_twice o) h.other_up;
-  other = ap (λ (e : End). sides.may_run e.phase) (stands j o).opposite ∙ h.up;
+others_sent : (w : Way) (window ns g told : ℕ) (p s : Bool) → 7 ≤ window → Hears w g told → Hears (way.sent window ns p s w).way (takes ns g) told
+others_sent w window ns g told p s large h = record {
+  numbered = sent_numbered w (Hears_fit g told) (Hears_fit (takes ns g) told) h.numbered (λ m u c one next fit. (takes_more ns g m c fit.0 one, fit.1)) ns (λ m u ne fit. (takes_still ns g m fit.0 ne, fit.1)) window p s large;
+  begun = λ hears e. absurd (sent_some w window ns p s h.begun hears e);
+  none = λ hears e. absurd (sent_some w window ns p s h.begun hears e);
 }
 
--- what the other end's numbers were
-others_were : (o : Role) (j : Judge) (p : Peer) (frames : List PlainFrame) → Beside (other o) j p frames → Numbered (sides_of o j).own.way (Hears_fit (took_all frames (length p.taken)) p.told)
-others_were o j p frames h =
-    subst (λ w. Numbered w (Hears_fit (took_all frames (length p.taken)) p.told)) (sym (ap (λ (e : End). e.way) (stands j o).own))
-    (subst (λ r. Numbered (end_of r j).way (Hears_fit (took_all frames (length p.taken)) p.told)) (other_twice o) h.hears)
+-- A frame with a number of the first end, whatever it is. The other end stands where it stood, and the first one is up,
+-- or nothing is known of it.
+pub record Gives (t v : Sides) (frame : PlainFrame) : Type 0 where
+  pub same : AreSame t v
+  pub phase : (v.own.phase ≡ Unseen) ⊎ (v.own.phase ≡ Up)
+  pub own : (m u : ℕ) → OwnIf t.other.way m u → OwnIf v.other.way m (acks frame u)
+  pub hears : (g told : ℕ) → Hears t.own.way g told → Hears v.own.way (brings frame g) told
 
-bare_shown : (o : Role) (j k : Judge) (p : Peer) (frames : List PlainFrame) (frame : PlainFrame) (nr : ℕ) (last : Option Rule)
-    → Beside (other o) j p frames → Goes j k o (seen_by j o frame) frame → Sees (sides_of o j) (seen_by j o frame) nr (sides_of o j).own.way last
-    → ((u : ℕ) → acks frame u ≡ resolved u nr) → ((x : ℕ) → brings frame x ≡ x) → Beside (other o) k p (frames ++ frame ∷ [])
-bare_shown o j k p frames frame nr last h g s acks_it bare =
-    shown_at o j k p frames frame nr (sides_of o j).own.way last h g s acks_it
-    (subst (λ x. Numbered (sides_of o j).own.way (Hears_fit x p.told)) (sym (took_more frames frame (length p.taken) ∙ bare (took_all frames (length p.taken)))) (others_were o j p frames h))
+runs_to : (p : Phase) → sides.may_run p ≡ true → (sides.running p ≡ Unseen) ⊎ (sides.running p ≡ Up)
+runs_to Unseen h = inl refl
+runs_to Out h = absurd (both_ways false refl h)
+runs_to Waiting h = absurd (both_ways false refl h)
+runs_to Answered h = inr refl
+runs_to Up h = inr refl
 
-shown : (o : Role) (j k : Judge) (p : Peer) (frames : List PlainFrame) (frame : PlainFrame) → IsNumbered frame → Beside (other o) j p frames → Goes j k o (seen_by j o frame) frame → Beside (other o) k p (frames ++ frame ∷ [])
+-- where it is up
+up_gives : (t v : Sides) (frame : PlainFrame) (nr : ℕ) (mine : Way) (last : Option Rule) → IsUp t → Sees t v nr mine last → ((u : ℕ) → acks frame u ≡ resolved u nr)
+    → ((g told : ℕ) → Hears t.own.way g told → Hears mine (brings frame g) told) → Gives t v frame
+up_gives t v frame nr mine last up s acks_it hears = record {
+  same = s.same;
+  phase = subst (λ p. (p ≡ Unseen) ⊎ (p ≡ Up)) (sym s.up) (runs_to t.own.phase up);
+  own = λ m u h. subst (λ x. OwnIf v.other.way m x) (sym (acks_it u)) (own_if_alike (way.heard nr t.other.way).way v.other.way m (resolved u nr) s.other (heard_own_if t.other.way m u nr h));
+  hears = λ g told h. subst (λ w. Hears w (brings frame g) told) (sym s.own) (hears g told h);
+}
+
+-- where it isn't
+out_gives : (t v : Sides) (frame : PlainFrame) → Strays t v → Gives t v frame
+out_gives t v frame s = record {
+  same = s.same;
+  phase = inl s.phase;
+  own = λ m u h. inl s.other;
+  hears = λ g told h. deaf_hears v.own.way (brings frame g) told (unseen_deaf v.own.way.sight s.own);
+}
+
+up_frame : (window : ℕ) (s : Bool) (frame : PlainFrame) (t : Sides) → IsNumbered frame → 7 ≤ window → t.rule ≡ None → IsUp t → Gives t (sides.sees window s frame t) frame
 unfolding sides.sees
-shown o j k p frames (info ns nr pf packet) is h g =
-    let frame = info ns nr pf packet in
-    let s = is_same (held_of o j) frame in
-    shown_at o j k p frames frame nr (way.sent j.window ns pf s (sides_of o j).own.way).way (way.sent j.window ns pf s (sides_of o j).own.way).rule h g
-    (info_sees j.window ns nr pf s (sides_of o j) (others_up o j p frames h) (stands j o).none) (λ u. refl)
-    (subst (λ x. Numbered (way.sent j.window ns pf s (sides_of o j).own.way).way (Hears_fit x p.told)) (sym (took_more frames frame (length p.taken)))
-    (others_sent (sides_of o j).own.way j.window ns nr (took_all frames (length p.taken)) p.told pf s h.window (others_were o j p frames h)))
-shown o j k p frames (rr command nr pf) is h g = bare_shown o j k p frames (rr command nr pf) nr None h g (ready_sees command nr pf (sides_of o j) (others_up o j p frames h) (stands j o).none) (λ u. refl) (λ x. refl)
-shown o j k p frames (rnr command nr pf) is h g = bare_shown o j k p frames (rnr command nr pf) nr None h g (ready_sees command nr pf (sides_of o j) (others_up o j p frames h) (stands j o).none) (λ u. refl) (λ x. refl)
-shown o j k p frames (rej command nr pf) is h g =
-    let r = reject_sees command nr pf (sides_of o j) (others_up o j p frames h) (stands j o).none in
-    bare_shown o j k p frames (rej command nr pf) nr r.last h g r.sees (λ u. refl) (λ x. refl)
-shown o j k p frames (sabm b) is h g = absurd is
-shown o j k p frames (disc b) is h g = absurd is
-shown o j k p frames (ua f) is h g = absurd is
-shown o j k p frames (dm f) is h g = absurd is
-shown o j k p frames (frmr f why) is h g = absurd is
+up_frame window s (info ns nr pf packet) t is large none up =
+    up_gives t (sides.sends_info window ns nr pf s t) (info ns nr pf packet) nr (way.sent window ns pf s t.own.way).way (way.sent window ns pf s t.own.way).rule up (info_sees window ns nr pf s t up none) (λ u. refl)
+    (λ g told h. others_sent t.own.way window ns g told pf s large h)
+up_frame window s (rr command nr pf) t is large none up = up_gives t (sides.sends_ready command nr pf t) (rr command nr pf) nr t.own.way None up (ready_sees command nr pf t up none) (λ u. refl) (λ g told h. h)
+up_frame window s (rnr command nr pf) t is large none up = up_gives t (sides.sends_ready command nr pf t) (rnr command nr pf) nr t.own.way None up (ready_sees command nr pf t up none) (λ u. refl) (λ g told h. h)
+up_frame window s (rej command nr pf) t is large none up =
+    let r = reject_sees command nr pf t up none in
+    up_gives t (sides.sends_reject command nr pf t) (rej command nr pf) nr t.own.way r.last up r.sees (λ u. refl) (λ g told h. h)
+up_frame window s (sabm b) t is large none up = absurd is
+up_frame window s (disc b) t is large none up = absurd is
+up_frame window s (ua f) t is large none up = absurd is
+up_frame window s (dm f) t is large none up = absurd is
+up_frame window s (frmr f why) t is large none up = absurd is
 
-shown_beside : (from : Role) (j k : Judge) (p : Peer) (frames : List PlainFrame) (frame : PlainFrame) → IsNumbered frame → Beside from j p frames → Goes j k (other from) (seen_by j (other from) frame) frame → Beside from k p (frames ++ frame ∷ [])
-shown_beside Dte j k p frames frame is h g = shown Dce j k p frames frame is h g
-shown_beside Dce j k p frames frame is h g = shown Dte j k p frames frame is h g
+pub gives : (window : ℕ) (s : Bool) (frame : PlainFrame) (t : Sides) → IsNumbered frame → 7 ≤ window → t.rule ≡ None → Gives t (sides.sees window s frame t) frame
+gives window s frame t is large none = elim (is_bool (sides.may_run t.own.phase)) [ inl up ↦ up_frame window s frame t is large none up | inr out ↦ out_gives t (sides.sees window s frame t) frame (strays window s frame t is out) ]
+
+pub gives_seen : (t v : Sides) (frame : PlainFrame) (m u g told : ℕ) → Gives t v frame → Seen t.other t.own m u g told → Seen v.other v.own m (acks frame u) (brings frame g) told
+gives_seen t v frame m u g told h s = record { up = ap sides.may_run h.same.phase ∙ s.up; own = h.own m u s.own; hears = h.hears g told s.hears }
+
+shown_seen : (from : Role) (j k : Judge) (m u g t : ℕ) (frame : PlainFrame) → IsNumbered frame → 7 ≤ j.window → SeenBy from j m u g t → Goes j k (other from) (seen_by j (other from) frame) frame
+    → SeenBy from k m (acks frame u) (brings frame g) t
+shown_seen Dte j k m u g t frame is large h go =
+    subst (λ (a : End). Seen a k.dce m (acks frame u) (brings frame g) t) (sym go.opposite) (subst (λ (b : End). Seen (seen_by j Dce frame).other b m (acks frame u) (brings frame g) t) (sym go.own)
+    (gives_seen (sides_of Dce j) (seen_by j Dce frame) frame m u g t (gives j.window (is_same j.dce_held frame) frame (sides_of Dce j) is large refl) h))
+shown_seen Dce j k m u g t frame is large h go =
+    subst (λ (a : End). Seen a k.dte m (acks frame u) (brings frame g) t) (sym go.opposite) (subst (λ (b : End). Seen (seen_by j Dte frame).other b m (acks frame u) (brings frame g) t) (sym go.own)
+    (gives_seen (sides_of Dte j) (seen_by j Dte frame) frame m u g t (gives j.window (is_same j.dte_held frame) frame (sides_of Dte j) is large refl) h))
+
+pub shown_beside : (from : Role) (j k : Judge) (p : Peer) (frames : List PlainFrame) (frame : PlainFrame) → IsNumbered frame → Beside from j p frames → Goes j k (other from) (seen_by j (other from) frame) frame
+    → Beside from k p (frames ++ frame ∷ [])
+shown_beside from j k p frames frame is h go = record {
+  window = subst (λ x. 7 ≤ x) (sym go.window) h.window;
+  seen = subst (λ x. SeenBy from k p.sent x (took_all (frames ++ frame ∷ []) (length p.taken)) p.told) (sym (heard_more frames frame p.acked))
+      (subst (λ x. SeenBy from k p.sent (acks frame (heard_all frames p.acked)) x p.told) (sym (took_more frames frame (length p.taken)))
+      (shown_seen from j k p.sent (heard_all frames p.acked) (took_all frames (length p.taken)) p.told frame is h.window h.seen go));
+  held = subst (λ (hs : List (List ℕ)). IsHeld hs p.given p.sent) (sym go.other_held ∙ ap (λ r. held_of r k) (other_twice from)) (subst (λ (hs : List (List ℕ)). IsHeld hs p.given p.sent) (ap (λ r. held_of r j) (sym (other_twice from))) h.held);
+}
 
 -- ---- octets of the other end are damaged
-
-runs_unsure : (p : Phase) → sides.may_run p ≡ true → sides.may_run (sides.unsure p) ≡ true
-runs_unsure Unseen e = refl
-runs_unsure Out e = refl
-runs_unsure Waiting e = refl
-runs_unsure Answered e = refl
-runs_unsure Up e = refl
 
 runs_accepted : (p : Phase) → sides.may_run p ≡ true → sides.may_run (sides.accepted p) ≡ true
 runs_accepted Unseen e = refl
@@ -468,15 +698,16 @@ runs_accepted Waiting e = refl
 runs_accepted Answered e = refl
 runs_accepted Up e = refl
 
-record Misses (t : Sides) : Type 0 where
+pub record Misses (t : Sides) : Type 0 where
   pub own : (sides.misses t).own.way ≡ way.missed t.own.way
   pub other : (sides.misses t).other.way ≡ way.unheard t.other.way
-  pub own_phase : (sides.misses t).own.phase ≡ sides.unsure t.own.phase
   pub other_phase : (sides.misses t).other.phase ≡ sides.accepted t.other.phase
+  pub asked : (sides.misses t).own.asked ≡ min (t.own.asked + 1) 255
+  pub other_asked : (sides.misses t).other.asked ≡ t.other.asked
 
-misses_is : (t : Sides) → Misses t
+pub misses_is : (t : Sides) → Misses t
 unfolding sides.misses
-misses_is t = record { own = refl; other = refl; own_phase = refl; other_phase = refl }
+misses_is t = record { own = refl; other = refl; other_phase = refl; asked = refl; other_asked = refl }
 
 unheard_own : (w : Way) (m u : ℕ) → Own w m u → Own (way.unheard w) m u
 unheard_own w m u h =
@@ -485,28 +716,32 @@ unheard_own w m u h =
     (λ _ n. record { seen = refl; next = h.next; ever = h.ever; kept = h.kept; whole = h.whole; numbered = n })
     (λ _ n. record { seen = h.seen; next = h.next; ever = h.ever; kept = h.kept; whole = h.whole; numbered = n }) numbered
 
-missed_numbered : (w : Way) (Fit : ℕ → ℕ → Type 0) → Numbered w Fit → Numbered (way.missed w) Fit
-missed_numbered w Fit h = same_numbered w (way.missed w) Fit Fit refl refl refl (λ x y next fit. fit) h
+pub unheard_own_if : (w : Way) (m u : ℕ) → OwnIf w m u → OwnIf (way.unheard w) m u
+unheard_own_if w m u (inl unseen) = inl (cond_both (way.is_sure w) (way.astray w) w (λ (v : Way). way.is_unseen v ≡ true) (λ test. absurd (both_ways (way.is_sure w) (unseen_sure w.sight unseen) test)) (λ _. unseen))
+unheard_own_if w m u (inr h) = inr (unheard_own w m u h)
 
-failed : (o : Role) (j k : Judge) (p : Peer) (frames : List PlainFrame) → Past j k o → Beside (other o) j p frames → Beside (other o) k p frames
-failed o j k p frames g h =
-    let m = misses_is (sides_of o j) in
-    let s = others_up o j p frames h in
-    let opposite = ap (λ (e : End). e.way) (stands j o).opposite in
+pub missed_hears : (w : Way) (g t : ℕ) → Hears w g t → Hears (way.missed w) g t
+missed_hears w g t h = record { numbered = same_numbered w (way.missed w) (Hears_fit g t) (Hears_fit g t) refl refl refl (λ x y next fit. fit) h.numbered; begun = h.begun; none = h.none }
+
+pub misses_seen : (t : Sides) (m u g told : ℕ) → Seen t.other t.own m u g told → Seen (sides.misses t).other (sides.misses t).own m u g told
+misses_seen t m u g told h =
+    let s = misses_is t in
     record {
-      window = subst (λ x. 7 ≤ x) (sym g.window) h.window;
-      up = ap (λ (e : End). sides.may_run e.phase) g.opposite ∙ ap sides.may_run m.other_phase ∙ runs_accepted (sides_of o j).other.phase s.other;
-      other_up = subst (λ r. sides.may_run (end_of r k).phase ≡ true) (sym (other_twice o)) (ap (λ (e : End). sides.may_run e.phase) g.own ∙ ap sides.may_run m.own_phase ∙ runs_unsure (sides_of o j).own.phase s.own);
-      own = subst (λ w. Own w p.sent (heard_all frames p.acked)) (sym (ap (λ (e : End). e.way) g.opposite ∙ m.other ∙ ap way.unheard opposite)) (unheard_own (end_of (other o) j).way p.sent (heard_all frames p.acked) h.own);
-      hears = subst (λ r. Numbered (end_of r k).way (Hears_fit (took_all frames (length p.taken)) p.told)) (sym (other_twice o))
-          (subst (λ w. Numbered w (Hears_fit (took_all frames (length p.taken)) p.told)) (sym (ap (λ (e : End). e.way) g.own ∙ m.own))
-          (missed_numbered (sides_of o j).own.way (Hears_fit (took_all frames (length p.taken)) p.told) (others_were o j p frames h)));
-      held = subst (λ (hs : List (List ℕ)). IsHeld hs p.given p.sent) (sym g.other_held) h.held;
+      up = ap sides.may_run s.other_phase ∙ runs_accepted t.other.phase h.up;
+      own = subst (λ w. OwnIf w m u) (sym s.other) (unheard_own_if t.other.way m u h.own);
+      hears = subst (λ w. Hears w g told) (sym s.own) (missed_hears t.own.way g told h.hears);
     }
 
-failed_beside : (from : Role) (j k : Judge) (p : Peer) (frames : List PlainFrame) → Past j k (other from) → Beside from j p frames → Beside from k p frames
-failed_beside Dte j k p frames g h = failed Dce j k p frames g h
-failed_beside Dce j k p frames g h = failed Dte j k p frames g h
+failed_seen : (from : Role) (j k : Judge) (m u g t : ℕ) → Past j k (other from) → SeenBy from j m u g t → SeenBy from k m u g t
+failed_seen Dte j k m u g t go h = subst (λ (a : End). Seen a k.dce m u g t) (sym go.opposite) (subst (λ (b : End). Seen (sides.misses (sides_of Dce j)).other b m u g t) (sym go.own) (misses_seen (sides_of Dce j) m u g t h))
+failed_seen Dce j k m u g t go h = subst (λ (a : End). Seen a k.dte m u g t) (sym go.opposite) (subst (λ (b : End). Seen (sides.misses (sides_of Dte j)).other b m u g t) (sym go.own) (misses_seen (sides_of Dte j) m u g t h))
+
+pub failed_beside : (from : Role) (j k : Judge) (p : Peer) (frames : List PlainFrame) → Past j k (other from) → Beside from j p frames → Beside from k p frames
+failed_beside from j k p frames go h = record {
+  window = subst (λ x. 7 ≤ x) (sym go.window) h.window;
+  seen = failed_seen from j k p.sent (heard_all frames p.acked) (took_all frames (length p.taken)) p.told go h.seen;
+  held = subst (λ (hs : List (List ℕ)). IsHeld hs p.given p.sent) (sym go.other_held ∙ ap (λ r. held_of r k) (other_twice from)) (subst (λ (hs : List (List ℕ)). IsHeld hs p.given p.sent) (ap (λ r. held_of r j) (sym (other_twice from))) h.held);
+}
 
 -- ---- from a set-up on
 
@@ -523,13 +758,17 @@ begun_own w is = record {
   numbered = begun_numbered w (Own_fit 0 0) is (refl, omega arith);
 }
 
+begun_hears : (w : Way) → w ≡ way.fresh true → Hears w 0 0
+begun_hears w is = record {
+  numbered = begun_numbered w (Hears_fit 0 0) is (omega arith, refl);
+  begun = λ hears ever. (ap (λ (x : Way). x.behind) is, ap (λ (x : Way). x.kept) is);
+  none = λ hears ever. (refl, refl);
+}
+
 begins : (from : Role) (j : Judge) → IsSetUp j → 7 ≤ j.window → Beside from j fresh_peer []
 begins from j h large = record {
   window = large;
-  up = (h from).up;
-  other_up = (h (other from)).up;
-  own = begun_own (end_of from j).way (h from).way;
-  hears = begun_numbered (end_of (other from) j).way (Hears_fit 0 0) (h (other from)).way (omega arith, refl);
+  seen = record { up = (h from).up; own = inr (begun_own (end_of from j).way (h from).way); hears = begun_hears (end_of (other from) j).way (h (other from)).way };
   held = begun_held (held_of from j) (h from).room;
 }
 
@@ -537,7 +776,7 @@ beside : (from : Role) (j : Judge) (p : Peer) (frames : List PlainFrame) → May
 beside from j p frames (Begins k up large) = begins from j up large
 beside from j q frames (HandsDown k p way packet h) =
     let b = beside from j p frames h in
-    record { window = b.window; up = b.up; other_up = b.other_up; own = b.own; hears = b.hears; held = pushed_held (held_of from j) p.given packet p.sent b.held }
+    record { window = b.window; seen = b.seen; held = pushed_held (held_of from j) p.given packet p.sent b.held }
 beside from k q frames (Sends j p r way line octets frame shows may h) = (sends from j k p q frames frame may (beside from j p frames h) (goes j line from octets frame shows)).beside
 beside from k p all (Shown j r frames line octets frame shows is h) = shown_beside from j k p frames frame is (beside from j p frames h) (goes j line (other from) octets frame shows)
 beside from k p frames (Fails j r way line octets broken h) = failed_beside from j (answer_to j line).next p frames (past j line (other from) octets broken) (beside from j p frames h)

@@ -25,13 +25,14 @@ use Rattle.x25_judge.specs.declared.sides.End.{End}
 use Rattle.x25_judge.specs.declared.sides.Phase.{Phase}
 use Rattle.x25_judge.specs.declared.sides.Phase.TheVariants.{Unseen, Out, Waiting, Answered, Up}
 use Rattle.x25_judge.specs.declared.sides.Sides.{Sides}
+use Rattle.x25_judge.specs.declared.way.Way.{Way}
 use Rattle.x25_judge.specs.laws.Session.{end_of, IsSetUp}
 use Rattle.x25_judge.specs.laws.VerdictClaims.{after, IsAnswered, SetUpsBegin}
 use Rattle.x25_judge.proofs.verdicts.Lines.{other_twice, Goes, next_goes, goes, stands}
 
 -- ---- what no line changes
 
-record Stays (window : ℕ) (j : Judge) : Type 0 where
+pub record Stays (window : ℕ) (j : Judge) : Type 0 where
   pub rooms : (r : Role) → length (held_of r j) ≡ 8
   pub counts : j.window ≡ window
 
@@ -85,7 +86,7 @@ sent_stays : (window : ℕ) (j : Judge) (s : Option (Role × List ℕ)) → Stay
 sent_stays window j None h = h
 sent_stays window j (Some (from, octets)) h = read_stays window j from octets (frame_of from n1 octets) h
 
-line_stays : (window : ℕ) (j : Judge) (line : List ℕ) → Stays window j → Stays window (answer_to j line).next
+pub line_stays : (window : ℕ) (j : Judge) (line : List ℕ) → Stays window j → Stays window (answer_to j line).next
 unfolding answer_to
 line_stays window j line h = sent_stays window j (sent_in line) h
 
@@ -93,7 +94,7 @@ lines_stay : (window : ℕ) (j : Judge) (lines : List (List ℕ)) → Stays wind
 lines_stay window j [] h = h
 lines_stay window j (line ∷ lines) h = lines_stay window (answer_to j line).next lines (line_stays window j line h)
 
-begins_so : (window : ℕ) (reading : Reading) (strictness : Strictness) → Stays window (begins window reading strictness)
+pub begins_so : (window : ℕ) (reading : Reading) (strictness : Strictness) → Stays window (begins window reading strictness)
 unfolding none_held
 begins_so window reading strictness = record { rooms = rooms; counts = refl }
   where
@@ -122,13 +123,20 @@ some_asked x = ne_eqb (min (x + 1) 255) 0 (λ e. never e)
     never : min (x + 1) 255 ≡ 0 → ⊥
     never e = omega arith
 
+asks_anew : (p : Phase) (anew w : Way) → (IsAnswered p → ⊥) → sides.asking_way p anew w ≡ anew
+asks_anew Unseen anew w h = refl
+asks_anew Out anew w h = refl
+asks_anew Waiting anew w h = refl
+asks_anew Answered anew w h = absurd (h tt)
+asks_anew Up anew w h = refl
+
 sabm_asks : (window : ℕ) (s p : Bool) (t : Sides) → (IsAnswered t.own.phase → ⊥) → Asks (sides.sees window s (sabm p) t).own
 unfolding sides.sees
-sabm_asks window s false t h = record { phase = waits t.own.phase h; knows = sides.awaits_ua t.other.phase; way = refl; asked = some_asked t.own.asked }
+sabm_asks window s false t h = record { phase = waits t.own.phase h; knows = sides.awaits_ua t.other.phase; way = asks_anew t.own.phase (way.fresh (sides.awaits_ua t.other.phase)) t.own.way h; asked = some_asked t.own.asked }
 sabm_asks window s true t h =
     cond_both t.own.is_polling (sides.notes (Some PollAgain) (sides.asks_on true t)) (sides.asks_on true t) (λ (v : Sides). Asks (sides.asks (sides.asks_more v)).own)
-    (λ _. record { phase = waits t.own.phase h; knows = sides.awaits_ua t.other.phase; way = refl; asked = some_asked t.own.asked })
-    (λ _. record { phase = waits t.own.phase h; knows = sides.awaits_ua t.other.phase; way = refl; asked = some_asked t.own.asked })
+    (λ _. record { phase = waits t.own.phase h; knows = sides.awaits_ua t.other.phase; way = asks_anew t.own.phase (way.fresh (sides.awaits_ua t.other.phase)) t.own.way h; asked = some_asked t.own.asked })
+    (λ _. record { phase = waits t.own.phase h; knows = sides.awaits_ua t.other.phase; way = asks_anew t.own.phase (way.fresh (sides.awaits_ua t.other.phase)) t.own.way h; asked = some_asked t.own.asked })
 
 -- ---- UA
 

@@ -32,7 +32,7 @@ use Rattle.x25_judge.specs.laws.Session.{end_of, IsSetUp, IsNumbered}
 use Rattle.x25_judge.specs.laws.Watching.{Watched, watched_from, more, IsSilent, Begins, Acts, Says, Comes, Fails}
 use Rattle.x25_judge.specs.laws.VerdictClaims.{SilenceMeansOrder}
 use Rattle.x25_judge.proofs.verdicts.Silent.{Exact, IsNew, IsOld, IsInOrder, sent_silent, heard_silent}
-use Rattle.x25_judge.proofs.verdicts.Frames.{AreUp, AreAlike, Sees, info_sees, ready_sees, reject_sees, first_none}
+use Rattle.x25_judge.proofs.verdicts.Frames.{IsUp, runs_on, AreAlike, Sees, info_sees, ready_sees, reject_sees, first_none}
 use Rattle.x25_judge.proofs.verdicts.Lines.{other_twice, Goes, goes, stands, none_told}
 use Rattle.x25_judge.proofs.verdicts.Octets.{IsHeld, IsSupervisory, begun_held, same_held, new_held, old_held, old_octets, bare_held}
 
@@ -101,6 +101,12 @@ taking_old true packet p e = cc
 taking_old false packet p e = refl
 
 module _ (r o : Role) (is_o : other r ≡ o) (is_r : other o ≡ r) where
+  we_are_up : (j : Judge) (p : Peer) → Knows r o j p → IsUp (sides_of r j)
+  we_are_up j p h = ap (λ (e : End). sides.may_run e.phase) (stands j r).own ∙ h.our_up
+
+  they_are_up : (j : Judge) (p : Peer) → Knows r o j p → IsUp (sides_of o j)
+  they_are_up j p h = ap (λ (e : End). sides.may_run e.phase) (stands j o).own ∙ h.up
+
   -- the station's frame
   says_at : (j k : Judge) (p q : Peer) (frame : PlainFrame) (nr : ℕ) (mine : Way) (last : Option Rule) → Knows r o j p → Goes j k r (seen_by j r frame) frame
       → Sees (sides_of r j) (seen_by j r frame) nr mine last → (seen_by j r frame).rule ≡ None → Noted nr p q → Exact mine (length q.taken) q.told → Knows r o k q
@@ -110,8 +116,8 @@ module _ (r o : Role) (is_o : other r ≡ o) (is_r : other o ≡ r) where
       let a = heard_silent (sides_of r j).other.way p.sent p.acked nr (subst (λ w. Exact w p.sent p.acked) (sym opposite) h.own) heard in
       record {
         window = subst (λ x. x ≤ 7) (sym g.window) h.window;
-        up = subst (λ x. sides.may_run (end_of x k).phase ≡ true) is_o (ap (λ (e : End). sides.may_run e.phase) g.opposite ∙ s.up.other);
-        our_up = ap (λ (e : End). sides.may_run e.phase) g.own ∙ s.up.own;
+        up = subst (λ x. sides.may_run (end_of x k).phase ≡ true) is_o (ap (λ (e : End). sides.may_run e.phase) g.opposite ∙ ap sides.may_run s.same.phase ∙ ap (λ (e : End). sides.may_run e.phase) (stands j r).opposite ∙ subst (λ x. sides.may_run (end_of x j).phase ≡ true) (sym is_o) h.up);
+        our_up = ap (λ (e : End). sides.may_run e.phase) g.own ∙ ap sides.may_run s.up ∙ runs_on (sides_of r j).own.phase (we_are_up j p h);
         own = subst (λ x. Exact (end_of x k).way q.sent q.acked) is_o
             (subst (λ w. Exact w q.sent q.acked) (sym (ap (λ (e : End). e.way) g.opposite))
             (subst (λ x. Exact (seen_by j r frame).other.way x q.acked) (sym noted.sent)
@@ -124,12 +130,6 @@ module _ (r o : Role) (is_o : other r ≡ o) (is_r : other o ≡ r) where
 
   ours_before : (j : Judge) (p : Peer) → Knows r o j p → Exact (sides_of r j).own.way (length p.taken) p.told
   ours_before j p h = subst (λ w. Exact w (length p.taken) p.told) (sym (ap (λ (e : End). e.way) (stands j r).own)) h.ours
-
-  we_are_up : (j : Judge) (p : Peer) → Knows r o j p → AreUp (sides_of r j)
-  we_are_up j p h = record {
-    own = ap (λ (e : End). sides.may_run e.phase) (stands j r).own ∙ h.our_up;
-    other = ap (λ (e : End). sides.may_run e.phase) (stands j r).opposite ∙ subst (λ x. sides.may_run (end_of x j).phase ≡ true) (sym is_o) h.up;
-  }
 
   says : (j k : Judge) (p : Peer) (frame : PlainFrame) → IsInRange frame → IsNumbered frame → Knows r o j p → Goes j k r (seen_by j r frame) frame → (seen_by j r frame).rule ≡ None → Knows r o k (notes (Ok frame) p)
   unfolding sides.sees
@@ -187,8 +187,8 @@ module _ (r o : Role) (is_o : other r ≡ o) (is_r : other o ≡ r) where
       let a = heard_silent (sides_of o j).other.way (length p.taken) p.told nr (subst (λ w. Exact w (length p.taken) p.told) (sym opposite) h.ours) heard in
       record {
         window = subst (λ x. x ≤ 7) (sym g.window) h.window;
-        up = ap (λ (e : End). sides.may_run e.phase) g.own ∙ s.up.own;
-        our_up = subst (λ x. sides.may_run (end_of x k).phase ≡ true) is_r (ap (λ (e : End). sides.may_run e.phase) g.opposite ∙ s.up.other);
+        up = ap (λ (e : End). sides.may_run e.phase) g.own ∙ ap sides.may_run s.up ∙ runs_on (sides_of o j).own.phase (they_are_up j p h);
+        our_up = subst (λ x. sides.may_run (end_of x k).phase ≡ true) is_r (ap (λ (e : End). sides.may_run e.phase) g.opposite ∙ ap sides.may_run s.same.phase ∙ ap (λ (e : End). sides.may_run e.phase) (stands j o).opposite ∙ subst (λ x. sides.may_run (end_of x j).phase ≡ true) (sym is_r) h.our_up);
         own = subst (λ w. Exact w q.sent q.acked) (sym (ap (λ (e : End). e.way) g.own ∙ s.own)) (subst (λ x. Exact mine q.sent x) (sym acked) exact);
         ours = subst (λ x. Exact (end_of x k).way (length q.taken) q.told) is_r
             (subst (λ w. Exact w (length q.taken) q.told) (sym (ap (λ (e : End). e.way) g.opposite))
@@ -217,12 +217,6 @@ module _ (r o : Role) (is_o : other r ≡ o) (is_r : other o ≡ r) where
 
   theirs_before : (j : Judge) (p : Peer) → Knows r o j p → Exact (sides_of o j).own.way p.sent p.acked
   theirs_before j p h = subst (λ w. Exact w p.sent p.acked) (sym (ap (λ (e : End). e.way) (stands j o).own)) h.own
-
-  they_are_up : (j : Judge) (p : Peer) → Knows r o j p → AreUp (sides_of o j)
-  they_are_up j p h = record {
-    own = ap (λ (e : End). sides.may_run e.phase) (stands j o).own ∙ h.up;
-    other = ap (λ (e : End). sides.may_run e.phase) (stands j o).opposite ∙ subst (λ x. sides.may_run (end_of x j).phase ≡ true) (sym is_r) h.our_up;
-  }
 
   bare_passes : (j k : Judge) (p : Peer) (frame : PlainFrame) (nr : ℕ) (last : Option Rule) → nr < 8 → IsSupervisory frame → judges (Ok frame) p ≡ judges_ack nr p → more frame p.given ≡ p.given
       → Knows r o j p → Goes j k o (seen_by j o frame) frame → Sees (sides_of o j) (seen_by j o frame) nr (sides_of o j).own.way last → (seen_by j o frame).rule ≡ None → Passes k p frame

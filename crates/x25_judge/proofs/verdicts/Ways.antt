@@ -1,7 +1,7 @@
 -- What `Way` counts, beside the whole numbers of the end that sends and of the one that answers.
 use Rattle.std.proofs.Common.{◌≡◌, ◌==◌, ℕ, ◌+◌, ◌-◌, ◌%◌, ◌<◌, ◌≤◌, arith, min, Bool, true, false, if◌then◌else◌, refl, sym, ap, ◌∙◌}
 use Rattle.std.specs.Prelude.{nat_le, nat_lt, ◌&&◌, ◌||◌, not}
-use Rattle.std.proofs.lemmas.Bool.{eqb-false, leb-true, ltb-true, ltb-false, and_parts, both_ways, cond_both}
+use Rattle.std.proofs.lemmas.Bool.{eqb-false, leb-true, ltb-true, ltb-false, both_ways, cond_both}
 use Rattle.x25_judge.specs.Way as way
 use Rattle.x25_judge.specs.declared.note.Note.TheVariants.{SentAgain, SentBehindDamage, HeardBehindDamage}
 use Rattle.x25_judge.specs.declared.rule.Rule.{Rule}
@@ -27,7 +27,7 @@ awaited_is m u p e le = omega arith
 ahead_is : (u x : ℕ) → u + apart x (u % 8) ≡ resolved u x
 ahead_is u x = omega arith
 
-apart_low : (x y : ℕ) → apart x y ≤ 7
+pub apart_low : (x y : ℕ) → apart x y ≤ 7
 apart_low x y = omega arith
 
 apart_none : (m x : ℕ) → x % 8 ≡ m % 8 → apart (m % 8) x ≡ 0

@@ -10,7 +10,8 @@ use Rattle.x25_judge.specs.Sides.{may_run}
 use Rattle.x25_judge.specs.Way.{fresh}
 use Rattle.x25_judge.specs.declared.judge.Judge.{Judge}
 use Rattle.x25_judge.specs.declared.rule.Rule.{Rule}
-use Rattle.x25_judge.specs.declared.rule.Rule.TheVariants.{Unsent, Falls, OverWindow, Differs}
+use Rattle.x25_judge.specs.declared.rule.Rule.TheVariants.{NoFrame, UaUnasked, NotUp, Unsent, Falls, OverWindow}
+use Rattle.x25_judge.specs.declared.rule.Rule.TheVariants.{Differs}
 use Rattle.x25_judge.specs.declared.sides.End.{End}
 use Rattle.x25_line.specs.laws.Stations.{is_visible}
 
@@ -54,8 +55,11 @@ IsNumbered frame = ⊥
 abbrev pub rule_of : Judge → Role → PlainFrame → Option Rule
 rule_of j from frame = (remark_of j from frame (seen_by j from frame)).rule
 
--- those without which order isn't kept
+-- those of the link layer that aren't of manners
 abbrev pub is_of_order : Option Rule → Bool
+is_of_order (Some NoFrame) = true
+is_of_order (Some UaUnasked) = true
+is_of_order (Some NotUp) = true
 is_of_order (Some (Unsent most)) = true
 is_of_order (Some (Falls least)) = true
 is_of_order (Some (OverWindow window)) = true

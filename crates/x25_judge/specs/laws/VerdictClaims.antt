@@ -13,7 +13,9 @@ use Rattle.x25_line.specs.laws.InWindow.{IsPrefix}
 use Rattle.x25_line.specs.laws.Peer.{Peer}
 use Rattle.x25_link.specs.Hearing.{other}
 use Rattle.x25_link.specs.Station.{Settings}
+use Rattle.x25_sessions.specs.laws.PeerSessions.{Stand}
 use Rattle.x25_judge.specs.laws.Keeping.{MaySend, MayBe}
+use Rattle.x25_judge.specs.laws.Sessions.{MaySay, MayStand}
 use Rattle.x25_judge.specs.laws.Session.{end_of, IsSetUp, Shows, IsNumbered, rule_of, is_of_order}
 use Rattle.x25_judge.specs.laws.Watching.{Watched, IsSilent, IsAny}
 
@@ -23,6 +25,13 @@ NoInnocentIsAccused =
     (from : Role) (j : Judge) (p q : Peer) (way : List PlainFrame) (line octets : List ℕ) (frame : PlainFrame)
     → MayBe from j p way → Shows line from octets frame → MaySend p frame q
     → is_of_order (rule_of j from frame) ≡ false
+
+-- nor over any number of set-ups
+abbrev pub NoSessionIsAccused : Type 0
+NoSessionIsAccused =
+    (from : Role) (j : Judge) (stand next : Stand) (p q : Peer) (way rest : List PlainFrame) (line octets : List ℕ)
+    (frame : PlainFrame) → MayStand from j stand p way → Shows line from octets frame
+    → MaySay stand p way frame next q rest → is_of_order (rule_of j from frame) ≡ false
 
 -- nor of a station of ours, whatever the other end and the line do, as long as it isn't set up anew
 abbrev pub NoStationIsAccused : Type 0
