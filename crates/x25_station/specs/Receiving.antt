@@ -2,9 +2,14 @@
 use Rattle.std.specs.Prelude.{◌≡◌, ◌<◌, ◌≤◌, List, [], ◌∷◌, length, map, true}
 use Rattle.x25_frame.specs.Spelling.{spelling_of}
 use Rattle.x25_link.specs.Station.{Settings as LinkSettings, Side}
-use Rattle.x25_link.specs.code.FitsLink.{ShownLink, LinkState, limit_of, up_of, waiting_of}
+use Rattle.x25_link.specs.code.FitsLink.{ShownLink, LinkState, FitsWhole, limit_of, up_of, waiting_of}
 use Rattle.x25_circuit.specs.Notice.{PlainNotice, incoming, interrupted}
-use Rattle.x25_layer.specs.Layer.{LayerSettings, LayerNotice, on_channel, is_channel}
+use Rattle.x25_layer.specs.declared.layer.Layer as layer_code
+use Rattle.x25_layer.specs.Layer.{LayerSettings, Layer, LayerNotice, on_channel, is_channel}
+use Rattle.x25_layer.specs.Rounds.{LinkView, Putting}
+use Rattle.x25_layer.specs.code.FitsLayer.{FitsLayer}
+use Rattle.x25_station.specs.Config.{Settings, link_settings, layer_settings}
+use Rattle.x25_station.specs.Station.{all_put, view_of}
 
 -- a side of a step of the link, as the state of a link that keeps its frames
 abbrev pub kept_of : LinkSettings → Side → LinkState
@@ -15,6 +20,18 @@ pub record CanPut (l : ShownLink) : Type 0 where
   pub up : up_of l ≡ true
   pub free : waiting_of l < 256
   pub longest : 4099 ≤ limit_of l
+
+-- Behind a step of the link the layer is as is said, and what it puts was put in the link, behind the frames that it
+-- keeps.
+pub record PutsBehind (old : layer_code.Layer) (below : ShownLink) (new : layer_code.Layer) (below₂ : ShownLink)
+    (said : LinkView → LayerSettings → Layer → Putting) : Type 0 where
+  pub layer : (c : Settings) (l : Layer) (t : Side) → FitsLayer (layer_settings c) old l
+      → FitsWhole below (kept_of (link_settings c) t)
+      → FitsLayer (layer_settings c) new (said (view_of (link_settings c) t.near) (layer_settings c) l).layer
+  pub link : (c : Settings) (l : Layer) (t : Side) → FitsLayer (layer_settings c) old l
+      → FitsWhole below (kept_of (link_settings c) t)
+      → FitsWhole below₂ (kept_of (link_settings c)
+      (all_put (link_settings c) (said (view_of (link_settings c) t.near) (layer_settings c) l).put t))
 
 -- the texts of a notice are at most 128 octets (messages aside)
 abbrev pub IsShort : PlainNotice → Type 0

@@ -6,15 +6,15 @@ ghost use Rattle.x25_link.specs.code.FitsLink.{FitsWhole, up_of};
 ghost use Rattle.x25_layer.specs.Layer.{Layer as LayerState};
 ghost use Rattle.x25_layer.specs.code.FitsLayer.{FitsLayer};
 ghost use Rattle.x25_layer.specs.Room.{HasRoom, HaveAtMost, IsNotFull};
-ghost use Rattle.x25_layer.specs.Rounds.{Putting, hears, comes_up};
+ghost use Rattle.x25_layer.specs.Rounds.{hears, comes_up};
 ghost use Rattle.x25_station.specs.Entry.{bringing, entries_up, entries_noted};
 ghost use Rattle.x25_station.specs.code.Aside.{GrowsBy, HasPlaces, UsesFew};
 ghost use Rattle.x25_station.specs.code.Clock.{TellsTimer};
 ghost use Rattle.x25_station.specs.code.FitsStation.{FitsStation, FitsStill, Does, IsEmpty, RefusesForMemory};
 ghost use Rattle.x25_station.specs.code.PlainEntry.{plain_entry};
-ghost use Rattle.x25_station.specs.Receiving.{kept_of, CanPut};
+ghost use Rattle.x25_station.specs.Receiving.{kept_of, CanPut, PutsBehind};
 ghost use Rattle.x25_station.specs.Config.{Settings, link_settings, layer_settings};
-ghost use Rattle.x25_station.specs.Station.{Station as State, view_of, all_put};
+ghost use Rattle.x25_station.specs.Station.{Station as State};
 ghost use Rattle.x25_station.specs.Step.{Did, abandons, receives, layer_at, layer_answer, entries_heard};
 ghost use Rattle.x25_station.specs.Step.{entries_of_answer};
 
@@ -42,14 +42,7 @@ fn come_up(layer: &mut Layer, link: &mut Link, entries: &mut Vec<Entry>)
     requires put { CanPut link.old }
     requires room { HasRoom 0 layer.old link.old.outbox.long }
     requires entries { HasPlaces 1 entries.old }
-    ensures layer { (c : Settings) (l : LayerState) (t : Side) → FitsLayer (layer_settings c) layer.old l
-        → FitsWhole link.old (kept_of (link_settings c) t) →
-        FitsLayer (layer_settings c) layer.new
-        (comes_up (view_of (link_settings c) t.near) (layer_settings c)).step.layer }
-    ensures link { (c : Settings) (l : LayerState) (t : Side) → FitsLayer (layer_settings c) layer.old l
-        → FitsWhole link.old (kept_of (link_settings c) t) →
-        FitsWhole link.new (kept_of (link_settings c)
-        (all_put (link_settings c) (comes_up (view_of (link_settings c) t.near) (layer_settings c)).step.put t)) }
+    ensures puts { PutsBehind layer.old link.old layer.new link.new (λ view c l. (comes_up view c).step) }
     ensures entries { map plain_entry entries.new.items ≡ map plain_entry entries.old.items ++ entries_up true }
     ensures few { GrowsBy 1 entries.old entries.new }
     ensures most_memory { layer.new.memory ≤ max layer.old.memory 16 }
@@ -80,15 +73,8 @@ fn hear(
     requires room { HasRoom (length packet.now - 3) layer.old link.old.outbox.long }
     requires texts { 3 ≤ texts.old }
     requires entries { HasPlaces 2 entries.old }
-    ensures layer { (c : Settings) (l : LayerState) (t : Side) → FitsLayer (layer_settings c) layer.old l
-        → FitsWhole link.old (kept_of (link_settings c) t) →
-        FitsLayer (layer_settings c) layer.new
-        (hears (view_of (link_settings c) t.near) (layer_settings c) wide l packet.now).step.layer }
-    ensures link { (c : Settings) (l : LayerState) (t : Side) → FitsLayer (layer_settings c) layer.old l
-        → FitsWhole link.old (kept_of (link_settings c) t) →
-        FitsWhole link.new (kept_of (link_settings c)
-        (all_put (link_settings c) (hears (view_of (link_settings c) t.near)
-        (layer_settings c) wide l packet.now).step.put t)) }
+    ensures puts { PutsBehind layer.old link.old layer.new link.new
+        (λ view c l. (hears view c wide l packet.now).step) }
     ensures entries { (c : Settings) (l : LayerState) (t : Side) → FitsLayer (layer_settings c) layer.old l
         → FitsWhole link.old (kept_of (link_settings c) t) →
         map plain_entry entries.new.items ≡ map plain_entry entries.old.items
@@ -130,16 +116,8 @@ fn follow(
     requires room { IfSome packet (λ p. HasRoom (length p.now - 3) layer.old link.old.outbox.long) }
     requires texts { 5 ≤ texts.old }
     requires entries { HasPlaces 3 entries.old }
-    ensures layer { (c : Settings) (l : LayerState) (t : Side) → FitsLayer (layer_settings c) layer.old l
-        → FitsWhole link.old (kept_of (link_settings c) t) →
-        FitsLayer (layer_settings c) layer.new
-        (layer_at (view_of (link_settings c) t.near) (layer_settings c) wide l
-        (option_copied packet.entry) notes.down notes.up).layer }
-    ensures link { (c : Settings) (l : LayerState) (t : Side) → FitsLayer (layer_settings c) layer.old l
-        → FitsWhole link.old (kept_of (link_settings c) t) →
-        FitsWhole link.new (kept_of (link_settings c)
-        (all_put (link_settings c) (layer_at (view_of (link_settings c) t.near) (layer_settings c) wide l
-        (option_copied packet.entry) notes.down notes.up).put t)) }
+    ensures puts { PutsBehind layer.old link.old layer.new link.new
+        (λ view c l. layer_at view c wide l (option_copied packet.entry) notes.down notes.up) }
     ensures entries { (c : Settings) (l : LayerState) (t : Side) → FitsLayer (layer_settings c) layer.old l
         → FitsWhole link.old (kept_of (link_settings c) t) →
         map plain_entry entries.new.items ≡ map plain_entry entries.old.items

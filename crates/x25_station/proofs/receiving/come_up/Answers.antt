@@ -9,15 +9,15 @@ use Rattle.x25_station.proofs.AskLemmas.{after_puts}
 use Rattle.x25_station.proofs.LinkLemmas.{seen_by, same_view, on_ok}
 use Rattle.x25_station.proofs.receiving.come_up.Goals as goal
 
-pub returns-clause-layer : goal.returns-clause-layer
-returns-clause-layer c = λ c' l t fits link.
-    let lc = layer_settings c' in
-    subst (λ (view : LinkView). FitsLayer lc c.up.new.self (comes_up view lc).step.layer) (same_view (link_settings c') t)
-    (on_ok c.up.result c.unwrap.result _ c.unwrap.ensures (c.up.ensures.layer lc l (kept_of (link_settings c') t) fits link))
-
-pub returns-clause-link : goal.returns-clause-link
-returns-clause-link c = λ c' l t fits link.
-    let lc = layer_settings c' in
-    let lk = link_settings c' in
-    subst (λ (view : LinkView). FitsWhole c.up.new.link (kept_of lk (all_put lk (comes_up view lc).step.put t))) (same_view lk t)
-    (after_puts lk c.up.new.link (comes_up (seen_by lk t) lc).step.put t (on_ok c.up.result c.unwrap.result _ c.unwrap.ensures (c.up.ensures.link lc l (kept_of lk t) fits link)))
+pub returns-clause-puts : goal.returns-clause-puts
+returns-clause-puts c = record {
+  layer = λ c' l t fits link.
+      let lc = layer_settings c' in
+      subst (λ (view : LinkView). FitsLayer lc c.up.new.self (comes_up view lc).step.layer) (same_view (link_settings c') t)
+      (on_ok c.up.result c.unwrap.result _ c.unwrap.ensures (c.up.ensures.layer lc l (kept_of (link_settings c') t) fits link));
+  link = λ c' l t fits link.
+      let lc = layer_settings c' in
+      let lk = link_settings c' in
+      subst (λ (view : LinkView). FitsWhole c.up.new.link (kept_of lk (all_put lk (comes_up view lc).step.put t))) (same_view lk t)
+      (after_puts lk c.up.new.link (comes_up (seen_by lk t) lc).step.put t (on_ok c.up.result c.unwrap.result _ c.unwrap.ensures (c.up.ensures.link lc l (kept_of lk t) fits link)));
+}

@@ -12,37 +12,44 @@ use Rattle.x25_station.specs.code.PlainEntry.{plain_entry}
 use Rattle.x25_station.proofs.FollowLemmas.{is_none, at_up, at_down, at_heard, at_quiet, heard_entries}
 use Rattle.x25_station.proofs.receiving.follow.Goals as goal
 
-pub returns-then-notes-clause-layer : goal.returns-then-notes-clause-layer
-returns-then-notes-clause-layer c = λ c' l t fits link.
-    let lc = layer_settings c' in
-    at_up (λ (s : Putting). FitsLayer lc c.come_up.new.layer s.layer) (view_of (link_settings c') t.near) lc c.args.wide l (option_copied c.args.packet) c.args.notes.down c.args.notes.up c.if-notes.true
-    (c.come_up.ensures.layer c' (layer_down l c.args.notes.down) t (c.note_down.ensures.layer lc l fits) link)
+pub returns-then-notes-clause-puts : goal.returns-then-notes-clause-puts
+returns-then-notes-clause-puts c = record {
+  layer = λ c' l t fits link.
+      let lc = layer_settings c' in
+      at_up (λ (s : Putting). FitsLayer lc c.come_up.new.layer s.layer) (view_of (link_settings c') t.near) lc c.args.wide l (option_copied c.args.packet) c.args.notes.down c.args.notes.up c.if-notes.true
+      (c.come_up.ensures.puts.layer c' (layer_down l c.args.notes.down) t (c.note_down.ensures.layer lc l fits) link);
+  link = λ c' l t fits link.
+      let lc = layer_settings c' in
+      let lk = link_settings c' in
+      at_up (λ (s : Putting). FitsWhole c.come_up.new.link (kept_of lk (all_put lk s.put t))) (view_of lk t.near) lc c.args.wide l (option_copied c.args.packet) c.args.notes.down c.args.notes.up c.if-notes.true
+      (c.come_up.ensures.puts.link c' (layer_down l c.args.notes.down) t (c.note_down.ensures.layer lc l fits) link);
+}
 
-pub returns-then-notes-clause-link : goal.returns-then-notes-clause-link
-returns-then-notes-clause-link c = λ c' l t fits link.
-    let lc = layer_settings c' in
-    let lk = link_settings c' in
-    at_up (λ (s : Putting). FitsWhole c.come_up.new.link (kept_of lk (all_put lk s.put t))) (view_of lk t.near) lc c.args.wide l (option_copied c.args.packet) c.args.notes.down c.args.notes.up c.if-notes.true
-    (c.come_up.ensures.link c' (layer_down l c.args.notes.down) t (c.note_down.ensures.layer lc l fits) link)
+pub returns-then-is_some-clause-puts : goal.returns-then-is_some-clause-puts
+returns-then-is_some-clause-puts c = record {
+  layer = λ c' l t fits link.
+      let lc = layer_settings c' in
+      at_down (λ (s : Putting). FitsLayer lc c.note_down.new.layer s.layer) (view_of (link_settings c') t.near) lc c.args.wide l (option_copied c.args.packet) c.args.notes.down c.args.notes.up c.if-notes.false
+      (sym c.is_some.ensures ∙ c.if-is_some.true) (c.note_down.ensures.layer lc l fits);
+  link = λ c' l t fits link.
+      let lc = layer_settings c' in
+      let lk = link_settings c' in
+      at_down (λ (s : Putting). FitsWhole c.args.link.now (kept_of lk (all_put lk s.put t))) (view_of lk t.near) lc c.args.wide l (option_copied c.args.packet) c.args.notes.down c.args.notes.up c.if-notes.false
+      (sym c.is_some.ensures ∙ c.if-is_some.true) link;
+}
 
-pub returns-then-is_some-clause-layer : goal.returns-then-is_some-clause-layer
-returns-then-is_some-clause-layer c = λ c' l t fits link.
-    let lc = layer_settings c' in
-    at_down (λ (s : Putting). FitsLayer lc c.note_down.new.layer s.layer) (view_of (link_settings c') t.near) lc c.args.wide l (option_copied c.args.packet) c.args.notes.down c.args.notes.up c.if-notes.false
-    (sym c.is_some.ensures ∙ c.if-is_some.true) (c.note_down.ensures.layer lc l fits)
-
-pub returns-then-wide-clause-layer : goal.returns-then-wide-clause-layer
-returns-then-wide-clause-layer c = λ c' l t fits link.
-    let lc = layer_settings c' in
-    at_heard (λ (s : Putting). FitsLayer lc c.hear-channel.new.layer s.layer) (view_of (link_settings c') t.near) lc c.args.wide l (option_copied c.args.packet) c.in-Some.packet.now c.args.notes.down c.args.notes.up c.if-notes.false
-    (sym c.is_some.ensures ∙ c.if-is_some.false) (ap option_copied c.in-Some.is) (c.hear-channel.ensures.layer c' l t (subst (λ y. FitsLayer lc y l) (sym (c.note_down.ensures.same (is_none _ (sym c.is_some.ensures ∙ c.if-is_some.false)))) fits) link)
-
-pub returns-then-wide-clause-link : goal.returns-then-wide-clause-link
-returns-then-wide-clause-link c = λ c' l t fits link.
-    let lc = layer_settings c' in
-    let lk = link_settings c' in
-    at_heard (λ (s : Putting). FitsWhole c.hear-channel.new.link (kept_of lk (all_put lk s.put t))) (view_of lk t.near) lc c.args.wide l (option_copied c.args.packet) c.in-Some.packet.now c.args.notes.down c.args.notes.up c.if-notes.false
-    (sym c.is_some.ensures ∙ c.if-is_some.false) (ap option_copied c.in-Some.is) (c.hear-channel.ensures.link c' l t (subst (λ y. FitsLayer lc y l) (sym (c.note_down.ensures.same (is_none _ (sym c.is_some.ensures ∙ c.if-is_some.false)))) fits) link)
+pub returns-then-wide-clause-puts : goal.returns-then-wide-clause-puts
+returns-then-wide-clause-puts c = record {
+  layer = λ c' l t fits link.
+      let lc = layer_settings c' in
+      at_heard (λ (s : Putting). FitsLayer lc c.hear-channel.new.layer s.layer) (view_of (link_settings c') t.near) lc c.args.wide l (option_copied c.args.packet) c.in-Some.packet.now c.args.notes.down c.args.notes.up c.if-notes.false
+      (sym c.is_some.ensures ∙ c.if-is_some.false) (ap option_copied c.in-Some.is) (c.hear-channel.ensures.puts.layer c' l t (subst (λ y. FitsLayer lc y l) (sym (c.note_down.ensures.same (is_none _ (sym c.is_some.ensures ∙ c.if-is_some.false)))) fits) link);
+  link = λ c' l t fits link.
+      let lc = layer_settings c' in
+      let lk = link_settings c' in
+      at_heard (λ (s : Putting). FitsWhole c.hear-channel.new.link (kept_of lk (all_put lk s.put t))) (view_of lk t.near) lc c.args.wide l (option_copied c.args.packet) c.in-Some.packet.now c.args.notes.down c.args.notes.up c.if-notes.false
+      (sym c.is_some.ensures ∙ c.if-is_some.false) (ap option_copied c.in-Some.is) (c.hear-channel.ensures.puts.link c' l t (subst (λ y. FitsLayer lc y l) (sym (c.note_down.ensures.same (is_none _ (sym c.is_some.ensures ∙ c.if-is_some.false)))) fits) link);
+}
 
 pub returns-then-wide-clause-entries : goal.returns-then-wide-clause-entries
 returns-then-wide-clause-entries c = λ c' l t fits link.
@@ -55,18 +62,18 @@ returns-then-wide-clause-entries c = λ c' l t fits link.
     (c.hear-channel.ensures.entries c' l t stays link ∙ ap (λ es. map plain_entry es.items ++ told) (c.note_down.ensures.nothing none))
     (c.hear-channel.ensures.bringing c' l t stays link) (c.beside_of.ensures.exact ∙ ap (λ b. beside_in b c.in-Some.packet.now) (sym c.if-wide.true)) c.enter_beside.ensures.entered
 
-pub returns-else-wide-clause-layer : goal.returns-else-wide-clause-layer
-returns-else-wide-clause-layer c = λ c' l t fits link.
-    let lc = layer_settings c' in
-    at_heard (λ (s : Putting). FitsLayer lc c.hear-channel.new.layer s.layer) (view_of (link_settings c') t.near) lc c.args.wide l (option_copied c.args.packet) c.in-Some.packet.now c.args.notes.down c.args.notes.up c.if-notes.false
-    (sym c.is_some.ensures ∙ c.if-is_some.false) (ap option_copied c.in-Some.is) (c.hear-channel.ensures.layer c' l t (subst (λ y. FitsLayer lc y l) (sym (c.note_down.ensures.same (is_none _ (sym c.is_some.ensures ∙ c.if-is_some.false)))) fits) link)
-
-pub returns-else-wide-clause-link : goal.returns-else-wide-clause-link
-returns-else-wide-clause-link c = λ c' l t fits link.
-    let lc = layer_settings c' in
-    let lk = link_settings c' in
-    at_heard (λ (s : Putting). FitsWhole c.hear-channel.new.link (kept_of lk (all_put lk s.put t))) (view_of lk t.near) lc c.args.wide l (option_copied c.args.packet) c.in-Some.packet.now c.args.notes.down c.args.notes.up c.if-notes.false
-    (sym c.is_some.ensures ∙ c.if-is_some.false) (ap option_copied c.in-Some.is) (c.hear-channel.ensures.link c' l t (subst (λ y. FitsLayer lc y l) (sym (c.note_down.ensures.same (is_none _ (sym c.is_some.ensures ∙ c.if-is_some.false)))) fits) link)
+pub returns-else-wide-clause-puts : goal.returns-else-wide-clause-puts
+returns-else-wide-clause-puts c = record {
+  layer = λ c' l t fits link.
+      let lc = layer_settings c' in
+      at_heard (λ (s : Putting). FitsLayer lc c.hear-channel.new.layer s.layer) (view_of (link_settings c') t.near) lc c.args.wide l (option_copied c.args.packet) c.in-Some.packet.now c.args.notes.down c.args.notes.up c.if-notes.false
+      (sym c.is_some.ensures ∙ c.if-is_some.false) (ap option_copied c.in-Some.is) (c.hear-channel.ensures.puts.layer c' l t (subst (λ y. FitsLayer lc y l) (sym (c.note_down.ensures.same (is_none _ (sym c.is_some.ensures ∙ c.if-is_some.false)))) fits) link);
+  link = λ c' l t fits link.
+      let lc = layer_settings c' in
+      let lk = link_settings c' in
+      at_heard (λ (s : Putting). FitsWhole c.hear-channel.new.link (kept_of lk (all_put lk s.put t))) (view_of lk t.near) lc c.args.wide l (option_copied c.args.packet) c.in-Some.packet.now c.args.notes.down c.args.notes.up c.if-notes.false
+      (sym c.is_some.ensures ∙ c.if-is_some.false) (ap option_copied c.in-Some.is) (c.hear-channel.ensures.puts.link c' l t (subst (λ y. FitsLayer lc y l) (sym (c.note_down.ensures.same (is_none _ (sym c.is_some.ensures ∙ c.if-is_some.false)))) fits) link);
+}
 
 pub returns-else-wide-clause-entries : goal.returns-else-wide-clause-entries
 returns-else-wide-clause-entries c = λ c' l t fits link.
@@ -79,9 +86,16 @@ returns-else-wide-clause-entries c = λ c' l t fits link.
     (c.hear-channel.ensures.entries c' l t stays link ∙ ap (λ es. map plain_entry es.items ++ told) (c.note_down.ensures.nothing none))
     (c.hear-channel.ensures.bringing c' l t stays link) (ap (λ b. beside_in b c.in-Some.packet.now) (sym c.if-wide.false)) (sym (append-nil _))
 
-pub returns-in_default-clause-layer : goal.returns-in_default-clause-layer
-returns-in_default-clause-layer c = λ c' l t fits link.
-    let lc = layer_settings c' in
-    at_quiet (λ (s : Putting). FitsLayer lc c.note_down.new.layer s.layer) (view_of (link_settings c') t.near) lc c.args.wide l (option_copied c.args.packet) c.args.notes.down c.args.notes.up c.if-notes.false
-    (sym c.is_some.ensures ∙ c.if-is_some.false) (ap option_copied c.in_default.is)
-    (subst (λ y. FitsLayer lc y l) (sym (c.note_down.ensures.same (is_none _ (sym c.is_some.ensures ∙ c.if-is_some.false)))) fits)
+pub returns-in_default-clause-puts : goal.returns-in_default-clause-puts
+returns-in_default-clause-puts c = record {
+  layer = λ c' l t fits link.
+      let lc = layer_settings c' in
+      at_quiet (λ (s : Putting). FitsLayer lc c.note_down.new.layer s.layer) (view_of (link_settings c') t.near) lc c.args.wide l (option_copied c.args.packet) c.args.notes.down c.args.notes.up c.if-notes.false
+      (sym c.is_some.ensures ∙ c.if-is_some.false) (ap option_copied c.in_default.is)
+      (subst (λ y. FitsLayer lc y l) (sym (c.note_down.ensures.same (is_none _ (sym c.is_some.ensures ∙ c.if-is_some.false)))) fits);
+  link = λ c' l t fits link.
+      let lc = layer_settings c' in
+      let lk = link_settings c' in
+      at_quiet (λ (s : Putting). FitsWhole c.args.link.now (kept_of lk (all_put lk s.put t))) (view_of lk t.near) lc c.args.wide l (option_copied c.args.packet) c.args.notes.down c.args.notes.up c.if-notes.false
+      (sym c.is_some.ensures ∙ c.if-is_some.false) (ap option_copied c.in_default.is) link;
+}

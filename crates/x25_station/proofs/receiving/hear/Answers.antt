@@ -20,18 +20,18 @@ use Rattle.x25_station.proofs.receiving.hear.Goals as goal
 
 -- ---- a packet of data transfer
 
-pub returns-in-Some-clause-layer : goal.returns-in-Some-clause-layer
-returns-in-Some-clause-layer c = λ c' l t fits link.
-    let lc = layer_settings c' in
-    subst (λ (view : LinkView). FitsLayer lc c.transfer.new.self (hears view lc c.args.wide l c.args.packet.now).step.layer) (same_view (link_settings c') t)
-    (c.in-Some.ensures.layer c.args.wide lc l (kept_of (link_settings c') t) fits link)
-
-pub returns-in-Some-clause-link : goal.returns-in-Some-clause-link
-returns-in-Some-clause-link c = λ c' l t fits link.
-    let lc = layer_settings c' in
-    let lk = link_settings c' in
-    subst (λ (view : LinkView). FitsWhole c.transfer.new.link (kept_of lk (all_put lk (hears view lc c.args.wide l c.args.packet.now).step.put t))) (same_view lk t)
-    (after_puts lk c.transfer.new.link (hears (seen_by lk t) lc c.args.wide l c.args.packet.now).step.put t (c.in-Some.ensures.link c.args.wide lc l (kept_of lk t) fits link))
+pub returns-in-Some-clause-puts : goal.returns-in-Some-clause-puts
+returns-in-Some-clause-puts c = record {
+  layer = λ c' l t fits link.
+      let lc = layer_settings c' in
+      subst (λ (view : LinkView). FitsLayer lc c.transfer.new.self (hears view lc c.args.wide l c.args.packet.now).step.layer) (same_view (link_settings c') t)
+      (c.in-Some.ensures.layer c.args.wide lc l (kept_of (link_settings c') t) fits link);
+  link = λ c' l t fits link.
+      let lc = layer_settings c' in
+      let lk = link_settings c' in
+      subst (λ (view : LinkView). FitsWhole c.transfer.new.link (kept_of lk (all_put lk (hears view lc c.args.wide l c.args.packet.now).step.put t))) (same_view lk t)
+      (after_puts lk c.transfer.new.link (hears (seen_by lk t) lc c.args.wide l c.args.packet.now).step.put t (c.in-Some.ensures.link c.args.wide lc l (kept_of lk t) fits link));
+}
 
 pub returns-in-Some-clause-entries : goal.returns-in-Some-clause-entries
 returns-in-Some-clause-entries c = λ c' l t fits link.
@@ -39,7 +39,7 @@ returns-in-Some-clause-entries c = λ c' l t fits link.
     let view : LinkView = view_of (link_settings c') t.near in
     let octets = c.args.packet.now in
     let a = answer_to lc l octets (read_in c.args.wide (longest_user lc.circuit.long_data) octets) in
-    c.enter_message.ensures.entered lc (hears view lc c.args.wide l octets).step.layer (returns-in-Some-clause-layer c c' l t fits link) (c.in-Some.ensures.channel lc l fits)
+    c.enter_message.ensures.entered lc (hears view lc c.args.wide l octets).step.layer ((returns-in-Some-clause-puts c).layer c' l t fits link) (c.in-Some.ensures.channel lc l fits)
     ∙ ap (λ ns. map plain_entry c.args.entries.now.items ++ station_told (hears view lc c.args.wide l octets).step.layer ns) (c.in-Some.ensures.told c.args.wide lc l view fits)
     ∙ ap (λ es. map plain_entry c.args.entries.now.items ++ es) (same_told (hears view lc c.args.wide l octets).step.layer a.next a.notices (rounds_name view lc (begin a.next a.owed)))
 
@@ -53,20 +53,20 @@ returns-in-Some-clause-bringing c = λ c' l t fits link.
 pub unwrap-told-requires : goal.unwrap-told-requires
 unwrap-told-requires c = c.packet.ensures.enough (length c.args.packet.now - 3) (omega arith) (c.in_default.ensures.room_stays (length c.args.packet.now - 3) c.requires.room)
 
-pub returns-clause-layer : goal.returns-clause-layer
-returns-clause-layer c = λ c' l t fits link.
-    let lc = layer_settings c' in
-    subst (λ (b : Bool). FitsLayer lc c.packet.new.self (hears (view_of (link_settings c') t.near) lc b l c.args.packet.now).step.layer) c.lent.ensures
-    (subst (λ (view : LinkView). FitsLayer lc c.packet.new.self (hears view lc (is_some c.lent.result) l c.args.packet.now).step.layer) (same_view (link_settings c') t)
-    (on_ok c.packet.result c.unwrap-told.result _ c.unwrap-told.ensures (c.packet.ensures.layer lc l (kept_of (link_settings c') t) (c.in_default.ensures.layer_stays lc l fits) (subst (λ v. FitsWhole v (kept_of (link_settings c') t)) (sym c.in_default.ensures.link_stays) link))))
-
-pub returns-clause-link : goal.returns-clause-link
-returns-clause-link c = λ c' l t fits link.
-    let lc = layer_settings c' in
-    let lk = link_settings c' in
-    subst (λ (b : Bool). FitsWhole c.packet.new.link (kept_of lk (all_put lk (hears (view_of lk t.near) lc b l c.args.packet.now).step.put t))) c.lent.ensures
-    (subst (λ (view : LinkView). FitsWhole c.packet.new.link (kept_of lk (all_put lk (hears view lc (is_some c.lent.result) l c.args.packet.now).step.put t))) (same_view lk t)
-    (after_puts lk c.packet.new.link (hears (seen_by lk t) lc (is_some c.lent.result) l c.args.packet.now).step.put t (on_ok c.packet.result c.unwrap-told.result _ c.unwrap-told.ensures (c.packet.ensures.link lc l (kept_of lk t) (c.in_default.ensures.layer_stays lc l fits) (subst (λ v. FitsWhole v (kept_of (link_settings c') t)) (sym c.in_default.ensures.link_stays) link)))))
+pub returns-clause-puts : goal.returns-clause-puts
+returns-clause-puts c = record {
+  layer = λ c' l t fits link.
+      let lc = layer_settings c' in
+      subst (λ (b : Bool). FitsLayer lc c.packet.new.self (hears (view_of (link_settings c') t.near) lc b l c.args.packet.now).step.layer) c.lent.ensures
+      (subst (λ (view : LinkView). FitsLayer lc c.packet.new.self (hears view lc (is_some c.lent.result) l c.args.packet.now).step.layer) (same_view (link_settings c') t)
+      (on_ok c.packet.result c.unwrap-told.result _ c.unwrap-told.ensures (c.packet.ensures.layer lc l (kept_of (link_settings c') t) (c.in_default.ensures.layer_stays lc l fits) (subst (λ v. FitsWhole v (kept_of (link_settings c') t)) (sym c.in_default.ensures.link_stays) link))));
+  link = λ c' l t fits link.
+      let lc = layer_settings c' in
+      let lk = link_settings c' in
+      subst (λ (b : Bool). FitsWhole c.packet.new.link (kept_of lk (all_put lk (hears (view_of lk t.near) lc b l c.args.packet.now).step.put t))) c.lent.ensures
+      (subst (λ (view : LinkView). FitsWhole c.packet.new.link (kept_of lk (all_put lk (hears view lc (is_some c.lent.result) l c.args.packet.now).step.put t))) (same_view lk t)
+      (after_puts lk c.packet.new.link (hears (seen_by lk t) lc (is_some c.lent.result) l c.args.packet.now).step.put t (on_ok c.packet.result c.unwrap-told.result _ c.unwrap-told.ensures (c.packet.ensures.link lc l (kept_of lk t) (c.in_default.ensures.layer_stays lc l fits) (subst (λ v. FitsWhole v (kept_of (link_settings c') t)) (sym c.in_default.ensures.link_stays) link)))));
+}
 
 pub returns-clause-entries : goal.returns-clause-entries
 returns-clause-entries c = λ c' l t fits link.
@@ -78,7 +78,7 @@ returns-clause-entries c = λ c' l t fits link.
     ∙ ap (λ (b : Bool). (answer_to lc l octets (read_in b (longest_user lc.circuit.long_data) octets)).notices) c.lent.ensures in
     let bytes : All (λ octet. octet < 256) octets = All-from_get_or (λ octet. octet < 256) octets 0 (λ i low. omega (arith, c.type_inv.packet i)) in
     let tellable = told_tellable c.taking_keeps_octets.ensures.range c.args.wide lc l octets bytes in
-    c.enter_told.ensures.entered lc (hears view lc c.args.wide l octets).step.layer (returns-clause-layer c c' l t fits link) (subst (λ (ns : List LayerNotice). AreTellable lc ns) (sym told) tellable)
+    c.enter_told.ensures.entered lc (hears view lc c.args.wide l octets).step.layer ((returns-clause-puts c).layer c' l t fits link) (subst (λ (ns : List LayerNotice). AreTellable lc ns) (sym told) tellable)
     ∙ ap (λ ns. map plain_entry c.args.entries.now.items ++ station_told (hears view lc c.args.wide l octets).step.layer ns) told
     ∙ ap (λ es. map plain_entry c.args.entries.now.items ++ es) (same_told (hears view lc c.args.wide l octets).step.layer a.next a.notices (rounds_name view lc (begin a.next a.owed)))
 

@@ -69,7 +69,7 @@ invariant_of-self c = record {
         c',
         (receives c' s c.args.octets.now).near,
         took_fits c' before.same s c.args.octets.now (option_copied c.in-Ok.heard.packet) c.in-Ok.heard.notes c.follow.new.link c.swap_frames.new.self c.follow.new.layer (c.requires.goes_on c' s fits) (heard.packet, heard.notes)
-            (c.follow.ensures.link c' s.layer k.side before.layer whole) (c.follow.ensures.layer c' s.layer k.side before.layer whole) c.swap_frames.ensures.station (ap (λ o. o.made) c.swap_frames.ensures.outbox ∙ ap (map (λ frame. frame.items)) c.reserve.ensures.empty.frames)
+            (c.follow.ensures.puts.link c' s.layer k.side before.layer whole) (c.follow.ensures.puts.layer c' s.layer k.side before.layer whole) c.swap_frames.ensures.station (ap (λ o. o.made) c.swap_frames.ensures.outbox ∙ ap (map (λ frame. frame.items)) c.reserve.ensures.empty.frames)
             (c.steps_keep_bounds.ensures.receive c' s c.args.octets.now fits.kept),
       ));
   aside =
@@ -94,7 +94,7 @@ returns-in-Ok-clause-does c = record {
       let heard = c.in-Ok.ensures.does.heard lk s.link before.link in
       let whole : FitsWhole c.take.new.self (kept_of lk k.side) = record { link = c.in-Ok.ensures.does.state lk s.link before.link; kept = c.in-Ok.ensures.does.frames lk s.link before.link ∙ ap (λ (made : List (List ℕ)). made ++ map (spelling_of c'.role) k.side.out) before.sent } in
       took_fits c' before.same s c.args.octets.now (option_copied c.in-Ok.heard.packet) c.in-Ok.heard.notes c.follow.new.link c.swap_frames.new.self c.follow.new.layer (c.requires.goes_on c' s fits) (heard.packet, heard.notes)
-      (c.follow.ensures.link c' s.layer k.side before.layer whole) (c.follow.ensures.layer c' s.layer k.side before.layer whole) c.swap_frames.ensures.station (ap (λ o. o.made) c.swap_frames.ensures.outbox ∙ ap (map (λ frame. frame.items)) c.reserve.ensures.empty.frames)
+      (c.follow.ensures.puts.link c' s.layer k.side before.layer whole) (c.follow.ensures.puts.layer c' s.layer k.side before.layer whole) c.swap_frames.ensures.station (ap (λ o. o.made) c.swap_frames.ensures.outbox ∙ ap (map (λ frame. frame.items)) c.reserve.ensures.empty.frames)
       (c.steps_keep_bounds.ensures.receive c' s c.args.octets.now fits.kept);
   frames = λ c' s fits.
       let lk = link_settings c' in
@@ -102,7 +102,7 @@ returns-in-Ok-clause-does c = record {
       let before = c.in_ok-reserve.ensures.fits c' s fits in
       let heard = c.in-Ok.ensures.does.heard lk s.link before.link in
       let whole : FitsWhole c.take.new.self (kept_of lk k.side) = record { link = c.in-Ok.ensures.does.state lk s.link before.link; kept = c.in-Ok.ensures.does.frames lk s.link before.link ∙ ap (λ (made : List (List ℕ)). made ++ map (spelling_of c'.role) k.side.out) before.sent } in
-      let link = c.follow.ensures.link c' s.layer k.side before.layer whole in
+      let link = c.follow.ensures.puts.link c' s.layer k.side before.layer whole in
       c.swap_frames.ensures.frames
       ∙ took_sends c' before.same s c.args.octets.now (option_copied c.in-Ok.heard.packet) c.in-Ok.heard.notes _ (c.requires.goes_on c' s fits) (heard.packet, heard.notes) link.kept;
   entries = λ c' s fits.
@@ -124,7 +124,7 @@ returns-in-Ok-clause-does c = record {
       let before = c.in_ok-reserve.ensures.fits c' s fits in
       let whole : FitsWhole c.take.new.self (kept_of lk k.side) = record { link = c.in-Ok.ensures.does.state lk s.link before.link; kept = c.in-Ok.ensures.does.frames lk s.link before.link ∙ ap (λ (made : List (List ℕ)). made ++ map (spelling_of c'.role) k.side.out) before.sent } in
       let step = put_behind c' c.reserve.new.self.manner.wide s k (option_copied c.in-Ok.heard.packet) c.in-Ok.heard.notes in
-      let link = c.follow.ensures.link c' s.layer k.side before.layer whole in
+      let link = c.follow.ensures.puts.link c' s.layer k.side before.layer whole in
       let put = few_put lk step.put k.side (c.holds_few.ensures.window lk c.take.new.self k.side.near whole.link) (c.holds_few.ensures.stand lk c.take.new.self k.side.near whole.link).place_low in
       let own = c.holds_few.ensures.take lk c.args.octets.now s.link in
       few_made c'.role c.follow.new.link.outbox.made (all_put lk step.put k.side).out 17 link.kept (omega (arith, put, own))) in
