@@ -1,5 +1,5 @@
 -- What an end did is its act by the definition, and its refusal is due.
-use Rattle.std.proofs.Common.{◌≡◌, ℕ, Bool, true, false, ◌&&◌, if◌then◌else◌, List, [], ◌∷◌, ◌++◌, map, Some, slice_get, Result, Ok, Err, OnOk, OnErr, IfErr, ◌⊎◌, inl, inr, refl, ap, sym, ◌∙◌, arith}
+use Rattle.std.proofs.Common.{◌≡◌, ℕ, Bool, true, false, ◌&&◌, if◌then◌else◌, List, [], ◌∷◌, ◌++◌, map, Some, None, slice_get, Result, Ok, Err, OnOk, OnErr, IfErr, ◌⊎◌, inl, inr, refl, ap, sym, ◌∙◌, arith}
 use Rattle.std.specs.List.{remove}
 use Rattle.std.proofs.lemmas.List.{append-nil}
 use Rattle.x25_bits.specs.Role.{other}
@@ -67,6 +67,11 @@ few_same count line = record { to_dce = omega arith; to_dte = omega arith }
 -- memory that serves again shows nowhere
 pub reused : (cfg : Cfg) (at : Role) (near new : code.Station) (line : ShownLine) (w : World) → FitsSide cfg at near line w → FitsStation (settings_from at cfg) new w.near → FitsSide cfg at new line w
 reused cfg at near new line w side fits = record { near = fits; out = side.out; back = side.back }
+
+-- where no frame is on the line none arrives
+pub none_arrives : (c : Settings) (w : World) (back : List (List ℕ)) → None ≡ slice_get back 0 → refusal_of (delivered c w back) ≡ Some error.Empty
+none_arrives c w [] is = refl
+none_arrives c w (octets ∷ back) is = cc
 
 -- ---- an accepted call of the station
 

@@ -1,6 +1,6 @@
 //! What happens at one end, and on the line to it.
 ghost use Rattle.std.specs.Prelude.{◌≡◌, ◌&&◌, ◌+◌, ◌*◌, ◌≤◌, ◌++◌, ◌⊎◌, [], length, map, max, vec_len, vec_capacity};
-ghost use Rattle.std.specs.Prelude.{IfErr, OnOk, OnErr};
+ghost use Rattle.std.specs.Prelude.{Err, IfErr, OnOk, OnErr};
 ghost use Rattle.x25_link.specs.Station.{awaits_ua};
 ghost use Rattle.x25_line.specs.laws.Stations.{is_visible};
 ghost use Rattle.x25_station.specs.Command.{command_of};
@@ -10,7 +10,6 @@ ghost use Rattle.x25_station.specs.Config.{Settings, settings_from};
 ghost use Rattle.x25_station.specs.Station.{Station as StationState};
 ghost use Rattle.x25_station.specs.code.FitsStation.{FitsStation, IsEmpty};
 ghost use Rattle.x25_station.specs.Step.{connects, commands};
-ghost use Rattle.x25_world.specs.Error.{error_of};
 ghost use Rattle.x25_world.specs.World as definition;
 ghost use Rattle.x25_world.specs.World.{Happened, Declined, of_station, delivered, is_on_line, fired, on_line, lost};
 ghost use Rattle.x25_world.specs.World.{damaged, acts, entered, event_of};
@@ -26,7 +25,7 @@ use crate::line::Line;
 use crate::set_up::is_on_line;
 use crate::told::Entered;
 use x25_bits::{Role, check};
-use x25_station::{Cmd, Entry, MOST_ENTRIES, MOST_FRAMES, Station, StationError, Step};
+use x25_station::{Cmd, Entry, MOST_ENTRIES, MOST_FRAMES, Station, Step};
 
 /// The event happens at its end, or on the line to it. What it tells comes into the step, in place of what was there,
 /// and its frames go on the line. Refused with the one ground that applies, 50, 51, 52, 53 or 54, or with 70; all is
@@ -67,14 +66,29 @@ fn act(
         HasActed cfg at near.new line.new (entered at (map plain_entry out.new.entries.items)) result w
         (acts (settings_from at cfg) w (event_of event.entry).act) }
 {
-    near.reuse(out);
     match event {
         Event::Command(_, cmd) => command(at, near, line, out, cmd),
         Event::Deliver(_) => deliver(at, near, line, out),
-        Event::Lose(_, place) => lose(at, line, place),
-        Event::Damage(_, place, octets) => damage(at, line, place, octets),
+        Event::Lose(_, place) => {
+            near.reuse(out);
+            lose(at, line, place)
+        }
+        Event::Damage(_, place, octets) => {
+            near.reuse(out);
+            damage(at, line, place, octets)
+        }
         Event::T1(_) => fire(at, near, line, out),
     }
+}
+
+// Refuses an event before the station does anything, which else empties the step.
+fn refuse(near: &mut Station, step: &mut Step, error: WorldError) -> Result<(), WorldError>
+    ensures fits { (c : Settings) (s : StationState) → FitsStation c near.old s → FitsStation c near.new s }
+    ensures empty { IsEmpty step.new }
+    ensures error { result ≡ Err error }
+{
+    near.reuse(step);
+    Err(error)
 }
 
 // The user of the end asks for something.
@@ -86,14 +100,15 @@ fn command(
     out: &mut Step,
     cmd: Cmd,
 ) -> Result<(), WorldError>
-    requires { IsEmpty out.old }
     ensures step { IsStepOf result out.new 3 }
     ensures places { TakesFew 17 line.old line.new }
     ensures acted { (cfg : Cfg) (w : definition.World) → FitsSide cfg at near.old line.old w →
         HasActed cfg at near.new line.new (entered at (map plain_entry out.new.entries.items)) result w
         (of_station (settings_from at cfg) w (commands (settings_from at cfg) w.near (command_of cmd.entry))) }
 {
-    reserve_frames(line)?;
+    if let Err(error) = reserve_frames(line) {
+        return refuse(near, out, error);
+    }
     match near.command(cmd, out) {
         Ok(()) => {
             put(at, line, &mut out.frames);
@@ -104,18 +119,18 @@ fn command(
 }
 
 // The front frame on the line to the end arrives.
-#[inline(always)]
 fn deliver(at: Role, near: &mut Station, line: &mut Line, out: &mut Step) -> Result<(), WorldError>
-    requires { IsEmpty out.old }
     ensures step { IsStepOf result out.new 3 }
     ensures places { TakesFew 17 line.old line.new }
     ensures acted { (cfg : Cfg) (w : definition.World) → FitsSide cfg at near.old line.old w →
         HasActed cfg at near.new line.new (entered at (map plain_entry out.new.entries.items)) result w
         (delivered (settings_from at cfg) w w.back) }
 {
-    reserve_frames(line)?;
+    if let Err(error) = reserve_frames(line) {
+        return refuse(near, out, error);
+    }
     let Some(octets) = line.get(at, 0) else {
-        return Err(WorldError::Empty);
+        return refuse(near, out, WorldError::Empty);
     };
     match near.receive(octets, out) {
         Ok(()) => {
@@ -124,17 +139,8 @@ fn deliver(at: Role, near: &mut Station, line: &mut Line, out: &mut Step) -> Res
             put(at, line, &mut out.frames);
             Ok(())
         }
-        Err(error) => Err(refused_arrival(error)),
+        Err(error) => Err(WorldError::of_station(error)),
     }
-}
-
-// The error of a world where a station refuses an arrival, which is seldom.
-#[cold]
-#[inline(never)]
-fn refused_arrival(error: StationError) -> WorldError
-    ensures { result ≡ error_of error }
-{
-    WorldError::of_station(error)
 }
 
 // The frames of a step come on the line, in room that there is, and their list is left empty.
@@ -163,7 +169,6 @@ fn keep_frame(near: &mut Station, octets: Option<Vec<u8>>)
 // Timer T1 of the end runs out, which it doesn't while UA is awaited and can still come.
 #[inline(always)]
 fn fire(at: Role, near: &mut Station, line: &mut Line, out: &mut Step) -> Result<(), WorldError>
-    requires { IsEmpty out.old }
     ensures step { IsStepOf result out.new 3 }
     ensures places { TakesFew 17 line.old line.new }
     ensures acted { (cfg : Cfg) (w : definition.World) → FitsSide cfg at near.old line.old w →
@@ -171,9 +176,11 @@ fn fire(at: Role, near: &mut Station, line: &mut Line, out: &mut Step) -> Result
         (fired (settings_from at cfg) w) }
 {
     if awaits_frames(at, near, line) {
-        return Err(WorldError::OnLine);
+        return refuse(near, out, WorldError::OnLine);
     }
-    reserve_frames(line)?;
+    if let Err(error) = reserve_frames(line) {
+        return refuse(near, out, error);
+    }
     match near.t1(out) {
         Ok(()) => {
             put(at, line, &mut out.frames);

@@ -13,19 +13,19 @@ returns-in-Lose-clause-acted c = λ cfg w old.
 
 pub returns-in-Damage-clause-acted : goal.returns-in-Damage-clause-acted
 returns-in-Damage-clause-acted c = λ cfg w old.
-    let side = reused cfg c.args.at _ _ _ w old (c.reuse.ensures.fits _ _ old.near) in
+    let side = reused cfg c.args.at _ _ _ w old (c.reuse-in-Damage.ensures.fits _ _ old.near) in
     let called = c.damage.ensures in
-    rw (c.in-Damage.is, c.reuse.ensures.empty.entries) (record {
+    rw (c.in-Damage.is, c.reuse-in-Damage.ensures.empty.entries) (record {
       happened = line_changes cfg c.args.at _ _ _ w c.damage.result _ side (called.happened w side.back) called.only;
       refused = damages_or_not c.damage.result _ (called.refused w side.back);
       stays = line_stays cfg c.args.at _ _ _ w c.damage.result side called.unchanged;
     })
 
 pub returns-in-Command-clause-acted : goal.returns-in-Command-clause-acted
-returns-in-Command-clause-acted c = λ cfg w old. rw c.in-Command.is (c.command.ensures.acted cfg w (reused cfg c.args.at _ _ _ w old (c.reuse.ensures.fits _ _ old.near)))
+returns-in-Command-clause-acted c = λ cfg w old. rw c.in-Command.is (c.command.ensures.acted cfg w old)
 
 pub returns-in-Deliver-clause-acted : goal.returns-in-Deliver-clause-acted
-returns-in-Deliver-clause-acted c = λ cfg w old. rw c.in-Deliver.is (c.deliver.ensures.acted cfg w (reused cfg c.args.at _ _ _ w old (c.reuse.ensures.fits _ _ old.near)))
+returns-in-Deliver-clause-acted c = λ cfg w old. rw c.in-Deliver.is (c.deliver.ensures.acted cfg w old)
 
 pub returns-in-T1-clause-acted : goal.returns-in-T1-clause-acted
-returns-in-T1-clause-acted c = λ cfg w old. rw c.in-T1.is (c.fire.ensures.acted cfg w (reused cfg c.args.at _ _ _ w old (c.reuse.ensures.fits _ _ old.near)))
+returns-in-T1-clause-acted c = λ cfg w old. rw c.in-T1.is (c.fire.ensures.acted cfg w old)

@@ -1,7 +1,26 @@
-use Rattle.std.proofs.Common.{◌≡◌, ◌∙◌, Some, inr, slice_get, sym, ap}
+use Rattle.std.proofs.Common.{◌≡◌, ◌∙◌, Some, None, inl, inr, slice_get, sym, ap}
+use Rattle.x25_station.specs.Config.{settings_from}
 use Rattle.x25_world.specs.Error.{error_of}
-use Rattle.x25_world.proofs.SideLemmas.{few_put, few_changed, shared_of, has_arrived, side_stays}
+use Rattle.x25_world.proofs.SideLemmas.{few_put, few_changed, shared_of, has_arrived, none_arrives, side_stays}
 use Rattle.x25_world.proofs.acting.deliver.Goals as goal
+
+pub returns-in-Err-clause-acted : goal.returns-in-Err-clause-acted
+returns-in-Err-clause-acted c = λ cfg w side.
+    rw c.refuse.ensures.error (record {
+      happened = tt;
+      refused = inr c.in-Err.ensures.refused;
+      stays = rw c.reserve_frames.ensures.line (side_stays cfg c.args.at _ _ c.args.line.now w c.reserve_frames.new.line side (c.refuse.ensures.fits _ _ side.near));
+    })
+
+pub returns-in_default-get-clause-acted : goal.returns-in_default-get-clause-acted
+returns-in_default-get-clause-acted c = λ cfg w side.
+    let shared = rw (sym c.reserve_frames.ensures.line) at (shared_of cfg c.args.at _ c.args.line.now w c.reserve_frames.new.line side) in
+    let none : None ≡ slice_get w.back 0 = c.in_default-get.ensures ∙ ap (λ l. slice_get l 0) shared.back in
+    rw c.refuse-in_default-get.ensures.error (record {
+      happened = tt;
+      refused = inl (none_arrives (settings_from c.args.at cfg) w w.back none);
+      stays = rw c.reserve_frames.ensures.line (side_stays cfg c.args.at _ _ c.args.line.now w c.reserve_frames.new.line side (c.refuse-in_default-get.ensures.fits _ _ side.near));
+    })
 
 pub returns-in-Ok-clause-acted : goal.returns-in-Ok-clause-acted
 returns-in-Ok-clause-acted c = λ cfg w side.
@@ -18,13 +37,13 @@ returns-in-Ok-clause-acted c = λ cfg w side.
       stays = tt;
     }
 
-pub returns-in-Err-clause-acted : goal.returns-in-Err-clause-acted
-returns-in-Err-clause-acted c = λ cfg w side.
+pub returns-in-Err-receive-clause-acted : goal.returns-in-Err-receive-clause-acted
+returns-in-Err-receive-clause-acted c = λ cfg w side.
     let fits = side.near in
-    let called = c.in-Err.ensures in
+    let called = c.in-Err-receive.ensures in
     record {
       happened = tt;
-      refused = inr (c.refused_arrival.ensures ∙ ap error_of called.refused);
+      refused = inr (c.of_station.ensures ∙ ap error_of called.refused);
       stays = rw c.reserve_frames.ensures.line (side_stays cfg c.args.at _ _ c.args.line.now w c.reserve_frames.new.line side (called.does.stays _ _ fits));
     }
 

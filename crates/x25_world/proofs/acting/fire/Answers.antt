@@ -1,13 +1,25 @@
-use Rattle.std.proofs.Common.{sym, ap, inl, ◌∙◌}
+use Rattle.std.proofs.Common.{sym, ap, inl, inr, ◌∙◌}
 use Rattle.x25_station.specs.Config.{settings_from}
 use Rattle.x25_world.specs.World.{refusal_of}
-use Rattle.x25_world.proofs.SideLemmas.{few_put, shared_of, has_happened, is_refusal, side_stays, holds_back, lets_fire}
+use Rattle.x25_world.proofs.SideLemmas.{few_put, shared_of, has_happened, is_refusal, side_stays, reused, holds_back, lets_fire}
 use Rattle.x25_world.proofs.acting.fire.Goals as goal
 
 pub returns-then-awaits_frames-clause-acted : goal.returns-then-awaits_frames-clause-acted
 returns-then-awaits_frames-clause-acted c = λ cfg w side.
     let held = holds_back (settings_from c.args.at cfg) w (sym (c.awaits_frames.ensures cfg w side) ∙ c.if-awaits_frames.true) in
-    record { happened = tt; refused = inl (ap refusal_of held); stays = side }
+    rw c.refuse.ensures.error (record {
+      happened = tt;
+      refused = inl (ap refusal_of held);
+      stays = reused cfg c.args.at _ _ _ w side (c.refuse.ensures.fits _ _ side.near);
+    })
+
+pub returns-in-Err-clause-acted : goal.returns-in-Err-clause-acted
+returns-in-Err-clause-acted c = λ cfg w side.
+    rw c.refuse-in-Err.ensures.error (record {
+      happened = tt;
+      refused = inr c.in-Err.ensures.refused;
+      stays = rw c.reserve_frames.ensures.line (side_stays cfg c.args.at _ _ c.args.line.now w c.reserve_frames.new.line side (c.refuse-in-Err.ensures.fits _ _ side.near));
+    })
 
 pub returns-in-Ok-clause-acted : goal.returns-in-Ok-clause-acted
 returns-in-Ok-clause-acted c = λ cfg w side.
@@ -23,14 +35,14 @@ returns-in-Ok-clause-acted c = λ cfg w side.
       stays = tt;
     }
 
-pub returns-in-Err-clause-acted : goal.returns-in-Err-clause-acted
-returns-in-Err-clause-acted c = λ cfg w side.
+pub returns-in-Err-t1-clause-acted : goal.returns-in-Err-t1-clause-acted
+returns-in-Err-t1-clause-acted c = λ cfg w side.
     let fires = lets_fire (settings_from c.args.at cfg) w (sym (c.awaits_frames.ensures cfg w side) ∙ c.if-awaits_frames.false) in
     let fits = side.near in
-    let called = c.in-Err.ensures.does in
+    let called = c.in-Err-t1.ensures.does in
     record {
       happened = tt;
-      refused = rw (fires, c.of_station.ensures) (is_refusal cfg c.args.at w _ c.in-Err.error (called.refused _ _ fits));
+      refused = rw (fires, c.of_station.ensures) (is_refusal cfg c.args.at w _ c.in-Err-t1.error (called.refused _ _ fits));
       stays = rw c.reserve_frames.ensures.line (side_stays cfg c.args.at _ _ c.args.line.now w c.reserve_frames.new.line side (called.stays _ _ fits));
     }
 
