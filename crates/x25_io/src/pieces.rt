@@ -33,8 +33,10 @@ fn blank_octets(alloc: Global) -> Result<Vec<u8>, AllocError>
 }
 
 impl Piece {
-    /// Nothing is read into it. Err: no memory.
-    pub fn new(alloc: Global) -> Result<Piece, AllocError> {
+    /// Room for the octets that one read gives. Err: no memory.
+    pub fn new(alloc: Global) -> Result<Piece, AllocError>
+        ensures { IfOk result (λ piece. length piece.octets.items ≡ 65536) }
+    {
         let octets = blank_octets(alloc)?;
         Ok(Piece { octets })
     }

@@ -1,5 +1,5 @@
 use std::test::Fail;
-use x25_io::{HeldLine, split_line};
+use x25_io::{HeldLine, Piece, split_line};
 
 /// The most characters of a line that is held.
 const MOST_LINE: usize = 131_200;
@@ -57,4 +57,9 @@ fn holds_lines_in_pieces(rt: HostRuntime) -> Result<(), Fail> {
         held.clear();
     }
     Ok(())
+}
+
+#[test]
+fn makes_memory_to_read_into(rt: HostRuntime) {
+    assert!(rt; Piece::new(rt.alloc()).is_ok());
 }
