@@ -316,4 +316,4 @@ is_judged (frmr f why) t = not f || judges_answer t.other.polls t
 unfoldable pub misses : Sides → Sides
 misses t = asks_more (asks_on t.own.is_polling
     (with_other (with_phase (accepted t.other.phase) (with_way (unheard t.other.way) t.other))
-    (with_own (with_phase (unsure t.own.phase) (with_way (missed t.own.way) t.own)) t)))
+    (with_own (with_phase (unsure t.own.phase) (with_way (missed (is_unasked t) t.own.way) t.own)) t)))

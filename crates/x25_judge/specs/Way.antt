@@ -83,9 +83,10 @@ may_hear w = may_hear_sight w.sight
 abbrev pub lost : Way → Way
 lost w = record w { sight = Unseen }
 
--- a damaged frame of the end may have been an I frame, also the one that REJ asked for
-abbrev pub missed : Way → Way
-missed w = record w { is_missed = true; is_rejected = false }
+-- A damaged frame of the end may have been an I frame, also the one that REJ asked for. Where UA may be missing it may
+-- have been that, so that its numbers begin anew, and no octets of them are known.
+abbrev pub missed : Bool → Way → Way
+missed is_unasked w = record w { is_missed = true; is_rejected = false; kept = if is_unasked then w.kept else 0 }
 
 abbrev pub astray : Way → Way
 astray w = record w { sight = Astray }
@@ -94,9 +95,10 @@ astray w = record w { sight = Astray }
 abbrev pub deaf : Way → Way
 deaf w = record w { sight = Deaf }
 
--- a damaged frame of the other end may have had an N(R): the window isn't judged until one comes
+-- A damaged frame of the other end may have had an N(R): the window isn't judged until one comes. Behind a damaged
+-- frame of the end it may have been UA to that, so that no octets are known.
 abbrev pub unheard : Way → Way
-unheard w = if is_sure w then astray w else w
+unheard w = record w { sight = if is_sure w then Astray else w.sight; kept = if w.is_missed then 0 else w.kept }
 
 -- the other end answers, so that its N(R)s begin from 0: known where no I frame was sent before
 abbrev pub answered : Way → Way
@@ -224,9 +226,14 @@ is_repeated is_same back w = is_same && nat_le back w.kept
 abbrev pub was_sent : Bool → ℕ → Way → Bool
 was_sent is_same back w = nat_le back w.ever && (is_repeated is_same back w || (nat_le back w.pending || nat_le back 4))
 
--- not with the octets that the number had, where these were seen and no frame was missed since
+-- so many numbers more leave more than seven unacknowledged
+abbrev pub is_full : ℕ → Way → Bool
+is_full count w = is_sure w && nat_lt 7 (min (w.pending + count) 255)
+
+-- Not with the octets that the number had, where these were seen. Behind a frame that was missed it may be a number
+-- further on, but for one that the window has no room for.
 abbrev pub is_other : Bool → ℕ → Way → Bool
-is_other is_same back w = not is_same && (nat_le back w.kept && not w.is_missed)
+is_other is_same back w = not is_same && (nat_le back w.kept && (not w.is_missed || is_full (9 - back) w))
 
 -- so many numbers more leave no more than seven unacknowledged
 abbrev pub has_room : ℕ → Way → Bool
@@ -242,7 +249,7 @@ abbrev pub unexplained : Bool → ℕ → Way → Told
 unexplained is_same back w =
     if back == 0 then skips (has_room 1 w) 1 w
     else if is_other is_same back w
-    then (if has_room (9 - back) w then skips true (9 - back) w else told_again (repeated back w) Differs w)
+    then (if has_room (9 - back) w then skips true (9 - back) w else sent_before (breaks Differs (repeated back w)))
     else if nat_lt back w.behind then told_again (repeated back w) (Skips (place w)) w
     else if was_sent is_same back w then told_again (repeated back w) (Repeats (place w)) w
     else skips (nat_le back w.ever || has_room (9 - back) w) (9 - back) w

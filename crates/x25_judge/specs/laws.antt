@@ -3,4 +3,5 @@ pub mod Keeping
 pub mod Sessions
 pub mod Session
 pub mod Watching
+pub mod Explaining
 pub mod VerdictClaims

@@ -2,7 +2,8 @@
 //! kept. Each law is the contract of a function that does nothing.
 ghost use Rattle.x25_frame.specs.laws.ReadingLaw.{ReadsSpelled, ReadsWhatIsSpelled};
 ghost use Rattle.x25_judge.specs.laws.VerdictClaims.{NoInnocentIsAccused, NoStationIsAccused};
-ghost use Rattle.x25_judge.specs.laws.VerdictClaims.{NoSessionIsAccused, SilenceMeansOrder, SetUpsBegin};
+ghost use Rattle.x25_judge.specs.laws.VerdictClaims.{NoSessionIsAccused, SilenceMeansOrder, SilenceMeansRules};
+ghost use Rattle.x25_judge.specs.laws.VerdictClaims.{SetUpsBegin};
 ghost use Rattle.x25_line.specs.laws.LawsBelow.{Laws};
 ghost use Rattle.x25_line.specs.laws.PeerClaims.{KeepsOrder, OnAnySilentTape};
 ghost use Rattle.x25_line.specs.laws.StationClaims.{EachEventHandsOne};
@@ -50,6 +51,15 @@ pub fn stations_stay_untold()
 /// the trace and the station.
 pub fn silence_means_order()
     ensures { SilenceMeansOrder }
+{
+    laws_below();
+}
+
+/// In each session, from a set-up on to the next frame without a number: where neither a rule nor manners are told of
+/// either end, and no line is damaged, the lines of each end are those of an end that keeps the rules of docs/PEER.md,
+/// and hears and takes what comes as the trace shows it.
+pub fn silence_means_rules_kept()
+    ensures { SilenceMeansRules }
 {
     laws_below();
 }

@@ -20,5 +20,5 @@ pub use judge::Strictness;
 pub use judging::judge_lines;
 pub use law::{
     innocents_stay_untold, sessions_stay_untold, set_ups_begin, silence_means_order,
-    stations_stay_untold,
+    silence_means_rules_kept, stations_stay_untold,
 };

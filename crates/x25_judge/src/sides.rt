@@ -566,7 +566,7 @@ impl Sides {
     pub(crate) fn misses(self) -> Sides
         ensures { result ≡ definition.misses self }
     {
-        let own = self.own.with_way(self.own.way.missed());
+        let own = self.own.with_way(self.own.way.missed(self.is_unasked()));
         let other = self.other.with_way(self.other.way.unheard());
         self.with_own(own.with_phase(self.own.phase.unsure()))
             .with_other(other.with_phase(self.other.phase.accepted()))

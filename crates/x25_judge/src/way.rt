@@ -159,13 +159,14 @@ impl Way {
         }
     }
 
-    /// A frame that may have been an I frame was damaged.
-    pub(crate) fn missed(self) -> Way
-        ensures { result ≡ definition.missed self }
+    /// A frame that may have been an I frame was damaged, or UA where one may be missing.
+    pub(crate) fn missed(self, is_unasked: bool) -> Way
+        ensures { result ≡ definition.missed is_unasked self }
     {
         Way {
             is_missed: true,
             is_rejected: false,
+            kept: if is_unasked { self.kept } else { 0 },
             ..self
         }
     }
@@ -190,11 +191,19 @@ impl Way {
         }
     }
 
-    /// A frame of the other end that may have had an N(R) was damaged.
+    /// A frame of the other end that may have had an N(R) was damaged, or UA to one of the end that was missed.
     pub(crate) fn unheard(self) -> Way
         ensures { result ≡ definition.unheard self }
     {
-        if self.is_sure() { self.astray() } else { self }
+        Way {
+            sight: if self.is_sure() {
+                Sight::Astray
+            } else {
+                self.sight
+            },
+            kept: if self.is_missed { 0 } else { self.kept },
+            ..self
+        }
     }
 
     /// The other end asks for I frames from 0 on.
@@ -447,11 +456,20 @@ impl Way {
         back <= self.ever && (is_repeated || (back <= self.pending || back <= 4))
     }
 
-    /// Whether a number hasn't the octets that it had.
+    /// Whether so many numbers more leave more than seven unacknowledged.
+    fn is_full(self, count: u8) -> bool
+        ensures { result ≡ definition.is_full count self }
+    {
+        self.is_sure() && 7 < self.pending.saturating_add(count)
+    }
+
+    /// Whether a number hasn't the octets that it had; behind a frame that was missed only where it can't be a number
+    /// further on.
     fn is_other(self, is_same: bool, back: u8) -> bool
         ensures { result ≡ definition.is_other is_same back self }
     {
-        !is_same && (back <= self.kept && !self.is_missed)
+        let is_known = !self.is_missed || self.is_full(9u8.saturating_sub(back));
+        !is_same && (back <= self.kept && is_known)
     }
 
     /// Whether so many numbers more leave no more than seven unacknowledged.
@@ -486,7 +504,7 @@ impl Way {
             if self.has_room(count) {
                 self.skips(true, count)
             } else {
-                self.told_again(way, Rule::Differs)
+                sent_before(breaks(Rule::Differs, self.repeated(back)))
             }
         } else if back < self.behind {
             self.told_again(way, Rule::Skips { next })

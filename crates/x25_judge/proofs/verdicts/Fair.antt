@@ -250,8 +250,14 @@ unseen_sent w window ns is_poll is_same unseen =
     (λ _. unseen)
     (λ test. absurd (both_ways (way.is_unseen w) test unseen))
 
-pub unseen_sure : (s : Sight) → way.is_unseen_sight s ≡ true → way.is_sure_sight s ≡ false
-unseen_sure Unseen e = refl
-unseen_sure Deaf e = refl
-unseen_sure Astray e = refl
-unseen_sure Sure e = absurd (both_ways false refl e)
+pub unheard_unseen : (s : Sight) → way.is_unseen_sight s ≡ true → way.is_unseen_sight (if way.is_sure_sight s then Astray else s) ≡ true
+unheard_unseen Unseen e = refl
+unheard_unseen Deaf e = e
+unheard_unseen Astray e = e
+unheard_unseen Sure e = e
+
+pub unheard_seen : (s : Sight) → way.is_unseen_sight s ≡ false → way.is_unseen_sight (if way.is_sure_sight s then Astray else s) ≡ false
+unheard_seen Unseen e = e
+unheard_seen Deaf e = refl
+unheard_seen Astray e = refl
+unheard_seen Sure e = refl

@@ -1,7 +1,7 @@
 -- An end that keeps the rules beside the judge: what the judge counts is what the end may have come to, or more.
 use Rattle.std.proofs.Common.{◌≡◌, ◌==◌, ◌⊎◌, inl, inr, ℕ, ◌+◌, ◌-◌, ◌%◌, min, ◌<◌, ◌≤◌, arith, max, Bool, true, false, if◌then◌else◌, List, [], ◌∷◌, ◌++◌, length, Option, None, Ok, refl, sym, ap, ◌∙◌, subst}
 use Rattle.std.specs.Prelude.{nat_le, nat_lt, ◌&&◌, ◌||◌, not}
-use Rattle.std.proofs.lemmas.Bool.{eqb-true, eqb-false, eq-eqb, ltb-true, leb-true, and_parts, both_ways, cond_both, cond-true, cases_eq}
+use Rattle.std.proofs.lemmas.Bool.{eqb-true, eqb-false, eq-eqb, ltb-true, leb-true, and_parts, both_ways, cond_both, cond-true, cond-false, cases_eq}
 use Rattle.std.proofs.lemmas.List.{length_push}
 use Rattle.x25_bits.specs.declared.role.Role.{Role}
 use Rattle.x25_bits.specs.declared.role.Role.TheVariants.{Dte, Dce}
@@ -30,7 +30,7 @@ use Rattle.x25_judge.specs.laws.Session.{end_of, IsSetUp, IsNumbered, is_of_orde
 use Rattle.x25_judge.specs.laws.VerdictClaims.{NoInnocentIsAccused}
 use Rattle.x25_packet_judge.specs.Book as book
 use Rattle.x25_judge.proofs.verdicts.Ways.{Numbered, apart_low, deaf_numbered, same_numbered, unheard_numbered, sent_numbered}
-use Rattle.x25_judge.proofs.verdicts.Fair.{Own, OwnIf, Fair, new_fair, old_fair, heard_own_if, unseen_deaf, unseen_sure, heard_fair}
+use Rattle.x25_judge.proofs.verdicts.Fair.{Own, OwnIf, Fair, new_fair, old_fair, heard_own_if, unseen_deaf, unheard_seen, unheard_unseen, heard_fair}
 use Rattle.x25_judge.proofs.verdicts.Frames.{IsUp, AreSame, AreAlike, Sees, Strays, strays, runs_on, info_sees, ready_sees, reject_sees, first_of_order}
 use Rattle.x25_judge.proofs.verdicts.Lines.{other_twice, Goes, goes, Past, past, stands, told_of_order}
 use Rattle.x25_judge.proofs.verdicts.Octets.{IsHeld, IsSupervisory, begun_held, pushed_held, same_held, sent_held, same_octets, bare_held}
@@ -563,10 +563,10 @@ sent_some w window ns p s begun =
         cond_both (back == 0) (way.skips (way.has_room 1 w) 1 w) _ IsSome
         (λ _. told_one (way.has_room 1 w) 1 (omega arith))
         (λ zero. let some = positive back (eqb-false back 0 zero) in
-        cond_both (way.is_other s back w) (if way.has_room (9 - back) w then way.skips true (9 - back) w else way.told_again (way.repeated back w) Differs w) _ IsSome
-        (λ test. cond_both (way.has_room (9 - back) w) (way.skips true (9 - back) w) (way.told_again (way.repeated back w) Differs w) IsSome
+        cond_both (way.is_other s back w) (if way.has_room (9 - back) w then way.skips true (9 - back) w else way.sent_before (way.breaks Differs (way.repeated back w))) _ IsSome
+        (λ test. cond_both (way.has_room (9 - back) w) (way.skips true (9 - back) w) (way.sent_before (way.breaks Differs (way.repeated back w))) IsSome
         (λ _. told_one true (9 - back) (left back (apart_low w.next ns)))
-        (λ _. told_again Differs (λ hears e. never back w.kept some (leb-true back w.kept (and_parts (nat_le back w.kept) (not w.is_missed) (and_parts (not s) (nat_le back w.kept && not w.is_missed) test).1).0) (begun hears e).1)))
+        (λ _ hears e. never back w.kept some (leb-true back w.kept (and_parts (nat_le back w.kept) (not w.is_missed || way.is_full (9 - back) w) (and_parts (not s) (nat_le back w.kept && (not w.is_missed || way.is_full (9 - back) w)) test).1).0) (begun hears e).1))
         (λ _. cond_both (nat_lt back w.behind) (way.told_again (way.repeated back w) (Skips (way.place w)) w) _ IsSome
         (λ test. told_again (Skips (way.place w)) (λ hears e. less back w.behind (ltb-true back w.behind test) (begun hears e).0))
         (λ _. cond_both (way.was_sent s back w) (way.told_again (way.repeated back w) (Repeats (way.place w)) w) (way.skips (nat_le back w.ever || way.has_room (9 - back) w) (9 - back) w) IsSome
@@ -699,7 +699,7 @@ runs_accepted Answered e = refl
 runs_accepted Up e = refl
 
 pub record Misses (t : Sides) : Type 0 where
-  pub own : (sides.misses t).own.way ≡ way.missed t.own.way
+  pub own : (sides.misses t).own.way ≡ way.missed (sides.is_unasked t) t.own.way
   pub other : (sides.misses t).other.way ≡ way.unheard t.other.way
   pub other_phase : (sides.misses t).other.phase ≡ sides.accepted t.other.phase
   pub asked : (sides.misses t).own.asked ≡ min (t.own.asked + 1) 255
@@ -710,18 +710,29 @@ unfolding sides.misses
 misses_is t = record { own = refl; other = refl; other_phase = refl; asked = refl; other_asked = refl }
 
 unheard_own : (w : Way) (m u : ℕ) → Own w m u → Own (way.unheard w) m u
-unheard_own w m u h =
-    let numbered = unheard_numbered w (Own_fit m u) h.numbered in
-    cond_both (way.is_sure w) (way.astray w) w (λ v. Numbered v (Own_fit m u) → Own v m u)
-    (λ _ n. record { seen = refl; next = h.next; ever = h.ever; kept = h.kept; whole = h.whole; numbered = n })
-    (λ _ n. record { seen = h.seen; next = h.next; ever = h.ever; kept = h.kept; whole = h.whole; numbered = n }) numbered
+unheard_own w m u h = record {
+  seen = unheard_seen w.sight h.seen;
+  next = h.next;
+  ever = h.ever;
+  kept = cond-false w.is_missed 0 w.kept h.whole ∙ h.kept;
+  whole = h.whole;
+  numbered = unheard_numbered w (Own_fit m u) h.numbered;
+}
 
 pub unheard_own_if : (w : Way) (m u : ℕ) → OwnIf w m u → OwnIf (way.unheard w) m u
-unheard_own_if w m u (inl unseen) = inl (cond_both (way.is_sure w) (way.astray w) w (λ (v : Way). way.is_unseen v ≡ true) (λ test. absurd (both_ways (way.is_sure w) (unseen_sure w.sight unseen) test)) (λ _. unseen))
+unheard_own_if w m u (inl unseen) = inl (unheard_unseen w.sight unseen)
 unheard_own_if w m u (inr h) = inr (unheard_own w m u h)
 
-pub missed_hears : (w : Way) (g t : ℕ) → Hears w g t → Hears (way.missed w) g t
-missed_hears w g t h = record { numbered = same_numbered w (way.missed w) (Hears_fit g t) (Hears_fit g t) refl refl refl (λ x y next fit. fit) h.numbered; begun = h.begun; none = h.none }
+none_kept : (is_unasked : Bool) (x : ℕ) → x ≡ 0 → (if is_unasked then x else 0) ≡ 0
+none_kept true x e = e
+none_kept false x e = refl
+
+pub missed_hears : (is_unasked : Bool) (w : Way) (g t : ℕ) → Hears w g t → Hears (way.missed is_unasked w) g t
+missed_hears is_unasked w g t h = record {
+  numbered = same_numbered w (way.missed is_unasked w) (Hears_fit g t) (Hears_fit g t) refl refl refl (λ x y next fit. fit) h.numbered;
+  begun = λ hears ever. let (a, b) = h.begun hears ever in (a, none_kept is_unasked w.kept b);
+  none = h.none;
+}
 
 pub misses_seen : (t : Sides) (m u g told : ℕ) → Seen t.other t.own m u g told → Seen (sides.misses t).other (sides.misses t).own m u g told
 misses_seen t m u g told h =
@@ -729,7 +740,7 @@ misses_seen t m u g told h =
     record {
       up = ap sides.may_run s.other_phase ∙ runs_accepted t.other.phase h.up;
       own = subst (λ w. OwnIf w m u) (sym s.other) (unheard_own_if t.other.way m u h.own);
-      hears = subst (λ w. Hears w g told) (sym s.own) (missed_hears t.own.way g told h.hears);
+      hears = subst (λ w. Hears w g told) (sym s.own) (missed_hears (sides.is_unasked t) t.own.way g told h.hears);
     }
 
 failed_seen : (from : Role) (j k : Judge) (m u g t : ℕ) → Past j k (other from) → SeenBy from j m u g t → SeenBy from k m u g t

@@ -97,7 +97,7 @@ bare_held hs (ua f) h = refl
 bare_held hs (dm f) h = refl
 bare_held hs (frmr f why) h = refl
 
-last_of : (xs : List (List ℕ)) (x : List ℕ) (n : ℕ) → length xs ≡ n → slice_get (xs ++ x ∷ []) n ≡ Some x
+pub last_of : (xs : List (List ℕ)) (x : List ℕ) (n : ℕ) → length xs ≡ n → slice_get (xs ++ x ∷ []) n ≡ Some x
 last_of [] x n e = rw (sym e) refl
 last_of (y ∷ xs) x n e = rw (sym e) (last_of xs x (length xs) refl)
 

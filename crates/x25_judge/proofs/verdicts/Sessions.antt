@@ -359,25 +359,25 @@ accepted_awaits phase.Waiting h = tt
 accepted_awaits phase.Answered h = tt
 accepted_awaits phase.Up h = absurd h
 
-missed_own : (p : Phase) (a c : End) (w : Way) → c.asked ≡ a.asked → c.way ≡ way.unheard a.way → RestsOwn p a w → RestsOwn (sides.accepted p) c (way.missed w)
-missed_own phase.Unseen a c w e f r = tt
-missed_own phase.Out a c w e f r = tt
-missed_own phase.Waiting a c w e f r = (subst (λ v. OwnIf v 0 0) (sym f) (unheard_own_if a.way 0 0 r.1), inl (λ z. r.0 (sym e ∙ z)))
-missed_own phase.Answered a c w e f r = (
+missed_own : (k : Bool) (p : Phase) (a c : End) (w : Way) → c.asked ≡ a.asked → c.way ≡ way.unheard a.way → RestsOwn p a w → RestsOwn (sides.accepted p) c (way.missed k w)
+missed_own k phase.Unseen a c w e f r = tt
+missed_own k phase.Out a c w e f r = tt
+missed_own k phase.Waiting a c w e f r = (subst (λ v. OwnIf v 0 0) (sym f) (unheard_own_if a.way 0 0 r.1), inl (λ z. r.0 (sym e ∙ z)))
+missed_own k phase.Answered a c w e f r = (
   subst (λ v. OwnIf v 0 0) (sym f) (unheard_own_if a.way 0 0 r.0),
-  elim r.1 [ inl asked ↦ inl (λ z. asked (sym e ∙ z)) | inr hears ↦ inr (missed_hears w 0 0 hears) ],
+  elim r.1 [ inl asked ↦ inl (λ z. asked (sym e ∙ z)) | inr hears ↦ inr (missed_hears k w 0 0 hears) ],
 )
-missed_own phase.Up a c w e f r = tt
+missed_own k phase.Up a c w e f r = tt
 
-missed_rested : (w : Way) → Rested w → Rested (way.missed w)
-missed_rested w h = record { hears = missed_hears w 0 0 h.hears; none = h.none }
+missed_rested : (k : Bool) (w : Way) → Rested w → Rested (way.missed k w)
+missed_rested k w h = record { hears = missed_hears k w 0 0 h.hears; none = h.none }
 
-missed_other : (p : Phase) (w : Way) → RestsOther p w → RestsOther (sides.unsure p) (way.missed w)
-missed_other phase.Unseen w r = tt
-missed_other phase.Out w r = tt
-missed_other phase.Waiting w r = tt
-missed_other phase.Answered w r = missed_rested w r
-missed_other phase.Up w r = tt
+missed_other : (k : Bool) (p : Phase) (w : Way) → RestsOther p w → RestsOther (sides.unsure p) (way.missed k w)
+missed_other k phase.Unseen w r = tt
+missed_other k phase.Out w r = tt
+missed_other k phase.Waiting w r = tt
+missed_other k phase.Answered w r = missed_rested k w r
+missed_other k phase.Up w r = tt
 
 missed_phase : (t : Sides) → (sides.misses t).own.phase ≡ sides.unsure t.own.phase
 unfolding sides.misses
@@ -389,9 +389,9 @@ missed_fits t stand p way f =
     let v = sides.misses t in
     record {
       asked = subst (λ x. min (asks_all way) 255 ≤ x) (sym s.asked) (more (asks_all way) t.own.asked f.asked);
-      own = subst (λ x. RestsOwn x v.other v.own.way) (sym s.other_phase) (subst (λ w. RestsOwn (sides.accepted t.other.phase) v.other w) (sym s.own) (missed_own t.other.phase t.other v.other t.own.way s.other_asked s.other f.own));
-      other = subst (λ x. RestsOther x v.own.way) (sym (missed_phase t)) (subst (λ w. RestsOther (sides.unsure t.own.phase) w) (sym s.own) (missed_other t.own.phase t.own.way f.other));
-      sabms = sabms_to t.own.way v.own.way way (λ r. subst Rested (sym s.own) (missed_rested t.own.way r)) f.sabms;
+      own = subst (λ x. RestsOwn x v.other v.own.way) (sym s.other_phase) (subst (λ w. RestsOwn (sides.accepted t.other.phase) v.other w) (sym s.own) (missed_own (sides.is_unasked t) t.other.phase t.other v.other t.own.way s.other_asked s.other f.own));
+      other = subst (λ x. RestsOther x v.own.way) (sym (missed_phase t)) (subst (λ w. RestsOther (sides.unsure t.own.phase) w) (sym s.own) (missed_other (sides.is_unasked t) t.own.phase t.own.way f.other));
+      sabms = sabms_to t.own.way v.own.way way (λ r. subst Rested (sym s.own) (missed_rested (sides.is_unasked t) t.own.way r)) f.sabms;
       holds = holds_to t.other t.own v.other v.own stand p way (λ w. subst Awaits (sym s.other_phase) (accepted_awaits t.other.phase w)) (λ m u g told h. misses_seen t m u g told h) f.holds;
     }
   where

@@ -1,9 +1,10 @@
 -- A trace of which nothing is told is a silent tape of `x25_line`.
-use Rattle.std.proofs.Common.{◌≡◌, ◌==◌, inl, inr, ℕ, ◌+◌, ◌-◌, ◌%◌, ◌<◌, ◌≤◌, arith, max, Bool, true, false, if◌then◌else◌, List, [], ◌∷◌, ◌++◌, length, Option, Some, None, Ok, refl, sym, ap, ◌∙◌, subst}
+use Rattle.std.proofs.Common.{◌≡◌, ◌==◌, ◌⊎◌, inl, inr, ℕ, ◌+◌, ◌-◌, ◌%◌, ◌<◌, ◌≤◌, arith, max, Bool, true, false, if◌then◌else◌, List, [], ◌∷◌, ◌++◌, length, Option, Some, None, Ok, refl, sym, ap, ◌∙◌, subst}
 use Rattle.std.specs.Prelude.{slice_get, nat_lt, nat_le, ◌&&◌}
-use Rattle.std.proofs.lemmas.Bool.{eq-eqb, ne_eqb, lt-ltb, le-leb, and_from, cond-true, cond-false}
+use Rattle.std.proofs.lemmas.Bool.{eq-eqb, eqb-true, ne_eqb, lt-ltb, le-leb, and_from, cond-true, cond-false}
 use Rattle.std.proofs.lemmas.List.{length_push}
 use Rattle.x25_bits.specs.declared.role.Role.{Role}
+use Rattle.x25_bits.specs.declared.role.Role.TheVariants.{Dte, Dce}
 use Rattle.x25_bits.specs.Role.{other}
 use Rattle.x25_decode.specs.Decoding.{n1}
 use Rattle.x25_frame.specs.Frame.{PlainFrame, info, rr, rnr, rej, sabm, disc, ua, dm, frmr}
@@ -11,7 +12,7 @@ use Rattle.x25_frame.specs.Reading.{frame_of}
 use Rattle.x25_frame.specs.Spelling.{IsInRange, IsWithin, information_of}
 use Rattle.x25_frame.specs.laws.ReadingLaw.{ReadsWhatIsSpelled}
 use Rattle.x25_line.specs.laws.InWindow.{IsPrefix}
-use Rattle.x25_line.specs.laws.Peer.{Peer, fresh_peer, numbered_to, told_to, hearing, taking}
+use Rattle.x25_line.specs.laws.Peer.{Peer, fresh_peer, MayNumber, MayAcknowledge, MayHear, IsWanted, numbered_to, told_to, hearing, taking}
 use Rattle.x25_line.specs.laws.PeerClaims.{KeepsOrder, OnAnySilentTape}
 use Rattle.x25_line.specs.laws.PeerJoined.{Joined}
 use Rattle.x25_line.specs.laws.Tape as tape
@@ -28,13 +29,15 @@ use Rattle.x25_judge.specs.declared.sides.End.{End}
 use Rattle.x25_judge.specs.declared.sides.Sides.{Sides}
 use Rattle.x25_judge.specs.declared.way.Told.{Told}
 use Rattle.x25_judge.specs.declared.way.Way.{Way}
-use Rattle.x25_judge.specs.laws.Session.{end_of, IsSetUp, IsNumbered}
+use Rattle.x25_judge.specs.laws.Keeping.{MaySend}
+use Rattle.x25_judge.specs.laws.Session.{end_of, IsSetUp, Shows, IsNumbered}
 use Rattle.x25_judge.specs.laws.Watching.{Watched, watched_from, more, IsSilent, Begins, Acts, Says, Comes, Fails}
-use Rattle.x25_judge.specs.laws.VerdictClaims.{SilenceMeansOrder}
+use Rattle.x25_judge.specs.laws.VerdictClaims.{SilenceMeansOrder, SilenceMeansRules}
+use Rattle.x25_judge.specs.laws.Explaining.{IsQuiet, Starts, Follows, IsKept, Fresh, HandsDown, Sends, Hears}
 use Rattle.x25_judge.proofs.verdicts.Silent.{Exact, IsNew, IsOld, IsInOrder, sent_silent, heard_silent}
 use Rattle.x25_judge.proofs.verdicts.Frames.{IsUp, runs_on, AreAlike, Sees, info_sees, ready_sees, reject_sees, first_none}
 use Rattle.x25_judge.proofs.verdicts.Lines.{other_twice, Goes, goes, stands, none_told}
-use Rattle.x25_judge.proofs.verdicts.Octets.{IsHeld, IsSupervisory, begun_held, same_held, new_held, old_held, old_octets, bare_held}
+use Rattle.x25_judge.proofs.verdicts.Octets.{IsHeld, IsSupervisory, begun_held, same_held, new_held, old_held, old_octets, last_of, bare_held}
 
 same_to_itself : (xs : List ℕ) → same_octets xs xs ≡ true
 same_to_itself [] = refl
@@ -99,6 +102,12 @@ taking_new false packet p e = cc
 taking_old : (b : Bool) (packet : List ℕ) (p : Peer) → b ≡ false → length p.taken ≡ length (taking b packet p).taken
 taking_old true packet p e = cc
 taking_old false packet p e = refl
+
+-- the end was handed down a packet or not, and may send the frame
+record Given (p : Peer) (frame : PlainFrame) (q : Peer) : Type 0 where
+  pub before : Peer
+  pub given : (before ≡ p) ⊎ ((packet : List ℕ) × (before ≡ record p { given = p.given ++ packet ∷ [] }))
+  pub may : MaySend before frame q
 
 module _ (r o : Role) (is_o : other r ≡ o) (is_r : other o ≡ r) where
   we_are_up : (j : Judge) (p : Peer) → Knows r o j p → IsUp (sides_of r j)
@@ -174,6 +183,7 @@ module _ (r o : Role) (is_o : other r ≡ o) (is_r : other o ≡ r) where
   -- the rules of the tape tell nothing, and this is known then
   record Passes (k : Judge) (p : Peer) (frame : PlainFrame) : Type 0 where
     pub q : Peer
+    pub sends : Given p frame q
     pub passes : judges (Ok frame) p ≡ Some q
     pub shown : q.given ≡ more frame p.given
     pub knows : Knows r o k q
@@ -215,13 +225,29 @@ module _ (r o : Role) (is_o : other r ≡ o) (is_r : other o ≡ r) where
       number : (x : ℕ) → resolved x nr % 8 ≡ nr
       number x = omega (arith, low)
 
+  -- so it may be said
+  acks_may : (j : Judge) (p : Peer) (frame : PlainFrame) (nr : ℕ) (mine : Way) (last : Option Rule) → nr < 8 → Knows r o j p
+      → Sees (sides_of o j) (seen_by j o frame) nr mine last → (seen_by j o frame).rule ≡ None → MayAcknowledge p nr (resolved p.told nr)
+  acks_may j p frame nr mine last low h s none =
+      let heard = (quiet (sides_of o j) (seen_by j o frame) nr mine last s none).heard in
+      let opposite = ap (λ (e : End). e.way) (stands j o).opposite ∙ ap (λ x. (end_of x j).way) is_r in
+      let a = heard_silent (sides_of o j).other.way (length p.taken) p.told nr (subst (λ w. Exact w (length p.taken) p.told) (sym opposite) h.ours) heard in
+      record { number = number p.told; rising = rising p.told; taken = a.within }
+    where
+      number : (x : ℕ) → nr ≡ resolved x nr % 8
+      number x = omega (arith, low)
+
+      rising : (x : ℕ) → x ≤ resolved x nr
+      rising x = omega arith
+
   theirs_before : (j : Judge) (p : Peer) → Knows r o j p → Exact (sides_of o j).own.way p.sent p.acked
   theirs_before j p h = subst (λ w. Exact w p.sent p.acked) (sym (ap (λ (e : End). e.way) (stands j o).own)) h.own
 
   bare_passes : (j k : Judge) (p : Peer) (frame : PlainFrame) (nr : ℕ) (last : Option Rule) → nr < 8 → IsSupervisory frame → judges (Ok frame) p ≡ judges_ack nr p → more frame p.given ≡ p.given
-      → Knows r o j p → Goes j k o (seen_by j o frame) frame → Sees (sides_of o j) (seen_by j o frame) nr (sides_of o j).own.way last → (seen_by j o frame).rule ≡ None → Passes k p frame
-  bare_passes j k p frame nr last low bare is no_more h g s none = record {
+      → (MayAcknowledge p nr (resolved p.told nr) → MaySend p frame (told_to (resolved p.told nr) p)) → Knows r o j p → Goes j k o (seen_by j o frame) frame → Sees (sides_of o j) (seen_by j o frame) nr (sides_of o j).own.way last → (seen_by j o frame).rule ≡ None → Passes k p frame
+  bare_passes j k p frame nr last low bare is no_more may h g s none = record {
     q = told_to (resolved p.told nr) p;
+    sends = record { before = p; given = inl refl; may = may (acks_may j p frame nr (sides_of o j).own.way last low h s none) };
     passes = is ∙ acks_pass j p p frame nr (sides_of o j).own.way last low h s none refl refl;
     shown = sym no_more;
     knows = comes_at j k p (told_to (resolved p.told nr) p) frame nr (sides_of o j).own.way last h g s none refl refl refl (theirs_before j p h) h.all
@@ -230,6 +256,13 @@ module _ (r o : Role) (is_o : other r ≡ o) (is_r : other o ≡ r) where
 
   -- its I frame passes, new or again
   record Numbers (p u : Peer) (hs : List (List ℕ)) (ns nr : ℕ) (pf : Bool) (packet : List ℕ) (mine : Way) : Type 0 where
+    pub n : ℕ
+    pub before : Peer
+    pub given : (before ≡ p) ⊎ ((packet : List ℕ) × (before ≡ record p { given = p.given ++ packet ∷ [] }))
+    pub same : (before.told ≡ p.told) × (before.taken ≡ p.taken)
+    pub numbered : MayNumber before ns packet n
+    pub in_turn : n ≤ before.sent
+    pub next : u ≡ numbered_to n before
     pub passes : judges_number ns packet p ≡ Some u
     pub acked : u.acked ≡ p.acked
     pub told : u.told ≡ p.told
@@ -244,6 +277,13 @@ module _ (r o : Role) (is_o : other r ≡ o) (is_r : other o ≡ r) where
   new_number j p ns nr pf packet t low h new fits =
       let u = numbered_to p.sent (record p { given = p.given ++ packet ∷ [] }) in
       record {
+        n = p.sent;
+        before = record p { given = p.given ++ packet ∷ [] };
+        given = inr (packet, refl);
+        same = (refl, refl);
+        numbered = record { number = sym (number p.sent new.number); same = last_of p.given packet p.sent h.all; window = new.window; again = omega arith };
+        in_turn = omega arith;
+        next = refl;
         passes = subst (λ n. (if nat_lt n (p.acked + 7) && n % 8 == ns then judges_item n packet p else None) ≡ Some u) (sym (is_next p.sent new.number))
             (cond-true (nat_lt p.sent (p.acked + 7) && p.sent % 8 == ns) (judges_item p.sent packet p) None (and_from (nat_lt p.sent (p.acked + 7)) (p.sent % 8 == ns) (lt-ltb p.sent (p.acked + 7) new.window) (eq-eqb (p.sent % 8) ns (number p.sent new.number)))
             ∙ cond-true (p.sent == p.sent) (Some u) _ (eq-eqb p.sent p.sent refl));
@@ -271,6 +311,13 @@ module _ (r o : Role) (is_o : other r ≡ o) (is_r : other o ≡ r) where
       let n = old.n in
       let same = old_octets (held_of o j) p.given p.sent n ns nr pf packet old.number old.before old.near old.same h.held in
       record {
+        n = n;
+        before = p;
+        given = inl refl;
+        same = (refl, refl);
+        numbered = record { number = sym (number n old.number); same = same; window = within p.sent n t.way.pending old.before old.exact.pending old.exact.few; again = old.near };
+        in_turn = below p.sent n old.before;
+        next = refl;
         passes = subst (λ x. (if nat_lt x (p.acked + 7) && x % 8 == ns then judges_item x packet p else None) ≡ Some (numbered_to n p)) (sym (is_it p.sent n old.number old.before old.near))
             (cond-true (nat_lt n (p.acked + 7) && n % 8 == ns) (judges_item n packet p) None (and_from (nat_lt n (p.acked + 7)) (n % 8 == ns) (lt-ltb n (p.acked + 7) (within p.sent n t.way.pending old.before old.exact.pending old.exact.few)) (eq-eqb (n % 8) ns (number n old.number)))
             ∙ cond-false (n == p.sent) (Some (numbered_to n (record p { given = p.given ++ packet ∷ [] }))) _ (ne_eqb n p.sent (isnt p.sent n old.before))
@@ -296,6 +343,9 @@ module _ (r o : Role) (is_o : other r ≡ o) (is_r : other o ≡ r) where
       isnt : (m n : ℕ) → n < m → n ≡ m → ⊥
       isnt m n lt e = omega arith
 
+      below : (m n : ℕ) → n < m → n ≤ m
+      below m n lt = omega arith
+
       stays : (m n : ℕ) → n < m → m ≡ max m (n + 1)
       stays m n lt = omega arith
 
@@ -312,9 +362,17 @@ module _ (r o : Role) (is_o : other r ≡ o) (is_r : other o ≡ r) where
       let s = info_sees j.window ns nr pf b (sides_of o j) (they_are_up j p h) (stands j o).none in
       go s (sent_silent w p.sent p.acked (theirs_before j p h) ns b j.window pf h.window (quiet (sides_of o j) (seen_by j o frame) nr t.way t.rule s none).sent)
     where
+      acknowledges : (x : Peer) → x.told ≡ p.told → x.taken ≡ p.taken → MayAcknowledge p nr (resolved p.told nr) → MayAcknowledge x nr (resolved p.told nr)
+      acknowledges x e f m = record { number = m.number; rising = subst (λ y. y ≤ resolved p.told nr) (sym e) m.rising; taken = subst (λ (y : List (List ℕ)). resolved p.told nr ≤ length y) (sym f) m.taken }
+
       passed : (u : Peer) (t : Told) → Sees (sides_of o j) (seen_by j o (info ns nr pf packet)) nr t.way t.rule → Numbers p u (held_of o j) ns nr pf packet t.way → Passes k p (info ns nr pf packet)
       passed u t s n = record {
         q = told_to (resolved p.told nr) u;
+        sends = record {
+          before = n.before;
+          given = n.given;
+          may = (n.n, resolved p.told nr, n.numbered, n.in_turn, fits, acknowledges n.before n.same.0 n.same.1 (acks_may j p (info ns nr pf packet) nr t.way t.rule range.1 h s none), ap (told_to (resolved p.told nr)) n.next);
+        };
         passes = ap (then_ack nr) n.passes ∙ acks_pass j p u (info ns nr pf packet) nr t.way t.rule range.1 h s none n.told n.taken;
         shown = n.shown;
         knows = comes_at j k p (told_to (resolved p.told nr) u) (info ns nr pf packet) nr t.way t.rule h g s none n.acked n.taken refl n.exact n.all n.held;
@@ -324,11 +382,11 @@ module _ (r o : Role) (is_o : other r ≡ o) (is_r : other o ≡ r) where
           → IsInOrder (way.sent j.window ns pf (is_same (held_of o j) (info ns nr pf packet)) (sides_of o j).own.way) (is_same (held_of o j) (info ns nr pf packet)) ns p.sent p.acked → Passes k p (info ns nr pf packet)
       go s (inl new) = passed (numbered_to p.sent (record p { given = p.given ++ packet ∷ [] })) (way.sent j.window ns pf (is_same (held_of o j) (info ns nr pf packet)) (sides_of o j).own.way) s (new_number j p ns nr pf packet _ range.0 h new fits)
       go s (inr old) = passed (numbered_to old.n p) (way.sent j.window ns pf (is_same (held_of o j) (info ns nr pf packet)) (sides_of o j).own.way) s (old_number j p ns nr pf packet _ range.0 h old fits)
-  comes j k p (rr command nr pf) range fits is h g none = bare_passes j k p (rr command nr pf) nr None range tt refl refl h g (ready_sees command nr pf (sides_of o j) (they_are_up j p h) (stands j o).none) none
-  comes j k p (rnr command nr pf) range fits is h g none = bare_passes j k p (rnr command nr pf) nr None range tt refl refl h g (ready_sees command nr pf (sides_of o j) (they_are_up j p h) (stands j o).none) none
+  comes j k p (rr command nr pf) range fits is h g none = bare_passes j k p (rr command nr pf) nr None range tt refl refl (λ may. (resolved p.told nr, may, refl)) h g (ready_sees command nr pf (sides_of o j) (they_are_up j p h) (stands j o).none) none
+  comes j k p (rnr command nr pf) range fits is h g none = bare_passes j k p (rnr command nr pf) nr None range tt refl refl (λ may. (resolved p.told nr, may, refl)) h g (ready_sees command nr pf (sides_of o j) (they_are_up j p h) (stands j o).none) none
   comes j k p (rej command nr pf) range fits is h g none =
       let s = reject_sees command nr pf (sides_of o j) (they_are_up j p h) (stands j o).none in
-      bare_passes j k p (rej command nr pf) nr s.last range tt refl refl h g s.sees none
+      bare_passes j k p (rej command nr pf) nr s.last range tt refl refl (λ may. (resolved p.told nr, may, refl)) h g s.sees none
   comes j k p (sabm b) range fits is h g none = absurd is
   comes j k p (disc b) range fits is h g none = absurd is
   comes j k p (ua f) range fits is h g none = absurd is
@@ -426,3 +484,78 @@ pub silence_means_order : ReadsWhatIsSpelled → OnAnySilentTape KeepsOrder → 
 silence_means_order reads order c low high longest w silent once =
     let e = explained reads c longest w silent in
     subst (λ (given : List (List ℕ)). IsPrefix w.near.up given) e.given (order c low high (joined w e.p) e.silent once).up
+
+-- ---- the lines of an end
+
+record Kept (from : Role) (j : Judge) (lines : List (List ℕ)) : Type 0 where
+  pub p : Peer
+  pub kept : IsKept from lines p
+  pub knows : Knows (other from) from j p
+
+fresh_knows : (from : Role) (j : Judge) → IsSetUp j → j.window ≤ 7 → Knows (other from) from j fresh_peer
+fresh_knows from j up small = record {
+  window = small;
+  up = (up from).up;
+  our_up = (up (other from)).up;
+  own = fresh_exact (end_of from j).way (up from).way;
+  ours = fresh_exact (end_of (other from) j).way (up (other from)).way;
+  all = refl;
+  held = begun_held (held_of from j) (up from).room;
+}
+  where
+    fresh_exact : (w : Way) → w ≡ way.fresh true → Exact w 0 0
+    fresh_exact w is = subst (λ x. Exact x 0 0) (sym is) (record { sure = refl; whole = refl; next = refl; ever = refl; kept = refl; pending = refl; few = omega arith; behind = omega arith })
+
+wanted : (b : Bool) (ns : ℕ) (p : Peer) → (ns == length p.taken % 8) ≡ b → IsWanted b ns p
+wanted true ns p e = eqb-true ns (length p.taken % 8) e
+wanted false ns p e = tt
+
+may_note : (frame : PlainFrame) (p : Peer) → MayHear p (Ok frame) (notes (Ok frame) p)
+may_note (info ns nr pf packet) p = (true, ns == length p.taken % 8, heard (ns == length p.taken % 8) (wanted (ns == length p.taken % 8) ns p refl), refl)
+  where
+    heard : (b : Bool) → IsWanted b ns p → IsWanted b ns p
+    heard b h = h
+may_note (rr command nr pf) p = (true, refl)
+may_note (rnr command nr pf) p = (true, refl)
+may_note (rej command nr pf) p = (true, refl)
+may_note (sabm b) p = refl
+may_note (disc b) p = refl
+may_note (ua f) p = refl
+may_note (dm f) p = refl
+may_note (frmr f why) p = refl
+
+given_kept : (from : Role) (lines : List (List ℕ)) (p u : Peer) → (u ≡ p) ⊎ ((packet : List ℕ) × (u ≡ record p { given = p.given ++ packet ∷ [] })) → IsKept from lines p → IsKept from lines u
+given_kept from lines p u (inl e) h = subst (λ (x : Peer). IsKept from lines x) (sym e) h
+given_kept from lines p u (inr (packet, e)) h = subst (λ (x : Peer). IsKept from lines x) (sym e) (HandsDown lines p packet h)
+
+own_line : ReadsWhatIsSpelled → (from : Role) (j : Judge) (lines : List (List ℕ)) (line octets : List ℕ) (frame : PlainFrame) → Shows line from octets frame → IsNumbered frame → (answer_to j line).is_faulty ≡ false
+    → Kept from j lines → Kept from (answer_to j line).next (lines ++ line ∷ [])
+own_line reads from j lines line octets frame shows is untold e =
+    let spelled = (reads from n1 frame octets shows.low).0 shows.reads in
+    let none = none_told j line from octets frame shows untold in
+    let x = comes (other from) from (other_twice from) refl j (answer_to j line).next e.p frame spelled.in_range (has_room frame spelled.within) is e.knows (goes j line from octets frame shows) none in
+    record { p = x.q; kept = Sends lines x.sends.before x.q line octets frame shows x.sends.may (given_kept from lines e.p x.sends.before x.sends.given e.kept); knows = x.knows }
+
+other_line : ReadsWhatIsSpelled → (from : Role) (j : Judge) (lines : List (List ℕ)) (line octets : List ℕ) (frame : PlainFrame) → Shows line (other from) octets frame → IsNumbered frame → (answer_to j line).is_faulty ≡ false
+    → Kept from j lines → Kept from (answer_to j line).next (lines ++ line ∷ [])
+other_line reads from j lines line octets frame shows is untold e =
+    let spelled = (reads (other from) n1 frame octets shows.low).0 shows.reads in
+    let none = none_told j line (other from) octets frame shows untold in
+    record {
+      p = notes (Ok frame) e.p;
+      kept = Hears lines e.p (notes (Ok frame) e.p) line octets frame shows (may_note frame e.p) e.kept;
+      knows = says (other from) from (other_twice from) refl j (answer_to j line).next e.p frame spelled.in_range is e.knows (goes j line (other from) octets frame shows) none;
+    }
+
+kept : ReadsWhatIsSpelled → (from : Role) (j : Judge) (lines : List (List ℕ)) → IsQuiet j lines → Kept from j lines
+kept reads from j lines (Starts k up small) = record { p = fresh_peer; kept = Fresh; knows = fresh_knows from j up small }
+kept reads from k all (Follows j lines line end octets frame shows is untold h) = go from end shows (kept reads from j lines h)
+  where
+    go : (from end : Role) → Shows line end octets frame → Kept from j lines → Kept from (answer_to j line).next (lines ++ line ∷ [])
+    go Dte Dte shows e = own_line reads Dte j lines line octets frame shows is untold e
+    go Dce Dce shows e = own_line reads Dce j lines line octets frame shows is untold e
+    go Dte Dce shows e = other_line reads Dte j lines line octets frame shows is untold e
+    go Dce Dte shows e = other_line reads Dce j lines line octets frame shows is untold e
+
+pub silence_means_rules : ReadsWhatIsSpelled → SilenceMeansRules
+silence_means_rules reads from j lines quiet = let k = kept reads from j lines quiet in (k.p, k.kept)

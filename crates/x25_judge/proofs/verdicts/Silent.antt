@@ -1,7 +1,7 @@
 -- Where no rule is told, the numbers are those of an end that keeps the rules.
 use Rattle.std.proofs.Common.{◌≡◌, ◌==◌, ◌⊎◌, inl, inr, ℕ, ◌+◌, ◌-◌, ◌%◌, ◌<◌, ◌≤◌, arith, min, Bool, true, false, if◌then◌else◌, Some, None, refl, ap, ◌∙◌}
 use Rattle.std.specs.Prelude.{nat_le, nat_lt, ◌&&◌, ◌||◌, not}
-use Rattle.std.proofs.lemmas.Bool.{eqb-true, leb-true, leb-false, ltb-true, ltb-false, le-leb, le-ltb, and_parts, and_from, and_cases, or_cases, both_ways, not-true, not-false, cond_both}
+use Rattle.std.proofs.lemmas.Bool.{eqb-true, leb-true, leb-false, ltb-true, ltb-false, le-leb, le-ltb, and_parts, and_from, and_cases, or_left, or_cases, both_ways, not-true, not-false, cond_both}
 use Rattle.x25_judge.specs.Way as way
 use Rattle.x25_judge.specs.declared.note.Note.TheVariants.{SentAgain, SentBehindDamage, HeardBehindDamage}
 use Rattle.x25_judge.specs.declared.rule.Rule.{Rule}
@@ -138,24 +138,24 @@ module _ (w : Way) (m u : ℕ) (h : Exact w m u) where
         counted : (b x : ℕ) → b ≤ 7 → b ≤ m → x ≡ min m 255 → b ≤ x
         counted b x low there is = omega arith
 
-        is_kept : (nat_le back w.kept && not w.is_missed) ≡ true
-        is_kept = and_from (nat_le back w.kept) (not w.is_missed) (le-leb back w.kept (counted back w.kept low there h.kept)) (ap not h.whole)
+        is_kept : (nat_le back w.kept && (not w.is_missed || way.is_full (9 - back) w)) ≡ true
+        is_kept = and_from (nat_le back w.kept) (not w.is_missed || way.is_full (9 - back) w) (le-leb back w.kept (counted back w.kept low there h.kept)) (or_left (not w.is_missed) (way.is_full (9 - back) w) (ap not h.whole))
 
-        same : (not is_same && (nat_le back w.kept && not w.is_missed)) ≡ false → is_same ≡ true
-        same test = go (and_cases (not is_same) (nat_le back w.kept && not w.is_missed) test)
+        same : (not is_same && (nat_le back w.kept && (not w.is_missed || way.is_full (9 - back) w))) ≡ false → is_same ≡ true
+        same test = go (and_cases (not is_same) (nat_le back w.kept && (not w.is_missed || way.is_full (9 - back) w)) test)
           where
-            go : ((not is_same ≡ false) ⊎ ((nat_le back w.kept && not w.is_missed) ≡ false)) → is_same ≡ true
+            go : ((not is_same ≡ false) ⊎ ((nat_le back w.kept && (not w.is_missed || way.is_full (9 - back) w)) ≡ false)) → is_same ≡ true
             go (inl e) = not-false is_same e
-            go (inr e) = absurd (both_ways (nat_le back w.kept && not w.is_missed) e is_kept)
+            go (inr e) = absurd (both_ways (nat_le back w.kept && (not w.is_missed || way.is_full (9 - back) w)) e is_kept)
 
     unexplained_silent : P (way.unexplained is_same back w)
     unexplained_silent =
         cond_both (back == 0) (way.skips (way.has_room 1 w) 1 w) _ P
         (λ _. skips_never (way.has_room 1 w) 1)
-        (λ _. cond_both (way.is_other is_same back w) (if way.has_room (9 - back) w then way.skips true (9 - back) w else way.told_again (way.repeated back w) Differs w) _ P
-        (λ _. cond_both (way.has_room (9 - back) w) (way.skips true (9 - back) w) (way.told_again (way.repeated back w) Differs w) P
+        (λ _. cond_both (way.is_other is_same back w) (if way.has_room (9 - back) w then way.skips true (9 - back) w else way.sent_before (way.breaks Differs (way.repeated back w))) _ P
+        (λ _. cond_both (way.has_room (9 - back) w) (way.skips true (9 - back) w) (way.sent_before (way.breaks Differs (way.repeated back w))) P
         (λ _. skips_never true (9 - back))
-        (λ _. again_never Differs))
+        (λ _ e. never_told Differs e))
         (λ _. cond_both (nat_lt back w.behind) (way.told_again (way.repeated back w) (Skips (way.place w)) w) _ P
         (λ _. again_never (Skips (way.place w)))
         (λ _. cond_both (way.was_sent is_same back w) (way.told_again (way.repeated back w) (Repeats (way.place w)) w) (way.skips (nat_le back w.ever || way.has_room (9 - back) w) (9 - back) w) P

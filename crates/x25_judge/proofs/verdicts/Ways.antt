@@ -64,9 +64,15 @@ same_numbered w v Fit Fits sight next pending fits h = record { counts = λ hear
 
 -- an N(R) of the other end may have been missed
 pub unheard_numbered : (w : Way) (Fit : ℕ → ℕ → Type 0) → Numbered w Fit → Numbered (way.unheard w) Fit
-unheard_numbered w Fit h = cond_both (way.is_sure w) (way.astray w) w (λ v. Numbered v Fit) (λ sure. record { counts = λ _. go (h.counts (sure_hears w.sight sure)) }) (λ _. h)
+unheard_numbered w Fit h = record { counts = λ hears. go (h.counts (heard w.sight hears)) }
   where
-    go : ((m : ℕ) × (u : ℕ) × Fit m u × Counts w m u) → (m : ℕ) × (u : ℕ) × Fit m u × Counts (way.astray w) m u
+    heard : (s : Sight) → way.may_hear_sight (if way.is_sure_sight s then Astray else s) ≡ true → way.may_hear_sight s ≡ true
+    heard Unseen e = e
+    heard Deaf e = e
+    heard Astray e = refl
+    heard Sure e = refl
+
+    go : ((m : ℕ) × (u : ℕ) × Fit m u × Counts w m u) → (m : ℕ) × (u : ℕ) × Fit m u × Counts (way.unheard w) m u
     go (m, u, fit, c) = (m, u, fit, record { next = c.next; pending = c.pending; few = c.few })
 
 -- ---- an N(R) in range
@@ -209,10 +215,10 @@ module _ (w : Way) (Fit Fits : ℕ → ℕ → Type 0) (h : Numbered w Fit) (mor
         cond_both (back == 0) (way.skips (way.has_room 1 w) 1 w) _ P
         (λ test. skips_numbered (way.has_room 1 w) 1 (omega arith) (omega arith))
         (λ test. let gone = some_back (apart_low w.next ns) test in
-        cond_both (way.is_other is_same back w) (if way.has_room (9 - back) w then way.skips true (9 - back) w else way.told_again (way.repeated back w) Differs w) _ P
-        (λ _. cond_both (way.has_room (9 - back) w) (way.skips true (9 - back) w) (way.told_again (way.repeated back w) Differs w) P
+        cond_both (way.is_other is_same back w) (if way.has_room (9 - back) w then way.skips true (9 - back) w else way.sent_before (way.breaks Differs (way.repeated back w))) _ P
+        (λ _. cond_both (way.has_room (9 - back) w) (way.skips true (9 - back) w) (way.sent_before (way.breaks Differs (way.repeated back w))) P
         (λ _. skips_numbered true (9 - back) (one back (apart_low w.next ns)) (eight back gone))
-        (λ _. told_again_way (way.repeated back w) w Differs (λ v. Numbered v Fits) (repeated_numbered gone)))
+        (λ _. repeated_numbered gone))
         (λ _. cond_both (nat_lt back w.behind) (way.told_again (way.repeated back w) (Skips (way.place w)) w) _ P
         (λ _. told_again_way (way.repeated back w) w (Skips (way.place w)) (λ v. Numbered v Fits) (repeated_numbered gone))
         (λ _. cond_both (way.was_sent is_same back w) (way.told_again (way.repeated back w) (Repeats (way.place w)) w) (way.skips (nat_le back w.ever || way.has_room (9 - back) w) (9 - back) w) P

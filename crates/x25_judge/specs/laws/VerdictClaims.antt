@@ -14,6 +14,7 @@ use Rattle.x25_line.specs.laws.Peer.{Peer}
 use Rattle.x25_link.specs.Hearing.{other}
 use Rattle.x25_link.specs.Station.{Settings}
 use Rattle.x25_sessions.specs.laws.PeerSessions.{Stand}
+use Rattle.x25_judge.specs.laws.Explaining.{IsQuiet, IsKept}
 use Rattle.x25_judge.specs.laws.Keeping.{MaySend, MayBe}
 use Rattle.x25_judge.specs.laws.Sessions.{MaySay, MayStand}
 use Rattle.x25_judge.specs.laws.Session.{end_of, IsSetUp, Shows, IsNumbered, rule_of, is_of_order}
@@ -45,6 +46,11 @@ abbrev pub SilenceMeansOrder : Type 0
 SilenceMeansOrder =
     (c : Settings) → 1 ≤ c.window → c.window ≤ 7 → c.longest ≡ n1 → (w : Watched) → IsSilent c w
     → w.near.came_up ≡ false → IsPrefix w.near.up w.shown
+
+-- and the lines of each end are those of an end that keeps the rules
+abbrev pub SilenceMeansRules : Type 0
+SilenceMeansRules =
+    (from : Role) (j : Judge) (lines : List (List ℕ)) → IsQuiet j lines → (p : Peer) × IsKept from lines p
 
 -- what the judge is behind these lines
 abbrev pub after : Judge → List (List ℕ) → Judge
