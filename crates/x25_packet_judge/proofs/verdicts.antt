@@ -12,3 +12,4 @@ pub mod Books
 pub mod Parts
 pub mod Dark
 pub mod Tapes
+pub mod Clearings

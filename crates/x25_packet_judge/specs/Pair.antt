@@ -136,13 +136,17 @@ is_up terms t = with_other (port.set_up Answered false terms (accepted_by t.from
     (with_own (port.set_up Open true terms port.fresh) t)
 
 -- CALL ACCEPTED behind a CALL makes the channel known, where not both ends called, no CLEAR of the end that accepts may
--- still be confirmed, and no fault left open which CALL it is.
+-- still be confirmed, and nothing left open which CALL it is.
 abbrev pub may_find_call : Pair → Bool
 may_find_call t = port.is_calling t.other.call
     && (t.other.owed == 0 && (not (port.is_calling t.own.call) && not (is_doubtful t)))
 
+-- one that may answer no CALL may be taken for the answer to a later one
+abbrev pub accepts_unknown : Pair → Pair
+accepts_unknown t = reaching (port.doubted t.other) (settles (hastens t))
+
 abbrev pub finds_call : List ℕ → Pair → Pair
-finds_call field t = if may_find_call t then is_up (said field t.other.terms) t else settles (hastens t)
+finds_call field t = if may_find_call t then is_up (said field t.other.terms) t else accepts_unknown t
 
 -- ---- setting up (sections 4.1.2 to 4.1.6)
 

@@ -2,4 +2,5 @@
 pub mod Keeping
 pub mod Watching
 pub mod Tape
+pub mod Clearing
 pub mod VerdictClaims

@@ -2,7 +2,7 @@
 //! Each law is the contract of a function that does nothing.
 ghost use Rattle.x25_packet_judge.specs.laws.VerdictClaims.{BooksTellOfChannels, CallsBegin, NoEndingIsTold};
 ghost use Rattle.x25_packet_judge.specs.laws.VerdictClaims.{NoEndOfTapeIsTold, NoInnocentPacketIsTold};
-ghost use Rattle.x25_packet_judge.specs.laws.VerdictClaims.{NoInnocentTapeIsTold, ResetsBegin};
+ghost use Rattle.x25_packet_judge.specs.laws.VerdictClaims.{NoInnocentTapeIsTold, NoNextCallIsTold, ResetsBegin};
 ghost use Rattle.x25_packet_judge.specs.laws.VerdictClaims.{SilentPacketsKeepTheRules, StretchesFollow, TapesBegin};
 
 /// In a call, of an end that keeps the rules of docs/PEER.md neither a rule nor manners are told, in one stretch and in
@@ -30,6 +30,11 @@ pub fn calls_begin()
 /// RESET and its confirmation, where a call is up, begin another.
 pub fn resets_begin()
     ensures { ResetsBegin }
+{}
+
+/// Nor are they told of its next call, where the other end has confirmed its CLEAR, or it has confirmed the other's.
+pub fn next_calls_stay_untold()
+    ensures { NoNextCallIsTold }
 {}
 
 /// Where RESET is confirmed, whichever end sent it, the end stands at the beginning of the next stretch.

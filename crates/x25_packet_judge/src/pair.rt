@@ -268,6 +268,13 @@ impl Pair {
             && (self.other.owed == 0 && (!self.own.is_calling() && !self.is_doubtful()))
     }
 
+    /// An acceptance that may answer no CALL may be taken for the answer to a later one.
+    fn accepts_unknown(self) -> Pair
+        ensures { result ≡ definition.accepts_unknown self }
+    {
+        self.hastens().settles().reaching(self.other.doubted())
+    }
+
     /// An acceptance of a CALL makes the channel known, where not both ends called.
     pub(crate) fn finds_call(self, field: &[u8]) -> Pair
         ensures { result ≡ definition.finds_call field.now self }
@@ -275,7 +282,7 @@ impl Pair {
         if self.may_find_call() {
             self.is_up(self.other.terms.said(field))
         } else {
-            self.hastens().settles()
+            self.accepts_unknown()
         }
     }
 

@@ -363,7 +363,9 @@ module _ (t : Pair) (way : List PlainPacket) where
   talking_comes window most g c (interrupt_conf channel) s = s
   talking_comes window most g c (call channel called calling facilities user) s = s
   talking_comes window most g c (accept channel facilities) s = s
-  talking_comes window most g c (clear_conf channel) s = s
+  talking_comes window most g c (clear_conf channel) (inl l) = absurd (none_left _ way l.on)
+  talking_comes window most g c (clear_conf channel) (inr (inl w)) = absurd w.over
+  talking_comes window most g c (clear_conf channel) (inr (inr k)) = inr (inr k)
   talking_comes window most g c restart_conf s = s
 
   resets_comes : (window most : ℕ) (packet : PlainPacket) → Standing t (Resets window most) (packet ∷ way) → Standing t (comes (Resets window most) packet) way
@@ -381,7 +383,8 @@ module _ (t : Pair) (way : List PlainPacket) where
   resets_comes window most (interrupt_conf channel) s = s
   resets_comes window most (call channel called calling facilities user) s = s
   resets_comes window most (accept channel facilities) s = s
-  resets_comes window most (clear_conf channel) s = s
+  resets_comes window most (clear_conf channel) (inl s) = absurd s
+  resets_comes window most (clear_conf channel) (inr k) = inr k
   resets_comes window most restart_conf s = s
 
   pub standing_comes : (s : Phase) (packet : PlainPacket) → MayTake s → Standing t s (packet ∷ way) → Standing t (comes s packet) way

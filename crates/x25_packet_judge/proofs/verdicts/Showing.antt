@@ -14,6 +14,7 @@ use Rattle.x25_packet_judge.specs.Terms.{said, usual}
 use Rattle.x25_packet_judge.specs.declared.pair.Pair.{Pair}
 use Rattle.x25_packet_judge.specs.declared.port.Call.{Call}
 use Rattle.x25_packet_judge.specs.declared.port.Call.TheVariants.{Idle, Called, Calling, Collided, Answered, Open}
+use Rattle.x25_packet_judge.specs.declared.port.Port.{Port}
 use Rattle.x25_packet_judge.specs.declared.port.Talk.{Talk}
 use Rattle.x25_packet_judge.specs.declared.terms.Terms.{Terms}
 use Rattle.x25_packet_judge.specs.laws.Keeping.{Given, Come, takes, IsOfChannel}
@@ -225,6 +226,9 @@ gone_unknown packet v k = go packet
     hastened : (P : Pair → Pair) → Gone (P v).other → Gone (P (pair.with_own (port.doubted v.own) v)).other → Gone (P (pair.hastens v)).other
     hastened P h j = cond_both (v.own.is_clearing || port.is_calling v.own.call) _ v (λ (w : Pair). Gone (P w).other) (λ _. j) (λ _. h)
 
+    doubted : (own : Port) → Gone (pair.reaching (port.doubted v.other) (pair.with_own own v)).other
+    doubted own = cond_both v.reaches _ _ (λ (w : Pair). Gone w.other) (λ _. record { known = k.known; clearing = k.clearing; call = k.call }) (λ _. k)
+
     sure_not : pair.is_sure_answer v ≡ false
     sure_not = rw (k.clearing) refl
 
@@ -236,7 +240,10 @@ gone_unknown packet v k = go packet
     go (clear_conf channel) = subst (λ (w : Pair). Gone w.other) (sym (cond-false (pair.is_sure_answer v) _ _ sure_not))
         (cond_both v.reaches _ _ (λ (w : Pair). Gone w.other) (λ _. record { known = k.known; clearing = refl; call = k.call }) (λ _. k))
     go (call channel called calling facilities user) = hastened (pair.calls_unknown (said facilities usual)) k k
-    go (accept channel facilities) = subst (λ (w : Pair). Gone w.other) (sym (cond-false (pair.may_find_call v) _ _ (and_left (port.is_calling v.other.call) _ calling_not))) (hastened pair.settles k k)
+    go (accept channel facilities) =
+        subst (λ (w : Pair). Gone w.other)
+        (sym (cond-false (pair.may_find_call v) _ (pair.accepts_unknown v) (and_left (port.is_calling v.other.call) _ calling_not)))
+        (hastened (λ (w : Pair). pair.reaching (port.doubted v.other) (pair.settles w)) (doubted (port.settled v.own)) (doubted (port.settled (port.doubted v.own))))
     go (restart cause diagnostic) = k
     go restart_conf = k
     go (user_data channel q m ps pr user) = hastened pair.settles k k

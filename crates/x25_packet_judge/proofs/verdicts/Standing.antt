@@ -31,6 +31,7 @@ abbrev pub ends : PlainPacket → Bool
 ends (reset channel cause diagnostic) = true
 ends (reset_conf channel) = true
 ends (clear channel cause diagnostic) = true
+ends (clear_conf channel) = true
 ends (restart cause diagnostic) = true
 ends packet = false
 

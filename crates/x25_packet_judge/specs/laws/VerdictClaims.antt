@@ -13,6 +13,7 @@ use Rattle.x25_packet_judge.specs.declared.pair.Pair.{Pair}
 use Rattle.x25_packet_judge.specs.declared.port.Call.TheVariants.{Idle}
 use Rattle.x25_packet_judge.specs.declared.port.Port.{Port}
 use Rattle.x25_packet_judge.specs.declared.terms.Terms.{Terms}
+use Rattle.x25_packet_judge.specs.laws.Clearing.{IsReady}
 use Rattle.x25_packet_judge.specs.laws.Keeping.{Given, Come, Phase, MayDo, MayEnd, IsOfChannel, MayBe}
 use Rattle.x25_packet_judge.specs.laws.Keeping.{IsBegun, AreBegun, fresh_phase, next, turned}
 use Rattle.x25_packet_judge.specs.laws.Tape.{MayStand, all_in_call}
@@ -113,3 +114,11 @@ abbrev pub TapesBegin : Type 0
 TapesBegin =
     (from : Role) (channel : ℕ) (p : Port) → IsBegun p
     → MayStand from channel (all_in_call p) (fresh_phase p.talk.window p.talk.most) []
+
+-- ---- behind a clear
+
+-- nor of the call of an end whose CLEAR was confirmed, or that confirmed the one that came
+abbrev pub NoNextCallIsTold : Type 0
+NoNextCallIsTold =
+    (t : Pair) (channel : ℕ) (to from facilities user : List ℕ) → IsReady t
+    → (sends (call channel to from facilities user) t).rule ≡ None
