@@ -1,5 +1,5 @@
 //! Lines that tell of entries, of frames and of refusals.
-ghost use Rattle.std.specs.Prelude.{◌≡◌, ◌≤◌, ◌+◌, ◌++◌, ℕ, List, Option, OnOk, OnErr, MatchResult, length, map};
+ghost use Rattle.std.specs.Prelude.{◌≡◌, ◌≤◌, ◌+◌, ◌++◌, ℕ, List, Option, IsErrOf, OnOk, OnErr, MatchResult, length, map};
 ghost use Rattle.x25_console.specs.Telling.{entries_text, frame_line, nothing_line, refusal_line};
 ghost use Rattle.x25_io.specs.code.MarksFaults.{MarksFaults};
 ghost use Rattle.x25_io.specs.code.Written.{AppendsPrefix, Tells, TellsMore};
@@ -21,6 +21,7 @@ const LINE: usize = 8_209;
 pub fn tell<W: Sink>(line: &[u8], output: &mut Output, writer: &mut W) -> Result<(), Fault>
     ensures tells { TellsMore result (W.contents writer.old) (W.contents writer.new) output.old output.new line.now }
     ensures faults { MarksFaults W.Sink writer.old writer.new result }
+    ensures memory { IsErrOf result Fault.NoMemory → ⊥ }
 {
     Ok(output.tell(line, writer)?)
 }
@@ -30,6 +31,7 @@ pub fn tell_nothing<W: Sink>(output: &mut Output, writer: &mut W) -> Result<(), 
     ensures tells { TellsMore result (W.contents writer.old) (W.contents writer.new) output.old output.new
         nothing_line }
     ensures faults { MarksFaults W.Sink writer.old writer.new result }
+    ensures memory { IsErrOf result Fault.NoMemory → ⊥ }
 {
     tell(b"? 60\n", output, writer)
 }
@@ -109,6 +111,7 @@ pub fn tell_refusal<W: Sink>(number: u8, output: &mut Output, writer: &mut W) ->
     ensures tells { TellsMore result (W.contents writer.old) (W.contents writer.new) output.old output.new
         (refusal_line number) }
     ensures faults { MarksFaults W.Sink writer.old writer.new result }
+    ensures memory { IsErrOf result Fault.NoMemory → ⊥ }
 {
     output.make_room(LINE, writer)?;
     push_refusal(number, output.text());
