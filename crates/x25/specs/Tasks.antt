@@ -14,8 +14,7 @@ use Rattle.x25_judge.specs.code.Stream as judging
 use Rattle.x25_pipe.specs.code.Stream as piping
 use Rattle.x25_settings.specs.declared.options.End.{End}
 use Rattle.x25_settings.specs.declared.options.End.TheVariants.{Dte, Dce}
-use Rattle.x25_settings.specs.declared.options.Place.{Place}
-use Rattle.x25_settings.specs.declared.options.Simulation.{Simulation}
+use Rattle.x25_settings.specs.declared.options.StationOptions.{StationOptions}
 use Rattle.x25_settings.specs.declared.words.Task.{Task}
 use Rattle.x25_settings.specs.declared.words.Task.TheVariants.{Decode, Vectors, Sim, Station, Judge, Deframe, Frame}
 use Rattle.x25_sim.specs.code.Stream as simulating
@@ -23,8 +22,8 @@ use Rattle.x25_sim.specs.laws.WritesRun.{WritesRun}
 use Rattle.x25_station.specs.declared.config.Cfg.{Cfg}
 use Rattle.x25_station.specs.Config.{settings_from}
 
--- the settings of both stations
-abbrev pub settings_in : Simulation → Cfg
+-- the settings of a station
+abbrev pub settings_in : StationOptions → Cfg
 settings_in s = record {
   k = s.k;
   n2 = s.n2;
@@ -34,20 +33,9 @@ settings_in s = record {
   wide = s.wide;
 }
 
--- an end, and the settings of a station there
 abbrev pub role_in : End → Role
 role_in Dte = role.Dte
 role_in Dce = role.Dce
-
-abbrev pub cfg_in : Place → Cfg
-cfg_in p = record {
-  k = p.k;
-  n2 = p.n2;
-  channels = p.channels;
-  long_data = p.long;
-  say_sizes = p.say_sizes;
-  wide = p.wide;
-}
 
 -- the program that does a task; `vectors` reads nothing
 abbrev pub program_of : Task → Program
@@ -57,8 +45,8 @@ program_of Vectors = record {
   status = λ _. if are_right then 0 else 1;
   Ended = λ _ _ _ _. ⊥;
 }
-program_of (Sim s) = simulating.program (settings_in s) s.down s.tap
-program_of (Station p) = piping.program (settings_from (role_in p.end) (cfg_in p))
+program_of (Sim s) = simulating.program (settings_in s.station) s.down s.tap
+program_of (Station p) = piping.program (settings_from (role_in p.end) (settings_in p.station))
 program_of (Judge g) = judging.program (begins g.k (record { long = g.long; wide = g.wide })
     (record { unjudged = g.strict; manners = g.manners }))
 program_of (Deframe end) = deframing.program (role_in end)
@@ -68,7 +56,7 @@ program_of Frame = framing.program
 abbrev pub WritesScript : Task → List ℕ → Option (List ℕ) → Option (List ℕ) → Type 0
 WritesScript (Decode long wide) script old now = ⊤
 WritesScript Vectors script old now = ⊤
-WritesScript (Sim s) script old now = WritesRun (settings_in s) s.down s.tap script old now
+WritesScript (Sim s) script old now = WritesRun (settings_in s.station) s.down s.tap script old now
 WritesScript (Station p) script old now = ⊤
 WritesScript (Judge g) script old now = ⊤
 WritesScript (Deframe end) script old now = ⊤

@@ -1,6 +1,6 @@
 //! What each task does, over any reader and writer.
 ghost use Rattle.std.specs.Prelude.{◌≡◌, true, IsErrOf, OnOk};
-ghost use Rattle.x25.specs.Tasks.{WritesScript, cfg_in, is_plain, program_of, role_in, settings_in};
+ghost use Rattle.x25.specs.Tasks.{WritesScript, is_plain, program_of, role_in, settings_in};
 ghost use Rattle.x25_io.specs.code.Runs.{OfInput, Runs};
 ghost use Rattle.x25_pipe.specs.code.Stream as piping;
 ghost use Rattle.x25_settings.specs.Options as options;
@@ -15,20 +15,20 @@ use x25_decode::{Reading, decode_lines, vectors};
 use x25_io::{Fault, Sink, Source};
 use x25_judge::{Strictness, judge_lines};
 use x25_pipe::{Role, station};
-use x25_settings::{End, Place, Simulation, Task};
+use x25_settings::{End, Place, Simulation, StationOptions, Task};
 use x25_sim::{Cfg, sim};
 
-/// The settings of both stations, as the words of the command line say them.
-fn settings_of(simulation: Simulation) -> Cfg
-    ensures { result ≡ settings_in simulation }
+/// The settings of a station, as the words of the command line say them.
+fn settings_of(options: StationOptions) -> Cfg
+    ensures { result ≡ settings_in options }
 {
     Cfg {
-        k: simulation.k,
-        n2: simulation.n2,
-        channels: simulation.channels,
-        long_data: simulation.long,
-        say_sizes: simulation.say_sizes,
-        wide: simulation.wide,
+        k: options.k,
+        n2: options.n2,
+        channels: options.channels,
+        long_data: options.long,
+        say_sizes: options.say_sizes,
+        wide: options.wide,
     }
 }
 
@@ -42,20 +42,6 @@ fn role_of(end: End) -> Role
     }
 }
 
-/// The settings of a station, as the words of the command line say them.
-fn cfg_of(place: Place) -> Cfg
-    ensures { result ≡ cfg_in place }
-{
-    Cfg {
-        k: place.k,
-        n2: place.n2,
-        channels: place.channels,
-        long_data: place.long,
-        say_sizes: place.say_sizes,
-        wide: place.wide,
-    }
-}
-
 /// Runs one station as the words of the command line ask for.
 fn answer_lines<R: Source, W: Sink>(
     alloc: Global,
@@ -63,11 +49,17 @@ fn answer_lines<R: Source, W: Sink>(
     reader: &mut R,
     writer: &mut W,
 ) -> Result<u8, Fault>
-    requires { options.PlaceIsInRange place }
-    ensures { Runs R.Source W.Sink (piping.program (settings_from (role_in place.end) (cfg_in place)))
+    requires { options.AreInRange place.station }
+    ensures { Runs R.Source W.Sink (piping.program (settings_from (role_in place.end) (settings_in place.station)))
         reader.old reader.new writer.old writer.new result }
 {
-    station(alloc, role_of(place.end), cfg_of(place), reader, writer)
+    station(
+        alloc,
+        role_of(place.end),
+        settings_of(place.station),
+        reader,
+        writer,
+    )
 }
 
 /// Runs the simulator as the words of the command line ask for.
@@ -77,15 +69,16 @@ fn simulate<R: Source, W: Sink>(
     reader: &mut R,
     writer: &mut W,
 ) -> Result<u8, Fault>
-    requires { options.AreInRange simulation }
-    ensures runs { Runs R.Source W.Sink (simulating.program (settings_in simulation) simulation.down simulation.tap)
+    requires { options.AreInRange simulation.station }
+    ensures runs { Runs R.Source W.Sink
+        (simulating.program (settings_in simulation.station) simulation.down simulation.tap)
         reader.old reader.new writer.old writer.new result }
     ensures claims { OnOk result (OfInput (R.remaining reader.old) (λ script.
-        WritesRun (settings_in simulation) simulation.down simulation.tap script
+        WritesRun (settings_in simulation.station) simulation.down simulation.tap script
         (W.contents writer.old) (W.contents writer.new))) }
 {
-    let (down, tap) = (simulation.down, simulation.tap);
-    sim(alloc, down, settings_of(simulation), tap, reader, writer)
+    let Simulation { down, tap, station } = simulation;
+    sim(alloc, down, settings_of(station), tap, reader, writer)
 }
 
 /// Does a task, and answers the exit status: 1 where a line was refused, a rule was broken or a vector is bad, else 0.

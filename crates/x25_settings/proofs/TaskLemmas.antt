@@ -13,7 +13,7 @@ use Rattle.x25_settings.specs.declared.options.Place.{Place}
 use Rattle.x25_settings.specs.declared.words.Task.{Task}
 use Rattle.x25_settings.specs.declared.words.Task.TheVariants.{Decode, Vectors, Sim, Station, Judge, Deframe, Frame}
 use Rattle.x25_settings.specs.Options.Choosing.{chosen_in, simulated, simulation_in, station_in, place_in, end_in, placed, judge_in, judging_of, decode_in, deframe_in, frame_in, vectors_in, task_behind, task_in}
-use Rattle.x25_settings.specs.Options.{nothing, settled, settled_at, SaySimulation, SayPlace, SayJudging, Choose, end_word, PlaceIsInRange, JudgingIsInRange, judging_in, of_a_judge}
+use Rattle.x25_settings.specs.Options.{nothing, settled_both, settled_at, SaySimulation, SayPlace, SayJudging, Choose, end_word, JudgingIsInRange, judging_in, of_a_judge}
 use Rattle.x25_settings.specs.Options as simulation
 use Rattle.x25_settings.specs.Words.{AreInRange, Say}
 use Rattle.x25_settings.proofs.ChoiceLemmas.{found, read, in_range}
@@ -30,7 +30,7 @@ said_behind words word behind e = sym (ap task_in e)
 
 again_simulation : (words : List (List ℕ)) (s : Simulation) → SaySimulation words s → simulation_in words ≡ Some s
 again_simulation words s say =
-    ap (option_and_then simulated) (read words say.0 say.1) ∙ ap (λ b. cond b None (Some (settled say.0))) say.2 ∙ ap (λ x. Some x) (sym say.3)
+    ap (option_and_then simulated) (read words say.0 say.1) ∙ ap (λ b. cond b None (Some (settled_both say.0))) say.2 ∙ ap (λ x. Some x) (sym say.3)
 
 again_end : (end : End) → end_in (end_word end) ≡ Some end
 again_end Dte = refl
@@ -70,9 +70,9 @@ again words Frame e = ap task_in e
 -- ---- what is read is plain
 
 by_judge : (words : List (List ℕ)) (s : Simulation) (end : Chosen) → Choose words end → (judge : Bool) → of_a_judge end ≡ judge
-    → cond judge None (Some (settled end)) ≡ Some s → SaySimulation words s
+    → cond judge None (Some (settled_both end)) ≡ Some s → SaySimulation words s
 by_judge words s end chosen true is e = absurd (cc)
-by_judge words s end chosen false is e = (end, chosen, is, sym (same_Some (settled end) s e))
+by_judge words s end chosen false is e = (end, chosen, is, sym (same_Some (settled_both end) s e))
 
 by_chosen : (words : List (List ℕ)) (s : Simulation) (o : Option Chosen) → chosen_in nothing words ≡ o → option_and_then simulated o ≡ Some s
     → SaySimulation words s
@@ -226,8 +226,8 @@ found_task (word ∷ words) task e = found_behind word words task e
 pub within : (words : List (List ℕ)) (task : Task) → Say words task → AreInRange task
 within words (Decode long wide) say = tt
 within words Vectors say = tt
-within words (Sim s) say = subst simulation.AreInRange (sym say.2.3) (in_range say.0 say.2.0 say.2.1)
-within words (Station p) say = subst PlaceIsInRange (sym say.2.same) (in_range say.2.rest say.2.end say.2.choose)
+within words (Sim s) say = subst (λ (s : Simulation). simulation.AreInRange s.station) (sym say.2.3) (in_range say.0 say.2.0 say.2.1)
+within words (Station p) say = subst (λ (p : Place). simulation.AreInRange p.station) (sym say.2.same) (in_range say.2.rest say.2.end say.2.choose)
 within words (Judge g) say = subst JudgingIsInRange (sym say.2.same) (in_range say.0 say.2.end say.2.choose).0
 within words (Deframe end) say = tt
 within words Frame say = tt

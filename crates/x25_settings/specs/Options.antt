@@ -3,6 +3,7 @@ use Rattle.std.specs.Prelude.{◌≡◌, ◌≤◌, ◌||◌, ℕ, Bool, true, f
 use Rattle.std.specs.Prelude.{decimal}
 use Rattle.std.specs.List.{flat_map}
 use Rattle.x25_settings.specs.declared.options.Simulation.{Simulation}
+use Rattle.x25_settings.specs.declared.options.StationOptions.{StationOptions}
 use Rattle.x25_settings.specs.declared.options.End.{End}
 use Rattle.x25_settings.specs.declared.options.End.TheVariants.{Dte, Dce}
 use Rattle.x25_settings.specs.declared.options.Judging.{Judging}
@@ -78,128 +79,18 @@ chosen_flag c Strict = c.strict
 chosen_flag c Wide = c.wide
 
 abbrev pub with_flag : Chosen → Flag → Chosen
-with_flag c Down = record {
-  down = true;
-  long = c.long;
-  manners = c.manners;
-  say_sizes = c.say_sizes;
-  tap = c.tap;
-  strict = c.strict;
-  wide = c.wide;
-  k = c.k;
-  n2 = c.n2;
-  channels = c.channels;
-}
-with_flag c Long = record {
-  down = c.down;
-  long = true;
-  manners = c.manners;
-  say_sizes = c.say_sizes;
-  tap = c.tap;
-  strict = c.strict;
-  wide = c.wide;
-  k = c.k;
-  n2 = c.n2;
-  channels = c.channels;
-}
-with_flag c Manners = record {
-  down = c.down;
-  long = c.long;
-  manners = true;
-  say_sizes = c.say_sizes;
-  tap = c.tap;
-  strict = c.strict;
-  wide = c.wide;
-  k = c.k;
-  n2 = c.n2;
-  channels = c.channels;
-}
-with_flag c SaySizes = record {
-  down = c.down;
-  long = c.long;
-  manners = c.manners;
-  say_sizes = true;
-  tap = c.tap;
-  strict = c.strict;
-  wide = c.wide;
-  k = c.k;
-  n2 = c.n2;
-  channels = c.channels;
-}
-with_flag c Tap = record {
-  down = c.down;
-  long = c.long;
-  manners = c.manners;
-  say_sizes = c.say_sizes;
-  tap = true;
-  strict = c.strict;
-  wide = c.wide;
-  k = c.k;
-  n2 = c.n2;
-  channels = c.channels;
-}
-with_flag c Strict = record {
-  down = c.down;
-  long = c.long;
-  manners = c.manners;
-  say_sizes = c.say_sizes;
-  tap = c.tap;
-  strict = true;
-  wide = c.wide;
-  k = c.k;
-  n2 = c.n2;
-  channels = c.channels;
-}
-with_flag c Wide = record {
-  down = c.down;
-  long = c.long;
-  manners = c.manners;
-  say_sizes = c.say_sizes;
-  tap = c.tap;
-  strict = c.strict;
-  wide = true;
-  k = c.k;
-  n2 = c.n2;
-  channels = c.channels;
-}
+with_flag c Down = record c { down = true }
+with_flag c Long = record c { long = true }
+with_flag c Manners = record c { manners = true }
+with_flag c SaySizes = record c { say_sizes = true }
+with_flag c Tap = record c { tap = true }
+with_flag c Strict = record c { strict = true }
+with_flag c Wide = record c { wide = true }
 
 abbrev pub with_number : Chosen → Numbered → ℕ → Chosen
-with_number c Window n = record {
-  down = c.down;
-  long = c.long;
-  manners = c.manners;
-  say_sizes = c.say_sizes;
-  tap = c.tap;
-  strict = c.strict;
-  wide = c.wide;
-  k = Some n;
-  n2 = c.n2;
-  channels = c.channels;
-}
-with_number c Tries n = record {
-  down = c.down;
-  long = c.long;
-  manners = c.manners;
-  say_sizes = c.say_sizes;
-  tap = c.tap;
-  strict = c.strict;
-  wide = c.wide;
-  k = c.k;
-  n2 = Some n;
-  channels = c.channels;
-}
-with_number c Channels n = record {
-  down = c.down;
-  long = c.long;
-  manners = c.manners;
-  say_sizes = c.say_sizes;
-  tap = c.tap;
-  strict = c.strict;
-  wide = c.wide;
-  k = c.k;
-  n2 = c.n2;
-  channels = Some n;
-}
+with_number c Window n = record c { k = Some n }
+with_number c Tries n = record c { n2 = Some n }
+with_number c Channels n = record c { channels = Some n }
 
 abbrev pub with_choice : Chosen → Choice → Chosen
 with_choice c (flag x) = with_flag c x
@@ -222,28 +113,21 @@ abbrev pub chosen_or_default : Chosen → Numbered → ℕ
 chosen_or_default c x = unwrap_or (chosen_number c x) (default_of x)
 
 -- the defaults for the rest
-abbrev pub settled : Chosen → Simulation
+abbrev pub settled : Chosen → StationOptions
 settled c = record {
-  down = c.down;
   long = c.long;
   say_sizes = c.say_sizes;
   wide = c.wide;
-  tap = c.tap;
   k = chosen_or_default c Window;
   n2 = chosen_or_default c Tries;
   channels = chosen_or_default c Channels;
 }
 
+abbrev pub settled_both : Chosen → Simulation
+settled_both c = record { down = c.down; tap = c.tap; station = settled c }
+
 abbrev pub settled_at : End → Chosen → Place
-settled_at end c = record {
-  end = end;
-  long = c.long;
-  say_sizes = c.say_sizes;
-  wide = c.wide;
-  k = chosen_or_default c Window;
-  n2 = chosen_or_default c Tries;
-  channels = chosen_or_default c Channels;
-}
+settled_at end c = record { end = end; station = settled c }
 
 abbrev pub judging_in : Chosen → Judging
 judging_in c = record {
@@ -264,7 +148,7 @@ Choose words end = (choices : List Choice) × (words ≡ flat_map words_of choic
 
 -- the words are plain, and they say this; of the options `--manners` and `--strict` are none
 abbrev pub SaySimulation : List (List ℕ) → Simulation → Type 0
-SaySimulation words s = (end : Chosen) × Choose words end × (of_a_judge end ≡ false) × (s ≡ settled end)
+SaySimulation words s = (end : Chosen) × Choose words end × (of_a_judge end ≡ false) × (s ≡ settled_both end)
 
 abbrev pub end_word : End → List ℕ
 end_word Dte = codes "dte"
@@ -295,8 +179,5 @@ pub record SayJudging (words : List (List ℕ)) (g : Judging) : Type 0 where
 abbrev pub JudgingIsInRange : Judging → Type 0
 JudgingIsInRange g = IsInRange Window g.k
 
-abbrev pub PlaceIsInRange : Place → Type 0
-PlaceIsInRange p = IsInRange Window p.k × IsInRange Tries p.n2 × IsInRange Channels p.channels
-
-abbrev pub AreInRange : Simulation → Type 0
+abbrev pub AreInRange : StationOptions → Type 0
 AreInRange s = IsInRange Window s.k × IsInRange Tries s.n2 × IsInRange Channels s.channels

@@ -27,8 +27,8 @@ Say words Frame = words ≡ codes "frame" ∷ []
 abbrev pub AreInRange : Task → Type 0
 AreInRange (Decode long wide) = Unit {0}
 AreInRange Vectors = Unit {0}
-AreInRange (Sim s) = simulation.AreInRange s
-AreInRange (Station p) = simulation.PlaceIsInRange p
+AreInRange (Sim s) = simulation.AreInRange s.station
+AreInRange (Station p) = simulation.AreInRange p.station
 AreInRange (Judge g) = simulation.JudgingIsInRange g
 AreInRange (Deframe end) = Unit {0}
 AreInRange Frame = Unit {0}

@@ -10,25 +10,32 @@ ghost use Rattle.x25_settings.specs.Options.{default_of, most_of, nothing, of_a_
 use itoa::Buffer;
 use std::convert::AsStr;
 
-/// What `sim` is run with.
+/// What a station is run with.
 #[derive(Clone, Copy, Debug, PartialEq, Eq)]
-pub struct Simulation {
-    /// Both links are down where the script begins, and else just set up.
-    pub down: bool,
+pub struct StationOptions {
     /// A CALL has up to 128 octets of user data, in place of up to 16.
     pub long: bool,
     /// Calls and acceptances say packet sizes and windows also where they are the default.
     pub say_sizes: bool,
     /// Packets are read in all the forms that a peer may send.
     pub wide: bool,
-    /// The frames of each step are written behind its entries.
-    pub tap: bool,
     /// The window of the link, 1 to 7.
     pub k: u8,
     /// How often a command of the link that isn't answered is sent again, 1 to 255.
     pub n2: u8,
     /// The number of channels, 1 to 16.
     pub channels: u8,
+}
+
+/// What `sim` is run with.
+#[derive(Clone, Copy, Debug, PartialEq, Eq)]
+pub struct Simulation {
+    /// Both links are down where the script begins, and else just set up.
+    pub down: bool,
+    /// The frames of each step are written behind its entries.
+    pub tap: bool,
+    /// Of both stations.
+    pub station: StationOptions,
 }
 
 /// An end of the link: the terminal (DTE) or the network's side (DCE).
@@ -43,18 +50,7 @@ pub enum End {
 pub struct Place {
     /// The end at which the station is.
     pub end: End,
-    /// A CALL has up to 128 octets of user data, in place of up to 16.
-    pub long: bool,
-    /// Calls and acceptances say packet sizes and windows also where they are the default.
-    pub say_sizes: bool,
-    /// Packets are read in all the forms that a peer may send.
-    pub wide: bool,
-    /// The window of the link, 1 to 7.
-    pub k: u8,
-    /// How often a command of the link that isn't answered is sent again, 1 to 255.
-    pub n2: u8,
-    /// The number of channels, 1 to 16.
-    pub channels: u8,
+    pub station: StationOptions,
 }
 
 /// What `judge` is run with.
@@ -289,7 +285,11 @@ impl Chosen {
         if self.of_a_judge() {
             None
         } else {
-            Some(self.with_defaults())
+            Some(Simulation {
+                down: self.down,
+                tap: self.tap,
+                station: self.with_defaults(),
+            })
         }
     }
 
@@ -300,15 +300,9 @@ impl Chosen {
         if (self.down || self.tap) || self.of_a_judge() {
             return None;
         }
-        let rest = self.with_defaults();
         Some(Place {
             end,
-            long: rest.long,
-            say_sizes: rest.say_sizes,
-            wide: rest.wide,
-            k: rest.k,
-            n2: rest.n2,
-            channels: rest.channels,
+            station: self.with_defaults(),
         })
     }
 
@@ -326,7 +320,7 @@ impl Chosen {
                     long: rest.long,
                     manners: self.manners,
                     strict: self.strict,
-                    wide: self.wide,
+                    wide: rest.wide,
                     k: rest.k,
                 })
             }
@@ -335,15 +329,13 @@ impl Chosen {
     }
 
     /// The defaults for the rest.
-    fn with_defaults(self) -> Simulation
+    fn with_defaults(self) -> StationOptions
         ensures { result ≡ settled self }
     {
-        Simulation {
-            down: self.down,
+        StationOptions {
             long: self.long,
             say_sizes: self.say_sizes,
             wide: self.wide,
-            tap: self.tap,
             k: self.k.unwrap_or(Numbered::Window.usual()),
             n2: self.n2.unwrap_or(Numbered::Tries.usual()),
             channels: self.channels.unwrap_or(Numbered::Channels.usual()),

@@ -1,19 +1,9 @@
 use std::test::Fail;
-use x25_settings::{End, Judging, Place, SettingsError, Simulation, Task, settings};
-
-const DEFAULTS: Simulation = Simulation {
-    down: false,
-    long: false,
-    say_sizes: false,
-    wide: false,
-    tap: false,
-    k: 7,
-    n2: 10,
-    channels: 1,
+use x25_settings::{
+    End, Judging, Place, SettingsError, Simulation, StationOptions, Task, settings,
 };
 
-const PLACE: Place = Place {
-    end: End::Dte,
+const DEFAULTS: StationOptions = StationOptions {
     long: false,
     say_sizes: false,
     wide: false,
@@ -21,6 +11,14 @@ const PLACE: Place = Place {
     n2: 10,
     channels: 1,
 };
+
+fn simulation(down: bool, tap: bool, station: StationOptions) -> Task {
+    Task::Sim(Simulation { down, tap, station })
+}
+
+fn place(end: End, station: StationOptions) -> Task {
+    Task::Station(Place { end, station })
+}
 
 #[test]
 fn takes_plain_words_alone(rt: HostRuntime) {
@@ -54,45 +52,45 @@ fn takes_plain_words_alone(rt: HostRuntime) {
             },
         ),
         (&["vectors"], Task::Vectors),
-        (&["sim"], Task::Sim(DEFAULTS)),
-        (
-            &["sim", "--tap"],
-            Task::Sim(Simulation {
-                tap: true,
-                ..DEFAULTS
-            }),
-        ),
-        (
-            &["sim", "--down"],
-            Task::Sim(Simulation {
-                down: true,
-                ..DEFAULTS
-            }),
-        ),
+        (&["sim"], simulation(false, false, DEFAULTS)),
+        (&["sim", "--tap"], simulation(false, true, DEFAULTS)),
+        (&["sim", "--down"], simulation(true, false, DEFAULTS)),
         (
             &["sim", "--long"],
-            Task::Sim(Simulation {
-                long: true,
-                ..DEFAULTS
-            }),
+            simulation(
+                false,
+                false,
+                StationOptions {
+                    long: true,
+                    ..DEFAULTS
+                },
+            ),
         ),
         (
             &["sim", "--say-sizes"],
-            Task::Sim(Simulation {
-                say_sizes: true,
-                ..DEFAULTS
-            }),
+            simulation(
+                false,
+                false,
+                StationOptions {
+                    say_sizes: true,
+                    ..DEFAULTS
+                },
+            ),
         ),
         (
             &["sim", "--wide"],
-            Task::Sim(Simulation {
-                wide: true,
-                ..DEFAULTS
-            }),
+            simulation(
+                false,
+                false,
+                StationOptions {
+                    wide: true,
+                    ..DEFAULTS
+                },
+            ),
         ),
         (
             &["sim", "--n2", "1"],
-            Task::Sim(Simulation { n2: 1, ..DEFAULTS }),
+            simulation(false, false, StationOptions { n2: 1, ..DEFAULTS }),
         ),
         (
             &[
@@ -107,23 +105,28 @@ fn takes_plain_words_alone(rt: HostRuntime) {
                 "--k",
                 "1",
             ],
-            Task::Sim(Simulation {
-                down: true,
-                long: true,
-                say_sizes: false,
-                wide: false,
-                tap: true,
-                k: 1,
-                n2: 255,
-                channels: 16,
-            }),
+            simulation(
+                true,
+                true,
+                StationOptions {
+                    long: true,
+                    k: 1,
+                    n2: 255,
+                    channels: 16,
+                    ..DEFAULTS
+                },
+            ),
         ),
         (
             &["sim", "--k", "7", "--channels", "3"],
-            Task::Sim(Simulation {
-                channels: 3,
-                ..DEFAULTS
-            }),
+            simulation(
+                false,
+                false,
+                StationOptions {
+                    channels: 3,
+                    ..DEFAULTS
+                },
+            ),
         ),
         (&["deframe", "dte"], Task::Deframe(End::Dte)),
         (&["deframe", "dce"], Task::Deframe(End::Dce)),
@@ -178,28 +181,36 @@ fn takes_plain_words_alone(rt: HostRuntime) {
                 k: 1,
             }),
         ),
-        (&["station", "dte"], Task::Station(PLACE)),
+        (&["station", "dte"], place(End::Dte, DEFAULTS)),
         (
             &["station", "dte", "--say-sizes"],
-            Task::Station(Place {
-                say_sizes: true,
-                ..PLACE
-            }),
+            place(
+                End::Dte,
+                StationOptions {
+                    say_sizes: true,
+                    ..DEFAULTS
+                },
+            ),
         ),
         (
             &["station", "dte", "--wide"],
-            Task::Station(Place {
-                wide: true,
-                ..PLACE
-            }),
+            place(
+                End::Dte,
+                StationOptions {
+                    wide: true,
+                    ..DEFAULTS
+                },
+            ),
         ),
         (
             &["station", "dce", "--long"],
-            Task::Station(Place {
-                end: End::Dce,
-                long: true,
-                ..PLACE
-            }),
+            place(
+                End::Dce,
+                StationOptions {
+                    long: true,
+                    ..DEFAULTS
+                },
+            ),
         ),
         (
             &[
@@ -212,12 +223,15 @@ fn takes_plain_words_alone(rt: HostRuntime) {
                 "--k",
                 "1",
             ],
-            Task::Station(Place {
-                k: 1,
-                n2: 255,
-                channels: 16,
-                ..PLACE
-            }),
+            place(
+                End::Dte,
+                StationOptions {
+                    k: 1,
+                    n2: 255,
+                    channels: 16,
+                    ..DEFAULTS
+                },
+            ),
         ),
     ];
     for (words, task) in plain {

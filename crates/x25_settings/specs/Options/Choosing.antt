@@ -15,7 +15,7 @@ use Rattle.x25_settings.specs.declared.options.Place.{Place}
 use Rattle.x25_settings.specs.declared.options.Simulation.{Simulation}
 use Rattle.x25_settings.specs.declared.words.Task.{Task}
 use Rattle.x25_settings.specs.declared.words.Task.TheVariants.{Decode, Vectors, Sim, Station, Judge, Deframe, Frame}
-use Rattle.x25_settings.specs.Options.{most_of, nothing, chosen_flag, with_flag, chosen_number, with_number, settled}
+use Rattle.x25_settings.specs.Options.{most_of, nothing, chosen_flag, with_flag, chosen_number, with_number, settled_both}
 use Rattle.x25_settings.specs.Options.{settled_at, judging_in, of_a_judge}
 
 abbrev pub flag_in : List ℕ → Option Flag
@@ -69,7 +69,7 @@ chosen_in c (word ∷ text ∷ rest) = if is_some (flag_in word)
 
 -- `--manners` and `--strict` are of `judge` alone
 abbrev pub simulated : Chosen → Option Simulation
-simulated c = if of_a_judge c then None else Some (settled c)
+simulated c = if of_a_judge c then None else Some (settled_both c)
 
 abbrev pub simulation_in : List (List ℕ) → Option Simulation
 simulation_in words = option_and_then simulated (chosen_in nothing words)
