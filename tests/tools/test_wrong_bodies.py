@@ -14,7 +14,7 @@ RT = b"""#!/bin/sh
 if [ "$1" = check ]; then
     [ -e proved ] || { touch proved; exit 0; }
     echo "$(basename "$PWD")/check" >> "$(dirname "$0")/tried"
-    grep -q "no source" src/*.rt || sed -n 's/^ *says //p' src/*.rt | tr '|' '\\n'
+    grep -l "no source" src/*.rt | sed 's/$/:1:2: error[syntax]: no source/' | grep . || sed -n 's/^ *says //p' src/*.rt | tr '|' '\\n'
     exit 1
 fi
 [ -e crates/$2/proved ] || exit 2
@@ -181,10 +181,11 @@ class WrongBodies(ToolCase):
         said = ["| a | 4 | 4 | - |", "2 refused by names alone, to be written anew: a/lib.ONE.4.edit, a/lib.one.1.edit", "4 refused, 0 not refused"]
         self.assertEqual(self.ran().stdout.splitlines()[-3:], said)
 
-    def test_a_batch_that_does_not_compile_is_tried_edit_by_edit(self):
-        bad = edit("one", "no source", alone="BAD EDIT: it did not reach the prover")
-        self.assertEqual(self.tried_of_a({"lib.one.1": bad, "lib.two.2": edit("two", NO_PROOF, alone="refused, as it must be")}), (1, "1 refused, 1 not refused"))
-        self.assertEqual(self.anew(), ["a/check", "a/lib.one.1.edit", "a/lib.two.2.edit"])
+    def test_what_stands_in_a_file_that_does_not_compile_is_tried_alone(self):
+        bad, show = edit("one", "no source", alone="BAD EDIT: it did not reach the prover"), edit("kind::KindDisplay::show", NO_PROOF, file="kind")
+        edits = {"lib.one.1": bad, "lib.two.2": edit("two", NO_PROOF, alone="refused, as it must be"), "kind.show.3": show}
+        self.assertEqual(self.tried_of_a(edits), (1, "2 refused, 1 not refused"))
+        self.assertEqual(self.anew(), ["a/check", "a/check", "a/lib.one.1.edit", "a/lib.two.2.edit"])
 
     def test_what_does_not_fit_is_tried_alone(self):
         misfit = edit("two", NO_PROOF) + b"\nold: no error\nnew: says an error\nBAD EDIT: no such text"
