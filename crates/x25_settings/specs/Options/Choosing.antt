@@ -15,8 +15,8 @@ use Rattle.x25_settings.specs.declared.options.Place.{Place}
 use Rattle.x25_settings.specs.declared.options.Simulation.{Simulation}
 use Rattle.x25_settings.specs.declared.words.Task.{Task}
 use Rattle.x25_settings.specs.declared.words.Task.TheVariants.{Decode, Vectors, Sim, Station, Judge, Deframe, Frame}
-use Rattle.x25_settings.specs.Options.{most_of, nothing, chosen_flag, with_flag, chosen_number, with_number, settled_both}
-use Rattle.x25_settings.specs.Options.{settled_at, judging_in, of_a_judge}
+use Rattle.x25_settings.specs.Options.{most_of, nothing, chosen_flag, with_flag, chosen_number, with_number}
+use Rattle.x25_settings.specs.Options.{settled_both, settled_at, judging_in, of_a_judge}
 
 abbrev pub flag_in : List ℕ → Option Flag
 flag_in word = if bytes_eq word (codes "--down") then Some Down
