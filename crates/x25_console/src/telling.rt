@@ -1,6 +1,6 @@
 //! Lines that tell of entries, of frames and of refusals.
-ghost use Rattle.std.specs.Prelude.{◌≡◌, ◌≤◌, ◌+◌, ◌++◌, ℕ, List, Option, IsErrOf, OnOk, OnErr, MatchResult, length};
-ghost use Rattle.std.specs.Prelude.{map};
+ghost use Rattle.std.specs.Prelude.{◌≡◌, ◌≤◌, ◌+◌, ◌++◌, ℕ, List, Option, IsErrOf, OnOk, OnErr};
+ghost use Rattle.std.specs.Prelude.{MatchResult, length, map};
 ghost use Rattle.x25_console.specs.Telling.{entries_text, frame_line, nothing_line, refusal_line};
 ghost use Rattle.x25_io.specs.code.MarksFaults.{MarksFaults};
 ghost use Rattle.x25_io.specs.code.Written.{AppendsPrefix, Tells, TellsMore};
