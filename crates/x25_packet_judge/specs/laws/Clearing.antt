@@ -1,11 +1,11 @@
--- An end that clears a call, or confirms the CLEAR that came, and is ready for the next one. ITU-T X.25 (10/96), sections
--- 4.1.7 to 4.1.9.
+-- An end that clears a call, or confirms the CLEAR that came, and is ready for the next one. ITU-T X.25 (10/96),
+-- sections 4.1.7 to 4.1.9.
 use Rattle.std.specs.Prelude.{ℕ, List, [], ◌∷◌, ◌++◌}
 use Rattle.x25_packet.specs.Packet.{PlainPacket, clear, clear_conf, restart}
 use Rattle.x25_packet_judge.specs.Packets.{sends}
 use Rattle.x25_packet_judge.specs.declared.pair.Pair.{Pair}
-use Rattle.x25_packet_judge.specs.laws.Keeping.{Phase, Talks, WasReset, WasCleared, IsOfChannel, next, turned, restarted}
-use Rattle.x25_packet_judge.specs.laws.Keeping.{MayBe}
+use Rattle.x25_packet_judge.specs.laws.Keeping.{Phase, Talks, WasReset, WasCleared, IsOfChannel, next, turned}
+use Rattle.x25_packet_judge.specs.laws.Keeping.{restarted, MayBe}
 
 -- in flow control ready, or where RESET came
 abbrev pub IsInCall : Phase → Type 0

@@ -1,5 +1,5 @@
--- An end in a call on one channel, and the packets of both ends on all channels, with the other end's RESTARTs: what the
--- book is behind them, and which states the end may be in. ITU-T X.25 (10/96), sections 3.3, 4.3 and 4.4.
+-- An end in a call on one channel, and the packets of both ends on all channels, with the other end's RESTARTs: what
+-- the book is behind them, and which states the end may be in. ITU-T X.25 (10/96), sections 3.3, 4.3 and 4.4.
 use Rattle.std.specs.Prelude.{◌≡◌, ℕ, ◌%◌, false, true, List, [], ◌∷◌, ◌++◌, length}
 use Rattle.x25_bits.specs.declared.role.Role.{Role}
 use Rattle.x25_packet.specs.Packet.{PlainPacket, restart, restart_conf}
@@ -44,7 +44,8 @@ pub data MayStand (from : Role) (channel : ℕ) : Book → Phase → List PlainP
   Does : (b : Book) (s r : Phase) (way : List PlainPacket) (packet : PlainPacket) → MayDo s packet r
       → MayStand from channel b s way → MayStand from channel (takes from channel packet b).book r way
   DoesApart : (b : Book) (s : Phase) (way : List PlainPacket) (two : ℕ) (packet : PlainPacket) → IsOfChannel packet
-      → AreApart channel two → MayStand from channel b s way → MayStand from channel (takes from two packet b).book s way
+      → AreApart channel two → MayStand from channel b s way
+      → MayStand from channel (takes from two packet b).book s way
   -- the other end sends any packet on the channel, on another one, or RESTART and its confirmation
   Shown : (b : Book) (s : Phase) (way : List PlainPacket) (packet : PlainPacket) → IsOfChannel packet
       → MayStand from channel b s way
