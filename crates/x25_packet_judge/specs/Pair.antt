@@ -141,9 +141,10 @@ abbrev pub may_find_call : Pair → Bool
 may_find_call t = port.is_calling t.other.call
     && (t.other.owed == 0 && (not (port.is_calling t.own.call) && not (is_doubtful t)))
 
--- one that may answer no CALL may be taken for the answer to a later one
+-- One that may answer no CALL may be taken for the answer to a later one. Both ends keep that, as the other end's
+-- first packet begins it anew.
 abbrev pub accepts_unknown : Pair → Pair
-accepts_unknown t = reaching (port.doubted t.other) (settles (hastens t))
+accepts_unknown t = reaching (port.doubted t.other) (with_own (port.doubted (port.settled t.own)) t)
 
 abbrev pub finds_call : List ℕ → Pair → Pair
 finds_call field t = if may_find_call t then is_up (said field t.other.terms) t else accepts_unknown t

@@ -268,11 +268,13 @@ impl Pair {
             && (self.other.owed == 0 && (!self.own.is_calling() && !self.is_doubtful()))
     }
 
-    /// An acceptance that may answer no CALL may be taken for the answer to a later one.
+    /// An acceptance that may answer no CALL may be taken for the answer to a later one. Both ends keep that, as the
+    /// other end's first packet begins it anew.
     fn accepts_unknown(self) -> Pair
         ensures { result ≡ definition.accepts_unknown self }
     {
-        self.hastens().settles().reaching(self.other.doubted())
+        let own = self.own.settled().doubted();
+        self.with_own(own).reaching(self.other.doubted())
     }
 
     /// An acceptance of a CALL makes the channel known, where not both ends called.

@@ -183,9 +183,7 @@ module _ (v : Pair) where
   finds_call_moved : (field : List ℕ) → is_free v.other.call ≡ true → Moved v (pair.finds_call field v)
   finds_call_moved field free = cond_both (pair.may_find_call v) _ _ (Moved v)
       (λ may. not_calling v.other.call free (and_parts (port.is_calling v.other.call) _ may).0)
-      (λ _. hastened_moved (λ (w : Pair). pair.reaching (port.doubted v.other) (pair.settles w))
-      (reaching_moved (port.doubted v.other) (port.settled v.own) (le_self v.own.owed) refl (λ e. e) (λ e. e) refl)
-      (reaching_moved (port.doubted v.other) (port.settled (port.doubted v.own)) (le_self v.own.owed) refl (λ e. e) (λ e. e) refl))
+      (λ _. reaching_moved (port.doubted v.other) (port.doubted (port.settled v.own)) (le_self v.own.owed) refl (λ e. e) (λ e. e) refl)
     where
       not_calling : {X : Type 0} (k : Call) → is_free k ≡ true → port.is_calling k ≡ true → X
       not_calling Idle e f = none_true f

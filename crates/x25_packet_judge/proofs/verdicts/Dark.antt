@@ -93,7 +93,7 @@ module _ (r : Bool) where
   unknown_same (clear channel cause diagnostic) v h = reaching_same _ _ h
   unknown_same (clear_conf channel) v h = cond_both (pair.is_sure_answer v) _ _ Same (λ _. h) (λ _. reaching_same _ _ h)
   unknown_same (call channel called calling facilities user) v h = hastens_same v h
-  unknown_same (accept channel facilities) v h = cond_both (pair.may_find_call v) _ _ Same (λ _. h) (λ _. reaching_same _ _ (hastens_same v h))
+  unknown_same (accept channel facilities) v h = cond_both (pair.may_find_call v) _ _ Same (λ _. h) (λ _. reaching_same _ _ h)
   unknown_same (restart cause diagnostic) v h = h
   unknown_same restart_conf v h = h
   unknown_same (user_data channel q m ps pr user) v h = hastens_same v h
@@ -220,7 +220,7 @@ module _ (v : Pair) (k : Dark v.other v.own) where
   dark_unknown (call channel called calling facilities user) = hastened_dark (pair.calls_unknown (said facilities usual)) (record { dark = record { known = k.known; unsure = k.unsure; uncalled = k.uncalled }; same = refl }) (record { dark = record { known = k.known; unsure = k.unsure; uncalled = k.uncalled }; same = refl })
   dark_unknown (accept channel facilities) =
       subst (λ (w : Pair). DarkToo w v.other.is_known) (sym (cond-false (pair.may_find_call v) _ (pair.accepts_unknown v) (and_left (port.is_calling v.other.call) _ k.uncalled)))
-      (hastened_dark (λ (w : Pair). pair.reaching (port.doubted v.other) (pair.settles w)) (doubted_dark (port.settled v.own) k.unsure k.known) (doubted_dark (port.settled (port.doubted v.own)) k.unsure k.known))
+      (doubted_dark (port.doubted (port.settled v.own)) k.unsure k.known)
   dark_unknown (restart cause diagnostic) = on_dark
   dark_unknown restart_conf = on_dark
   dark_unknown (user_data channel q m ps pr user) = same_dark

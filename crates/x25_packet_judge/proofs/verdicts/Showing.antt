@@ -243,7 +243,7 @@ gone_unknown packet v k = go packet
     go (accept channel facilities) =
         subst (λ (w : Pair). Gone w.other)
         (sym (cond-false (pair.may_find_call v) _ (pair.accepts_unknown v) (and_left (port.is_calling v.other.call) _ calling_not)))
-        (hastened (λ (w : Pair). pair.reaching (port.doubted v.other) (pair.settles w)) (doubted (port.settled v.own)) (doubted (port.settled (port.doubted v.own))))
+        (doubted (port.doubted (port.settled v.own)))
     go (restart cause diagnostic) = k
     go restart_conf = k
     go (user_data channel q m ps pr user) = hastened pair.settles k k
