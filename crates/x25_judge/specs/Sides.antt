@@ -42,14 +42,6 @@ is_unseen Waiting = false
 is_unseen Answered = false
 is_unseen Up = false
 
--- a frame with a number was sent since UA
-abbrev pub is_up : Phase → Bool
-is_up Unseen = false
-is_up Out = false
-is_up Waiting = false
-is_up Answered = false
-is_up Up = true
-
 -- I frames and supervisory frames may be sent (section 2.4.4.2)
 abbrev pub may_run : Phase → Bool
 may_run Unseen = true
@@ -109,15 +101,7 @@ unsure Up = Up
 -- ---- parts
 
 abbrev pub no_end : End
-no_end = record {
-  phase = Unseen;
-  polls = 0;
-  is_polling = false;
-  is_followed = false;
-  asked = 0;
-  is_owed = false;
-  way = fresh false;
-}
+no_end = record { phase = Unseen; polls = 0; is_polling = false; is_followed = false; asked = 0; way = fresh false }
 
 abbrev pub with_way : Way → End → End
 with_way way e = record e { way = way }
@@ -131,22 +115,9 @@ with_polls polls is_polling e = record e { polls = polls; is_polling = is_pollin
 abbrev pub with_asked : ℕ → End → End
 with_asked asked e = record e { asked = asked }
 
-abbrev pub with_owed : Bool → End → End
-with_owed is_owed e = record e { is_owed = is_owed }
-
--- An I frame of it is acknowledged where fewer are unacknowledged than before. So what it sent before its session has
--- come or is lost.
+-- an I frame of it is acknowledged where fewer are unacknowledged than before
 abbrev pub followed_to : Way → End → End
-followed_to way e = record e {
-  is_followed = e.is_followed || nat_lt way.pending e.way.pending;
-  is_owed = e.is_owed && not (is_up e.phase && nat_lt way.pending e.way.pending);
-  way = way;
-}
-
--- Behind a frame with a number. Where that is the first one since UA, and UA may still answer what went before, the
--- other end may take the frame in the session that this UA begins.
-abbrev pub runs_in : Phase → End → End
-runs_in phase e = record e { phase = phase; is_owed = e.is_owed || (not (is_up e.phase) && not (e.asked == 0)) }
+followed_to way e = record e { is_followed = e.is_followed || nat_lt way.pending e.way.pending; way = way }
 
 abbrev pub with_own : End → Sides → Sides
 with_own own t = record t { own = own }
@@ -213,9 +184,9 @@ answers_if f t = if f then answers_poll t.other.is_followed t else t
 -- their sender is up; else nothing is known of it, or of what answers it
 abbrev pub runs : Sides → Sides
 runs t = if may_run t.own.phase
-    then with_own (runs_in (running t.own.phase) t.own) t
+    then with_own (with_phase (running t.own.phase) t.own) t
     else tells (Some NotUp) (with_other (with_way (lost t.other.way) t.other)
-    (with_own (with_way (lost t.own.way) (runs_in Unseen t.own)) t))
+    (with_own (with_way (lost t.own.way) (with_phase Unseen t.own)) t))
 
 -- an N(R) is about the other end's I frames
 abbrev pub hears_told : Told → Sides → Sides
@@ -264,14 +235,10 @@ abbrev pub asking_way : Phase → Way → Way → Way
 asking_way Answered anew w = w
 asking_way phase anew w = anew
 
--- the N(R)s of an end that awaits UA itself begin anew too, but where it may go back to a SABM of before
-abbrev pub is_known : Sides → Bool
-is_known t = awaits_ua t.other.phase && not t.own.is_owed
-
--- SABM: its numbers begin anew
+-- SABM: its numbers begin anew, and so do the N(R)s of an end that awaits UA itself
 abbrev pub asks : Sides → Sides
 asks t = with_own (with_phase (asking t.own.phase)
-    (with_way (asking_way t.own.phase (fresh (is_known t)) t.own.way) t.own)) t
+    (with_way (asking_way t.own.phase (fresh (awaits_ua t.other.phase)) t.own.way) t.own)) t
 
 -- the I frames of an end behind a UA that it sent, by where the other end stands: its numbers begin anew
 abbrev pub accepting_way : Phase → Way → Way
@@ -289,24 +256,10 @@ accepted_way Waiting w = answered w
 accepted_way Answered w = answered_again w
 accepted_way Up w = answered_again w
 
--- UA may answer a SABM that frames with numbers went behind, or meet one: then it says nothing of numbers, but to an
--- end that is up in their session.
-abbrev pub is_late : Sides → Bool
-is_late t = t.own.is_owed || (t.other.is_owed && not (is_up t.other.phase))
-
--- where the other end stands, for the numbers that UA begins
-abbrev pub answered_phase : Sides → Phase
-answered_phase t = if is_late t then Unseen else t.other.phase
-
--- UA may still come to SABMs of before
-abbrev pub is_still_owed : End → Bool
-is_still_owed e = e.is_owed && not (e.asked == 0)
-
 -- UA
 abbrev pub accepts : Sides → Sides
-accepts t = with_other (with_owed (is_still_owed t.other)
-    (with_phase (accepted t.other.phase) (with_way (accepted_way (answered_phase t) t.other.way) t.other)))
-    (with_own (with_phase (accepting t.own.phase) (with_way (accepting_way (answered_phase t) t.own.way) t.own)) t)
+accepts t = with_other (with_phase (accepted t.other.phase) (with_way (accepted_way t.other.phase t.other.way) t.other))
+    (with_own (with_phase (accepting t.own.phase) (with_way (accepting_way t.other.phase t.own.way) t.own)) t)
 
 abbrev pub accepts_asked : Bool → Sides → Sides
 accepts_asked f t = if is_unasked t then tells (Some UaUnasked) t else accepts (answers (answers_if f t))

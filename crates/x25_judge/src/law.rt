@@ -13,8 +13,7 @@ use x25_line::{each_event_hands_one, silent_tape_keeps_order};
 use x25_link::{follows_the_window, notes_what_changes, sets_up_by_rows};
 
 /// SABM of an end and UA of the other, anywhere in a trace, begin the session that the two laws below are about; but
-/// not where UA answered a SABM of that end already, and it has sent no frame with a number since, nor where this UA
-/// may be about a SABM that frames with numbers of either end went behind.
+/// not where UA answered a SABM of that end already, and it has sent no frame with a number since.
 pub fn set_ups_begin()
     ensures { SetUpsBegin }
 {}

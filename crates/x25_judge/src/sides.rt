@@ -30,9 +30,6 @@ pub(crate) struct End {
     pub(crate) is_followed: bool,
     /// How many SABMs and DISCs of it UA may still answer; 255 where there are more.
     pub(crate) asked: u8,
-    /// It sent a frame with a number behind a SABM or a DISC that UA may still answer, and none of its I frames was
-    /// acknowledged since.
-    pub(crate) is_owed: bool,
     /// Its I frames.
     pub(crate) way: Way,
 }
@@ -81,12 +78,6 @@ impl Phase {
         ensures { result ≡ definition.is_unseen self }
     {
         matches!(self, Phase::Unseen)
-    }
-
-    fn is_up(self) -> bool
-        ensures { result ≡ definition.is_up self }
-    {
-        matches!(self, Phase::Up)
     }
 
     /// Behind an I frame or a supervisory frame.
@@ -203,7 +194,6 @@ impl End {
             is_polling: false,
             is_followed: false,
             asked: 0,
-            is_owed: false,
             way: Way::fresh(false),
         }
     }
@@ -236,41 +226,15 @@ impl End {
         End { asked, ..self }
     }
 
-    fn with_owed(self, is_owed: bool) -> End
-        ensures { result ≡ definition.with_owed is_owed self }
-    {
-        End { is_owed, ..self }
-    }
-
-    /// Behind an N(R): fewer I frames are unacknowledged where one of them was acknowledged, and what it sent before
-    /// its session has come or is lost.
+    /// Behind an N(R): fewer I frames are unacknowledged where one of them was acknowledged.
     fn followed_to(self, way: Way) -> End
         ensures { result ≡ definition.followed_to way self }
     {
         End {
             is_followed: self.is_followed || way.pending < self.way.pending,
-            is_owed: self.is_owed && !(self.phase.is_up() && way.pending < self.way.pending),
             way,
             ..self
         }
-    }
-
-    /// Behind a frame with a number.
-    fn runs_in(self, phase: Phase) -> End
-        ensures { result ≡ definition.runs_in phase self }
-    {
-        End {
-            phase,
-            is_owed: self.is_owed || (!self.phase.is_up() && self.asked != 0),
-            ..self
-        }
-    }
-
-    /// Whether UA may still come to a SABM that frames with numbers went behind.
-    fn is_still_owed(self) -> bool
-        ensures { result ≡ definition.is_still_owed self }
-    {
-        self.is_owed && self.asked != 0
     }
 }
 
@@ -409,11 +373,11 @@ impl Sides {
         ensures { result ≡ definition.runs self }
     {
         if self.own.phase.may_run() {
-            return self.with_own(self.own.runs_in(self.own.phase.running()));
+            return self.with_own(self.own.with_phase(self.own.phase.running()));
         }
         let own = self
             .own
-            .runs_in(Phase::Unseen)
+            .with_phase(Phase::Unseen)
             .with_way(self.own.way.lost());
         self.with_own(own)
             .with_other(self.other.with_way(self.other.way.lost()))
@@ -494,48 +458,22 @@ impl Sides {
         self.other.is_followed && self.other.asked == 0
     }
 
-    /// Whether the N(R)s about its numbers begin anew by its SABM.
-    fn is_known(self) -> bool
-        ensures { result ≡ definition.is_known self }
-    {
-        self.other.phase.awaits_ua() && !self.own.is_owed
-    }
-
     fn asks(self) -> Sides
         ensures { result ≡ definition.asks self }
     {
-        let anew = Way::fresh(self.is_known());
+        let anew = Way::fresh(self.other.phase.awaits_ua());
         let way = self.own.phase.asking_way(anew, self.own.way);
         self.with_own(self.own.with_way(way).with_phase(self.own.phase.asking()))
-    }
-
-    /// Whether a UA may be about a SABM that frames with numbers went behind, so that it says nothing of numbers.
-    fn is_late(self) -> bool
-        ensures { result ≡ definition.is_late self }
-    {
-        self.own.is_owed || (self.other.is_owed && !self.other.phase.is_up())
-    }
-
-    /// Where the other end stands, for the numbers that UA begins.
-    fn answered_phase(self) -> Phase
-        ensures { result ≡ definition.answered_phase self }
-    {
-        if self.is_late() {
-            Phase::Unseen
-        } else {
-            self.other.phase
-        }
     }
 
     fn accepts(self) -> Sides
         ensures { result ≡ definition.accepts self }
     {
-        let phase = self.answered_phase();
+        let phase = self.other.phase;
         let own = self.own.with_way(phase.accepting_way(self.own.way));
         let other = self.other.with_way(phase.accepted_way(self.other.way));
-        let accepted = other.with_phase(self.other.phase.accepted());
         self.with_own(own.with_phase(self.own.phase.accepting()))
-            .with_other(accepted.with_owed(self.other.is_still_owed()))
+            .with_other(other.with_phase(phase.accepted()))
     }
 
     fn accepts_asked(self, f: bool) -> Sides

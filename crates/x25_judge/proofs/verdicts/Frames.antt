@@ -45,11 +45,11 @@ runs_on Answered h = refl
 runs_on Up h = refl
 
 runs_bare : (t : Sides) → IsUp t → t.rule ≡ None → Bare t (sides.runs t)
-runs_bare t up none = cond_both (sides.may_run t.own.phase) (sides.with_own (sides.runs_in (sides.running t.own.phase) t.own) t) _ (λ v. Bare t v)
+runs_bare t up none = cond_both (sides.may_run t.own.phase) (sides.with_own (sides.with_phase (sides.running t.own.phase) t.own) t) _ (λ v. Bare t v)
     (λ _. record { up = refl; same = same; own = refl; other = refl; plain = ap is_of_order none })
     (λ test. absurd (both_ways (sides.may_run t.own.phase) test up))
   where
-    same : AreSame t (sides.with_own (sides.runs_in (sides.running t.own.phase) t.own) t)
+    same : AreSame t (sides.with_own (sides.with_phase (sides.running t.own.phase) t.own) t)
     same = record { phase = refl; asked = refl; other_asked = refl }
 
 polls_bare : (t v : Sides) → Bare t v → Bare t (sides.polls v)
@@ -211,7 +211,7 @@ pub record Strays (t v : Sides) : Type 0 where
   pub other : way.is_unseen v.other.way ≡ true
 
 runs_strays : (t : Sides) → sides.may_run t.own.phase ≡ false → Strays t (sides.runs t)
-runs_strays t out = cond_both (sides.may_run t.own.phase) (sides.with_own (sides.runs_in (sides.running t.own.phase) t.own) t) _ (λ v. Strays t v)
+runs_strays t out = cond_both (sides.may_run t.own.phase) (sides.with_own (sides.with_phase (sides.running t.own.phase) t.own) t) _ (λ v. Strays t v)
     (λ test. absurd (both_ways (sides.may_run t.own.phase) out test))
     (λ _. record { same = record { phase = refl; asked = refl; other_asked = refl }; phase = refl; own = refl; other = refl })
 

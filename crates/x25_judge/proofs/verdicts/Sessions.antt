@@ -1,6 +1,6 @@
 -- An end that keeps the rules over any number of set-ups, beside the judge.
 use Rattle.std.proofs.Common.{◌≡◌, ◌==◌, ◌⊎◌, inl, inr, ℕ, ◌+◌, ◌-◌, ◌<◌, ◌≤◌, arith, min, Bool, true, false, List, [], ◌∷◌, ◌++◌, length, Some, None, refl, sym, ap, ◌∙◌, subst}
-use Rattle.std.specs.Prelude.{nat_lt, ◌&&◌, ◌||◌, not, if◌then◌else◌}
+use Rattle.std.specs.Prelude.{nat_lt, ◌&&◌, not}
 use Rattle.std.proofs.lemmas.Bool.{eqb-true, ltb-true, and_parts, both_ways, cond_both}
 use Rattle.x25_bits.specs.declared.role.Role.{Role}
 use Rattle.x25_bits.specs.declared.role.Role.TheVariants.{Dte, Dce}
@@ -408,30 +408,28 @@ record Bits (t v : Sides) : Type 0 where
   pub other : v.other.way ≡ t.other.way
   pub asked : v.own.asked ≡ t.own.asked
   pub other_asked : v.other.asked ≡ t.other.asked
-  pub owed : v.own.is_owed ≡ t.own.is_owed
-  pub other_owed : v.other.is_owed ≡ t.other.is_owed
   pub quiet : is_of_order v.rule ≡ false
 
 asked_bits : (b : Bool) (t : Sides) → t.rule ≡ None → Bits t (sides.asks_if b t)
-asked_bits false t none = record { phase = refl; other_phase = refl; own = refl; other = refl; asked = refl; other_asked = refl; owed = refl; other_owed = refl; quiet = ap is_of_order none }
+asked_bits false t none = record { phase = refl; other_phase = refl; own = refl; other = refl; asked = refl; other_asked = refl; quiet = ap is_of_order none }
 asked_bits true t none = cond_both t.own.is_polling (sides.notes (Some PollAgain) (sides.asks_on true t)) (sides.asks_on true t) (λ v. Bits t v)
-    (λ _. record { phase = refl; other_phase = refl; own = refl; other = refl; asked = refl; other_asked = refl; owed = refl; other_owed = refl; quiet = ap is_of_order none })
-    (λ _. record { phase = refl; other_phase = refl; own = refl; other = refl; asked = refl; other_asked = refl; owed = refl; other_owed = refl; quiet = ap is_of_order none })
+    (λ _. record { phase = refl; other_phase = refl; own = refl; other = refl; asked = refl; other_asked = refl; quiet = ap is_of_order none })
+    (λ _. record { phase = refl; other_phase = refl; own = refl; other = refl; asked = refl; other_asked = refl; quiet = ap is_of_order none })
 
 answered_bits : (f : Bool) (t : Sides) → t.rule ≡ None → Bits t (sides.answers_if f t)
-answered_bits false t none = record { phase = refl; other_phase = refl; own = refl; other = refl; asked = refl; other_asked = refl; owed = refl; other_owed = refl; quiet = ap is_of_order none }
+answered_bits false t none = record { phase = refl; other_phase = refl; own = refl; other = refl; asked = refl; other_asked = refl; quiet = ap is_of_order none }
 answered_bits true t none =
     cond_both (not (t.other.polls == 0)) (sides.poll_answered t) _ (λ v. Bits t v)
-    (λ _. record { phase = refl; other_phase = refl; own = refl; other = refl; asked = refl; other_asked = refl; owed = refl; other_owed = refl; quiet = ap is_of_order none })
+    (λ _. record { phase = refl; other_phase = refl; own = refl; other = refl; asked = refl; other_asked = refl; quiet = ap is_of_order none })
     (λ _. cond_both (t.other.is_followed && not (sides.is_unseen t.own.phase)) (sides.tells (Some NoPoll) (sides.poll_answered t)) (sides.notes (Some PollUnseen) (sides.poll_answered t)) (λ v. Bits t v)
-    (λ _. record { phase = refl; other_phase = refl; own = refl; other = refl; asked = refl; other_asked = refl; owed = refl; other_owed = refl; quiet = first_of_order t.rule (Some NoPoll) (ap is_of_order none) refl })
-    (λ _. record { phase = refl; other_phase = refl; own = refl; other = refl; asked = refl; other_asked = refl; owed = refl; other_owed = refl; quiet = ap is_of_order none }))
+    (λ _. record { phase = refl; other_phase = refl; own = refl; other = refl; asked = refl; other_asked = refl; quiet = first_of_order t.rule (Some NoPoll) (ap is_of_order none) refl })
+    (λ _. record { phase = refl; other_phase = refl; own = refl; other = refl; asked = refl; other_asked = refl; quiet = ap is_of_order none }))
 
 -- ---- SABM
 
 record Asked (t v : Sides) : Type 0 where
   pub phase : v.own.phase ≡ sides.asking t.own.phase
-  pub own : v.own.way ≡ sides.asking_way t.own.phase (way.fresh (sides.is_known t)) t.own.way
+  pub own : v.own.way ≡ sides.asking_way t.own.phase (way.fresh (sides.awaits_ua t.other.phase)) t.own.way
   pub asked : v.own.asked ≡ min (t.own.asked + 1) 255
   pub other_phase : v.other.phase ≡ t.other.phase
   pub other : v.other.way ≡ t.other.way
@@ -445,8 +443,8 @@ sabm_is window s b t none =
     let u = sides.asks_if b t in
     record {
       phase = ap sides.asking h.phase;
-      own = ap (λ p. sides.asking_way p (way.fresh (sides.is_known u)) u.own.way) h.phase ∙ ap (λ p. sides.asking_way t.own.phase (way.fresh (sides.awaits_ua p && not u.own.is_owed)) u.own.way) h.other_phase
-          ∙ ap (λ o. sides.asking_way t.own.phase (way.fresh (sides.awaits_ua t.other.phase && not o)) u.own.way) h.owed ∙ ap (λ w. sides.asking_way t.own.phase (way.fresh (sides.is_known t)) w) h.own;
+      own = ap (λ p. sides.asking_way p (way.fresh (sides.awaits_ua u.other.phase)) u.own.way) h.phase ∙ ap (λ p. sides.asking_way t.own.phase (way.fresh (sides.awaits_ua p)) u.own.way) h.other_phase
+          ∙ ap (λ w. sides.asking_way t.own.phase (way.fresh (sides.awaits_ua t.other.phase)) w) h.own;
       asked = ap (λ x. min (x + 1) 255) h.asked;
       other_phase = h.other_phase;
       other = h.other;
@@ -493,7 +491,7 @@ asking_hears phase.Up knows w g t bare h = subst (λ k. Hears (way.fresh k) g t)
 -- of the other end
 sabm_fits : (t v : Sides) (stand : Stand) (p : Peer) (way : List PlainFrame) (b : Bool) → Asked t v → Fits t.other t.own stand p way → Fits v.other v.own stand p (way ++ sabm b ∷ [])
 sabm_fits t v stand p way b a f =
-    let rested = subst Rested (sym a.own) (asking_rested t.own.phase (sides.is_known t) t.own.way f.other) in
+    let rested = subst Rested (sym a.own) (asking_rested t.own.phase (sides.awaits_ua t.other.phase) t.own.way f.other) in
     record {
       asked = asked_more way (sabm b) t.own.asked v.own.asked f.asked (subst (λ x. min (t.own.asked + 1) 255 ≤ x) (sym a.asked) (least (min (t.own.asked + 1) 255)));
       own = subst (λ x. RestsOwn x v.other v.own.way) (sym a.other_phase) (own_to t.other.phase t.other v.other t.own.way v.own.way a.other_asked a.other (λ _. rested.hears) f.own);
@@ -503,7 +501,7 @@ sabm_fits t v stand p way b a f =
           (λ m u g told s. record {
             up = ap sides.may_run a.other_phase ∙ s.up;
             own = subst (λ w. OwnIf w m u) (sym a.other) s.own;
-            hears = subst (λ w. Hears w g told) (sym a.own) (asking_hears t.own.phase (sides.is_known t) t.own.way g told (ap (λ b. b && not t.own.is_owed) (up_waits t.other.phase s.up)) s.hears);
+            hears = subst (λ w. Hears w g told) (sym a.own) (asking_hears t.own.phase (sides.awaits_ua t.other.phase) t.own.way g told (up_waits t.other.phase s.up) s.hears);
           })
           (λ w is. absurd is) f.holds;
     }
@@ -529,7 +527,7 @@ asking_awaits phase.Up = tt
 asks_fits : (t v : Sides) (stand : Stand) (p : Peer) (way : List PlainFrame) → HaveNoUa way → Asked t v → Fits t.own t.other stand p way → Fits v.own v.other Asking p way
 asks_fits t v stand p way bare a f = record {
   asked = subst (λ x. min (asks_all way) 255 ≤ x) (sym a.other_asked) f.asked;
-  own = subst (λ x. RestsOwn x v.own v.other.way) (sym a.phase) (asking_own t.own.phase (sides.is_known t) t.own v.own t.other.way v.other.way a.own a.asked f.own);
+  own = subst (λ x. RestsOwn x v.own v.other.way) (sym a.phase) (asking_own t.own.phase (sides.awaits_ua t.other.phase) t.own v.own t.other.way v.other.way a.own a.asked f.own);
   other = subst (λ x. RestsOther x v.other.way) (sym a.other_phase) (subst (λ w. RestsOther t.other.phase w) (sym a.other) f.other);
   sabms = sabms_to t.other.way v.other.way way (subst Rested (sym a.other)) f.sabms;
   holds = (subst Awaits (sym a.phase) (asking_awaits t.own.phase), no_uas v.own v.other way bare);
@@ -659,22 +657,12 @@ declines_fits t v stand p way f a is h = record {
 
 record Accepted (t v : Sides) : Type 0 where
   pub phase : v.own.phase ≡ sides.accepting t.own.phase
-  pub own : v.own.way ≡ sides.accepting_way (sides.answered_phase t) t.own.way
+  pub own : v.own.way ≡ sides.accepting_way t.other.phase t.own.way
   pub asked : v.own.asked ≡ t.own.asked
   pub other_phase : v.other.phase ≡ sides.accepted t.other.phase
-  pub other : v.other.way ≡ sides.accepted_way (sides.answered_phase t) t.other.way
+  pub other : v.other.way ≡ sides.accepted_way t.other.phase t.other.way
   pub other_asked : v.other.asked ≡ sides.fewer t.other.asked
   pub quiet : is_of_order v.rule ≡ false
-
-answered_same : (t v : Sides) → Bits t v → sides.answered_phase v ≡ sides.answered_phase t
-answered_same t v h =
-    ap (λ o. if o || (v.other.is_owed && not (sides.is_up v.other.phase)) then phase.Unseen else v.other.phase) h.owed
-    ∙ ap (λ o. if t.own.is_owed || (o && not (sides.is_up v.other.phase)) then phase.Unseen else v.other.phase) h.other_owed
-    ∙ ap (λ p. if t.own.is_owed || (t.other.is_owed && not (sides.is_up p)) then phase.Unseen else p) h.other_phase
-
--- it begins no numbers that are known, or does so where the other end stands
-answered_any : (t : Sides) (P : Phase → Type 0) → P phase.Unseen → P t.other.phase → P (sides.answered_phase t)
-answered_any t P late h = cond_both (sides.is_late t) phase.Unseen t.other.phase P (λ _. late) (λ _. h)
 
 accepted_is : (f : Bool) (t : Sides) → t.rule ≡ None → Accepted t (sides.accepts (sides.answers (sides.answers_if f t)))
 accepted_is f t none =
@@ -682,22 +670,22 @@ accepted_is f t none =
     let u = sides.answers_if f t in
     record {
       phase = ap sides.accepting h.phase;
-      own = ap (λ p. sides.accepting_way p u.own.way) (answered_same t u h) ∙ ap (λ w. sides.accepting_way (sides.answered_phase t) w) h.own;
+      own = ap (λ p. sides.accepting_way p u.own.way) h.other_phase ∙ ap (λ w. sides.accepting_way t.other.phase w) h.own;
       asked = h.asked;
       other_phase = ap sides.accepted h.other_phase;
-      other = ap (λ p. sides.accepted_way p u.other.way) (answered_same t u h) ∙ ap (λ w. sides.accepted_way (sides.answered_phase t) w) h.other;
+      other = ap (λ p. sides.accepted_way p u.other.way) h.other_phase ∙ ap (λ w. sides.accepted_way t.other.phase w) h.other;
       other_asked = ap sides.fewer h.other_asked;
       quiet = h.quiet;
     }
 
 -- of the other end
 
-accepted_rests : (p : Phase) (c : End) (v : Way) → Hears v 0 0 → (Awaits p → OwnIf c.way 0 0) → RestsOwn (sides.accepted p) c v
-accepted_rests phase.Unseen c v h o = tt
-accepted_rests phase.Out c v h o = tt
-accepted_rests phase.Waiting c v h o = (o tt, inr h)
-accepted_rests phase.Answered c v h o = (o tt, inr h)
-accepted_rests phase.Up c v h o = tt
+accepted_rests : (p : Phase) (a c : End) (w v : Way) → c.way ≡ sides.accepted_way p a.way → Hears v 0 0 → RestsOwn p a w → RestsOwn (sides.accepted p) c v
+accepted_rests phase.Unseen a c w v e h r = tt
+accepted_rests phase.Out a c w v e h r = tt
+accepted_rests phase.Waiting a c w v e h r = (subst (λ x. OwnIf x 0 0) (sym e) (answered_own a.way), inr h)
+accepted_rests phase.Answered a c w v e h r = (subst (λ x. OwnIf x 0 0) (sym e) (again_own a.way 0 0 r.0), inr h)
+accepted_rests phase.Up a c w v e h r = tt
 
 accepting_other : (p : Phase) (w : Way) → Rested w → RestsOther (sides.accepting p) w
 accepting_other phase.Unseen w r = tt
@@ -743,22 +731,21 @@ new_own phase.Up a w h r = absurd h
 
 accepted_fits : (t v : Sides) (stand : Stand) (p : Peer) (way : List PlainFrame) (f : Bool) → Accepted t v → Fits t.other t.own stand p way → Fits v.other v.own stand p (way ++ ua f ∷ [])
 accepted_fits t v stand p way f a h =
-    let rested = subst Rested (sym a.own) (accepting_rested (sides.answered_phase t) t.own.way) in
-    let begins = λ (w : Awaits t.other.phase). subst (λ x. OwnIf x 0 0) (sym a.other) (answered_any t (λ p. OwnIf (sides.accepted_way p t.other.way) 0 0) (inl refl) (new_own t.other.phase t.other t.own.way w h.own)) in
+    let rested = subst Rested (sym a.own) (accepting_rested t.other.phase t.own.way) in
     record {
       asked = asked_more way (ua f) t.own.asked v.own.asked h.asked (subst (λ x. min (t.own.asked + 0) 255 ≤ x) (sym a.asked) (within t.own.asked));
-      own = subst (λ x. RestsOwn x v.other v.own.way) (sym a.other_phase) (accepted_rests t.other.phase v.other v.own.way rested.hears begins);
+      own = subst (λ x. RestsOwn x v.other v.own.way) (sym a.other_phase) (accepted_rests t.other.phase t.other v.other t.own.way v.own.way a.other rested.hears h.own);
       other = subst (λ x. RestsOther x v.own.way) (sym a.phase) (accepting_other t.own.phase v.own.way rested);
       sabms = rest_all v.own.way (way ++ ua f ∷ []) rested;
       holds = holds_more t.other t.own v.other v.own stand p way (ua f) (λ w. subst Awaits (sym a.other_phase) (accepted_awaits t.other.phase w))
           (λ m u g told s. record {
             up = ap sides.may_run a.other_phase ∙ accepted_up t.other.phase s.up;
-            own = subst (λ w. OwnIf w m u) (sym a.other) (answered_any t (λ p. OwnIf (sides.accepted_way p t.other.way) m u) (inl refl) (accepted_own t.other.phase t.other.way m u s.up s.own));
-            hears = subst (λ w. Hears w g told) (sym a.own) (answered_any t (λ p. Hears (sides.accepting_way p t.own.way) g told) (accepting_hears phase.Unseen t.own.way g told refl s.hears) (accepting_hears t.other.phase t.own.way g told s.up s.hears));
+            own = subst (λ w. OwnIf w m u) (sym a.other) (accepted_own t.other.phase t.other.way m u s.up s.own);
+            hears = subst (λ w. Hears w g told) (sym a.own) (accepting_hears t.other.phase t.own.way g told s.up s.hears);
           })
           (λ w is. record {
             up = ap sides.may_run a.other_phase ∙ awaits_up t.other.phase w;
-            own = begins w;
+            own = subst (λ x. OwnIf x 0 0) (sym a.other) (new_own t.other.phase t.other t.own.way w h.own);
             hears = rested.hears;
           }) h.holds;
     }
@@ -817,13 +804,6 @@ accepted_other phase.Waiting w r = answered_rested w
 accepted_other phase.Answered w r = again_rested w r
 accepted_other phase.Up w r = tt
 
-lost_other : (p : Phase) (w : Way) → RestsOther p (way.lost w)
-lost_other phase.Unseen w = tt
-lost_other phase.Out w = tt
-lost_other phase.Waiting w = tt
-lost_other phase.Answered w = lost_rested w
-lost_other phase.Up w = tt
-
 accepting_up : (p : Phase) → sides.may_run (sides.accepting p) ≡ true
 accepting_up phase.Unseen = refl
 accepting_up phase.Out = refl
@@ -843,9 +823,9 @@ answers_fits : (t v : Sides) (stand next : Stand) (p q : Peer) (frame : PlainFra
 answers_fits t v stand next p q frame rest one a f holds = record {
   asked = subst (λ x. min (asks_all rest) 255 ≤ x) (sym a.other_asked) (fewer (asks_all rest) t.other.asked (subst (λ x. min (x + asks_all rest) 255 ≤ t.other.asked) one f.asked));
   own = subst (λ x. RestsOwn x v.own v.other.way) (sym a.phase)
-      (accepting_rests t.own.phase t.own v.own t.other.way v.other.way a.asked (subst (λ w. OwnIf w 0 0) (sym a.own) (accepting_own (sides.answered_phase t) t.own.way)) (λ h. subst (λ w. Hears w 0 0) (sym a.other) (none_hears (sides.answered_phase t) t.other.way h)) f.own);
-  other = subst (λ x. RestsOther x v.other.way) (sym a.other_phase) (subst (λ w. RestsOther (sides.accepted t.other.phase) w) (sym a.other) (answered_any t (λ p. RestsOther (sides.accepted t.other.phase) (sides.accepted_way p t.other.way)) (lost_other (sides.accepted t.other.phase) t.other.way) (accepted_other t.other.phase t.other.way f.other)));
-  sabms = sabms_to t.other.way v.other.way rest (λ r. subst Rested (sym a.other) (accepted_rested (sides.answered_phase t) t.other.way r)) f.sabms.1;
+      (accepting_rests t.own.phase t.own v.own t.other.way v.other.way a.asked (subst (λ w. OwnIf w 0 0) (sym a.own) (accepting_own t.other.phase t.own.way)) (λ h. subst (λ w. Hears w 0 0) (sym a.other) (none_hears t.other.phase t.other.way h)) f.own);
+  other = subst (λ x. RestsOther x v.other.way) (sym a.other_phase) (subst (λ w. RestsOther (sides.accepted t.other.phase) w) (sym a.other) (accepted_other t.other.phase t.other.way f.other));
+  sabms = sabms_to t.other.way v.other.way rest (λ r. subst Rested (sym a.other) (accepted_rested t.other.phase t.other.way r)) f.sabms.1;
   holds = holds;
 }
   where
@@ -859,8 +839,8 @@ answers_fits t v stand next p q frame rest one a f holds = record {
 begun_seen : (t v : Sides) (stand : Stand) (p : Peer) (b : Bool) (rest : List PlainFrame) → HaveNoNumber rest → Accepted t v → Fits t.own t.other stand p (sabm b ∷ rest) → Seen v.own v.other 0 0 0 0
 begun_seen t v stand p b rest bare a f = record {
   up = ap sides.may_run a.phase ∙ accepting_up t.own.phase;
-  own = subst (λ w. OwnIf w 0 0) (sym a.own) (accepting_own (sides.answered_phase t) t.own.way);
-  hears = (subst Rested (sym a.other) (accepted_rested (sides.answered_phase t) t.other.way (f.sabms.0 tt bare))).hears;
+  own = subst (λ w. OwnIf w 0 0) (sym a.own) (accepting_own t.other.phase t.own.way);
+  hears = (subst Rested (sym a.other) (accepted_rested t.other.phase t.other.way (f.sabms.0 tt bare))).hears;
 }
 
 in_quiet : (a b : End) (rest : List PlainFrame) → HaveNoNumber rest → Seen a b 0 0 0 0 → SeenIn a b fresh_peer rest

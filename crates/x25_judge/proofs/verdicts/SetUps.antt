@@ -1,6 +1,6 @@
 -- SABM and UA begin the numbers of both ends.
 use Rattle.std.proofs.Common.{◌≡◌, ◌==◌, ℕ, ◌+◌, ◌%◌, min, arith, Bool, true, false, List, [], ◌∷◌, length, Option, Some, None, Result, Ok, Err, refl, sym, ap, ◌∙◌, subst}
-use Rattle.std.specs.Prelude.{not, ◌&&◌, ◌||◌}
+use Rattle.std.specs.Prelude.{not, ◌&&◌}
 use Rattle.std.proofs.lemmas.Bool.{cond_both, ne_eqb, and_right, cond-false}
 use Rattle.std.proofs.lemmas.List.{length-set}
 use Rattle.x25_bits.specs.declared.role.Role.{Role}
@@ -109,7 +109,6 @@ record Asks (e : End) : Type 0 where
   pub knows : Bool
   pub way : e.way ≡ way.fresh knows
   pub asked : (e.asked == 0) ≡ false
-  pub plain : e.is_owed ≡ false
 
 waits : (p : Phase) → (IsAnswered p → ⊥) → sides.asking p ≡ Waiting
 waits Unseen h = refl
@@ -131,19 +130,13 @@ asks_anew Waiting anew w h = refl
 asks_anew Answered anew w h = absurd (h tt)
 asks_anew Up anew w h = refl
 
-sabm_asks : (window : ℕ) (s p : Bool) (t : Sides) → (IsAnswered t.own.phase → ⊥) → t.own.is_owed ≡ false → Asks (sides.sees window s (sabm p) t).own
+sabm_asks : (window : ℕ) (s p : Bool) (t : Sides) → (IsAnswered t.own.phase → ⊥) → Asks (sides.sees window s (sabm p) t).own
 unfolding sides.sees
-sabm_asks window s false t h plain = record { phase = waits t.own.phase h; knows = sides.is_known t; way = asks_anew t.own.phase (way.fresh (sides.is_known t)) t.own.way h; asked = some_asked t.own.asked; plain = plain }
-sabm_asks window s true t h plain =
+sabm_asks window s false t h = record { phase = waits t.own.phase h; knows = sides.awaits_ua t.other.phase; way = asks_anew t.own.phase (way.fresh (sides.awaits_ua t.other.phase)) t.own.way h; asked = some_asked t.own.asked }
+sabm_asks window s true t h =
     cond_both t.own.is_polling (sides.notes (Some PollAgain) (sides.asks_on true t)) (sides.asks_on true t) (λ (v : Sides). Asks (sides.asks (sides.asks_more v)).own)
-    (λ _. record { phase = waits t.own.phase h; knows = sides.is_known t; way = asks_anew t.own.phase (way.fresh (sides.is_known t)) t.own.way h; asked = some_asked t.own.asked; plain = plain })
-    (λ _. record { phase = waits t.own.phase h; knows = sides.is_known t; way = asks_anew t.own.phase (way.fresh (sides.is_known t)) t.own.way h; asked = some_asked t.own.asked; plain = plain })
-
-sabm_leaves : (window : ℕ) (s p : Bool) (t : Sides) → (sides.sees window s (sabm p) t).other ≡ t.other
-unfolding sides.sees
-sabm_leaves window s false t = refl
-sabm_leaves window s true t =
-    cond_both t.own.is_polling (sides.notes (Some PollAgain) (sides.asks_on true t)) (sides.asks_on true t) (λ (v : Sides). (sides.asks (sides.asks_more v)).other ≡ t.other) (λ _. refl) (λ _. refl)
+    (λ _. record { phase = waits t.own.phase h; knows = sides.awaits_ua t.other.phase; way = asks_anew t.own.phase (way.fresh (sides.awaits_ua t.other.phase)) t.own.way h; asked = some_asked t.own.asked })
+    (λ _. record { phase = waits t.own.phase h; knows = sides.awaits_ua t.other.phase; way = asks_anew t.own.phase (way.fresh (sides.awaits_ua t.other.phase)) t.own.way h; asked = some_asked t.own.asked })
 
 -- ---- UA
 
@@ -167,43 +160,31 @@ answered_fresh false = refl
 record Kept (e : End) (v : Sides) : Type 0 where
   pub phase : v.other.phase ≡ e.phase
   pub way : v.other.way ≡ e.way
-  pub owed : v.other.is_owed ≡ e.is_owed
 
-accepts_begin : (e : End) (v : Sides) → v.own.is_owed ≡ false → Asks e → Kept e v → AreBegun (sides.accepts v)
-accepts_begin e v plain a k =
-    let late = ap (λ o. o || (v.other.is_owed && not (sides.is_up v.other.phase))) plain ∙ ap (λ o. o && not (sides.is_up v.other.phase)) (k.owed ∙ a.plain) in
+accepts_begin : (e : End) (v : Sides) → Asks e → Kept e v → AreBegun (sides.accepts v)
+accepts_begin e v a k =
     let waiting = k.phase ∙ a.phase in
-    let answered = cond-false (sides.is_late v) Unseen v.other.phase late ∙ waiting in
     record {
       own_up = is_up v.own.phase;
-      own = ap (λ p. sides.accepting_way p v.own.way) answered;
+      own = ap (λ p. sides.accepting_way p v.own.way) waiting;
       other_up = ap (λ p. sides.may_run (sides.accepted p)) waiting;
-      opposite = ap (λ p. sides.accepted_way p v.other.way) answered ∙ ap way.answered (k.way ∙ a.way) ∙ answered_fresh a.knows;
+      opposite = ap (λ p. sides.accepted_way p v.other.way) waiting ∙ ap way.answered (k.way ∙ a.way) ∙ answered_fresh a.knows;
     }
 
 answered_kept : (f : Bool) (t : Sides) → Kept t.other (sides.answers (sides.answers_if f t))
-answered_kept false t = record { phase = refl; way = refl; owed = refl }
+answered_kept false t = record { phase = refl; way = refl }
 answered_kept true t =
     cond_both (not (t.other.polls == 0)) (sides.poll_answered t) _ (λ (v : Sides). Kept t.other (sides.answers v))
-    (λ _. record { phase = refl; way = refl; owed = refl })
+    (λ _. record { phase = refl; way = refl })
     (λ _. cond_both (t.other.is_followed && not (sides.is_unseen t.own.phase)) (sides.tells (Some NoPoll) (sides.poll_answered t)) (sides.notes (Some PollUnseen) (sides.poll_answered t)) (λ (v : Sides). Kept t.other (sides.answers v))
-    (λ _. record { phase = refl; way = refl; owed = refl })
-    (λ _. record { phase = refl; way = refl; owed = refl }))
+    (λ _. record { phase = refl; way = refl })
+    (λ _. record { phase = refl; way = refl }))
 
-own_kept : (f : Bool) (t : Sides) → (sides.answers (sides.answers_if f t)).own.is_owed ≡ t.own.is_owed
-own_kept false t = refl
-own_kept true t =
-    cond_both (not (t.other.polls == 0)) (sides.poll_answered t) _ (λ (v : Sides). (sides.answers v).own.is_owed ≡ t.own.is_owed)
-    (λ _. refl)
-    (λ _. cond_both (t.other.is_followed && not (sides.is_unseen t.own.phase)) (sides.tells (Some NoPoll) (sides.poll_answered t)) (sides.notes (Some PollUnseen) (sides.poll_answered t)) (λ (v : Sides). (sides.answers v).own.is_owed ≡ t.own.is_owed)
-    (λ _. refl)
-    (λ _. refl))
-
-ua_begins : (window : ℕ) (s f : Bool) (t : Sides) → t.own.is_owed ≡ false → Asks t.other → AreBegun (sides.sees window s (ua f) t)
+ua_begins : (window : ℕ) (s f : Bool) (t : Sides) → Asks t.other → AreBegun (sides.sees window s (ua f) t)
 unfolding sides.sees
-ua_begins window s f t plain a =
+ua_begins window s f t a =
     subst (λ v. AreBegun v) (sym (cond-false (sides.is_unasked t) (sides.tells (Some UaUnasked) t) (sides.accepts (sides.answers (sides.answers_if f t))) (and_right t.other.is_followed (t.other.asked == 0) a.asked)))
-    (accepts_begin t.other (sides.answers (sides.answers_if f t)) (own_kept f t ∙ plain) a (answered_kept f t))
+    (accepts_begin t.other (sides.answers (sides.answers_if f t)) a (answered_kept f t))
 
 -- ---- both
 
@@ -214,17 +195,16 @@ begun Dce j k t f g b rooms Dce = record { up = ap (λ (e : End). sides.may_run 
 begun Dce j k t f g b rooms Dte = record { up = ap (λ (e : End). sides.may_run e.phase) g.opposite ∙ b.other_up; way = ap (λ (e : End). e.way) g.opposite ∙ b.opposite; room = rooms Dte }
 
 pub set_ups_begin : SetUpsBegin
-set_ups_begin window reading strictness lines from asks accepts asked accepted p f shows_asks shows_accepts unanswered plain =
+set_ups_begin window reading strictness lines from asks accepts asked accepted p f shows_asks shows_accepts unanswered =
     let j = after (begins window reading strictness) lines in
     let k = (answer_to j asks).next in
     let g = goes j asks from asked (sabm p) shows_asks in
     let asking : Asks (end_of from k) =
-    subst (λ (e : End). Asks e) (sym g.own) (sabm_asks j.window _ p (sides_of from j) (λ (a : IsAnswered (sides_of from j).own.phase). unanswered (subst (λ (e : End). IsAnswered e.phase) (stands j from).own a)) (ap (λ (e : End). e.is_owed) (stands j from).own ∙ plain from)) in
+    subst (λ (e : End). Asks e) (sym g.own) (sabm_asks j.window _ p (sides_of from j) (λ (a : IsAnswered (sides_of from j).own.phase). unanswered (subst (λ (e : End). IsAnswered e.phase) (stands j from).own a))) in
     let at_other : Asks (sides_of (other from) k).other = subst (λ (e : End). Asks e) (sym ((stands k (other from)).opposite ∙ ap (λ r. end_of r k) (other_twice from))) asking in
-    let answerer = (stands k (other from)).own ∙ g.opposite ∙ sabm_leaves j.window _ p (sides_of from j) ∙ (stands j from).opposite in
     let l = (answer_to k accepts).next in
     let stays = line_stays window k accepts (line_stays window j asks (lines_stay window (begins window reading strictness) lines (begins_so window reading strictness))) in
     record {
-      up = begun (other from) k l (seen_by k (other from) (ua f)) f (goes k accepts (other from) accepted (ua f) shows_accepts) (ua_begins k.window _ f (sides_of (other from) k) (ap (λ (e : End). e.is_owed) answerer ∙ plain (other from)) at_other) stays.rooms;
+      up = begun (other from) k l (seen_by k (other from) (ua f)) f (goes k accepts (other from) accepted (ua f) shows_accepts) (ua_begins k.window _ f (sides_of (other from) k) at_other) stays.rooms;
       counts = stays.counts;
     }

@@ -66,12 +66,11 @@ pub record SetsUp (j : Judge) (window : ℕ) : Type 0 where
   pub up : IsSetUp j
   pub counts : j.window ≡ window
 
--- wherever a trace shows SABM of an end and then UA of the other, but where UA may answer a SABM of before
+-- wherever a trace shows SABM of an end and then UA of the other
 abbrev pub SetUpsBegin : Type 0
 SetUpsBegin =
     (window : ℕ) (reading : Reading) (strictness : Strictness) (lines : List (List ℕ)) (from : Role)
     (asks accepts asked accepted : List ℕ) (p f : Bool)
     → Shows asks from asked (sabm p) → Shows accepts (other from) accepted (ua f)
     → (IsAnswered (end_of from (after (begins window reading strictness) lines)).phase → ⊥)
-    → ((end : Role) → (end_of end (after (begins window reading strictness) lines)).is_owed ≡ false)
     → SetsUp (after (after (begins window reading strictness) lines) (asks ∷ accepts ∷ [])) window
