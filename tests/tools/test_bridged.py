@@ -18,6 +18,8 @@ CALL = "dte call 123 4567 41"
 ANSWER = "wait dce incoming\ndce accept 1\n"
 OPENING = f"dte connect\nwait dte restarted\n{CALL}\nwait dte connected\n"
 SECONDS = 900
+# An I frame of a trace that carries RNR.
+RNR = re.compile(rb"[<>] 0[13].[02468ace]1001[02468ace]5")
 
 
 def free_ports(count):
@@ -277,8 +279,11 @@ class Two(ToolCase):
         for end, opening in (("dte", OPENING), ("dce", ANSWER)):
             self.file(end, (opening + "".join(f"{end} send 1 0 {octets}\n" for octets in sent[end])).encode())
         dce, line = self.listening("--t1", "1", "--stay", "--commands", os.path.join(self.folder, "dce"))
-        dte = self.begin("dte", *line, "--t1", "1", "--stay", "--commands", os.path.join(self.folder, "dte"))
-        time.sleep(3)
+        trace = os.path.join(self.folder, "trace")
+        dte = self.begin("dte", *line, "--t1", "1", "--stay", "--commands", os.path.join(self.folder, "dte"), "--trace", trace)
+        last = time.monotonic() + SECONDS
+        while not (os.path.exists(trace) and RNR.search(support.read(trace))) and time.monotonic() < last:
+            time.sleep(0.1)
         told = {"dte": [], "dce": []}
 
         def take(child, notices):
