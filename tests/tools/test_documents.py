@@ -126,13 +126,13 @@ class Commands(unittest.TestCase):
                         self.assertIn(word, known)
 
     def test_each_task_of_the_program_is_there(self):
-        tasks = re.findall(r'\bCommand::new\(alloc, "(\w+)"', text_of("crates", "x25_settings", "src", "parser.rt"))
+        tasks = re.findall(r'^        name: "(\w+)"', text_of("crates", "x25_settings", "src", "parser.rt"), re.MULTILINE)
         self.assertGreater(len(tasks), 5)
         self.check(r"(?<![\w/.-])x25 ([a-z]+)\b", {*tasks, "help"})
 
     def test_each_option_is_there(self):
         sources = [path for path in files() if path.endswith(".py") or path.startswith(".ci/") or os.path.basename(path) == "parser.rt"]
-        known = {option for path in sources for option in re.findall(r"--([a-z][\w-]+)|\.long\(\"([\w-]+)\"\)", text_of(path)) for option in option}
+        known = {option for path in sources for option in re.findall(r"--([a-z][\w-]+)|Flag\(\s*\"([\w-]+)\"", text_of(path)) for option in option}
         self.check(r"(?<![\w-])--([a-z][\w-]+)", known | {"version", "help", "test", "only", "start", "generated", "no-install-recommends"})
 
     def test_each_script_is_there(self):
