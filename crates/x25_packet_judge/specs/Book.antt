@@ -14,7 +14,7 @@ use Rattle.x25_packet_judge.specs.Layer.{unseen}
 use Rattle.x25_packet_judge.specs.Layers as layers
 use Rattle.x25_packet_judge.specs.Packets.{sends}
 use Rattle.x25_packet_judge.specs.Pair.{is_known, noted, unknown}
-use Rattle.x25_packet_judge.specs.Port.{all_alike, blank, fresh}
+use Rattle.x25_packet_judge.specs.Port.{all_alike, blank, doubted, fresh}
 use Rattle.x25_packet_judge.specs.declared.book.Book.{Book}
 use Rattle.x25_packet_judge.specs.declared.book.Verdict.{Verdict}
 use Rattle.x25_packet_judge.specs.declared.layers.Layers.{Layers}
@@ -147,8 +147,8 @@ confirms_lost from t b = if layers.is_sure_answer t then refinds from t b
 abbrev pub answers : Role → Layers → Book → Seen
 answers from t b = if layers.are_counted t then restarts from (layers.answers_restart t) b else refinds from t b
 
--- A confirmation of none that was seen, or again of one that was sent again: of the channels of its sender nothing is
--- known, and of the other end's what was followed.
+-- A confirmation of none, or again of one that was sent again: of the channels of its sender nothing is known, and of
+-- the other end's what was followed. Where restarts aren't counted it may be of one that wasn't seen.
 unfoldable pub confirms : Role → Layers → Book → Seen
 confirms from t b =
     if layers.are_lost t then confirms_lost from t b
@@ -156,8 +156,7 @@ confirms from t b =
     else if layers.is_second_answer t then told (keeps from (layers.confirms_again t) (fills from blank b)) None
     else if layers.are_counted t
     then told (keeps from (layers.confirms_unseen t) (fills from blank b)) (layers.confirms_unseen t).rule
-    else if layers.are_sure t then quiet (keeps from (layers.confirms_unseen t) (fills from blank b))
-    else quiet (keeps from (layers.confirms_unseen t) (fills_both blank b))
+    else quiet (keeps from (layers.confirms_unseen t) b)
 
 unfoldable pub takes : Role → ℕ → PlainPacket → Book → Seen
 takes from channel (restart cause diagnostic) b = restarts from (layers.restarts (layers_of from b)) b
@@ -234,10 +233,11 @@ sends_info from reading ns nr octets is_broken b =
 unfoldable pub begins : Role → Layers → Book → Book
 begins from t b = keeps from t (fills_both fresh b)
 
--- UA; behind frames of the other end, which is up, it comes again, and nothing is known of channels
+-- UA; behind frames of the other end, which is up, it comes again, and nothing is known of channels, nor which
+-- acceptances of before may still be taken for the answer to a CALL
 unfoldable pub accepts : Role → Layers → Book → Book
 accepts from t b = if t.other.is_fresh then begins from (layers.accepts t) b
-    else keeps from (layers.accepts t) (fills_both blank b)
+    else keeps from (layers.accepts t) (fills_both (doubted blank) b)
 
 unfoldable pub accepts_if : Role → Bool → Layers → Book → Book
 accepts_if from is_broken t b = if is_broken && layers.is_unasked t then b else accepts from t b

@@ -164,9 +164,9 @@ refinds t = with_other (found Asking t.other) (with_own (found Ready t.own) t)
 abbrev pub answers_restart : Layers → Layers
 answers_restart t = marks Ready t
 
--- Else it answers a RESTART that wasn't seen, or none.
+-- Else it answers a RESTART that wasn't seen, or none, and may be taken for the answer to a later one.
 abbrev pub confirms_unseen : Layers → Layers
-confirms_unseen t = if are_counted t then strays (give_up (tells RestartUnasked t)) else opens t
+confirms_unseen t = if are_counted t then strays (give_up (tells RestartUnasked t)) else goes_to Ready (strays t)
 
 -- Behind a fault it does where the RESTART that was sent last is the only one that may be confirmed, and no other
 -- answer to it may be on its way.

@@ -307,13 +307,7 @@ impl Book {
             self.keep(from, next);
             return told(next.rule);
         }
-        if layers.are_sure() {
-            self.fill(from, Port::blank());
-            self.keep(from, next);
-        } else {
-            self.fill_both(Port::blank());
-            self.keep(from, next);
-        }
+        self.keep(from, next);
         passed(None)
     }
 
@@ -442,7 +436,7 @@ impl Book {
         if layers.other.is_fresh {
             self.begins(from, layers.accepts());
         } else {
-            self.fill_both(Port::blank());
+            self.fill_both(Port::blank().doubted());
             self.keep(from, layers.accepts());
         }
     }

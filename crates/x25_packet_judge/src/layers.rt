@@ -353,14 +353,14 @@ impl Layers {
             .goes_to(Restart::Ready)
     }
 
-    /// Else it answers a RESTART that wasn't seen, or none.
+    /// Else it answers a RESTART that wasn't seen, or none, and may be taken for the answer to a later one.
     pub(crate) fn confirms_unseen(self) -> Layers
         ensures { result ≡ definition.confirms_unseen self }
     {
         if self.are_counted() {
             self.tells(PacketRule::RestartUnasked).give_up().strays()
         } else {
-            self.opens()
+            self.strays().goes_to(Restart::Ready)
         }
     }
 

@@ -199,10 +199,6 @@ pub kept_fills : (from : Role) (channel : ℕ) (t : Layers) (p : Port) (b : Book
 kept_fills Dte channel t p b F full f = record { book = record { dte = filled_full p; dce = full.dce }; parts = subst (λ x. F t.own t.other x (port_of channel b.dce_ports)) (sym (filled channel p)) f }
 kept_fills Dce channel t p b F full f = record { book = record { dte = full.dte; dce = filled_full p }; parts = subst (λ x. F t.own t.other x (port_of channel b.dte_ports)) (sym (filled channel p)) f }
 
-pub kept_both : (from : Role) (channel : ℕ) (t : Layers) (p : Port) (b : Book) (F : Parts) → IsBook b → F t.own t.other p p → Left from channel F (keeps from t (book.fills_both p b))
-kept_both Dte channel t p b F full f = record { book = record { dte = filled_full p; dce = filled_full p }; parts = subst (λ x. F t.own t.other x (port_of channel (port.all_alike p))) (sym (filled channel p)) (subst (F t.own t.other p) (sym (filled channel p)) f) }
-kept_both Dce channel t p b F full f = record { book = record { dte = filled_full p; dce = filled_full p }; parts = subst (λ x. F t.own t.other x (port_of channel (port.all_alike p))) (sym (filled channel p)) (subst (F t.own t.other p) (sym (filled channel p)) f) }
-
 pub fills_book : (from : Role) (p : Port) (b : Book) → IsBook b → IsBook (fills from p b)
 fills_book Dte p b full = record { dte = filled_full p; dce = full.dce }
 fills_book Dce p b full = record { dte = full.dte; dce = filled_full p }
@@ -212,11 +208,10 @@ pub confirms_parts : (from : Role) (channel : ℕ) (t : Layers) (b : Book) (F : 
     → (layers.are_lost t ≡ true → F (layers.confirms_lost t).own (layers.confirms_lost t).other (port_at from channel b) (port_at (other from) channel b))
     → (layers.are_lost t ≡ false → layers.are_counted t ≡ true → F (layers.confirms_again t).own (layers.confirms_again t).other port.blank (port_at (other from) channel b))
     → (layers.are_lost t ≡ false → layers.are_counted t ≡ true → F (layers.confirms_unseen t).own (layers.confirms_unseen t).other port.blank (port_at (other from) channel b))
-    → (layers.are_lost t ≡ false → layers.are_counted t ≡ false → layers.are_sure t ≡ true → F (layers.confirms_unseen t).own (layers.confirms_unseen t).other port.blank (port_at (other from) channel b))
-    → (layers.are_lost t ≡ false → layers.are_counted t ≡ false → F (layers.confirms_unseen t).own (layers.confirms_unseen t).other port.blank port.blank)
+    → (layers.are_lost t ≡ false → layers.are_counted t ≡ false → F (layers.confirms_unseen t).own (layers.confirms_unseen t).other (port_at from channel b) (port_at (other from) channel b))
     → Left from channel F (book.confirms from t b).book
 unfolding book.confirms
-confirms_parts from channel t b F full none none_too lost second counted sure dark =
+confirms_parts from channel t b F full none none_too lost second counted unseen =
     cond_both (layers.are_lost t) _ _ (λ (s : book.Seen). Left from channel F s.book)
     (λ is. subst (λ (s : book.Seen). Left from channel F s.book) (sym (cond-false (layers.is_sure_answer t) _ _ none)) (keeps_parts from channel (layers.confirms_lost t) b F full (lost is)))
     (λ not_lost. subst (λ (s : book.Seen). Left from channel F s.book) (sym (cond-false (layers.is_answer t) _ _ (none_too not_lost)))
@@ -224,6 +219,4 @@ confirms_parts from channel t b F full none none_too lost second counted sure da
     (λ is. kept_fills from channel (layers.confirms_again t) port.blank b F full (second not_lost (and_parts (layers.are_counted t) _ is).0))
     (λ _. cond_both (layers.are_counted t) _ _ (λ (s : book.Seen). Left from channel F s.book)
     (λ is. kept_fills from channel (layers.confirms_unseen t) port.blank b F full (counted not_lost is))
-    (λ is. cond_both (layers.are_sure t) _ _ (λ (s : book.Seen). Left from channel F s.book)
-    (λ known. kept_fills from channel (layers.confirms_unseen t) port.blank b F full (sure not_lost is known))
-    (λ _. kept_both from channel (layers.confirms_unseen t) port.blank b F full (dark not_lost is))))))
+    (λ is. keeps_parts from channel (layers.confirms_unseen t) b F full (unseen not_lost is)))))

@@ -438,13 +438,9 @@ module _ (from : Role) (s : Phase) (way : List PlainPacket) (P O : Layer) (p o :
   unseen_counted : layers.are_lost (theirs P O) ≡ false → layers.are_counted (theirs P O) ≡ true → Fits from s way (layers.confirms_unseen (theirs P O)).other (layers.confirms_unseen (theirs P O)).own p port.blank
   unseen_counted found counted = subst (λ (T : Layers). Fits from s way T.other T.own p port.blank) (sym (cond-true (layers.are_counted (theirs P O)) _ _ counted)) (lost_fits from s way _ _ p port.blank refl refl refl refl)
 
-  unseen_sure : layers.are_lost (theirs P O) ≡ false → layers.are_counted (theirs P O) ≡ false → layers.are_sure (theirs P O) ≡ true → Fits from s way (layers.confirms_unseen (theirs P O)).other (layers.confirms_unseen (theirs P O)).own p port.blank
-  unseen_sure found uncounted sure = subst (λ (T : Layers). Fits from s way T.other T.own p port.blank) (sym (cond-false (layers.are_counted (theirs P O)) _ _ uncounted))
-      (opened_fits (layers.opens (theirs P O)).other (layers.opens (theirs P O)).own port.blank refl refl (or_turned P.is_lost O.is_lost ∙ found) refl refl refl (on_blank from P O (layers.opens (theirs P O)).other (layers.opens (theirs P O)).own p o refl s way (h.on (sure_so sure))))
-
-unseen_dark : (from : Role) (s : Phase) (way : List PlainPacket) (P O : Layer) → layers.are_lost (theirs P O) ≡ false → layers.are_counted (theirs P O) ≡ false → Fits from s way (layers.confirms_unseen (theirs P O)).other (layers.confirms_unseen (theirs P O)).own port.blank port.blank
-unseen_dark from s way P O found uncounted = subst (λ (T : Layers). Fits from s way T.other T.own port.blank port.blank) (sym (cond-false (layers.are_counted (theirs P O)) _ _ uncounted))
-    (record { ready = refl; begun = refl; found = λ _. or_turned P.is_lost O.is_lost ∙ found; uncounted = λ _. refl; owed = λ _. refl; on = λ _. inr (record { dark = record { known = refl; unsure = inl refl; uncalled = refl }; still = inl refl }) })
+  unseen_uncounted : layers.are_counted (theirs P O) ≡ false → Fits from s way (layers.confirms_unseen (theirs P O)).other (layers.confirms_unseen (theirs P O)).own p o
+  unseen_uncounted uncounted = subst (λ (T : Layers). Fits from s way T.other T.own p o) (sym (cond-false (layers.are_counted (theirs P O)) _ _ uncounted))
+      (record { ready = h.ready; begun = refl; found = h.found; uncounted = h.uncounted; owed = h.owed; on = h.on })
 
 -- ---- the book
 
@@ -603,14 +599,12 @@ module _ (channel : ℕ) (b : Book) (s : Phase) (way : List PlainPacket) where
       (λ lost. confirms_lost_fits Dte s way b.dte b.dce (port_at Dte channel b) (port_at Dce channel b) x.parts lost)
       (λ found counted. again_fits Dte s way b.dte b.dce (port_at Dte channel b) (port_at Dce channel b) x.parts found counted)
       (λ found counted. unseen_counted Dte s way b.dte b.dce (port_at Dte channel b) (port_at Dce channel b) x.parts found counted)
-      (λ found uncounted sure. unseen_sure Dte s way b.dte b.dce (port_at Dte channel b) (port_at Dce channel b) x.parts found uncounted sure)
-      (λ found uncounted. unseen_dark Dte s way b.dte b.dce found uncounted))
+      (λ found uncounted. unseen_uncounted Dte s way b.dte b.dce (port_at Dte channel b) (port_at Dce channel b) x.parts uncounted))
   confirms_at Dce x = as_dce way _ (confirms_parts Dte channel (layers_of Dte b) b (Theirs Dce way) x.book (sure_answer_not Dce s way b.dce b.dte (port_at Dce channel b) (port_at Dte channel b) x.parts) (λ _. answer_not Dce s way b.dce b.dte (port_at Dce channel b) (port_at Dte channel b) x.parts)
       (λ lost. confirms_lost_fits Dce s way b.dce b.dte (port_at Dce channel b) (port_at Dte channel b) x.parts lost)
       (λ found counted. again_fits Dce s way b.dce b.dte (port_at Dce channel b) (port_at Dte channel b) x.parts found counted)
       (λ found counted. unseen_counted Dce s way b.dce b.dte (port_at Dce channel b) (port_at Dte channel b) x.parts found counted)
-      (λ found uncounted sure. unseen_sure Dce s way b.dce b.dte (port_at Dce channel b) (port_at Dte channel b) x.parts found uncounted sure)
-      (λ found uncounted. unseen_dark Dce s way b.dce b.dte found uncounted))
+      (λ found uncounted. unseen_uncounted Dce s way b.dce b.dte (port_at Dce channel b) (port_at Dte channel b) x.parts uncounted))
 
   quiet_at : (from : Role) (r : Phase) (packet : PlainPacket) → MayDo s packet r → At from channel s way b → (book.takes from channel packet b).verdict.rule ≡ None
   quiet_at Dte r packet may x = untold Dte channel b packet (may_of s r packet may) (early_not (layers_of Dte b) x.parts.ready) (λ e. (on_does Dte s r way b.dte b.dce (port_at Dte channel b) (port_at Dce channel b) packet may (x.parts.on e)).quiet)
