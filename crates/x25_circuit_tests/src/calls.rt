@@ -1,4 +1,5 @@
-//! The calls of a circuit without their claims: a body that makes one of the circuit's own carries all that it promises.
+//! The calls of a circuit without their claims: a body that makes one of the circuit's own carries all that it
+//! promises.
 ghost use Rattle.std.specs.Prelude.{◌≡◌, true};
 ghost use Rattle.x25_packet.specs.Packet.{plain};
 ghost use Rattle.x25_packet.specs.Spelling.{HasChannel};

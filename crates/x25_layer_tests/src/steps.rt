@@ -229,8 +229,8 @@ static PULLED: [Row; 8] = [
     (Act::Pull, (40, None), NO_PACKETS, CLOSED),
 ];
 
-// Not taken are those with the qualifier of another packet, on another channel, an RR with the qualifier, one that is too
-// long, and RESET.
+// Not taken are those with the qualifier of another packet, on another channel, an RR with the qualifier, one that is
+// too long, and RESET.
 static TRANSFERS: [Row; 15] = [
     (
         Act::Take(&[0x10, 0x01, 0x0B, 0x00, 0x00]),
