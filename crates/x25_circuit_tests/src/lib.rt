@@ -1,12 +1,10 @@
-//! Worked examples of logical channels.
+//! Tests of `x25_circuit`: each of its public functions with ample memory. What a circuit answers packet by packet is
+//! played by `tests/golden`.
 #![tactic(auto)]
 
 #[cfg(test)]
-mod agreeing;
-#[cfg(test)]
-mod play;
+mod calls;
 #[cfg(test)]
 mod requests;
 #[cfg(test)]
-#[cfg(test)]
-mod tests;
+mod steps;

@@ -1,41 +1,21 @@
 //! The calls of the user in one, and why they would be refused.
 
-use CircuitError::{BadParameter, WrongState};
+use crate::calls::{ask, circuit, hear};
 use std::alloc::Global;
 use std::process::Abort;
 use std::test::Fail;
 use x25_circuit::{Circuit, CircuitError, Params, Proposal, Request, Role};
 use x25_packet::Packet;
 
-/// The refusals of the requests, in order, of a circuit in p1, of one that called, and of one in p4 with d1.
-static REFUSALS: [(
-    Option<CircuitError>,
-    Option<CircuitError>,
-    Option<CircuitError>,
-); 12] = [
-    (None, Some(WrongState), Some(WrongState)),
-    (Some(BadParameter), Some(WrongState), Some(WrongState)),
-    (Some(BadParameter), Some(WrongState), Some(WrongState)),
-    (Some(WrongState), Some(WrongState), Some(WrongState)),
-    (Some(WrongState), Some(WrongState), Some(WrongState)),
-    (Some(WrongState), None, None),
-    (Some(WrongState), Some(WrongState), None),
-    (Some(WrongState), Some(WrongState), None),
-    (Some(WrongState), Some(WrongState), Some(BadParameter)),
-    (Some(WrongState), Some(WrongState), None),
-    (Some(WrongState), Some(WrongState), None),
-    (Some(WrongState), Some(WrongState), None),
-];
-
 /// What is proposed: one that may be, and one that may not.
 #[derive(Drop)]
-struct Proposals {
+pub struct Proposals {
     usual: Proposal,
     size_3: Proposal,
 }
 
 impl Proposals {
-    fn new() -> Proposals {
+    pub fn new() -> Proposals {
         Proposals {
             usual: Proposal::new(Params::default(), false),
             size_3: Proposal::new(
@@ -48,7 +28,8 @@ impl Proposals {
         }
     }
 
-    fn request(&self, index: usize) -> Request<'_> {
+    /// The request of an index up to 11.
+    pub fn request(&self, index: usize) -> Request<'_> {
         match index {
             0 => self.call("2", &self.usual),
             1 => self.call("a", &self.usual),
@@ -80,85 +61,78 @@ impl Proposals {
     }
 }
 
-fn free(alloc: Global) -> Result<Circuit, CircuitError> {
-    Circuit::with(alloc, Role::Dte, false)
-}
+/// Of each request, in order, the number of its refusal or 0: in p1, of a circuit that called, and in p4 with d1.
+static REFUSALS: [[u8; 3]; 12] = [
+    [0, 30, 30],
+    [34, 30, 30],
+    [34, 30, 30],
+    [30, 30, 30],
+    [30, 30, 30],
+    [30, 0, 0],
+    [30, 30, 0],
+    [30, 30, 0],
+    [30, 30, 34],
+    [30, 30, 0],
+    [30, 30, 0],
+    [30, 30, 0],
+];
 
-fn called(alloc: Global) -> Result<Circuit, CircuitError> {
-    let mut circuit = free(alloc)?;
-    let proposals = Proposals::new();
-    circuit.ask(proposals.request(0))?;
-    Ok(circuit)
-}
+/// The other end's answer to a call.
+pub const ACCEPT: Packet<'static> = Packet::Accept {
+    channel: 1,
+    facilities: &[],
+};
 
-// CALL ACCEPTED comes.
-fn open(circuit: &mut Circuit) -> Result<(), Fail> {
-    let (clears, resets) = circuit.counts();
-    if clears == u64::MAX || resets == u64::MAX {
-        return Err("the counts are at their most")?;
+// Brings a circuit in p1 to the place of a number in a row.
+fn goes_to(circuit: &mut Circuit, place: usize) -> Result<(), Fail> {
+    if place > 0 {
+        ask(circuit, Proposals::new().request(0))?;
     }
-    circuit.packet(&Packet::Accept {
-        channel: 1,
-        facilities: &[],
-    })?;
+    if place > 1 {
+        hear(circuit, &ACCEPT)?;
+    }
     Ok(())
 }
 
-fn opened(alloc: Global) -> Result<Circuit, Fail> {
-    let mut circuit = called(alloc)?;
-    open(&mut circuit)?;
-    Ok(circuit)
+fn number(error: Option<CircuitError>) -> u8 {
+    match error {
+        Some(error) => error.number(),
+        None => 0,
+    }
 }
 
-// Why the request would be refused is told, and why it is refused is the same.
-fn is_refused(
-    rt: &impl Abort,
-    mut circuit: Circuit,
-    (index, place): (usize, &str),
-    wanted: Option<CircuitError>,
-) {
+// The refusal that is told beforehand, and the one that comes.
+fn refusals(circuit: &mut Circuit, index: usize) -> (u8, u8) {
     let proposals = Proposals::new();
-    let request = proposals.request(index);
-    let told = circuit.refusal(&request);
-    let refused = circuit.ask(request).err();
-    assert_eq!(rt;
-        (told, refused),
-        (wanted, wanted),
-        "request {index} {place}"
-    );
+    let told = circuit.refusal(&proposals.request(index));
+    (
+        number(told),
+        number(ask(circuit, proposals.request(index)).err()),
+    )
+}
+
+fn refusals_at(alloc: Global, place: usize, index: usize) -> Result<(u8, u8), Fail> {
+    let mut circuit = circuit(alloc, Role::Dte)?;
+    goes_to(&mut circuit, place)?;
+    Ok(refusals(&mut circuit, index))
 }
 
 #[test]
 fn a_request_is_refused_as_was_told(rt: HostRuntime) -> Result<(), Fail> {
-    let alloc = rt.alloc();
-    for (index, &(in_p1, calling, open)) in REFUSALS.iter().enumerate() {
-        is_refused(&rt, free(alloc)?, (index, "in p1"), in_p1);
-        is_refused(&rt, called(alloc)?, (index, "of one that called"), calling);
-        is_refused(&rt, opened(alloc)?, (index, "in p4"), open);
+    for (index, numbers) in REFUSALS.iter().enumerate() {
+        for (place, number) in numbers.iter().enumerate() {
+            let found = refusals_at(rt.alloc(), place, index)?;
+            assert_eq!(rt; found, (*number, *number), "request {index} at {place}");
+        }
     }
     Ok(())
 }
 
-// A call that is asked for is answered by CALL.
-fn answers_call(rt: &impl Abort, circuit: &mut Circuit) -> Result<(), CircuitError> {
-    let proposals = Proposals::new();
-    let packet = circuit.ask(proposals.request(0))?;
-    assert!(rt; matches!(&packet, Some(Packet::Call { channel: 1, .. })));
-    Ok(())
-}
-
-// A message that is asked for waits.
-fn lets_wait(rt: &impl Abort, circuit: &mut Circuit) -> Result<(), CircuitError> {
-    let proposals = Proposals::new();
-    let packet = circuit.ask(proposals.request(6))?;
-    assert!(rt; packet.is_none());
-    assert_eq!(rt; circuit.waits(), 1);
-    Ok(())
-}
-
 #[test]
-fn an_asked_call_answers_call(rt: HostRuntime) -> Result<(), Fail> {
-    answers_call(&rt, &mut free(rt.alloc())?)?;
-    lets_wait(&rt, &mut opened(rt.alloc())?)?;
-    Ok(())
+fn numbers_of_errors(rt: HostRuntime) {
+    let numbers = (
+        CircuitError::WrongState.number(),
+        CircuitError::NoMemory.number(),
+    );
+    assert_eq!(rt; numbers, (30, 70));
 }

@@ -28,17 +28,7 @@ pub fn link(alloc: Global, role: Role, k: u8, n2: u8) -> Result<Box<Link>, LinkE
 
 /// A plain link just made.
 pub fn plain_link(alloc: Global) -> Result<Box<PlainLink>, LinkError> {
-    match Box::new(alloc, PlainLink::new(alloc)?) {
-        Ok(boxed) => Ok(boxed),
-        Err(_) => Err(LinkError::NoMemory),
-    }
-}
-
-/// What a call of a link brought, and the frames to send.
-#[derive(Drop)]
-pub struct Step<'a> {
-    pub frames: Vec<Vec<u8>>,
-    pub heard: Heard<'a>,
+    boxed(alloc, PlainLink::new(alloc)?).ok_or(LinkError::NoMemory)
 }
 
 /// The frames to send.
@@ -48,40 +38,29 @@ pub fn sent(link: &mut Link, alloc: Global) -> Vec<Vec<u8>> {
     frames
 }
 
-// What was heard, and the frames behind it.
-fn behind<'a>(link: &mut Link, alloc: Global, heard: Heard<'a>) -> Step<'a> {
-    let frames = sent(link, alloc);
-    Step { frames, heard }
+pub fn connect(link: &mut Link) -> Result<Heard<'static>, LinkError> {
+    link.connect()
 }
 
-pub fn connect(link: &mut Link, alloc: Global) -> Result<Step<'static>, LinkError> {
-    let heard = link.connect()?;
-    Ok(behind(link, alloc, heard))
-}
-
-pub fn disconnect(link: &mut Link, alloc: Global) -> Result<Step<'static>, LinkError> {
-    let heard = link.disconnect()?;
-    Ok(behind(link, alloc, heard))
+pub fn disconnect(link: &mut Link) -> Result<Heard<'static>, LinkError> {
+    link.disconnect()
 }
 
 /// Leaves Up, where the link is up.
-pub fn abandon(link: &mut Link, alloc: Global) -> Result<Step<'static>, LinkError> {
+pub fn abandon(link: &mut Link) -> Result<Heard<'static>, LinkError> {
     if !link.is_up() {
         return Err(LinkError::NotUp);
     }
-    let heard = link.abandon();
-    Ok(behind(link, alloc, heard))
+    Ok(link.abandon())
 }
 
 /// Timer T1 fires.
-pub fn fire(link: &mut Link, alloc: Global) -> Result<Step<'static>, LinkError> {
-    let heard = link.t1()?;
-    Ok(behind(link, alloc, heard))
+pub fn fire(link: &mut Link) -> Result<Heard<'static>, LinkError> {
+    link.t1()
 }
 
-pub fn take<'a>(link: &mut Link, alloc: Global, octets: &'a [u8]) -> Result<Step<'a>, LinkError> {
-    let heard = link.take(octets)?;
-    Ok(behind(link, alloc, heard))
+pub fn take<'a>(link: &mut Link, octets: &'a [u8]) -> Result<Heard<'a>, LinkError> {
+    link.take(octets)
 }
 
 /// Hands a packet of this octet down, as a packet layer does.

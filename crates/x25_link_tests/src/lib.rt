@@ -1,5 +1,5 @@
-//! Tests of `x25_link`: worked examples of link stations as tables of events and texts, a plain link, and a client of
-//! any link.
+//! Tests of `x25_link`: each public function of a link and of a plain link with ample memory, and a client of any link.
+//! What a link answers frame by frame is played by `tests/golden`.
 #![tactic(auto)]
 
 #[cfg(test)]
@@ -7,22 +7,8 @@ mod calls;
 #[cfg(test)]
 mod client;
 #[cfg(test)]
-mod errors;
-#[cfg(test)]
-mod given_back;
-#[cfg(test)]
-mod pair;
-#[cfg(test)]
-mod phases;
+mod lists;
 #[cfg(test)]
 mod plain;
 #[cfg(test)]
-mod station;
-#[cfg(test)]
-mod swapped;
-#[cfg(test)]
-mod texts;
-#[cfg(test)]
-mod transfer;
-#[cfg(test)]
-mod waiting_packets;
+mod steps;

@@ -15,39 +15,44 @@ fn put_one<L: OrderedLink>(link: &mut L, alloc: Global, octet: u8) -> Result<(),
     link.put(vec![in alloc; octet]?)
 }
 
-fn put_two(link: &mut PlainLink, alloc: Global) -> Result<(), LinkError> {
-    put_one(link, alloc, 5)?;
-    put_one(link, alloc, 6)
-}
-
-// The packet of this octet comes out.
-fn comes_out(rt: &impl Abort, link: &mut PlainLink, octet: u8) -> Result<(), Fail> {
-    let packet = link.out().ok_or("a packet waits")?;
-    assert_eq!(rt; packet.as_slice(), [octet].as_slice());
-    Ok(())
+// The octets of the packet that comes out, or none.
+fn out(link: &mut PlainLink) -> Option<(usize, u8)> {
+    let packet = link.out()?;
+    match packet.as_slice() {
+        [octet, ..] => Some((packet.len(), *octet)),
+        [] => Some((0, 0)),
+    }
 }
 
 fn puts_and_takes(rt: &impl Abort, alloc: Global, link: &mut PlainLink) -> Result<(), Fail> {
-    put_two(link, alloc)?;
-    assert_eq!(rt; link.waiting(), 2);
-    comes_out(rt, link, 5)?;
-    comes_out(rt, link, 6)?;
-    assert_eq!(rt; link.waiting(), 0);
+    put_one(link, alloc, 5)?;
+    put_one(link, alloc, 6)?;
+    let waiting = link.waiting();
+    let packets = (out(link), out(link), out(link));
+    assert_eq!(rt; (waiting, packets), (2, (Some((1, 5)), Some((1, 6)), None)));
     Ok(())
 }
 
-fn is_empty(rt: &impl Abort, link: &mut PlainLink) {
-    assert!(rt; link.is_up());
-    assert_eq!(rt; link.limit(), 4099);
-    assert_eq!(rt; link.out().is_none(), true);
-    assert_eq!(rt; link.spent_memory(0).is_none(), true);
+// Whether it is up, the most octets of a packet, how many packets wait, and whether memory can be used again.
+fn says(link: &mut PlainLink) -> (bool, usize, usize, bool) {
+    (
+        link.is_up(),
+        link.limit(),
+        link.waiting(),
+        link.spent_memory(0).is_some(),
+    )
 }
 
 #[test]
 fn what_is_put_comes_out(rt: HostRuntime) -> Result<(), Fail> {
     let mut link = plain_link(rt.alloc())?;
-    is_empty(&rt, &mut link);
-    puts_and_takes(&rt, rt.alloc(), &mut link)
+    puts_and_takes(&rt, rt.alloc(), &mut link)?;
+    assert_eq!(rt; says(&mut link), (true, 4099, 0, false));
+    Ok(())
+}
+
+fn put_empty(link: &mut PlainLink, alloc: Global) -> Result<(), LinkError> {
+    link.put(Vec::new(alloc))
 }
 
 fn fill(link: &mut PlainLink, alloc: Global) -> Result<(), LinkError> {
@@ -58,15 +63,12 @@ fn fill(link: &mut PlainLink, alloc: Global) -> Result<(), LinkError> {
     Ok(())
 }
 
-fn put_empty(link: &mut PlainLink, alloc: Global) -> Result<(), LinkError> {
-    link.put(Vec::new(alloc))
-}
-
 fn takes_no_more(rt: &impl Abort, alloc: Global, link: &mut PlainLink) {
-    assert_eq!(rt; link.promised(), 0);
-    assert_eq!(rt; put_empty(link, alloc), Err(LinkError::QueueFull));
-    assert_eq!(rt; link.waiting(), 256);
-    assert_eq!(rt; LinkError::QueueFull.number(), 10);
+    let refused = put_empty(link, alloc).err().map(LinkError::number);
+    assert_eq!(rt;
+        (refused, link.promised(), link.waiting()),
+        (Some(10), 0, 256)
+    );
 }
 
 #[test]

@@ -3,306 +3,79 @@ use std::alloc::Global;
 use std::test::Fail;
 use x25_script::{lines_are_in_octets, read_line, reading_is_the_grammar};
 
-/// Lines of a script, and what they say.
-const LINES: [(&[u8], &str); 46] = [
-    (b"dte call 1 2 41", "DTE: call of [1] from [2] with 41"),
-    (
-        b"dce call 123 4567 48656C6c6F",
-        "DCE: call of [123] from [4567] with 48656c6c6f",
-    ),
-    (b"dte call - - -", "DTE: call of [] from [] with none"),
-    (b"dte call 0 - 00", "DTE: call of [0] from [] with 00"),
-    (
-        b"dce call 1234567890123456 00 -",
-        "DCE: call of [1234567890123456] from [00] with none",
-    ),
-    (b"dte accept 1", "DTE: accepts 1"),
-    (b"dce accept 0", "DCE: accepts 0"),
-    (b"dte accept 65535", "DTE: accepts 65535"),
-    (
-        b"dte call 1 2 - 7 7 2 2",
-        "DTE: call of [1] from [2] with none, called 7 by 2, calling 7 by 2",
-    ),
-    (
-        b"dce call 12 3 4142 4 12 1 7",
-        "DCE: call of [12] from [3] with 4142, called 4 by 1, calling 12 by 7",
-    ),
-    (
-        b"dte call - - - 0 255 0 255",
-        "DTE: call of [] from [] with none, called 0 by 0, calling 255 by 255",
-    ),
-    (
-        b"dce call 1 2 - 3 7 2 2",
-        "DCE: call of [1] from [2] with none, called 3 by 2, calling 7 by 2",
-    ),
-    (
-        b"dce call 1 2 - 7 7 0 8",
-        "DCE: call of [1] from [2] with none, called 7 by 0, calling 7 by 8",
-    ),
-    (
-        b"dte call 1 2 00 255 0 255 0",
-        "DTE: call of [1] from [2] with 00, called 255 by 255, calling 0 by 0",
-    ),
-    (
-        b"dte accept 1 7 7 2 2",
-        "DTE: accepts 1, called 7 by 2, calling 7 by 2",
-    ),
-    (
-        b"dce accept 0 7 7 2 2",
-        "DCE: accepts 0, called 7 by 2, calling 7 by 2",
-    ),
-    (
-        b"dce accept 1 7 8 3 2",
-        "DCE: accepts 1, called 7 by 3, calling 8 by 2",
-    ),
-    (
-        b"dte accept 65535 255 254 253 252",
-        "DTE: accepts 65535, called 255 by 253, calling 254 by 252",
-    ),
-    (
-        b"dte accept 1 0 0 0 0",
-        "DTE: accepts 1, called 0 by 0, calling 0 by 0",
-    ),
-    (b"dte clear 4095", "DTE: clears 4095"),
-    (b"dte send 1 0 -", "DTE: sends on 1 with Q false none"),
-    (b"dce send 10 1 0aF9", "DCE: sends on 10 with Q true 0af9"),
-    (b"dte int 1 00", "DTE: interrupts 1 by 00"),
-    (b"dte int 1 -", "DTE: interrupts 1 by none"),
-    (b"dce reset 2", "DCE: resets 2"),
-    (b"dte ready 3", "DTE: is ready on 3"),
-    (b"dte notready 256", "DTE: is not ready on 256"),
-    (b"dce restart", "DCE: restarts"),
-    (b"dte pull", "DTE: pulls"),
-    (b"dce pull", "DCE: pulls"),
-    (b"dce connect", "DCE: connects"),
-    (b"dte disconnect", "DTE: disconnects"),
-    (b"t1 dte", "T1 of DTE"),
-    (b"t1 dce", "T1 of DCE"),
-    (b"deliver >", "from DTE comes one"),
-    (b"deliver <", "from DCE comes one"),
-    (b"lose > 0", "from DTE is lost 0"),
-    (b"lose < 65535", "from DCE is lost 65535"),
-    (b"damage > 0 -", "from DTE 0 becomes none"),
-    (b"damage < 12 0AbCdEf9", "from DCE 12 becomes 0abcdef9"),
-    (b"drain 1", "at most 1 come"),
-    (b"drain 65535", "at most 65535 come"),
-    (b"heal", "heals"),
-    (b"dce send 100 0 00", "DCE: sends on 100 with Q false 00"),
-    (b"dte send 99 1 00FF", "DTE: sends on 99 with Q true 00ff"),
-    (b"dte reset 1", "DTE: resets 1"),
-];
+/// Lines of a script, each with what it says behind ` = `.
+const LINES: &str = "\
+dte call 1 2 41 = DTE: call of [1] from [2] with 41\n\
+dce call 123 4567 48656C6c6F = DCE: call of [123] from [4567] with 48656c6c6f\n\
+dte call - - - = DTE: call of [] from [] with none\n\
+dte call 0 - 00 = DTE: call of [0] from [] with 00\n\
+dce call 1234567890123456 00 - = DCE: call of [1234567890123456] from [00] with none\n\
+dte accept 1 = DTE: accepts 1\n\
+dce accept 0 = DCE: accepts 0\n\
+dte accept 65535 = DTE: accepts 65535\n\
+dte call 1 2 - 7 7 2 2 = DTE: call of [1] from [2] with none, called 7 by 2, calling 7 by 2\n\
+dce call 12 3 4142 4 12 1 7 = DCE: call of [12] from [3] with 4142, called 4 by 1, calling 12 by 7\n\
+dte call - - - 0 255 0 255 = DTE: call of [] from [] with none, called 0 by 0, calling 255 by 255\n\
+dce call 1 2 - 3 7 2 2 = DCE: call of [1] from [2] with none, called 3 by 2, calling 7 by 2\n\
+dce call 1 2 - 7 7 0 8 = DCE: call of [1] from [2] with none, called 7 by 0, calling 7 by 8\n\
+dte call 1 2 00 255 0 255 0 = DTE: call of [1] from [2] with 00, called 255 by 255, calling 0 by 0\n\
+dte accept 1 7 7 2 2 = DTE: accepts 1, called 7 by 2, calling 7 by 2\n\
+dce accept 0 7 7 2 2 = DCE: accepts 0, called 7 by 2, calling 7 by 2\n\
+dce accept 1 7 8 3 2 = DCE: accepts 1, called 7 by 3, calling 8 by 2\n\
+dte accept 65535 255 254 253 252 = DTE: accepts 65535, called 255 by 253, calling 254 by 252\n\
+dte accept 1 0 0 0 0 = DTE: accepts 1, called 0 by 0, calling 0 by 0\n\
+dte clear 4095 = DTE: clears 4095\n\
+dte send 1 0 - = DTE: sends on 1 with Q false none\n\
+dce send 10 1 0aF9 = DCE: sends on 10 with Q true 0af9\n\
+dte int 1 00 = DTE: interrupts 1 by 00\n\
+dte int 1 - = DTE: interrupts 1 by none\n\
+dce reset 2 = DCE: resets 2\n\
+dte ready 3 = DTE: is ready on 3\n\
+dte notready 256 = DTE: is not ready on 256\n\
+dce restart = DCE: restarts\n\
+dte pull = DTE: pulls\n\
+dce pull = DCE: pulls\n\
+dce connect = DCE: connects\n\
+dte disconnect = DTE: disconnects\n\
+t1 dte = T1 of DTE\n\
+t1 dce = T1 of DCE\n\
+deliver > = from DTE comes one\n\
+deliver < = from DCE comes one\n\
+lose > 0 = from DTE is lost 0\n\
+lose < 65535 = from DCE is lost 65535\n\
+damage > 0 - = from DTE 0 becomes none\n\
+damage < 12 0AbCdEf9 = from DCE 12 becomes 0abcdef9\n\
+drain 1 = at most 1 come\n\
+drain 65535 = at most 65535 come\n\
+heal = heals\n\
+dce send 100 0 00 = DCE: sends on 100 with Q false 00\n\
+dte send 99 1 00FF = DTE: sends on 99 with Q true 00ff\n\
+dte reset 1 = DTE: resets 1\n\
+";
 
-/// Characters that are no line of a script.
-const OTHERS: [&[u8]; 177] = [
-    b"",
-    b" ",
-    b"\r",
-    b"t1 dte\r",
-    b"t1 dte\n",
-    b" t1 dte",
-    b"t1 dte ",
-    b"t1  dte",
-    b"t1\tdte",
-    b"\tt1 dte",
-    b"t1 dte\t",
-    b"dte restart ",
-    b" dte restart",
-    b"dte  restart",
-    b"dte call 1  2 -",
-    b"dte send 1 0 - ",
-    b"dte send  1 0 -",
-    b"drain ",
-    b"drain  1",
-    b"drain +1",
-    b"drain -1",
-    b"dte accept +1",
-    b"dte accept -0",
-    b"lose > +0",
-    b"drain 01",
-    b"drain 00",
-    b"dte accept 01",
-    b"dte accept 00",
-    b"lose > 00",
-    b"damage > 01 -",
-    b"dte int 01 00",
-    b"drain 0",
-    b"drain 65536",
-    b"dte accept 65536",
-    b"lose > 65536",
-    b"drain 99999999999999999999",
-    b"dte accept 1 ",
-    b"dte accept 1 7",
-    b"dte accept 1 7 7",
-    b"dte accept 1 7 7 2",
-    b"dte accept 1 7 7 2 ",
-    b"dte accept 1 7 7 2 2 ",
-    b"dte accept 1 7 7 2 2\r",
-    b"dte accept 1 7 7 2 2 2",
-    b"dte accept 1 256 7 2 2",
-    b"dte accept 1 7 256 2 2",
-    b"dte accept 1 7 7 256 2",
-    b"dte accept 1 7 7 2 256",
-    b"dte accept 1 7 7 2 65535",
-    b"dte accept 1 7 7 2 65538",
-    b"dte accept 1 7 7 2 4294967298",
-    b"dte accept 1 07 7 2 2",
-    b"dte accept 1 7 07 2 2",
-    b"dte accept 1 7 7 02 2",
-    b"dte accept 1 7 7 2 02",
-    b"dte accept 1 7 7 2 00",
-    b"dte accept 01 7 7 2 2",
-    b"dte accept 65536 7 7 2 2",
-    b"dte accept 1 +7 7 2 2",
-    b"dte accept 1 7 7 2 -2",
-    b"dte accept 1 - - - -",
-    b"dte accept 1 7 7 2 -",
-    b"dte accept 1 7 7 2 a",
-    b"dte accept 1 7 7 2 0x2",
-    b"dte accept 1  7 7 2 2",
-    b"dte accept 1 7  7 2 2",
-    b"dte accept 1 7 7 2  2",
-    b"dte accept 1\t7 7 2 2",
-    b"dte accept 1 7,7 2,2",
-    b"dte accept  7 7 2 2",
-    b"dte accept - 7 7 2 2",
-    b"dte call 1 2 - 7",
-    b"dte call 1 2 - 7 7",
-    b"dte call 1 2 - 7 7 2",
-    b"dte call 1 2 - 7 7 2 ",
-    b"dte call 1 2 - 7 7 2 2 ",
-    b"dte call 1 2 - 7 7 2 2 2",
-    b"dte call 1 2 - 256 7 2 2",
-    b"dte call 1 2 - 7 256 2 2",
-    b"dte call 1 2 - 7 7 256 2",
-    b"dte call 1 2 - 7 7 2 256",
-    b"dte call 1 2 - 03 7 2 2",
-    b"dte call 1 2 - 7 7 2 03",
-    b"dte call 1 2 -  7 7 2 2",
-    b"dte call 1 2  7 7 2 2",
-    b"dte call 1 2 7 7 2 2",
-    b"dte call 1 2 41 - 7 2 2",
-    b"dte call 1 2 4 7 7 2 2",
-    b"dte call 1 - 7 7 2 2",
-    b"dte clear 1 7 7 2 2",
-    b"dte reset 1 7 7 2 2",
-    b"dte ready 1 7 7 2 2",
-    b"dte send 1 0 - 7 7 2 2",
-    b"dte int 1 00 7 7 2 2",
-    b"dte restart 7 7 2 2",
-    b"dte call 1 2",
-    b"dte call 1 2 ",
-    b"dte call  2 -",
-    b"dte call 1a 2 -",
-    b"dte call -1 2 -",
-    b"dte call 1 -- -",
-    b"dte call 1 2 --",
-    b"dte call 1 2 4",
-    b"dte call 1 2 4g",
-    b"dte call 1 2 0x41",
-    b"dte call 1 2 414",
-    b"dte send 1 2 41",
-    b"dte send 1 01 41",
-    b"dte send 1 - 41",
-    b"dte send 1 41",
-    b"dte send 1 0",
-    b"dte send 1 0 ",
-    b"dte int 1",
-    b"dte int 1 ",
-    b"dte int 1 4 1",
-    b"dte accept",
-    b"dte accept ",
-    b"dte accept -",
-    b"dte accept 1a",
-    b"dte accept 0x1",
-    b"dte",
-    b"dte ",
-    b"restart",
-    b"connect",
-    b"dte connect 1",
-    b"dte connected",
-    b"dte Restart",
-    b"DTE restart",
-    b"Dte restart",
-    b"dxe restart",
-    b"dte restarts",
-    b"dte restart 1",
-    b"dte pull 1",
-    b"dte pulls",
-    b"pull",
-    b"dte disconnect 1",
-    b"dtedisconnect",
-    b"dce reads 1",
-    b"t1",
-    b"t1 ",
-    b"t1 >",
-    b"T1 dte",
-    b"t1 dte dce",
-    b"t2 dte",
-    b"deliver",
-    b"deliver dte",
-    b"deliver >>",
-    b"deliver > 1",
-    b"deliver ^",
-    b"lose >",
-    b"lose > ",
-    b"lose 0 >",
-    b"lose ^ 0",
-    b"lose dte 0",
-    b"lose > 0 0",
-    b"damage > 0",
-    b"damage > 0 ",
-    b"damage > 0 0",
-    b"damage > - 00",
-    b"damage 0 > 00",
-    b"damage > 0 00 00",
-    b"drain",
-    b"drain > 1",
-    b"drain 1 1",
-    b"drains 1",
-    b"heal ",
-    b" heal",
-    b"heal 1",
-    b"heals",
-    b"Heal",
-    b"dte heal",
-    b"heal\r",
-    b"> 013febdf",
-    b"? 60",
-    b"dte call 1 2 \xff",
-    b"\xc3\xa9",
-    b"dte restart\0",
-];
-
-/// Texts that are no lines, each by one character or one field.
-const NEAR: [&[u8]; 16] = [
-    b"deliver =",
-    b"t1 dxe",
-    b"t1 dt",
-    b"lose < 65536",
-    b"lose = 0",
-    b"dce ",
-    b"dce send 01 0 00",
-    b"dce send 1a 0 00",
-    b"dce send 10 2 00",
-    b"dce send 10 00 00",
-    b"dce send 1 0 0",
-    b"dce send 1 0 0g",
-    b"dce send 1 0 ",
-    b"dce send   0 00",
-    b"dte send 300 0 ",
-    b"dte reset 1 ",
-];
+// What the line says, and what it is to say.
+fn both(alloc: Global, row: &str) -> Result<(String, &str), Fail> {
+    let (line, wanted) = row.split_once(" = ").ok_or("a line and what it says")?;
+    let said = read_line(line.as_bytes(), &mut Shown, &mut { alloc })?.ok_or("it is a line")?;
+    Ok((said, wanted))
+}
 
 #[test]
 fn lines_say_what_they_spell(rt: HostRuntime) -> Result<(), Fail> {
-    reading_is_the_grammar();
-    lines_are_in_octets();
-    for (line, wanted) in LINES {
-        let text = read_line(line, &mut Shown, &mut rt.alloc())?.ok_or("it is a line")?;
-        assert_eq!(rt; text.as_str(), wanted);
+    let mut rest = LINES;
+    for _ in 0..LINES.len() {
+        let Some((row, behind)) = rest.split_once('\n') else {
+            break;
+        };
+        let (said, wanted) = both(rt.alloc(), row)?;
+        assert_eq!(rt; said.as_str(), wanted, "{row}");
+        rest = behind;
     }
     Ok(())
 }
+
+/// Texts that are no lines; `tests/golden` has others.
+static OTHERS: [&[u8]; 3] = [b"", b"t1 dte\n", b"dte send 1 0 0g"];
 
 fn is_no_line(line: &[u8], mut alloc: Global) -> bool {
     matches!(read_line(line, &mut Shown, &mut alloc), Ok(None))
@@ -310,14 +83,9 @@ fn is_no_line(line: &[u8], mut alloc: Global) -> bool {
 
 #[test]
 fn others_are_no_lines(rt: HostRuntime) {
-    for line in OTHERS {
-        assert!(rt; is_no_line(line, rt.alloc()), "{line:?}");
-    }
-}
-
-#[test]
-fn near_lines_are_no_lines(rt: HostRuntime) {
-    for line in NEAR {
+    reading_is_the_grammar();
+    lines_are_in_octets();
+    for line in &OTHERS {
         assert!(rt; is_no_line(line, rt.alloc()), "{line:?}");
     }
 }

@@ -1,7 +1,7 @@
 //! Octets that no table chose: 10,000 strings, made from stored numbers, at a station whose user accepts each call.
 
 use crate::calls::{ask, receive, station};
-use crate::peer::settings;
+use crate::steps::SETTINGS;
 use std::alloc::Global;
 use std::process::Abort;
 use std::test::Fail;
@@ -132,7 +132,7 @@ struct Peer {
 
 impl Peer {
     fn new(alloc: Global) -> Result<Peer, StationError> {
-        let station = station(alloc, Role::Dce, settings(1, false))?;
+        let station = station(alloc, Role::Dce, SETTINGS)?;
         let seen = Seen {
             ns: Seq::ZERO,
             nr: Seq::ZERO,

@@ -1,0 +1,60 @@
+//! The calls of a circuit without their claims: a body that makes one of the circuit's own carries all that it
+//! promises.
+ghost use Rattle.std.specs.Prelude.{◌≡◌, true};
+ghost use Rattle.x25_packet.specs.Packet.{plain};
+ghost use Rattle.x25_packet.specs.Spelling.{HasChannel};
+
+use std::alloc::Global;
+use std::test::Fail;
+use x25_circuit::{Circuit, CircuitError, Flow, Reply, Request, Role, Taken};
+use x25_packet::{Packet, PacketError};
+
+// A value in a place of its own: a body that holds the box lets go of it by one call, and not of each part of the
+// value, and so does one that doesn't know what it is.
+fn boxed<T: Drop>(alloc: Global, value: T) -> Option<Box<T>> {
+    Box::new(alloc, value).ok()
+}
+
+/// A circuit in p1.
+pub fn circuit(alloc: Global, role: Role) -> Result<Box<Circuit>, CircuitError> {
+    boxed(alloc, Circuit::with(alloc, role, false)?).ok_or(CircuitError::NoMemory)
+}
+
+pub fn ask<'a>(
+    circuit: &mut Circuit,
+    request: Request<'a>,
+) -> Result<Option<Packet<'a>>, CircuitError> {
+    circuit.ask(request)
+}
+
+// Whether a packet is of a logical channel.
+fn is_of_channel(packet: &Packet) -> bool
+    ensures { result ≡ true → HasChannel (plain packet.now) }
+{
+    match packet {
+        Packet::Restart { .. } | Packet::RestartConf => false,
+        _ => true,
+    }
+}
+
+/// A packet of a channel comes.
+pub fn hear<'a>(circuit: &mut Circuit, packet: &Packet<'a>) -> Result<Reply<'a>, Fail> {
+    let (clears, resets) = circuit.counts();
+    if clears == u64::MAX || resets == u64::MAX || !is_of_channel(packet) {
+        return Err("no packet for a circuit")?;
+    }
+    Ok(circuit.packet(packet)?)
+}
+
+/// Octets come that are too few for a packet.
+pub fn hear_too_few(circuit: &mut Circuit) -> Reply<'static> {
+    circuit.undecoded(PacketError::TooShort)
+}
+
+/// A packet of data transfer comes, for which memory is set aside.
+pub fn take(circuit: &mut Circuit, packet: &Flow) -> Result<Option<Taken>, CircuitError> {
+    if let Flow::Data { user, .. } = packet {
+        circuit.reserve(user.len())?;
+    }
+    Ok(circuit.take(packet))
+}

@@ -1,0 +1,322 @@
+//! What a circuit answers, and what it says of itself then; `tests/golden` has the packets of whole calls.
+
+use crate::calls::{ask, circuit, hear, hear_too_few, take};
+use crate::requests::{ACCEPT, Proposals};
+use std::alloc::Global;
+use std::process::Abort;
+use std::test::Fail;
+use x25_circuit::{Circuit, Flow, Notice, Owed, Params, Reply, Role, Taken};
+use x25_packet::{Packet, Seq};
+
+/// What happens to a circuit.
+#[derive(Clone, Copy)]
+enum Act {
+    /// The user asks for the request of this index.
+    Ask(usize),
+    CallAccepted,
+    Clear,
+    TooFewOctets,
+    /// DATA comes by the call that takes it where nothing is wrong with it, with P(S), P(R), M, Q and so many octets.
+    Data(u8, u8, bool, bool, usize),
+    /// RR comes so, with P(R).
+    Rr(u8),
+    /// RNR comes so, with P(R).
+    Rnr(u8),
+    Pull,
+    Forget,
+    Zero,
+}
+
+/// What it answers: the number of a refusal or of a fault, 255 where the packet isn't taken, else 0; the qualifier of a
+/// message that ended, and how many octets it has; and the third octet of a packet, and how many octets of user data it
+/// has.
+type Answer = (u8, Option<(bool, usize)>, Option<(u8, usize)>);
+
+/// What a circuit says: how often it was cleared and reset, whether it is free and is open, how many messages wait, and
+/// how many octets came of one in part.
+type Says = (u64, u64, bool, bool, usize, usize);
+
+type Row = (Act, Answer, Says);
+
+const FREE: Says = (0, 0, true, false, 0, 0);
+
+const OPEN: Says = (0, 0, false, true, 0, 0);
+
+const HAS_128_OCTETS: Says = (0, 0, false, true, 0, 128);
+
+const ONE_WAITS: Says = (0, 0, false, true, 1, 0);
+
+const TWO_WAIT: Says = (0, 0, false, true, 2, 0);
+
+/// In no state of these.
+const BETWEEN: Says = (0, 0, false, false, 0, 0);
+
+const CALL: Answer = (0, None, Some((0x0B, 0)));
+
+const NOTHING: Answer = (0, None, None);
+
+const NOT_TAKEN: Answer = (255, None, None);
+
+/// The indices of a call, of a clear, of a message, of a reset, and of the user's not being ready.
+const CALLS: usize = 0;
+
+const CLEARS: usize = 5;
+
+const SENDS: usize = 6;
+
+const RESETS: usize = 9;
+
+const NOT_READY: usize = 11;
+
+static IN_A_CALL: [Row; 20] = [
+    (Act::Data(0, 0, false, false, 0), NOT_TAKEN, FREE),
+    (Act::Rr(0), NOT_TAKEN, FREE),
+    (Act::Ask(CALLS), CALL, BETWEEN),
+    (Act::CallAccepted, NOTHING, OPEN),
+    (
+        Act::Data(0, 0, true, true, 128),
+        (0, None, Some((0x21, 0))),
+        HAS_128_OCTETS,
+    ),
+    (Act::Data(0, 0, true, true, 128), NOT_TAKEN, HAS_128_OCTETS),
+    (Act::Data(1, 0, false, false, 2), NOT_TAKEN, HAS_128_OCTETS),
+    (Act::Data(1, 1, false, true, 2), NOT_TAKEN, HAS_128_OCTETS),
+    (Act::Data(1, 0, false, true, 129), NOT_TAKEN, HAS_128_OCTETS),
+    (
+        Act::Data(1, 0, false, true, 2),
+        (0, Some((true, 130)), Some((0x41, 0))),
+        OPEN,
+    ),
+    (Act::Ask(SENDS), NOTHING, ONE_WAITS),
+    (Act::Ask(SENDS), NOTHING, TWO_WAIT),
+    (Act::Rnr(0), NOTHING, TWO_WAIT),
+    (Act::Pull, NOTHING, TWO_WAIT),
+    (Act::Rr(0), NOTHING, TWO_WAIT),
+    (Act::Pull, (0, None, Some((0x40, 0))), ONE_WAITS),
+    (Act::Rr(2), NOT_TAKEN, ONE_WAITS),
+    (Act::Ask(NOT_READY), (0, None, Some((0x45, 0))), ONE_WAITS),
+    (
+        Act::Data(2, 1, false, false, 0),
+        (0, Some((false, 0)), Some((0x65, 0))),
+        ONE_WAITS,
+    ),
+    (Act::Ask(RESETS), (0, None, Some((0x1B, 0))), BETWEEN),
+];
+
+static BETWEEN_CALLS: [Row; 8] = [
+    (Act::TooFewOctets, (38, None, Some((0x13, 0))), BETWEEN),
+    (Act::Clear, NOTHING, (1, 0, true, false, 0, 0)),
+    (Act::Zero, NOTHING, FREE),
+    (Act::Ask(CLEARS), (30, None, None), FREE),
+    (
+        Act::Clear,
+        (0, None, Some((0x17, 0))),
+        (1, 0, true, false, 0, 0),
+    ),
+    (Act::Ask(CALLS), CALL, (1, 0, false, false, 0, 0)),
+    (Act::CallAccepted, NOTHING, (1, 0, false, true, 0, 0)),
+    (Act::Forget, NOTHING, (1, 0, true, false, 0, 0)),
+];
+
+static JOINED: [Row; 4] = [
+    (Act::Ask(CALLS), CALL, BETWEEN),
+    (Act::CallAccepted, NOTHING, OPEN),
+    (
+        Act::Data(0, 0, true, false, 128),
+        (0, None, Some((0x21, 0))),
+        HAS_128_OCTETS,
+    ),
+    (
+        Act::Data(1, 0, true, false, 0),
+        (0, None, Some((0x41, 0))),
+        HAS_128_OCTETS,
+    ),
+];
+
+// The third octet of a packet, and how many octets of user data it has.
+fn shape(packet: &Packet) -> (u8, usize) {
+    match packet {
+        Packet::Call { user, .. } => (0x0B, user.len()),
+        Packet::Accept { .. } => (0x0F, 0),
+        Packet::Clear { .. } => (0x13, 0),
+        Packet::ClearConf { .. } => (0x17, 0),
+        Packet::Data {
+            m,
+            ps,
+            pr,
+            user,
+            ..
+        } => {
+            (
+                pr.get() << 5 | u8::from(*m) << 4 | ps.get() << 1,
+                user.len(),
+            )
+        }
+        Packet::Rr { pr, .. } => (pr.get() << 5 | 0x01, 0),
+        Packet::Rnr { pr, .. } => (pr.get() << 5 | 0x05, 0),
+        Packet::Interrupt { user, .. } => (0x23, user.len()),
+        Packet::InterruptConf { .. } => (0x27, 0),
+        Packet::Reset { .. } => (0x1B, 0),
+        Packet::ResetConf { .. } => (0x1F, 0),
+        Packet::Restart { .. } => (0xFB, 0),
+        Packet::RestartConf => (0xFF, 0),
+    }
+}
+
+// The shape of a packet that is owed.
+fn shape_of(owed: &Option<Owed>) -> Option<(u8, usize)> {
+    match owed {
+        Some(owed) => Some(shape(&owed.packet(1))),
+        None => None,
+    }
+}
+
+fn asked(circuit: &mut Circuit, index: usize) -> Answer {
+    match ask(circuit, Proposals::new().request(index)) {
+        Ok(Some(packet)) => (0, None, Some(shape(&packet))),
+        Ok(None) => NOTHING,
+        Err(error) => (error.number(), None, None),
+    }
+}
+
+fn replied(reply: &Reply) -> Answer {
+    let number = match reply.notice {
+        Some(Notice::Fault { diagnostic }) => diagnostic,
+        _ => 0,
+    };
+    (number, None, shape_of(&reply.packet))
+}
+
+fn heard(circuit: &mut Circuit, packet: &Packet) -> Result<Answer, Fail> {
+    let reply = hear(circuit, packet)?;
+    Ok(replied(&reply))
+}
+
+fn took(taken: &Option<Taken>) -> Answer {
+    let Some(taken) = taken else {
+        return NOT_TAKEN;
+    };
+    let message = match &taken.message {
+        Some(message) => Some((message.q, message.user.as_slice().len())),
+        None => None,
+    };
+    (0, message, shape_of(&taken.owed))
+}
+
+fn takes(circuit: &mut Circuit, packet: &Flow) -> Result<Answer, Fail> {
+    let taken = take(circuit, packet)?;
+    Ok(took(&taken))
+}
+
+fn takes_data(
+    circuit: &mut Circuit,
+    alloc: Global,
+    (ps, pr): (u8, u8),
+    (m, q): (bool, bool),
+    count: usize,
+) -> Result<Answer, Fail> {
+    let user = vec![in alloc; 0u8; count]?;
+    takes(
+        circuit,
+        &Flow::Data {
+            q,
+            m,
+            ps: Seq::modulo(ps),
+            pr: Seq::modulo(pr),
+            user: user.as_slice(),
+        },
+    )
+}
+
+fn pulled(circuit: &mut Circuit) -> Answer {
+    match circuit.pull() {
+        Some(data) => (0, None, Some(shape(&data.packet()))),
+        None => NOTHING,
+    }
+}
+
+const CLEAR: Packet<'static> = Packet::Clear {
+    channel: 1,
+    cause: 0,
+    diagnostic: 0,
+};
+
+fn happens(circuit: &mut Circuit, alloc: Global, act: Act) -> Result<Answer, Fail> {
+    match act {
+        Act::Ask(index) => Ok(asked(circuit, index)),
+        Act::CallAccepted => heard(circuit, &ACCEPT),
+        Act::Clear => heard(circuit, &CLEAR),
+        Act::TooFewOctets => Ok(replied(&hear_too_few(circuit))),
+        Act::Data(ps, pr, m, q, count) => takes_data(circuit, alloc, (ps, pr), (m, q), count),
+        Act::Rr(pr) => takes(
+            circuit,
+            &Flow::Rr {
+                pr: Seq::modulo(pr),
+            },
+        ),
+        Act::Rnr(pr) => takes(
+            circuit,
+            &Flow::Rnr {
+                pr: Seq::modulo(pr),
+            },
+        ),
+        Act::Pull => Ok(pulled(circuit)),
+        Act::Forget => {
+            circuit.forget();
+            Ok(NOTHING)
+        }
+        Act::Zero => {
+            circuit.zero();
+            Ok(NOTHING)
+        }
+    }
+}
+
+fn says(circuit: &Circuit) -> Says {
+    let (clears, resets) = circuit.counts();
+    (
+        clears,
+        resets,
+        circuit.is_free(),
+        circuit.is_open(),
+        circuit.waits(),
+        circuit.octets_joined(),
+    )
+}
+
+fn plays(rt: &impl Abort, alloc: Global, circuit: &mut Circuit, rows: &[Row]) -> Result<(), Fail> {
+    for (row, &(act, answer, wanted)) in rows.iter().enumerate() {
+        let found = happens(circuit, alloc, act)?;
+        assert_eq!(rt; (found, says(circuit)), (answer, wanted), "row {row}");
+    }
+    Ok(())
+}
+
+#[test]
+fn packets_with_which_nothing_is_wrong_are_taken(rt: HostRuntime) -> Result<(), Fail> {
+    let mut circuit = circuit(rt.alloc(), Role::Dte)?;
+    plays(&rt, rt.alloc(), &mut circuit, IN_A_CALL.as_slice())
+}
+
+#[test]
+fn a_circuit_counts_clears(rt: HostRuntime) -> Result<(), Fail> {
+    let mut circuit = circuit(rt.alloc(), Role::Dte)?;
+    plays(&rt, rt.alloc(), &mut circuit, BETWEEN_CALLS.as_slice())
+}
+
+// Behind a full packet and an empty one of the same message.
+fn joins(rt: &impl Abort, alloc: Global, circuit: &mut Circuit) -> Result<(), Fail> {
+    assert_eq!(rt; circuit.params(), Params::default());
+    plays(rt, alloc, circuit, JOINED.as_slice())?;
+    assert_eq!(rt;
+        (circuit.octets_joined(), circuit.octets_kept()),
+        (128, 128)
+    );
+    Ok(())
+}
+
+#[test]
+fn memory_of_a_message_in_part_is_kept(rt: HostRuntime) -> Result<(), Fail> {
+    let mut circuit = circuit(rt.alloc(), Role::Dte)?;
+    joins(&rt, rt.alloc(), &mut circuit)
+}

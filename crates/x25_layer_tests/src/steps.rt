@@ -1,0 +1,535 @@
+//! What a layer puts over a plain link, and what it says of itself then; `tests/golden` has the packets of whole calls.
+
+use crate::calls::{ask, fill, hear, layer, plain_link, pull, restart, transfer, up};
+use crate::refusals::request;
+use std::alloc::{AllocError, Global};
+use std::process::Abort;
+use std::test::Fail;
+use x25_circuit::{Notice, Request};
+use x25_layer::{Delivery, Layer, LayerError, Params, Report, Role, Stretch};
+use x25_link::{OrderedLink, PlainLink};
+use x25_wide::NarrowField;
+
+/// What happens to a layer, or to its link.
+#[derive(Clone, Copy)]
+enum Act {
+    Up,
+    Down,
+    Restart,
+    Pull,
+    /// The request of an index is asked on a channel.
+    Ask(u16, usize),
+    /// A message of so many octets is sent on a channel.
+    Send(u16, usize),
+    /// Octets are handed up.
+    Take(&'static [u8]),
+    /// The same, where they are read in all forms.
+    TakeWide(&'static [u8]),
+    /// The same, by the call that takes packets of data transfer alone.
+    Transfer(&'static [u8]),
+    /// Memory is set aside for what comes.
+    Reserve,
+    /// So many packets are handed down to the link, by another than the layer.
+    Fill(usize),
+}
+
+/// What an act answers: the number of a refusal, the diagnostic of a fault, or 255 where a packet isn't taken, else 0;
+/// and how many octets the message has that came.
+type Answer = (u8, Option<usize>);
+
+/// The packets that wait in the link then, which are taken out of it: of each the second octet, the third, and how many
+/// it has. None where they stay.
+type Puts = Option<&'static [(u8, u8, usize)]>;
+
+/// What a layer says: the name of channel 1 and whether it is open, how many messages wait, and how many octets came of
+/// one in part on channel 1.
+type Says = (Option<Stretch>, bool, usize, usize);
+
+type Row = (Act, Answer, Puts, Says);
+
+const OK: Answer = (0, None);
+
+const NOT_TAKEN: Answer = (255, None);
+
+const NO_PACKETS: Puts = Some(&[]);
+
+const STAY: Puts = None;
+
+const FIRST: Option<Stretch> = Some(Stretch {
+    restarts: 0,
+    clears: 0,
+    resets: 0,
+});
+
+const RESTARTED: Option<Stretch> = Some(Stretch {
+    restarts: 1,
+    clears: 0,
+    resets: 0,
+});
+
+const CLOSED: Says = (FIRST, false, 0, 0);
+
+const CLOSED_BEHIND_A_RESTART: Says = (RESTARTED, false, 0, 0);
+
+const OPEN: Says = (FIRST, true, 0, 0);
+
+const ONE_WAITS: Says = (FIRST, true, 1, 0);
+
+const TWO_WAIT: Says = (FIRST, true, 2, 0);
+
+const HAS_TWO_OCTETS: Says = (FIRST, true, 0, 2);
+
+// `down` leaves the counts, and `up` sets them to 0.
+static COUNTS_STAND: [Row; 7] = [
+    (Act::Up, OK, Some(&[(0, 0xFB, 5)]), CLOSED),
+    (
+        Act::Take(&[0x10, 0x00, 0xFB, 0x07, 0x00]),
+        OK,
+        NO_PACKETS,
+        CLOSED_BEHIND_A_RESTART,
+    ),
+    (Act::Down, OK, NO_PACKETS, CLOSED_BEHIND_A_RESTART),
+    (Act::Up, OK, Some(&[(0, 0xFB, 5)]), CLOSED),
+    (Act::Restart, (40, None), NO_PACKETS, CLOSED),
+    (Act::Down, OK, NO_PACKETS, CLOSED),
+    (Act::Restart, OK, Some(&[(0, 0xFB, 5)]), CLOSED),
+];
+
+// Calls come on two channels, and are accepted.
+static TWO_OPEN: [Row; 4] = [
+    (
+        Act::Take(&[0x10, 0x02, 0x0B, 0x00, 0x00]),
+        OK,
+        NO_PACKETS,
+        CLOSED,
+    ),
+    (
+        Act::Take(&[0x10, 0x01, 0x0B, 0x00, 0x00]),
+        OK,
+        NO_PACKETS,
+        CLOSED,
+    ),
+    (Act::Ask(2, 0), OK, Some(&[(2, 0x0F, 3)]), CLOSED),
+    (Act::Ask(1, 0), OK, Some(&[(1, 0x0F, 3)]), OPEN),
+];
+
+// Where eight packets wait, nothing is pulled. Then octets that are dropped pull, and two packets of each channel fill
+// its window. RR opens it, and the packet that is owed goes before the pulled ones. Then a message begins to come.
+static ALTERNATING: [Row; 8] = [
+    (Act::Fill(8), OK, STAY, OPEN),
+    (Act::Send(1, 300), OK, STAY, ONE_WAITS),
+    (
+        Act::Send(2, 300),
+        OK,
+        Some(&[
+            (0, 0x00, 1),
+            (0, 0x00, 1),
+            (0, 0x00, 1),
+            (0, 0x00, 1),
+            (0, 0x00, 1),
+            (0, 0x00, 1),
+            (0, 0x00, 1),
+            (0, 0x00, 1),
+        ]),
+        TWO_WAIT,
+    ),
+    (
+        Act::Take(&[]),
+        OK,
+        Some(&[
+            (1, 0x10, 131),
+            (2, 0x10, 131),
+            (1, 0x12, 131),
+            (2, 0x12, 131),
+        ]),
+        TWO_WAIT,
+    ),
+    (
+        Act::Take(&[0x10, 0x02, 0x41]),
+        OK,
+        Some(&[(2, 0x04, 47)]),
+        ONE_WAITS,
+    ),
+    (
+        Act::Take(&[0x10, 0x01, 0x23, 0xAA]),
+        (0, Some(1)),
+        Some(&[(1, 0x27, 3)]),
+        ONE_WAITS,
+    ),
+    (
+        Act::Take(&[0x10, 0x01, 0x40, 0x00]),
+        (0, Some(1)),
+        Some(&[(1, 0x21, 3), (1, 0x24, 47)]),
+        OPEN,
+    ),
+    (
+        Act::Take(&[0x10, 0x01, 0x52, 0xAA, 0xBB]),
+        OK,
+        Some(&[(1, 0x41, 3)]),
+        HAS_TWO_OCTETS,
+    ),
+];
+
+// Pulls end where eight packets wait.
+static UP_TO_EIGHT: [Row; 4] = [
+    (Act::Fill(7), OK, STAY, OPEN),
+    (Act::Send(1, 200), OK, STAY, ONE_WAITS),
+    (
+        Act::Send(2, 0),
+        OK,
+        Some(&[
+            (0, 0x00, 1),
+            (0, 0x00, 1),
+            (0, 0x00, 1),
+            (0, 0x00, 1),
+            (0, 0x00, 1),
+            (0, 0x00, 1),
+            (0, 0x00, 1),
+            (1, 0x10, 131),
+        ]),
+        TWO_WAIT,
+    ),
+    (
+        Act::Take(&[]),
+        OK,
+        Some(&[(1, 0x02, 75), (2, 0x00, 3)]),
+        OPEN,
+    ),
+];
+
+// What waits beside eight packets of another goes at a pull, as the window of each channel has it. It puts nothing of
+// its own.
+static PULLED: [Row; 8] = [
+    (Act::Fill(8), OK, STAY, OPEN),
+    (Act::Send(1, 300), OK, STAY, ONE_WAITS),
+    (Act::Send(2, 0), OK, STAY, TWO_WAIT),
+    (
+        Act::Pull,
+        OK,
+        Some(&[
+            (0, 0x00, 1),
+            (0, 0x00, 1),
+            (0, 0x00, 1),
+            (0, 0x00, 1),
+            (0, 0x00, 1),
+            (0, 0x00, 1),
+            (0, 0x00, 1),
+            (0, 0x00, 1),
+        ]),
+        TWO_WAIT,
+    ),
+    (
+        Act::Pull,
+        OK,
+        Some(&[(1, 0x10, 131), (2, 0x00, 3), (1, 0x12, 131)]),
+        ONE_WAITS,
+    ),
+    (Act::Pull, OK, NO_PACKETS, ONE_WAITS),
+    (Act::Restart, OK, Some(&[(0, 0xFB, 5)]), CLOSED),
+    (Act::Pull, (40, None), NO_PACKETS, CLOSED),
+];
+
+// Not taken are those with the qualifier of another packet, on another channel, an RR with the qualifier, one that is
+// too long, and RESET.
+static TRANSFERS: [Row; 15] = [
+    (
+        Act::Take(&[0x10, 0x01, 0x0B, 0x00, 0x00]),
+        OK,
+        NO_PACKETS,
+        CLOSED,
+    ),
+    (Act::Ask(1, 0), OK, Some(&[(1, 0x0F, 3)]), OPEN),
+    (
+        Act::Transfer(&[0x10, 0x01, 0x10, 0xAA]),
+        NOT_TAKEN,
+        NO_PACKETS,
+        OPEN,
+    ),
+    (Act::Reserve, OK, NO_PACKETS, OPEN),
+    (
+        Act::Transfer(&[0x10, 0x01, 0x10, 0xAA]),
+        OK,
+        Some(&[(1, 0x21, 3)]),
+        (FIRST, true, 0, 1),
+    ),
+    (Act::Reserve, OK, NO_PACKETS, (FIRST, true, 0, 1)),
+    (
+        Act::Transfer(&[0x90, 0x01, 0x02, 0xBB]),
+        NOT_TAKEN,
+        NO_PACKETS,
+        (FIRST, true, 0, 1),
+    ),
+    (
+        Act::Transfer(&[0x10, 0x02, 0x02, 0xBB]),
+        NOT_TAKEN,
+        NO_PACKETS,
+        (FIRST, true, 0, 1),
+    ),
+    (
+        Act::Transfer(&[0x90, 0x01, 0x01]),
+        NOT_TAKEN,
+        NO_PACKETS,
+        (FIRST, true, 0, 1),
+    ),
+    (
+        Act::Transfer(&[0x10, 0x01, 0x01, 0x00]),
+        NOT_TAKEN,
+        NO_PACKETS,
+        (FIRST, true, 0, 1),
+    ),
+    (
+        Act::Transfer(&[0x10, 0x01, 0x1B, 0x00, 0x00]),
+        NOT_TAKEN,
+        NO_PACKETS,
+        (FIRST, true, 0, 1),
+    ),
+    (
+        Act::Transfer(&[0x10, 0x01, 0x02, 0xBB]),
+        (0, Some(2)),
+        Some(&[(1, 0x41, 3)]),
+        OPEN,
+    ),
+    (Act::Send(1, 1), OK, Some(&[(1, 0x40, 4)]), OPEN),
+    (Act::Reserve, OK, NO_PACKETS, OPEN),
+    (Act::Transfer(&[0x10, 0x01, 0x21]), OK, NO_PACKETS, OPEN),
+];
+
+// A RESTART without a diagnostic, and a CALL with a facility that a layer doesn't know and D.
+static IN_ALL_FORMS: [Row; 6] = [
+    (Act::Take(&[0x10, 0x00, 0xFB, 0x07]), OK, NO_PACKETS, CLOSED),
+    (
+        Act::TakeWide(&[0x10, 0x00, 0xFB, 0x07]),
+        OK,
+        Some(&[(0, 0xFF, 3)]),
+        CLOSED_BEHIND_A_RESTART,
+    ),
+    (
+        Act::TakeWide(&[
+            0x50, 0x01, 0x0B, 0x11, 0x12, 0x05, 0x01, 0x01, 0x43, 0x02, 0x02, 0x41,
+        ]),
+        OK,
+        NO_PACKETS,
+        CLOSED_BEHIND_A_RESTART,
+    ),
+    (
+        Act::Ask(1, 0),
+        OK,
+        Some(&[(1, 0x0F, 3)]),
+        (RESTARTED, true, 0, 0),
+    ),
+    (
+        Act::TakeWide(&[0x50, 0x01, 0x00, 0x68]),
+        (0, Some(1)),
+        Some(&[(1, 0x21, 3)]),
+        (RESTARTED, true, 0, 0),
+    ),
+    (
+        Act::Take(&[0x10, 0x01, 0x1B, 0x05]),
+        (38, None),
+        Some(&[(1, 0x1B, 5)]),
+        CLOSED_BEHIND_A_RESTART,
+    ),
+];
+
+// The second octet of a packet, its third, and how many it has.
+fn head(packet: &[u8]) -> (u8, u8, usize) {
+    match packet {
+        [_, second, third, ..] => (*second, *third, packet.len()),
+        _ => (0, 0, packet.len()),
+    }
+}
+
+// The packets that wait are taken out of the link.
+fn put(alloc: Global, link: &mut PlainLink) -> Result<Vec<(u8, u8, usize)>, AllocError> {
+    let mut heads = Vec::new(alloc);
+    for _ in 0..link.waiting() {
+        if let Some(packet) = link.out() {
+            heads.push(head(packet.as_slice()))?;
+        }
+    }
+    Ok(heads)
+}
+
+fn answered(answer: Result<(), LayerError>) -> Answer {
+    match answer {
+        Ok(()) => OK,
+        Err(error) => (error.number(), None),
+    }
+}
+
+fn told(report: &Report) -> Answer {
+    match report {
+        Report::Channel {
+            notice: Some(notice),
+            ..
+        } => match notice {
+            Notice::Delivered(message) => (0, Some(message.user.as_slice().len())),
+            Notice::Interrupted { user } => (0, Some(user.len())),
+            Notice::Fault { diagnostic } => (*diagnostic, None),
+            _ => OK,
+        },
+        Report::Fault { diagnostic } => (*diagnostic, None),
+        _ => OK,
+    }
+}
+
+fn taken(delivery: &Option<Delivery>) -> Answer {
+    match delivery {
+        Some(delivery) => match &delivery.message {
+            Some(message) => (0, Some(message.user.as_slice().len())),
+            None => OK,
+        },
+        None => NOT_TAKEN,
+    }
+}
+
+fn sends(
+    alloc: Global,
+    layer: &mut Layer,
+    link: &mut PlainLink,
+    channel: u16,
+    count: usize,
+) -> Result<Answer, Fail> {
+    let user = vec![in alloc; 0u8; count]?;
+    let request = Request::Send {
+        q: false,
+        user: user.as_slice(),
+    };
+    Ok(answered(ask(layer, link, channel, request)))
+}
+
+fn hears(
+    layer: &mut Layer,
+    link: &mut PlainLink,
+    octets: &[u8],
+    is_wide: bool,
+) -> Result<Answer, Fail> {
+    let mut field = NarrowField::none();
+    let field = if is_wide { Some(&mut field) } else { None };
+    let report = hear(layer, link, octets, field)?;
+    Ok(told(&report))
+}
+
+fn transfers(layer: &mut Layer, link: &mut PlainLink, octets: &[u8]) -> Result<Answer, Fail> {
+    let delivery = transfer(layer, link, octets)?;
+    Ok(taken(&delivery))
+}
+
+fn happens(
+    alloc: Global,
+    layer: &mut Layer,
+    link: &mut PlainLink,
+    act: Act,
+) -> Result<Answer, Fail> {
+    match act {
+        Act::Up => Ok(answered(up(layer, link))),
+        Act::Down => {
+            layer.down();
+            Ok(OK)
+        }
+        Act::Restart => Ok(answered(restart(layer, link))),
+        Act::Pull => Ok(answered(pull(layer, link))),
+        Act::Ask(channel, index) => Ok(answered(ask(layer, link, channel, request(index)))),
+        Act::Send(channel, count) => sends(alloc, layer, link, channel, count),
+        Act::Take(octets) => hears(layer, link, octets, false),
+        Act::TakeWide(octets) => hears(layer, link, octets, true),
+        Act::Transfer(octets) => transfers(layer, link, octets),
+        Act::Reserve => Ok(answered(layer.reserve(link, 4096))),
+        Act::Fill(count) => {
+            fill(alloc, link, count)?;
+            Ok(OK)
+        }
+    }
+}
+
+fn says(layer: &Layer) -> Says {
+    (
+        layer.name(1),
+        layer.is_open(1),
+        layer.waits(),
+        layer.octets_joined(1),
+    )
+}
+
+fn plays_row(
+    rt: &impl Abort,
+    alloc: Global,
+    layer: &mut Layer,
+    link: &mut PlainLink,
+    row: usize,
+    &(act, answer, puts, wanted): &Row,
+) -> Result<(), Fail> {
+    let found = happens(alloc, layer, link, act)?;
+    assert_eq!(rt; (found, says(layer)), (answer, wanted), "row {row}");
+    if let Some(puts) = puts {
+        assert_eq!(rt; put(alloc, link)?.as_slice(), puts, "row {row}");
+    }
+    Ok(())
+}
+
+fn plays(
+    rt: &impl Abort,
+    alloc: Global,
+    layer: &mut Layer,
+    link: &mut PlainLink,
+    rows: &[Row],
+) -> Result<(), Fail> {
+    for (index, row) in rows.iter().enumerate() {
+        plays_row(rt, alloc, layer, link, index, row)?;
+    }
+    Ok(())
+}
+
+// At a DTE with two channels these tables happen in order.
+fn play(rt: &impl Abort, alloc: Global, tables: &[&[Row]]) -> Result<(), Fail> {
+    let mut layer = layer(alloc, Role::Dte, 2)?;
+    let mut link = plain_link(alloc)?;
+    for rows in tables {
+        plays(rt, alloc, &mut layer, &mut link, rows)?;
+    }
+    Ok(())
+}
+
+#[test]
+fn link_down_leaves_the_counts(rt: HostRuntime) -> Result<(), Fail> {
+    play(&rt, rt.alloc(), &[&COUNTS_STAND])
+}
+
+#[test]
+fn rounds_alternate_channels(rt: HostRuntime) -> Result<(), Fail> {
+    play(&rt, rt.alloc(), &[&TWO_OPEN, &ALTERNATING])
+}
+
+#[test]
+fn pulls_end_where_eight_packets_wait(rt: HostRuntime) -> Result<(), Fail> {
+    play(&rt, rt.alloc(), &[&TWO_OPEN, &UP_TO_EIGHT])?;
+    play(&rt, rt.alloc(), &[&TWO_OPEN, &PULLED])
+}
+
+#[test]
+fn packets_of_data_transfer_are_taken_by_themselves(rt: HostRuntime) -> Result<(), Fail> {
+    play(&rt, rt.alloc(), &[&TRANSFERS])
+}
+
+#[test]
+fn packets_are_read_in_all_forms(rt: HostRuntime) -> Result<(), Fail> {
+    play(&rt, rt.alloc(), &[&IN_ALL_FORMS])
+}
+
+fn is_new(rt: &impl Abort, layer: &Layer) {
+    let names = (layer.name(1), layer.name(16), layer.name(0), layer.name(17));
+    assert_eq!(rt; names, (FIRST, FIRST, None, None));
+    let said = (
+        layer.params(16),
+        layer.params(17),
+        layer.octets_joined(17),
+        layer.full(),
+    );
+    assert_eq!(rt; said, (Some(Params::default()), None, 0, false));
+}
+
+#[test]
+fn a_layer_has_the_channels_it_was_made_with(rt: HostRuntime) -> Result<(), Fail> {
+    is_new(&rt, &*layer(rt.alloc(), Role::Dte, 16)?);
+    Ok(())
+}

@@ -1,0 +1,264 @@
+//! What a link answers, and what it says of itself then; `tests/golden` has the frames of whole sessions.
+
+use crate::calls::{abandon, connect, disconnect, fire, link, link_for, put, sent, take};
+use std::alloc::{AllocError, Global};
+use std::process::Abort;
+use std::test::Fail;
+use x25_bits::{Role, Seq};
+use x25_frame::{Frame, encode};
+use x25_link::{Heard, Link, LinkError, OrderedLink, Reason};
+
+/// What happens at a link.
+#[derive(Clone, Copy)]
+enum Act {
+    Connect,
+    Disconnect,
+    /// Leaves Up, where the link is up.
+    Abandon,
+    /// Timer T1 fires.
+    T1,
+    /// So many packets of one octet are handed down.
+    Put(u16),
+    /// Octets come.
+    Take(&'static [u8]),
+    /// An I frame with 4,100 octets of information comes.
+    TakeLong,
+    /// Memory of a packet of one octet that was acknowledged is taken, which refuses where there is none.
+    Reuse,
+    /// So many times memory of so many octets is to be kept for a frame.
+    Keep(u8, usize),
+}
+
+/// What it answers: the number of a refusal, or 0; why the link went down; and whether it came up.
+type Answer = (u8, Option<Reason>, bool);
+
+/// The frames that it sends: how many, and the octets of the last.
+type Frames = (usize, &'static [u8]);
+
+/// What a link says: whether it is idle, awaits UA, and T1 runs; the number of the first I frame that isn't
+/// acknowledged; how many packets wait, and how many buffers are kept for frames.
+type Says = (bool, bool, bool, u8, usize, usize);
+
+type Row = (Act, Answer, Frames, Says);
+
+const OK: Answer = (0, None, false);
+
+const UP: Answer = (0, None, true);
+
+const NONE: Frames = (0, &[]);
+
+const DOWN: Says = (false, false, false, 0, 0, 0);
+
+const AWAITS_UA: Says = (false, true, true, 0, 0, 0);
+
+const IDLE: Says = (true, false, false, 0, 0, 0);
+
+const BUSY: Says = (false, false, true, 0, 0, 0);
+
+/// SABM with P=1 of the DTE.
+const SABM: &[u8] = &[0x01, 0x3F, 0xEB, 0xDF];
+
+/// UA with F=1 of the DCE.
+const UA: &[u8] = &[0x01, 0x73, 0x83, 0x57];
+
+// A set-up that ends without an answer, one that is answered, packets whose memory can be taken once they are
+// acknowledged, and the end of the link.
+static DTE: [Row; 22] = [
+    (Act::T1, (11, None, false), NONE, DOWN),
+    (Act::Put(1), (9, None, false), NONE, DOWN),
+    (Act::Connect, OK, (1, SABM), AWAITS_UA),
+    (Act::Connect, (12, None, false), NONE, AWAITS_UA),
+    (Act::T1, OK, (1, SABM), AWAITS_UA),
+    (Act::T1, (0, Some(Reason::Retries), false), NONE, DOWN),
+    (Act::Connect, OK, (1, SABM), AWAITS_UA),
+    (Act::Take(UA), UP, NONE, IDLE),
+    (Act::Connect, (15, None, false), NONE, IDLE),
+    (Act::Put(1), OK, (1, &[0x01, 0x00, 0x00, 0x10, 0x9C]), BUSY),
+    (Act::Put(2), OK, (2, &[0x01, 0x04, 0x00, 0x70, 0xFB]), BUSY),
+    (Act::Reuse, (70, None, false), NONE, BUSY),
+    (
+        Act::Take(&[0x01, 0x41, 0x12, 0x45]),
+        OK,
+        NONE,
+        (false, false, true, 2, 0, 0),
+    ),
+    (Act::Reuse, OK, NONE, (false, false, true, 2, 0, 0)),
+    (Act::Reuse, OK, NONE, (false, false, true, 2, 0, 0)),
+    (
+        Act::Reuse,
+        (70, None, false),
+        NONE,
+        (false, false, true, 2, 0, 0),
+    ),
+    (
+        Act::Put(6),
+        OK,
+        (6, &[0x01, 0x00, 0x00, 0x10, 0x9C]),
+        (false, false, true, 2, 0, 0),
+    ),
+    (Act::Put(256), OK, NONE, (false, false, true, 2, 256, 0)),
+    (
+        Act::Put(1),
+        (10, None, false),
+        NONE,
+        (false, false, true, 2, 256, 0),
+    ),
+    (
+        Act::Disconnect,
+        (0, Some(Reason::Local), false),
+        (1, &[0x01, 0x53, 0x81, 0x76]),
+        DOWN,
+    ),
+    (Act::Disconnect, (13, None, false), NONE, DOWN),
+    (Act::Connect, (13, None, false), NONE, DOWN),
+];
+
+static DCE: [Row; 5] = [
+    (Act::Take(SABM), UP, (1, UA), IDLE),
+    (Act::Abandon, (0, Some(Reason::Counts), false), NONE, DOWN),
+    (Act::Put(1), (9, None, false), NONE, DOWN),
+    (Act::Take(SABM), UP, (1, UA), IDLE),
+    (
+        Act::TakeLong,
+        (0, Some(Reason::FrmrSent), false),
+        (1, &[0x01, 0x87, 0x00, 0x00, 0x04, 0x58, 0xF8]),
+        DOWN,
+    ),
+];
+
+/// Memory that a link is given for frames: what is for too many octets isn't kept, nor are more than 32 buffers.
+static MEMORY: [Row; 2] = [
+    (Act::Keep(1, 4104), OK, NONE, DOWN),
+    (Act::Keep(40, 7), OK, NONE, (false, false, false, 0, 0, 32)),
+];
+
+fn put_many(link: &mut Link, alloc: Global, count: u16) -> Result<(), LinkError> {
+    for _ in 0..count {
+        put(link, alloc, 0)?;
+    }
+    Ok(())
+}
+
+fn keep_many(
+    link: &mut Link,
+    alloc: Global,
+    (count, octets): (u8, usize),
+) -> Result<(), AllocError> {
+    for _ in 0..count {
+        link.keep(vec![in alloc; 9u8; octets]?);
+    }
+    Ok(())
+}
+
+fn long_frame(alloc: Global) -> Result<Vec<u8>, Fail> {
+    let info = vec![in alloc; 0u8; 4100]?;
+    let frame = Frame::I {
+        ns: Seq::ZERO,
+        nr: Seq::ZERO,
+        p: false,
+        info: info.as_slice(),
+    };
+    let mut octets = Vec::new(alloc);
+    encode(Role::Dte, &frame, &mut octets)?;
+    Ok(octets)
+}
+
+fn number(answer: Result<(), LinkError>) -> Answer {
+    match answer {
+        Ok(()) => OK,
+        Err(error) => (error.number(), None, false),
+    }
+}
+
+fn heard(answer: Result<Heard, LinkError>) -> Answer {
+    match answer {
+        Ok(heard) => (0, heard.notes.down, heard.notes.up),
+        Err(error) => (error.number(), None, false),
+    }
+}
+
+fn happens(link: &mut Link, alloc: Global, act: Act) -> Result<Answer, Fail> {
+    Ok(match act {
+        Act::Connect => heard(connect(link)),
+        Act::Disconnect => heard(disconnect(link)),
+        Act::Abandon => heard(abandon(link)),
+        Act::T1 => heard(fire(link)),
+        Act::Put(count) => number(put_many(link, alloc, count)),
+        Act::Take(octets) => heard(take(link, octets)),
+        Act::TakeLong => {
+            let octets = long_frame(alloc)?;
+            heard(take(link, octets.as_slice()))
+        }
+        Act::Reuse => match link.spent_memory(1) {
+            Some(octets) => (u8::from(!octets.is_empty()), None, false),
+            None => (70, None, false),
+        },
+        Act::Keep(count, octets) => {
+            keep_many(link, alloc, (count, octets))?;
+            OK
+        }
+    })
+}
+
+fn says(link: &Link) -> Says {
+    (
+        link.idle(),
+        link.awaits_ua(),
+        link.timer_runs(),
+        link.acknowledged().get(),
+        link.waiting(),
+        link.kept(),
+    )
+}
+
+fn last(frames: &[Vec<u8>]) -> &[u8] {
+    match frames {
+        [.., frame] => frame.as_slice(),
+        [] => &[],
+    }
+}
+
+fn plays(rt: &impl Abort, alloc: Global, link: &mut Link, rows: &[Row]) -> Result<(), Fail> {
+    for (row, &(act, answer, frames, wanted)) in rows.iter().enumerate() {
+        let found = happens(link, alloc, act)?;
+        let sent = sent(link, alloc);
+        let shown = (found, (sent.len(), last(sent.as_slice())), says(link));
+        assert_eq!(rt; shown, (answer, frames, wanted), "row {row}");
+    }
+    Ok(())
+}
+
+#[test]
+fn steps_of_a_dte(rt: HostRuntime) -> Result<(), Fail> {
+    let mut link = link(rt.alloc(), Role::Dte, 7, 1)?;
+    plays(&rt, rt.alloc(), &mut link, &DTE)
+}
+
+#[test]
+fn steps_of_a_dce(rt: HostRuntime) -> Result<(), Fail> {
+    let mut link = link(rt.alloc(), Role::Dce, 7, 10)?;
+    plays(&rt, rt.alloc(), &mut link, &DCE)
+}
+
+#[test]
+fn no_more_than_thirty_two_are_kept(rt: HostRuntime) -> Result<(), Fail> {
+    let mut link = link(rt.alloc(), Role::Dte, 7, 10)?;
+    plays(&rt, rt.alloc(), &mut link, &MEMORY)
+}
+
+/// k, N1 and N2 of which one is out of its range.
+static SETTINGS: [(u8, usize, u8); 5] = [
+    (8, 4099, 10),
+    (0, 4099, 10),
+    (7, 0, 10),
+    (7, 4100, 10),
+    (7, 4099, 0),
+];
+
+#[test]
+fn a_parameter_out_of_its_range_is_refused(rt: HostRuntime) {
+    for &(k, n1, n2) in &SETTINGS {
+        let error = link_for(rt.alloc(), Role::Dte, k, n1, n2).err();
+        assert_eq!(rt; error.map(LinkError::number), Some(14), "{k} {n1} {n2}");
+    }
+}

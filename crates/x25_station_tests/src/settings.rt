@@ -1,0 +1,39 @@
+//! Settings that a station takes, and those that it refuses.
+
+use crate::calls::station;
+use crate::steps::SETTINGS;
+use std::alloc::Global;
+use x25_station::{Cfg, Role, StationError};
+
+/// k, N2 and channels, and whether they are in their ranges.
+static ROWS: [(u8, u8, u8, bool); 7] = [
+    (0, 1, 1, false),
+    (8, 1, 1, false),
+    (1, 0, 1, false),
+    (1, 1, 0, false),
+    (1, 1, 17, false),
+    (1, 1, 1, true),
+    (7, 255, 16, true),
+];
+
+fn refusal(alloc: Global, cfg: Cfg) -> Option<StationError> {
+    station(alloc, Role::Dte, cfg).err()
+}
+
+#[test]
+fn a_setting_out_of_its_range_is_refused(rt: HostRuntime) {
+    for &(k, n2, channels, is_fine) in &ROWS {
+        let wanted = if is_fine {
+            None
+        } else {
+            Some(StationError::BadConfig)
+        };
+        let cfg = Cfg {
+            k,
+            n2,
+            channels,
+            ..SETTINGS
+        };
+        assert_eq!(rt; refusal(rt.alloc(), cfg), wanted, "{k} {n2} {channels}");
+    }
+}
