@@ -6,6 +6,10 @@ pub mod Frames
 pub mod Lines
 pub mod Octets
 pub mod Innocents
+pub mod Standing
+pub mod Unnumbered
+pub mod OtherEnd
+pub mod OwnEnd
 pub mod Sessions
 pub mod Silences
 pub mod Lag

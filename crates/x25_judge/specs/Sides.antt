@@ -6,7 +6,8 @@ use Rattle.x25_frame.specs.Frame.{PlainFrame, info, rr, rnr, rej, sabm, disc, ua
 use Rattle.x25_judge.specs.Note.{first_note}
 use Rattle.x25_judge.specs.Rule.{is_of_manners}
 use Rattle.x25_judge.specs.Way as way
-use Rattle.x25_judge.specs.Way.{fresh, lost, missed, unheard, answered, answered_again, answering_again, heard}
+use Rattle.x25_judge.specs.Way.{fresh, lost, missed, unheard, answered, answered_again, answering_again, deafened}
+use Rattle.x25_judge.specs.Way.{heard}
 use Rattle.x25_judge.specs.Way.{rejected, sent_back, sent}
 use Rattle.x25_judge.specs.declared.note.Note.{Note}
 use Rattle.x25_judge.specs.declared.note.Note.TheVariants.{PollAgain, PollUnseen}
@@ -41,6 +42,14 @@ is_unseen Out = false
 is_unseen Waiting = false
 is_unseen Answered = false
 is_unseen Up = false
+
+-- I frames and supervisory frames were sent since UA, and no SABM and no DISC
+abbrev pub is_up : Phase → Bool
+is_up Unseen = false
+is_up Out = false
+is_up Waiting = false
+is_up Answered = false
+is_up Up = true
 
 -- I frames and supervisory frames may be sent (section 2.4.4.2)
 abbrev pub may_run : Phase → Bool
@@ -101,7 +110,15 @@ unsure Up = Up
 -- ---- parts
 
 abbrev pub no_end : End
-no_end = record { phase = Unseen; polls = 0; is_polling = false; is_followed = false; asked = 0; way = fresh false }
+no_end = record {
+  phase = Unseen;
+  polls = 0;
+  is_polling = false;
+  is_followed = false;
+  asked = 0;
+  late = 0;
+  way = fresh false;
+}
 
 abbrev pub with_way : Way → End → End
 with_way way e = record e { way = way }
@@ -112,12 +129,26 @@ with_phase phase e = record e { phase = phase }
 abbrev pub with_polls : ℕ → Bool → End → End
 with_polls polls is_polling e = record e { polls = polls; is_polling = is_polling }
 
-abbrev pub with_asked : ℕ → End → End
-with_asked asked e = record e { asked = asked }
+abbrev pub with_asked : ℕ → ℕ → End → End
+with_asked asked late e = record e { asked = asked; late = late }
+
+-- Behind a frame with a number. Where it isn't known to begin behind UA, UA to all that went before is late.
+abbrev pub running_in : End → End
+running_in e = record e { phase = running e.phase; late = if is_unseen (running e.phase) then e.asked else e.late }
+
+-- The I frame that is acknowledged went behind its SABMs and DISCs: UA to each of these was sent before, or never will
+-- be (section 2.4.4.1).
+abbrev pub settles : Way → End → Bool
+settles way e = is_up e.phase && (nat_lt way.pending e.way.pending && not e.way.is_missed)
 
 -- an I frame of it is acknowledged where fewer are unacknowledged than before
 abbrev pub followed_to : Way → End → End
-followed_to way e = record e { is_followed = e.is_followed || nat_lt way.pending e.way.pending; way = way }
+followed_to way e = record e {
+  is_followed = e.is_followed || nat_lt way.pending e.way.pending;
+  asked = if settles way e then 0 else e.asked;
+  late = if settles way e then 0 else e.late;
+  way = way;
+}
 
 abbrev pub with_own : End → Sides → Sides
 with_own own t = record t { own = own }
@@ -184,9 +215,9 @@ answers_if f t = if f then answers_poll t.other.is_followed t else t
 -- their sender is up; else nothing is known of it, or of what answers it
 abbrev pub runs : Sides → Sides
 runs t = if may_run t.own.phase
-    then with_own (with_phase (running t.own.phase) t.own) t
+    then with_own (running_in t.own) t
     else tells (Some NotUp) (with_other (with_way (lost t.other.way) t.other)
-    (with_own (with_way (lost t.own.way) (with_phase Unseen t.own)) t))
+    (with_own (with_way (lost t.own.way) (running_in t.own)) t))
 
 -- an N(R) is about the other end's I frames
 abbrev pub hears_told : Told → Sides → Sides
@@ -218,12 +249,19 @@ sends_reject command nr pf t = sends_back nr (rejects (hears nr (bits command pf
 
 -- ---- unnumbered frames
 
+-- A frame without a number ends the end's numbers, if it sent any. UA to a SABM or DISC that went before these is late.
+abbrev pub ended : End → End
+ended e = record e { late = if is_up e.phase then e.asked else e.late }
+
+abbrev pub ends : Sides → Sides
+ends t = with_own (ended t.own) t
+
 -- SABM or DISC may be answered by UA
 abbrev pub asks_more : Sides → Sides
-asks_more t = with_own (with_asked (min (t.own.asked + 1) 255) t.own) t
+asks_more t = with_own (with_asked (min (t.own.asked + 1) 255) t.own.late t.own) t
 
 abbrev pub answers : Sides → Sides
-answers t = with_other (with_asked (fewer t.other.asked) t.other) t
+answers t = with_other (with_asked (fewer t.other.asked) (fewer t.other.late) t.other) t
 
 -- None that was seen may be answered (DM may answer any command), and none of before the trace, since it shows that an
 -- I frame of the end that asks was acknowledged.
@@ -256,13 +294,19 @@ accepted_way Waiting w = answered w
 accepted_way Answered w = answered_again w
 accepted_way Up w = answered_again w
 
--- UA
+-- UA may answer a SABM of before numbers that ended, and its sender go on with these
+abbrev pub is_late : Sides → Bool
+is_late t = not (t.other.late == 0)
+
+-- UA: the N(R)s of both ends aren't judged behind a late one
 abbrev pub accepts : Sides → Sides
-accepts t = with_other (with_phase (accepted t.other.phase) (with_way (accepted_way t.other.phase t.other.way) t.other))
-    (with_own (with_phase (accepting t.own.phase) (with_way (accepting_way t.other.phase t.own.way) t.own)) t)
+accepts t = with_other (with_phase (accepted t.other.phase)
+    (with_way (deafened (is_late t) (accepted_way t.other.phase t.other.way)) t.other))
+    (with_own (with_phase (accepting t.own.phase)
+    (with_way (deafened (is_late t) (accepting_way t.other.phase t.own.way)) t.own)) t)
 
 abbrev pub accepts_asked : Bool → Sides → Sides
-accepts_asked f t = if is_unasked t then tells (Some UaUnasked) t else accepts (answers (answers_if f t))
+accepts_asked f t = if is_unasked t then tells (Some UaUnasked) t else answers (accepts (ends (answers_if f t)))
 
 abbrev pub declines : Sides → Sides
 declines t = with_own (with_phase (declining t.own.phase) t.own) t
@@ -279,11 +323,11 @@ sees window is_same (info ns nr p octets) t = sends_info window ns nr p is_same 
 sees window is_same (rr command nr pf) t = sends_ready command nr pf t
 sees window is_same (rnr command nr pf) t = sends_ready command nr pf t
 sees window is_same (rej command nr pf) t = sends_reject command nr pf t
-sees window is_same (sabm p) t = asks (asks_more (asks_if p t))
-sees window is_same (disc p) t = leaves (asks_more (asks_if p t))
+sees window is_same (sabm p) t = asks (asks_more (ends (asks_if p t)))
+sees window is_same (disc p) t = leaves (asks_more (ends (asks_if p t)))
 sees window is_same (ua f) t = accepts_asked f t
-sees window is_same (dm f) t = declines (answers_if f t)
-sees window is_same (frmr f why) t = leaves (answers_if f t)
+sees window is_same (dm f) t = declines (ends (answers_if f t))
+sees window is_same (frmr f why) t = leaves (ends (answers_if f t))
 
 -- ---- whether the numbers and bits of a frame are judged, by what went before it
 

@@ -100,6 +100,10 @@ deaf w = record w { sight = Deaf }
 abbrev pub unheard : Way → Way
 unheard w = record w { sight = if is_sure w then Astray else w.sight; kept = if w.is_missed then 0 else w.kept }
 
+-- N(R)s about its numbers, where these are known, aren't judged from here on
+abbrev pub deafened : Bool → Way → Way
+deafened is_late w = if is_late && not (is_unseen w) then deaf w else w
+
 -- the other end answers, so that its N(R)s begin from 0: known where no I frame was sent before
 abbrev pub answered : Way → Way
 answered w = if is_fresh w then fresh true else lost w

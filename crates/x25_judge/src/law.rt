@@ -13,7 +13,8 @@ use x25_line::{each_event_hands_one, silent_tape_keeps_order};
 use x25_link::{follows_the_window, notes_what_changes, sets_up_by_rows};
 
 /// SABM of an end and UA of the other, anywhere in a trace, begin the session that the two laws below are about; but
-/// not where UA answered a SABM of that end already, and it has sent no frame with a number since.
+/// not where UA answered a SABM of that end already, and it has sent no frame with a number since, nor where UA may
+/// still come to a SABM or DISC of that end that frames with numbers went behind.
 pub fn set_ups_begin()
     ensures { SetUpsBegin }
 {}
@@ -30,8 +31,7 @@ pub fn innocents_stay_untold()
 /// The same over any number of link set-ups, of the whole trace from its first line on: an end that keeps these rules
 /// and those of set-up of docs/PEER.md is told of by no rule of order of the link layer, whatever the other end sends,
 /// SABM, UA, DISC and DM at any moment too, and whatever of it comes or is damaged. Beyond those rules it leaves its
-/// session as it sends DM or FRMR and as it answers DISC, and it answers SABM before frames with numbers stand behind
-/// it.
+/// session as it sends DM or FRMR and as it answers DISC.
 pub fn sessions_stay_untold()
     ensures { NoSessionIsAccused }
 {}

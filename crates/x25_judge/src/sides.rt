@@ -30,6 +30,8 @@ pub(crate) struct End {
     pub(crate) is_followed: bool,
     /// How many SABMs and DISCs of it UA may still answer; 255 where there are more.
     pub(crate) asked: u8,
+    /// How many of these went before numbers of it that ended.
+    pub(crate) late: u8,
     /// Its I frames.
     pub(crate) way: Way,
 }
@@ -78,6 +80,12 @@ impl Phase {
         ensures { result ≡ definition.is_unseen self }
     {
         matches!(self, Phase::Unseen)
+    }
+
+    fn is_up(self) -> bool
+        ensures { result ≡ definition.is_up self }
+    {
+        matches!(self, Phase::Up)
     }
 
     /// Behind an I frame or a supervisory frame.
@@ -194,6 +202,7 @@ impl End {
             is_polling: false,
             is_followed: false,
             asked: 0,
+            late: 0,
             way: Way::fresh(false),
         }
     }
@@ -220,18 +229,63 @@ impl End {
         }
     }
 
-    fn with_asked(self, asked: u8) -> End
-        ensures { result ≡ definition.with_asked asked self }
+    fn with_asked(self, asked: u8, late: u8) -> End
+        ensures { result ≡ definition.with_asked asked late self }
     {
-        End { asked, ..self }
+        End {
+            asked,
+            late,
+            ..self
+        }
+    }
+
+    /// Behind a frame with a number.
+    fn running_in(self) -> End
+        ensures { result ≡ definition.running_in self }
+    {
+        let phase = self.phase.running();
+        End {
+            phase,
+            late: if phase.is_unseen() {
+                self.asked
+            } else {
+                self.late
+            },
+            ..self
+        }
+    }
+
+    /// Its numbers end, if it sent any.
+    fn ended(self) -> End
+        ensures { result ≡ definition.ended self }
+    {
+        End {
+            late: if self.phase.is_up() {
+                self.asked
+            } else {
+                self.late
+            },
+            ..self
+        }
+    }
+
+    /// Whether no UA to a SABM or a DISC that it sent can come behind an N(R), since that acknowledges an I frame that
+    /// it sent later.
+    fn settles(self, way: Way) -> bool
+        ensures { result ≡ definition.settles way self }
+    {
+        self.phase.is_up() && (way.pending < self.way.pending && !self.way.is_missed)
     }
 
     /// Behind an N(R): fewer I frames are unacknowledged where one of them was acknowledged.
     fn followed_to(self, way: Way) -> End
         ensures { result ≡ definition.followed_to way self }
     {
+        let is_settled = self.settles(way);
         End {
             is_followed: self.is_followed || way.pending < self.way.pending,
+            asked: if is_settled { 0 } else { self.asked },
+            late: if is_settled { 0 } else { self.late },
             way,
             ..self
         }
@@ -373,12 +427,9 @@ impl Sides {
         ensures { result ≡ definition.runs self }
     {
         if self.own.phase.may_run() {
-            return self.with_own(self.own.with_phase(self.own.phase.running()));
+            return self.with_own(self.own.running_in());
         }
-        let own = self
-            .own
-            .with_phase(Phase::Unseen)
-            .with_way(self.own.way.lost());
+        let own = self.own.running_in().with_way(self.own.way.lost());
         self.with_own(own)
             .with_other(self.other.with_way(self.other.way.lost()))
             .tells(Some(Rule::NotUp))
@@ -437,18 +488,27 @@ impl Sides {
 
     // ---- unnumbered frames
 
+    /// A frame without a number ends its numbers.
+    fn ends(self) -> Sides
+        ensures { result ≡ definition.ends self }
+    {
+        self.with_own(self.own.ended())
+    }
+
     /// A SABM or a DISC more may be answered.
     fn asks_more(self) -> Sides
         ensures { result ≡ definition.asks_more self }
     {
-        self.with_own(self.own.with_asked(self.own.asked.saturating_add(1)))
+        let asked = self.own.asked.saturating_add(1);
+        self.with_own(self.own.with_asked(asked, self.own.late))
     }
 
     /// One of the other end is answered.
     fn answers(self) -> Sides
         ensures { result ≡ definition.answers self }
     {
-        self.with_other(self.other.with_asked(fewer(self.other.asked)))
+        let late = fewer(self.other.late);
+        self.with_other(self.other.with_asked(fewer(self.other.asked), late))
     }
 
     /// Whether a UA answers none.
@@ -466,12 +526,22 @@ impl Sides {
         self.with_own(self.own.with_way(way).with_phase(self.own.phase.asking()))
     }
 
+    /// Whether a UA may answer a SABM of before numbers that ended.
+    fn is_late(self) -> bool
+        ensures { result ≡ definition.is_late self }
+    {
+        self.other.late != 0
+    }
+
     fn accepts(self) -> Sides
         ensures { result ≡ definition.accepts self }
     {
+        let is_late = self.is_late();
         let phase = self.other.phase;
-        let own = self.own.with_way(phase.accepting_way(self.own.way));
-        let other = self.other.with_way(phase.accepted_way(self.other.way));
+        let own = phase.accepting_way(self.own.way).deafened(is_late);
+        let own = self.own.with_way(own);
+        let other = phase.accepted_way(self.other.way).deafened(is_late);
+        let other = self.other.with_way(other);
         self.with_own(own.with_phase(self.own.phase.accepting()))
             .with_other(other.with_phase(phase.accepted()))
     }
@@ -482,7 +552,7 @@ impl Sides {
         if self.is_unasked() {
             self.tells(Some(Rule::UaUnasked))
         } else {
-            self.answers_if(f).answers().accepts()
+            self.answers_if(f).ends().accepts().answers()
         }
     }
 
@@ -514,11 +584,11 @@ impl Sides {
                 *pf,
             ),
             Frame::Rej { command, nr, pf } => self.reject(*command, nr.get(), *pf),
-            Frame::Sabm { p } => self.asks_if(*p).asks_more().asks(),
-            Frame::Disc { p } => self.asks_if(*p).asks_more().leaves(),
+            Frame::Sabm { p } => self.asks_if(*p).ends().asks_more().asks(),
+            Frame::Disc { p } => self.asks_if(*p).ends().asks_more().leaves(),
             Frame::Ua { f } => self.accepts_asked(*f),
-            Frame::Dm { f } => self.answers_if(*f).declines(),
-            Frame::Frmr { f, .. } => self.answers_if(*f).leaves(),
+            Frame::Dm { f } => self.answers_if(*f).ends().declines(),
+            Frame::Frmr { f, .. } => self.answers_if(*f).ends().leaves(),
         }
     }
 

@@ -206,6 +206,17 @@ impl Way {
         }
     }
 
+    /// N(R)s about its numbers aren't judged from here on, where `is_late`.
+    pub(crate) fn deafened(self, is_late: bool) -> Way
+        ensures { result ≡ definition.deafened is_late self }
+    {
+        if is_late && !self.is_unseen() {
+            self.deaf()
+        } else {
+            self
+        }
+    }
+
     /// The other end asks for I frames from 0 on.
     pub(crate) fn answered(self) -> Way
         ensures { result ≡ definition.answered self }

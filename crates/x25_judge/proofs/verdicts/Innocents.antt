@@ -29,9 +29,9 @@ use Rattle.x25_judge.specs.laws.Keeping.{MaySend, MayBe, Begins, HandsDown, Send
 use Rattle.x25_judge.specs.laws.Session.{end_of, IsSetUp, IsNumbered, is_of_order}
 use Rattle.x25_judge.specs.laws.VerdictClaims.{NoInnocentIsAccused}
 use Rattle.x25_packet_judge.specs.Book as book
-use Rattle.x25_judge.proofs.verdicts.Ways.{Numbered, apart_low, deaf_numbered, same_numbered, unheard_numbered, sent_numbered}
+use Rattle.x25_judge.proofs.verdicts.Ways.{Counts, Numbered, apart_low, deaf_numbered, same_numbered, unheard_numbered, sent_numbered}
 use Rattle.x25_judge.proofs.verdicts.Fair.{Own, OwnIf, Fair, new_fair, old_fair, heard_own_if, unseen_deaf, unheard_seen, unheard_unseen, heard_fair}
-use Rattle.x25_judge.proofs.verdicts.Frames.{IsUp, AreSame, AreAlike, Sees, Strays, strays, runs_on, info_sees, ready_sees, reject_sees, first_of_order}
+use Rattle.x25_judge.proofs.verdicts.Frames.{IsUp, AreSame, Owes, Settles, AreAlike, Sees, Strays, strays, is_bool, runs_on, info_sees, ready_sees, reject_sees, first_of_order}
 use Rattle.x25_judge.proofs.verdicts.Lines.{other_twice, Goes, goes, Past, past, stands, told_of_order}
 use Rattle.x25_judge.proofs.verdicts.Octets.{IsHeld, IsSupervisory, begun_held, pushed_held, same_held, sent_held, same_octets, bare_held}
 
@@ -120,7 +120,7 @@ takes_rises ns a b le = go (cases_eq a b)
         least x = omega arith
     go (inr ne) = far (takes ns a) (takes ns b) (takes_within ns a) (takes_low ns b) ne
 
-brings_rises : (frame : PlainFrame) (a b : ℕ) → a ≤ b → brings frame a ≤ brings frame b
+pub brings_rises : (frame : PlainFrame) (a b : ℕ) → a ≤ b → brings frame a ≤ brings frame b
 brings_rises (info ns nr pf packet) a b le = takes_rises ns a b le
 brings_rises (rr command nr pf) a b le = le
 brings_rises (rnr command nr pf) a b le = le
@@ -263,7 +263,7 @@ seen_less a b m u v g h t less fewer s = record { up = s.up; own = own_if_less a
 
 -- ---- a frame comes, or is lost
 
-record AtMost (frame : PlainFrame) (p q : Peer) : Type 0 where
+pub record AtMost (frame : PlainFrame) (p q : Peer) : Type 0 where
   pub acked : q.acked ≤ acks frame p.acked
   pub taken : length q.taken ≤ brings frame (length p.taken)
   pub told : q.told ≡ p.told
@@ -296,7 +296,7 @@ heard_only false nr frame p a b = record { acked = rw a (omega arith); taken = r
 nothing : (frame : PlainFrame) (p : Peer) → AtMost frame p p
 nothing frame p = record { acked = acks_low frame p.acked; taken = brings_low frame (length p.taken); told = refl; sent = refl; given = refl }
 
-comes : (frame : PlainFrame) (p q : Peer) → MayHear p (Ok frame) q → AtMost frame p q
+pub comes : (frame : PlainFrame) (p q : Peer) → MayHear p (Ok frame) q → AtMost frame p q
 comes (info ns nr pf packet) p q (hears, takes_it, wanted, is) = subst (λ (x : Peer). AtMost (info ns nr pf packet) p x) (sym is) (came hears takes_it ns nr pf packet p wanted)
 comes (rr command nr pf) p q (hears, is) = subst (λ (x : Peer). AtMost (rr command nr pf) p x) (sym is) (heard_only hears nr (rr command nr pf) p refl refl)
 comes (rnr command nr pf) p q (hears, is) = subst (λ (x : Peer). AtMost (rnr command nr pf) p x) (sym is) (heard_only hears nr (rnr command nr pf) p refl refl)
@@ -321,15 +321,13 @@ came_beside from j p q frame frames may h =
 
 -- ---- the end sends
 
-pub is_bool : (b : Bool) → (b ≡ true) ⊎ (b ≡ false)
-is_bool true = inl refl
-is_bool false = inr refl
-
 -- an N(R), as the judge takes it
 record Heeds (w : Way) (nr g t : ℕ) : Type 0 where
   pub quiet : (way.heard nr w).rule ≡ None
   pub hears : Hears (way.heard nr w).way g t
   pub rests : Rested w → Rested (way.heard nr w).way
+  pub none : (x : ℕ) → (way.may_hear w ≡ true → t ≡ 0) → Hears w x 0 → Hears (way.heard nr w).way x 0
+  pub fewer : nat_lt (way.heard nr w).way.pending w.pending ≡ true → (way.may_hear w ≡ true) × (t ≡ 0 → ⊥)
 
 -- it changes nothing of what was sent
 record Leaves (w v : Way) : Type 0 where
@@ -355,43 +353,83 @@ heard_leaves w nr =
     ahead : ℕ
     ahead = apart nr (way.awaited w)
 
+-- the N(R) that stands for t, as what it says is known
+heard_hears : (w : Way) (g u t : ℕ) → u ≤ t → t ≤ g → Hears w g u → Hears (way.heard (t % 8) w).way g t
+heard_hears w g u t rising taken h =
+    let l = heard_leaves w (t % 8) in
+    record {
+      numbered = (heard_fair w g u t rising taken h.numbered).numbered;
+      begun = λ hears ever. let (b, c) = h.begun (l.hears hears) (sym l.ever ∙ ever) in (l.behind ∙ b, l.kept ∙ c);
+      none = λ hears ever. let (b, c) = h.none (l.hears hears) (sym l.ever ∙ ever) in (b, none b);
+    }
+  where
+    none : g ≡ 0 → t ≡ 0
+    none e = omega (arith, taken)
+
+abbrev Lessens : Way → ℕ → Told → Type 0
+Lessens w t x = nat_lt x.way.pending w.pending ≡ true → (way.may_hear w ≡ true) × (t ≡ 0 → ⊥)
+
+-- one that acknowledges an I frame stands for one at least
+acknowledges_some : (w : Way) (g u t : ℕ) → u ≤ t → Hears w g u → nat_lt (way.heard (t % 8) w).way.pending w.pending ≡ true → (way.may_hear w ≡ true) × (t ≡ 0 → ⊥)
+acknowledges_some w g u t rising h =
+    cond_both (way.may_hear w) (way.heard_ahead ahead w) (way.quiet w) (Lessens w t)
+    (λ hears. cond_both (nat_le ahead w.pending) (way.quiet (way.acknowledged ahead w)) (way.strayed ahead w) (Lessens w t)
+    (λ _ fewer. (hears, λ none. let (x, y, fit, c) = h.numbered.counts hears in first none x y fit c (ltb-true (w.pending - ahead) w.pending fewer)))
+    (λ _. cond_both (not (way.is_sure w)) (if w.is_missed then way.quiet (way.astray w) else way.quiet (way.deaf w)) (if w.is_missed then way.notes HeardBehindDamage (way.astray w) else way.breaks (way.invalid ahead w) (way.deaf w)) (Lessens w t)
+    (λ _. cond_both w.is_missed (way.quiet (way.astray w)) (way.quiet (way.deaf w)) (Lessens w t) (λ _. never) (λ _. never))
+    (λ _. cond_both w.is_missed (way.notes HeardBehindDamage (way.astray w)) (way.breaks (way.invalid ahead w) (way.deaf w)) (Lessens w t) (λ _. never) (λ _. never))))
+    (λ _. never)
+  where
+    ahead : ℕ
+    ahead = apart (t % 8) (way.awaited w)
+
+    never : nat_lt w.pending w.pending ≡ true → (way.may_hear w ≡ true) × (t ≡ 0 → ⊥)
+    never fewer = absurd (none w.pending (ltb-true w.pending w.pending fewer))
+      where
+        none : (x : ℕ) → x < x → ⊥
+        none x lt = omega arith
+
+    first : t ≡ 0 → (x y : ℕ) → ((g ≤ x) × (y ≡ u)) → Counts w x y → w.pending - ahead < w.pending → ⊥
+    first none x y fit c fewer = over ahead w.pending w.next x y t none rising fit.1 c.next c.pending c.few refl fewer
+      where
+        over : (a p n x y t : ℕ) → t ≡ 0 → u ≤ t → y ≡ u → n ≡ x % 8 → p + y ≡ x → p ≤ 7 → a ≡ apart (t % 8) (apart n p) → p - a < p → ⊥
+        over a p n x y t none rising is next pending few ahead fewer = omega arith
+
 heeds : (w : Way) (g u t : ℕ) → u ≤ t → t ≤ g → Hears w g u → Heeds w (t % 8) g t
 heeds w g u t rising taken h =
     let a = heard_fair w g u t rising taken h.numbered in
     let l = heard_leaves w (t % 8) in
     record {
       quiet = a.quiet;
-      hears = record {
-        numbered = a.numbered;
-        begun = λ hears ever. let (b, c) = h.begun (l.hears hears) (sym l.ever ∙ ever) in (l.behind ∙ b, l.kept ∙ c);
-        none = λ hears ever. let (b, c) = h.none (l.hears hears) (sym l.ever ∙ ever) in (b, none b);
-      };
+      hears = heard_hears w g u t rising taken h;
       rests = λ rested. record {
         hears = elim (is_bool (way.may_hear (way.heard (t % 8) w).way)) [ inl hears ↦ rest rested (l.hears hears) | inr deaf ↦ deaf_hears (way.heard (t % 8) w).way 0 0 deaf ];
         none = λ hears. l.ever ∙ rested.none (l.hears hears);
       };
+      none = λ x first others. elim (is_bool (way.may_hear (way.heard (t % 8) w).way)) [ inl hears ↦ at_none x (first (l.hears hears)) others | inr deaf ↦ deaf_hears (way.heard (t % 8) w).way x 0 deaf ];
+      fewer = acknowledges_some w g u t rising h;
     }
   where
+    at_none : (x : ℕ) → t ≡ 0 → Hears w x 0 → Hears (way.heard (t % 8) w).way x 0
+    at_none x is r = subst (λ y. Hears (way.heard (y % 8) w).way x 0) (sym is) (heard_hears w x 0 0 (omega arith) (omega arith) r)
+
     none : g ≡ 0 → t ≡ 0
     none e = omega (arith, taken)
 
-    none_before : t ≡ 0 → u ≡ 0
-    none_before e = omega (arith, rising)
-
     rest : Rested w → way.may_hear w ≡ true → Hears (way.heard (t % 8) w).way 0 0
-    rest rested hears =
-        let is = none (h.none hears (rested.none hears)).0 in
-        subst (λ x. Hears (way.heard (x % 8) w).way 0 0) (sym is) (at_none rested.hears)
-      where
-        at_none : Hears w 0 0 → Hears (way.heard (0 % 8) w).way 0 0
-        at_none r =
-            let a = heard_fair w 0 0 0 (omega arith) (omega arith) r.numbered in
-            let l = heard_leaves w (0 % 8) in
-            record {
-              numbered = a.numbered;
-              begun = λ hears ever. let (b, c) = r.begun (l.hears hears) (sym l.ever ∙ ever) in (l.behind ∙ b, l.kept ∙ c);
-              none = λ hears ever. (refl, refl);
-            }
+    rest rested hears = at_none 0 (none (h.none hears (rested.none hears)).0) rested.hears
+
+-- an end that is up, of which an I frame is acknowledged, so that nothing of it may be answered
+pub record Acknowledged (e f : End) (q : Peer) : Type 0 where
+  pub up : sides.is_up e.phase ≡ true
+  pub asked : f.asked ≡ 0
+  pub late : f.late ≡ 0
+  pub hears : way.may_hear e.way ≡ true
+  pub some : q.told ≡ 0 → ⊥
+
+acknowledges : (nr g : ℕ) (e f : End) (q : Peer) → Heeds e.way nr g q.told → Settles nr e f → Owes e f ⊎ Acknowledged e f q
+acknowledges nr g e f q h (inl owes) = inl owes
+acknowledges nr g e f q h (inr s) = inr (record { up = s.up; asked = s.asked; late = s.late; hears = (h.fewer s.fewer).0; some = (h.fewer s.fewer).1 })
 
 pub record IsUntold (from : Role) (j k : Judge) (q : Peer) (frames : List PlainFrame) (frame : PlainFrame) : Type 0 where
   pub quiet : is_of_order (seen_by j from frame).rule ≡ false
@@ -399,6 +437,9 @@ pub record IsUntold (from : Role) (j k : Judge) (q : Peer) (frames : List PlainF
   pub up : (seen_by j from frame).own.phase ≡ sides.running (sides_of from j).own.phase
   pub same : AreSame (sides_of from j) (seen_by j from frame)
   pub rests : Rested (sides_of from j).other.way → Rested (seen_by j from frame).other.way
+  pub none : (x : ℕ) → (way.may_hear (sides_of from j).other.way ≡ true → q.told ≡ 0) → Hears (sides_of from j).other.way x 0 → Hears (seen_by j from frame).other.way x 0
+  pub hearing : way.may_hear (seen_by j from frame).other.way ≡ true → way.may_hear (sides_of from j).other.way ≡ true
+  pub settles : Owes (sides_of from j).other (seen_by j from frame).other ⊎ Acknowledged (sides_of from j).other (seen_by j from frame).other q
 
 is_up : (from : Role) (j : Judge) (p : Peer) (frames : List PlainFrame) → Beside from j p frames → IsUp (sides_of from j)
 is_up from j p frames h = ap (λ (e : End). sides.may_run e.phase) (stands j from).own ∙ h.seen.up
@@ -427,6 +468,11 @@ untold from j k p q frames frame nr mine last h g s plain own heeds held =
       same = s.same;
       rests = λ rested. rested_alike (way.heard nr (sides_of from j).other.way).way (seen_by j from frame).other.way s.other
           (subst (λ w. Rested w → Rested (way.heard nr w).way) (sym opposite) heeds.rests rested);
+      none = λ x first h. hears_alike (way.heard nr (sides_of from j).other.way).way (seen_by j from frame).other.way x 0 s.other
+          (subst (λ w. (way.may_hear w ≡ true → q.told ≡ 0) → Hears w x 0 → Hears (way.heard nr w).way x 0) (sym opposite) (heeds.none x) first h);
+      hearing = λ hears. (heard_leaves (sides_of from j).other.way nr).hears (sym (ap way.may_hear_sight s.other.sight) ∙ hears);
+      settles = acknowledges nr (took_all frames (length q.taken)) (sides_of from j).other (seen_by j from frame).other q
+          (subst (λ w. Heeds w nr (took_all frames (length q.taken)) q.told) (sym opposite) heeds) s.settles;
     }
 
 -- a number that the rules allow, new or again
@@ -614,50 +660,67 @@ others_sent w window ns g told p s large h = record {
   none = λ hears e. absurd (sent_some w window ns p s h.begun hears e);
 }
 
+abbrev Known_fit : Way → ℕ → ℕ → Type 0
+Known_fit w x y = way.may_hear w ≡ true
+
+-- N(R)s about its numbers are judged only where they were before
+sent_hearing : (w : Way) (window ns g told : ℕ) (p s : Bool) → 7 ≤ window → Hears w g told → way.may_hear (way.sent window ns p s w).way ≡ true → way.may_hear w ≡ true
+sent_hearing w window ns g told p s large h hears = let (m, u, is, c) = known.counts hears in is
+  where
+    before : Numbered w (Known_fit w)
+    before = record { counts = λ is. let (m, u, fit, c) = h.numbered.counts is in (m, u, is, c) }
+
+    known : Numbered (way.sent window ns p s w).way (Known_fit w)
+    known = sent_numbered w (Known_fit w) (Known_fit w) before (λ m u c one next is. is) ns (λ m u ne is. is) window p s large
+
 -- A frame with a number of the first end, whatever it is. The other end stands where it stood, and the first one is up,
 -- or nothing is known of it.
 pub record Gives (t v : Sides) (frame : PlainFrame) : Type 0 where
   pub same : AreSame t v
-  pub phase : (v.own.phase ≡ Unseen) ⊎ (v.own.phase ≡ Up)
+  pub owes : sides.is_up t.other.phase ≡ false → Owes t.other v.other
+  pub phase : v.own.phase ≡ sides.running t.own.phase
   pub own : (m u : ℕ) → OwnIf t.other.way m u → OwnIf v.other.way m (acks frame u)
   pub hears : (g told : ℕ) → Hears t.own.way g told → Hears v.own.way (brings frame g) told
+  pub hearing : (g told : ℕ) → Hears t.own.way g told → way.may_hear v.own.way ≡ true → way.may_hear t.own.way ≡ true
 
-runs_to : (p : Phase) → sides.may_run p ≡ true → (sides.running p ≡ Unseen) ⊎ (sides.running p ≡ Up)
-runs_to Unseen h = inl refl
-runs_to Out h = absurd (both_ways false refl h)
-runs_to Waiting h = absurd (both_ways false refl h)
-runs_to Answered h = inr refl
-runs_to Up h = inr refl
+owes_if : (nr : ℕ) (e f : End) → Settles nr e f → sides.is_up e.phase ≡ false → Owes e f
+owes_if nr e f (inl owes) out = owes
+owes_if nr e f (inr s) out = absurd (both_ways (sides.is_up e.phase) out s.up)
 
 -- where it is up
 up_gives : (t v : Sides) (frame : PlainFrame) (nr : ℕ) (mine : Way) (last : Option Rule) → IsUp t → Sees t v nr mine last → ((u : ℕ) → acks frame u ≡ resolved u nr)
-    → ((g told : ℕ) → Hears t.own.way g told → Hears mine (brings frame g) told) → Gives t v frame
-up_gives t v frame nr mine last up s acks_it hears = record {
+    → ((g told : ℕ) → Hears t.own.way g told → Hears mine (brings frame g) told)
+    → ((g told : ℕ) → Hears t.own.way g told → way.may_hear mine ≡ true → way.may_hear t.own.way ≡ true) → Gives t v frame
+up_gives t v frame nr mine last up s acks_it hears hearing = record {
   same = s.same;
-  phase = subst (λ p. (p ≡ Unseen) ⊎ (p ≡ Up)) (sym s.up) (runs_to t.own.phase up);
+  owes = owes_if nr t.other v.other s.settles;
+  phase = s.up;
   own = λ m u h. subst (λ x. OwnIf v.other.way m x) (sym (acks_it u)) (own_if_alike (way.heard nr t.other.way).way v.other.way m (resolved u nr) s.other (heard_own_if t.other.way m u nr h));
   hears = λ g told h. subst (λ w. Hears w (brings frame g) told) (sym s.own) (hears g told h);
+  hearing = λ g told h is. hearing g told h (sym (ap way.may_hear s.own) ∙ is);
 }
 
 -- where it isn't
 out_gives : (t v : Sides) (frame : PlainFrame) → Strays t v → Gives t v frame
 out_gives t v frame s = record {
   same = s.same;
-  phase = inl s.phase;
+  owes = λ _. s.owes;
+  phase = s.phase;
   own = λ m u h. inl s.other;
   hears = λ g told h. deaf_hears v.own.way (brings frame g) told (unseen_deaf v.own.way.sight s.own);
+  hearing = λ g told h is. absurd (both_ways (way.may_hear v.own.way) (unseen_deaf v.own.way.sight s.own) is);
 }
 
 up_frame : (window : ℕ) (s : Bool) (frame : PlainFrame) (t : Sides) → IsNumbered frame → 7 ≤ window → t.rule ≡ None → IsUp t → Gives t (sides.sees window s frame t) frame
 unfolding sides.sees
 up_frame window s (info ns nr pf packet) t is large none up =
     up_gives t (sides.sends_info window ns nr pf s t) (info ns nr pf packet) nr (way.sent window ns pf s t.own.way).way (way.sent window ns pf s t.own.way).rule up (info_sees window ns nr pf s t up none) (λ u. refl)
-    (λ g told h. others_sent t.own.way window ns g told pf s large h)
-up_frame window s (rr command nr pf) t is large none up = up_gives t (sides.sends_ready command nr pf t) (rr command nr pf) nr t.own.way None up (ready_sees command nr pf t up none) (λ u. refl) (λ g told h. h)
-up_frame window s (rnr command nr pf) t is large none up = up_gives t (sides.sends_ready command nr pf t) (rnr command nr pf) nr t.own.way None up (ready_sees command nr pf t up none) (λ u. refl) (λ g told h. h)
+    (λ g told h. others_sent t.own.way window ns g told pf s large h) (λ g told h. sent_hearing t.own.way window ns g told pf s large h)
+up_frame window s (rr command nr pf) t is large none up = up_gives t (sides.sends_ready command nr pf t) (rr command nr pf) nr t.own.way None up (ready_sees command nr pf t up none) (λ u. refl) (λ g told h. h) (λ g told h is. is)
+up_frame window s (rnr command nr pf) t is large none up = up_gives t (sides.sends_ready command nr pf t) (rnr command nr pf) nr t.own.way None up (ready_sees command nr pf t up none) (λ u. refl) (λ g told h. h) (λ g told h is. is)
 up_frame window s (rej command nr pf) t is large none up =
     let r = reject_sees command nr pf t up none in
-    up_gives t (sides.sends_reject command nr pf t) (rej command nr pf) nr t.own.way r.last up r.sees (λ u. refl) (λ g told h. h)
+    up_gives t (sides.sends_reject command nr pf t) (rej command nr pf) nr t.own.way r.last up r.sees (λ u. refl) (λ g told h. h) (λ g told h is. is)
 up_frame window s (sabm b) t is large none up = absurd is
 up_frame window s (disc b) t is large none up = absurd is
 up_frame window s (ua f) t is large none up = absurd is
@@ -703,11 +766,12 @@ pub record Misses (t : Sides) : Type 0 where
   pub other : (sides.misses t).other.way ≡ way.unheard t.other.way
   pub other_phase : (sides.misses t).other.phase ≡ sides.accepted t.other.phase
   pub asked : (sides.misses t).own.asked ≡ min (t.own.asked + 1) 255
+  pub late : (sides.misses t).own.late ≡ t.own.late
   pub other_asked : (sides.misses t).other.asked ≡ t.other.asked
 
 pub misses_is : (t : Sides) → Misses t
 unfolding sides.misses
-misses_is t = record { own = refl; other = refl; other_phase = refl; asked = refl; other_asked = refl }
+misses_is t = record { own = refl; other = refl; other_phase = refl; asked = refl; late = refl; other_asked = refl }
 
 unheard_own : (w : Way) (m u : ℕ) → Own w m u → Own (way.unheard w) m u
 unheard_own w m u h = record {

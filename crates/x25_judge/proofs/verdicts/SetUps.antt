@@ -12,7 +12,7 @@ use Rattle.x25_frame.specs.Frame.{PlainFrame, info, rr, rnr, rej, sabm, disc, ua
 use Rattle.x25_frame.specs.Reading.{frame_of}
 use Rattle.x25_frame.specs.declared.error.FrameError.{FrameError}
 use Rattle.x25_packet_judge.specs.Book as book
-use Rattle.x25_judge.specs.Held.{keeps, kept, none_held}
+use Rattle.x25_judge.specs.Held.{is_same, keeps, kept, none_held}
 use Rattle.x25_judge.specs.Judge.{all_told, begins, held_of, sides_of, seen_by, next_missed, no_frame, tallies, read_of, sent_of, answer_to}
 use Rattle.x25_judge.specs.Rule.{breaks_order}
 use Rattle.x25_judge.specs.Sides as sides
@@ -104,10 +104,13 @@ begins_so window reading strictness = record { rooms = rooms; counts = refl }
 
 -- ---- SABM
 
-record Asks (e : End) : Type 0 where
+record Waits (e : End) : Type 0 where
   pub phase : e.phase ≡ Waiting
   pub knows : Bool
   pub way : e.way ≡ way.fresh knows
+
+record Asks (e : End) : Type 0 where
+  pub waits : Waits e
   pub asked : (e.asked == 0) ≡ false
 
 waits : (p : Phase) → (IsAnswered p → ⊥) → sides.asking p ≡ Waiting
@@ -132,11 +135,18 @@ asks_anew Up anew w h = refl
 
 sabm_asks : (window : ℕ) (s p : Bool) (t : Sides) → (IsAnswered t.own.phase → ⊥) → Asks (sides.sees window s (sabm p) t).own
 unfolding sides.sees
-sabm_asks window s false t h = record { phase = waits t.own.phase h; knows = sides.awaits_ua t.other.phase; way = asks_anew t.own.phase (way.fresh (sides.awaits_ua t.other.phase)) t.own.way h; asked = some_asked t.own.asked }
+sabm_asks window s false t h = record { waits = record { phase = waits t.own.phase h; knows = sides.awaits_ua t.other.phase; way = asks_anew t.own.phase (way.fresh (sides.awaits_ua t.other.phase)) t.own.way h }; asked = some_asked t.own.asked }
 sabm_asks window s true t h =
-    cond_both t.own.is_polling (sides.notes (Some PollAgain) (sides.asks_on true t)) (sides.asks_on true t) (λ (v : Sides). Asks (sides.asks (sides.asks_more v)).own)
-    (λ _. record { phase = waits t.own.phase h; knows = sides.awaits_ua t.other.phase; way = asks_anew t.own.phase (way.fresh (sides.awaits_ua t.other.phase)) t.own.way h; asked = some_asked t.own.asked })
-    (λ _. record { phase = waits t.own.phase h; knows = sides.awaits_ua t.other.phase; way = asks_anew t.own.phase (way.fresh (sides.awaits_ua t.other.phase)) t.own.way h; asked = some_asked t.own.asked })
+    cond_both t.own.is_polling (sides.notes (Some PollAgain) (sides.asks_on true t)) (sides.asks_on true t) (λ (v : Sides). Asks (sides.asks (sides.asks_more (sides.ends v))).own)
+    (λ _. record { waits = record { phase = waits t.own.phase h; knows = sides.awaits_ua t.other.phase; way = asks_anew t.own.phase (way.fresh (sides.awaits_ua t.other.phase)) t.own.way h }; asked = some_asked t.own.asked })
+    (λ _. record { waits = record { phase = waits t.own.phase h; knows = sides.awaits_ua t.other.phase; way = asks_anew t.own.phase (way.fresh (sides.awaits_ua t.other.phase)) t.own.way h }; asked = some_asked t.own.asked })
+
+sabm_late : (window : ℕ) (s p : Bool) (t : Sides) → (sides.sees window s (sabm p) t).own.late ≡ (sides.ended t.own).late
+unfolding sides.sees
+sabm_late window s false t = refl
+sabm_late window s true t =
+    cond_both t.own.is_polling (sides.notes (Some PollAgain) (sides.asks_on true t)) (sides.asks_on true t) (λ (v : Sides). (sides.asks (sides.asks_more (sides.ends v))).own.late ≡ (sides.ended t.own).late)
+    (λ _. refl) (λ _. refl)
 
 -- ---- UA
 
@@ -157,34 +167,39 @@ answered_fresh : (knows : Bool) → way.answered (way.fresh knows) ≡ way.fresh
 answered_fresh true = refl
 answered_fresh false = refl
 
-record Kept (e : End) (v : Sides) : Type 0 where
-  pub phase : v.other.phase ≡ e.phase
-  pub way : v.other.way ≡ e.way
+-- P and F change nothing of the other end's numbers, nor which UA is late
+record Kept (t v : Sides) : Type 0 where
+  pub phase : v.other.phase ≡ t.other.phase
+  pub way : v.other.way ≡ t.other.way
+  pub other_late : v.other.late ≡ t.other.late
 
-accepts_begin : (e : End) (v : Sides) → Asks e → Kept e v → AreBegun (sides.accepts v)
-accepts_begin e v a k =
-    let waiting = k.phase ∙ a.phase in
-    record {
-      own_up = is_up v.own.phase;
-      own = ap (λ p. sides.accepting_way p v.own.way) waiting;
-      other_up = ap (λ p. sides.may_run (sides.accepted p)) waiting;
-      opposite = ap (λ p. sides.accepted_way p v.other.way) waiting ∙ ap way.answered (k.way ∙ a.way) ∙ answered_fresh a.knows;
-    }
+in_time : (t : Sides) → t.other.late ≡ 0 → sides.is_late t ≡ false
+in_time t none = ap (λ x. not (x == 0)) none
 
-answered_kept : (f : Bool) (t : Sides) → Kept t.other (sides.answers (sides.answers_if f t))
-answered_kept false t = record { phase = refl; way = refl }
+accepts_begin : (v : Sides) → Waits v.other → sides.is_late v ≡ false → AreBegun (sides.answers (sides.accepts v))
+accepts_begin v a late = record {
+  own_up = is_up v.own.phase;
+  own = ap (λ l. way.deafened l (sides.accepting_way v.other.phase v.own.way)) late ∙ ap (λ p. sides.accepting_way p v.own.way) a.phase;
+  other_up = ap (λ p. sides.may_run (sides.accepted p)) a.phase;
+  opposite = ap (λ l. way.deafened l (sides.accepted_way v.other.phase v.other.way)) late ∙ ap (λ p. sides.accepted_way p v.other.way) a.phase ∙ ap way.answered a.way ∙ answered_fresh a.knows;
+}
+
+answered_kept : (f : Bool) (t : Sides) → Kept t (sides.answers_if f t)
+answered_kept false t = record { phase = refl; way = refl; other_late = refl }
 answered_kept true t =
-    cond_both (not (t.other.polls == 0)) (sides.poll_answered t) _ (λ (v : Sides). Kept t.other (sides.answers v))
-    (λ _. record { phase = refl; way = refl })
-    (λ _. cond_both (t.other.is_followed && not (sides.is_unseen t.own.phase)) (sides.tells (Some NoPoll) (sides.poll_answered t)) (sides.notes (Some PollUnseen) (sides.poll_answered t)) (λ (v : Sides). Kept t.other (sides.answers v))
-    (λ _. record { phase = refl; way = refl })
-    (λ _. record { phase = refl; way = refl }))
+    cond_both (not (t.other.polls == 0)) (sides.poll_answered t) _ (λ (v : Sides). Kept t v)
+    (λ _. record { phase = refl; way = refl; other_late = refl })
+    (λ _. cond_both (t.other.is_followed && not (sides.is_unseen t.own.phase)) (sides.tells (Some NoPoll) (sides.poll_answered t)) (sides.notes (Some PollUnseen) (sides.poll_answered t)) (λ (v : Sides). Kept t v)
+    (λ _. record { phase = refl; way = refl; other_late = refl })
+    (λ _. record { phase = refl; way = refl; other_late = refl }))
 
-ua_begins : (window : ℕ) (s f : Bool) (t : Sides) → Asks t.other → AreBegun (sides.sees window s (ua f) t)
+ua_begins : (window : ℕ) (s f : Bool) (t : Sides) → Asks t.other → t.other.late ≡ 0 → AreBegun (sides.sees window s (ua f) t)
 unfolding sides.sees
-ua_begins window s f t a =
-    subst (λ v. AreBegun v) (sym (cond-false (sides.is_unasked t) (sides.tells (Some UaUnasked) t) (sides.accepts (sides.answers (sides.answers_if f t))) (and_right t.other.is_followed (t.other.asked == 0) a.asked)))
-    (accepts_begin t.other (sides.answers (sides.answers_if f t)) a (answered_kept f t))
+ua_begins window s f t a none =
+    let u = sides.ends (sides.answers_if f t) in
+    let k = answered_kept f t in
+    subst (λ v. AreBegun v) (sym (cond-false (sides.is_unasked t) (sides.tells (Some UaUnasked) t) (sides.answers (sides.accepts u)) (and_right t.other.is_followed (t.other.asked == 0) a.asked)))
+    (accepts_begin u (record { phase = k.phase ∙ a.waits.phase; knows = a.waits.knows; way = k.way ∙ a.waits.way }) (in_time u (k.other_late ∙ none)))
 
 -- ---- both
 
@@ -195,16 +210,20 @@ begun Dce j k t f g b rooms Dce = record { up = ap (λ (e : End). sides.may_run 
 begun Dce j k t f g b rooms Dte = record { up = ap (λ (e : End). sides.may_run e.phase) g.opposite ∙ b.other_up; way = ap (λ (e : End). e.way) g.opposite ∙ b.opposite; room = rooms Dte }
 
 pub set_ups_begin : SetUpsBegin
-set_ups_begin window reading strictness lines from asks accepts asked accepted p f shows_asks shows_accepts unanswered =
+set_ups_begin window reading strictness lines from asks accepts asked accepted p f shows_asks shows_accepts unanswered prompt =
     let j = after (begins window reading strictness) lines in
     let k = (answer_to j asks).next in
     let g = goes j asks from asked (sabm p) shows_asks in
+    let t = seen_by j from (sabm p) in
+    let late = sabm_late j.window (is_same (held_of from j) (sabm p)) p (sides_of from j) in
     let asking : Asks (end_of from k) =
     subst (λ (e : End). Asks e) (sym g.own) (sabm_asks j.window _ p (sides_of from j) (λ (a : IsAnswered (sides_of from j).own.phase). unanswered (subst (λ (e : End). IsAnswered e.phase) (stands j from).own a))) in
-    let at_other : Asks (sides_of (other from) k).other = subst (λ (e : End). Asks e) (sym ((stands k (other from)).opposite ∙ ap (λ r. end_of r k) (other_twice from))) asking in
+    let opposite = (stands k (other from)).opposite ∙ ap (λ r. end_of r k) (other_twice from) in
+    let at_other : Asks (sides_of (other from) k).other = subst (λ (e : End). Asks e) (sym opposite) asking in
+    let other_late = ap (λ (e : End). e.late) (opposite ∙ g.own) ∙ late ∙ ap (λ (e : End). (sides.ended e).late) (stands j from).own ∙ prompt in
     let l = (answer_to k accepts).next in
     let stays = line_stays window k accepts (line_stays window j asks (lines_stay window (begins window reading strictness) lines (begins_so window reading strictness))) in
     record {
-      up = begun (other from) k l (seen_by k (other from) (ua f)) f (goes k accepts (other from) accepted (ua f) shows_accepts) (ua_begins k.window _ f (sides_of (other from) k) at_other) stays.rooms;
+      up = begun (other from) k l (seen_by k (other from) (ua f)) f (goes k accepts (other from) accepted (ua f) shows_accepts) (ua_begins k.window _ f (sides_of (other from) k) at_other other_late) stays.rooms;
       counts = stays.counts;
     }

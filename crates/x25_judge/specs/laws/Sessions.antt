@@ -13,7 +13,7 @@ use Rattle.x25_line.specs.laws.Peer.{Peer, fresh_peer, MayHear}
 use Rattle.x25_link.specs.Hearing.{other}
 use Rattle.x25_sessions.specs.laws.PeerSessions.{Stand, Out, Asking, In}
 use Rattle.x25_judge.specs.laws.Keeping.{MaySend}
-use Rattle.x25_judge.specs.laws.Session.{Shows, IsDamaged, IsNumbered}
+use Rattle.x25_judge.specs.laws.Session.{Shows, IsDamaged}
 
 -- ---- frames on the way to it, front first
 
@@ -26,11 +26,6 @@ abbrev pub HaveNoUa : List PlainFrame → Type 0
 HaveNoUa [] = Unit {0}
 HaveNoUa (frame ∷ way) = (IsUa frame → ⊥) × HaveNoUa way
 
--- none with a number is
-abbrev pub HaveNoNumber : List PlainFrame → Type 0
-HaveNoNumber [] = Unit {0}
-HaveNoNumber (frame ∷ way) = (IsNumbered frame → ⊥) × HaveNoNumber way
-
 -- ---- what it may send
 
 -- DM ends a session, and isn't sent in place of waiting for UA
@@ -41,13 +36,14 @@ declined In = Out
 
 -- A frame that it may send, where it stands then, what is known of it in its session, and what is left on the way to
 -- it. Beyond the rules of `PeerSessions`, it leaves its session as it sends DM or FRMR and as it answers DISC (sections
--- 2.4.4.3 and 2.4.4.4), and it answers SABM before frames with numbers stand behind it.
+-- 2.4.4.3 and 2.4.4.4).
 pub data MaySay (stand : Stand) (p : Peer) (way : List PlainFrame) : PlainFrame → Stand → Peer → List PlainFrame
     → Type 0 where
   -- In: a frame with an N(R), in a session alone
   numbered : (frame : PlainFrame) (q : Peer) → stand ≡ In → MaySend p frame q → MaySay stand p way frame In q way
-  -- Patient: SABM, where no UA to it is on the way
+  -- Patient: SABM, where no UA to it is on the way; and again at any moment where it awaits UA
   asks : (b : Bool) → HaveNoUa way → MaySay stand p way (sabm b) Asking p way
+  asks_again : (b : Bool) → stand ≡ Asking → MaySay stand p way (sabm b) Asking p way
   -- Leaves
   closes : (b : Bool) → MaySay stand p way (disc b) Out p way
   declines : (f : Bool) → MaySay stand p way (dm f) (declined stand) p way
@@ -55,9 +51,9 @@ pub data MaySay (stand : Stand) (p : Peer) (way : List PlainFrame) : PlainFrame 
   -- Ua: it sends UA to SABM and DISC alone, as it takes it, and one to each
   takes_disc : (b f : Bool) (rest : List PlainFrame) → way ≡ disc b ∷ rest → MaySay stand p way (ua f) Out p rest
   -- Begins: by SABM it begins a session, or waits on where it awaits UA itself
-  takes_sabm : (b f : Bool) (rest : List PlainFrame) → way ≡ sabm b ∷ rest → HaveNoNumber rest
+  takes_sabm : (b f : Bool) (rest : List PlainFrame) → way ≡ sabm b ∷ rest
       → MaySay stand p way (ua f) In fresh_peer rest
-  waits_on : (b f : Bool) (rest : List PlainFrame) → stand ≡ Asking → way ≡ sabm b ∷ rest → HaveNoNumber rest
+  waits_on : (b f : Bool) (rest : List PlainFrame) → stand ≡ Asking → way ≡ sabm b ∷ rest
       → MaySay stand p way (ua f) Asking p rest
 
 -- ---- what may come of it all

@@ -5,6 +5,7 @@ use Rattle.x25_decode.specs.Decoding.{n1}
 use Rattle.x25_decode.specs.declared.answer.Reading.{Reading}
 use Rattle.x25_frame.specs.Frame.{PlainFrame, sabm, ua}
 use Rattle.x25_judge.specs.Judge.{begins, answer_to}
+use Rattle.x25_judge.specs.Sides.{ended}
 use Rattle.x25_judge.specs.declared.judge.Judge.{Judge}
 use Rattle.x25_judge.specs.declared.judge.Strictness.{Strictness}
 use Rattle.x25_judge.specs.declared.sides.Phase.{Phase}
@@ -66,11 +67,12 @@ pub record SetsUp (j : Judge) (window : ℕ) : Type 0 where
   pub up : IsSetUp j
   pub counts : j.window ≡ window
 
--- wherever a trace shows SABM of an end and then UA of the other
+-- wherever a trace shows SABM of an end and then UA of the other, but where UA may be late
 abbrev pub SetUpsBegin : Type 0
 SetUpsBegin =
     (window : ℕ) (reading : Reading) (strictness : Strictness) (lines : List (List ℕ)) (from : Role)
     (asks accepts asked accepted : List ℕ) (p f : Bool)
     → Shows asks from asked (sabm p) → Shows accepts (other from) accepted (ua f)
     → (IsAnswered (end_of from (after (begins window reading strictness) lines)).phase → ⊥)
+    → (ended (end_of from (after (begins window reading strictness) lines))).late ≡ 0
     → SetsUp (after (after (begins window reading strictness) lines) (asks ∷ accepts ∷ [])) window
