@@ -4,7 +4,7 @@ use x25_circuit::{Message, Octets};
 use x25_layer::Stretch;
 use x25_station::{Asked, Entry, Role, Said, Told};
 use x25_text::Text;
-use x25_transcript::push_entry;
+use x25_transcript::{entry_line, push_entry};
 
 #[test]
 fn stands_behind_what_was_pushed(rt: HostRuntime) -> Result<(), Fail> {
@@ -22,21 +22,24 @@ const LATE: Stretch = Stretch {
     resets: 18_446_744_073_709_551_615,
 };
 
-#[test]
-fn writes_deliveries_of_larger_numbers(rt: HostRuntime) -> Result<(), Fail> {
-    let mut text = Text::new(rt.alloc())?;
+// A message of no octets that came.
+fn delivered(alloc: Global) -> Entry {
     let message = Message {
         q: true,
-        user: Octets::of(Vec::new(rt.alloc())),
+        user: Octets::of(Vec::new(alloc)),
     };
-    let entry = Entry::OnChannel {
+    Entry::OnChannel {
         channel: 16,
         name: LATE,
         said: Said::Told(Told::Delivered(message)),
-    };
-    push_entry(Role::Dce, &entry, &mut text)?;
+    }
+}
+
+#[test]
+fn writes_deliveries_of_larger_numbers(rt: HostRuntime) -> Result<(), Fail> {
+    let line = entry_line(rt.alloc(), Role::Dce, &delivered(rt.alloc()))?;
     assert_eq!(rt;
-        text.as_slice(),
+        line.as_slice(),
         b"dce message ch=16 at 10.3.18446744073709551615 q=1 data=-\n".as_slice()
     );
     Ok(())

@@ -25,37 +25,6 @@ fn says_why_the_link_went_down(rt: HostRuntime) -> Result<(), Fail> {
     Ok(())
 }
 
-fn rows(alloc: Global) -> Result<Vec<(Entry, &'static str)>, AllocError> {
-    Ok(vec![in alloc;
-        (Entry::LinkUp, "dte linkup\n"),
-        (Entry::RestartAsked, "dte restart\n"),
-        (Entry::ConnectAsked, "dte connect\n"),
-        (Entry::DisconnectAsked, "dte disconnect\n"),
-        (
-            Entry::WasRestarted {
-                cause: 7,
-                diagnostic: 0,
-            },
-            "dte restarted cause=7 diag=0\n",
-        ),
-        (Entry::RestartDone, "dte restartdone\n"),
-        (Entry::Fault { diagnostic: 17 }, "dte fault ch=0 diag=17\n"),
-        (
-            Entry::Diagnosed { diagnostic: 33 },
-            "dte diagnostic diag=33\n"
-        ),
-    ]?)
-}
-
-#[test]
-fn shows_entries_of_the_station(rt: HostRuntime) -> Result<(), Fail> {
-    for (entry, shown) in rows(rt.alloc())? {
-        let line = entry_line(rt.alloc(), Role::Dte, &entry)?;
-        assert_eq!(rt; line.as_slice(), shown.as_bytes());
-    }
-    Ok(())
-}
-
 fn beside(alloc: Global, facilities: &[u8], user: &[u8]) -> Result<Entry, AllocError> {
     Ok(Entry::Beside {
         channel: 3,
@@ -64,13 +33,15 @@ fn beside(alloc: Global, facilities: &[u8], user: &[u8]) -> Result<Entry, AllocE
     })
 }
 
+/// Facilities, user data, and their line.
+static BESIDE: [(&[u8], &[u8], &str); 2] = [
+    (&[0x01, 0x81], &[], "dce beside ch=3 fac=0181 data=-\n"),
+    (&[], &[0xC0, 0xFF], "dce beside ch=3 fac=- data=c0ff\n"),
+];
+
 #[test]
 fn shows_what_came_beside(rt: HostRuntime) -> Result<(), Fail> {
-    let rows: [(&[u8], &[u8], &str); 2] = [
-        (&[0x01, 0x81], &[], "dce beside ch=3 fac=0181 data=-\n"),
-        (&[], &[0xC0, 0xFF], "dce beside ch=3 fac=- data=c0ff\n"),
-    ];
-    for (facilities, user, shown) in rows {
+    for &(facilities, user, shown) in &BESIDE {
         let entry = beside(rt.alloc(), facilities, user)?;
         let line = entry_line(rt.alloc(), Role::Dce, &entry)?;
         assert_eq!(rt; line.as_slice(), shown.as_bytes());
