@@ -3,6 +3,7 @@ use Rattle.std.specs.Prelude.{◌≡◌, ℕ, true, false, List, [], None}
 use Rattle.x25_bits.specs.declared.role.Role.{Role}
 use Rattle.x25_packet.specs.Packet.{PlainPacket, call, accept, reset, reset_conf}
 use Rattle.x25_packet_judge.specs.Book.{layers_of, pair_of, takes}
+use Rattle.x25_packet_judge.specs.Layer.{is_begun}
 use Rattle.x25_packet_judge.specs.Layers.{runs_early, are_sure, are_level}
 use Rattle.x25_packet_judge.specs.Message.{octets_of}
 use Rattle.x25_packet_judge.specs.Packets.{sends}
@@ -94,7 +95,8 @@ StretchesFollow =
 abbrev pub BooksTellOfChannels : Type 0
 BooksTellOfChannels =
     (from : Role) (channel : ℕ) (packet : PlainPacket) (b : Book) → IsOfChannel packet
-    → runs_early (layers_of from b) ≡ false → are_sure (layers_of from b) ≡ true
+    → is_begun (layers_of from b).own.restart ≡ false → runs_early (layers_of from b) ≡ false
+    → are_sure (layers_of from b) ≡ true
     → (takes from channel packet b).verdict.rule
     ≡ (sends packet (pair_of from (are_level (layers_of from b)) channel b)).rule
 
