@@ -1,7 +1,7 @@
 -- Why no end in a call is told of in a trace, whatever the other end sends on any channel.
 use Rattle.std.proofs.Common.{◌≡◌, ◌==◌, inl, inr, ℕ, ◌+◌, ◌-◌, ◌<◌, arith, min, Bool, true, false, if◌then◌else◌, List, [], ◌∷◌, ◌++◌, Option, None, refl, sym, ap, ◌∙◌, subst}
 use Rattle.std.specs.Prelude.{◌&&◌, ◌||◌, not, is_some, nat_lt}
-use Rattle.std.proofs.lemmas.Bool.{eqb-true, ltb-true, and_parts, and_left, both_ways, cond_both, cond-true, cond-false}
+use Rattle.std.proofs.lemmas.Bool.{eqb-true, lt-ltb, ltb-true, and_parts, and_left, both_ways, cond_both, cond-true, cond-false}
 use Rattle.x25_bits.specs.declared.role.Role.{Role}
 use Rattle.x25_bits.specs.declared.role.Role.TheVariants.{Dte, Dce}
 use Rattle.x25_packet.specs.Packet.{PlainPacket, call, accept, clear, clear_conf, user_data, rr, rnr, interrupt, interrupt_conf, reset, reset_conf, restart, restart_conf}
@@ -21,7 +21,7 @@ use Rattle.x25_packet_judge.specs.declared.pair.Pair.{Pair}
 use Rattle.x25_packet_judge.specs.declared.port.Port.{Port}
 use Rattle.x25_packet_judge.specs.laws.Keeping.{Given, Come, nothing_given, nothing_came, Phase, Talks, Resets, WasReset, WasCleared, WasRestarted, fresh_phase, MayDo, MayEnd, comes, MayTake, IsOfChannel, AreBegun, turned}
 use Rattle.x25_packet_judge.specs.laws.Tape.{all_in_call, IsBook, AreApart, AreRunning, view, MayStand, Begins, Does, DoesApart, Shown, ShownApart, Restarts, Confirms, Comes}
-use Rattle.x25_packet_judge.specs.laws.VerdictClaims.{NoInnocentTapeIsTold, NoEndOfTapeIsTold, TapesBegin}
+use Rattle.x25_packet_judge.specs.laws.VerdictClaims.{NoInnocentTapeIsTold, NoEndOfTapeIsTold, NoRestartOfTapeIsTold, TapesBegin}
 use Rattle.x25_packet_judge.proofs.verdicts.Standing.{tail_of, Behind, Behinds, Any, Level, Away, Gone}
 use Rattle.x25_packet_judge.proofs.verdicts.Stretches.{Talking, Asking as Asked, Waiting}
 use Rattle.x25_packet_judge.proofs.verdicts.Innocents.{Standing, sound_begins, sound_does, standing_shown, standing_restarted, standing_comes, sound_ends}
@@ -177,6 +177,114 @@ on_restarted : (from : Role) (s : Phase) (way : List PlainPacket) (P O P2 O2 : L
 on_restarted from s way P O P2 O2 p o cause diagnostic parted h =
     subst (λ b. Standing (record { from = from; reaches = b; own = p; other = port.fresh; rule = None }) s (way ++ restart cause diagnostic ∷ [])) (sym parted) (standing_restarted (pair_at from P O p o) cause diagnostic s way h)
 
+-- ---- a RESTART of the other end is answered by none yet
+
+abbrev is_restart : PlainPacket → Bool
+is_restart (restart cause diagnostic) = true
+is_restart packet = false
+
+abbrev has_restart : List PlainPacket → Bool
+has_restart [] = false
+has_restart (packet ∷ way) = is_restart packet || has_restart way
+
+abbrev was_restarted : Phase → Bool
+was_restarted WasRestarted = true
+was_restarted s = false
+
+abbrev is_due : Phase → List PlainPacket → Bool
+is_due s way = was_restarted s || has_restart way
+
+restart_more : (way : List PlainPacket) (packet : PlainPacket) → is_restart packet ≡ false → has_restart (way ++ packet ∷ []) ≡ has_restart way
+restart_more [] packet e = ap (λ b. b || false) e
+restart_more (p ∷ way) packet e = ap (λ b. is_restart p || b) (restart_more way packet e)
+
+channel_not : (packet : PlainPacket) → IsOfChannel packet → is_restart packet ≡ false
+channel_not (user_data channel q m ps pr user) is = refl
+channel_not (rr channel pr) is = refl
+channel_not (rnr channel pr) is = refl
+channel_not (interrupt channel user) is = refl
+channel_not (interrupt_conf channel) is = refl
+channel_not (reset channel cause diagnostic) is = refl
+channel_not (reset_conf channel) is = refl
+channel_not (call channel called calling facilities user) is = refl
+channel_not (accept channel facilities) is = refl
+channel_not (clear channel cause diagnostic) is = refl
+channel_not (clear_conf channel) is = refl
+channel_not (restart cause diagnostic) is = absurd is
+channel_not restart_conf is = absurd is
+
+or_later : (a b : Bool) → b ≡ true → (a || b) ≡ true
+or_later true b e = refl
+or_later false b e = e
+
+does_not : (s r : Phase) (packet : PlainPacket) → MayDo s packet r → was_restarted r ≡ false
+does_not (Talks window most g c) r (user_data channel q m ps pr user) (n, may, is) = ap was_restarted is
+does_not (Talks window most g c) r (rr channel pr) (n, may, is) = ap was_restarted is
+does_not (Talks window most g c) r (rnr channel pr) (n, may, is) = ap was_restarted is
+does_not (Talks window most g c) r (interrupt channel user) (n, may, is) = ap was_restarted is
+does_not (Talks window most g c) r (interrupt_conf channel) (n, may, is) = ap was_restarted is
+does_not (Talks window most g c) r (reset channel cause diagnostic) may = ap was_restarted may
+does_not (Talks window most g c) r (reset_conf channel) (n, may, is) = ap was_restarted is
+does_not (Talks window most g c) r (call channel called calling facilities user) (n, may, is) = ap was_restarted is
+does_not (Talks window most g c) r (accept channel facilities) (n, may, is) = ap was_restarted is
+does_not (Talks window most g c) r (clear channel cause diagnostic) (n, may, is) = ap was_restarted is
+does_not (Talks window most g c) r (clear_conf channel) (n, may, is) = ap was_restarted is
+does_not (Talks window most g c) r (restart cause diagnostic) (n, may, is) = ap was_restarted is
+does_not (Talks window most g c) r restart_conf (n, may, is) = ap was_restarted is
+does_not (WasReset window most) r (user_data channel q m ps pr user) may = absurd may
+does_not (WasReset window most) r (rr channel pr) may = absurd may
+does_not (WasReset window most) r (rnr channel pr) may = absurd may
+does_not (WasReset window most) r (interrupt channel user) may = absurd may
+does_not (WasReset window most) r (interrupt_conf channel) may = absurd may
+does_not (WasReset window most) r (reset channel cause diagnostic) may = absurd may
+does_not (WasReset window most) r (reset_conf channel) may = ap was_restarted may
+does_not (WasReset window most) r (call channel called calling facilities user) may = absurd may
+does_not (WasReset window most) r (accept channel facilities) may = absurd may
+does_not (WasReset window most) r (clear channel cause diagnostic) may = absurd may
+does_not (WasReset window most) r (clear_conf channel) may = absurd may
+does_not (WasReset window most) r (restart cause diagnostic) may = absurd may
+does_not (WasReset window most) r restart_conf may = absurd may
+does_not (Resets window most) r packet may = absurd may
+does_not WasCleared r packet may = absurd may
+does_not WasRestarted r packet may = absurd may
+
+does_due : (s r : Phase) (way : List PlainPacket) (packet : PlainPacket) → MayDo s packet r → is_due r way ≡ true → is_due s way ≡ true
+does_due s r way packet may e = or_later (was_restarted s) (has_restart way) (sym (ap (λ b. b || has_restart way) (does_not s r packet may)) ∙ e)
+
+shown_due : (s : Phase) (way : List PlainPacket) (packet : PlainPacket) → IsOfChannel packet → is_due s (way ++ packet ∷ []) ≡ true → is_due s way ≡ true
+shown_due s way packet is e = sym (ap (λ b. was_restarted s || b) (restart_more way packet (channel_not packet is))) ∙ e
+
+comes_due : (s : Phase) (packet : PlainPacket) (way : List PlainPacket) → MayTake s → is_due (comes s packet) way ≡ true → is_due s (packet ∷ way) ≡ true
+comes_due (Talks window most g c) (user_data channel q m ps pr user) way may e = e
+comes_due (Talks window most g c) (rr channel pr) way may e = e
+comes_due (Talks window most g c) (rnr channel pr) way may e = e
+comes_due (Talks window most g c) (interrupt channel user) way may e = e
+comes_due (Talks window most g c) (interrupt_conf channel) way may e = e
+comes_due (Talks window most g c) (reset channel cause diagnostic) way may e = e
+comes_due (Talks window most g c) (reset_conf channel) way may e = e
+comes_due (Talks window most g c) (call channel called calling facilities user) way may e = e
+comes_due (Talks window most g c) (accept channel facilities) way may e = e
+comes_due (Talks window most g c) (clear channel cause diagnostic) way may e = e
+comes_due (Talks window most g c) (clear_conf channel) way may e = e
+comes_due (Talks window most g c) (restart cause diagnostic) way may e = refl
+comes_due (Talks window most g c) restart_conf way may e = e
+comes_due (Resets window most) (user_data channel q m ps pr user) way may e = e
+comes_due (Resets window most) (rr channel pr) way may e = e
+comes_due (Resets window most) (rnr channel pr) way may e = e
+comes_due (Resets window most) (interrupt channel user) way may e = e
+comes_due (Resets window most) (interrupt_conf channel) way may e = e
+comes_due (Resets window most) (reset channel cause diagnostic) way may e = e
+comes_due (Resets window most) (reset_conf channel) way may e = e
+comes_due (Resets window most) (call channel called calling facilities user) way may e = e
+comes_due (Resets window most) (accept channel facilities) way may e = e
+comes_due (Resets window most) (clear channel cause diagnostic) way may e = e
+comes_due (Resets window most) (clear_conf channel) way may e = e
+comes_due (Resets window most) (restart cause diagnostic) way may e = refl
+comes_due (Resets window most) restart_conf way may e = e
+comes_due (WasReset window most) packet way may e = absurd may
+comes_due WasCleared packet way may e = absurd may
+comes_due WasRestarted packet way may e = absurd may
+
 -- ---- what is known of restarts
 
 abbrev are_sure : Layer → Layer → Bool
@@ -195,6 +303,7 @@ record Fits (from : Role) (s : Phase) (way : List PlainPacket) (P O : Layer) (p 
   pub uncounted : are_sure P O ≡ false → are_counted P O ≡ false
   pub owed : are_sure P O ≡ true → O.owed ≡ 0
   pub on : are_sure P O ≡ true → On from s way P O p o
+  pub due : are_sure P O ≡ true → is_due s way ≡ true → nat_lt 0 P.owed ≡ true
 
 not_both : {X : Type 0} (b : Bool) → b ≡ false → b ≡ true → X
 not_both b e is = absurd (both_ways b e is)
@@ -208,6 +317,7 @@ lost_fits from s way P O p o ready begun unsure uncounted = record {
   uncounted = λ _. uncounted;
   owed = λ e. not_both (are_sure P O) unsure e;
   on = λ e. not_both (are_sure P O) unsure e;
+  due = λ e _. not_both (are_sure P O) unsure e;
 }
 
 or_turned : (a b : Bool) → (a || b) ≡ (b || a)
@@ -228,27 +338,27 @@ module _ (from : Role) (s : Phase) (way : List PlainPacket) (P O : Layer) (p o :
   asks_not = ap layer.is_asking h.ready
 
   -- the end sends, or the other one does
-  fits_on : (r : Phase) (way2 : List PlainPacket) (p2 o2 : Port) → (are_sure P O ≡ true → On from r way2 P O p2 o2) → Fits from r way2 (at_ready P) O p2 o2
-  fits_on r way2 p2 o2 on = record { ready = refl; begun = h.begun; found = h.found; uncounted = h.uncounted; owed = h.owed; on = on }
+  fits_on : (r : Phase) (way2 : List PlainPacket) (p2 o2 : Port) → (is_due r way2 ≡ true → is_due s way ≡ true) → (are_sure P O ≡ true → On from r way2 P O p2 o2) → Fits from r way2 (at_ready P) O p2 o2
+  fits_on r way2 p2 o2 due on = record { ready = refl; begun = h.begun; found = h.found; uncounted = h.uncounted; owed = h.owed; on = on; due = λ k e. h.due k (due e) }
 
-  fits_theirs : (way2 : List PlainPacket) (p2 o2 : Port) → (are_sure P O ≡ true → On from s way2 P O p2 o2) → Fits from s way2 P (at_ready O) p2 o2
-  fits_theirs way2 p2 o2 on = record { ready = h.ready; begun = refl; found = h.found; uncounted = h.uncounted; owed = h.owed; on = on }
+  fits_theirs : (way2 : List PlainPacket) (p2 o2 : Port) → (is_due s way2 ≡ true → is_due s way ≡ true) → (are_sure P O ≡ true → On from s way2 P O p2 o2) → Fits from s way2 P (at_ready O) p2 o2
+  fits_theirs way2 p2 o2 due on = record { ready = h.ready; begun = refl; found = h.found; uncounted = h.uncounted; owed = h.owed; on = on; due = λ k e. h.due k (due e) }
 
   does_fits : (r : Phase) (packet : PlainPacket) → MayDo s packet r → Fits from r way (at_ready P) O (sends packet (pair_at from P O p o)).own (sends packet (pair_at from P O p o)).other
-  does_fits r packet may = fits_on r way (sends packet (pair_at from P O p o)).own (sends packet (pair_at from P O p o)).other (λ k. (on_does from s r way P O p o packet may (h.on k)).on)
+  does_fits r packet may = fits_on r way (sends packet (pair_at from P O p o)).own (sends packet (pair_at from P O p o)).other (does_due s r way packet may) (λ k. (on_does from s r way P O p o packet may (h.on k)).on)
 
   does_noted : (r : Phase) (packet : PlainPacket) → MayDo s packet r → Fits from r way (at_ready P) O (port.noted (sends packet (pair_at from P O p o)).own) (port.noted (sends packet (pair_at from P O p o)).other)
-  does_noted r packet may = fits_on r way (port.noted (sends packet (pair_at from P O p o)).own) (port.noted (sends packet (pair_at from P O p o)).other)
+  does_noted r packet may = fits_on r way (port.noted (sends packet (pair_at from P O p o)).own) (port.noted (sends packet (pair_at from P O p o)).other) (does_due s r way packet may)
       (λ k. on_noted from r way P O (sends packet (pair_at from P O p o)).own (sends packet (pair_at from P O p o)).other (on_does from s r way P O p o packet may (h.on k)).on)
 
   does_lost : (r : Phase) (p2 o2 : Port) → are_sure P O ≡ false → Fits from r way (at_ready P) O p2 o2
   does_lost r p2 o2 e = lost_fits from r way (at_ready P) O p2 o2 refl h.begun e (h.uncounted e)
 
   shown_fits : (packet : PlainPacket) → IsOfChannel packet → Fits from s (way ++ packet ∷ []) P (at_ready O) (sends packet (pair_at (other from) O P o p)).other (sends packet (pair_at (other from) O P o p)).own
-  shown_fits packet is = fits_theirs (way ++ packet ∷ []) (sends packet (pair_at (other from) O P o p)).other (sends packet (pair_at (other from) O P o p)).own (λ k. on_shown from s way P O p o packet is (h.on k))
+  shown_fits packet is = fits_theirs (way ++ packet ∷ []) (sends packet (pair_at (other from) O P o p)).other (sends packet (pair_at (other from) O P o p)).own (shown_due s way packet is) (λ k. on_shown from s way P O p o packet is (h.on k))
 
   shown_noted : (packet : PlainPacket) → IsOfChannel packet → Fits from s (way ++ packet ∷ []) P (at_ready O) (port.noted (sends packet (pair_at (other from) O P o p)).other) (port.noted (sends packet (pair_at (other from) O P o p)).own)
-  shown_noted packet is = fits_theirs (way ++ packet ∷ []) (port.noted (sends packet (pair_at (other from) O P o p)).other) (port.noted (sends packet (pair_at (other from) O P o p)).own)
+  shown_noted packet is = fits_theirs (way ++ packet ∷ []) (port.noted (sends packet (pair_at (other from) O P o p)).other) (port.noted (sends packet (pair_at (other from) O P o p)).own) (shown_due s way packet is)
       (λ k. on_noted from s (way ++ packet ∷ []) P O (sends packet (pair_at (other from) O P o p)).other (sends packet (pair_at (other from) O P o p)).own (on_shown from s way P O p o packet is (h.on k)))
 
   shown_lost : (way2 : List PlainPacket) (p2 o2 : Port) → are_sure P O ≡ false → Fits from s way2 P (at_ready O) p2 o2
@@ -288,6 +398,7 @@ module _ (from : Role) (s : Phase) (way : List PlainPacket) (P O : Layer) (p o :
         uncounted = h.uncounted;
         owed = h.owed;
         on = λ e. on_restarted from s way P O (layer.asked_again P) O p o cause diagnostic (and_left (P.owed == 0) _ (some P.owed (ltb-true 0 P.owed (and_parts _ (nat_lt 0 P.owed) (and_parts (layer.is_asking O.restart) _ awaits).1).1))) (h.on e);
+        due = λ _ _. (and_parts _ (nat_lt 0 P.owed) (and_parts (layer.is_asking O.restart) _ awaits).1).1;
       })
       (λ _. cond_both (layers.is_unclear (theirs P O)) _ _ (Restarted cause diagnostic)
       (λ _. lost_fits from s (way ++ restart cause diagnostic ∷ []) _ _ p port.fresh refl refl refl refl)
@@ -298,6 +409,7 @@ module _ (from : Role) (s : Phase) (way : List PlainPacket) (P O : Layer) (p o :
         uncounted = h.uncounted;
         owed = λ e. ap (λ n. n - 1) (h.owed e);
         on = λ e. on_restarted from s way P O (layer.owing (O.owed == 0) P) (layer.restarted Asking O) p o cause diagnostic (and_left ((layer.owing (O.owed == 0) P).owed == 0) _ (ap (λ b. (if b then min (P.owed + 1) 255 else P.owed) == 0) (ap (λ n. n == 0) (h.owed e)) ∙ more P.owed)) (h.on e);
+        due = λ e _. ap (λ b. nat_lt 0 (if b then min (P.owed + 1) 255 else P.owed)) (ap (λ n. n == 0) (h.owed e)) ∙ lt-ltb 0 (min (P.owed + 1) 255) (one P.owed);
       }))))
     where
       unsure : layers.are_lost (theirs P O) ≡ true → are_sure P O ≡ false
@@ -317,11 +429,11 @@ module _ (from : Role) (s : Phase) (way : List PlainPacket) (P O : Layer) (p o :
           not_true2 true never = absurd (never refl)
           not_true2 false never = refl
 
+      one : (n : ℕ) → 0 < min (n + 1) 255
+      one n = omega arith
+
       more : (n : ℕ) → (min (n + 1) 255 == 0) ≡ false
       more n = some (min (n + 1) 255) (one n)
-        where
-          one : (n : ℕ) → 0 < min (n + 1) 255
-          one n = omega arith
 
   -- its confirmation, that answers none
   sure_answer_not : layers.is_sure_answer (theirs P O) ≡ false
@@ -351,7 +463,7 @@ module _ (from : Role) (s : Phase) (way : List PlainPacket) (P O : Layer) (p o :
 
   again_fits : layers.are_lost (theirs P O) ≡ false → layers.are_counted (theirs P O) ≡ true → Fits from s way (layers.confirms_again (theirs P O)).other (layers.confirms_again (theirs P O)).own p o
   again_fits found counted = cond_both (layer.is_confirmed O.restart) _ _ (λ (T : Layers). Fits from s way (layers.strays T).other (layers.strays T).own p o)
-      (λ _. record { ready = h.ready; begun = h.begun; found = h.found; uncounted = h.uncounted; owed = h.owed; on = h.on })
+      (λ _. record { ready = h.ready; begun = h.begun; found = h.found; uncounted = h.uncounted; owed = h.owed; on = h.on; due = h.due })
       (λ _. lost_fits from s way _ _ p o refl refl refl refl)
 
   unseen_counted : layers.are_lost (theirs P O) ≡ false → layers.are_counted (theirs P O) ≡ true → Fits from s way (layers.confirms_unseen (theirs P O)).other (layers.confirms_unseen (theirs P O)).own p port.blank
@@ -359,7 +471,7 @@ module _ (from : Role) (s : Phase) (way : List PlainPacket) (P O : Layer) (p o :
 
   unseen_uncounted : layers.are_counted (theirs P O) ≡ false → Fits from s way (layers.confirms_unseen (theirs P O)).other (layers.confirms_unseen (theirs P O)).own p o
   unseen_uncounted uncounted = subst (λ (T : Layers). Fits from s way T.other T.own p o) (sym (cond-false (layers.are_counted (theirs P O)) _ _ uncounted))
-      (record { ready = h.ready; begun = refl; found = h.found; uncounted = h.uncounted; owed = h.owed; on = h.on })
+      (record { ready = h.ready; begun = refl; found = h.found; uncounted = h.uncounted; owed = h.owed; on = h.on; due = h.due })
 
 -- ---- the book
 
@@ -465,10 +577,10 @@ module _ (channel : ℕ) (b : Book) (s : Phase) (way : List PlainPacket) where
   does_apart : (from : Role) (two : ℕ) (packet : PlainPacket) → IsOfChannel packet → AreApart channel two → At from channel s way b → At from channel s way (book.takes from two packet b).book
   does_apart Dte two packet is far x =
       subst (λ (z : book.Seen). At Dte channel s way z.book) (sym (runs_calm Dte two packet b is (ap layer.is_begun x.parts.ready) (early_not (layers_of Dte b) x.parts.ready)))
-      (takes_on_apart Dte channel two (layers.goes_to Ready (layers_of Dte b)) packet b (Fits Dte s way) far x.book (fits_on Dte s way b.dte b.dce (port_at Dte channel b) (port_at Dce channel b) x.parts s way (port_at Dte channel b) (port_at Dce channel b) x.parts.on))
+      (takes_on_apart Dte channel two (layers.goes_to Ready (layers_of Dte b)) packet b (Fits Dte s way) far x.book (fits_on Dte s way b.dte b.dce (port_at Dte channel b) (port_at Dce channel b) x.parts s way (port_at Dte channel b) (port_at Dce channel b) (λ e. e) x.parts.on))
   does_apart Dce two packet is far x =
       subst (λ (z : book.Seen). At Dce channel s way z.book) (sym (runs_calm Dce two packet b is (ap layer.is_begun x.parts.ready) (early_not (layers_of Dce b) x.parts.ready)))
-      (takes_on_apart Dce channel two (layers.goes_to Ready (layers_of Dce b)) packet b (Fits Dce s way) far x.book (fits_on Dce s way b.dce b.dte (port_at Dce channel b) (port_at Dte channel b) x.parts s way (port_at Dce channel b) (port_at Dte channel b) x.parts.on))
+      (takes_on_apart Dce channel two (layers.goes_to Ready (layers_of Dce b)) packet b (Fits Dce s way) far x.book (fits_on Dce s way b.dce b.dte (port_at Dce channel b) (port_at Dte channel b) x.parts s way (port_at Dce channel b) (port_at Dte channel b) (λ e. e) x.parts.on))
 
   shown_at : (from : Role) (packet : PlainPacket) → IsOfChannel packet → At from channel s way b → At from channel s (way ++ packet ∷ []) (book.takes (other from) channel packet b).book
   shown_at Dte packet is x = cond_both (layers.runs_early (layers_of Dce b)) true false (λ (early : Bool). layers.runs_early (layers_of Dce b) ≡ early → At Dte channel s (way ++ packet ∷ []) (book.takes Dce channel packet b).book)
@@ -495,13 +607,13 @@ module _ (channel : ℕ) (b : Book) (s : Phase) (way : List PlainPacket) where
       (λ _ early. as_dte way _ (subst (λ (z : book.Seen). Left Dce channel (Theirs Dte way) z.book) (sym (runs_haste Dce two packet b is early))
       (takes_on_any Dce channel two (layers.runs (layers_of Dce b)) packet (fills Dce port.blank b) (Theirs Dte way) (fills_book Dce port.blank b x.book) (λ o2 p2. early_fits Dte s way b.dte b.dce (port_at Dte channel b) (port_at Dce channel b) x.parts early way p2 o2))))
       (λ _ early. as_dte way _ (subst (λ (z : book.Seen). Left Dce channel (Theirs Dte way) z.book) (sym (runs_calm Dce two packet b is x.parts.begun early))
-      (takes_on_apart Dce channel two (layers.goes_to Ready (layers_of Dce b)) packet b (Theirs Dte way) far x.book (fits_theirs Dte s way b.dte b.dce (port_at Dte channel b) (port_at Dce channel b) x.parts way (port_at Dte channel b) (port_at Dce channel b) x.parts.on))))
+      (takes_on_apart Dce channel two (layers.goes_to Ready (layers_of Dce b)) packet b (Theirs Dte way) far x.book (fits_theirs Dte s way b.dte b.dce (port_at Dte channel b) (port_at Dce channel b) x.parts way (port_at Dte channel b) (port_at Dce channel b) (λ e. e) x.parts.on))))
       (bool_self (layers.runs_early (layers_of Dce b)))
   shown_apart Dce two packet is far x = cond_both (layers.runs_early (layers_of Dte b)) true false (λ (early : Bool). layers.runs_early (layers_of Dte b) ≡ early → At Dce channel s way (book.takes Dte two packet b).book)
       (λ _ early. as_dce way _ (subst (λ (z : book.Seen). Left Dte channel (Theirs Dce way) z.book) (sym (runs_haste Dte two packet b is early))
       (takes_on_any Dte channel two (layers.runs (layers_of Dte b)) packet (fills Dte port.blank b) (Theirs Dce way) (fills_book Dte port.blank b x.book) (λ o2 p2. early_fits Dce s way b.dce b.dte (port_at Dce channel b) (port_at Dte channel b) x.parts early way p2 o2))))
       (λ _ early. as_dce way _ (subst (λ (z : book.Seen). Left Dte channel (Theirs Dce way) z.book) (sym (runs_calm Dte two packet b is x.parts.begun early))
-      (takes_on_apart Dte channel two (layers.goes_to Ready (layers_of Dte b)) packet b (Theirs Dce way) far x.book (fits_theirs Dce s way b.dce b.dte (port_at Dce channel b) (port_at Dte channel b) x.parts way (port_at Dce channel b) (port_at Dte channel b) x.parts.on))))
+      (takes_on_apart Dte channel two (layers.goes_to Ready (layers_of Dte b)) packet b (Theirs Dce way) far x.book (fits_theirs Dce s way b.dce b.dte (port_at Dce channel b) (port_at Dte channel b) x.parts way (port_at Dce channel b) (port_at Dte channel b) (λ e. e) x.parts.on))))
       (bool_self (layers.runs_early (layers_of Dte b)))
 
   restarts_at : (from : Role) (cause diagnostic : ℕ) → At from channel s way b → At from channel s (way ++ restart cause diagnostic ∷ []) (book.takes (other from) 0 (restart cause diagnostic) b).book
@@ -535,17 +647,17 @@ module _ (channel : ℕ) (b : Book) (s : Phase) (way : List PlainPacket) where
 begins_at : (from : Role) (channel window most : ℕ) (b : Book) → IsBook b → AreRunning (layers_of from b) → AreBegun window most (view from channel b) → At from channel (fresh_phase window most) [] b
 begins_at Dte channel window most b full run begun = record {
   book = full;
-  parts = record { ready = run.ready; begun = run.begun; found = λ _. run.found; uncounted = λ e. not_both (are_sure b.dte b.dce) e run.sure; owed = λ _. eqb-true b.dce.owed 0 (and_parts (b.dte.owed == 0) (b.dce.owed == 0) begun.reaches).1; on = λ _. (sound_begins window most (view Dte channel b) begun).stands };
+  parts = record { ready = run.ready; begun = run.begun; found = λ _. run.found; uncounted = λ e. not_both (are_sure b.dte b.dce) e run.sure; owed = λ _. eqb-true b.dce.owed 0 (and_parts (b.dte.owed == 0) (b.dce.owed == 0) begun.reaches).1; on = λ _. (sound_begins window most (view Dte channel b) begun).stands; due = λ _ e. absurd (both_ways false refl e) };
 }
 begins_at Dce channel window most b full run begun = record {
   book = full;
-  parts = record { ready = run.ready; begun = run.begun; found = λ _. run.found; uncounted = λ e. not_both (are_sure b.dce b.dte) e run.sure; owed = λ _. eqb-true b.dte.owed 0 (and_parts (b.dce.owed == 0) (b.dte.owed == 0) begun.reaches).1; on = λ _. (sound_begins window most (view Dce channel b) begun).stands };
+  parts = record { ready = run.ready; begun = run.begun; found = λ _. run.found; uncounted = λ e. not_both (are_sure b.dce b.dte) e run.sure; owed = λ _. eqb-true b.dte.owed 0 (and_parts (b.dce.owed == 0) (b.dte.owed == 0) begun.reaches).1; on = λ _. (sound_begins window most (view Dce channel b) begun).stands; due = λ _ e. absurd (both_ways false refl e) };
 }
 
 comes_at : (from : Role) (channel : ℕ) (b : Book) (s : Phase) (packet : PlainPacket) (way : List PlainPacket) → MayTake s → At from channel s (packet ∷ way) b → At from channel (comes s packet) way b
 comes_at from channel b s packet way may x = record {
   book = x.book;
-  parts = record { ready = x.parts.ready; begun = x.parts.begun; found = x.parts.found; uncounted = x.parts.uncounted; owed = x.parts.owed; on = λ e. go (x.parts.on e) };
+  parts = record { ready = x.parts.ready; begun = x.parts.begun; found = x.parts.found; uncounted = x.parts.uncounted; owed = x.parts.owed; on = λ e. go (x.parts.on e); due = λ k e. x.parts.due k (comes_due s packet way may e) };
 }
   where
     go : On from s (packet ∷ way) (layer_at from b) (layer_at (other from) b) (port_at from channel b) (port_at (other from) channel b) → On from (comes s packet) way (layer_at from b) (layer_at (other from) b) (port_at from channel b) (port_at (other from) channel b)
@@ -566,6 +678,42 @@ no_innocent_tape_is_told from channel b s r way packet stands may = quiet_at cha
 
 pub no_end_of_tape_is_told : NoEndOfTapeIsTold
 no_end_of_tape_is_told from channel b s way packet stands may = end_at channel b s way from packet may (runs_at from channel b s way stands)
+
+restarts_untold : (t : Layers) → t.rule ≡ None → (layers.restarts t).rule ≡ None
+restarts_untold t quiet = cond_both (layers.are_lost t) _ _ (λ (x : Layers). x.rule ≡ None) (λ _. quiet)
+    (λ _. cond_both (not (layers.are_counted t)) _ _ (λ (x : Layers). x.rule ≡ None)
+    (λ _. cond_both (layer.is_asking t.other.restart) _ _ (λ (x : Layers). x.rule ≡ None) (λ _. quiet) (λ _. quiet))
+    (λ _. cond_both (layers.is_awaiting t) _ _ (λ (x : Layers). x.rule ≡ None) (λ _. quiet)
+    (λ _. cond_both (layers.is_unclear t) _ _ (λ (x : Layers). x.rule ≡ None) (λ _. quiet) (λ _. quiet))))
+
+confirms_untold : (from : Role) (t : Layers) (b : Book) → t.rule ≡ None → (layers.are_counted t ≡ true → nat_lt 0 t.own.owed ≡ true) → (book.confirms from t b).verdict.rule ≡ None
+unfolding book.confirms book.restarts
+confirms_untold from t b quiet due = cond_both (layers.are_lost t) _ _ Untold
+    (λ _. cond_both (layers.is_sure_answer t) _ _ Untold (λ _. refl) (λ _. refl))
+    (λ _. cond_both (layers.is_answer t) _ _ Untold
+    (λ _. cond_both (layers.are_counted t) _ _ Untold (λ _. quiet) (λ _. refl))
+    (λ none. cond_both (layers.is_second_answer t) _ _ Untold (λ _. refl)
+    (λ _. cond_both (layers.are_counted t) _ _ Untold
+    (λ counted. not_both (layers.is_answer t) none (cond-true (layers.are_counted t) _ _ counted ∙ due counted))
+    (λ _. refl))))
+  where
+    Untold : book.Seen → Type 0
+    Untold x = x.verdict.rule ≡ None
+
+counted_due : (from : Role) (way : List PlainPacket) (P O : Layer) (p o : Port) → Fits from WasRestarted way P O p o → are_counted P O ≡ true → nat_lt 0 P.owed ≡ true
+counted_due from way P O p o h counted = go (are_sure P O) refl
+  where
+    go : (b : Bool) → are_sure P O ≡ b → nat_lt 0 P.owed ≡ true
+    go true sure = h.due sure refl
+    go false unsure = not_both (are_counted P O) (h.uncounted unsure) counted
+
+pub no_restart_of_tape_is_told : NoRestartOfTapeIsTold
+unfolding book.takes book.restarts
+no_restart_of_tape_is_told Dte channel b s way (restart cause diagnostic) stands may = restarts_untold (layers_of Dte b) refl
+no_restart_of_tape_is_told Dce channel b s way (restart cause diagnostic) stands may = restarts_untold (layers_of Dce b) refl
+no_restart_of_tape_is_told Dte channel b WasRestarted way restart_conf stands may = confirms_untold Dte (layers_of Dte b) b refl (counted_due Dte way b.dte b.dce (port_at Dte channel b) (port_at Dce channel b) (runs_at Dte channel b WasRestarted way stands).parts)
+no_restart_of_tape_is_told Dce channel b WasRestarted way restart_conf stands may = confirms_untold Dce (layers_of Dce b) b refl (counted_due Dce way b.dce b.dte (port_at Dce channel b) (port_at Dte channel b) (runs_at Dce channel b WasRestarted way stands).parts)
+no_restart_of_tape_is_told from channel b s way packet stands may = absurd may
 
 pub tapes_begin : TapesBegin
 tapes_begin from channel p b = Begins p.talk.window p.talk.most (all_in_call p) (record { dte = filled_full p; dce = filled_full p }) (running_so from) (begun_so from)

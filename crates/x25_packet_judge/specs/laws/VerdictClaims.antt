@@ -15,7 +15,7 @@ use Rattle.x25_packet_judge.specs.declared.port.Call.TheVariants.{Idle}
 use Rattle.x25_packet_judge.specs.declared.port.Port.{Port}
 use Rattle.x25_packet_judge.specs.declared.terms.Terms.{Terms}
 use Rattle.x25_packet_judge.specs.laws.Clearing.{IsReady}
-use Rattle.x25_packet_judge.specs.laws.Keeping.{Given, Come, Phase, MayDo, MayEnd, IsOfChannel, MayBe}
+use Rattle.x25_packet_judge.specs.laws.Keeping.{Given, Come, Phase, MayDo, MayEnd, MayRestart, IsOfChannel, MayBe}
 use Rattle.x25_packet_judge.specs.laws.Keeping.{IsBegun, AreBegun, fresh_phase, next, turned}
 use Rattle.x25_packet_judge.specs.laws.Tape.{MayStand, all_in_call}
 use Rattle.x25_packet_judge.specs.laws.Watching.{Line, IsSilent, IsKept}
@@ -110,6 +110,11 @@ abbrev pub NoEndOfTapeIsTold : Type 0
 NoEndOfTapeIsTold =
     (from : Role) (channel : ℕ) (b : Book) (s : Phase) (way : List PlainPacket) (packet : PlainPacket)
     → MayStand from channel b s way → MayEnd s packet → (takes from channel packet b).verdict.rule ≡ None
+
+abbrev pub NoRestartOfTapeIsTold : Type 0
+NoRestartOfTapeIsTold =
+    (from : Role) (channel : ℕ) (b : Book) (s : Phase) (way : List PlainPacket) (packet : PlainPacket)
+    → MayStand from channel b s way → MayRestart s packet → (takes from 0 packet b).verdict.rule ≡ None
 
 -- such an end there is, and its numbers begin as the channel's do
 abbrev pub TapesBegin : Type 0
