@@ -10,6 +10,6 @@ pub mod Silences
 pub mod Beginnings
 pub mod Books
 pub mod Parts
-pub mod Dark
+pub mod Reaching
 pub mod Tapes
 pub mod Clearings

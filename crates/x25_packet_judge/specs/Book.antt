@@ -123,7 +123,7 @@ takes_on from t channel packet b =
     then blind from channel (pair_of from (layers.are_level t) channel b) (keeps from t b)
     else took from t channel (sends packet (pair_of from (layers.are_level t) channel b)) b
 
--- where no restart and confirmation went before, nothing is known of the end's channels
+-- before the confirmation of its RESTART nothing is known of the end's channels
 unfoldable pub runs : Role → ℕ → PlainPacket → Book → Seen
 runs from channel packet b =
     if layers.runs_early (layers_of from b)
@@ -147,13 +147,13 @@ confirms_lost from t b = if layers.is_sure_answer t then refinds from t b
 abbrev pub answers : Role → Layers → Book → Seen
 answers from t b = if layers.are_counted t then restarts from (layers.answers_restart t) b else refinds from t b
 
--- A confirmation of none, or again of one that was sent again: of the channels of its sender nothing is known, and of
--- the other end's what was followed. Where restarts aren't counted it may be of one that wasn't seen.
+-- Behind a confirmation of none nothing is known of the channels of its sender. Where restarts aren't counted it may be
+-- of one that wasn't seen.
 unfoldable pub confirms : Role → Layers → Book → Seen
 confirms from t b =
     if layers.are_lost t then confirms_lost from t b
     else if layers.is_answer t then answers from t b
-    else if layers.is_second_answer t then told (keeps from (layers.confirms_again t) (fills from blank b)) None
+    else if layers.is_second_answer t then told (keeps from (layers.confirms_again t) b) None
     else if layers.are_counted t
     then told (keeps from (layers.confirms_unseen t) (fills from blank b)) (layers.confirms_unseen t).rule
     else quiet (keeps from (layers.confirms_unseen t) b)
@@ -229,9 +229,9 @@ sends_info from reading ns nr octets is_broken b =
     if is_broken then quiet (keeps from (layers.loses (layers_of from b)) b)
     else moves from reading ns octets (hears from nr b)
 
--- the channels of both ends begin anew: of an end that is followed on, nothing was seen of them yet
+-- the channels of both ends begin anew, and are known where an end restarts
 unfoldable pub begins : Role → Layers → Book → Book
-begins from t b = keeps from t (fills_both fresh b)
+begins from t b = keeps from t (fills_both blank b)
 
 -- UA; behind frames of the other end, which is up, it comes again, and nothing is known of channels, nor which
 -- acceptances of before may still be taken for the answer to a CALL

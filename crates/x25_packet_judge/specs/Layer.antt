@@ -1,8 +1,8 @@
 -- The packet layer of one end, as the frames of the link and its RESTARTs show it. ITU-T X.25 (10/96), section 3.3.
 -- What is known where, and behind a fault, is profile.
-use Rattle.std.specs.Prelude.{ℕ, ◌+◌, ◌-◌, ◌%◌, Bool, true, false, ◌&&◌, if◌then◌else◌, min}
+use Rattle.std.specs.Prelude.{ℕ, ◌+◌, ◌-◌, ◌%◌, Bool, true, false, ◌&&◌, ◌||◌, if◌then◌else◌, min}
 use Rattle.x25_packet_judge.specs.declared.layer.Restart.{Restart}
-use Rattle.x25_packet_judge.specs.declared.layer.Restart.TheVariants.{Begun, Asking, Ready}
+use Rattle.x25_packet_judge.specs.declared.layer.Restart.TheVariants.{Begun, Asking, Confirmed, Ready}
 use Rattle.x25_packet_judge.specs.declared.layer.Track.{Track}
 use Rattle.x25_packet_judge.specs.declared.layer.Track.TheVariants.{Unseen, Dropped, Followed}
 use Rattle.x25_packet_judge.specs.declared.layer.Layer.{Layer}
@@ -104,12 +104,20 @@ moved l = record l { next = min (l.next + 1) 255 % 8 }
 abbrev pub is_asking : Restart → Bool
 is_asking Begun = false
 is_asking Asking = true
+is_asking Confirmed = false
 is_asking Ready = false
 
 abbrev pub is_begun : Restart → Bool
 is_begun Begun = true
 is_begun Asking = false
+is_begun Confirmed = false
 is_begun Ready = false
+
+abbrev pub is_confirmed : Restart → Bool
+is_confirmed Begun = false
+is_confirmed Asking = false
+is_confirmed Confirmed = true
+is_confirmed Ready = false
 
 abbrev pub with_restart : Restart → Layer → Layer
 with_restart restart l = record l { restart = restart }
@@ -127,10 +135,6 @@ unsure l = record l { is_sure = false; is_counted = false }
 
 abbrev pub uncounted : Layer → Layer
 uncounted l = record l { is_counted = false; owed = 0 }
-
--- nothing may be said of its restarts, and of its channels what their calls show
-abbrev pub opened : Layer → Layer
-opened l = record l { restart = Ready; owed = 0; is_sure = true; is_counted = false }
 
 -- A RESTART of the other end that is sent again while it waits may be confirmed once more.
 abbrev pub asked_again : Layer → Layer
@@ -159,7 +163,7 @@ given_up is_answered l = record l {
   is_sure = false;
   is_counted = false;
   is_lost = true;
-  is_stray = is_asking l.restart && is_answered;
+  is_stray = l.is_stray || (is_asking l.restart && is_answered);
 }
 
 abbrev pub owing_less : Layer → Layer

@@ -3,12 +3,13 @@
 use Rattle.std.specs.Prelude.{ℕ, ◌+◌, ◌-◌, ◌==◌, nat_lt, Bool, true, not, ◌&&◌, ◌||◌, if◌then◌else◌, min, Some}
 use Rattle.x25_packet_judge.specs.Layer.{is_unseen, is_dropped, is_followed, begun, found_at, lost}
 use Rattle.x25_packet_judge.specs.Layer.{set_up_again, worn, late, with_asked, with_acked, moved, is_asking, is_begun}
-use Rattle.x25_packet_judge.specs.Layer.{with_restart, restarted, owing, unsure, uncounted, opened, asked_again}
+use Rattle.x25_packet_judge.specs.Layer.{is_confirmed}
+use Rattle.x25_packet_judge.specs.Layer.{with_restart, restarted, owing, unsure, uncounted, asked_again}
 use Rattle.x25_packet_judge.specs.Layer.{confirmed_again, found, given_up, owing_less, strayed}
 use Rattle.x25_packet_judge.specs.PacketRule.{first}
 use Rattle.x25_packet_judge.specs.Numbers.{apart}
 use Rattle.x25_packet_judge.specs.declared.layer.Restart.{Restart}
-use Rattle.x25_packet_judge.specs.declared.layer.Restart.TheVariants.{Asking, Ready}
+use Rattle.x25_packet_judge.specs.declared.layer.Restart.TheVariants.{Asking, Confirmed, Ready}
 use Rattle.x25_packet_judge.specs.declared.layer.Layer.{Layer}
 use Rattle.x25_packet_judge.specs.declared.layers.Layers.{Layers}
 use Rattle.x25_packet_judge.specs.declared.packet_rule.PacketRule.{PacketRule}
@@ -138,16 +139,22 @@ restarts_unseen t =
     then are_unsure (asks_again (goes_to Ready (with_other (with_restart Ready t.other) t)))
     else are_unsure (asks_again (goes_to Asking t))
 
+-- behind a fault
+abbrev pub restarts_lost : Layers → Layers
+restarts_lost t = goes_to Asking (with_other (owing true t.other) t)
+
+-- One that was sent again may still be confirmed, or be taken for the answer; or so may a second confirmation.
+abbrev pub is_unclear : Layers → Bool
+is_unclear t = nat_lt 0 t.own.again || (nat_lt 0 t.other.again || t.own.is_stray)
+
 -- One that is sent again while it waits is confirmed once or twice.
 abbrev pub restarts : Layers → Layers
 restarts t =
-    if are_lost t then goes_to Asking (with_other (owing true t.other) t)
+    if are_lost t then restarts_lost t
     else if not (are_counted t) then restarts_unseen t
     else if is_awaiting t then asks_again t
+    else if is_unclear t then restarts_lost (give_up t)
     else marks Asking t
-
-abbrev pub opens : Layers → Layers
-opens t = with_other (opened t.other) (with_own (opened t.own) t)
 
 -- the confirmation answers a RESTART that was seen, and no other answer to it may be on its way
 abbrev pub is_answer : Layers → Bool
@@ -159,10 +166,10 @@ is_second_answer t = are_counted t && nat_lt 0 t.own.again
 
 -- Behind packets that were missed, or a fault, a confirmation makes both ends known.
 abbrev pub refinds : Layers → Layers
-refinds t = with_other (found Asking t.other) (with_own (found Ready t.own) t)
+refinds t = with_other (found Asking t.other) (with_own (found Confirmed t.own) t)
 
 abbrev pub answers_restart : Layers → Layers
-answers_restart t = marks Ready t
+answers_restart t = marks Confirmed t
 
 -- Else it answers a RESTART that wasn't seen, or none, and may be taken for the answer to a later one.
 abbrev pub confirms_unseen : Layers → Layers
@@ -176,8 +183,10 @@ is_sure_answer t = (is_asking t.other.restart && t.own.owed == 1) && (t.other.ow
 abbrev pub confirms_lost : Layers → Layers
 confirms_lost t = goes_to Ready (with_other (strayed (with_restart Ready t.other)) (with_own (owing_less t.own) t))
 
+-- Where the end sent nothing since the first confirmation, all that it sends reaches the other end behind both. The
+-- other end may take the second one for the answer to a later RESTART.
 abbrev pub confirms_again : Layers → Layers
-confirms_again t = strays (opens (with_own (confirmed_again t.own) t))
+confirms_again t = strays (if is_confirmed t.own.restart then with_own (confirmed_again t.own) t else give_up t)
 
 -- A RESTART of the end waits where restarts aren't counted, so packets of its channels aren't followed.
 abbrev pub is_hasty : Layers → Bool
@@ -193,4 +202,4 @@ runs t =
 
 -- where nothing is said of the channels of its sender either
 abbrev pub runs_early : Layers → Bool
-runs_early t = is_awaiting t || (is_hasty t || is_begun t.own.restart)
+runs_early t = is_awaiting t || is_hasty t

@@ -47,7 +47,7 @@ is_clearing packet = false
 -- where it isn't
 unfoldable pub sends_unknown : PlainPacket → Pair → Pair
 sends_unknown (clear channel cause diagnostic) t = clears_unknown t
-sends_unknown (clear_conf channel) t = finds t
+sends_unknown (clear_conf channel) t = finds (hastens t)
 sends_unknown (call channel called calling facilities user) t = calls_unknown (said facilities usual) (hastens t)
 sends_unknown (accept channel facilities) t = finds_call facilities t
 sends_unknown (restart cause diagnostic) t = t

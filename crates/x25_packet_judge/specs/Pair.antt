@@ -92,9 +92,9 @@ abbrev pub reaching : Port → Pair → Pair
 reaching other t = if t.reaches then with_other other t else t
 
 -- `owed` is the most CLEARs of the other end that an end may still confirm. A CLEAR that may be the answer to one waits
--- for none.
+-- for none; what the other end sent waits for nothing behind it.
 abbrev pub clears_unknown : Pair → Pair
-clears_unknown t = reaching (port.clearing false (port.owing_clear true t.other))
+clears_unknown t = reaching (port.settled (port.owing_clear true t.other))
     (with_own (port.clears_unknown (t.own.owed == 0) t.own) t)
 
 -- One that is repeated while it waits leaves open what its confirmations answer.
@@ -118,8 +118,9 @@ settles t = with_own (port.settled t.own) t
 abbrev pub is_sure_answer : Pair → Bool
 is_sure_answer t = (t.other.is_clearing && t.own.owed == 1) && (t.other.owed == 0 && not t.other.is_stray)
 
+-- One that may answer no CLEAR may be taken for the answer to a later one.
 abbrev pub confirms_unknown : Pair → Pair
-confirms_unknown t = reaching (port.strayed (is_doubtful t) (port.clearing false t.other))
+confirms_unknown t = reaching (port.strayed (t.own.owed == 0 || is_doubtful t) (port.clearing false t.other))
     (with_own (port.owing_less (port.settled t.own)) t)
 
 -- its confirmation makes the channel known
@@ -135,14 +136,15 @@ abbrev pub is_up : Terms → Pair → Pair
 is_up terms t = with_other (port.set_up Answered false terms (accepted_by t.from))
     (with_own (port.set_up Open true terms port.fresh) t)
 
--- CALL ACCEPTED behind a CALL makes the channel known, where not both ends called, no CLEAR of the end that accepts may
--- still be confirmed, and nothing left open which CALL it is.
+-- CALL ACCEPTED behind a CALL makes the channel known, where not both ends called, no CLEAR of either end may still be
+-- confirmed, no confirmation of none is on its way to the end that called, and nothing left open which CALL it is.
 abbrev pub may_find_call : Pair → Bool
 may_find_call t = port.is_calling t.other.call
-    && (t.other.owed == 0 && (not (port.is_calling t.own.call) && not (is_doubtful t)))
+    && ((t.own.owed == 0 && (t.other.owed == 0 && not t.other.is_stray))
+    && (not (port.is_calling t.own.call) && not (is_doubtful t)))
 
--- One that may answer no CALL may be taken for the answer to a later one. Both ends keep that, as the other end's
--- first packet begins it anew.
+-- One that may answer no CALL may be taken for the answer to a later one. Both ends keep that, as a RESTART begins one
+-- of them anew.
 abbrev pub accepts_unknown : Pair → Pair
 accepts_unknown t = reaching (port.doubted t.other) (with_own (port.doubted (port.settled t.own)) t)
 

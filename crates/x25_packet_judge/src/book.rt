@@ -223,7 +223,7 @@ impl Book {
         }
     }
 
-    /// A packet of a channel: where no restart and confirmation went before, nothing is known of the end's channels.
+    /// A packet of a channel: before the confirmation of its RESTART nothing is known of the end's channels.
     #[tactic(auto, unfolding(crate::specs::Book::runs))]
     fn runs(&mut self, from: Role, channel: u16, packet: &Packet) -> Verdict
         ensures book { self.new ≡ (definition.runs from channel (plain packet.now) self.old).book }
@@ -297,7 +297,6 @@ impl Book {
             return self.answers(from, layers);
         }
         if layers.is_second_answer() {
-            self.fill(from, Port::blank());
             self.keep(from, layers.confirms_again());
             return told(None);
         }
@@ -424,7 +423,7 @@ impl Book {
     fn begins(&mut self, from: Role, layers: Layers)
         ensures { self.new ≡ definition.begins from layers self.old }
     {
-        self.fill_both(Port::fresh());
+        self.fill_both(Port::blank());
         self.keep(from, layers);
     }
 

@@ -2,7 +2,8 @@
 //! Each law is the contract of a function that does nothing.
 ghost use Rattle.x25_packet_judge.specs.laws.VerdictClaims.{BooksTellOfChannels, CallsBegin, NoEndingIsTold};
 ghost use Rattle.x25_packet_judge.specs.laws.VerdictClaims.{NoEndOfTapeIsTold, NoInnocentPacketIsTold};
-ghost use Rattle.x25_packet_judge.specs.laws.VerdictClaims.{NoInnocentTapeIsTold, NoNextCallIsTold, ResetsBegin};
+ghost use Rattle.x25_packet_judge.specs.laws.VerdictClaims.{NoInnocentTapeIsTold, NoNextCallIsTold};
+ghost use Rattle.x25_packet_judge.specs.laws.VerdictClaims.{NoRestartOfTapeIsTold, ResetsBegin};
 ghost use Rattle.x25_packet_judge.specs.laws.VerdictClaims.{SilentPacketsKeepTheRules, StretchesFollow, TapesBegin};
 
 /// In a call, of an end that keeps the rules of docs/PEER.md neither a rule nor manners are told, in one stretch and in
@@ -50,9 +51,11 @@ pub fn books_tell_of_channels()
 
 /// In a call on a channel, of an end that keeps the rules neither a rule nor manners are told there in the run of a
 /// book, whatever the other end sends on that channel and on all others, RESTART and its confirmation too, and whatever
-/// the end itself sends on others. Such runs there are.
+/// the end itself sends on others. Nor are they told of its RESTART, at any moment, or of its confirmation of the one
+/// that came. Such runs there are.
 pub fn innocent_tapes_stay_untold()
     ensures sends { NoInnocentTapeIsTold }
     ensures ends { NoEndOfTapeIsTold }
+    ensures restarts { NoRestartOfTapeIsTold }
     ensures begins { TapesBegin }
 {}

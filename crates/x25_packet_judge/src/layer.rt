@@ -2,11 +2,13 @@
 ghost use Rattle.std.specs.Prelude.{◌≡◌};
 ghost use Rattle.x25_packet_judge.specs.Layer as definition;
 
-/// Where an end is with a restart: nothing was sent since set-up; RESTART was, and nothing behind it yet; ready.
+/// Where an end is with a restart: nothing was sent since set-up; RESTART was, or its confirmation, and nothing behind
+/// it yet; ready.
 #[derive(Clone, Copy)]
 pub(crate) enum Restart {
     Begun,
     Asking,
+    Confirmed,
     Ready,
 }
 
@@ -215,6 +217,13 @@ impl Layer {
         matches!(self.restart, Restart::Begun)
     }
 
+    /// Whether it confirmed a RESTART, and sent nothing behind that.
+    pub(crate) fn is_confirmed(self) -> bool
+        ensures { result ≡ definition.is_confirmed self.restart }
+    {
+        matches!(self.restart, Restart::Confirmed)
+    }
+
     pub(crate) fn with_restart(self, restart: Restart) -> Layer
         ensures { result ≡ definition.with_restart restart self }
     {
@@ -266,19 +275,6 @@ impl Layer {
         }
     }
 
-    /// Nothing may be said of its restarts, and of its channels what their calls show.
-    pub(crate) fn opened(self) -> Layer
-        ensures { result ≡ definition.opened self }
-    {
-        Layer {
-            restart: Restart::Ready,
-            owed: 0,
-            is_sure: true,
-            is_counted: false,
-            ..self
-        }
-    }
-
     /// A RESTART of the other end was sent again while it waited.
     pub(crate) fn asked_again(self) -> Layer
         ensures { result ≡ definition.asked_again self }
@@ -324,7 +320,7 @@ impl Layer {
             is_sure: false,
             is_counted: false,
             is_lost: true,
-            is_stray: self.is_asking() && is_answered,
+            is_stray: self.is_stray || (self.is_asking() && is_answered),
             ..self
         }
     }

@@ -280,26 +280,35 @@ impl Layers {
         }
     }
 
+    /// RESTART behind a fault.
+    fn restarts_lost(self) -> Layers
+        ensures { result ≡ definition.restarts_lost self }
+    {
+        self.with_other(self.other.owing(true))
+            .goes_to(Restart::Asking)
+    }
+
+    /// Whether a RESTART that was sent again, or a second confirmation, leaves open what answers the next RESTART.
+    fn is_unclear(self) -> bool
+        ensures { result ≡ definition.is_unclear self }
+    {
+        0 < self.own.again || (0 < self.other.again || self.own.is_stray)
+    }
+
     pub(crate) fn restarts(self) -> Layers
         ensures { result ≡ definition.restarts self }
     {
         if self.are_lost() {
-            self.with_other(self.other.owing(true))
-                .goes_to(Restart::Asking)
+            self.restarts_lost()
         } else if !self.are_counted() {
             self.restarts_unseen()
         } else if self.is_awaiting() {
             self.asks_again()
+        } else if self.is_unclear() {
+            self.give_up().restarts_lost()
         } else {
             self.marks(Restart::Asking)
         }
-    }
-
-    fn opens(self) -> Layers
-        ensures { result ≡ definition.opens self }
-    {
-        self.with_own(self.own.opened())
-            .with_other(self.other.opened())
     }
 
     /// Whether a confirmation answers a RESTART that was seen.
@@ -323,14 +332,14 @@ impl Layers {
     pub(crate) fn answers_restart(self) -> Layers
         ensures { result ≡ definition.answers_restart self }
     {
-        self.marks(Restart::Ready)
+        self.marks(Restart::Confirmed)
     }
 
     /// Behind packets that were missed, or a fault, a confirmation makes both ends known.
     pub(crate) fn refinds(self) -> Layers
         ensures { result ≡ definition.refinds self }
     {
-        self.with_own(self.own.found(Restart::Ready))
+        self.with_own(self.own.found(Restart::Confirmed))
             .with_other(self.other.found(Restart::Asking))
     }
 
@@ -367,7 +376,12 @@ impl Layers {
     pub(crate) fn confirms_again(self) -> Layers
         ensures { result ≡ definition.confirms_again self }
     {
-        self.with_own(self.own.confirmed_again()).opens().strays()
+        let next = if self.own.is_confirmed() {
+            self.with_own(self.own.confirmed_again())
+        } else {
+            self.give_up()
+        };
+        next.strays()
     }
 
     /// Whether a RESTART of the end waits where restarts aren't counted.
@@ -377,11 +391,11 @@ impl Layers {
         self.own.is_asking() && !(self.are_counted() || self.are_lost())
     }
 
-    /// Whether a packet of a channel goes before a restart or its confirmation.
+    /// Whether a packet of a channel goes before the confirmation of a RESTART.
     pub(crate) fn runs_early(self) -> bool
         ensures { result ≡ definition.runs_early self }
     {
-        self.is_awaiting() || (self.is_hasty() || self.own.is_begun())
+        self.is_awaiting() || self.is_hasty()
     }
 
     /// A packet of a channel.

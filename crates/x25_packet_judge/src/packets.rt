@@ -85,7 +85,7 @@ impl Pair {
     {
         match packet {
             Packet::Clear { .. } => self.clears_unknown(),
-            Packet::ClearConf { .. } => self.finds(),
+            Packet::ClearConf { .. } => self.hastens().finds(),
             Packet::Call { facilities, .. } => self
                 .hastens()
                 .calls_unknown(Terms::usual().said(facilities)),

@@ -194,7 +194,7 @@ impl Pair {
     {
         let is_waiting = self.own.owed == 0;
         self.with_own(self.own.clears_unknown(is_waiting))
-            .reaching(self.other.owing(true).clearing(false))
+            .reaching(self.other.owing(true).settled())
     }
 
     fn is_doubtful(self) -> bool
@@ -237,7 +237,8 @@ impl Pair {
     fn confirms_unknown(self) -> Pair
         ensures { result ≡ definition.confirms_unknown self }
     {
-        let other = self.other.clearing(false).strayed(self.is_doubtful());
+        let is_stray = self.own.owed == 0 || self.is_doubtful();
+        let other = self.other.clearing(false).strayed(is_stray);
         self.with_own(self.own.settled().owing_less())
             .reaching(other)
     }
@@ -264,12 +265,12 @@ impl Pair {
     fn may_find_call(self) -> bool
         ensures { result ≡ definition.may_find_call self }
     {
-        self.other.is_calling()
-            && (self.other.owed == 0 && (!self.own.is_calling() && !self.is_doubtful()))
+        let is_clear = self.own.owed == 0 && (self.other.owed == 0 && !self.other.is_stray);
+        self.other.is_calling() && (is_clear && (!self.own.is_calling() && !self.is_doubtful()))
     }
 
-    /// An acceptance that may answer no CALL may be taken for the answer to a later one. Both ends keep that, as the
-    /// other end's first packet begins it anew.
+    /// An acceptance that may answer no CALL may be taken for the answer to a later one. Both ends keep that, as a
+    /// RESTART begins one of them anew.
     fn accepts_unknown(self) -> Pair
         ensures { result ≡ definition.accepts_unknown self }
     {

@@ -33,19 +33,16 @@ first false c h = refl
 pub put : (from : Role) (channel : ℕ) (p : Pair) (b : Book) → (book.put_by from channel p p.rule b).verdict.rule ≡ p.rule
 put from channel p b = cond_both (pair.is_known p || is_some p.rule) _ _ (λ (s : book.Seen). s.verdict.rule ≡ p.rule) (λ _. refl) (λ unknown. none_of p.rule (second (pair.is_known p) (is_some p.rule) unknown))
 
-pub runs_on : (t : Layers) → layers.runs_early t ≡ false → layers.runs t ≡ layers.goes_to Ready t
-runs_on t early = cond-false (layers.is_awaiting t) _ _ (first (layers.is_awaiting t) (layers.is_hasty t || layer.is_begun t.own.restart) early)
-    ∙ cond-false (layers.is_hasty t) _ _ (first (layers.is_hasty t) (layer.is_begun t.own.restart) rest)
-    ∙ cond-false (layer.is_begun t.own.restart) _ _ (second (layers.is_hasty t) (layer.is_begun t.own.restart) rest)
-  where
-    rest : (layers.is_hasty t || layer.is_begun t.own.restart) ≡ false
-    rest = second (layers.is_awaiting t) (layers.is_hasty t || layer.is_begun t.own.restart) early
+pub runs_on : (t : Layers) → layer.is_begun t.own.restart ≡ false → layers.runs_early t ≡ false → layers.runs t ≡ layers.goes_to Ready t
+runs_on t begun early = cond-false (layers.is_awaiting t) _ _ (first (layers.is_awaiting t) (layers.is_hasty t) early)
+    ∙ cond-false (layers.is_hasty t) _ _ (second (layers.is_awaiting t) (layers.is_hasty t) early)
+    ∙ cond-false (layer.is_begun t.own.restart) _ _ begun
 
 pub none_yet : (from : Role) (b : Book) → (book.layers_of from b).rule ≡ None
 none_yet Dte b = refl
 none_yet Dce b = refl
 
-module _ (from : Role) (channel : ℕ) (b : Book) (early : layers.runs_early (book.layers_of from b) ≡ false) (sure : layers.are_sure (book.layers_of from b) ≡ true) where
+module _ (from : Role) (channel : ℕ) (b : Book) (begun : layer.is_begun (book.layers_of from b).own.restart ≡ false) (early : layers.runs_early (book.layers_of from b) ≡ false) (sure : layers.are_sure (book.layers_of from b) ≡ true) where
   on : (packet : PlainPacket) → (book.takes_on from (layers.goes_to Ready (book.layers_of from b)) channel packet b).verdict.rule ≡ (sends packet (book.pair_of from (layers.are_level (book.layers_of from b)) channel b)).rule
   unfolding book.takes_on
   on packet = ap (λ (s : book.Seen). s.verdict.rule)
@@ -57,24 +54,24 @@ module _ (from : Role) (channel : ℕ) (b : Book) (early : layers.runs_early (bo
   unfolding book.runs
   tells packet = ap (λ (s : book.Seen). s.verdict.rule)
       (cond-false (layers.runs_early (book.layers_of from b)) _ (book.takes_on from (layers.runs (book.layers_of from b)) channel packet b) early
-      ∙ ap (λ (t : Layers). book.takes_on from t channel packet b) (runs_on (book.layers_of from b) early))
+      ∙ ap (λ (t : Layers). book.takes_on from t channel packet b) (runs_on (book.layers_of from b) begun early))
       ∙ on packet
 
 pub books_tell_of_channels : BooksTellOfChannels
 unfolding book.takes
-books_tell_of_channels from channel packet b is early sure = go packet is
+books_tell_of_channels from channel packet b is begun early sure = go packet is
   where
     go : (packet : PlainPacket) → IsOfChannel packet → (book.takes from channel packet b).verdict.rule ≡ (sends packet (book.pair_of from (layers.are_level (book.layers_of from b)) channel b)).rule
-    go (user_data c q m ps pr user) is = tells from channel b early sure (user_data c q m ps pr user)
-    go (rr c pr) is = tells from channel b early sure (rr c pr)
-    go (rnr c pr) is = tells from channel b early sure (rnr c pr)
-    go (interrupt c user) is = tells from channel b early sure (interrupt c user)
-    go (interrupt_conf c) is = tells from channel b early sure (interrupt_conf c)
-    go (reset c cause diagnostic) is = tells from channel b early sure (reset c cause diagnostic)
-    go (reset_conf c) is = tells from channel b early sure (reset_conf c)
-    go (call c called calling facilities user) is = tells from channel b early sure (call c called calling facilities user)
-    go (accept c facilities) is = tells from channel b early sure (accept c facilities)
-    go (clear c cause diagnostic) is = tells from channel b early sure (clear c cause diagnostic)
-    go (clear_conf c) is = tells from channel b early sure (clear_conf c)
+    go (user_data c q m ps pr user) is = tells from channel b begun early sure (user_data c q m ps pr user)
+    go (rr c pr) is = tells from channel b begun early sure (rr c pr)
+    go (rnr c pr) is = tells from channel b begun early sure (rnr c pr)
+    go (interrupt c user) is = tells from channel b begun early sure (interrupt c user)
+    go (interrupt_conf c) is = tells from channel b begun early sure (interrupt_conf c)
+    go (reset c cause diagnostic) is = tells from channel b begun early sure (reset c cause diagnostic)
+    go (reset_conf c) is = tells from channel b begun early sure (reset_conf c)
+    go (call c called calling facilities user) is = tells from channel b begun early sure (call c called calling facilities user)
+    go (accept c facilities) is = tells from channel b begun early sure (accept c facilities)
+    go (clear c cause diagnostic) is = tells from channel b begun early sure (clear c cause diagnostic)
+    go (clear_conf c) is = tells from channel b begun early sure (clear_conf c)
     go (restart cause diagnostic) is = absurd is
     go restart_conf is = absurd is

@@ -178,7 +178,7 @@ module _ (v : Pair) where
   settled_moved = hastened_moved pair.settles (record { free = λ e. e; less = le_self v.own.owed; clearing = λ e. e; known = λ e. inl e }) (record { free = λ e. e; less = le_self v.own.owed; clearing = λ e. e; known = λ e. inl e })
 
   clears_unknown_moved : Moved v (pair.clears_unknown v)
-  clears_unknown_moved = reaching_moved (port.clearing false (port.owing_clear true v.other)) (port.clears_unknown (v.own.owed == 0) v.own) (le_self v.own.owed) refl (λ e. e) none_true refl
+  clears_unknown_moved = reaching_moved (port.settled (port.owing_clear true v.other)) (port.clears_unknown (v.own.owed == 0) v.own) (le_self v.own.owed) refl (λ _. refl) none_true refl
 
   finds_call_moved : (field : List ℕ) → is_free v.other.call ≡ true → Moved v (pair.finds_call field v)
   finds_call_moved field free = cond_both (pair.may_find_call v) _ _ (Moved v)
@@ -196,26 +196,30 @@ module _ (v : Pair) where
   finds_moved : Moved v (pair.finds v)
   finds_moved = cond_both (pair.is_sure_answer v) _ _ (Moved v)
       (λ _. record { free = λ _. refl; less = none v.own.owed; clearing = λ e. e; known = λ _. inr refl })
-      (λ _. reaching_moved (port.strayed (pair.is_doubtful v) (port.clearing false v.other)) (port.owing_less (port.settled v.own)) (le_less v.own.owed) refl (λ e. e) none_true refl)
+      (λ _. reaching_moved (port.strayed (v.own.owed == 0 || pair.is_doubtful v) (port.clearing false v.other)) (port.owing_less (port.settled v.own)) (le_less v.own.owed) refl (λ e. e) none_true refl)
     where
       none : (n : ℕ) → 0 ≤ n
       none n = omega arith
 
+  hastens_moved : Moved v (pair.hastens v)
+  hastens_moved = hastened_moved (λ w. w) (stays v) (record { free = λ e. e; less = le_self v.own.owed; clearing = λ e. e; known = λ e. inl e })
+
+module _ (v : Pair) where
   unknown_moved : (packet : PlainPacket) → is_free v.other.call ≡ true → Moved v (sends_unknown packet v)
   unfolding sends_unknown
-  unknown_moved (clear channel cause diagnostic) free = clears_unknown_moved
-  unknown_moved (clear_conf channel) free = finds_moved
-  unknown_moved (call channel called calling facilities user) free = hastened_moved (pair.calls_unknown (said facilities usual)) (record { free = λ e. e; less = le_self v.own.owed; clearing = λ e. e; known = λ e. inl e }) (record { free = λ e. e; less = le_self v.own.owed; clearing = λ e. e; known = λ e. inl e })
-  unknown_moved (accept channel facilities) free = finds_call_moved facilities free
+  unknown_moved (clear channel cause diagnostic) free = clears_unknown_moved v
+  unknown_moved (clear_conf channel) free = both v (pair.hastens v) _ (hastens_moved v) (finds_moved (pair.hastens v))
+  unknown_moved (call channel called calling facilities user) free = hastened_moved v (pair.calls_unknown (said facilities usual)) (record { free = λ e. e; less = le_self v.own.owed; clearing = λ e. e; known = λ e. inl e }) (record { free = λ e. e; less = le_self v.own.owed; clearing = λ e. e; known = λ e. inl e })
+  unknown_moved (accept channel facilities) free = finds_call_moved v facilities free
   unknown_moved (restart cause diagnostic) free = stays v
   unknown_moved restart_conf free = stays v
-  unknown_moved (user_data channel q m ps pr user) free = settled_moved
-  unknown_moved (rr channel pr) free = settled_moved
-  unknown_moved (rnr channel pr) free = settled_moved
-  unknown_moved (interrupt channel user) free = settled_moved
-  unknown_moved (interrupt_conf channel) free = settled_moved
-  unknown_moved (reset channel cause diagnostic) free = settled_moved
-  unknown_moved (reset_conf channel) free = settled_moved
+  unknown_moved (user_data channel q m ps pr user) free = settled_moved v
+  unknown_moved (rr channel pr) free = settled_moved v
+  unknown_moved (rnr channel pr) free = settled_moved v
+  unknown_moved (interrupt channel user) free = settled_moved v
+  unknown_moved (interrupt_conf channel) free = settled_moved v
+  unknown_moved (reset channel cause diagnostic) free = settled_moved v
+  unknown_moved (reset_conf channel) free = settled_moved v
 
 clears_moved : (v : Pair) → Moved v (pair.clears v)
 clears_moved v = cond_both (pair.is_awaiting v) _ _ (Moved v) (λ _. both v (pair.unknown v) _ (unsaid v) (clears_unknown_moved (pair.unknown v))) (λ _. cleared_moved true v)
@@ -291,21 +295,24 @@ freed (clear channel cause diagnostic) v is h = cond_both (not (pair.is_known v)
     (cond_both (pair.is_awaiting v) _ _ (λ (w : Pair). Free w.own w.other) (λ _. dark (pair.unknown v) refl refl) (λ _. record { free = h.free; still = λ _. and_right v.other.is_clearing _ (less_none v.own.owed h.few) })))
   where
     dark : (x : Pair) → not (pair.is_known x) ≡ true → is_free x.other.call ≡ true → Free (pair.clears_unknown x).own (pair.clears_unknown x).other
-    dark x unknown free = cond_both x.reaches _ _ (λ (w : Pair). Free w.own w.other) (λ _. record { free = free; still = λ e. gone e }) (λ _. record { free = free; still = λ e. gone e })
+    dark x unknown free = cond_both x.reaches _ _ (λ (w : Pair). Free w.own w.other) (λ _. record { free = refl; still = λ e. gone e }) (λ _. record { free = free; still = λ e. gone e })
       where
         gone : {X : Type 0} → pair.is_known x ≡ true → X
         gone e = none_true (ap not (sym e) ∙ unknown)
-freed (clear_conf channel) v is h = cond_both (not (pair.is_known v)) (pair.finds v) _ (λ (w : Pair). Free w.own w.other)
-    (λ unknown. cond_both (pair.is_sure_answer v) _ _ (λ (w : Pair). Free w.own w.other)
-    (λ _. record { free = refl; still = λ _. and_right v.other.is_clearing false refl })
-    (λ _. cond_both v.reaches _ _ (λ (w : Pair). Free w.own w.other) (λ _. record { free = h.free; still = λ e. gone unknown e }) (λ _. record { free = h.free; still = λ e. gone unknown e })))
+freed (clear_conf channel) v is h = cond_both (not (pair.is_known v)) (pair.finds (pair.hastens v)) _ (λ (w : Pair). Free w.own w.other)
+    (λ unknown. cond_both (v.own.is_clearing || port.is_calling v.own.call) _ v (λ (w : Pair). Free (pair.finds w).own (pair.finds w).other) (λ _. found (pair.with_own (port.doubted v.own) v) unknown h.free) (λ _. found v unknown h.free))
     (λ _. subst (λ (w : Pair). Free w.own w.other) (sym (cond-false (pair.is_awaiting v && false) (sends_unknown (clear_conf channel) (pair.starts_early v)) (pair.confirms_clear v) (and_right (pair.is_awaiting v) false refl)))
     (cond_both (nat_lt 0 v.own.owed) _ _ (λ (w : Pair). Free w.own w.other)
     (λ _. record { free = h.free; still = λ _. and_right v.other.is_clearing _ (less_none v.own.owed h.few) })
     (λ _. record { free = refl; still = λ e. none_true e })))
   where
-    gone : {X : Type 0} → not (pair.is_known v) ≡ true → pair.is_known v ≡ true → X
-    gone unknown e = none_true (ap not (sym e) ∙ unknown)
+    found : (x : Pair) → not (pair.is_known x) ≡ true → is_free x.other.call ≡ true → Free (pair.finds x).own (pair.finds x).other
+    found x unknown free = cond_both (pair.is_sure_answer x) _ _ (λ (w : Pair). Free w.own w.other)
+        (λ _. record { free = refl; still = λ _. and_right x.other.is_clearing false refl })
+        (λ _. cond_both x.reaches _ _ (λ (w : Pair). Free w.own w.other) (λ _. record { free = free; still = λ e. gone e }) (λ _. record { free = free; still = λ e. gone e }))
+      where
+        gone : {X : Type 0} → pair.is_known x ≡ true → X
+        gone e = none_true (ap not (sym e) ∙ unknown)
 freed (user_data channel q m ps pr user) v is h = absurd is
 freed (rr channel pr) v is h = absurd is
 freed (rnr channel pr) v is h = absurd is
@@ -533,9 +540,12 @@ confirmed t way channel (inl (window, most, g, a, w)) =
     subst (λ (x : Pair). Free x.other x.own) (sym (knows t w.go (clear_conf channel) ∙ cond-true (nat_lt 0 t.own.owed) (pair.marks false t) _ (lt-ltb 0 t.own.owed (omega (arith, w.over)))))
     (record { free = refl; still = λ _. refl })
 confirmed t way channel (inr k) = subst (λ (x : Pair). Free x.other x.own) (sym (cond-true (not (pair.is_known t)) (sends_unknown (clear_conf channel) t) _ (rw (k.known) refl)))
-    (cond_both (pair.is_sure_answer t) _ _ (λ (x : Pair). Free x.other x.own)
-    (λ _. record { free = refl; still = λ _. refl })
-    (λ _. cond_both t.reaches _ _ (λ (x : Pair). Free x.other x.own) (λ _. record { free = refl; still = λ _. refl }) (λ _. record { free = refl; still = λ _. refl })))
+    (cond_both (t.own.is_clearing || port.is_calling t.own.call) _ t (λ (x : Pair). Free (pair.finds x).other (pair.finds x).own) (λ _. found (pair.with_own (port.doubted t.own) t)) (λ _. found t))
+  where
+    found : (x : Pair) → Free (pair.finds x).other (pair.finds x).own
+    found x = cond_both (pair.is_sure_answer x) _ _ (λ (w : Pair). Free w.other w.own)
+        (λ _. record { free = refl; still = λ _. refl })
+        (λ _. cond_both x.reaches _ _ (λ (w : Pair). Free w.other w.own) (λ _. record { free = refl; still = λ _. refl }) (λ _. record { free = refl; still = λ _. refl }))
 
 ready_runs : (t : Pair) → IsReady t → IsFree t
 ready_runs _ (Answered t packet way is was) = record { quiet = (clear_runs t (packet ∷ way) was).quiet; free = go (clear_runs t (packet ∷ way) was).stands }

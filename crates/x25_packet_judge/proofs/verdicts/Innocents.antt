@@ -422,7 +422,10 @@ clear_quiet t channel cause diagnostic quiet = cond_both (not (pair.is_known t))
 pub clear_conf_unknown : (t : Pair) (channel : ℕ) → t.rule ≡ None → pair.is_known t ≡ false → (sends (clear_conf channel) t).rule ≡ None
 unfolding sends sends_unknown
 clear_conf_unknown t channel quiet unknown = ap (λ (v : Pair). v.rule) (cond-true (not (pair.is_known t)) (sends_unknown (clear_conf channel) t) _ (ap not unknown))
-    ∙ cond_both (pair.is_sure_answer t) _ _ (λ (v : Pair). v.rule ≡ None) (λ _. quiet) (λ _. cond_both t.reaches _ _ (λ (v : Pair). v.rule ≡ None) (λ _. quiet) (λ _. quiet))
+    ∙ cond_both (t.own.is_clearing || port.is_calling t.own.call) _ t (λ (w : Pair). (pair.finds w).rule ≡ None) (λ _. found (pair.with_own (port.doubted t.own) t) quiet) (λ _. found t quiet)
+  where
+    found : (w : Pair) → w.rule ≡ None → (pair.finds w).rule ≡ None
+    found w quiet = cond_both (pair.is_sure_answer w) _ _ (λ (v : Pair). v.rule ≡ None) (λ _. quiet) (λ _. cond_both w.reaches _ _ (λ (v : Pair). v.rule ≡ None) (λ _. quiet) (λ _. quiet))
 
 clear_conf_quiet : (t : Pair) (channel : ℕ) → t.rule ≡ None → Standing t WasCleared [] → (sends (clear_conf channel) t).rule ≡ None
 unfolding sends_known

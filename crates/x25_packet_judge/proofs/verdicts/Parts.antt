@@ -206,7 +206,7 @@ fills_book Dce p b full = record { dte = full.dte; dce = filled_full p }
 -- a confirmation that answers no RESTART of the other end
 pub confirms_parts : (from : Role) (channel : ℕ) (t : Layers) (b : Book) (F : Parts) → IsBook b → layers.is_sure_answer t ≡ false → (layers.are_lost t ≡ false → layers.is_answer t ≡ false)
     → (layers.are_lost t ≡ true → F (layers.confirms_lost t).own (layers.confirms_lost t).other (port_at from channel b) (port_at (other from) channel b))
-    → (layers.are_lost t ≡ false → layers.are_counted t ≡ true → F (layers.confirms_again t).own (layers.confirms_again t).other port.blank (port_at (other from) channel b))
+    → (layers.are_lost t ≡ false → layers.are_counted t ≡ true → F (layers.confirms_again t).own (layers.confirms_again t).other (port_at from channel b) (port_at (other from) channel b))
     → (layers.are_lost t ≡ false → layers.are_counted t ≡ true → F (layers.confirms_unseen t).own (layers.confirms_unseen t).other port.blank (port_at (other from) channel b))
     → (layers.are_lost t ≡ false → layers.are_counted t ≡ false → F (layers.confirms_unseen t).own (layers.confirms_unseen t).other (port_at from channel b) (port_at (other from) channel b))
     → Left from channel F (book.confirms from t b).book
@@ -216,7 +216,7 @@ confirms_parts from channel t b F full none none_too lost second counted unseen 
     (λ is. subst (λ (s : book.Seen). Left from channel F s.book) (sym (cond-false (layers.is_sure_answer t) _ _ none)) (keeps_parts from channel (layers.confirms_lost t) b F full (lost is)))
     (λ not_lost. subst (λ (s : book.Seen). Left from channel F s.book) (sym (cond-false (layers.is_answer t) _ _ (none_too not_lost)))
     (cond_both (layers.is_second_answer t) _ _ (λ (s : book.Seen). Left from channel F s.book)
-    (λ is. kept_fills from channel (layers.confirms_again t) port.blank b F full (second not_lost (and_parts (layers.are_counted t) _ is).0))
+    (λ is. keeps_parts from channel (layers.confirms_again t) b F full (second not_lost (and_parts (layers.are_counted t) _ is).0))
     (λ _. cond_both (layers.are_counted t) _ _ (λ (s : book.Seen). Left from channel F s.book)
     (λ is. kept_fills from channel (layers.confirms_unseen t) port.blank b F full (counted not_lost is))
     (λ is. keeps_parts from channel (layers.confirms_unseen t) b F full (unseen not_lost is)))))

@@ -221,7 +221,7 @@ gone_unknown packet v k = go packet
     kept w is = subst Gone (sym is) k
 
     cleared : Gone (pair.clears_unknown v).other
-    cleared = cond_both v.reaches _ _ (λ (w : Pair). Gone w.other) (λ _. record { known = k.known; clearing = refl; call = k.call }) (λ _. k)
+    cleared = cond_both v.reaches _ _ (λ (w : Pair). Gone w.other) (λ _. record { known = k.known; clearing = refl; call = refl }) (λ _. k)
 
     hastened : (P : Pair → Pair) → Gone (P v).other → Gone (P (pair.with_own (port.doubted v.own) v)).other → Gone (P (pair.hastens v)).other
     hastened P h j = cond_both (v.own.is_clearing || port.is_calling v.own.call) _ v (λ (w : Pair). Gone (P w).other) (λ _. j) (λ _. h)
@@ -229,16 +229,19 @@ gone_unknown packet v k = go packet
     doubted : (own : Port) → Gone (pair.reaching (port.doubted v.other) (pair.with_own own v)).other
     doubted own = cond_both v.reaches _ _ (λ (w : Pair). Gone w.other) (λ _. record { known = k.known; clearing = k.clearing; call = k.call }) (λ _. k)
 
-    sure_not : pair.is_sure_answer v ≡ false
-    sure_not = rw (k.clearing) refl
+    found : (w : Pair) → Gone w.other → Gone (pair.finds w).other
+    found w k = subst (λ (x : Pair). Gone x.other) (sym (cond-false (pair.is_sure_answer w) _ _ (sure_not w k)))
+        (cond_both w.reaches _ _ (λ (x : Pair). Gone x.other) (λ _. record { known = k.known; clearing = refl; call = k.call }) (λ _. k))
+      where
+        sure_not : (w : Pair) → Gone w.other → pair.is_sure_answer w ≡ false
+        sure_not w k = rw (k.clearing) refl
 
     calling_not : port.is_calling v.other.call ≡ false
     calling_not = ap port.is_calling k.call
 
     go : (packet : PlainPacket) → Gone (sends_unknown packet v).other
     go (clear channel cause diagnostic) = cleared
-    go (clear_conf channel) = subst (λ (w : Pair). Gone w.other) (sym (cond-false (pair.is_sure_answer v) _ _ sure_not))
-        (cond_both v.reaches _ _ (λ (w : Pair). Gone w.other) (λ _. record { known = k.known; clearing = refl; call = k.call }) (λ _. k))
+    go (clear_conf channel) = hastened pair.finds (found v k) (found (pair.with_own (port.doubted v.own) v) k)
     go (call channel called calling facilities user) = hastened (pair.calls_unknown (said facilities usual)) k k
     go (accept channel facilities) =
         subst (λ (w : Pair). Gone w.other)

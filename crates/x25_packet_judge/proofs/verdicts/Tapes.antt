@@ -1,7 +1,7 @@
 -- Why no end in a call is told of in a trace, whatever the other end sends on any channel.
-use Rattle.std.proofs.Common.{◌≡◌, ◌==◌, ◌⊎◌, inl, inr, ℕ, ◌+◌, ◌-◌, ◌<◌, arith, min, Bool, true, false, if◌then◌else◌, List, [], ◌∷◌, ◌++◌, Option, None, refl, sym, ap, ◌∙◌, subst}
+use Rattle.std.proofs.Common.{◌≡◌, ◌==◌, inl, inr, ℕ, ◌+◌, ◌-◌, ◌<◌, arith, min, Bool, true, false, if◌then◌else◌, List, [], ◌∷◌, ◌++◌, Option, None, refl, sym, ap, ◌∙◌, subst}
 use Rattle.std.specs.Prelude.{◌&&◌, ◌||◌, not, is_some, nat_lt}
-use Rattle.std.proofs.lemmas.Bool.{eqb-true, ltb-true, and_parts, and_left, and_right, both_ways, cond_both, cond-true, cond-false}
+use Rattle.std.proofs.lemmas.Bool.{eqb-true, lt-ltb, ltb-true, and_parts, and_left, both_ways, cond_both, cond-true, cond-false}
 use Rattle.x25_bits.specs.declared.role.Role.{Role}
 use Rattle.x25_bits.specs.declared.role.Role.TheVariants.{Dte, Dce}
 use Rattle.x25_packet.specs.Packet.{PlainPacket, call, accept, clear, clear_conf, user_data, rr, rnr, interrupt, interrupt_conf, reset, reset_conf, restart, restart_conf}
@@ -18,18 +18,16 @@ use Rattle.x25_packet_judge.specs.declared.layer.Restart.TheVariants.{Asking, Re
 use Rattle.x25_packet_judge.specs.declared.layers.Layers.{Layers}
 use Rattle.x25_packet_judge.specs.declared.packet_rule.PacketRule.{PacketRule}
 use Rattle.x25_packet_judge.specs.declared.pair.Pair.{Pair}
-use Rattle.x25_packet_judge.specs.declared.port.Call.{Call}
-use Rattle.x25_packet_judge.specs.declared.port.Call.TheVariants.{Idle, Called, Calling, Collided, Answered, Open}
 use Rattle.x25_packet_judge.specs.declared.port.Port.{Port}
 use Rattle.x25_packet_judge.specs.laws.Keeping.{Given, Come, nothing_given, nothing_came, Phase, Talks, Resets, WasReset, WasCleared, WasRestarted, fresh_phase, MayDo, MayEnd, comes, MayTake, IsOfChannel, AreBegun, turned}
 use Rattle.x25_packet_judge.specs.laws.Tape.{all_in_call, IsBook, AreApart, AreRunning, view, MayStand, Begins, Does, DoesApart, Shown, ShownApart, Restarts, Confirms, Comes}
-use Rattle.x25_packet_judge.specs.laws.VerdictClaims.{NoInnocentTapeIsTold, NoEndOfTapeIsTold, TapesBegin}
+use Rattle.x25_packet_judge.specs.laws.VerdictClaims.{NoInnocentTapeIsTold, NoEndOfTapeIsTold, NoRestartOfTapeIsTold, TapesBegin}
 use Rattle.x25_packet_judge.proofs.verdicts.Standing.{tail_of, Behind, Behinds, Any, Level, Away, Gone}
 use Rattle.x25_packet_judge.proofs.verdicts.Stretches.{Talking, Asking as Asked, Waiting}
-use Rattle.x25_packet_judge.proofs.verdicts.Innocents.{Standing, sound_begins, sound_does, standing_shown, standing_restarted, standing_comes, clear_quiet, clear_conf_unknown, sound_ends}
+use Rattle.x25_packet_judge.proofs.verdicts.Innocents.{Standing, sound_begins, sound_does, standing_shown, standing_restarted, standing_comes, sound_ends}
 use Rattle.x25_packet_judge.proofs.verdicts.Books.{put, runs_on, none_yet}
 use Rattle.x25_packet_judge.proofs.verdicts.Parts.{filled, filled_full, layer_at, port_at, Parts, Left, of_channel, takes_on_parts, takes_on_apart, takes_on_any, kept_fills, fills_book, confirms_parts}
-use Rattle.x25_packet_judge.proofs.verdicts.Dark.{Dark, dark_does, dark_shown, sends_reaches}
+use Rattle.x25_packet_judge.proofs.verdicts.Reaching.{sends_reaches}
 
 -- ---- what is noted changes nothing
 
@@ -139,17 +137,11 @@ at_once P O = P.owed == 0 && O.owed == 0
 abbrev pair_at : Role → Layer → Layer → Port → Port → Pair
 pair_at from P O p o = record { from = from; reaches = at_once P O; own = p; other = o; rule = None }
 
--- the channel is dark, and stays so where the other end restarts
-record Out (counted : Bool) (p o : Port) : Type 0 where
-  pub dark : Dark p o
-  pub still : (p.is_known ≡ false) ⊎ (counted ≡ false)
-
 abbrev On : Role → Phase → List PlainPacket → Layer → Layer → Port → Port → Type 0
-On from s way P O p o = Standing (pair_at from P O p o) s way ⊎ Out (P.is_counted && O.is_counted) p o
+On from s way P O p o = Standing (pair_at from P O p o) s way
 
 on_noted : (from : Role) (s : Phase) (way : List PlainPacket) (P O : Layer) (p o : Port) → On from s way P O p o → On from s way P O (port.noted p) (port.noted o)
-on_noted from s way P O p o (inl h) = inl (noted_standing (pair_at from P O p o) s way h)
-on_noted from s way P O p o (inr k) = inr (record { dark = record { known = k.dark.known; unsure = k.dark.unsure; uncalled = k.dark.uncalled }; still = k.still })
+on_noted from s way P O p o h = noted_standing (pair_at from P O p o) s way h
 
 -- the end sends
 record Sent (from : Role) (s : Phase) (way : List PlainPacket) (P O : Layer) (q : Pair) : Type 0 where
@@ -157,20 +149,13 @@ record Sent (from : Role) (s : Phase) (way : List PlainPacket) (P O : Layer) (q 
   pub on : On from s way P O q.own q.other
 
 on_does : (from : Role) (s r : Phase) (way : List PlainPacket) (P O : Layer) (p o : Port) (packet : PlainPacket) → MayDo s packet r → On from s way P O p o → Sent from r way P O (sends packet (pair_at from P O p o))
-on_does from s r way P O p o packet may (inl h) =
+on_does from s r way P O p o packet may h =
     let k = sound_does (pair_at from P O p o) s r way packet may (record { quiet = refl; stands = h }) in
     record {
       quiet = k.quiet;
-      on = inl (subst (λ b. Standing (record { from = from; reaches = b; own = (sends packet (pair_at from P O p o)).own; other = (sends packet (pair_at from P O p o)).other; rule = None }) r way) (sends_reaches packet (pair_at from P O p o))
-          (standing_of from None (sends packet (pair_at from P O p o)) r way k.stands));
+      on = subst (λ b. Standing (record { from = from; reaches = b; own = (sends packet (pair_at from P O p o)).own; other = (sends packet (pair_at from P O p o)).other; rule = None }) r way) (sends_reaches packet (pair_at from P O p o))
+          (standing_of from None (sends packet (pair_at from P O p o)) r way k.stands);
     }
-on_does from s r way P O p o packet may (inr k) =
-    let d = dark_does (pair_at from P O p o) refl k.dark s r packet may in
-    record { quiet = d.quiet; on = inr (record { dark = d.dark; still = go d.same k.still }) }
-  where
-    go : (sends packet (pair_at from P O p o)).own.is_known ≡ p.is_known → (p.is_known ≡ false) ⊎ ((P.is_counted && O.is_counted) ≡ false) → ((sends packet (pair_at from P O p o)).own.is_known ≡ false) ⊎ ((P.is_counted && O.is_counted) ≡ false)
-    go same (inl e) = inl (same ∙ e)
-    go same (inr e) = inr e
 
 -- the other end sends
 and_turned : (a b : Bool) → (a && b) ≡ (b && a)
@@ -181,76 +166,124 @@ and_turned false false = refl
 
 on_shown : (from : Role) (s : Phase) (way : List PlainPacket) (P O : Layer) (p o : Port) (packet : PlainPacket) → IsOfChannel packet → On from s way P O p o
     → On from s (way ++ packet ∷ []) P O (sends packet (pair_at (other from) O P o p)).other (sends packet (pair_at (other from) O P o p)).own
-on_shown from s way P O p o packet is (inl h) =
-    inl (subst (λ b. Standing (record { from = from; reaches = b; own = (sends packet (pair_at (other from) O P o p)).other; other = (sends packet (pair_at (other from) O P o p)).own; rule = None }) s (way ++ packet ∷ [])) (sends_reaches packet (pair_at (other from) O P o p) ∙ and_turned (O.owed == 0) (P.owed == 0))
+on_shown from s way P O p o packet is h =
+    subst (λ b. Standing (record { from = from; reaches = b; own = (sends packet (pair_at (other from) O P o p)).other; other = (sends packet (pair_at (other from) O P o p)).own; rule = None }) s (way ++ packet ∷ [])) (sends_reaches packet (pair_at (other from) O P o p) ∙ and_turned (O.owed == 0) (P.owed == 0))
     (standing_of from None (turned (sends packet (pair_at (other from) O P o p))) s (way ++ packet ∷ [])
     (subst (λ b. Standing (turned (sends packet (record { from = other from; reaches = b; own = o; other = p; rule = None }))) s (way ++ packet ∷ [])) (and_turned (P.owed == 0) (O.owed == 0))
-    (standing_shown (pair_at from P O p o) packet is s way h))))
-on_shown from s way P O p o packet is (inr k) =
-    let d = dark_shown (pair_at (other from) O P o p) k.dark packet in
-    inr (record { dark = d.dark; still = go d.same k.still })
-  where
-    go : (sends packet (pair_at (other from) O P o p)).other.is_known ≡ p.is_known → (p.is_known ≡ false) ⊎ ((P.is_counted && O.is_counted) ≡ false) → ((sends packet (pair_at (other from) O P o p)).other.is_known ≡ false) ⊎ ((P.is_counted && O.is_counted) ≡ false)
-    go same (inl e) = inl (same ∙ e)
-    go same (inr e) = inr e
+    (standing_shown (pair_at from P O p o) packet is s way h)))
 
--- the other end restarts, where restarts are counted
-on_restarted : (from : Role) (s : Phase) (way : List PlainPacket) (P O P2 O2 : Layer) (p o : Port) (cause diagnostic : ℕ) → (P.is_counted && O.is_counted) ≡ true → at_once P2 O2 ≡ false → On from s way P O p o → On from s (way ++ restart cause diagnostic ∷ []) P2 O2 p port.fresh
-on_restarted from s way P O P2 O2 p o cause diagnostic counted parted (inl h) =
-    inl (subst (λ b. Standing (record { from = from; reaches = b; own = p; other = port.fresh; rule = None }) s (way ++ restart cause diagnostic ∷ [])) (sym parted) (standing_restarted (pair_at from P O p o) cause diagnostic s way h))
-on_restarted from s way P O P2 O2 p o cause diagnostic counted parted (inr k) = go k.still
-  where
-    go : (p.is_known ≡ false) ⊎ ((P.is_counted && O.is_counted) ≡ false) → On from s (way ++ restart cause diagnostic ∷ []) P2 O2 p port.fresh
-    go (inl e) = inr (record { dark = record { known = and_left p.is_known _ e; unsure = inr refl; uncalled = k.dark.uncalled }; still = inl e })
-    go (inr e) = absurd (both_ways (P.is_counted && O.is_counted) e counted)
+-- the other end restarts
+on_restarted : (from : Role) (s : Phase) (way : List PlainPacket) (P O P2 O2 : Layer) (p o : Port) (cause diagnostic : ℕ) → at_once P2 O2 ≡ false → On from s way P O p o → On from s (way ++ restart cause diagnostic ∷ []) P2 O2 p port.fresh
+on_restarted from s way P O P2 O2 p o cause diagnostic parted h =
+    subst (λ b. Standing (record { from = from; reaches = b; own = p; other = port.fresh; rule = None }) s (way ++ restart cause diagnostic ∷ [])) (sym parted) (standing_restarted (pair_at from P O p o) cause diagnostic s way h)
 
--- its channels become unknown, and restarts aren't counted
-talks_on : (k : Call) → pair.may_talk_in k ≡ true → port.is_calling k ≡ false
-talks_on Idle up = refl
-talks_on Called up = refl
-talks_on Calling up = absurd (both_ways false refl up)
-talks_on Collided up = refl
-talks_on Answered up = refl
-talks_on Open up = refl
+-- ---- a RESTART of the other end is answered by none yet
 
-module _ (from : Role) (P O P2 O2 : Layer) (p o : Port) (uncounted : (P2.is_counted && O2.is_counted) ≡ false) where
-  out_of : port.is_calling p.call ≡ false → Out (P2.is_counted && O2.is_counted) p port.blank
-  out_of e = record { dark = record { known = and_right p.is_known false refl; unsure = inr refl; uncalled = e }; still = inr uncounted }
+abbrev is_restart : PlainPacket → Bool
+is_restart (restart cause diagnostic) = true
+is_restart packet = false
 
-  gone_out : Gone p → Out (P2.is_counted && O2.is_counted) p port.blank
-  gone_out k = out_of (ap port.is_calling k.call)
+abbrev has_restart : List PlainPacket → Bool
+has_restart [] = false
+has_restart (packet ∷ way) = is_restart packet || has_restart way
 
-  talking_out : (window most : ℕ) (g : Given) (c : Come) (way : List PlainPacket) → Talking window most (pair_at from P O p o) g c way → Out (P2.is_counted && O2.is_counted) p port.blank
-  talking_out window most g c way (inl l) = out_of (talks_on p.call l.go.up)
-  talking_out window most g c way (inr (inl w)) = out_of (talks_on p.call w.go.up)
-  talking_out window most g c way (inr (inr k)) = gone_out k
+abbrev was_restarted : Phase → Bool
+was_restarted WasRestarted = true
+was_restarted s = false
 
-  waiting_out : (window most : ℕ) (way tail : List PlainPacket) → tail_of way ≡ tail → Waiting window most (pair_at from P O p o) tail → On from (Resets window most) way P2 O2 p port.blank
-  waiting_out window most way [] is k = inr (out_of (talks_on p.call k.up))
-  waiting_out window most way (reset channel cause diagnostic ∷ rest) is s = inr (talking_out window most nothing_given nothing_came rest s)
-  waiting_out window most way (reset_conf channel ∷ rest) is s = inr (talking_out window most nothing_given nothing_came rest s)
-  waiting_out window most way (clear channel cause diagnostic ∷ rest) is w = inr (out_of (talks_on p.call w.go.up))
-  waiting_out window most way (restart cause diagnostic ∷ rest) is s = inl (inl (subst (Waiting window most (pair_at from P2 O2 p port.blank)) (sym is) tt))
-  waiting_out window most way (call channel called calling facilities user ∷ rest) is s = absurd s
-  waiting_out window most way (accept channel facilities ∷ rest) is s = absurd s
-  waiting_out window most way (clear_conf channel ∷ rest) is s = absurd s
-  waiting_out window most way (user_data channel q m ps pr user ∷ rest) is s = absurd s
-  waiting_out window most way (rr channel pr ∷ rest) is s = absurd s
-  waiting_out window most way (rnr channel pr ∷ rest) is s = absurd s
-  waiting_out window most way (interrupt channel user ∷ rest) is s = absurd s
-  waiting_out window most way (interrupt_conf channel ∷ rest) is s = absurd s
-  waiting_out window most way (restart_conf ∷ rest) is s = absurd s
+abbrev is_due : Phase → List PlainPacket → Bool
+is_due s way = was_restarted s || has_restart way
 
-  on_blank : (s : Phase) (way : List PlainPacket) → On from s way P O p o → On from s way P2 O2 p port.blank
-  on_blank (Talks window most g c) way (inl s) = inr (talking_out window most g c way s)
-  on_blank (Resets window most) way (inl (inl s)) = waiting_out window most way (tail_of way) refl s
-  on_blank (Resets window most) way (inl (inr k)) = inr (gone_out k)
-  on_blank (WasReset window most) way (inl (inl (g, a, w))) = inr (out_of (talks_on p.call w.go.up))
-  on_blank (WasReset window most) way (inl (inr k)) = inr (gone_out k)
-  on_blank WasCleared way (inl (inl (window, most, g, a, w))) = inr (out_of (talks_on p.call w.go.up))
-  on_blank WasCleared way (inl (inr k)) = inr (gone_out k)
-  on_blank WasRestarted way (inl s) = inl tt
-  on_blank s way (inr k) = inr (out_of k.dark.uncalled)
+restart_more : (way : List PlainPacket) (packet : PlainPacket) → is_restart packet ≡ false → has_restart (way ++ packet ∷ []) ≡ has_restart way
+restart_more [] packet e = ap (λ b. b || false) e
+restart_more (p ∷ way) packet e = ap (λ b. is_restart p || b) (restart_more way packet e)
+
+channel_not : (packet : PlainPacket) → IsOfChannel packet → is_restart packet ≡ false
+channel_not (user_data channel q m ps pr user) is = refl
+channel_not (rr channel pr) is = refl
+channel_not (rnr channel pr) is = refl
+channel_not (interrupt channel user) is = refl
+channel_not (interrupt_conf channel) is = refl
+channel_not (reset channel cause diagnostic) is = refl
+channel_not (reset_conf channel) is = refl
+channel_not (call channel called calling facilities user) is = refl
+channel_not (accept channel facilities) is = refl
+channel_not (clear channel cause diagnostic) is = refl
+channel_not (clear_conf channel) is = refl
+channel_not (restart cause diagnostic) is = absurd is
+channel_not restart_conf is = absurd is
+
+or_later : (a b : Bool) → b ≡ true → (a || b) ≡ true
+or_later true b e = refl
+or_later false b e = e
+
+does_not : (s r : Phase) (packet : PlainPacket) → MayDo s packet r → was_restarted r ≡ false
+does_not (Talks window most g c) r (user_data channel q m ps pr user) (n, may, is) = ap was_restarted is
+does_not (Talks window most g c) r (rr channel pr) (n, may, is) = ap was_restarted is
+does_not (Talks window most g c) r (rnr channel pr) (n, may, is) = ap was_restarted is
+does_not (Talks window most g c) r (interrupt channel user) (n, may, is) = ap was_restarted is
+does_not (Talks window most g c) r (interrupt_conf channel) (n, may, is) = ap was_restarted is
+does_not (Talks window most g c) r (reset channel cause diagnostic) may = ap was_restarted may
+does_not (Talks window most g c) r (reset_conf channel) (n, may, is) = ap was_restarted is
+does_not (Talks window most g c) r (call channel called calling facilities user) (n, may, is) = ap was_restarted is
+does_not (Talks window most g c) r (accept channel facilities) (n, may, is) = ap was_restarted is
+does_not (Talks window most g c) r (clear channel cause diagnostic) (n, may, is) = ap was_restarted is
+does_not (Talks window most g c) r (clear_conf channel) (n, may, is) = ap was_restarted is
+does_not (Talks window most g c) r (restart cause diagnostic) (n, may, is) = ap was_restarted is
+does_not (Talks window most g c) r restart_conf (n, may, is) = ap was_restarted is
+does_not (WasReset window most) r (user_data channel q m ps pr user) may = absurd may
+does_not (WasReset window most) r (rr channel pr) may = absurd may
+does_not (WasReset window most) r (rnr channel pr) may = absurd may
+does_not (WasReset window most) r (interrupt channel user) may = absurd may
+does_not (WasReset window most) r (interrupt_conf channel) may = absurd may
+does_not (WasReset window most) r (reset channel cause diagnostic) may = absurd may
+does_not (WasReset window most) r (reset_conf channel) may = ap was_restarted may
+does_not (WasReset window most) r (call channel called calling facilities user) may = absurd may
+does_not (WasReset window most) r (accept channel facilities) may = absurd may
+does_not (WasReset window most) r (clear channel cause diagnostic) may = absurd may
+does_not (WasReset window most) r (clear_conf channel) may = absurd may
+does_not (WasReset window most) r (restart cause diagnostic) may = absurd may
+does_not (WasReset window most) r restart_conf may = absurd may
+does_not (Resets window most) r packet may = absurd may
+does_not WasCleared r packet may = absurd may
+does_not WasRestarted r packet may = absurd may
+
+does_due : (s r : Phase) (way : List PlainPacket) (packet : PlainPacket) → MayDo s packet r → is_due r way ≡ true → is_due s way ≡ true
+does_due s r way packet may e = or_later (was_restarted s) (has_restart way) (sym (ap (λ b. b || has_restart way) (does_not s r packet may)) ∙ e)
+
+shown_due : (s : Phase) (way : List PlainPacket) (packet : PlainPacket) → IsOfChannel packet → is_due s (way ++ packet ∷ []) ≡ true → is_due s way ≡ true
+shown_due s way packet is e = sym (ap (λ b. was_restarted s || b) (restart_more way packet (channel_not packet is))) ∙ e
+
+comes_due : (s : Phase) (packet : PlainPacket) (way : List PlainPacket) → MayTake s → is_due (comes s packet) way ≡ true → is_due s (packet ∷ way) ≡ true
+comes_due (Talks window most g c) (user_data channel q m ps pr user) way may e = e
+comes_due (Talks window most g c) (rr channel pr) way may e = e
+comes_due (Talks window most g c) (rnr channel pr) way may e = e
+comes_due (Talks window most g c) (interrupt channel user) way may e = e
+comes_due (Talks window most g c) (interrupt_conf channel) way may e = e
+comes_due (Talks window most g c) (reset channel cause diagnostic) way may e = e
+comes_due (Talks window most g c) (reset_conf channel) way may e = e
+comes_due (Talks window most g c) (call channel called calling facilities user) way may e = e
+comes_due (Talks window most g c) (accept channel facilities) way may e = e
+comes_due (Talks window most g c) (clear channel cause diagnostic) way may e = e
+comes_due (Talks window most g c) (clear_conf channel) way may e = e
+comes_due (Talks window most g c) (restart cause diagnostic) way may e = refl
+comes_due (Talks window most g c) restart_conf way may e = e
+comes_due (Resets window most) (user_data channel q m ps pr user) way may e = e
+comes_due (Resets window most) (rr channel pr) way may e = e
+comes_due (Resets window most) (rnr channel pr) way may e = e
+comes_due (Resets window most) (interrupt channel user) way may e = e
+comes_due (Resets window most) (interrupt_conf channel) way may e = e
+comes_due (Resets window most) (reset channel cause diagnostic) way may e = e
+comes_due (Resets window most) (reset_conf channel) way may e = e
+comes_due (Resets window most) (call channel called calling facilities user) way may e = e
+comes_due (Resets window most) (accept channel facilities) way may e = e
+comes_due (Resets window most) (clear channel cause diagnostic) way may e = e
+comes_due (Resets window most) (clear_conf channel) way may e = e
+comes_due (Resets window most) (restart cause diagnostic) way may e = refl
+comes_due (Resets window most) restart_conf way may e = e
+comes_due (WasReset window most) packet way may e = absurd may
+comes_due WasCleared packet way may e = absurd may
+comes_due WasRestarted packet way may e = absurd may
 
 -- ---- what is known of restarts
 
@@ -270,6 +303,7 @@ record Fits (from : Role) (s : Phase) (way : List PlainPacket) (P O : Layer) (p 
   pub uncounted : are_sure P O ≡ false → are_counted P O ≡ false
   pub owed : are_sure P O ≡ true → O.owed ≡ 0
   pub on : are_sure P O ≡ true → On from s way P O p o
+  pub due : are_sure P O ≡ true → is_due s way ≡ true → nat_lt 0 P.owed ≡ true
 
 not_both : {X : Type 0} (b : Bool) → b ≡ false → b ≡ true → X
 not_both b e is = absurd (both_ways b e is)
@@ -283,6 +317,7 @@ lost_fits from s way P O p o ready begun unsure uncounted = record {
   uncounted = λ _. uncounted;
   owed = λ e. not_both (are_sure P O) unsure e;
   on = λ e. not_both (are_sure P O) unsure e;
+  due = λ e _. not_both (are_sure P O) unsure e;
 }
 
 or_turned : (a b : Bool) → (a || b) ≡ (b || a)
@@ -303,27 +338,27 @@ module _ (from : Role) (s : Phase) (way : List PlainPacket) (P O : Layer) (p o :
   asks_not = ap layer.is_asking h.ready
 
   -- the end sends, or the other one does
-  fits_on : (r : Phase) (way2 : List PlainPacket) (p2 o2 : Port) → (are_sure P O ≡ true → On from r way2 P O p2 o2) → Fits from r way2 (at_ready P) O p2 o2
-  fits_on r way2 p2 o2 on = record { ready = refl; begun = h.begun; found = h.found; uncounted = h.uncounted; owed = h.owed; on = on }
+  fits_on : (r : Phase) (way2 : List PlainPacket) (p2 o2 : Port) → (is_due r way2 ≡ true → is_due s way ≡ true) → (are_sure P O ≡ true → On from r way2 P O p2 o2) → Fits from r way2 (at_ready P) O p2 o2
+  fits_on r way2 p2 o2 due on = record { ready = refl; begun = h.begun; found = h.found; uncounted = h.uncounted; owed = h.owed; on = on; due = λ k e. h.due k (due e) }
 
-  fits_theirs : (way2 : List PlainPacket) (p2 o2 : Port) → (are_sure P O ≡ true → On from s way2 P O p2 o2) → Fits from s way2 P (at_ready O) p2 o2
-  fits_theirs way2 p2 o2 on = record { ready = h.ready; begun = refl; found = h.found; uncounted = h.uncounted; owed = h.owed; on = on }
+  fits_theirs : (way2 : List PlainPacket) (p2 o2 : Port) → (is_due s way2 ≡ true → is_due s way ≡ true) → (are_sure P O ≡ true → On from s way2 P O p2 o2) → Fits from s way2 P (at_ready O) p2 o2
+  fits_theirs way2 p2 o2 due on = record { ready = h.ready; begun = refl; found = h.found; uncounted = h.uncounted; owed = h.owed; on = on; due = λ k e. h.due k (due e) }
 
   does_fits : (r : Phase) (packet : PlainPacket) → MayDo s packet r → Fits from r way (at_ready P) O (sends packet (pair_at from P O p o)).own (sends packet (pair_at from P O p o)).other
-  does_fits r packet may = fits_on r way (sends packet (pair_at from P O p o)).own (sends packet (pair_at from P O p o)).other (λ k. (on_does from s r way P O p o packet may (h.on k)).on)
+  does_fits r packet may = fits_on r way (sends packet (pair_at from P O p o)).own (sends packet (pair_at from P O p o)).other (does_due s r way packet may) (λ k. (on_does from s r way P O p o packet may (h.on k)).on)
 
   does_noted : (r : Phase) (packet : PlainPacket) → MayDo s packet r → Fits from r way (at_ready P) O (port.noted (sends packet (pair_at from P O p o)).own) (port.noted (sends packet (pair_at from P O p o)).other)
-  does_noted r packet may = fits_on r way (port.noted (sends packet (pair_at from P O p o)).own) (port.noted (sends packet (pair_at from P O p o)).other)
+  does_noted r packet may = fits_on r way (port.noted (sends packet (pair_at from P O p o)).own) (port.noted (sends packet (pair_at from P O p o)).other) (does_due s r way packet may)
       (λ k. on_noted from r way P O (sends packet (pair_at from P O p o)).own (sends packet (pair_at from P O p o)).other (on_does from s r way P O p o packet may (h.on k)).on)
 
   does_lost : (r : Phase) (p2 o2 : Port) → are_sure P O ≡ false → Fits from r way (at_ready P) O p2 o2
   does_lost r p2 o2 e = lost_fits from r way (at_ready P) O p2 o2 refl h.begun e (h.uncounted e)
 
   shown_fits : (packet : PlainPacket) → IsOfChannel packet → Fits from s (way ++ packet ∷ []) P (at_ready O) (sends packet (pair_at (other from) O P o p)).other (sends packet (pair_at (other from) O P o p)).own
-  shown_fits packet is = fits_theirs (way ++ packet ∷ []) (sends packet (pair_at (other from) O P o p)).other (sends packet (pair_at (other from) O P o p)).own (λ k. on_shown from s way P O p o packet is (h.on k))
+  shown_fits packet is = fits_theirs (way ++ packet ∷ []) (sends packet (pair_at (other from) O P o p)).other (sends packet (pair_at (other from) O P o p)).own (shown_due s way packet is) (λ k. on_shown from s way P O p o packet is (h.on k))
 
   shown_noted : (packet : PlainPacket) → IsOfChannel packet → Fits from s (way ++ packet ∷ []) P (at_ready O) (port.noted (sends packet (pair_at (other from) O P o p)).other) (port.noted (sends packet (pair_at (other from) O P o p)).own)
-  shown_noted packet is = fits_theirs (way ++ packet ∷ []) (port.noted (sends packet (pair_at (other from) O P o p)).other) (port.noted (sends packet (pair_at (other from) O P o p)).own)
+  shown_noted packet is = fits_theirs (way ++ packet ∷ []) (port.noted (sends packet (pair_at (other from) O P o p)).other) (port.noted (sends packet (pair_at (other from) O P o p)).own) (shown_due s way packet is)
       (λ k. on_noted from s (way ++ packet ∷ []) P O (sends packet (pair_at (other from) O P o p)).other (sends packet (pair_at (other from) O P o p)).own (on_shown from s way P O p o packet is (h.on k)))
 
   shown_lost : (way2 : List PlainPacket) (p2 o2 : Port) → are_sure P O ≡ false → Fits from s way2 P (at_ready O) p2 o2
@@ -341,10 +376,10 @@ module _ (from : Role) (s : Phase) (way : List PlainPacket) (P O : Layer) (p o :
       (λ _. lost_fits from s way2 _ _ p2 o2 refl refl refl refl)
       (λ calm. cond_both (layers.is_hasty (theirs P O)) _ _ (λ (T : Layers). Fits from s way2 T.other T.own p2 o2)
       (λ _. lost_fits from s way2 _ _ p2 o2 refl refl refl refl)
-      (λ slow. not_both (layers.runs_early (theirs P O)) (neither (layers.is_awaiting (theirs P O)) (layers.is_hasty (theirs P O)) (layer.is_begun O.restart) calm slow h.begun) early))
+      (λ slow. not_both (layers.runs_early (theirs P O)) (neither (layers.is_awaiting (theirs P O)) (layers.is_hasty (theirs P O)) calm slow) early))
     where
-      neither : (a b c : Bool) → a ≡ false → b ≡ false → c ≡ false → (a || (b || c)) ≡ false
-      neither a b c x y z = rw (x, y, z) refl
+      neither : (a b : Bool) → a ≡ false → b ≡ false → (a || b) ≡ false
+      neither a b x y = rw (x, y) refl
 
   -- RESTART
   abbrev Restarted : ℕ → ℕ → Layers → Type 0
@@ -362,16 +397,20 @@ module _ (from : Role) (s : Phase) (way : List PlainPacket) (P O : Layer) (p o :
         found = h.found;
         uncounted = h.uncounted;
         owed = h.owed;
-        on = λ e. on_restarted from s way P O (layer.asked_again P) O p o cause diagnostic (counts counted) (and_left (P.owed == 0) _ (some P.owed (ltb-true 0 P.owed (and_parts _ (nat_lt 0 P.owed) (and_parts (layer.is_asking O.restart) _ awaits).1).1))) (h.on e);
+        on = λ e. on_restarted from s way P O (layer.asked_again P) O p o cause diagnostic (and_left (P.owed == 0) _ (some P.owed (ltb-true 0 P.owed (and_parts _ (nat_lt 0 P.owed) (and_parts (layer.is_asking O.restart) _ awaits).1).1))) (h.on e);
+        due = λ _ _. (and_parts _ (nat_lt 0 P.owed) (and_parts (layer.is_asking O.restart) _ awaits).1).1;
       })
+      (λ _. cond_both (layers.is_unclear (theirs P O)) _ _ (Restarted cause diagnostic)
+      (λ _. lost_fits from s (way ++ restart cause diagnostic ∷ []) _ _ p port.fresh refl refl refl refl)
       (λ _. record {
         ready = h.ready;
         begun = refl;
         found = h.found;
         uncounted = h.uncounted;
         owed = λ e. ap (λ n. n - 1) (h.owed e);
-        on = λ e. on_restarted from s way P O (layer.owing (O.owed == 0) P) (layer.restarted Asking O) p o cause diagnostic (counts counted) (and_left ((layer.owing (O.owed == 0) P).owed == 0) _ (ap (λ b. (if b then min (P.owed + 1) 255 else P.owed) == 0) (ap (λ n. n == 0) (h.owed e)) ∙ more P.owed)) (h.on e);
-      })))
+        on = λ e. on_restarted from s way P O (layer.owing (O.owed == 0) P) (layer.restarted Asking O) p o cause diagnostic (and_left ((layer.owing (O.owed == 0) P).owed == 0) _ (ap (λ b. (if b then min (P.owed + 1) 255 else P.owed) == 0) (ap (λ n. n == 0) (h.owed e)) ∙ more P.owed)) (h.on e);
+        due = λ e _. ap (λ b. nat_lt 0 (if b then min (P.owed + 1) 255 else P.owed)) (ap (λ n. n == 0) (h.owed e)) ∙ lt-ltb 0 (min (P.owed + 1) 255) (one P.owed);
+      }))))
     where
       unsure : layers.are_lost (theirs P O) ≡ true → are_sure P O ≡ false
       unsure lost = go (are_sure P O) refl
@@ -379,13 +418,6 @@ module _ (from : Role) (s : Phase) (way : List PlainPacket) (P O : Layer) (p o :
           go : (b : Bool) → are_sure P O ≡ b → are_sure P O ≡ false
           go true e = not_both (are_lost P O) (h.found e) (or_turned P.is_lost O.is_lost ∙ lost)
           go false e = e
-
-      counts : not (layers.are_counted (theirs P O)) ≡ false → (P.is_counted && O.is_counted) ≡ true
-      counts e = and_turned P.is_counted O.is_counted ∙ back (layers.are_counted (theirs P O)) e
-        where
-          back : (x : Bool) → not x ≡ false → x ≡ true
-          back true e = refl
-          back false e = absurd (both_ways true e refl)
 
       some : (n : ℕ) → 0 < n → (n == 0) ≡ false
       some n due = not_true2 (n == 0) (λ e. none n due (eqb-true n 0 e))
@@ -397,11 +429,11 @@ module _ (from : Role) (s : Phase) (way : List PlainPacket) (P O : Layer) (p o :
           not_true2 true never = absurd (never refl)
           not_true2 false never = refl
 
+      one : (n : ℕ) → 0 < min (n + 1) 255
+      one n = omega arith
+
       more : (n : ℕ) → (min (n + 1) 255 == 0) ≡ false
       more n = some (min (n + 1) 255) (one n)
-        where
-          one : (n : ℕ) → 0 < min (n + 1) 255
-          one n = omega arith
 
   -- its confirmation, that answers none
   sure_answer_not : layers.is_sure_answer (theirs P O) ≡ false
@@ -429,18 +461,17 @@ module _ (from : Role) (s : Phase) (way : List PlainPacket) (P O : Layer) (p o :
   confirms_lost_fits : layers.are_lost (theirs P O) ≡ true → Fits from s way (layers.confirms_lost (theirs P O)).other (layers.confirms_lost (theirs P O)).own p o
   confirms_lost_fits lost = lost_fits from s way _ _ p o refl refl (lost_unsure lost) (h.uncounted (lost_unsure lost))
 
-  opened_fits : (P2 O2 : Layer) (o2 : Port) → P2.restart ≡ Ready → O2.restart ≡ Ready → are_lost P2 O2 ≡ false → are_counted P2 O2 ≡ false → are_sure P2 O2 ≡ true → O2.owed ≡ 0 → On from s way P2 O2 p o2 → Fits from s way P2 O2 p o2
-  opened_fits P2 O2 o2 ready begun found uncounted sure owed on = record { ready = ready; begun = ap layer.is_begun begun; found = λ _. found; uncounted = λ _. uncounted; owed = λ _. owed; on = λ _. on }
-
-  again_fits : layers.are_lost (theirs P O) ≡ false → layers.are_counted (theirs P O) ≡ true → Fits from s way (layers.confirms_again (theirs P O)).other (layers.confirms_again (theirs P O)).own p port.blank
-  again_fits found counted = opened_fits (layers.confirms_again (theirs P O)).other (layers.confirms_again (theirs P O)).own port.blank refl refl (or_turned P.is_lost O.is_lost ∙ found) refl refl refl (on_blank from P O (layers.confirms_again (theirs P O)).other (layers.confirms_again (theirs P O)).own p o refl s way (h.on (counted_sure counted)))
+  again_fits : layers.are_lost (theirs P O) ≡ false → layers.are_counted (theirs P O) ≡ true → Fits from s way (layers.confirms_again (theirs P O)).other (layers.confirms_again (theirs P O)).own p o
+  again_fits found counted = cond_both (layer.is_confirmed O.restart) _ _ (λ (T : Layers). Fits from s way (layers.strays T).other (layers.strays T).own p o)
+      (λ _. record { ready = h.ready; begun = h.begun; found = h.found; uncounted = h.uncounted; owed = h.owed; on = h.on; due = h.due })
+      (λ _. lost_fits from s way _ _ p o refl refl refl refl)
 
   unseen_counted : layers.are_lost (theirs P O) ≡ false → layers.are_counted (theirs P O) ≡ true → Fits from s way (layers.confirms_unseen (theirs P O)).other (layers.confirms_unseen (theirs P O)).own p port.blank
   unseen_counted found counted = subst (λ (T : Layers). Fits from s way T.other T.own p port.blank) (sym (cond-true (layers.are_counted (theirs P O)) _ _ counted)) (lost_fits from s way _ _ p port.blank refl refl refl refl)
 
   unseen_uncounted : layers.are_counted (theirs P O) ≡ false → Fits from s way (layers.confirms_unseen (theirs P O)).other (layers.confirms_unseen (theirs P O)).own p o
   unseen_uncounted uncounted = subst (λ (T : Layers). Fits from s way T.other T.own p o) (sym (cond-false (layers.are_counted (theirs P O)) _ _ uncounted))
-      (record { ready = h.ready; begun = refl; found = h.found; uncounted = h.uncounted; owed = h.owed; on = h.on })
+      (record { ready = h.ready; begun = refl; found = h.found; uncounted = h.uncounted; owed = h.owed; on = h.on; due = h.due })
 
 -- ---- the book
 
@@ -450,11 +481,11 @@ At from channel s way b = Left from channel (Fits from s way) b
 early_not : (t : Layers) → t.own.restart ≡ Ready → layers.runs_early t ≡ false
 early_not t ready = rw ready refl
 
-runs_calm : (from : Role) (channel : ℕ) (packet : PlainPacket) (b : Book) → IsOfChannel packet → layers.runs_early (layers_of from b) ≡ false → book.takes from channel packet b ≡ book.takes_on from (layers.goes_to Ready (layers_of from b)) channel packet b
+runs_calm : (from : Role) (channel : ℕ) (packet : PlainPacket) (b : Book) → IsOfChannel packet → layer.is_begun (layers_of from b).own.restart ≡ false → layers.runs_early (layers_of from b) ≡ false → book.takes from channel packet b ≡ book.takes_on from (layers.goes_to Ready (layers_of from b)) channel packet b
 unfolding book.runs
-runs_calm from channel packet b is early = of_channel from channel packet b is
+runs_calm from channel packet b is begun early = of_channel from channel packet b is
     ∙ cond-false (layers.runs_early (layers_of from b)) _ (book.takes_on from (layers.runs (layers_of from b)) channel packet b) early
-    ∙ ap (λ (t : Layers). book.takes_on from t channel packet b) (runs_on (layers_of from b) early)
+    ∙ ap (λ (t : Layers). book.takes_on from t channel packet b) (runs_on (layers_of from b) begun early)
 
 runs_haste : (from : Role) (channel : ℕ) (packet : PlainPacket) (b : Book) → IsOfChannel packet → layers.runs_early (layers_of from b) ≡ true → book.takes from channel packet b ≡ book.takes_on from (layers.runs (layers_of from b)) channel packet (fills from port.blank b)
 unfolding book.runs
@@ -484,10 +515,10 @@ may_of (WasReset window most) r restart_conf may = absurd may
 may_of WasCleared r restart_conf may = absurd may
 may_of WasRestarted r restart_conf may = absurd may
 
-untold : (from : Role) (channel : ℕ) (b : Book) (packet : PlainPacket) → IsOfChannel packet → layers.runs_early (layers_of from b) ≡ false
+untold : (from : Role) (channel : ℕ) (b : Book) (packet : PlainPacket) → IsOfChannel packet → layer.is_begun (layers_of from b).own.restart ≡ false → layers.runs_early (layers_of from b) ≡ false
     → (layers.are_sure (layers_of from b) ≡ true → (sends packet (view from channel b)).rule ≡ None) → (book.takes from channel packet b).verdict.rule ≡ None
 unfolding book.takes_on
-untold from channel b packet is early quiet = ap (λ (z : book.Seen). z.verdict.rule) (runs_calm from channel packet b is early ∙ cond-false (is_some (layers_of from b).rule) _ _ (ap (λ (r : Option PacketRule). is_some r) (none_yet from b)))
+untold from channel b packet is begun early quiet = ap (λ (z : book.Seen). z.verdict.rule) (runs_calm from channel packet b is begun early ∙ cond-false (is_some (layers_of from b).rule) _ _ (ap (λ (r : Option PacketRule). is_some r) (none_yet from b)))
     ∙ cond_both (not (layers.are_sure (layers_of from b))) _ _ (λ (z : book.Seen). z.verdict.rule ≡ None)
     (λ _. refl)
     (λ e. put from channel (sends packet (view from channel b)) _ ∙ quiet (back (layers.are_sure (layers_of from b)) e))
@@ -516,10 +547,7 @@ may_end s (restart cause diagnostic) may = absurd may
 may_end s restart_conf may = absurd may
 
 on_ends : (from : Role) (s : Phase) (way : List PlainPacket) (P O : Layer) (p o : Port) (packet : PlainPacket) → MayEnd s packet → On from s way P O p o → (sends packet (pair_at from P O p o)).rule ≡ None
-on_ends from s way P O p o packet may (inl h) = sound_ends (pair_at from P O p o) s way packet refl h may
-on_ends from s way P O p o (clear channel cause diagnostic) may (inr k) = clear_quiet (pair_at from P O p o) channel cause diagnostic refl
-on_ends from WasCleared way P O p o (clear_conf channel) may (inr k) = clear_conf_unknown (pair_at from P O p o) channel refl k.dark.known
-on_ends from s way P O p o packet may (inr k) = absurd may
+on_ends from s way P O p o packet may h = sound_ends (pair_at from P O p o) s way packet refl h may
 
 module _ (channel : ℕ) (b : Book) (s : Phase) (way : List PlainPacket) where
   -- seen from the other end
@@ -534,13 +562,13 @@ module _ (channel : ℕ) (b : Book) (s : Phase) (way : List PlainPacket) where
 
   does_at : (from : Role) (r : Phase) (packet : PlainPacket) → MayDo s packet r → At from channel s way b → At from channel r way (book.takes from channel packet b).book
   does_at Dte r packet may x =
-      subst (λ (z : book.Seen). At Dte channel r way z.book) (sym (runs_calm Dte channel packet b (may_of s r packet may) (early_not (layers_of Dte b) x.parts.ready)))
+      subst (λ (z : book.Seen). At Dte channel r way z.book) (sym (runs_calm Dte channel packet b (may_of s r packet may) (ap layer.is_begun x.parts.ready) (early_not (layers_of Dte b) x.parts.ready)))
       (takes_on_parts Dte channel (layers.goes_to Ready (layers_of Dte b)) packet b (Fits Dte r way) x.book refl
       (λ e. does_lost Dte s way b.dte b.dce (port_at Dte channel b) (port_at Dce channel b) x.parts r (port.noted (port_at Dte channel b)) (port.noted (port_at Dce channel b)) e)
       (λ _. does_fits Dte s way b.dte b.dce (port_at Dte channel b) (port_at Dce channel b) x.parts r packet may)
       (λ _. does_noted Dte s way b.dte b.dce (port_at Dte channel b) (port_at Dce channel b) x.parts r packet may))
   does_at Dce r packet may x =
-      subst (λ (z : book.Seen). At Dce channel r way z.book) (sym (runs_calm Dce channel packet b (may_of s r packet may) (early_not (layers_of Dce b) x.parts.ready)))
+      subst (λ (z : book.Seen). At Dce channel r way z.book) (sym (runs_calm Dce channel packet b (may_of s r packet may) (ap layer.is_begun x.parts.ready) (early_not (layers_of Dce b) x.parts.ready)))
       (takes_on_parts Dce channel (layers.goes_to Ready (layers_of Dce b)) packet b (Fits Dce r way) x.book refl
       (λ e. does_lost Dce s way b.dce b.dte (port_at Dce channel b) (port_at Dte channel b) x.parts r (port.noted (port_at Dce channel b)) (port.noted (port_at Dte channel b)) e)
       (λ _. does_fits Dce s way b.dce b.dte (port_at Dce channel b) (port_at Dte channel b) x.parts r packet may)
@@ -548,17 +576,17 @@ module _ (channel : ℕ) (b : Book) (s : Phase) (way : List PlainPacket) where
 
   does_apart : (from : Role) (two : ℕ) (packet : PlainPacket) → IsOfChannel packet → AreApart channel two → At from channel s way b → At from channel s way (book.takes from two packet b).book
   does_apart Dte two packet is far x =
-      subst (λ (z : book.Seen). At Dte channel s way z.book) (sym (runs_calm Dte two packet b is (early_not (layers_of Dte b) x.parts.ready)))
-      (takes_on_apart Dte channel two (layers.goes_to Ready (layers_of Dte b)) packet b (Fits Dte s way) far x.book (fits_on Dte s way b.dte b.dce (port_at Dte channel b) (port_at Dce channel b) x.parts s way (port_at Dte channel b) (port_at Dce channel b) x.parts.on))
+      subst (λ (z : book.Seen). At Dte channel s way z.book) (sym (runs_calm Dte two packet b is (ap layer.is_begun x.parts.ready) (early_not (layers_of Dte b) x.parts.ready)))
+      (takes_on_apart Dte channel two (layers.goes_to Ready (layers_of Dte b)) packet b (Fits Dte s way) far x.book (fits_on Dte s way b.dte b.dce (port_at Dte channel b) (port_at Dce channel b) x.parts s way (port_at Dte channel b) (port_at Dce channel b) (λ e. e) x.parts.on))
   does_apart Dce two packet is far x =
-      subst (λ (z : book.Seen). At Dce channel s way z.book) (sym (runs_calm Dce two packet b is (early_not (layers_of Dce b) x.parts.ready)))
-      (takes_on_apart Dce channel two (layers.goes_to Ready (layers_of Dce b)) packet b (Fits Dce s way) far x.book (fits_on Dce s way b.dce b.dte (port_at Dce channel b) (port_at Dte channel b) x.parts s way (port_at Dce channel b) (port_at Dte channel b) x.parts.on))
+      subst (λ (z : book.Seen). At Dce channel s way z.book) (sym (runs_calm Dce two packet b is (ap layer.is_begun x.parts.ready) (early_not (layers_of Dce b) x.parts.ready)))
+      (takes_on_apart Dce channel two (layers.goes_to Ready (layers_of Dce b)) packet b (Fits Dce s way) far x.book (fits_on Dce s way b.dce b.dte (port_at Dce channel b) (port_at Dte channel b) x.parts s way (port_at Dce channel b) (port_at Dte channel b) (λ e. e) x.parts.on))
 
   shown_at : (from : Role) (packet : PlainPacket) → IsOfChannel packet → At from channel s way b → At from channel s (way ++ packet ∷ []) (book.takes (other from) channel packet b).book
   shown_at Dte packet is x = cond_both (layers.runs_early (layers_of Dce b)) true false (λ (early : Bool). layers.runs_early (layers_of Dce b) ≡ early → At Dte channel s (way ++ packet ∷ []) (book.takes Dce channel packet b).book)
       (λ _ early. as_dte (way ++ packet ∷ []) _ (subst (λ (z : book.Seen). Left Dce channel (Theirs Dte (way ++ packet ∷ [])) z.book) (sym (runs_haste Dce channel packet b is early))
       (takes_on_any Dce channel channel (layers.runs (layers_of Dce b)) packet (fills Dce port.blank b) (Theirs Dte (way ++ packet ∷ [])) (fills_book Dce port.blank b x.book) (λ o2 p2. early_fits Dte s way b.dte b.dce (port_at Dte channel b) (port_at Dce channel b) x.parts early (way ++ packet ∷ []) p2 o2))))
-      (λ _ early. as_dte (way ++ packet ∷ []) _ (subst (λ (z : book.Seen). Left Dce channel (Theirs Dte (way ++ packet ∷ [])) z.book) (sym (runs_calm Dce channel packet b is early))
+      (λ _ early. as_dte (way ++ packet ∷ []) _ (subst (λ (z : book.Seen). Left Dce channel (Theirs Dte (way ++ packet ∷ [])) z.book) (sym (runs_calm Dce channel packet b is x.parts.begun early))
       (takes_on_parts Dce channel (layers.goes_to Ready (layers_of Dce b)) packet b (Theirs Dte (way ++ packet ∷ [])) x.book refl
       (λ e. shown_lost Dte s way b.dte b.dce (port_at Dte channel b) (port_at Dce channel b) x.parts (way ++ packet ∷ []) (port.noted (port_at Dte channel b)) (port.noted (port_at Dce channel b)) (unsure_so Dte s way b.dte b.dce (port_at Dte channel b) (port_at Dce channel b) x.parts e))
       (λ _. shown_fits Dte s way b.dte b.dce (port_at Dte channel b) (port_at Dce channel b) x.parts packet is)
@@ -567,7 +595,7 @@ module _ (channel : ℕ) (b : Book) (s : Phase) (way : List PlainPacket) where
   shown_at Dce packet is x = cond_both (layers.runs_early (layers_of Dte b)) true false (λ (early : Bool). layers.runs_early (layers_of Dte b) ≡ early → At Dce channel s (way ++ packet ∷ []) (book.takes Dte channel packet b).book)
       (λ _ early. as_dce (way ++ packet ∷ []) _ (subst (λ (z : book.Seen). Left Dte channel (Theirs Dce (way ++ packet ∷ [])) z.book) (sym (runs_haste Dte channel packet b is early))
       (takes_on_any Dte channel channel (layers.runs (layers_of Dte b)) packet (fills Dte port.blank b) (Theirs Dce (way ++ packet ∷ [])) (fills_book Dte port.blank b x.book) (λ o2 p2. early_fits Dce s way b.dce b.dte (port_at Dce channel b) (port_at Dte channel b) x.parts early (way ++ packet ∷ []) p2 o2))))
-      (λ _ early. as_dce (way ++ packet ∷ []) _ (subst (λ (z : book.Seen). Left Dte channel (Theirs Dce (way ++ packet ∷ [])) z.book) (sym (runs_calm Dte channel packet b is early))
+      (λ _ early. as_dce (way ++ packet ∷ []) _ (subst (λ (z : book.Seen). Left Dte channel (Theirs Dce (way ++ packet ∷ [])) z.book) (sym (runs_calm Dte channel packet b is x.parts.begun early))
       (takes_on_parts Dte channel (layers.goes_to Ready (layers_of Dte b)) packet b (Theirs Dce (way ++ packet ∷ [])) x.book refl
       (λ e. shown_lost Dce s way b.dce b.dte (port_at Dce channel b) (port_at Dte channel b) x.parts (way ++ packet ∷ []) (port.noted (port_at Dce channel b)) (port.noted (port_at Dte channel b)) (unsure_so Dce s way b.dce b.dte (port_at Dce channel b) (port_at Dte channel b) x.parts e))
       (λ _. shown_fits Dce s way b.dce b.dte (port_at Dce channel b) (port_at Dte channel b) x.parts packet is)
@@ -578,14 +606,14 @@ module _ (channel : ℕ) (b : Book) (s : Phase) (way : List PlainPacket) where
   shown_apart Dte two packet is far x = cond_both (layers.runs_early (layers_of Dce b)) true false (λ (early : Bool). layers.runs_early (layers_of Dce b) ≡ early → At Dte channel s way (book.takes Dce two packet b).book)
       (λ _ early. as_dte way _ (subst (λ (z : book.Seen). Left Dce channel (Theirs Dte way) z.book) (sym (runs_haste Dce two packet b is early))
       (takes_on_any Dce channel two (layers.runs (layers_of Dce b)) packet (fills Dce port.blank b) (Theirs Dte way) (fills_book Dce port.blank b x.book) (λ o2 p2. early_fits Dte s way b.dte b.dce (port_at Dte channel b) (port_at Dce channel b) x.parts early way p2 o2))))
-      (λ _ early. as_dte way _ (subst (λ (z : book.Seen). Left Dce channel (Theirs Dte way) z.book) (sym (runs_calm Dce two packet b is early))
-      (takes_on_apart Dce channel two (layers.goes_to Ready (layers_of Dce b)) packet b (Theirs Dte way) far x.book (fits_theirs Dte s way b.dte b.dce (port_at Dte channel b) (port_at Dce channel b) x.parts way (port_at Dte channel b) (port_at Dce channel b) x.parts.on))))
+      (λ _ early. as_dte way _ (subst (λ (z : book.Seen). Left Dce channel (Theirs Dte way) z.book) (sym (runs_calm Dce two packet b is x.parts.begun early))
+      (takes_on_apart Dce channel two (layers.goes_to Ready (layers_of Dce b)) packet b (Theirs Dte way) far x.book (fits_theirs Dte s way b.dte b.dce (port_at Dte channel b) (port_at Dce channel b) x.parts way (port_at Dte channel b) (port_at Dce channel b) (λ e. e) x.parts.on))))
       (bool_self (layers.runs_early (layers_of Dce b)))
   shown_apart Dce two packet is far x = cond_both (layers.runs_early (layers_of Dte b)) true false (λ (early : Bool). layers.runs_early (layers_of Dte b) ≡ early → At Dce channel s way (book.takes Dte two packet b).book)
       (λ _ early. as_dce way _ (subst (λ (z : book.Seen). Left Dte channel (Theirs Dce way) z.book) (sym (runs_haste Dte two packet b is early))
       (takes_on_any Dte channel two (layers.runs (layers_of Dte b)) packet (fills Dte port.blank b) (Theirs Dce way) (fills_book Dte port.blank b x.book) (λ o2 p2. early_fits Dce s way b.dce b.dte (port_at Dce channel b) (port_at Dte channel b) x.parts early way p2 o2))))
-      (λ _ early. as_dce way _ (subst (λ (z : book.Seen). Left Dte channel (Theirs Dce way) z.book) (sym (runs_calm Dte two packet b is early))
-      (takes_on_apart Dte channel two (layers.goes_to Ready (layers_of Dte b)) packet b (Theirs Dce way) far x.book (fits_theirs Dce s way b.dce b.dte (port_at Dce channel b) (port_at Dte channel b) x.parts way (port_at Dce channel b) (port_at Dte channel b) x.parts.on))))
+      (λ _ early. as_dce way _ (subst (λ (z : book.Seen). Left Dte channel (Theirs Dce way) z.book) (sym (runs_calm Dte two packet b is x.parts.begun early))
+      (takes_on_apart Dte channel two (layers.goes_to Ready (layers_of Dte b)) packet b (Theirs Dce way) far x.book (fits_theirs Dce s way b.dce b.dte (port_at Dce channel b) (port_at Dte channel b) x.parts way (port_at Dce channel b) (port_at Dte channel b) (λ e. e) x.parts.on))))
       (bool_self (layers.runs_early (layers_of Dte b)))
 
   restarts_at : (from : Role) (cause diagnostic : ℕ) → At from channel s way b → At from channel s (way ++ restart cause diagnostic ∷ []) (book.takes (other from) 0 (restart cause diagnostic) b).book
@@ -607,34 +635,33 @@ module _ (channel : ℕ) (b : Book) (s : Phase) (way : List PlainPacket) where
       (λ found uncounted. unseen_uncounted Dce s way b.dce b.dte (port_at Dce channel b) (port_at Dte channel b) x.parts uncounted))
 
   quiet_at : (from : Role) (r : Phase) (packet : PlainPacket) → MayDo s packet r → At from channel s way b → (book.takes from channel packet b).verdict.rule ≡ None
-  quiet_at Dte r packet may x = untold Dte channel b packet (may_of s r packet may) (early_not (layers_of Dte b) x.parts.ready) (λ e. (on_does Dte s r way b.dte b.dce (port_at Dte channel b) (port_at Dce channel b) packet may (x.parts.on e)).quiet)
-  quiet_at Dce r packet may x = untold Dce channel b packet (may_of s r packet may) (early_not (layers_of Dce b) x.parts.ready) (λ e. (on_does Dce s r way b.dce b.dte (port_at Dce channel b) (port_at Dte channel b) packet may (x.parts.on e)).quiet)
+  quiet_at Dte r packet may x = untold Dte channel b packet (may_of s r packet may) (ap layer.is_begun x.parts.ready) (early_not (layers_of Dte b) x.parts.ready) (λ e. (on_does Dte s r way b.dte b.dce (port_at Dte channel b) (port_at Dce channel b) packet may (x.parts.on e)).quiet)
+  quiet_at Dce r packet may x = untold Dce channel b packet (may_of s r packet may) (ap layer.is_begun x.parts.ready) (early_not (layers_of Dce b) x.parts.ready) (λ e. (on_does Dce s r way b.dce b.dte (port_at Dce channel b) (port_at Dte channel b) packet may (x.parts.on e)).quiet)
 
   end_at : (from : Role) (packet : PlainPacket) → MayEnd s packet → At from channel s way b → (book.takes from channel packet b).verdict.rule ≡ None
-  end_at Dte packet may x = untold Dte channel b packet (may_end s packet may) (early_not (layers_of Dte b) x.parts.ready) (λ e. on_ends Dte s way b.dte b.dce (port_at Dte channel b) (port_at Dce channel b) packet may (x.parts.on e))
-  end_at Dce packet may x = untold Dce channel b packet (may_end s packet may) (early_not (layers_of Dce b) x.parts.ready) (λ e. on_ends Dce s way b.dce b.dte (port_at Dce channel b) (port_at Dte channel b) packet may (x.parts.on e))
+  end_at Dte packet may x = untold Dte channel b packet (may_end s packet may) (ap layer.is_begun x.parts.ready) (early_not (layers_of Dte b) x.parts.ready) (λ e. on_ends Dte s way b.dte b.dce (port_at Dte channel b) (port_at Dce channel b) packet may (x.parts.on e))
+  end_at Dce packet may x = untold Dce channel b packet (may_end s packet may) (ap layer.is_begun x.parts.ready) (early_not (layers_of Dce b) x.parts.ready) (λ e. on_ends Dce s way b.dce b.dte (port_at Dce channel b) (port_at Dte channel b) packet may (x.parts.on e))
 
 -- ---- any run
 
 begins_at : (from : Role) (channel window most : ℕ) (b : Book) → IsBook b → AreRunning (layers_of from b) → AreBegun window most (view from channel b) → At from channel (fresh_phase window most) [] b
 begins_at Dte channel window most b full run begun = record {
   book = full;
-  parts = record { ready = run.ready; begun = run.begun; found = λ _. run.found; uncounted = λ e. not_both (are_sure b.dte b.dce) e run.sure; owed = λ _. eqb-true b.dce.owed 0 (and_parts (b.dte.owed == 0) (b.dce.owed == 0) begun.reaches).1; on = λ _. inl (sound_begins window most (view Dte channel b) begun).stands };
+  parts = record { ready = run.ready; begun = run.begun; found = λ _. run.found; uncounted = λ e. not_both (are_sure b.dte b.dce) e run.sure; owed = λ _. eqb-true b.dce.owed 0 (and_parts (b.dte.owed == 0) (b.dce.owed == 0) begun.reaches).1; on = λ _. (sound_begins window most (view Dte channel b) begun).stands; due = λ _ e. absurd (both_ways false refl e) };
 }
 begins_at Dce channel window most b full run begun = record {
   book = full;
-  parts = record { ready = run.ready; begun = run.begun; found = λ _. run.found; uncounted = λ e. not_both (are_sure b.dce b.dte) e run.sure; owed = λ _. eqb-true b.dte.owed 0 (and_parts (b.dce.owed == 0) (b.dte.owed == 0) begun.reaches).1; on = λ _. inl (sound_begins window most (view Dce channel b) begun).stands };
+  parts = record { ready = run.ready; begun = run.begun; found = λ _. run.found; uncounted = λ e. not_both (are_sure b.dce b.dte) e run.sure; owed = λ _. eqb-true b.dte.owed 0 (and_parts (b.dce.owed == 0) (b.dte.owed == 0) begun.reaches).1; on = λ _. (sound_begins window most (view Dce channel b) begun).stands; due = λ _ e. absurd (both_ways false refl e) };
 }
 
 comes_at : (from : Role) (channel : ℕ) (b : Book) (s : Phase) (packet : PlainPacket) (way : List PlainPacket) → MayTake s → At from channel s (packet ∷ way) b → At from channel (comes s packet) way b
 comes_at from channel b s packet way may x = record {
   book = x.book;
-  parts = record { ready = x.parts.ready; begun = x.parts.begun; found = x.parts.found; uncounted = x.parts.uncounted; owed = x.parts.owed; on = λ e. go (x.parts.on e) };
+  parts = record { ready = x.parts.ready; begun = x.parts.begun; found = x.parts.found; uncounted = x.parts.uncounted; owed = x.parts.owed; on = λ e. go (x.parts.on e); due = λ k e. x.parts.due k (comes_due s packet way may e) };
 }
   where
     go : On from s (packet ∷ way) (layer_at from b) (layer_at (other from) b) (port_at from channel b) (port_at (other from) channel b) → On from (comes s packet) way (layer_at from b) (layer_at (other from) b) (port_at from channel b) (port_at (other from) channel b)
-    go (inl h) = inl (standing_comes (pair_at from (layer_at from b) (layer_at (other from) b) (port_at from channel b) (port_at (other from) channel b)) way s packet may h)
-    go (inr k) = inr k
+    go h = standing_comes (pair_at from (layer_at from b) (layer_at (other from) b) (port_at from channel b) (port_at (other from) channel b)) way s packet may h
 
 runs_at : (from : Role) (channel : ℕ) (b : Book) (s : Phase) (way : List PlainPacket) → MayStand from channel b s way → At from channel s way b
 runs_at from channel _ _ _ (Begins window most b full run begun) = begins_at from channel window most b full run begun
@@ -651,6 +678,42 @@ no_innocent_tape_is_told from channel b s r way packet stands may = quiet_at cha
 
 pub no_end_of_tape_is_told : NoEndOfTapeIsTold
 no_end_of_tape_is_told from channel b s way packet stands may = end_at channel b s way from packet may (runs_at from channel b s way stands)
+
+restarts_untold : (t : Layers) → t.rule ≡ None → (layers.restarts t).rule ≡ None
+restarts_untold t quiet = cond_both (layers.are_lost t) _ _ (λ (x : Layers). x.rule ≡ None) (λ _. quiet)
+    (λ _. cond_both (not (layers.are_counted t)) _ _ (λ (x : Layers). x.rule ≡ None)
+    (λ _. cond_both (layer.is_asking t.other.restart) _ _ (λ (x : Layers). x.rule ≡ None) (λ _. quiet) (λ _. quiet))
+    (λ _. cond_both (layers.is_awaiting t) _ _ (λ (x : Layers). x.rule ≡ None) (λ _. quiet)
+    (λ _. cond_both (layers.is_unclear t) _ _ (λ (x : Layers). x.rule ≡ None) (λ _. quiet) (λ _. quiet))))
+
+confirms_untold : (from : Role) (t : Layers) (b : Book) → t.rule ≡ None → (layers.are_counted t ≡ true → nat_lt 0 t.own.owed ≡ true) → (book.confirms from t b).verdict.rule ≡ None
+unfolding book.confirms book.restarts
+confirms_untold from t b quiet due = cond_both (layers.are_lost t) _ _ Untold
+    (λ _. cond_both (layers.is_sure_answer t) _ _ Untold (λ _. refl) (λ _. refl))
+    (λ _. cond_both (layers.is_answer t) _ _ Untold
+    (λ _. cond_both (layers.are_counted t) _ _ Untold (λ _. quiet) (λ _. refl))
+    (λ none. cond_both (layers.is_second_answer t) _ _ Untold (λ _. refl)
+    (λ _. cond_both (layers.are_counted t) _ _ Untold
+    (λ counted. not_both (layers.is_answer t) none (cond-true (layers.are_counted t) _ _ counted ∙ due counted))
+    (λ _. refl))))
+  where
+    Untold : book.Seen → Type 0
+    Untold x = x.verdict.rule ≡ None
+
+counted_due : (from : Role) (way : List PlainPacket) (P O : Layer) (p o : Port) → Fits from WasRestarted way P O p o → are_counted P O ≡ true → nat_lt 0 P.owed ≡ true
+counted_due from way P O p o h counted = go (are_sure P O) refl
+  where
+    go : (b : Bool) → are_sure P O ≡ b → nat_lt 0 P.owed ≡ true
+    go true sure = h.due sure refl
+    go false unsure = not_both (are_counted P O) (h.uncounted unsure) counted
+
+pub no_restart_of_tape_is_told : NoRestartOfTapeIsTold
+unfolding book.takes book.restarts
+no_restart_of_tape_is_told Dte channel b s way (restart cause diagnostic) stands may = restarts_untold (layers_of Dte b) refl
+no_restart_of_tape_is_told Dce channel b s way (restart cause diagnostic) stands may = restarts_untold (layers_of Dce b) refl
+no_restart_of_tape_is_told Dte channel b WasRestarted way restart_conf stands may = confirms_untold Dte (layers_of Dte b) b refl (counted_due Dte way b.dte b.dce (port_at Dte channel b) (port_at Dce channel b) (runs_at Dte channel b WasRestarted way stands).parts)
+no_restart_of_tape_is_told Dce channel b WasRestarted way restart_conf stands may = confirms_untold Dce (layers_of Dce b) b refl (counted_due Dce way b.dce b.dte (port_at Dce channel b) (port_at Dte channel b) (runs_at Dce channel b WasRestarted way stands).parts)
+no_restart_of_tape_is_told from channel b s way packet stands may = absurd may
 
 pub tapes_begin : TapesBegin
 tapes_begin from channel p b = Begins p.talk.window p.talk.most (all_in_call p) (record { dte = filled_full p; dce = filled_full p }) (running_so from) (begun_so from)

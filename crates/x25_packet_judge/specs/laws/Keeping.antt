@@ -100,6 +100,12 @@ MayEnd s (clear channel cause diagnostic) = Unit {0}
 MayEnd WasCleared (clear_conf channel) = Unit {0}
 MayEnd s packet = ⊥
 
+-- How it may restart: by RESTART at any moment, or the confirmation of the one that came (section 3.3).
+abbrev pub MayRestart : Phase → PlainPacket → Type 0
+MayRestart s (restart cause diagnostic) = Unit {0}
+MayRestart WasRestarted restart_conf = Unit {0}
+MayRestart s packet = ⊥
+
 -- What it makes of what comes in the stretch: all below a P(R) is acknowledged, to the next number that equals it
 -- modulo 8, and a data packet is taken where P(S) is the next one. What belongs to no stretch changes nothing.
 abbrev pub hears : ℕ → Come → Come

@@ -3,6 +3,7 @@ use Rattle.std.specs.Prelude.{◌≡◌, ℕ, true, false, List, [], None}
 use Rattle.x25_bits.specs.declared.role.Role.{Role}
 use Rattle.x25_packet.specs.Packet.{PlainPacket, call, accept, reset, reset_conf}
 use Rattle.x25_packet_judge.specs.Book.{layers_of, pair_of, takes}
+use Rattle.x25_packet_judge.specs.Layer.{is_begun}
 use Rattle.x25_packet_judge.specs.Layers.{runs_early, are_sure, are_level}
 use Rattle.x25_packet_judge.specs.Message.{octets_of}
 use Rattle.x25_packet_judge.specs.Packets.{sends}
@@ -14,7 +15,7 @@ use Rattle.x25_packet_judge.specs.declared.port.Call.TheVariants.{Idle}
 use Rattle.x25_packet_judge.specs.declared.port.Port.{Port}
 use Rattle.x25_packet_judge.specs.declared.terms.Terms.{Terms}
 use Rattle.x25_packet_judge.specs.laws.Clearing.{IsReady}
-use Rattle.x25_packet_judge.specs.laws.Keeping.{Given, Come, Phase, MayDo, MayEnd, IsOfChannel, MayBe}
+use Rattle.x25_packet_judge.specs.laws.Keeping.{Given, Come, Phase, MayDo, MayEnd, MayRestart, IsOfChannel, MayBe}
 use Rattle.x25_packet_judge.specs.laws.Keeping.{IsBegun, AreBegun, fresh_phase, next, turned}
 use Rattle.x25_packet_judge.specs.laws.Tape.{MayStand, all_in_call}
 use Rattle.x25_packet_judge.specs.laws.Watching.{Line, IsSilent, IsKept}
@@ -94,7 +95,8 @@ StretchesFollow =
 abbrev pub BooksTellOfChannels : Type 0
 BooksTellOfChannels =
     (from : Role) (channel : ℕ) (packet : PlainPacket) (b : Book) → IsOfChannel packet
-    → runs_early (layers_of from b) ≡ false → are_sure (layers_of from b) ≡ true
+    → is_begun (layers_of from b).own.restart ≡ false → runs_early (layers_of from b) ≡ false
+    → are_sure (layers_of from b) ≡ true
     → (takes from channel packet b).verdict.rule
     ≡ (sends packet (pair_of from (are_level (layers_of from b)) channel b)).rule
 
@@ -108,6 +110,11 @@ abbrev pub NoEndOfTapeIsTold : Type 0
 NoEndOfTapeIsTold =
     (from : Role) (channel : ℕ) (b : Book) (s : Phase) (way : List PlainPacket) (packet : PlainPacket)
     → MayStand from channel b s way → MayEnd s packet → (takes from channel packet b).verdict.rule ≡ None
+
+abbrev pub NoRestartOfTapeIsTold : Type 0
+NoRestartOfTapeIsTold =
+    (from : Role) (channel : ℕ) (b : Book) (s : Phase) (way : List PlainPacket) (packet : PlainPacket)
+    → MayStand from channel b s way → MayRestart s packet → (takes from 0 packet b).verdict.rule ≡ None
 
 -- such an end there is, and its numbers begin as the channel's do
 abbrev pub TapesBegin : Type 0
