@@ -10,8 +10,8 @@ fn reads_digits_as_hex_does(rt: HostRuntime) -> Result<(), Fail> {
         let digits = &DIGITS[..2 * count];
         let wanted = hex::decode(rt.alloc(), digits)?;
         let mut octets = [0u8; 29];
-        assert!(rt; read_hexadecimal(digits, &mut octets[..count]));
-        assert_eq!(rt; &octets[..count], wanted.as_slice());
+        let is_read = read_hexadecimal(digits, &mut octets[..count]);
+        assert_eq!(rt; (is_read, &octets[..count]), (true, wanted.as_slice()));
     }
     Ok(())
 }
@@ -45,11 +45,14 @@ fn reads_a_line_as_hex_does(rt: HostRuntime) -> Result<(), Fail> {
         text[..2 * count].copy_from_slice(digits);
         text[2 * count] = b'\n';
         let mut octets = [0u8; 32];
-        assert_eq!(rt; read_line(&text, &mut octets), Some(count));
-        assert_eq!(rt; &octets[..count], wanted.as_slice());
+        let read = read_line(&text, &mut octets);
         text[2 * count + 1] = b'\n';
         text[2 * count] = b'0';
-        assert_eq!(rt; read_line(&text, &mut octets), None);
+        let odd = read_line(&text, &mut [0u8; 32]);
+        assert_eq!(rt;
+            (read, odd, &octets[..count]),
+            (Some(count), None, wanted.as_slice())
+        );
     }
     Ok(())
 }
@@ -73,9 +76,13 @@ fn finds_what_is_no_digit_at_each_place(rt: HostRuntime) {
             let mut digits = DIGITS;
             digits[place] = character;
             let mut octets = [0u8; 29];
-            assert!(rt; !read_hexadecimal(&digits, &mut octets));
-            assert!(rt; !is_hexadecimal(&digits));
-            assert!(rt; is_hexadecimal(&digits[..place]));
+            let is_read = read_hexadecimal(&digits, &mut octets);
+            let found = (
+                is_read,
+                is_hexadecimal(&digits),
+                is_hexadecimal(&digits[..place]),
+            );
+            assert_eq!(rt; found, (false, false, true), "{character} at {place}");
         }
     }
 }

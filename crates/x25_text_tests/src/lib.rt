@@ -1,13 +1,9 @@
-//! Tests of `x25_text`: octets of frames and packets beside their texts, digits beside `hex`, and the buffer.
+//! Tests of `x25_text`: each function that writes a frame or a packet, digits beside `hex`, and the buffer.
 #![tactic(auto)]
 
 #[cfg(test)]
 mod digits;
 #[cfg(test)]
-mod frames;
-#[cfg(test)]
-mod packets;
+mod lines;
 #[cfg(test)]
 mod texts;
-#[cfg(test)]
-mod wide;

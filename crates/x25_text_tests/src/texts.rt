@@ -4,7 +4,7 @@ use x25_text::{ROOM, Text, lowest_set};
 #[test]
 fn pushes_labels_and_what_stands_behind_them(rt: HostRuntime) -> Result<(), Fail> {
     let mut text = Text::new(rt.alloc())?;
-    assert!(rt; text.is_empty());
+    let is_new = text.is_empty();
     text.try_push(b"> ")?;
     text.try_push_hexadecimal(&[1, 63, 235, 223])?;
     text.try_push_number(b" n=", 18_446_744_073_709_551_615)?;
@@ -13,8 +13,11 @@ fn pushes_labels_and_what_stands_behind_them(rt: HostRuntime) -> Result<(), Fail
     text.try_push_octets(&[])?;
     text.try_push_octets(&[0, 171])?;
     assert_eq!(rt;
-        text.as_slice(),
-        b"> 013febdf n=18446744073709551615 m=0 data=-00ab".as_slice()
+        (is_new, text.as_slice()),
+        (
+            true,
+            b"> 013febdf n=18446744073709551615 m=0 data=-00ab".as_slice()
+        )
     );
     Ok(())
 }
@@ -37,7 +40,8 @@ fn grows(rt: HostRuntime) -> Result<(), Fail> {
 
 #[test]
 fn finds_the_lowest_bit(rt: HostRuntime) {
-    assert_eq!(rt; lowest_set(0), 16);
-    assert_eq!(rt; lowest_set(1), 0);
-    assert_eq!(rt; lowest_set(0x8400), 10);
+    assert_eq!(rt;
+        (lowest_set(0), lowest_set(1), lowest_set(0x8400)),
+        (16, 0, 10)
+    );
 }
