@@ -171,9 +171,13 @@ refinds t = with_other (found Asking t.other) (with_own (found Confirmed t.own) 
 abbrev pub answers_restart : Layers → Layers
 answers_restart t = marks Confirmed t
 
--- Else it answers a RESTART that wasn't seen, or none, and may be taken for the answer to a later one.
+-- Else it answers a RESTART that wasn't seen, or none, and may be taken for the answer to a later one. Behind a RESTART
+-- of the end it leaves open where the ends are.
 abbrev pub confirms_unseen : Layers → Layers
-confirms_unseen t = if are_counted t then strays (give_up (tells RestartUnasked t)) else goes_to Ready (strays t)
+confirms_unseen t =
+    if are_counted t then strays (give_up (tells RestartUnasked t))
+    else if is_asking t.own.restart then strays (give_up t)
+    else strays t
 
 -- Behind a fault it does where the RESTART that was sent last is the only one that may be confirmed, and no other
 -- answer to it may be on its way.

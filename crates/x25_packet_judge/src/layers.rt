@@ -368,8 +368,10 @@ impl Layers {
     {
         if self.are_counted() {
             self.tells(PacketRule::RestartUnasked).give_up().strays()
+        } else if self.own.is_asking() {
+            self.give_up().strays()
         } else {
-            self.strays().goes_to(Restart::Ready)
+            self.strays()
         }
     }
 

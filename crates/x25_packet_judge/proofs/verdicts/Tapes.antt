@@ -471,7 +471,9 @@ module _ (from : Role) (s : Phase) (way : List PlainPacket) (P O : Layer) (p o :
 
   unseen_uncounted : layers.are_counted (theirs P O) ≡ false → Fits from s way (layers.confirms_unseen (theirs P O)).other (layers.confirms_unseen (theirs P O)).own p o
   unseen_uncounted uncounted = subst (λ (T : Layers). Fits from s way T.other T.own p o) (sym (cond-false (layers.are_counted (theirs P O)) _ _ uncounted))
-      (record { ready = h.ready; begun = refl; found = h.found; uncounted = h.uncounted; owed = h.owed; on = h.on; due = h.due })
+      (cond_both (layer.is_asking O.restart) _ _ (λ (T : Layers). Fits from s way T.other T.own p o)
+      (λ _. lost_fits from s way _ _ p o refl refl refl refl)
+      (λ _. record { ready = h.ready; begun = h.begun; found = h.found; uncounted = h.uncounted; owed = h.owed; on = h.on; due = h.due }))
 
 -- ---- the book
 
