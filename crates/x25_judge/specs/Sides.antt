@@ -83,13 +83,21 @@ accepting Waiting = Answered
 accepting Answered = Answered
 accepting Up = Up
 
--- behind a UA that was sent to it
+-- behind a UA that was sent to it: of an end of which nothing is known it may answer a SABM that wasn't seen
 abbrev pub accepted : Phase → Phase
-accepted Unseen = Unseen
+accepted Unseen = Answered
 accepted Out = Out
 accepted Waiting = Answered
 accepted Answered = Answered
 accepted Up = Up
+
+-- behind a damaged frame of the other end, which may have been UA
+abbrev pub may_be_accepted : Phase → Phase
+may_be_accepted Unseen = Unseen
+may_be_accepted Out = Out
+may_be_accepted Waiting = Answered
+may_be_accepted Answered = Answered
+may_be_accepted Up = Up
 
 -- behind a DM that it sent: an end that awaits UA, or may do so, goes on to
 abbrev pub declining : Phase → Phase
@@ -359,5 +367,5 @@ is_judged (frmr f why) t = not f || judges_answer t.other.polls t
 -- octets that spell none: a frame that was damaged, which may have been any
 unfoldable pub misses : Sides → Sides
 misses t = asks_more (asks_on t.own.is_polling
-    (with_other (with_phase (accepted t.other.phase) (with_way (unheard t.other.way) t.other))
+    (with_other (with_phase (may_be_accepted t.other.phase) (with_way (unheard t.other.way) t.other))
     (with_own (with_phase (unsure t.own.phase) (with_way (missed (is_unasked t) t.own.way) t.own)) t)))

@@ -133,6 +133,16 @@ impl Phase {
         ensures { result ≡ definition.accepted self }
     {
         match self {
+            Phase::Unseen | Phase::Waiting => Phase::Answered,
+            Phase::Out | Phase::Answered | Phase::Up => self,
+        }
+    }
+
+    /// Behind a damaged frame of the other end, which may have been UA.
+    fn may_be_accepted(self) -> Phase
+        ensures { result ≡ definition.may_be_accepted self }
+    {
+        match self {
             Phase::Waiting => Phase::Answered,
             Phase::Unseen | Phase::Out | Phase::Answered | Phase::Up => self,
         }
@@ -639,7 +649,7 @@ impl Sides {
         let own = self.own.with_way(self.own.way.missed(self.is_unasked()));
         let other = self.other.with_way(self.other.way.unheard());
         self.with_own(own.with_phase(self.own.phase.unsure()))
-            .with_other(other.with_phase(self.other.phase.accepted()))
+            .with_other(other.with_phase(self.other.phase.may_be_accepted()))
             .asks_on(self.own.is_polling)
             .asks_more()
     }

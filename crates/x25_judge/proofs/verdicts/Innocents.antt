@@ -754,7 +754,7 @@ shown_beside from j k p frames frame is h go = record {
 
 -- ---- octets of the other end are damaged
 
-runs_accepted : (p : Phase) → sides.may_run p ≡ true → sides.may_run (sides.accepted p) ≡ true
+runs_accepted : (p : Phase) → sides.may_run p ≡ true → sides.may_run (sides.may_be_accepted p) ≡ true
 runs_accepted Unseen e = refl
 runs_accepted Out e = e
 runs_accepted Waiting e = refl
@@ -764,7 +764,7 @@ runs_accepted Up e = refl
 pub record Misses (t : Sides) : Type 0 where
   pub own : (sides.misses t).own.way ≡ way.missed (sides.is_unasked t) t.own.way
   pub other : (sides.misses t).other.way ≡ way.unheard t.other.way
-  pub other_phase : (sides.misses t).other.phase ≡ sides.accepted t.other.phase
+  pub other_phase : (sides.misses t).other.phase ≡ sides.may_be_accepted t.other.phase
   pub asked : (sides.misses t).own.asked ≡ min (t.own.asked + 1) 255
   pub late : (sides.misses t).own.late ≡ t.own.late
   pub other_asked : (sides.misses t).other.asked ≡ t.other.asked

@@ -129,7 +129,15 @@ accepted_awaits phase.Waiting h = tt
 accepted_awaits phase.Answered h = tt
 accepted_awaits phase.Up h = absurd h
 
-missed_own : (k : Bool) (p : Phase) (a c : End) (w : Way) → c.asked ≡ a.asked → c.way ≡ way.unheard a.way → RestsOwn p a w → RestsOwn (sides.accepted p) c (way.missed k w)
+may_be_awaits : (p : Phase) → Awaits p → Awaits (sides.may_be_accepted p)
+may_be_awaits phase.Unseen h = absurd h
+may_be_awaits phase.Out h = absurd h
+may_be_awaits phase.Waiting h = tt
+may_be_awaits phase.Answered h = tt
+may_be_awaits phase.Up h = absurd h
+
+missed_own : (k : Bool) (p : Phase) (a c : End) (w : Way) → c.asked ≡ a.asked → c.way ≡ way.unheard a.way → RestsOwn p a w
+    → RestsOwn (sides.may_be_accepted p) c (way.missed k w)
 missed_own k phase.Unseen a c w e f r = tt
 missed_own k phase.Out a c w e f r = tt
 missed_own k phase.Waiting a c w e f r = (subst (λ v. OwnIf v 0 0) (sym f) (unheard_own_if a.way 0 0 r.1), inl (λ z. r.0 (sym e ∙ z)))
@@ -183,13 +191,13 @@ missed_fits t stand p frames f =
     record {
       asked = subst (λ x. min (asks_all frames) 255 ≤ x) (sym s.asked) (more (asks_all frames) t.own.asked f.asked);
       late = λ rests. subst (λ x. min (late_all frames) 255 ≤ x) (sym s.late) (f.late (rests_unsure t.own.phase (subst IsAtRest (missed_phase t) rests)));
-      own = subst (λ x. RestsOwn x v.other v.own.way) (sym s.other_phase) (subst (λ w. RestsOwn (sides.accepted t.other.phase) v.other w) (sym s.own) (missed_own (sides.is_unasked t) t.other.phase t.other v.other t.own.way s.other_asked s.other f.own));
+      own = subst (λ x. RestsOwn x v.other v.own.way) (sym s.other_phase) (subst (λ w. RestsOwn (sides.may_be_accepted t.other.phase) v.other w) (sym s.own) (missed_own (sides.is_unasked t) t.other.phase t.other v.other t.own.way s.other_asked s.other f.own));
       count = f.count;
       sent = subst (λ w. OwnIf w f.count 0) (sym s.other) (unheard_own_if t.other.way f.count 0 f.sent);
       other = subst (λ x. RestsOther x v.own.way) (sym (missed_phase t)) (subst (λ w. RestsOther (sides.unsure t.own.phase) w) (sym s.own) (missed_other (sides.is_unasked t) t.own.phase t.own.way f.other));
       sabms = λ on none. subst (λ w. BehindSabm w v.own.way frames) (sym s.other) (subst (λ w. BehindSabm (way.unheard t.other.way) w frames) (sym s.own)
           (sabms_to t.other.way t.own.way (way.unheard t.other.way) (way.missed (sides.is_unasked t) t.own.way) frames (missed_anew (sides.is_unasked t) t.other.way t.own.way) (f.sabms (on_unsure t.own.phase (subst On (missed_phase t) on)) (sym s.late ∙ none))));
-      holds = holds_to t.other t.own v.other v.own stand p frames (λ w. subst Awaits (sym s.other_phase) (accepted_awaits t.other.phase w)) (missed_seen t) f.holds;
+      holds = holds_to t.other t.own v.other v.own stand p frames (λ w. subst Awaits (sym s.other_phase) (may_be_awaits t.other.phase w)) (missed_seen t) f.holds;
     }
   where
     more : (a x : ℕ) → min a 255 ≤ x → min a 255 ≤ min (x + 1) 255
@@ -366,7 +374,7 @@ kept_declining phase.Up asked late on = absurd on
 -- ---- UA
 
 accepted_rests : (l : Bool) (p : Phase) (a c : End) (w v : Way) → c.way ≡ way.deafened l (sides.accepted_way p a.way) → Hears v 0 0 → RestsOwn p a w → RestsOwn (sides.accepted p) c v
-accepted_rests l phase.Unseen a c w v e h r = tt
+accepted_rests l phase.Unseen a c w v e h r = (subst (λ x. OwnIf x 0 0) (sym e) (deafened_own l (way.lost a.way) 0 0 (inl refl)), inr h)
 accepted_rests l phase.Out a c w v e h r = tt
 accepted_rests l phase.Waiting a c w v e h r = (subst (λ x. OwnIf x 0 0) (sym e) (deafened_own l (way.answered a.way) 0 0 (answered_own a.way)), inr h)
 accepted_rests l phase.Answered a c w v e h r = (subst (λ x. OwnIf x 0 0) (sym e) (deafened_own l (way.answered_again a.way) 0 0 (again_own a.way 0 0 r.0)), inr h)

@@ -16,7 +16,7 @@ use Rattle.x25_judge.proofs.verdicts.Fair.{OwnIf}
 use Rattle.x25_judge.proofs.verdicts.Innocents.{heard_all, took_all, Hears, deaf_hears}
 use Rattle.x25_judge.proofs.verdicts.OtherEnd.{own_to, Counted}
 use Rattle.x25_judge.proofs.verdicts.Standing.{asks_one, asks_all, sabm_asks, fewer, HaveNoNumber, none_heard, none_taken, late_all, late_tail, late_front, late_taken, none_at_all}
-use Rattle.x25_judge.proofs.verdicts.Standing.{NoneBefore, bare_none, begun_own, answered_rested, again_rested, again_hears, again_hearing, answering_own}
+use Rattle.x25_judge.proofs.verdicts.Standing.{NoneBefore, bare_none, begun_own, answered_rested, lost_rested, again_rested, again_hears, again_hearing, answering_own}
 use Rattle.x25_judge.proofs.verdicts.Standing.{late_own, late_deaf, deafened_own, deafened_hears, deafened_hearing, deafened_rested}
 use Rattle.x25_judge.proofs.verdicts.Standing.{RestsOwn, RestsOther, On, IsAtRest, Anew, BehindSabm, SeenIn, BehindUa, Awaits, Holds, Fits, sabms_to, uas_to}
 use Rattle.x25_judge.proofs.verdicts.Unnumbered.{Asked, Aside, Accepted, in_time}
@@ -278,7 +278,7 @@ none_hears phase.Answered w h = again_hears w 0 0 h
 none_hears phase.Up w h = again_hears w 0 0 h
 
 accepted_other : (l : Bool) (p : Phase) (w : Way) → RestsOther p w → RestsOther (sides.accepted p) (way.deafened l (sides.accepted_way p w))
-accepted_other l phase.Unseen w r = tt
+accepted_other l phase.Unseen w r = deafened_rested l (way.lost w) (lost_rested w)
 accepted_other l phase.Out w r = tt
 accepted_other l phase.Waiting w r = deafened_rested l (way.answered w) (answered_rested w)
 accepted_other l phase.Answered w r = deafened_rested l (way.answered_again w) (again_rested w r)

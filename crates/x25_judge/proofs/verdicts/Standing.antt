@@ -291,7 +291,7 @@ begun_rested s = record {
 pub begun_own : (s : Sight) → OwnIf (way.begun s) 0 0
 begun_own s = elim (is_bool (way.is_unseen_sight s)) [ inl unseen ↦ inl unseen | inr seen ↦ inr (record { seen = seen; next = refl; ever = refl; kept = refl; whole = refl; numbered = record { counts = λ hears. (0, 0, (refl, omega arith), record { next = refl; pending = refl; few = omega arith }) } }) ]
 
-lost_rested : (w : Way) → Rested (way.lost w)
+pub lost_rested : (w : Way) → Rested (way.lost w)
 lost_rested w = record { hears = deaf_hears (way.lost w) 0 0 refl; none = λ hears. absurd (both_ways false refl hears) }
 
 pub answered_rested : (w : Way) → Rested (way.answered w)
