@@ -1,17 +1,17 @@
 -- What comes to an end where all that is on the way has come, and where the channel may stand beside that.
 use Rattle.std.proofs.Common.{◌≡◌, ◌==◌, ◌⊎◌, ℕ, ◌+◌, ◌%◌, ◌<◌, ◌≤◌, arith, Bool, true, false, if◌then◌else◌, List, [], ◌∷◌, ◌++◌, Option, Some, None, refl, sym, ap, ◌∙◌, subst}
-use Rattle.std.specs.Prelude.{nat_lt, ◌&&◌}
-use Rattle.std.proofs.lemmas.Bool.{ltb-true, and_parts, both_ways, cond_both, cond-true, cond-false}
+use Rattle.std.specs.Prelude.{nat_lt, ◌&&◌, ◌||◌, not}
+use Rattle.std.proofs.lemmas.Bool.{ltb-true, and_parts, and_right, both_ways, cond_both, cond-true, cond-false}
 use Rattle.x25_packet.specs.Packet.{PlainPacket, call, accept, clear, clear_conf, user_data, rr, rnr, interrupt, interrupt_conf, reset, reset_conf, restart, restart_conf}
 use Rattle.x25_packet_judge.specs.Flow.{fresh}
 use Rattle.x25_packet_judge.specs.Message.{after, broken, differs}
 use Rattle.x25_packet_judge.specs.Numbers.{apart}
 use Rattle.x25_packet_judge.specs.Pair as pair
+use Rattle.x25_packet_judge.specs.Port as port
 use Rattle.x25_packet_judge.specs.declared.flow.Flow.{Flow}
 use Rattle.x25_packet_judge.specs.declared.message.Message.{Message}
 use Rattle.x25_packet_judge.specs.declared.message.Message.TheVariants.{Ended, Plain, Qualified}
 use Rattle.x25_packet_judge.specs.declared.port.Call.{Call}
-use Rattle.x25_packet_judge.specs.declared.port.Call.TheVariants.{Idle}
 use Rattle.x25_packet_judge.specs.declared.port.Port.{Port}
 use Rattle.x25_packet_judge.specs.declared.port.Talk.{Talk}
 use Rattle.x25_packet_judge.specs.laws.Keeping.{Given, Come, IsOneMessage, takes}
@@ -250,11 +250,17 @@ pub record Away (window most : ℕ) (tail : List PlainPacket) (B : Behinds) (rea
   pub over : Due tail reaches p.owed p.talk.owed
   pub behind : B reaches p.owed p.talk.owed o.call o.talk
 
--- nothing is known
-pub record Gone (p : Port) : Type 0 where
+-- Nothing is known, and no packet of the other end makes it known; nor does CALL ACCEPTED of the end, where it is shut.
+pub record Dark (shut : Bool) (p : Port) : Type 0 where
   pub known : p.is_known ≡ false
   pub clearing : p.is_clearing ≡ false
-  pub call : p.call ≡ Idle
+  pub call : ((shut || port.is_calling p.call) && (not p.is_doubtful && p.owed == 0)) ≡ false
+
+abbrev pub Gone : Port → Type 0
+Gone p = Dark false p
+
+pub as_gone : (p : Port) → Dark true p → Gone p
+as_gone p k = record { known = k.known; clearing = k.clearing; call = and_right (port.is_calling p.call) _ k.call }
 
 abbrev pub Stands : ℕ → ℕ → List PlainPacket → Bool → Port → Port → Given → Come → Type 0
 Stands window most tail reaches p o g a = Level window most tail reaches p o g a ⊎ (Away window most tail (Behind tail) reaches p o g a ⊎ Gone p)

@@ -21,7 +21,7 @@ use Rattle.x25_packet_judge.proofs.verdicts.Saying.{before, going, awaits_none, 
 use Rattle.x25_packet_judge.proofs.verdicts.Showing.{calls_gone, accepts_none}
 use Rattle.x25_packet_judge.proofs.verdicts.Leaving.{LeftOrGone, gone_hears, gone_interrupts, gone_confirms, shown_left}
 
-lots : (n : ℕ) → 1 ≤ n → (n == 0) ≡ false
+pub lots : (n : ℕ) → 1 ≤ n → (n == 0) ≡ false
 lots n due = not_true (n == 0) (λ e. none n due (eqb-true n 0 e))
   where
     none : (n : ℕ) → 1 ≤ n → n ≡ 0 → ⊥

@@ -9,22 +9,28 @@ use Rattle.x25_packet_judge.specs.Book as book
 use Rattle.x25_packet_judge.specs.Book.{other, layers_of, pair_of, keeps, fills, puts}
 use Rattle.x25_packet_judge.specs.Layers as layers
 use Rattle.x25_packet_judge.specs.Layer as layer
+use Rattle.x25_packet_judge.specs.Message.{octets_of}
 use Rattle.x25_packet_judge.specs.Packets.{sends}
 use Rattle.x25_packet_judge.specs.Pair as pair
 use Rattle.x25_packet_judge.specs.Port as port
+use Rattle.x25_packet_judge.specs.Terms.{said, usual}
 use Rattle.x25_packet_judge.specs.declared.book.Book.{Book}
 use Rattle.x25_packet_judge.specs.declared.layer.Layer.{Layer}
 use Rattle.x25_packet_judge.specs.declared.layer.Restart.TheVariants.{Asking, Ready}
 use Rattle.x25_packet_judge.specs.declared.layers.Layers.{Layers}
 use Rattle.x25_packet_judge.specs.declared.packet_rule.PacketRule.{PacketRule}
 use Rattle.x25_packet_judge.specs.declared.pair.Pair.{Pair}
+use Rattle.x25_packet_judge.specs.declared.port.Call.{Call}
+use Rattle.x25_packet_judge.specs.declared.port.Call.TheVariants.{Idle, Called, Calling, Collided}
 use Rattle.x25_packet_judge.specs.declared.port.Port.{Port}
-use Rattle.x25_packet_judge.specs.laws.Keeping.{Given, Come, nothing_given, nothing_came, Phase, Talks, Resets, WasReset, WasCleared, WasRestarted, fresh_phase, MayDo, MayEnd, comes, MayTake, IsOfChannel, AreBegun, turned}
-use Rattle.x25_packet_judge.specs.laws.Tape.{all_in_call, IsBook, AreApart, AreRunning, view, MayStand, Begins, Does, DoesApart, Shown, ShownApart, Restarts, Confirms, Comes}
+use Rattle.x25_packet_judge.specs.declared.terms.Terms.{Terms}
+use Rattle.x25_packet_judge.specs.laws.Keeping.{Given, Come, nothing_given, nothing_came, Phase, Idles, Calls, WasCalled, Talks, Resets, WasReset, WasCleared, WasRestarted, fresh_phase, MayDo, MayEnd, comes, MayTake, IsOfChannel, IsIdle, AreIdle, IsBegun, AreBegun, turned}
+use Rattle.x25_packet_judge.specs.laws.Tape.{all_running, IsBook, AreApart, AreRunning, view, MayStand, Starts, Begins, Does, DoesApart, Shown, ShownApart, Restarts, Confirms, Comes}
 use Rattle.x25_packet_judge.specs.laws.VerdictClaims.{NoInnocentTapeIsTold, NoEndOfTapeIsTold, NoRestartOfTapeIsTold, TapesBegin}
-use Rattle.x25_packet_judge.proofs.verdicts.Standing.{tail_of, Behind, Behinds, Any, Level, Away, Gone}
+use Rattle.x25_packet_judge.proofs.verdicts.Standing.{ahead, tail_of, Behind, Behinds, Any, Level, Away, Dark, Gone, Stands}
+use Rattle.x25_packet_judge.proofs.verdicts.Callings.{Even, Far, WasAsked, HasNone, Asks, HasCalled}
 use Rattle.x25_packet_judge.proofs.verdicts.Stretches.{Talking, Asking as Asked, Waiting}
-use Rattle.x25_packet_judge.proofs.verdicts.Innocents.{Standing, sound_begins, sound_does, standing_shown, standing_restarted, standing_comes, sound_ends}
+use Rattle.x25_packet_judge.proofs.verdicts.Innocents.{Standing, sound_begins, starts_idle, sound_does, standing_shown, standing_restarted, standing_comes, sound_ends}
 use Rattle.x25_packet_judge.proofs.verdicts.Books.{put, runs_on, none_yet}
 use Rattle.x25_packet_judge.proofs.verdicts.Parts.{filled, filled_full, layer_at, port_at, Parts, Left, of_channel, takes_on_parts, takes_on_apart, takes_on_any, kept_fills, fills_book, confirms_parts}
 use Rattle.x25_packet_judge.proofs.verdicts.Reaching.{sends_reaches}
@@ -68,6 +74,86 @@ noted_asking window most reaches p o k = record {
   own = k.own;
 }
 
+noted_dark : (p : Port) → Dark true p → Dark true (port.noted p)
+noted_dark p k = record { known = k.known; clearing = k.clearing; call = k.call }
+
+module _ (reaches : Bool) (p o : Port) where
+  noted_even : (k j : Call) → Even k j reaches p o → Even k j reaches (port.noted p) (port.noted o)
+  noted_even k j e = record { reached = e.reached; known = e.known; others_known = e.others_known; none_clearing = e.none_clearing; none_cleared = e.none_cleared; none_reset = e.none_reset; no_former = e.no_former; sure = e.sure; flow = e.flow; call = e.call; others_call = e.others_call }
+
+  noted_far : (shut : Bool) (tail : List PlainPacket) (k : Call) (terms : Terms) → Far shut tail k terms reaches p o → Far shut tail k terms reaches (port.noted p) (port.noted o)
+  noted_far shut tail k terms w = record { known = w.known; others_known = w.others_known; none_cleared = w.none_cleared; none_reset = w.none_reset; parted = w.parted; no_former = w.no_former; call = w.call; its_terms = w.its_terms; over = w.over; strict = λ e. record { none_reset = (w.strict e).none_reset; sure = (w.strict e).sure; former = (w.strict e).former } }
+
+  noted_asked : (terms : Terms) (k j : Call) (way : List PlainPacket) → WasAsked terms k j way reaches p o → WasAsked terms k j way reaches (port.noted p) (port.noted o)
+  noted_asked terms k j [] (its, e) = (its, noted_even k j e)
+  noted_asked terms k j (clear channel cause diagnostic ∷ rest) w = noted_far true (clear channel cause diagnostic ∷ rest) k terms w
+  noted_asked terms k j (restart cause diagnostic ∷ rest) w = noted_far true (restart cause diagnostic ∷ rest) k terms w
+  noted_asked terms k j (user_data channel q m ps pr user ∷ rest) h = absurd h
+  noted_asked terms k j (rr channel pr ∷ rest) h = absurd h
+  noted_asked terms k j (rnr channel pr ∷ rest) h = absurd h
+  noted_asked terms k j (interrupt channel user ∷ rest) h = absurd h
+  noted_asked terms k j (interrupt_conf channel ∷ rest) h = absurd h
+  noted_asked terms k j (reset channel cause diagnostic ∷ rest) h = absurd h
+  noted_asked terms k j (reset_conf channel ∷ rest) h = absurd h
+  noted_asked terms k j (call channel called calling facilities user ∷ rest) h = absurd h
+  noted_asked terms k j (accept channel facilities ∷ rest) h = absurd h
+  noted_asked terms k j (clear_conf channel ∷ rest) h = absurd h
+  noted_asked terms k j (restart_conf ∷ rest) h = absurd h
+
+  noted_none : (way : List PlainPacket) → HasNone way reaches p o → HasNone way reaches (port.noted p) (port.noted o)
+  noted_none [] e = noted_even Idle Idle e
+  noted_none (call channel called calling facilities user ∷ rest) h = noted_asked (said facilities usual) Called Calling rest h
+  noted_none (clear channel cause diagnostic ∷ rest) (x, w) = (x, noted_far true (clear channel cause diagnostic ∷ rest) Idle x w)
+  noted_none (restart cause diagnostic ∷ rest) (x, w) = (x, noted_far true (restart cause diagnostic ∷ rest) Idle x w)
+  noted_none (user_data channel q m ps pr user ∷ rest) h = absurd h
+  noted_none (rr channel pr ∷ rest) h = absurd h
+  noted_none (rnr channel pr ∷ rest) h = absurd h
+  noted_none (interrupt channel user ∷ rest) h = absurd h
+  noted_none (interrupt_conf channel ∷ rest) h = absurd h
+  noted_none (reset channel cause diagnostic ∷ rest) h = absurd h
+  noted_none (reset_conf channel ∷ rest) h = absurd h
+  noted_none (accept channel facilities ∷ rest) h = absurd h
+  noted_none (clear_conf channel ∷ rest) h = absurd h
+  noted_none (restart_conf ∷ rest) h = absurd h
+
+  noted_stands : (window most : ℕ) (tail : List PlainPacket) (g : Given) (a : Come) → Stands window most tail reaches p o g a → Stands window most tail reaches (port.noted p) (port.noted o) g a
+  noted_stands window most tail g a (inl l) = inl (noted_level window most tail reaches p o g a l)
+  noted_stands window most tail g a (inr (inl w)) = inr (inl (noted_away window most tail reaches p o g a (Behind tail) w))
+  noted_stands window most tail g a (inr (inr k)) = inr (inr (noted_gone p k))
+
+  noted_asks : (terms : Terms) (k j : Call) (way : List PlainPacket) → Asks terms k j way reaches p o → Asks terms k j way reaches (port.noted p) (port.noted o)
+  noted_asks terms k j [] (its, e) = (its, noted_even k j e)
+  noted_asks terms k j (accept channel facilities ∷ rest) h = noted_stands (said facilities terms).calling_window (octets_of (said facilities terms).calling_size) (tail_of rest) nothing_given (ahead rest nothing_came) h
+  noted_asks terms k j (clear channel cause diagnostic ∷ rest) (x, w) = (x, noted_far true (clear channel cause diagnostic ∷ rest) k x w)
+  noted_asks terms k j (restart cause diagnostic ∷ rest) (x, w) = (x, noted_far true (restart cause diagnostic ∷ rest) k x w)
+  noted_asks terms k j (user_data channel q m ps pr user ∷ rest) h = absurd h
+  noted_asks terms k j (rr channel pr ∷ rest) h = absurd h
+  noted_asks terms k j (rnr channel pr ∷ rest) h = absurd h
+  noted_asks terms k j (interrupt channel user ∷ rest) h = absurd h
+  noted_asks terms k j (interrupt_conf channel ∷ rest) h = absurd h
+  noted_asks terms k j (reset channel cause diagnostic ∷ rest) h = absurd h
+  noted_asks terms k j (reset_conf channel ∷ rest) h = absurd h
+  noted_asks terms k j (call channel called calling facilities user ∷ rest) h = absurd h
+  noted_asks terms k j (clear_conf channel ∷ rest) h = absurd h
+  noted_asks terms k j (restart_conf ∷ rest) h = absurd h
+
+  noted_called : (from : Role) (terms : Terms) (way : List PlainPacket) → HasCalled from terms way reaches p o → HasCalled from terms way reaches (port.noted p) (port.noted o)
+  noted_called from terms (call channel called calling facilities user ∷ rest) (inl (role, h)) = inl (role, noted_asked (said facilities usual) Collided Collided rest h)
+  noted_called from terms (call channel called calling facilities user ∷ rest) (inr (role, h)) = inr (role, noted_asks terms Collided Collided rest h)
+  noted_called from terms [] h = noted_asks terms Calling Called [] h
+  noted_called from terms (user_data channel q m ps pr user ∷ rest) h = noted_asks terms Calling Called (user_data channel q m ps pr user ∷ rest) h
+  noted_called from terms (rr channel pr ∷ rest) h = noted_asks terms Calling Called (rr channel pr ∷ rest) h
+  noted_called from terms (rnr channel pr ∷ rest) h = noted_asks terms Calling Called (rnr channel pr ∷ rest) h
+  noted_called from terms (interrupt channel user ∷ rest) h = noted_asks terms Calling Called (interrupt channel user ∷ rest) h
+  noted_called from terms (interrupt_conf channel ∷ rest) h = noted_asks terms Calling Called (interrupt_conf channel ∷ rest) h
+  noted_called from terms (reset channel cause diagnostic ∷ rest) h = noted_asks terms Calling Called (reset channel cause diagnostic ∷ rest) h
+  noted_called from terms (reset_conf channel ∷ rest) h = noted_asks terms Calling Called (reset_conf channel ∷ rest) h
+  noted_called from terms (accept channel facilities ∷ rest) h = noted_asks terms Calling Called (accept channel facilities ∷ rest) h
+  noted_called from terms (clear channel cause diagnostic ∷ rest) h = noted_asks terms Calling Called (clear channel cause diagnostic ∷ rest) h
+  noted_called from terms (clear_conf channel ∷ rest) h = noted_asks terms Calling Called (clear_conf channel ∷ rest) h
+  noted_called from terms (restart cause diagnostic ∷ rest) h = noted_asks terms Calling Called (restart cause diagnostic ∷ rest) h
+  noted_called from terms (restart_conf ∷ rest) h = noted_asks terms Calling Called (restart_conf ∷ rest) h
+
 module _ (t : Pair) where
   noted_talking : (window most : ℕ) (g : Given) (c : Come) (way : List PlainPacket) → Talking window most t g c way → Talking window most (pair.noted t) g c way
   noted_talking window most g c way (inl l) = inl (noted_level window most (tail_of way) t.reaches t.own t.other g _ l)
@@ -90,15 +176,23 @@ module _ (t : Pair) where
   noted_waiting window most (interrupt_conf channel ∷ rest) s = absurd s
   noted_waiting window most (restart_conf ∷ rest) s = absurd s
 
-  noted_standing : (s : Phase) (way : List PlainPacket) → Standing t s way → Standing (pair.noted t) s way
-  noted_standing (Talks window most g c) way s = noted_talking window most g c way s
-  noted_standing (Resets window most) way (inl s) = inl (noted_waiting window most (tail_of way) s)
-  noted_standing (Resets window most) way (inr k) = inr (noted_gone t.own k)
-  noted_standing (WasReset window most) way (inl (g, a, w)) = inl (g, a, noted_away window most _ t.reaches t.own t.other g a _ w)
-  noted_standing (WasReset window most) way (inr k) = inr (noted_gone t.own k)
-  noted_standing WasCleared way (inl (window, most, g, a, w)) = inl (window, most, g, a, noted_away window most _ t.reaches t.own t.other g a Any w)
-  noted_standing WasCleared way (inr k) = inr (noted_gone t.own k)
-  noted_standing WasRestarted way s = tt
+  noted_standing : (from : Role) (s : Phase) (way : List PlainPacket) → Standing from t s way → Standing from (pair.noted t) s way
+  noted_standing from Idles way (inl h) = inl (noted_none t.reaches t.own t.other way h)
+  noted_standing from Idles way (inr k) = inr (noted_dark t.own k)
+  noted_standing from (Calls terms) way (inl (inl h)) = inl (inl (noted_called t.reaches t.own t.other from terms way h))
+  noted_standing from (Calls terms) way (inl (inr (role, h))) = inl (inr (role, noted_asks t.reaches t.own t.other terms Collided Collided way h))
+  noted_standing from (Calls terms) way (inr k) = inr (noted_dark t.own k)
+  noted_standing from (WasCalled terms) way (inl (inl h)) = inl (inl (noted_asked t.reaches t.own t.other terms Called Calling way h))
+  noted_standing from (WasCalled terms) way (inl (inr (role, h))) = inl (inr (role, noted_asked t.reaches t.own t.other terms Collided Collided way h))
+  noted_standing from (WasCalled terms) way (inr k) = inr (noted_dark t.own k)
+  noted_standing from (Talks window most g c) way s = noted_talking window most g c way s
+  noted_standing from (Resets window most) way (inl s) = inl (noted_waiting window most (tail_of way) s)
+  noted_standing from (Resets window most) way (inr k) = inr (noted_gone t.own k)
+  noted_standing from (WasReset window most) way (inl (g, a, w)) = inl (g, a, noted_away window most _ t.reaches t.own t.other g a _ w)
+  noted_standing from (WasReset window most) way (inr k) = inr (noted_gone t.own k)
+  noted_standing from WasCleared way (inl (k, terms, w)) = inl (k, terms, noted_far t.reaches t.own t.other false (clear 0 0 0 ∷ []) k terms w)
+  noted_standing from WasCleared way (inr k) = inr (noted_gone t.own k)
+  noted_standing from WasRestarted way s = tt
 
 -- nor does from which end the last packet came
 abbrev as_of : Role → Option PacketRule → Pair → Pair
@@ -121,13 +215,16 @@ module _ (from : Role) (rule : Option PacketRule) (t : Pair) where
   waiting_of window most (interrupt_conf channel ∷ rest) s = absurd s
   waiting_of window most (restart_conf ∷ rest) s = absurd s
 
-  standing_of : (s : Phase) (way : List PlainPacket) → Standing t s way → Standing (as_of from rule t) s way
-  standing_of (Talks window most g c) way s = s
-  standing_of (Resets window most) way (inl s) = inl (waiting_of window most (tail_of way) s)
-  standing_of (Resets window most) way (inr k) = inr k
-  standing_of (WasReset window most) way s = s
-  standing_of WasCleared way s = s
-  standing_of WasRestarted way s = tt
+  standing_of : (end : Role) (s : Phase) (way : List PlainPacket) → Standing end t s way → Standing end (as_of from rule t) s way
+  standing_of end Idles way s = s
+  standing_of end (Calls terms) way s = s
+  standing_of end (WasCalled terms) way s = s
+  standing_of end (Talks window most g c) way s = s
+  standing_of end (Resets window most) way (inl s) = inl (waiting_of window most (tail_of way) s)
+  standing_of end (Resets window most) way (inr k) = inr k
+  standing_of end (WasReset window most) way s = s
+  standing_of end WasCleared way s = s
+  standing_of end WasRestarted way s = tt
 
 -- ---- where restarts are known
 
@@ -138,10 +235,10 @@ abbrev pair_at : Role → Layer → Layer → Port → Port → Pair
 pair_at from P O p o = record { from = from; reaches = at_once P O; own = p; other = o; rule = None }
 
 abbrev On : Role → Phase → List PlainPacket → Layer → Layer → Port → Port → Type 0
-On from s way P O p o = Standing (pair_at from P O p o) s way
+On from s way P O p o = Standing from (pair_at from P O p o) s way
 
 on_noted : (from : Role) (s : Phase) (way : List PlainPacket) (P O : Layer) (p o : Port) → On from s way P O p o → On from s way P O (port.noted p) (port.noted o)
-on_noted from s way P O p o h = noted_standing (pair_at from P O p o) s way h
+on_noted from s way P O p o h = noted_standing (pair_at from P O p o) from s way h
 
 -- the end sends
 record Sent (from : Role) (s : Phase) (way : List PlainPacket) (P O : Layer) (q : Pair) : Type 0 where
@@ -153,8 +250,8 @@ on_does from s r way P O p o packet may h =
     let k = sound_does (pair_at from P O p o) s r way packet may (record { quiet = refl; stands = h }) in
     record {
       quiet = k.quiet;
-      on = subst (λ b. Standing (record { from = from; reaches = b; own = (sends packet (pair_at from P O p o)).own; other = (sends packet (pair_at from P O p o)).other; rule = None }) r way) (sends_reaches packet (pair_at from P O p o))
-          (standing_of from None (sends packet (pair_at from P O p o)) r way k.stands);
+      on = subst (λ b. Standing from (record { from = from; reaches = b; own = (sends packet (pair_at from P O p o)).own; other = (sends packet (pair_at from P O p o)).other; rule = None }) r way) (sends_reaches packet (pair_at from P O p o))
+          (standing_of from None (sends packet (pair_at from P O p o)) from r way k.stands);
     }
 
 -- the other end sends
@@ -167,15 +264,15 @@ and_turned false false = refl
 on_shown : (from : Role) (s : Phase) (way : List PlainPacket) (P O : Layer) (p o : Port) (packet : PlainPacket) → IsOfChannel packet → On from s way P O p o
     → On from s (way ++ packet ∷ []) P O (sends packet (pair_at (other from) O P o p)).other (sends packet (pair_at (other from) O P o p)).own
 on_shown from s way P O p o packet is h =
-    subst (λ b. Standing (record { from = from; reaches = b; own = (sends packet (pair_at (other from) O P o p)).other; other = (sends packet (pair_at (other from) O P o p)).own; rule = None }) s (way ++ packet ∷ [])) (sends_reaches packet (pair_at (other from) O P o p) ∙ and_turned (O.owed == 0) (P.owed == 0))
-    (standing_of from None (turned (sends packet (pair_at (other from) O P o p))) s (way ++ packet ∷ [])
-    (subst (λ b. Standing (turned (sends packet (record { from = other from; reaches = b; own = o; other = p; rule = None }))) s (way ++ packet ∷ [])) (and_turned (P.owed == 0) (O.owed == 0))
+    subst (λ b. Standing from (record { from = from; reaches = b; own = (sends packet (pair_at (other from) O P o p)).other; other = (sends packet (pair_at (other from) O P o p)).own; rule = None }) s (way ++ packet ∷ [])) (sends_reaches packet (pair_at (other from) O P o p) ∙ and_turned (O.owed == 0) (P.owed == 0))
+    (standing_of from None (turned (sends packet (pair_at (other from) O P o p))) from s (way ++ packet ∷ [])
+    (subst (λ b. Standing from (turned (sends packet (record { from = other from; reaches = b; own = o; other = p; rule = None }))) s (way ++ packet ∷ [])) (and_turned (P.owed == 0) (O.owed == 0))
     (standing_shown (pair_at from P O p o) packet is s way h)))
 
 -- the other end restarts
 on_restarted : (from : Role) (s : Phase) (way : List PlainPacket) (P O P2 O2 : Layer) (p o : Port) (cause diagnostic : ℕ) → at_once P2 O2 ≡ false → On from s way P O p o → On from s (way ++ restart cause diagnostic ∷ []) P2 O2 p port.fresh
 on_restarted from s way P O P2 O2 p o cause diagnostic parted h =
-    subst (λ b. Standing (record { from = from; reaches = b; own = p; other = port.fresh; rule = None }) s (way ++ restart cause diagnostic ∷ [])) (sym parted) (standing_restarted (pair_at from P O p o) cause diagnostic s way h)
+    subst (λ b. Standing from (record { from = from; reaches = b; own = p; other = port.fresh; rule = None }) s (way ++ restart cause diagnostic ∷ [])) (sym parted) (standing_restarted (pair_at from P O p o) cause diagnostic from s way h)
 
 -- ---- a RESTART of the other end is answered by none yet
 
@@ -244,6 +341,33 @@ does_not (WasReset window most) r (clear channel cause diagnostic) may = absurd 
 does_not (WasReset window most) r (clear_conf channel) may = absurd may
 does_not (WasReset window most) r (restart cause diagnostic) may = absurd may
 does_not (WasReset window most) r restart_conf may = absurd may
+does_not Idles r (user_data channel q m ps pr user) may = absurd may
+does_not Idles r (rr channel pr) may = absurd may
+does_not Idles r (rnr channel pr) may = absurd may
+does_not Idles r (interrupt channel user) may = absurd may
+does_not Idles r (interrupt_conf channel) may = absurd may
+does_not Idles r (reset channel cause diagnostic) may = absurd may
+does_not Idles r (reset_conf channel) may = absurd may
+does_not Idles r (call channel called calling facilities user) may = ap was_restarted may
+does_not Idles r (accept channel facilities) may = absurd may
+does_not Idles r (clear channel cause diagnostic) may = absurd may
+does_not Idles r (clear_conf channel) may = absurd may
+does_not Idles r (restart cause diagnostic) may = absurd may
+does_not Idles r restart_conf may = absurd may
+does_not (WasCalled terms) r (user_data channel q m ps pr user) may = absurd may
+does_not (WasCalled terms) r (rr channel pr) may = absurd may
+does_not (WasCalled terms) r (rnr channel pr) may = absurd may
+does_not (WasCalled terms) r (interrupt channel user) may = absurd may
+does_not (WasCalled terms) r (interrupt_conf channel) may = absurd may
+does_not (WasCalled terms) r (reset channel cause diagnostic) may = absurd may
+does_not (WasCalled terms) r (reset_conf channel) may = absurd may
+does_not (WasCalled terms) r (call channel called calling facilities user) may = absurd may
+does_not (WasCalled terms) r (accept channel facilities) may = ap was_restarted may
+does_not (WasCalled terms) r (clear channel cause diagnostic) may = absurd may
+does_not (WasCalled terms) r (clear_conf channel) may = absurd may
+does_not (WasCalled terms) r (restart cause diagnostic) may = absurd may
+does_not (WasCalled terms) r restart_conf may = absurd may
+does_not (Calls terms) r packet may = absurd may
 does_not (Resets window most) r packet may = absurd may
 does_not WasCleared r packet may = absurd may
 does_not WasRestarted r packet may = absurd may
@@ -254,36 +378,75 @@ does_due s r way packet may e = or_later (was_restarted s) (has_restart way) (sy
 shown_due : (s : Phase) (way : List PlainPacket) (packet : PlainPacket) → IsOfChannel packet → is_due s (way ++ packet ∷ []) ≡ true → is_due s way ≡ true
 shown_due s way packet is e = sym (ap (λ b. was_restarted s || b) (restart_more way packet (channel_not packet is))) ∙ e
 
-comes_due : (s : Phase) (packet : PlainPacket) (way : List PlainPacket) → MayTake s → is_due (comes s packet) way ≡ true → is_due s (packet ∷ way) ≡ true
-comes_due (Talks window most g c) (user_data channel q m ps pr user) way may e = e
-comes_due (Talks window most g c) (rr channel pr) way may e = e
-comes_due (Talks window most g c) (rnr channel pr) way may e = e
-comes_due (Talks window most g c) (interrupt channel user) way may e = e
-comes_due (Talks window most g c) (interrupt_conf channel) way may e = e
-comes_due (Talks window most g c) (reset channel cause diagnostic) way may e = e
-comes_due (Talks window most g c) (reset_conf channel) way may e = e
-comes_due (Talks window most g c) (call channel called calling facilities user) way may e = e
-comes_due (Talks window most g c) (accept channel facilities) way may e = e
-comes_due (Talks window most g c) (clear channel cause diagnostic) way may e = e
-comes_due (Talks window most g c) (clear_conf channel) way may e = e
-comes_due (Talks window most g c) (restart cause diagnostic) way may e = refl
-comes_due (Talks window most g c) restart_conf way may e = e
-comes_due (Resets window most) (user_data channel q m ps pr user) way may e = e
-comes_due (Resets window most) (rr channel pr) way may e = e
-comes_due (Resets window most) (rnr channel pr) way may e = e
-comes_due (Resets window most) (interrupt channel user) way may e = e
-comes_due (Resets window most) (interrupt_conf channel) way may e = e
-comes_due (Resets window most) (reset channel cause diagnostic) way may e = e
-comes_due (Resets window most) (reset_conf channel) way may e = e
-comes_due (Resets window most) (call channel called calling facilities user) way may e = e
-comes_due (Resets window most) (accept channel facilities) way may e = e
-comes_due (Resets window most) (clear channel cause diagnostic) way may e = e
-comes_due (Resets window most) (clear_conf channel) way may e = e
-comes_due (Resets window most) (restart cause diagnostic) way may e = refl
-comes_due (Resets window most) restart_conf way may e = e
-comes_due (WasReset window most) packet way may e = absurd may
-comes_due WasCleared packet way may e = absurd may
-comes_due WasRestarted packet way may e = absurd may
+comes_due : (from : Role) (s : Phase) (packet : PlainPacket) (way : List PlainPacket) → MayTake s → is_due (comes from s packet) way ≡ true → is_due s (packet ∷ way) ≡ true
+comes_due from (Talks window most g c) (user_data channel q m ps pr user) way may e = e
+comes_due from (Talks window most g c) (rr channel pr) way may e = e
+comes_due from (Talks window most g c) (rnr channel pr) way may e = e
+comes_due from (Talks window most g c) (interrupt channel user) way may e = e
+comes_due from (Talks window most g c) (interrupt_conf channel) way may e = e
+comes_due from (Talks window most g c) (reset channel cause diagnostic) way may e = e
+comes_due from (Talks window most g c) (reset_conf channel) way may e = e
+comes_due from (Talks window most g c) (call channel called calling facilities user) way may e = e
+comes_due from (Talks window most g c) (accept channel facilities) way may e = e
+comes_due from (Talks window most g c) (clear channel cause diagnostic) way may e = e
+comes_due from (Talks window most g c) (clear_conf channel) way may e = e
+comes_due from (Talks window most g c) (restart cause diagnostic) way may e = refl
+comes_due from (Talks window most g c) restart_conf way may e = e
+comes_due from (Resets window most) (user_data channel q m ps pr user) way may e = e
+comes_due from (Resets window most) (rr channel pr) way may e = e
+comes_due from (Resets window most) (rnr channel pr) way may e = e
+comes_due from (Resets window most) (interrupt channel user) way may e = e
+comes_due from (Resets window most) (interrupt_conf channel) way may e = e
+comes_due from (Resets window most) (reset channel cause diagnostic) way may e = e
+comes_due from (Resets window most) (reset_conf channel) way may e = e
+comes_due from (Resets window most) (call channel called calling facilities user) way may e = e
+comes_due from (Resets window most) (accept channel facilities) way may e = e
+comes_due from (Resets window most) (clear channel cause diagnostic) way may e = e
+comes_due from (Resets window most) (clear_conf channel) way may e = e
+comes_due from (Resets window most) (restart cause diagnostic) way may e = refl
+comes_due from (Resets window most) restart_conf way may e = e
+comes_due from Idles (user_data channel q m ps pr user) way may e = e
+comes_due from Idles (rr channel pr) way may e = e
+comes_due from Idles (rnr channel pr) way may e = e
+comes_due from Idles (interrupt channel user) way may e = e
+comes_due from Idles (interrupt_conf channel) way may e = e
+comes_due from Idles (reset channel cause diagnostic) way may e = e
+comes_due from Idles (reset_conf channel) way may e = e
+comes_due from Idles (call channel called calling facilities user) way may e = e
+comes_due from Idles (accept channel facilities) way may e = e
+comes_due from Idles (clear channel cause diagnostic) way may e = e
+comes_due from Idles (clear_conf channel) way may e = e
+comes_due from Idles (restart cause diagnostic) way may e = refl
+comes_due from Idles restart_conf way may e = e
+comes_due from (Calls terms) (user_data channel q m ps pr user) way may e = e
+comes_due from (Calls terms) (rr channel pr) way may e = e
+comes_due from (Calls terms) (rnr channel pr) way may e = e
+comes_due from (Calls terms) (interrupt channel user) way may e = e
+comes_due from (Calls terms) (interrupt_conf channel) way may e = e
+comes_due from (Calls terms) (reset channel cause diagnostic) way may e = e
+comes_due from (Calls terms) (reset_conf channel) way may e = e
+comes_due from (Calls terms) (call channel called calling facilities user) way may e = cond_both (pair.is_dce from) (WasCalled (said facilities usual)) (Calls terms) (λ (s : Phase). is_due s way ≡ true → has_restart way ≡ true) (λ _ e. e) (λ _ e. e) e
+comes_due from (Calls terms) (accept channel facilities) way may e = e
+comes_due from (Calls terms) (clear channel cause diagnostic) way may e = e
+comes_due from (Calls terms) (clear_conf channel) way may e = e
+comes_due from (Calls terms) (restart cause diagnostic) way may e = refl
+comes_due from (Calls terms) restart_conf way may e = e
+comes_due from (WasCalled terms) (user_data channel q m ps pr user) way may e = e
+comes_due from (WasCalled terms) (rr channel pr) way may e = e
+comes_due from (WasCalled terms) (rnr channel pr) way may e = e
+comes_due from (WasCalled terms) (interrupt channel user) way may e = e
+comes_due from (WasCalled terms) (interrupt_conf channel) way may e = e
+comes_due from (WasCalled terms) (reset channel cause diagnostic) way may e = e
+comes_due from (WasCalled terms) (reset_conf channel) way may e = e
+comes_due from (WasCalled terms) (call channel called calling facilities user) way may e = e
+comes_due from (WasCalled terms) (accept channel facilities) way may e = e
+comes_due from (WasCalled terms) (clear channel cause diagnostic) way may e = e
+comes_due from (WasCalled terms) (clear_conf channel) way may e = e
+comes_due from (WasCalled terms) (restart cause diagnostic) way may e = refl
+comes_due from (WasCalled terms) restart_conf way may e = e
+comes_due from (WasReset window most) packet way may e = absurd may
+comes_due from WasCleared packet way may e = absurd may
+comes_due from WasRestarted packet way may e = absurd may
 
 -- ---- what is known of restarts
 
@@ -507,11 +670,17 @@ may_of s r (accept channel facilities) may = tt
 may_of s r (clear channel cause diagnostic) may = tt
 may_of s r (clear_conf channel) may = tt
 may_of (Talks window most g c) r (restart cause diagnostic) (n, may, is) = absurd may
+may_of Idles r (restart cause diagnostic) may = absurd may
+may_of (Calls terms) r (restart cause diagnostic) may = absurd may
+may_of (WasCalled terms) r (restart cause diagnostic) may = absurd may
 may_of (Resets window most) r (restart cause diagnostic) may = absurd may
 may_of (WasReset window most) r (restart cause diagnostic) may = absurd may
 may_of WasCleared r (restart cause diagnostic) may = absurd may
 may_of WasRestarted r (restart cause diagnostic) may = absurd may
 may_of (Talks window most g c) r restart_conf (n, may, is) = absurd may
+may_of Idles r restart_conf may = absurd may
+may_of (Calls terms) r restart_conf may = absurd may
+may_of (WasCalled terms) r restart_conf may = absurd may
 may_of (Resets window most) r restart_conf may = absurd may
 may_of (WasReset window most) r restart_conf may = absurd may
 may_of WasCleared r restart_conf may = absurd may
@@ -549,7 +718,7 @@ may_end s (restart cause diagnostic) may = absurd may
 may_end s restart_conf may = absurd may
 
 on_ends : (from : Role) (s : Phase) (way : List PlainPacket) (P O : Layer) (p o : Port) (packet : PlainPacket) → MayEnd s packet → On from s way P O p o → (sends packet (pair_at from P O p o)).rule ≡ None
-on_ends from s way P O p o packet may h = sound_ends (pair_at from P O p o) s way packet refl h may
+on_ends from s way P O p o packet may h = sound_ends from (pair_at from P O p o) s way packet refl h may
 
 module _ (channel : ℕ) (b : Book) (s : Phase) (way : List PlainPacket) where
   -- seen from the other end
@@ -649,23 +818,34 @@ module _ (channel : ℕ) (b : Book) (s : Phase) (way : List PlainPacket) where
 begins_at : (from : Role) (channel window most : ℕ) (b : Book) → IsBook b → AreRunning (layers_of from b) → AreBegun window most (view from channel b) → At from channel (fresh_phase window most) [] b
 begins_at Dte channel window most b full run begun = record {
   book = full;
-  parts = record { ready = run.ready; begun = run.begun; found = λ _. run.found; uncounted = λ e. not_both (are_sure b.dte b.dce) e run.sure; owed = λ _. eqb-true b.dce.owed 0 (and_parts (b.dte.owed == 0) (b.dce.owed == 0) begun.reaches).1; on = λ _. (sound_begins window most (view Dte channel b) begun).stands; due = λ _ e. absurd (both_ways false refl e) };
+  parts = record { ready = run.ready; begun = run.begun; found = λ _. run.found; uncounted = λ e. not_both (are_sure b.dte b.dce) e run.sure; owed = λ _. eqb-true b.dce.owed 0 (and_parts (b.dte.owed == 0) (b.dce.owed == 0) begun.reaches).1; on = λ _. (sound_begins Dte window most (view Dte channel b) begun).stands; due = λ _ e. absurd (both_ways false refl e) };
 }
 begins_at Dce channel window most b full run begun = record {
   book = full;
-  parts = record { ready = run.ready; begun = run.begun; found = λ _. run.found; uncounted = λ e. not_both (are_sure b.dce b.dte) e run.sure; owed = λ _. eqb-true b.dte.owed 0 (and_parts (b.dce.owed == 0) (b.dte.owed == 0) begun.reaches).1; on = λ _. (sound_begins window most (view Dce channel b) begun).stands; due = λ _ e. absurd (both_ways false refl e) };
+  parts = record { ready = run.ready; begun = run.begun; found = λ _. run.found; uncounted = λ e. not_both (are_sure b.dce b.dte) e run.sure; owed = λ _. eqb-true b.dte.owed 0 (and_parts (b.dce.owed == 0) (b.dte.owed == 0) begun.reaches).1; on = λ _. (sound_begins Dce window most (view Dce channel b) begun).stands; due = λ _ e. absurd (both_ways false refl e) };
 }
 
-comes_at : (from : Role) (channel : ℕ) (b : Book) (s : Phase) (packet : PlainPacket) (way : List PlainPacket) → MayTake s → At from channel s (packet ∷ way) b → At from channel (comes s packet) way b
+starts_at : (from : Role) (channel : ℕ) (b : Book) → IsBook b → AreRunning (layers_of from b) → AreIdle (view from channel b) → At from channel Idles [] b
+starts_at Dte channel b full run idle = record {
+  book = full;
+  parts = record { ready = run.ready; begun = run.begun; found = λ _. run.found; uncounted = λ e. not_both (are_sure b.dte b.dce) e run.sure; owed = λ _. eqb-true b.dce.owed 0 (and_parts (b.dte.owed == 0) (b.dce.owed == 0) idle.reaches).1; on = λ _. (starts_idle Dte (view Dte channel b) idle).stands; due = λ _ e. absurd (both_ways false refl e) };
+}
+starts_at Dce channel b full run idle = record {
+  book = full;
+  parts = record { ready = run.ready; begun = run.begun; found = λ _. run.found; uncounted = λ e. not_both (are_sure b.dce b.dte) e run.sure; owed = λ _. eqb-true b.dte.owed 0 (and_parts (b.dce.owed == 0) (b.dte.owed == 0) idle.reaches).1; on = λ _. (starts_idle Dce (view Dce channel b) idle).stands; due = λ _ e. absurd (both_ways false refl e) };
+}
+
+comes_at : (from : Role) (channel : ℕ) (b : Book) (s : Phase) (packet : PlainPacket) (way : List PlainPacket) → MayTake s → At from channel s (packet ∷ way) b → At from channel (comes from s packet) way b
 comes_at from channel b s packet way may x = record {
   book = x.book;
-  parts = record { ready = x.parts.ready; begun = x.parts.begun; found = x.parts.found; uncounted = x.parts.uncounted; owed = x.parts.owed; on = λ e. go (x.parts.on e); due = λ k e. x.parts.due k (comes_due s packet way may e) };
+  parts = record { ready = x.parts.ready; begun = x.parts.begun; found = x.parts.found; uncounted = x.parts.uncounted; owed = x.parts.owed; on = λ e. go (x.parts.on e); due = λ k e. x.parts.due k (comes_due from s packet way may e) };
 }
   where
-    go : On from s (packet ∷ way) (layer_at from b) (layer_at (other from) b) (port_at from channel b) (port_at (other from) channel b) → On from (comes s packet) way (layer_at from b) (layer_at (other from) b) (port_at from channel b) (port_at (other from) channel b)
-    go h = standing_comes (pair_at from (layer_at from b) (layer_at (other from) b) (port_at from channel b) (port_at (other from) channel b)) way s packet may h
+    go : On from s (packet ∷ way) (layer_at from b) (layer_at (other from) b) (port_at from channel b) (port_at (other from) channel b) → On from (comes from s packet) way (layer_at from b) (layer_at (other from) b) (port_at from channel b) (port_at (other from) channel b)
+    go h = standing_comes from (pair_at from (layer_at from b) (layer_at (other from) b) (port_at from channel b) (port_at (other from) channel b)) way s packet may h
 
 runs_at : (from : Role) (channel : ℕ) (b : Book) (s : Phase) (way : List PlainPacket) → MayStand from channel b s way → At from channel s way b
+runs_at from channel _ _ _ (Starts b full run idle) = starts_at from channel b full run idle
 runs_at from channel _ _ _ (Begins window most b full run begun) = begins_at from channel window most b full run begun
 runs_at from channel _ _ _ (Does b s r way packet may was) = does_at channel b s way from r packet may (runs_at from channel b s way was)
 runs_at from channel _ _ _ (DoesApart b s way two packet is far was) = does_apart channel b s way from two packet is far (runs_at from channel b s way was)
@@ -717,17 +897,30 @@ no_restart_of_tape_is_told Dte channel b WasRestarted way restart_conf stands ma
 no_restart_of_tape_is_told Dce channel b WasRestarted way restart_conf stands may = confirms_untold Dce (layers_of Dce b) b refl (counted_due Dce way b.dce b.dte (port_at Dce channel b) (port_at Dte channel b) (runs_at Dce channel b WasRestarted way stands).parts)
 no_restart_of_tape_is_told from channel b s way packet stands may = absurd may
 
-pub tapes_begin : TapesBegin
-tapes_begin from channel p b = Begins p.talk.window p.talk.most (all_in_call p) (record { dte = filled_full p; dce = filled_full p }) (running_so from) (begun_so from)
-  where
-    running_so : (from : Role) → AreRunning (layers_of from (all_in_call p))
-    running_so Dte = record { ready = refl; begun = refl; sure = refl; found = refl }
-    running_so Dce = record { ready = refl; begun = refl; sure = refl; found = refl }
+fresh_idle : IsIdle port.fresh
+fresh_idle = record { known = refl; sure = refl; owed = refl; call = refl; reset = refl; flow = refl; former = refl }
 
-    pair_so : (from : Role) (q r : Port) → q ≡ p → r ≡ p → AreBegun p.talk.window p.talk.most (record { from = from; reaches = true; own = q; other = r; rule = None })
-    pair_so from q r e f = subst (λ x. AreBegun p.talk.window p.talk.most (record { from = from; reaches = true; own = x; other = r; rule = None })) (sym e)
+pub tapes_begin : TapesBegin
+tapes_begin from channel = (
+  Starts (all_running port.fresh) (record { dte = filled_full port.fresh; dce = filled_full port.fresh }) (running_so port.fresh from) (idle_so from),
+  λ p b. Begins p.talk.window p.talk.most (all_running p) (record { dte = filled_full p; dce = filled_full p }) (running_so p from) (begun_so p b from),
+)
+  where
+    running_so : (p : Port) (from : Role) → AreRunning (layers_of from (all_running p))
+    running_so p Dte = record { ready = refl; begun = refl; sure = refl; found = refl }
+    running_so p Dce = record { ready = refl; begun = refl; sure = refl; found = refl }
+
+    idle_pair : (from : Role) (q r : Port) → q ≡ port.fresh → r ≡ port.fresh → AreIdle (record { from = from; reaches = true; own = q; other = r; rule = None })
+    idle_pair from q r e f = record { reaches = refl; quiet = refl; own = subst IsIdle (sym e) fresh_idle; other = subst IsIdle (sym f) fresh_idle }
+
+    idle_so : (from : Role) → AreIdle (view from channel (all_running port.fresh))
+    idle_so Dte = idle_pair Dte (port_at Dte channel (all_running port.fresh)) (port_at Dce channel (all_running port.fresh)) (filled channel port.fresh) (filled channel port.fresh)
+    idle_so Dce = idle_pair Dce (port_at Dce channel (all_running port.fresh)) (port_at Dte channel (all_running port.fresh)) (filled channel port.fresh) (filled channel port.fresh)
+
+    pair_so : (p : Port) (b : IsBegun p) (from : Role) (q r : Port) → q ≡ p → r ≡ p → AreBegun p.talk.window p.talk.most (record { from = from; reaches = true; own = q; other = r; rule = None })
+    pair_so p b from q r e f = subst (λ x. AreBegun p.talk.window p.talk.most (record { from = from; reaches = true; own = x; other = r; rule = None })) (sym e)
         (subst (λ x. AreBegun p.talk.window p.talk.most (record { from = from; reaches = true; own = p; other = x; rule = None })) (sym f) (record { reaches = refl; quiet = refl; own = b; other = b; its_window = refl; its_most = refl }))
 
-    begun_so : (from : Role) → AreBegun p.talk.window p.talk.most (view from channel (all_in_call p))
-    begun_so Dte = pair_so Dte (port_at Dte channel (all_in_call p)) (port_at Dce channel (all_in_call p)) (filled channel p) (filled channel p)
-    begun_so Dce = pair_so Dce (port_at Dce channel (all_in_call p)) (port_at Dte channel (all_in_call p)) (filled channel p) (filled channel p)
+    begun_so : (p : Port) → IsBegun p → (from : Role) → AreBegun p.talk.window p.talk.most (view from channel (all_running p))
+    begun_so p b Dte = pair_so p b Dte (port_at Dte channel (all_running p)) (port_at Dce channel (all_running p)) (filled channel p) (filled channel p)
+    begun_so p b Dce = pair_so p b Dce (port_at Dce channel (all_running p)) (port_at Dte channel (all_running p)) (filled channel p) (filled channel p)
