@@ -16,7 +16,9 @@ use Rattle.x25_judge.specs.laws.Session.{IsNumbered}
 use Rattle.x25_judge.specs.laws.Sessions.{IsUa}
 use Rattle.x25_judge.proofs.verdicts.Fair.{OwnIf}
 use Rattle.x25_judge.proofs.verdicts.Frames.{Owes, running_late}
-use Rattle.x25_judge.proofs.verdicts.Innocents.{acks, heard_all, heard_more, brings, took_all, took_more, Hears, Seen, Rested, deaf_hears, hears_less, own_if_less, unheard_own_if, missed_hears, Gives, gives, gives_seen, misses_is, misses_seen}
+use Rattle.x25_judge.proofs.verdicts.Beside.{acks, heard_all, heard_more, brings, took_all, took_more, Hears, Seen, Rested, deaf_hears, hears_less, own_if_less}
+use Rattle.x25_judge.proofs.verdicts.Damage.{unheard_own_if, missed_hears, misses_is, misses_seen}
+use Rattle.x25_judge.proofs.verdicts.Showing.{Gives, gives, gives_seen}
 use Rattle.x25_judge.proofs.verdicts.Standing.{IsSabm, asks_one, asks_all, asks_none, asked_more, HaveNoNumber, bare_acks, bare_brings, none_heard, none_taken, late_all, late_number, late_bare, late_few, fewer_late, none_at_all}
 use Rattle.x25_judge.proofs.verdicts.Standing.{none_more, none_all, bare_none, begun_rested, answered_own, again_own, answering_hears, answering_hearing}
 use Rattle.x25_judge.proofs.verdicts.Standing.{late_own, late_deaf, deafened_own, deafened_hears, deafened_hearing, deafened_rested}

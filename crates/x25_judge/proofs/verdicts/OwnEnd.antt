@@ -13,7 +13,7 @@ use Rattle.x25_judge.specs.declared.sides.Sides.{Sides}
 use Rattle.x25_judge.specs.declared.way.Way.{Way}
 use Rattle.x25_judge.specs.laws.Sessions.{declined}
 use Rattle.x25_judge.proofs.verdicts.Fair.{OwnIf}
-use Rattle.x25_judge.proofs.verdicts.Innocents.{heard_all, took_all, Hears, deaf_hears}
+use Rattle.x25_judge.proofs.verdicts.Beside.{heard_all, took_all, Hears, deaf_hears}
 use Rattle.x25_judge.proofs.verdicts.OtherEnd.{own_to, Counted}
 use Rattle.x25_judge.proofs.verdicts.Standing.{asks_one, asks_all, sabm_asks, fewer, HaveNoNumber, none_heard, none_taken, late_all, late_tail, late_front, late_taken, none_at_all}
 use Rattle.x25_judge.proofs.verdicts.Standing.{NoneBefore, bare_none, begun_own, answered_rested, lost_rested, again_rested, again_hears, again_hearing, answering_own}

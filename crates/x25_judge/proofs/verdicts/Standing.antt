@@ -18,7 +18,7 @@ use Rattle.x25_judge.specs.laws.Sessions.{IsUa, HaveNoUa}
 use Rattle.x25_judge.proofs.verdicts.Ways.{Counts, deaf_numbered}
 use Rattle.x25_judge.proofs.verdicts.Fair.{Own, OwnIf, unseen_deaf}
 use Rattle.x25_judge.proofs.verdicts.Frames.{is_bool}
-use Rattle.x25_judge.proofs.verdicts.Innocents.{acks, heard_all, heard_rises, heard_more, brings, took_all, took_more, took_low, brings_low, brings_rises, Hears, Seen, Rested, deaf_hears}
+use Rattle.x25_judge.proofs.verdicts.Beside.{acks, heard_all, heard_rises, heard_more, brings, took_all, took_more, took_low, brings_low, brings_rises, Hears, Seen, Rested, deaf_hears}
 
 -- ---- frames on the way
 
