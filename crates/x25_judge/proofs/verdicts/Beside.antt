@@ -327,20 +327,21 @@ record Leaves (w v : Way) : Type 0 where
   pub ever : v.ever ≡ w.ever
   pub behind : v.behind ≡ w.behind
   pub kept : v.kept ≡ w.kept
+  pub missed : v.is_missed ≡ w.is_missed
 
 heard_leaves : (w : Way) (nr : ℕ) → Leaves w (way.heard nr w).way
 heard_leaves w nr =
     cond_both (way.may_hear w) (way.heard_ahead ahead w) (way.quiet w) (λ (t : Told). Leaves w t.way)
     (λ test. cond_both (nat_le ahead w.pending) (way.quiet (way.acknowledged ahead w)) (way.strayed ahead w) (λ (t : Told). Leaves w t.way)
-    (λ _. record { hears = λ _. test; ever = refl; behind = refl; kept = refl })
+    (λ _. record { hears = λ _. test; ever = refl; behind = refl; kept = refl; missed = refl })
     (λ _. cond_both (not (way.is_sure w)) (if w.is_missed then way.quiet (way.astray w) else way.quiet (way.deaf w)) (if w.is_missed then way.notes HeardBehindDamage (way.astray w) else way.breaks (way.invalid ahead w) (way.deaf w)) (λ (t : Told). Leaves w t.way)
     (λ _. cond_both w.is_missed (way.quiet (way.astray w)) (way.quiet (way.deaf w)) (λ (t : Told). Leaves w t.way)
-    (λ _. record { hears = λ _. test; ever = refl; behind = refl; kept = refl })
-    (λ _. record { hears = λ _. test; ever = refl; behind = refl; kept = refl }))
+    (λ _. record { hears = λ _. test; ever = refl; behind = refl; kept = refl; missed = refl })
+    (λ _. record { hears = λ _. test; ever = refl; behind = refl; kept = refl; missed = refl }))
     (λ _. cond_both w.is_missed (way.notes HeardBehindDamage (way.astray w)) (way.breaks (way.invalid ahead w) (way.deaf w)) (λ (t : Told). Leaves w t.way)
-    (λ _. record { hears = λ _. test; ever = refl; behind = refl; kept = refl })
-    (λ _. record { hears = λ _. test; ever = refl; behind = refl; kept = refl }))))
-    (λ _. record { hears = λ h. h; ever = refl; behind = refl; kept = refl })
+    (λ _. record { hears = λ _. test; ever = refl; behind = refl; kept = refl; missed = refl })
+    (λ _. record { hears = λ _. test; ever = refl; behind = refl; kept = refl; missed = refl }))))
+    (λ _. record { hears = λ h. h; ever = refl; behind = refl; kept = refl; missed = refl })
   where
     ahead : ℕ
     ahead = apart nr (way.awaited w)
@@ -429,6 +430,7 @@ pub record IsUntold (from : Role) (j k : Judge) (q : Peer) (frames : List PlainF
   pub up : (seen_by j from frame).own.phase ≡ sides.running (sides_of from j).own.phase
   pub same : AreSame (sides_of from j) (seen_by j from frame)
   pub rests : Rested (sides_of from j).other.way → Rested (seen_by j from frame).other.way
+  pub missed : (seen_by j from frame).other.way.is_missed ≡ (sides_of from j).other.way.is_missed
   pub none : (x : ℕ) → (way.may_hear (sides_of from j).other.way ≡ true → q.told ≡ 0) → Hears (sides_of from j).other.way x 0 → Hears (seen_by j from frame).other.way x 0
   pub hearing : way.may_hear (seen_by j from frame).other.way ≡ true → way.may_hear (sides_of from j).other.way ≡ true
   pub settles : Owes (sides_of from j).other (seen_by j from frame).other ⊎ Acknowledged (sides_of from j).other (seen_by j from frame).other q
@@ -460,6 +462,7 @@ untold from j k p q frames frame nr mine last h g s plain own heeds held =
       same = s.same;
       rests = λ rested. rested_alike (way.heard nr (sides_of from j).other.way).way (seen_by j from frame).other.way s.other
           (subst (λ w. Rested w → Rested (way.heard nr w).way) (sym opposite) heeds.rests rested);
+      missed = s.other.whole ∙ (heard_leaves (sides_of from j).other.way nr).missed;
       none = λ x first h. hears_alike (way.heard nr (sides_of from j).other.way).way (seen_by j from frame).other.way x 0 s.other
           (subst (λ w. (way.may_hear w ≡ true → q.told ≡ 0) → Hears w x 0 → Hears (way.heard nr w).way x 0) (sym opposite) (heeds.none x) first h);
       hearing = λ hears. (heard_leaves (sides_of from j).other.way nr).hears (sym (ap way.may_hear_sight s.other.sight) ∙ hears);

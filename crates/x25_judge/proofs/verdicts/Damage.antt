@@ -12,7 +12,7 @@ use Rattle.x25_judge.specs.Way as way
 use Rattle.x25_judge.specs.declared.judge.Judge.{Judge}
 use Rattle.x25_judge.specs.declared.sides.End.{End}
 use Rattle.x25_judge.specs.declared.sides.Phase.{Phase}
-use Rattle.x25_judge.specs.declared.sides.Phase.TheVariants.{Unseen, Out, Waiting, Answered, Up}
+use Rattle.x25_judge.specs.declared.sides.Phase.TheVariants.{Unseen, Out, Waiting, Answered, Up, Unanswered}
 use Rattle.x25_judge.specs.declared.sides.Sides.{Sides}
 use Rattle.x25_judge.specs.declared.way.Way.{Way}
 use Rattle.x25_judge.proofs.verdicts.Ways.{same_numbered, unheard_numbered}
@@ -27,13 +27,14 @@ runs_accepted Out e = e
 runs_accepted Waiting e = refl
 runs_accepted Answered e = refl
 runs_accepted Up e = refl
+runs_accepted Unanswered e = refl
 
 pub record Misses (t : Sides) : Type 0 where
   pub own : (sides.misses t).own.way ≡ way.missed (sides.is_unasked t) t.own.way
   pub other : (sides.misses t).other.way ≡ way.unheard t.other.way
   pub other_phase : (sides.misses t).other.phase ≡ sides.may_be_accepted t.other.phase
   pub asked : (sides.misses t).own.asked ≡ min (t.own.asked + 1) 255
-  pub late : (sides.misses t).own.late ≡ t.own.late
+  pub late : (sides.misses t).own.late ≡ (sides.ended t.own).late
   pub other_asked : (sides.misses t).other.asked ≡ t.other.asked
 
 pub misses_is : (t : Sides) → Misses t
