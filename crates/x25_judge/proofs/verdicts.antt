@@ -5,6 +5,9 @@ pub mod Silent
 pub mod Frames
 pub mod Lines
 pub mod Octets
+pub mod Beside
+pub mod Showing
+pub mod Damage
 pub mod Innocents
 pub mod Standing
 pub mod Unnumbered

@@ -14,7 +14,7 @@ use Rattle.x25_judge.specs.declared.note.Note.TheVariants.{PollAgain, PollUnseen
 use Rattle.x25_judge.specs.declared.rule.Rule.{Rule}
 use Rattle.x25_judge.specs.declared.rule.Rule.TheVariants.{UaUnasked, NotUp, NoPoll}
 use Rattle.x25_judge.specs.declared.sides.Phase.{Phase}
-use Rattle.x25_judge.specs.declared.sides.Phase.TheVariants.{Unseen, Out, Waiting, Answered, Up}
+use Rattle.x25_judge.specs.declared.sides.Phase.TheVariants.{Unseen, Out, Waiting, Answered, Up, Unanswered}
 use Rattle.x25_judge.specs.declared.sides.End.{End}
 use Rattle.x25_judge.specs.declared.sides.Sides.{Sides}
 use Rattle.x25_judge.specs.declared.way.Way.{Way}
@@ -35,6 +35,7 @@ awaits_ua Out = false
 awaits_ua Waiting = true
 awaits_ua Answered = false
 awaits_ua Up = false
+awaits_ua Unanswered = false
 
 abbrev pub is_unseen : Phase → Bool
 is_unseen Unseen = true
@@ -42,6 +43,7 @@ is_unseen Out = false
 is_unseen Waiting = false
 is_unseen Answered = false
 is_unseen Up = false
+is_unseen Unanswered = false
 
 -- I frames and supervisory frames were sent since UA, and no SABM and no DISC
 abbrev pub is_up : Phase → Bool
@@ -50,6 +52,7 @@ is_up Out = false
 is_up Waiting = false
 is_up Answered = false
 is_up Up = true
+is_up Unanswered = false
 
 -- I frames and supervisory frames may be sent (section 2.4.4.2)
 abbrev pub may_run : Phase → Bool
@@ -58,6 +61,7 @@ may_run Out = false
 may_run Waiting = false
 may_run Answered = true
 may_run Up = true
+may_run Unanswered = true
 
 -- behind one of them
 abbrev pub running : Phase → Phase
@@ -66,6 +70,7 @@ running Out = Unseen
 running Waiting = Unseen
 running Answered = Up
 running Up = Up
+running Unanswered = Up
 
 -- behind SABM
 abbrev pub asking : Phase → Phase
@@ -74,22 +79,26 @@ asking Out = Waiting
 asking Waiting = Waiting
 asking Answered = Answered
 asking Up = Waiting
+asking Unanswered = Waiting
 
--- behind a UA that it sent: an end that awaits UA goes on to, or has given up and is up now
+-- behind a UA that it sent: an end that awaits UA goes on to, or begins by this one, and is up now
 abbrev pub accepting : Phase → Phase
 accepting Unseen = Up
 accepting Out = Up
-accepting Waiting = Answered
+accepting Waiting = Unanswered
 accepting Answered = Answered
 accepting Up = Up
+accepting Unanswered = Unanswered
 
--- behind a UA that was sent to it: of an end of which nothing is known it may answer a SABM that wasn't seen
+-- behind a UA that was sent to it: of an end of which nothing is known it may answer a SABM that wasn't seen, and so it
+-- may behind a damaged frame
 abbrev pub accepted : Phase → Phase
 accepted Unseen = Answered
 accepted Out = Out
 accepted Waiting = Answered
 accepted Answered = Answered
 accepted Up = Up
+accepted Unanswered = Answered
 
 -- behind a damaged frame of the other end, which may have been UA
 abbrev pub may_be_accepted : Phase → Phase
@@ -98,6 +107,7 @@ may_be_accepted Out = Out
 may_be_accepted Waiting = Answered
 may_be_accepted Answered = Answered
 may_be_accepted Up = Up
+may_be_accepted Unanswered = Answered
 
 -- behind a DM that it sent: an end that awaits UA, or may do so, goes on to
 abbrev pub declining : Phase → Phase
@@ -106,14 +116,16 @@ declining Out = Out
 declining Waiting = Waiting
 declining Answered = Answered
 declining Up = Out
+declining Unanswered = Waiting
 
--- behind a damaged frame of its own, which may have been SABM or UA
+-- behind a damaged frame of its own, which may have been SABM or UA: one that was up may await UA from there on
 abbrev pub unsure : Phase → Phase
 unsure Unseen = Unseen
 unsure Out = Unseen
 unsure Waiting = Unseen
 unsure Answered = Answered
-unsure Up = Up
+unsure Up = Unanswered
+unsure Unanswered = Unanswered
 
 -- ---- parts
 
@@ -293,6 +305,7 @@ accepting_way Out w = fresh false
 accepting_way Waiting w = fresh true
 accepting_way Answered w = answering_again w
 accepting_way Up w = answering_again w
+accepting_way Unanswered w = answering_again w
 
 -- the I frames of the end that UA answers, from whose SABM on the N(R)s begin anew
 abbrev pub accepted_way : Phase → Way → Way
@@ -301,8 +314,9 @@ accepted_way Out w = lost w
 accepted_way Waiting w = answered w
 accepted_way Answered w = answered_again w
 accepted_way Up w = answered_again w
+accepted_way Unanswered w = answered_again w
 
--- UA may answer a SABM of before numbers that ended, and its sender go on with these
+-- UA may answer a SABM of before numbers that ended, or may have, and its sender go on with these
 abbrev pub is_late : Sides → Bool
 is_late t = not (t.other.late == 0)
 
@@ -364,8 +378,8 @@ is_judged (ua f) t = judges_answer t.other.asked t
 is_judged (dm f) t = not f || judges_answer t.other.polls t
 is_judged (frmr f why) t = not f || judges_answer t.other.polls t
 
--- octets that spell none: a frame that was damaged, which may have been any
+-- octets that spell none: a frame that was damaged, which may have been any, one without a number too
 unfoldable pub misses : Sides → Sides
 misses t = asks_more (asks_on t.own.is_polling
     (with_other (with_phase (may_be_accepted t.other.phase) (with_way (unheard t.other.way) t.other))
-    (with_own (with_phase (unsure t.own.phase) (with_way (missed (is_unasked t) t.own.way) t.own)) t)))
+    (with_own (with_phase (unsure t.own.phase) (with_way (missed (is_unasked t) t.own.way) (ended t.own))) t)))

@@ -8,7 +8,8 @@ use crate::rule::Rule;
 use crate::way::{Told, Way};
 use x25_frame::Frame;
 
-/// What an end may be in: not seen; without a link; awaiting UA; awaiting UA or up; up.
+/// What an end may be in: not seen; without a link; awaiting UA; awaiting UA that was shown, or up; up; awaiting UA
+/// that wasn't shown, or up.
 #[derive(Clone, Copy)]
 pub(crate) enum Phase {
     Unseen,
@@ -16,6 +17,7 @@ pub(crate) enum Phase {
     Waiting,
     Answered,
     Up,
+    Unanswered,
 }
 
 /// One end.
@@ -30,7 +32,7 @@ pub(crate) struct End {
     pub(crate) is_followed: bool,
     /// How many SABMs and DISCs of it UA may still answer; 255 where there are more.
     pub(crate) asked: u8,
-    /// How many of these went before numbers of it that ended.
+    /// How many of these went before numbers of it that ended, or may have.
     pub(crate) late: u8,
     /// Its I frames.
     pub(crate) way: Way,
@@ -94,7 +96,7 @@ impl Phase {
     {
         match self {
             Phase::Unseen | Phase::Out | Phase::Waiting => Phase::Unseen,
-            Phase::Answered | Phase::Up => Phase::Up,
+            Phase::Answered | Phase::Up | Phase::Unanswered => Phase::Up,
         }
     }
 
@@ -103,7 +105,7 @@ impl Phase {
         ensures { result ≡ definition.may_run self }
     {
         match self {
-            Phase::Unseen | Phase::Answered | Phase::Up => true,
+            Phase::Unseen | Phase::Answered | Phase::Up | Phase::Unanswered => true,
             Phase::Out | Phase::Waiting => false,
         }
     }
@@ -114,16 +116,18 @@ impl Phase {
     {
         match self {
             Phase::Answered => Phase::Answered,
-            Phase::Unseen | Phase::Out | Phase::Waiting | Phase::Up => Phase::Waiting,
+            Phase::Unseen | Phase::Out | Phase::Waiting | Phase::Up | Phase::Unanswered =>
+                Phase::Waiting,
         }
     }
 
-    /// Behind a UA that it sent. One that awaited UA may have given up before, and is up then.
+    /// Behind a UA that it sent. One that awaited UA may begin by this one, and is up then.
     fn accepting(self) -> Phase
         ensures { result ≡ definition.accepting self }
     {
         match self {
-            Phase::Waiting | Phase::Answered => Phase::Answered,
+            Phase::Answered => self,
+            Phase::Waiting | Phase::Unanswered => Phase::Unanswered,
             Phase::Unseen | Phase::Out | Phase::Up => Phase::Up,
         }
     }
@@ -133,7 +137,7 @@ impl Phase {
         ensures { result ≡ definition.accepted self }
     {
         match self {
-            Phase::Unseen | Phase::Waiting => Phase::Answered,
+            Phase::Unseen | Phase::Waiting | Phase::Unanswered => Phase::Answered,
             Phase::Out | Phase::Answered | Phase::Up => self,
         }
     }
@@ -143,7 +147,7 @@ impl Phase {
         ensures { result ≡ definition.may_be_accepted self }
     {
         match self {
-            Phase::Waiting => Phase::Answered,
+            Phase::Waiting | Phase::Unanswered => Phase::Answered,
             Phase::Unseen | Phase::Out | Phase::Answered | Phase::Up => self,
         }
     }
@@ -155,7 +159,7 @@ impl Phase {
     {
         match self {
             Phase::Answered => way,
-            Phase::Unseen | Phase::Out | Phase::Waiting | Phase::Up => anew,
+            Phase::Unseen | Phase::Out | Phase::Waiting | Phase::Up | Phase::Unanswered => anew,
         }
     }
 
@@ -166,7 +170,7 @@ impl Phase {
         match self {
             Phase::Unseen | Phase::Out => Way::fresh(false),
             Phase::Waiting => Way::fresh(true),
-            Phase::Answered | Phase::Up => way.answering_again(),
+            Phase::Answered | Phase::Up | Phase::Unanswered => way.answering_again(),
         }
     }
 
@@ -177,7 +181,7 @@ impl Phase {
         match self {
             Phase::Unseen | Phase::Out => way.lost(),
             Phase::Waiting => way.answered(),
-            Phase::Answered | Phase::Up => way.answered_again(),
+            Phase::Answered | Phase::Up | Phase::Unanswered => way.answered_again(),
         }
     }
 
@@ -188,6 +192,7 @@ impl Phase {
         match self {
             Phase::Unseen | Phase::Waiting | Phase::Answered => self,
             Phase::Out | Phase::Up => Phase::Out,
+            Phase::Unanswered => Phase::Waiting,
         }
     }
 
@@ -197,7 +202,8 @@ impl Phase {
     {
         match self {
             Phase::Unseen | Phase::Out | Phase::Waiting => Phase::Unseen,
-            Phase::Answered | Phase::Up => self,
+            Phase::Answered => self,
+            Phase::Up | Phase::Unanswered => Phase::Unanswered,
         }
     }
 }
@@ -641,12 +647,13 @@ impl Sides {
         }
     }
 
-    /// The first end sends octets that are no frame: they may have been any.
+    /// The first end sends octets that are no frame: they may have been any, one without a number too.
     #[tactic(auto, unfolding(crate::specs::Sides::misses))]
     pub(crate) fn misses(self) -> Sides
         ensures { result ≡ definition.misses self }
     {
-        let own = self.own.with_way(self.own.way.missed(self.is_unasked()));
+        let way = self.own.way.missed(self.is_unasked());
+        let own = self.own.ended().with_way(way);
         let other = self.other.with_way(self.other.way.unheard());
         self.with_own(own.with_phase(self.own.phase.unsure()))
             .with_other(other.with_phase(self.other.phase.may_be_accepted()))

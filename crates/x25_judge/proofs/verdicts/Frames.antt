@@ -11,7 +11,7 @@ use Rattle.x25_judge.specs.declared.note.Note.TheVariants.{PollAgain, PollUnseen
 use Rattle.x25_judge.specs.declared.rule.Rule.{Rule}
 use Rattle.x25_judge.specs.declared.rule.Rule.TheVariants.{NoPoll}
 use Rattle.x25_judge.specs.declared.sides.Phase.{Phase}
-use Rattle.x25_judge.specs.declared.sides.Phase.TheVariants.{Unseen, Out, Waiting, Answered, Up}
+use Rattle.x25_judge.specs.declared.sides.Phase.TheVariants.{Unseen, Out, Waiting, Answered, Up, Unanswered}
 use Rattle.x25_judge.specs.declared.sides.End.{End}
 use Rattle.x25_judge.specs.declared.sides.Sides.{Sides}
 use Rattle.x25_judge.specs.declared.way.Told.{Told}
@@ -68,6 +68,7 @@ runs_on Out h = absurd (both_ways false refl h)
 runs_on Waiting h = absurd (both_ways false refl h)
 runs_on Answered h = refl
 runs_on Up h = refl
+runs_on Unanswered h = refl
 
 runs_bare : (t : Sides) → IsUp t → t.rule ≡ None → Bare t (sides.runs t)
 runs_bare t up none = cond_both (sides.may_run t.own.phase) (sides.with_own (sides.running_in t.own) t) _ (λ v. Bare t v)

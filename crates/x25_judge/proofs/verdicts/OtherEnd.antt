@@ -14,13 +14,16 @@ use Rattle.x25_judge.specs.declared.sides.Sides.{Sides}
 use Rattle.x25_judge.specs.declared.way.Way.{Way}
 use Rattle.x25_judge.specs.laws.Session.{IsNumbered}
 use Rattle.x25_judge.specs.laws.Sessions.{IsUa}
+use Rattle.x25_judge.specs.laws.VerdictClaims.{IsAnswered}
 use Rattle.x25_judge.proofs.verdicts.Fair.{OwnIf}
 use Rattle.x25_judge.proofs.verdicts.Frames.{Owes, running_late}
-use Rattle.x25_judge.proofs.verdicts.Innocents.{acks, heard_all, heard_more, brings, took_all, took_more, Hears, Seen, Rested, deaf_hears, hears_less, own_if_less, unheard_own_if, missed_hears, Gives, gives, gives_seen, misses_is, misses_seen}
+use Rattle.x25_judge.proofs.verdicts.Beside.{acks, heard_all, heard_more, brings, took_all, took_more, Hears, Seen, Rested, deaf_hears, hears_less, own_if_less}
+use Rattle.x25_judge.proofs.verdicts.Damage.{unheard_own_if, missed_hears, misses_is, misses_seen}
+use Rattle.x25_judge.proofs.verdicts.Showing.{Gives, gives, gives_seen}
 use Rattle.x25_judge.proofs.verdicts.Standing.{IsSabm, asks_one, asks_all, asks_none, asked_more, HaveNoNumber, bare_acks, bare_brings, none_heard, none_taken, late_all, late_number, late_bare, late_few, fewer_late, none_at_all}
 use Rattle.x25_judge.proofs.verdicts.Standing.{none_more, none_all, bare_none, begun_rested, answered_own, again_own, answering_hears, answering_hearing}
 use Rattle.x25_judge.proofs.verdicts.Standing.{late_own, late_deaf, deafened_own, deafened_hears, deafened_hearing, deafened_rested}
-use Rattle.x25_judge.proofs.verdicts.Standing.{RestsOwn, RestsOther, On, IsAtRest, Anew, BehindSabm, SeenIn, Awaits, Fits, sabms_to, sabms_more, sabms_any, sabms_bare, seen_more, holds_to, holds_more}
+use Rattle.x25_judge.proofs.verdicts.Standing.{RestsOwn, RestsOther, On, IsAtRest, Anew, BehindSabm, SeenIn, Awaits, Fits, sabms_to, sabms_more, sabms_any, sabms_bare, sabms_none, seen_more, holds_to, holds_more}
 use Rattle.x25_judge.proofs.verdicts.Unnumbered.{Asked, sabm_is, Aside, disc_aside, dm_aside, frmr_aside, disc_phase, frmr_phase, dm_phase, Accepted, accepted_is, ended_late}
 
 -- ---- a frame with a number
@@ -59,6 +62,7 @@ numbered_own phase.Answered t v frame owes h r = (
   elim r.1 [ inl asked ↦ inl (λ e. asked (sym (owes refl).0 ∙ e)) | inr hears ↦ inr (hears_less v.own.way (brings frame 0) 0 0 (no_less (brings frame 0)) (h.hears 0 0 hears)) ],
 )
 numbered_own phase.Up t v frame owes h r = tt
+numbered_own phase.Unanswered t v frame owes h r = (λ e. r.0 (sym (owes refl).0 ∙ e), own_if_less v.other.way 0 (acks frame 0) 0 (no_less (acks frame 0)) (h.own 0 0 r.1))
 
 numbered_other : (p : Phase) (w : Way) → RestsOther (sides.running p) w
 numbered_other phase.Unseen w = tt
@@ -66,6 +70,7 @@ numbered_other phase.Out w = tt
 numbered_other phase.Waiting w = tt
 numbered_other phase.Answered w = tt
 numbered_other phase.Up w = tt
+numbered_other phase.Unanswered w = tt
 
 on_running : (p : Phase) → On (sides.running p) → On p
 on_running phase.Unseen on = on
@@ -73,6 +78,7 @@ on_running phase.Out on = absurd on
 on_running phase.Waiting on = absurd on
 on_running phase.Answered on = tt
 on_running phase.Up on = on
+on_running phase.Unanswered on = tt
 
 numbered_late : (p : Phase) (frames : List PlainFrame) (frame : PlainFrame) (asked late : ℕ) → IsNumbered frame → IsAtRest (sides.running p) → min (asks_all frames) 255 ≤ asked
     → min (late_all (frames ++ frame ∷ [])) 255 ≤ running_late p asked late
@@ -81,6 +87,7 @@ numbered_late phase.Out frames frame asked late is rests h = subst (λ x. min x 
 numbered_late phase.Waiting frames frame asked late is rests h = subst (λ x. min x 255 ≤ asked) (sym (late_number frames frame is)) h
 numbered_late phase.Answered frames frame asked late is rests h = absurd rests
 numbered_late phase.Up frames frame asked late is rests h = absurd rests
+numbered_late phase.Unanswered frames frame asked late is rests h = absurd rests
 
 running_kept : (p : Phase) (asked late : ℕ) → On (sides.running p) → running_late p asked late ≡ late
 running_kept phase.Unseen asked late on = absurd on
@@ -88,6 +95,7 @@ running_kept phase.Out asked late on = absurd on
 running_kept phase.Waiting asked late on = absurd on
 running_kept phase.Answered asked late on = refl
 running_kept phase.Up asked late on = refl
+running_kept phase.Unanswered asked late on = refl
 
 numbered_anew : (t v : Sides) (frame : PlainFrame) → IsNumbered frame → Gives t v frame → (rest : List PlainFrame) → Anew t.other.way t.own.way rest → Anew v.other.way v.own.way (rest ++ frame ∷ [])
 numbered_anew t v frame is h rest a = record {
@@ -114,7 +122,7 @@ numbered_fits t v stand p frames frame is h f = record {
   other = subst (λ x. RestsOther x v.own.way) (sym h.phase) (numbered_other t.own.phase v.own.way);
   sabms = λ on none. sabms_more t.other.way t.own.way v.other.way v.own.way frames frame (numbered_anew t v frame is h) (λ sabm_is. absurd (never_sabm frame is sabm_is))
       (f.sabms (on_running t.own.phase (subst On h.phase on)) (sym (running_kept t.own.phase t.own.asked t.own.late (subst On h.phase on)) ∙ sym h.same.late ∙ none));
-  holds = holds_more t.other t.own v.other v.own stand p frames frame (subst Awaits (sym h.same.phase)) (numbered_seen t v frame is h) (λ w ua_is. absurd (never_ua frame is ua_is)) f.holds;
+  holds = holds_more t.other t.own v.other v.own stand p frames frame (subst Awaits (sym h.same.phase)) (subst IsAnswered (sym h.same.phase)) (numbered_seen t v frame is h) (λ w ua_is. absurd (never_ua frame is ua_is)) f.holds;
 }
   where
     same : (x : ℕ) → min (x + 0) 255 ≤ x
@@ -128,6 +136,7 @@ accepted_awaits phase.Out h = absurd h
 accepted_awaits phase.Waiting h = tt
 accepted_awaits phase.Answered h = tt
 accepted_awaits phase.Up h = absurd h
+accepted_awaits phase.Unanswered h = tt
 
 may_be_awaits : (p : Phase) → Awaits p → Awaits (sides.may_be_accepted p)
 may_be_awaits phase.Unseen h = absurd h
@@ -135,6 +144,23 @@ may_be_awaits phase.Out h = absurd h
 may_be_awaits phase.Waiting h = tt
 may_be_awaits phase.Answered h = tt
 may_be_awaits phase.Up h = absurd h
+may_be_awaits phase.Unanswered h = tt
+
+may_be_answered : (p : Phase) → IsAnswered p → IsAnswered (sides.may_be_accepted p)
+may_be_answered phase.Unseen on = absurd on
+may_be_answered phase.Out on = absurd on
+may_be_answered phase.Waiting on = absurd on
+may_be_answered phase.Answered on = tt
+may_be_answered phase.Up on = absurd on
+may_be_answered phase.Unanswered on = absurd on
+
+accepted_answered : (p : Phase) → IsAnswered p → IsAnswered (sides.accepted p)
+accepted_answered phase.Unseen on = absurd on
+accepted_answered phase.Out on = absurd on
+accepted_answered phase.Waiting on = absurd on
+accepted_answered phase.Answered on = tt
+accepted_answered phase.Up on = absurd on
+accepted_answered phase.Unanswered on = absurd on
 
 missed_own : (k : Bool) (p : Phase) (a c : End) (w : Way) → c.asked ≡ a.asked → c.way ≡ way.unheard a.way → RestsOwn p a w
     → RestsOwn (sides.may_be_accepted p) c (way.missed k w)
@@ -146,30 +172,43 @@ missed_own k phase.Answered a c w e f r = (
   elim r.1 [ inl asked ↦ inl (λ z. asked (sym e ∙ z)) | inr hears ↦ inr (missed_hears k w 0 0 hears) ],
 )
 missed_own k phase.Up a c w e f r = tt
+missed_own k phase.Unanswered a c w e f r = (subst (λ v. OwnIf v 0 0) (sym f) (unheard_own_if a.way 0 0 r.1), inl (λ z. r.0 (sym e ∙ z)))
 
-missed_rested : (k : Bool) (w : Way) → Rested w → Rested (way.missed k w)
-missed_rested k w h = record { hears = missed_hears k w 0 0 h.hears; none = h.none }
+stays_rested : (k : Bool) (w : Way) → Rested w → Rested (way.missed k w)
+stays_rested k w h = record { hears = missed_hears k w 0 0 h.hears; none = h.none }
 
 missed_other : (k : Bool) (p : Phase) (w : Way) → RestsOther p w → RestsOther (sides.unsure p) (way.missed k w)
 missed_other k phase.Unseen w r = tt
 missed_other k phase.Out w r = tt
 missed_other k phase.Waiting w r = tt
-missed_other k phase.Answered w r = missed_rested k w r
-missed_other k phase.Up w r = tt
+missed_other k phase.Answered w r = stays_rested k w r
+missed_other k phase.Up w r = inl refl
+missed_other k phase.Unanswered w r = inl refl
 
 on_unsure : (p : Phase) → On (sides.unsure p) → On p
 on_unsure phase.Unseen on = on
 on_unsure phase.Out on = absurd on
 on_unsure phase.Waiting on = absurd on
 on_unsure phase.Answered on = on
-on_unsure phase.Up on = on
+on_unsure phase.Up on = tt
+on_unsure phase.Unanswered on = on
 
-rests_unsure : (p : Phase) → IsAtRest (sides.unsure p) → IsAtRest p
-rests_unsure phase.Unseen rests = tt
-rests_unsure phase.Out rests = tt
-rests_unsure phase.Waiting rests = tt
-rests_unsure phase.Answered rests = tt
-rests_unsure phase.Up rests = rests
+-- its numbers end, or may end
+ended_bound : (p : Phase) (frames : List PlainFrame) (asked late : ℕ) → min (asks_all frames) 255 ≤ asked → (IsAtRest p → min (late_all frames) 255 ≤ late) → min (late_all frames) 255 ≤ ended_late p asked late
+ended_bound phase.Unseen frames asked late h k = k tt
+ended_bound phase.Out frames asked late h k = k tt
+ended_bound phase.Waiting frames asked late h k = k tt
+ended_bound phase.Answered frames asked late h k = k tt
+ended_bound phase.Up frames asked late h k = fewer_late (late_all frames) (asks_all frames) asked (late_few frames) h
+ended_bound phase.Unanswered frames asked late h k = k tt
+
+unsure_sabms : (p : Phase) (a b : Way) (frames : List PlainFrame) (asked late : ℕ) → min (asks_all frames) 255 ≤ asked → On (sides.unsure p) → ended_late p asked late ≡ 0 → (On p → late ≡ 0 → BehindSabm a b frames) → BehindSabm a b frames
+unsure_sabms phase.Unseen a b frames asked late h on none sabms = absurd on
+unsure_sabms phase.Out a b frames asked late h on none sabms = absurd on
+unsure_sabms phase.Waiting a b frames asked late h on none sabms = absurd on
+unsure_sabms phase.Answered a b frames asked late h on none sabms = sabms tt none
+unsure_sabms phase.Up a b frames asked late h on none sabms = sabms_none a b frames (none_at_all (asks_all frames) asked h none)
+unsure_sabms phase.Unanswered a b frames asked late h on none sabms = sabms tt none
 
 missed_phase : (t : Sides) → (sides.misses t).own.phase ≡ sides.unsure t.own.phase
 unfolding sides.misses
@@ -190,28 +229,21 @@ missed_fits t stand p frames f =
     let v = sides.misses t in
     record {
       asked = subst (λ x. min (asks_all frames) 255 ≤ x) (sym s.asked) (more (asks_all frames) t.own.asked f.asked);
-      late = λ rests. subst (λ x. min (late_all frames) 255 ≤ x) (sym s.late) (f.late (rests_unsure t.own.phase (subst IsAtRest (missed_phase t) rests)));
+      late = λ rests. subst (λ x. min (late_all frames) 255 ≤ x) (sym s.late) (ended_bound t.own.phase frames t.own.asked t.own.late f.asked f.late);
       own = subst (λ x. RestsOwn x v.other v.own.way) (sym s.other_phase) (subst (λ w. RestsOwn (sides.may_be_accepted t.other.phase) v.other w) (sym s.own) (missed_own (sides.is_unasked t) t.other.phase t.other v.other t.own.way s.other_asked s.other f.own));
       count = f.count;
       sent = subst (λ w. OwnIf w f.count 0) (sym s.other) (unheard_own_if t.other.way f.count 0 f.sent);
       other = subst (λ x. RestsOther x v.own.way) (sym (missed_phase t)) (subst (λ w. RestsOther (sides.unsure t.own.phase) w) (sym s.own) (missed_other (sides.is_unasked t) t.own.phase t.own.way f.other));
       sabms = λ on none. subst (λ w. BehindSabm w v.own.way frames) (sym s.other) (subst (λ w. BehindSabm (way.unheard t.other.way) w frames) (sym s.own)
-          (sabms_to t.other.way t.own.way (way.unheard t.other.way) (way.missed (sides.is_unasked t) t.own.way) frames (missed_anew (sides.is_unasked t) t.other.way t.own.way) (f.sabms (on_unsure t.own.phase (subst On (missed_phase t) on)) (sym s.late ∙ none))));
-      holds = holds_to t.other t.own v.other v.own stand p frames (λ w. subst Awaits (sym s.other_phase) (may_be_awaits t.other.phase w)) (missed_seen t) f.holds;
+          (sabms_to t.other.way t.own.way (way.unheard t.other.way) (way.missed (sides.is_unasked t) t.own.way) frames (missed_anew (sides.is_unasked t) t.other.way t.own.way)
+          (unsure_sabms t.own.phase t.other.way t.own.way frames t.own.asked t.own.late f.asked (subst On (missed_phase t) on) (sym s.late ∙ none) f.sabms)));
+      holds = holds_to t.other t.own v.other v.own stand p frames (λ w. subst Awaits (sym s.other_phase) (may_be_awaits t.other.phase w)) (λ on. subst IsAnswered (sym s.other_phase) (may_be_answered t.other.phase on)) (missed_seen t) f.holds;
     }
   where
     more : (a x : ℕ) → min a 255 ≤ x → min a 255 ≤ min (x + 1) 255
     more a x h = omega arith
 
 -- ---- SABM
-
--- its numbers end
-ended_bound : (p : Phase) (frames : List PlainFrame) (asked late : ℕ) → min (asks_all frames) 255 ≤ asked → (IsAtRest p → min (late_all frames) 255 ≤ late) → min (late_all frames) 255 ≤ ended_late p asked late
-ended_bound phase.Unseen frames asked late h k = k tt
-ended_bound phase.Out frames asked late h k = k tt
-ended_bound phase.Waiting frames asked late h k = k tt
-ended_bound phase.Answered frames asked late h k = k tt
-ended_bound phase.Up frames asked late h k = fewer_late (late_all frames) (asks_all frames) asked (late_few frames) h
 
 ends_late : (t v : Sides) (frames : List PlainFrame) (frame : PlainFrame) → (IsNumbered frame → ⊥) → v.own.late ≡ ended_late t.own.phase t.own.asked t.own.late → min (asks_all frames) 255 ≤ t.own.asked
     → (IsAtRest t.own.phase → min (late_all frames) 255 ≤ t.own.late) → min (late_all (frames ++ frame ∷ [])) 255 ≤ v.own.late
@@ -225,6 +257,7 @@ own_to phase.Out a c w v e f g r = tt
 own_to phase.Waiting a c w v e f g r = (λ z. r.0 (sym e ∙ z), subst (λ x. OwnIf x 0 0) (sym f) r.1)
 own_to phase.Answered a c w v e f g r = (subst (λ x. OwnIf x 0 0) (sym f) r.0, elim r.1 [ inl asked ↦ inl (λ z. asked (sym e ∙ z)) | inr hears ↦ inr (g hears) ])
 own_to phase.Up a c w v e f g r = tt
+own_to phase.Unanswered a c w v e f g r = (λ z. r.0 (sym e ∙ z), subst (λ x. OwnIf x 0 0) (sym f) r.1)
 
 asking_rested : (p : Phase) (knows : Bool) (w : Way) → RestsOther p w → Rested (sides.asking_way p (way.fresh knows) w)
 asking_rested phase.Unseen knows w r = begun_rested _
@@ -232,6 +265,7 @@ asking_rested phase.Out knows w r = begun_rested _
 asking_rested phase.Waiting knows w r = begun_rested _
 asking_rested phase.Answered knows w r = r
 asking_rested phase.Up knows w r = begun_rested _
+asking_rested phase.Unanswered knows w r = begun_rested _
 
 asking_other : (p : Phase) (w : Way) → Rested w → RestsOther (sides.asking p) w
 asking_other phase.Unseen w r = tt
@@ -239,6 +273,7 @@ asking_other phase.Out w r = tt
 asking_other phase.Waiting w r = tt
 asking_other phase.Answered w r = r
 asking_other phase.Up w r = tt
+asking_other phase.Unanswered w r = tt
 
 up_waits : (p : Phase) → sides.may_run p ≡ true → sides.awaits_ua p ≡ false
 up_waits phase.Unseen h = refl
@@ -246,6 +281,7 @@ up_waits phase.Out h = refl
 up_waits phase.Waiting h = absurd (both_ways false refl h)
 up_waits phase.Answered h = refl
 up_waits phase.Up h = refl
+up_waits phase.Unanswered h = refl
 
 asking_hears : (p : Phase) (knows : Bool) (w : Way) (g t : ℕ) → knows ≡ false → Hears w g t → Hears (sides.asking_way p (way.fresh knows) w) g t
 asking_hears phase.Unseen knows w g t bare h = subst (λ k. Hears (way.fresh k) g t) (sym bare) (deaf_hears (way.fresh false) g t refl)
@@ -253,6 +289,7 @@ asking_hears phase.Out knows w g t bare h = subst (λ k. Hears (way.fresh k) g t
 asking_hears phase.Waiting knows w g t bare h = subst (λ k. Hears (way.fresh k) g t) (sym bare) (deaf_hears (way.fresh false) g t refl)
 asking_hears phase.Answered knows w g t bare h = h
 asking_hears phase.Up knows w g t bare h = subst (λ k. Hears (way.fresh k) g t) (sym bare) (deaf_hears (way.fresh false) g t refl)
+asking_hears phase.Unanswered knows w g t bare h = subst (λ k. Hears (way.fresh k) g t) (sym bare) (deaf_hears (way.fresh false) g t refl)
 
 -- UA answered one before, and no frame with a number was sent since
 pub record AsksAgain (p : Phase) (anew w : Way) : Type 0 where
@@ -267,6 +304,7 @@ asks_again phase.Out anew w on = absurd on
 asks_again phase.Waiting anew w on = absurd on
 asks_again phase.Answered anew w on = record { on = tt; same = refl; rested = λ r. r; kept = λ asked late. refl }
 asks_again phase.Up anew w on = absurd on
+asks_again phase.Unanswered anew w on = absurd on
 
 -- of what none was taken, and none may be
 rested_none : (w : Way) (g t : ℕ) → Rested w → Hears w g t → way.may_hear w ≡ true → g ≡ 0
@@ -281,7 +319,7 @@ sabm_fits t v stand p frames b a f = record {
   sent = subst (λ w. OwnIf w f.count 0) (sym a.other) f.sent;
   other = subst (λ x. RestsOther x v.own.way) (sym a.phase) (asking_other t.own.phase v.own.way rested);
   sabms = λ on none. sabms_more t.other.way t.own.way v.other.way v.own.way frames (sabm b) (again on) (λ _. record { count = f.count; own = subst (λ w. OwnIf w f.count 0) (sym a.other) f.sent; hears = rested.hears; first = λ _. tt }) (f.sabms (still on).on (sym ((still on).kept t.own.asked t.own.late) ∙ sym a.late ∙ none));
-  holds = holds_more t.other t.own v.other v.own stand p frames (sabm b) (subst Awaits (sym a.other_phase)) seen (λ w is. absurd is) f.holds;
+  holds = holds_more t.other t.own v.other v.own stand p frames (sabm b) (subst Awaits (sym a.other_phase)) (subst IsAnswered (sym a.other_phase)) seen (λ w is. absurd is) f.holds;
 }
   where
     least : (x : ℕ) → x ≤ x
@@ -328,7 +366,7 @@ aside_fits t v stand p frames frame a rests still no_number no_sabm no_ua f = re
   sent = subst (λ w. OwnIf w f.count 0) (sym a.other) f.sent;
   other = subst (λ w. RestsOther v.own.phase w) (sym a.own) (rests f.other);
   sabms = λ on none. sabms_more t.other.way t.own.way v.other.way v.own.way frames frame (anew on) (λ is. absurd (no_sabm is)) (f.sabms (still on).0 (sym (still on).2 ∙ sym a.late ∙ none));
-  holds = holds_more t.other t.own v.other v.own stand p frames frame (subst Awaits (sym a.other_phase)) seen (λ w is. absurd (no_ua is)) f.holds;
+  holds = holds_more t.other t.own v.other v.own stand p frames frame (subst Awaits (sym a.other_phase)) (subst IsAnswered (sym a.other_phase)) seen (λ w is. absurd (no_ua is)) f.holds;
 }
   where
     anew : On v.own.phase → (rest : List PlainFrame) → Anew t.other.way t.own.way rest → Anew v.other.way v.own.way (rest ++ frame ∷ [])
@@ -356,6 +394,7 @@ declining_other phase.Out w r = tt
 declining_other phase.Waiting w r = tt
 declining_other phase.Answered w r = r
 declining_other phase.Up w r = tt
+declining_other phase.Unanswered w r = tt
 
 on_declining : (p : Phase) → On (sides.declining p) → On p
 on_declining phase.Unseen on = on
@@ -363,6 +402,7 @@ on_declining phase.Out on = on
 on_declining phase.Waiting on = on
 on_declining phase.Answered on = on
 on_declining phase.Up on = absurd on
+on_declining phase.Unanswered on = absurd on
 
 kept_declining : (p : Phase) (asked late : ℕ) → On (sides.declining p) → ended_late p asked late ≡ late
 kept_declining phase.Unseen asked late on = absurd on
@@ -370,6 +410,7 @@ kept_declining phase.Out asked late on = absurd on
 kept_declining phase.Waiting asked late on = absurd on
 kept_declining phase.Answered asked late on = refl
 kept_declining phase.Up asked late on = absurd on
+kept_declining phase.Unanswered asked late on = absurd on
 
 -- ---- UA
 
@@ -379,13 +420,15 @@ accepted_rests l phase.Out a c w v e h r = tt
 accepted_rests l phase.Waiting a c w v e h r = (subst (λ x. OwnIf x 0 0) (sym e) (deafened_own l (way.answered a.way) 0 0 (answered_own a.way)), inr h)
 accepted_rests l phase.Answered a c w v e h r = (subst (λ x. OwnIf x 0 0) (sym e) (deafened_own l (way.answered_again a.way) 0 0 (again_own a.way 0 0 r.0)), inr h)
 accepted_rests l phase.Up a c w v e h r = tt
+accepted_rests l phase.Unanswered a c w v e h r = (subst (λ x. OwnIf x 0 0) (sym e) (deafened_own l (way.answered_again a.way) 0 0 (again_own a.way 0 0 r.1)), inr h)
 
 accepting_other : (p : Phase) (w : Way) → Rested w → RestsOther (sides.accepting p) w
 accepting_other phase.Unseen w r = tt
 accepting_other phase.Out w r = tt
-accepting_other phase.Waiting w r = r
+accepting_other phase.Waiting w r = inr r
 accepting_other phase.Answered w r = r
 accepting_other phase.Up w r = tt
+accepting_other phase.Unanswered w r = inr r
 
 accepted_up : (p : Phase) → sides.may_run p ≡ true → sides.may_run (sides.accepted p) ≡ true
 accepted_up phase.Unseen h = refl
@@ -393,13 +436,15 @@ accepted_up phase.Out h = h
 accepted_up phase.Waiting h = refl
 accepted_up phase.Answered h = refl
 accepted_up phase.Up h = refl
+accepted_up phase.Unanswered h = refl
 
-awaits_up : (p : Phase) → Awaits p → sides.may_run (sides.accepted p) ≡ true
+awaits_up : (p : Phase) → Awaits p → (sides.may_run (sides.accepted p) ≡ true) × IsAnswered (sides.accepted p)
 awaits_up phase.Unseen h = absurd h
 awaits_up phase.Out h = absurd h
-awaits_up phase.Waiting h = refl
-awaits_up phase.Answered h = refl
+awaits_up phase.Waiting h = (refl, tt)
+awaits_up phase.Answered h = (refl, tt)
 awaits_up phase.Up h = absurd h
+awaits_up phase.Unanswered h = (refl, tt)
 
 accepted_own : (p : Phase) (w : Way) (m u : ℕ) → sides.may_run p ≡ true → OwnIf w m u → OwnIf (sides.accepted_way p w) m u
 accepted_own phase.Unseen w m u up h = inl refl
@@ -407,6 +452,7 @@ accepted_own phase.Out w m u up h = absurd (both_ways false refl up)
 accepted_own phase.Waiting w m u up h = absurd (both_ways false refl up)
 accepted_own phase.Answered w m u up h = again_own w m u h
 accepted_own phase.Up w m u up h = again_own w m u h
+accepted_own phase.Unanswered w m u up h = again_own w m u h
 
 -- where it is none that the end awaits
 pub record Counted (w : Way) : Type 0 where
@@ -419,6 +465,7 @@ accepted_any phase.Out w m h = record { count = 0; own = inl refl }
 accepted_any phase.Waiting w m h = record { count = 0; own = answered_own w }
 accepted_any phase.Answered w m h = record { count = m; own = again_own w m 0 h }
 accepted_any phase.Up w m h = record { count = m; own = again_own w m 0 h }
+accepted_any phase.Unanswered w m h = record { count = m; own = again_own w m 0 h }
 
 accepting_rested : (p : Phase) (w : Way) → Rested (sides.accepting_way p w)
 accepting_rested phase.Unseen w = begun_rested _
@@ -426,6 +473,7 @@ accepting_rested phase.Out w = begun_rested _
 accepting_rested phase.Waiting w = begun_rested _
 accepting_rested phase.Answered w = begun_rested _
 accepting_rested phase.Up w = begun_rested _
+accepting_rested phase.Unanswered w = begun_rested _
 
 accepting_hears : (p : Phase) (w : Way) (g t : ℕ) → sides.may_run p ≡ true → Hears w g t → Hears (sides.accepting_way p w) g t
 accepting_hears phase.Unseen w g t up h = deaf_hears (way.fresh false) g t refl
@@ -433,6 +481,7 @@ accepting_hears phase.Out w g t up h = absurd (both_ways false refl up)
 accepting_hears phase.Waiting w g t up h = absurd (both_ways false refl up)
 accepting_hears phase.Answered w g t up h = answering_hears w g t h
 accepting_hears phase.Up w g t up h = answering_hears w g t h
+accepting_hears phase.Unanswered w g t up h = answering_hears w g t h
 
 -- its numbers are known only where it sent no I frame before
 accepting_none : (p : Phase) (w : Way) (g t : ℕ) → sides.may_run p ≡ true → Hears w g t → way.may_hear (sides.accepting_way p w) ≡ true → g ≡ 0
@@ -441,6 +490,7 @@ accepting_none phase.Out w g t up h hears = absurd (both_ways false refl up)
 accepting_none phase.Waiting w g t up h hears = absurd (both_ways false refl up)
 accepting_none phase.Answered w g t up h hears = let is = answering_hearing w hears in (h.none is.0 is.1).0
 accepting_none phase.Up w g t up h hears = let is = answering_hearing w hears in (h.none is.0 is.1).0
+accepting_none phase.Unanswered w g t up h hears = let is = answering_hearing w hears in (h.none is.0 is.1).0
 
 new_own : (p : Phase) (a : End) (w : Way) → Awaits p → RestsOwn p a w → OwnIf (sides.accepted_way p a.way) 0 0
 new_own phase.Unseen a w h r = absurd h
@@ -448,6 +498,7 @@ new_own phase.Out a w h r = absurd h
 new_own phase.Waiting a w h r = answered_own a.way
 new_own phase.Answered a w h r = again_own a.way 0 0 r.0
 new_own phase.Up a w h r = absurd h
+new_own phase.Unanswered a w h r = again_own a.way 0 0 r.1
 
 -- behind a late one nothing is judged of either end's N(R)s
 pub late_anew : (a b : Way) (m u : ℕ) (rest : List PlainFrame) → OwnIf a m u → Anew (way.deafened true a) (way.deafened true b) rest
@@ -482,7 +533,7 @@ accepted_fits t v stand p frames f a h = record {
   sabms = λ on none. subst (λ w. BehindSabm w v.own.way (frames ++ ua f ∷ [])) (sym a.other) (subst (λ w. BehindSabm (way.deafened l (sides.accepted_way t.other.phase t.other.way)) w (frames ++ ua f ∷ [])) (sym a.own)
       (accepted_sabms l (sides.accepted_way t.other.phase t.other.way) (sides.accepting_way t.other.phase t.own.way) counted.count (frames ++ ua f ∷ [])
       (none_at_all (late_all (frames ++ ua f ∷ [])) v.own.late (ends_late t v frames (ua f) (λ x. x) a.late h.asked h.late) none) counted.own (accepting_rested t.other.phase t.own.way)));
-  holds = holds_more t.other t.own v.other v.own stand p frames (ua f) (λ w. subst Awaits (sym a.other_phase) (accepted_awaits t.other.phase w)) seen new h.holds;
+  holds = holds_more t.other t.own v.other v.own stand p frames (ua f) (λ w. subst Awaits (sym a.other_phase) (accepted_awaits t.other.phase w)) (λ on. subst IsAnswered (sym a.other_phase) (accepted_answered t.other.phase on)) seen new h.holds;
 }
   where
     within : (x : ℕ) → min (x + 0) 255 ≤ x
@@ -510,23 +561,27 @@ accepted_fits t v stand p frames f a h = record {
           ∙ accepting_none t.other.phase t.own.way (took_all rest (length q.taken)) q.told s.seen.up s.seen.hears (deafened_hearing l (sides.accepting_way t.other.phase t.own.way) (sym (ap way.may_hear a.own) ∙ hears)));
     }
 
-    new : Awaits t.other.phase → IsUa (ua f) → SeenIn v.other v.own fresh_peer []
-    new w is = record {
-      seen = record {
-        up = ap sides.may_run a.other_phase ∙ awaits_up t.other.phase w;
-        own = subst (λ x. OwnIf x 0 0) (sym a.other) (deafened_own l (sides.accepted_way t.other.phase t.other.way) 0 0 (new_own t.other.phase t.other t.own.way w h.own));
-        hears = rested.hears;
-      };
-      first = λ on hears. tt;
-    }
+    new : Awaits t.other.phase → IsUa (ua f) → IsAnswered v.other.phase × SeenIn v.other v.own fresh_peer []
+    new w is = (
+      subst IsAnswered (sym a.other_phase) (awaits_up t.other.phase w).1,
+      record {
+        seen = record {
+          up = ap sides.may_run a.other_phase ∙ (awaits_up t.other.phase w).0;
+          own = subst (λ x. OwnIf x 0 0) (sym a.other) (deafened_own l (sides.accepted_way t.other.phase t.other.way) 0 0 (new_own t.other.phase t.other t.own.way w h.own));
+          hears = rested.hears;
+        };
+        first = λ on hears. tt;
+      },
+    )
 
 -- one that is told of
-unasked_seen : (p : Phase) (a b : End) → a.phase ≡ p → Awaits p → RestsOwn p a b.way → a.asked ≡ 0 → Seen a b 0 0 0 0
+unasked_seen : (p : Phase) (a b : End) → a.phase ≡ p → Awaits p → RestsOwn p a b.way → a.asked ≡ 0 → IsAnswered p × Seen a b 0 0 0 0
 unasked_seen phase.Unseen a b is w r none = absurd w
 unasked_seen phase.Out a b is w r none = absurd w
 unasked_seen phase.Waiting a b is w r none = absurd (r.0 none)
-unasked_seen phase.Answered a b is w r none = record { up = ap sides.may_run is; own = r.0; hears = elim r.1 [ inl some ↦ absurd (some none) | inr hears ↦ hears ] }
+unasked_seen phase.Answered a b is w r none = (tt, record { up = ap sides.may_run is; own = r.0; hears = elim r.1 [ inl some ↦ absurd (some none) | inr hears ↦ hears ] })
 unasked_seen phase.Up a b is w r none = absurd w
+unasked_seen phase.Unanswered a b is w r none = absurd (r.0 none)
 
 unasked_fits : (a b : End) (stand : Stand) (p : Peer) (frames : List PlainFrame) (f : Bool) → a.asked ≡ 0 → Fits a b stand p frames → Fits a b stand p (frames ++ ua f ∷ [])
 unasked_fits a b stand p frames f none h = record {
@@ -542,10 +597,10 @@ unasked_fits a b stand p frames f none h = record {
     hears = subst (λ g. Hears b.way g 0) (sym (took_more rest (ua f) 0)) s.hears;
     first = λ hears. none_more rest (ua f) 0 refl (s.first hears);
   }) (λ is. absurd is) (h.sabms on none);
-  holds = holds_more a b a b stand p frames (ua f) (λ w. w) (λ q rest s. record {
+  holds = holds_more a b a b stand p frames (ua f) (λ w. w) (λ on. on) (λ q rest s. record {
     seen = seen_more a b q rest (ua f) s.seen;
     first = λ on hears. none_more rest (ua f) (length q.taken) refl (s.first on hears);
-  }) (λ w is. record { seen = unasked_seen a.phase a b refl w h.own none; first = λ on hears. tt }) h.holds;
+  }) (λ w is. let s = unasked_seen a.phase a b refl w h.own none in (s.0, record { seen = s.1; first = λ on hears. tt })) h.holds;
 }
   where
     within : (x : ℕ) → min (x + 0) 255 ≤ x

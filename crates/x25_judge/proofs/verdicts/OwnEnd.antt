@@ -12,11 +12,12 @@ use Rattle.x25_judge.specs.declared.sides.Phase.TheVariants as phase
 use Rattle.x25_judge.specs.declared.sides.Sides.{Sides}
 use Rattle.x25_judge.specs.declared.way.Way.{Way}
 use Rattle.x25_judge.specs.laws.Sessions.{declined}
+use Rattle.x25_judge.specs.laws.VerdictClaims.{IsAnswered}
 use Rattle.x25_judge.proofs.verdicts.Fair.{OwnIf}
-use Rattle.x25_judge.proofs.verdicts.Innocents.{heard_all, took_all, Hears, deaf_hears}
+use Rattle.x25_judge.proofs.verdicts.Beside.{heard_all, took_all, Hears, deaf_hears}
 use Rattle.x25_judge.proofs.verdicts.OtherEnd.{own_to, Counted}
 use Rattle.x25_judge.proofs.verdicts.Standing.{asks_one, asks_all, sabm_asks, fewer, HaveNoNumber, none_heard, none_taken, late_all, late_tail, late_front, late_taken, none_at_all}
-use Rattle.x25_judge.proofs.verdicts.Standing.{NoneBefore, bare_none, begun_own, answered_rested, lost_rested, again_rested, again_hears, again_hearing, answering_own}
+use Rattle.x25_judge.proofs.verdicts.Standing.{NoneBefore, bare_none, begun_own, answered_rested, lost_rested, again_rested, unanswered_rested, again_hears, again_hearing, answering_own}
 use Rattle.x25_judge.proofs.verdicts.Standing.{late_own, late_deaf, deafened_own, deafened_hears, deafened_hearing, deafened_rested}
 use Rattle.x25_judge.proofs.verdicts.Standing.{RestsOwn, RestsOther, On, IsAtRest, Anew, BehindSabm, SeenIn, BehindUa, Awaits, Holds, Fits, sabms_to, uas_to}
 use Rattle.x25_judge.proofs.verdicts.Unnumbered.{Asked, Aside, Accepted, in_time}
@@ -35,6 +36,7 @@ asking_own phase.Out knows a c w v e f r = (λ z. some_asked a.asked (sym f ∙ 
 asking_own phase.Waiting knows a c w v e f r = (λ z. some_asked a.asked (sym f ∙ z), subst (λ x. OwnIf x 0 0) (sym e) (begun_own _))
 asking_own phase.Answered knows a c w v e f r = (subst (λ x. OwnIf x 0 0) (sym e) r.0, inl (λ z. some_asked a.asked (sym f ∙ z)))
 asking_own phase.Up knows a c w v e f r = (λ z. some_asked a.asked (sym f ∙ z), subst (λ x. OwnIf x 0 0) (sym e) (begun_own _))
+asking_own phase.Unanswered knows a c w v e f r = (λ z. some_asked a.asked (sym f ∙ z), subst (λ x. OwnIf x 0 0) (sym e) (begun_own _))
 
 asking_awaits : (p : Phase) → Awaits (sides.asking p)
 asking_awaits phase.Unseen = tt
@@ -42,6 +44,7 @@ asking_awaits phase.Out = tt
 asking_awaits phase.Waiting = tt
 asking_awaits phase.Answered = tt
 asking_awaits phase.Up = tt
+asking_awaits phase.Unanswered = tt
 
 asking_any : (p : Phase) (knows : Bool) (w : Way) (m : ℕ) → OwnIf w m 0 → Counted (sides.asking_way p (way.fresh knows) w)
 asking_any phase.Unseen knows w m h = record { count = 0; own = begun_own _ }
@@ -49,6 +52,7 @@ asking_any phase.Out knows w m h = record { count = 0; own = begun_own _ }
 asking_any phase.Waiting knows w m h = record { count = 0; own = begun_own _ }
 asking_any phase.Answered knows w m h = record { count = m; own = h }
 asking_any phase.Up knows w m h = record { count = 0; own = begun_own _ }
+asking_any phase.Unanswered knows w m h = record { count = 0; own = begun_own _ }
 
 on_waits : (p : Phase) → On p → sides.awaits_ua p ≡ false
 on_waits phase.Unseen on = absurd on
@@ -56,6 +60,7 @@ on_waits phase.Out on = absurd on
 on_waits phase.Waiting on = absurd on
 on_waits phase.Answered on = refl
 on_waits phase.Up on = refl
+on_waits phase.Unanswered on = refl
 
 unknown_anew : (knows : Bool) (a b : Way) (rest : List PlainFrame) → knows ≡ false → Anew a b rest → Anew (way.fresh knows) b rest
 unknown_anew knows a b rest bare h = record { count = 0; own = subst (λ k. OwnIf (way.fresh k) 0 (heard_all rest 0)) (sym bare) (inl refl); hears = h.hears; first = h.first }
@@ -66,18 +71,20 @@ asking_anew phase.Out knows a b rest bare h = unknown_anew knows a b rest bare h
 asking_anew phase.Waiting knows a b rest bare h = unknown_anew knows a b rest bare h
 asking_anew phase.Answered knows a b rest bare h = h
 asking_anew phase.Up knows a b rest bare h = unknown_anew knows a b rest bare h
+asking_anew phase.Unanswered knows a b rest bare h = unknown_anew knows a b rest bare h
 
 -- it awaits UA, and some came for it that it hasn't taken
-stays_asking : (p : Phase) (anew w : Way) → Awaits p → sides.may_run p ≡ true → (sides.asking p ≡ p) × (sides.asking_way p anew w ≡ w)
-stays_asking phase.Unseen anew w awaits up = absurd awaits
-stays_asking phase.Out anew w awaits up = absurd awaits
-stays_asking phase.Waiting anew w awaits up = absurd (both_ways false refl up)
-stays_asking phase.Answered anew w awaits up = (refl, refl)
-stays_asking phase.Up anew w awaits up = absurd awaits
+stays_asking : (p : Phase) (anew w : Way) → IsAnswered p → (sides.asking p ≡ p) × (sides.asking_way p anew w ≡ w)
+stays_asking phase.Unseen anew w on = absurd on
+stays_asking phase.Out anew w on = absurd on
+stays_asking phase.Waiting anew w on = absurd on
+stays_asking phase.Answered anew w on = (refl, refl)
+stays_asking phase.Up anew w on = absurd on
+stays_asking phase.Unanswered anew w on = absurd on
 
-pub asked_uas : (t v : Sides) (frames : List PlainFrame) → Asked t v → Awaits t.own.phase → BehindUa t.own t.other frames → BehindUa v.own v.other frames
-asked_uas t v frames a awaits h = uas_to t.own t.other v.own v.other frames (λ rest s.
-    let stays = stays_asking t.own.phase (way.fresh (sides.awaits_ua t.other.phase)) t.own.way awaits s.seen.up in
+pub asked_uas : (t v : Sides) (frames : List PlainFrame) → Asked t v → BehindUa t.own t.other frames → BehindUa v.own v.other frames
+asked_uas t v frames a h = uas_to t.own t.other v.own v.other frames (λ on. subst IsAnswered (sym (a.phase ∙ (stays_asking t.own.phase (way.fresh (sides.awaits_ua t.other.phase)) t.own.way on).0)) on) (λ rest on s.
+    let stays = stays_asking t.own.phase (way.fresh (sides.awaits_ua t.other.phase)) t.own.way on in
     record {
       seen = record {
         up = ap sides.may_run (a.phase ∙ stays.0) ∙ s.seen.up;
@@ -127,6 +134,7 @@ declining_own phase.Out a c w v e f g r = tt
 declining_own phase.Waiting a c w v e f g r = own_to phase.Waiting a c w v e f g r
 declining_own phase.Answered a c w v e f g r = own_to phase.Answered a c w v e f g r
 declining_own phase.Up a c w v e f g r = tt
+declining_own phase.Unanswered a c w v e f g r = own_to phase.Waiting a c w v e f g r
 
 declining_awaits : (p : Phase) → Awaits p → Awaits (sides.declining p)
 declining_awaits phase.Unseen h = absurd h
@@ -134,13 +142,15 @@ declining_awaits phase.Out h = absurd h
 declining_awaits phase.Waiting h = tt
 declining_awaits phase.Answered h = tt
 declining_awaits phase.Up h = absurd h
+declining_awaits phase.Unanswered h = tt
 
-declining_up : (p : Phase) → Awaits p → sides.may_run p ≡ true → sides.may_run (sides.declining p) ≡ true
-declining_up phase.Unseen w h = absurd w
-declining_up phase.Out w h = absurd w
-declining_up phase.Waiting w h = h
-declining_up phase.Answered w h = h
-declining_up phase.Up w h = absurd w
+declining_up : (p : Phase) → IsAnswered p → (sides.may_run (sides.declining p) ≡ true) × IsAnswered (sides.declining p)
+declining_up phase.Unseen on = absurd on
+declining_up phase.Out on = absurd on
+declining_up phase.Waiting on = absurd on
+declining_up phase.Answered on = (refl, tt)
+declining_up phase.Up on = absurd on
+declining_up phase.Unanswered on = absurd on
 
 declines_holds : (t v : Sides) (stand : Stand) (p : Peer) (frames : List PlainFrame) (f : Bool) → Aside t v (dm f) → v.own.phase ≡ sides.declining t.own.phase → Holds t.own t.other stand p frames
     → Holds v.own v.other (declined stand) p frames
@@ -148,9 +158,9 @@ declines_holds t v Out p frames f a is h = tt
 declines_holds t v In p frames f a is h = tt
 declines_holds t v Asking p frames f a is h = (
   subst Awaits (sym is) (declining_awaits t.own.phase h.0),
-  uas_to t.own t.other v.own v.other frames (λ rest s. record {
+  uas_to t.own t.other v.own v.other frames (λ on. subst IsAnswered (sym is) (declining_up t.own.phase on).1) (λ rest on s. record {
     seen = record {
-      up = ap sides.may_run is ∙ declining_up t.own.phase h.0 s.seen.up;
+      up = ap sides.may_run is ∙ (declining_up t.own.phase on).0;
       own = subst (λ w. OwnIf w 0 (heard_all rest 0)) (sym a.own) s.seen.own;
       hears = subst (λ w. Hears w (took_all rest 0) 0) (sym a.other) s.seen.hears;
     };
@@ -221,6 +231,7 @@ accepted_begins l phase.Waiting a b rest bare r anew = on_time_begins l (way.fre
 accepted_begins l phase.Answered a b rest bare r anew = on_time_begins l (way.answering_again a) (way.answered_again b) rest (bare tt) (begun_own _) (again_rested b r).hears
 accepted_begins true phase.Up a b rest bare r anew = late_begins (way.answering_again a) (way.answered_again b) rest (begun_own _)
 accepted_begins false phase.Up a b rest bare r anew = again_begins a b rest (anew tt refl)
+accepted_begins l phase.Unanswered a b rest bare r anew = on_time_begins l (way.answering_again a) (way.answered_again b) rest (bare tt) (begun_own _) (unanswered_rested b r).hears
 
 -- at each SABM that is left
 accepted_sabms : (l : Bool) (p : Phase) (a b : Way) (frames : List PlainFrame) → (IsAtRest p → l ≡ false → late_all frames ≡ 0) → RestsOther p b → (On p → l ≡ false → BehindSabm a b frames)
@@ -235,11 +246,11 @@ accepted_sabms l p a b (frame ∷ frames) none r anew = (
     anew_at h = record { count = 0; own = h.own; hears = h.hears; first = h.first }
 
 -- and at each UA that may come yet
-pub accepted_uas : (a b c d : End) (l : Bool) (frames : List PlainFrame) → sides.may_run c.phase ≡ true → c.way ≡ way.deafened l (sides.accepting_way b.phase a.way) → d.way ≡ way.deafened l (sides.accepted_way b.phase b.way)
-    → (IsAtRest b.phase → l ≡ false → HaveNoNumber frames) → RestsOther b.phase b.way → BehindUa a b frames → BehindUa c d frames
-accepted_uas a b c d l [] up own opposite bare r h = tt
-accepted_uas a b c d l (frame ∷ frames) up own opposite bare r h =
-    (λ is. seen (h.0 is), accepted_uas a b c d l frames up own opposite (λ rests on_time. (bare rests on_time).1) r h.1)
+pub accepted_uas : (a b c d : End) (l : Bool) (frames : List PlainFrame) → sides.may_run c.phase ≡ true → (IsAnswered a.phase → IsAnswered c.phase) → c.way ≡ way.deafened l (sides.accepting_way b.phase a.way)
+    → d.way ≡ way.deafened l (sides.accepted_way b.phase b.way) → (IsAtRest b.phase → l ≡ false → HaveNoNumber frames) → RestsOther b.phase b.way → BehindUa a b frames → BehindUa c d frames
+accepted_uas a b c d l [] up on own opposite bare r h = tt
+accepted_uas a b c d l (frame ∷ frames) up on own opposite bare r h =
+    (λ is. (on (h.0 is).0, seen (h.0 is).1), accepted_uas a b c d l frames up on own opposite (λ rests on_time. (bare rests on_time).1) r h.1)
   where
     seen : SeenIn a b fresh_peer frames → SeenIn c d fresh_peer frames
     seen s =
@@ -255,6 +266,7 @@ rests_accepted phase.Out rests = tt
 rests_accepted phase.Waiting rests = tt
 rests_accepted phase.Answered rests = tt
 rests_accepted phase.Up rests = rests
+rests_accepted phase.Unanswered rests = tt
 
 accepting_own : (p : Phase) (w : Way) → OwnIf (sides.accepting_way p w) 0 0
 accepting_own phase.Unseen w = begun_own _
@@ -262,13 +274,15 @@ accepting_own phase.Out w = begun_own _
 accepting_own phase.Waiting w = begun_own _
 accepting_own phase.Answered w = begun_own _
 accepting_own phase.Up w = begun_own _
+accepting_own phase.Unanswered w = begun_own _
 
 accepting_rests : (p : Phase) (a c : End) (w v : Way) → c.asked ≡ a.asked → OwnIf c.way 0 0 → (Hears w 0 0 → Hears v 0 0) → RestsOwn p a w → RestsOwn (sides.accepting p) c v
 accepting_rests phase.Unseen a c w v e o g r = tt
 accepting_rests phase.Out a c w v e o g r = tt
-accepting_rests phase.Waiting a c w v e o g r = (o, inl (λ z. r.0 (sym e ∙ z)))
+accepting_rests phase.Waiting a c w v e o g r = (λ z. r.0 (sym e ∙ z), o)
 accepting_rests phase.Answered a c w v e o g r = (o, elim r.1 [ inl asked ↦ inl (λ z. asked (sym e ∙ z)) | inr hears ↦ inr (g hears) ])
 accepting_rests phase.Up a c w v e o g r = tt
+accepting_rests phase.Unanswered a c w v e o g r = (λ z. r.0 (sym e ∙ z), o)
 
 none_hears : (p : Phase) (w : Way) → Hears w 0 0 → Hears (sides.accepted_way p w) 0 0
 none_hears phase.Unseen w h = deaf_hears (way.lost w) 0 0 refl
@@ -276,6 +290,7 @@ none_hears phase.Out w h = deaf_hears (way.lost w) 0 0 refl
 none_hears phase.Waiting w h = (answered_rested w).hears
 none_hears phase.Answered w h = again_hears w 0 0 h
 none_hears phase.Up w h = again_hears w 0 0 h
+none_hears phase.Unanswered w h = again_hears w 0 0 h
 
 accepted_other : (l : Bool) (p : Phase) (w : Way) → RestsOther p w → RestsOther (sides.accepted p) (way.deafened l (sides.accepted_way p w))
 accepted_other l phase.Unseen w r = deafened_rested l (way.lost w) (lost_rested w)
@@ -283,6 +298,7 @@ accepted_other l phase.Out w r = tt
 accepted_other l phase.Waiting w r = deafened_rested l (way.answered w) (answered_rested w)
 accepted_other l phase.Answered w r = deafened_rested l (way.answered_again w) (again_rested w r)
 accepted_other l phase.Up w r = tt
+accepted_other l phase.Unanswered w r = deafened_rested l (way.answered_again w) (unanswered_rested w r)
 
 pub accepting_up : (p : Phase) → sides.may_run (sides.accepting p) ≡ true
 accepting_up phase.Unseen = refl
@@ -290,6 +306,7 @@ accepting_up phase.Out = refl
 accepting_up phase.Waiting = refl
 accepting_up phase.Answered = refl
 accepting_up phase.Up = refl
+accepting_up phase.Unanswered = refl
 
 pub accepting_awaits : (p : Phase) → Awaits p → Awaits (sides.accepting p)
 accepting_awaits phase.Unseen h = absurd h
@@ -297,6 +314,15 @@ accepting_awaits phase.Out h = absurd h
 accepting_awaits phase.Waiting h = tt
 accepting_awaits phase.Answered h = tt
 accepting_awaits phase.Up h = absurd h
+accepting_awaits phase.Unanswered h = tt
+
+pub accepting_answered : (p : Phase) → IsAnswered p → IsAnswered (sides.accepting p)
+accepting_answered phase.Unseen on = absurd on
+accepting_answered phase.Out on = absurd on
+accepting_answered phase.Waiting on = absurd on
+accepting_answered phase.Answered on = tt
+accepting_answered phase.Up on = absurd on
+accepting_answered phase.Unanswered on = absurd on
 
 -- what UA answers is the front one
 module _ (t v : Sides) (stand : Stand) (p : Peer) (frame : PlainFrame) (rest : List PlainFrame) (one : asks_one frame ≡ 1) (a : Accepted t v) (f : Fits t.own t.other stand p (frame ∷ rest)) where

@@ -26,20 +26,20 @@ use Rattle.x25_judge.specs.laws.Keeping.{MaySend}
 use Rattle.x25_judge.specs.laws.Session.{end_of, is_of_order}
 use Rattle.x25_judge.specs.laws.Sessions.{declined, MaySay, numbered, asks, asks_again, closes, declines, rejects, takes_disc, takes_sabm, waits_on}
 use Rattle.x25_judge.specs.laws.Sessions.{MayStand, Starts, HandsDown, Leaves, Says, Shown, Fails, Passes, Comes, TakesUa}
-use Rattle.x25_judge.specs.laws.VerdictClaims.{NoSessionIsAccused}
+use Rattle.x25_judge.specs.laws.VerdictClaims.{IsAnswered, NoSessionIsAccused}
 use Rattle.x25_packet_judge.specs.Book as book
 use Rattle.x25_judge.proofs.verdicts.Fair.{OwnIf}
 use Rattle.x25_judge.proofs.verdicts.Frames.{is_bool}
 use Rattle.x25_judge.proofs.verdicts.Lines.{Goes, goes, Past, past, stands, told_of_order}
 use Rattle.x25_judge.proofs.verdicts.Octets.{IsHeld, begun_held, pushed_held}
 use Rattle.x25_judge.proofs.verdicts.SetUps.{Stays, line_stays, begins_so}
-use Rattle.x25_judge.proofs.verdicts.Innocents.{acks, acks_low, heard_all, heard_rises, brings, brings_low, took_all, took_rises, Seen, Rested, seen_less, own_if_less, came_beside, comes, Acknowledged, IsUntold, sends}
+use Rattle.x25_judge.proofs.verdicts.Beside.{acks, acks_low, heard_all, heard_rises, brings, brings_low, took_all, took_rises, Seen, Rested, seen_less, own_if_less, came_beside, comes, Acknowledged, IsUntold, sends}
 use Rattle.x25_judge.proofs.verdicts.OtherEnd.{missed_fits, shown_sides}
 use Rattle.x25_judge.proofs.verdicts.Standing.{asks_one, asks_all, late_all, late_few, late_less, fewer_late}
 use Rattle.x25_judge.proofs.verdicts.Standing.{NoneBefore, none_less, none_asked}
 use Rattle.x25_judge.proofs.verdicts.Standing.{RestsOwn, RestsOther, On, IsAtRest, BehindSabm, BehindUa, Awaits, Holds, Fits, sabms_none, sabms_within, no_uas}
 use Rattle.x25_judge.proofs.verdicts.Unnumbered.{Asked, sabm_is, disc_aside, dm_aside, frmr_aside, disc_phase, frmr_phase, dm_phase, Accepted, accepted_is, in_time}
-use Rattle.x25_judge.proofs.verdicts.OwnEnd.{asks_fits, asked_uas, leaves_fits, declines_fits, answers_fits, begun_seen, bare, accepted_uas, accepting_awaits, accepting_up}
+use Rattle.x25_judge.proofs.verdicts.OwnEnd.{asks_fits, asked_uas, leaves_fits, declines_fits, answers_fits, begun_seen, bare, accepted_uas, accepting_awaits, accepting_answered, accepting_up}
 
 -- ---- a line of the trace
 
@@ -107,13 +107,15 @@ running_rests phase.Out a w h = tt
 running_rests phase.Waiting a w h = tt
 running_rests phase.Answered a w h = tt
 running_rests phase.Up a w h = tt
+running_rests phase.Unanswered a w h = tt
 
-other_rests : (p : Phase) (w v : Way) → (Rested w → Rested v) → RestsOther p w → RestsOther p v
-other_rests phase.Unseen w v f r = tt
-other_rests phase.Out w v f r = tt
-other_rests phase.Waiting w v f r = tt
-other_rests phase.Answered w v f r = f r
-other_rests phase.Up w v f r = tt
+other_rests : (p : Phase) (w v : Way) → (Rested w → Rested v) → v.is_missed ≡ w.is_missed → RestsOther p w → RestsOther p v
+other_rests phase.Unseen w v f e r = tt
+other_rests phase.Out w v f e r = tt
+other_rests phase.Waiting w v f e r = tt
+other_rests phase.Answered w v f e r = f r
+other_rests phase.Up w v f e r = tt
+other_rests phase.Unanswered w v f e r = elim r [ inl missed ↦ inl (e ∙ missed) | inr rested ↦ inr (f rested) ]
 
 up_on : (p : Phase) → sides.is_up p ≡ true → On p
 up_on phase.Unseen h = absurd (both_ways false refl h)
@@ -121,6 +123,7 @@ up_on phase.Out h = absurd (both_ways false refl h)
 up_on phase.Waiting h = absurd (both_ways false refl h)
 up_on phase.Answered h = tt
 up_on phase.Up h = tt
+up_on phase.Unanswered h = absurd (both_ways false refl h)
 
 -- what it took stays, and is more than it says
 record IsSaid (p q : Peer) : Type 0 where
@@ -155,7 +158,7 @@ module _ (from : Role) (j k : Judge) (p : Peer) (frames : List PlainFrame) where
       own = subst (λ x. RestsOwn x v.own v.other.way) (sym u.up) (running_rests t.own.phase v.own v.other.way f.holds.seen.up);
       count = q.sent;
       sent = own_if_less v.own.way q.sent (heard_all frames q.acked) 0 (omega arith) own;
-      other = subst (λ x. RestsOther x v.other.way) (sym u.same.phase) (other_rests t.other.phase t.other.way v.other.way u.rests f.other);
+      other = subst (λ x. RestsOther x v.other.way) (sym u.same.phase) (other_rests t.other.phase t.other.way v.other.way u.rests u.missed f.other);
       sabms = λ on none. sabms (subst On u.same.phase on) none u.settles;
       holds = record {
         seen = subst (λ (x : End). Seen x v.other q.sent (heard_all frames q.acked) (took_all frames (length q.taken)) q.told) go.own
@@ -280,7 +283,7 @@ ua_untold from j k stand next p q rest frame f none one h holds held =
 waiting : (t v : Sides) (p : Peer) (b : Bool) (rest : List PlainFrame) → Accepted t v → Fits t.own t.other Asking p (sabm b ∷ rest) → Holds v.own v.other Asking p rest
 waiting t v p b rest a f = (
   subst Awaits (sym a.phase) (accepting_awaits t.own.phase f.holds.0),
-  accepted_uas t.own t.other v.own v.other (sides.is_late t) rest (ap sides.may_run a.phase ∙ accepting_up t.own.phase) a.own a.other (bare t v Asking p (sabm b) rest refl a f) f.other f.holds.1.1,
+  accepted_uas t.own t.other v.own v.other (sides.is_late t) rest (ap sides.may_run a.phase ∙ accepting_up t.own.phase) (λ on. subst IsAnswered (sym a.phase) (accepting_answered t.own.phase on)) a.own a.other (bare t v Asking p (sabm b) rest refl a f) f.other f.holds.1.1,
 )
 
 fits_before : (from : Role) (j : Judge) (stand : Stand) (p : Peer) (frames : List PlainFrame) → Keeps from j stand p frames → Fits (sides_of from j).own (sides_of from j).other stand p frames
@@ -293,7 +296,7 @@ untold from j k stand n p r frames w g (asks b bare) h s go = sabm_untold from j
 untold from j k stand n p r frames w g (asks_again b waits) h s go =
     let f = fits_before from j stand p frames h in
     let holds = subst (λ (x : Stand). Holds (sides_of from j).own (sides_of from j).other x p frames) waits f.holds in
-    sabm_untold from j k p frames stand (stands j from).none f b (λ v a. asked_uas (sides_of from j) v frames a holds.0 holds.1)
+    sabm_untold from j k p frames stand (stands j from).none f b (λ v a. asked_uas (sides_of from j) v frames a holds.1)
 untold from j k stand n p r frames w g (closes b) h s go = disc_untold from j k p frames stand (stands j from).none (fits_before from j stand p frames h) b
 untold from j k stand n p r frames w g (declines b) h s go = dm_untold from j k p frames stand (stands j from).none (fits_before from j stand p frames h) b
 untold from j k stand n p r frames w g (rejects b why) h s go = frmr_untold from j k p frames stand (stands j from).none (fits_before from j stand p frames h) b why
@@ -409,7 +412,7 @@ keeps from j stand q frames (Comes k p r frame w may_hear may) =
     }
 keeps from j stand q frames (TakesUa k p f w may) =
     let h = keeps from j Asking p (ua f ∷ frames) may in
-    record { window = h.window; rooms = h.rooms; held = λ is. begun_held (held_of from j) (h.rooms from); fits = fits_less (end_of from j) (end_of (other from) j) Asking In p fresh_peer (ua f) frames h.fits (h.fits.holds.1.0 tt) }
+    record { window = h.window; rooms = h.rooms; held = λ is. begun_held (held_of from j) (h.rooms from); fits = fits_less (end_of from j) (end_of (other from) j) Asking In p fresh_peer (ua f) frames h.fits (h.fits.holds.1.0 tt).1 }
 
 pub no_session_is_accused : NoSessionIsAccused
 no_session_is_accused from j stand next p q frames rest line octets frame may shows says =

@@ -23,7 +23,7 @@ use Rattle.x25_judge.specs.declared.note.Note.TheVariants.{PollAgain, PollUnseen
 use Rattle.x25_judge.specs.declared.rule.Rule.TheVariants.{NoPoll, UaUnasked}
 use Rattle.x25_judge.specs.declared.sides.End.{End}
 use Rattle.x25_judge.specs.declared.sides.Phase.{Phase}
-use Rattle.x25_judge.specs.declared.sides.Phase.TheVariants.{Unseen, Out, Waiting, Answered, Up}
+use Rattle.x25_judge.specs.declared.sides.Phase.TheVariants.{Unseen, Out, Waiting, Answered, Up, Unanswered}
 use Rattle.x25_judge.specs.declared.sides.Sides.{Sides}
 use Rattle.x25_judge.specs.declared.way.Way.{Way}
 use Rattle.x25_judge.specs.laws.Session.{end_of, IsSetUp}
@@ -119,6 +119,7 @@ waits Out h = refl
 waits Waiting h = refl
 waits Answered h = absurd (h tt)
 waits Up h = refl
+waits Unanswered h = refl
 
 some_asked : (x : ℕ) → (min (x + 1) 255 == 0) ≡ false
 some_asked x = ne_eqb (min (x + 1) 255) 0 (λ e. never e)
@@ -132,6 +133,7 @@ asks_anew Out anew w h = refl
 asks_anew Waiting anew w h = refl
 asks_anew Answered anew w h = absurd (h tt)
 asks_anew Up anew w h = refl
+asks_anew Unanswered anew w h = refl
 
 sabm_asks : (window : ℕ) (s p : Bool) (t : Sides) → (IsAnswered t.own.phase → ⊥) → Asks (sides.sees window s (sabm p) t).own
 unfolding sides.sees
@@ -162,6 +164,7 @@ is_up Out = refl
 is_up Waiting = refl
 is_up Answered = refl
 is_up Up = refl
+is_up Unanswered = refl
 
 answered_fresh : (knows : Bool) → way.answered (way.fresh knows) ≡ way.fresh true
 answered_fresh true = refl

@@ -15,10 +15,11 @@ use Rattle.x25_judge.specs.declared.way.Sight.TheVariants.{Deaf}
 use Rattle.x25_judge.specs.declared.way.Way.{Way}
 use Rattle.x25_judge.specs.laws.Session.{IsNumbered}
 use Rattle.x25_judge.specs.laws.Sessions.{IsUa, HaveNoUa}
+use Rattle.x25_judge.specs.laws.VerdictClaims.{IsAnswered}
 use Rattle.x25_judge.proofs.verdicts.Ways.{Counts, deaf_numbered}
 use Rattle.x25_judge.proofs.verdicts.Fair.{Own, OwnIf, unseen_deaf}
 use Rattle.x25_judge.proofs.verdicts.Frames.{is_bool}
-use Rattle.x25_judge.proofs.verdicts.Innocents.{acks, heard_all, heard_rises, heard_more, brings, took_all, took_more, took_low, brings_low, brings_rises, Hears, Seen, Rested, deaf_hears}
+use Rattle.x25_judge.proofs.verdicts.Beside.{acks, heard_all, heard_rises, heard_more, brings, took_all, took_more, took_low, brings_low, brings_rises, Hears, Seen, Rested, deaf_hears}
 
 -- ---- frames on the way
 
@@ -303,6 +304,10 @@ again_rested w h = cond_both w.is_missed (way.lost w) w Rested (λ _. lost_reste
 pub answered_own : (w : Way) → OwnIf (way.answered w) 0 0
 answered_own w = cond_both (way.is_fresh w) (way.fresh true) (way.lost w) (λ v. OwnIf v 0 0) (λ _. begun_own _) (λ _. inl refl)
 
+-- of what a damaged frame may have ended nothing is said
+pub unanswered_rested : (w : Way) → (w.is_missed ≡ true) ⊎ Rested w → Rested (way.answered_again w)
+unanswered_rested w h = cond_both w.is_missed (way.lost w) w Rested (λ _. lost_rested w) (λ whole. elim h [ inl missed ↦ absurd (both_ways w.is_missed whole missed) | inr rested ↦ rested ])
+
 pub again_own : (w : Way) (m u : ℕ) → OwnIf w m u → OwnIf (way.answered_again w) m u
 again_own w m u h = cond_both w.is_missed (way.lost w) w (λ v. OwnIf v m u) (λ _. inl refl) (λ _. h)
 
@@ -388,19 +393,22 @@ deafened_rested false w h = h
 abbrev pub RestsOwn : Phase → End → Way → Type 0
 RestsOwn phase.Waiting a w = (a.asked ≡ 0 → ⊥) × OwnIf a.way 0 0
 RestsOwn phase.Answered a w = OwnIf a.way 0 0 × ((a.asked ≡ 0 → ⊥) ⊎ Hears w 0 0)
+RestsOwn phase.Unanswered a w = (a.asked ≡ 0 → ⊥) × OwnIf a.way 0 0
 RestsOwn p a w = Unit {0}
 
 abbrev pub RestsOther : Phase → Way → Type 0
 RestsOther phase.Answered w = Rested w
+RestsOther phase.Unanswered w = (w.is_missed ≡ true) ⊎ Rested w
 RestsOther p w = Unit {0}
 
 -- UA was shown, and no DISC and no SABM behind frames with numbers since
 abbrev pub On : Phase → Type 0
 On phase.Answered = Unit {0}
 On phase.Up = Unit {0}
+On phase.Unanswered = Unit {0}
 On p = ⊥
 
--- it sent no frame with a number since it did without one
+-- it sent no frame with a number since it did without one, or may have
 abbrev pub IsAtRest : Phase → Type 0
 IsAtRest phase.Up = ⊥
 IsAtRest p = Unit {0}
@@ -425,11 +433,12 @@ pub record SeenIn (a b : End) (p : Peer) (frames : List PlainFrame) : Type 0 whe
 -- of a UA that it may take
 abbrev pub BehindUa : End → End → List PlainFrame → Type 0
 BehindUa a b [] = Unit {0}
-BehindUa a b (frame ∷ frames) = (IsUa frame → SeenIn a b fresh_peer frames) × BehindUa a b frames
+BehindUa a b (frame ∷ frames) = (IsUa frame → IsAnswered a.phase × SeenIn a b fresh_peer frames) × BehindUa a b frames
 
 abbrev pub Awaits : Phase → Type 0
 Awaits phase.Waiting = Unit {0}
 Awaits phase.Answered = Unit {0}
+Awaits phase.Unanswered = Unit {0}
 Awaits p = ⊥
 
 abbrev pub Holds : End → End → Stand → Peer → List PlainFrame → Type 0
@@ -488,15 +497,16 @@ sabms_within a b c d (frame ∷ frames) acked u le f h =
     both : (x y : ℕ) → x ≤ y → y ≤ u → x ≤ u
     both x y h k = omega arith
 
-pub uas_to : (a b c d : End) (frames : List PlainFrame) → ((rest : List PlainFrame) → SeenIn a b fresh_peer rest → SeenIn c d fresh_peer rest) → BehindUa a b frames → BehindUa c d frames
-uas_to a b c d [] f h = tt
-uas_to a b c d (frame ∷ frames) f h = (λ is. f frames (h.0 is), uas_to a b c d frames f h.1)
+pub uas_to : (a b c d : End) (frames : List PlainFrame) → (IsAnswered a.phase → IsAnswered c.phase) → ((rest : List PlainFrame) → IsAnswered a.phase → SeenIn a b fresh_peer rest → SeenIn c d fresh_peer rest) → BehindUa a b frames
+    → BehindUa c d frames
+uas_to a b c d [] on f h = tt
+uas_to a b c d (frame ∷ frames) on f h = (λ is. (on (h.0 is).0, f frames (h.0 is).0 (h.0 is).1), uas_to a b c d frames on f h.1)
 
 -- one frame more
-uas_more : (a b c d : End) (frames : List PlainFrame) (frame : PlainFrame) → ((rest : List PlainFrame) → SeenIn a b fresh_peer rest → SeenIn c d fresh_peer (rest ++ frame ∷ [])) → (IsUa frame → SeenIn c d fresh_peer [])
-    → BehindUa a b frames → BehindUa c d (frames ++ frame ∷ [])
-uas_more a b c d [] frame f new h = (new, tt)
-uas_more a b c d (x ∷ frames) frame f new h = (λ is. f frames (h.0 is), uas_more a b c d frames frame f new h.1)
+uas_more : (a b c d : End) (frames : List PlainFrame) (frame : PlainFrame) → (IsAnswered a.phase → IsAnswered c.phase) → ((rest : List PlainFrame) → SeenIn a b fresh_peer rest → SeenIn c d fresh_peer (rest ++ frame ∷ []))
+    → (IsUa frame → IsAnswered c.phase × SeenIn c d fresh_peer []) → BehindUa a b frames → BehindUa c d (frames ++ frame ∷ [])
+uas_more a b c d [] frame on f new h = (new, tt)
+uas_more a b c d (x ∷ frames) frame on f new h = (λ is. (on (h.0 is).0, f frames (h.0 is).1), uas_more a b c d frames frame on f new h.1)
 
 pub no_uas : (a b : End) (frames : List PlainFrame) → HaveNoUa frames → BehindUa a b frames
 no_uas a b [] bare = tt
@@ -508,15 +518,15 @@ seen_more a b p frames frame h =
     subst (λ u. Seen a b p.sent u (took_all (frames ++ frame ∷ []) (length p.taken)) p.told) (sym (heard_more frames frame p.acked))
     (subst (λ x. Seen a b p.sent (acks frame (heard_all frames p.acked)) x p.told) (sym (took_more frames frame (length p.taken))) h)
 
-pub holds_to : (a b c d : End) (stand : Stand) (p : Peer) (frames : List PlainFrame) → (Awaits a.phase → Awaits c.phase) → ((q : Peer) (rest : List PlainFrame) → SeenIn a b q rest → SeenIn c d q rest)
+pub holds_to : (a b c d : End) (stand : Stand) (p : Peer) (frames : List PlainFrame) → (Awaits a.phase → Awaits c.phase) → (IsAnswered a.phase → IsAnswered c.phase) → ((q : Peer) (rest : List PlainFrame) → SeenIn a b q rest → SeenIn c d q rest)
     → Holds a b stand p frames → Holds c d stand p frames
-holds_to a b c d Out p frames w f h = tt
-holds_to a b c d Asking p frames w f h = (w h.0, uas_to a b c d frames (λ rest. f fresh_peer rest) h.1)
-holds_to a b c d In p frames w f h = f p frames h
+holds_to a b c d Out p frames w on f h = tt
+holds_to a b c d Asking p frames w on f h = (w h.0, uas_to a b c d frames on (λ rest _. f fresh_peer rest) h.1)
+holds_to a b c d In p frames w on f h = f p frames h
 
-pub holds_more : (a b c d : End) (stand : Stand) (p : Peer) (frames : List PlainFrame) (frame : PlainFrame) → (Awaits a.phase → Awaits c.phase)
-    → ((q : Peer) (rest : List PlainFrame) → SeenIn a b q rest → SeenIn c d q (rest ++ frame ∷ [])) → (Awaits a.phase → IsUa frame → SeenIn c d fresh_peer []) → Holds a b stand p frames
+pub holds_more : (a b c d : End) (stand : Stand) (p : Peer) (frames : List PlainFrame) (frame : PlainFrame) → (Awaits a.phase → Awaits c.phase) → (IsAnswered a.phase → IsAnswered c.phase)
+    → ((q : Peer) (rest : List PlainFrame) → SeenIn a b q rest → SeenIn c d q (rest ++ frame ∷ [])) → (Awaits a.phase → IsUa frame → IsAnswered c.phase × SeenIn c d fresh_peer []) → Holds a b stand p frames
     → Holds c d stand p (frames ++ frame ∷ [])
-holds_more a b c d Out p frames frame w f new h = tt
-holds_more a b c d Asking p frames frame w f new h = (w h.0, uas_more a b c d frames frame (λ rest. f fresh_peer rest) (new h.0) h.1)
-holds_more a b c d In p frames frame w f new h = f p frames h
+holds_more a b c d Out p frames frame w on f new h = tt
+holds_more a b c d Asking p frames frame w on f new h = (w h.0, uas_more a b c d frames frame on (λ rest. f fresh_peer rest) (new h.0) h.1)
+holds_more a b c d In p frames frame w on f new h = f p frames h
