@@ -6,6 +6,7 @@ pub mod Showing
 pub mod Leaving
 pub mod Stretches
 pub mod Callings
+pub mod Closings
 pub mod Innocents
 pub mod Silences
 pub mod Beginnings

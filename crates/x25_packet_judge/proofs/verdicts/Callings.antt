@@ -20,9 +20,9 @@ use Rattle.x25_packet_judge.specs.declared.port.Call.TheVariants.{Idle, Called, 
 use Rattle.x25_packet_judge.specs.declared.port.Port.{Port}
 use Rattle.x25_packet_judge.specs.declared.terms.Terms.{Terms}
 use Rattle.x25_packet_judge.specs.laws.Keeping.{nothing_given, nothing_came, AreIdle}
-use Rattle.x25_packet_judge.proofs.verdicts.Standing.{ahead, tail_of, not_true, Due, Behind, Away, Dark, Gone, Stands}
+use Rattle.x25_packet_judge.proofs.verdicts.Standing.{ahead, tail_of, not_true, Due, Closing, Behind, Away, Dark, Gone, Stands}
 use Rattle.x25_packet_judge.proofs.verdicts.Saying.{awaits_none, owes_none}
-use Rattle.x25_packet_judge.proofs.verdicts.Showing.{more_not, dark_unknown}
+use Rattle.x25_packet_judge.proofs.verdicts.Showing.{more_not, dark_broken, dark_unknown}
 use Rattle.x25_packet_judge.proofs.verdicts.Leaving.{more_due_clear}
 use Rattle.x25_packet_judge.proofs.verdicts.Stretches.{own_begins, others_begin, knows_if, awaits_not}
 
@@ -60,10 +60,14 @@ pub record Far (shut : Bool) (tail : List PlainPacket) (k : Call) (terms : Terms
   pub over : Due tail reaches p.owed 0
   pub strict : shut ≡ true → Strict p o
 
+-- CLEAR is on the way, and nothing behind it but RESTART
+abbrev pub FarClear : PlainPacket → List PlainPacket → Call → Terms → Bool → Port → Port → Type 0
+FarClear packet rest k terms reaches p o = Far true (packet ∷ rest) k terms reaches p o × Closing rest reaches p.owed o.is_clearing o.call o.talk.flow
+
 -- CALL came, that proposes these terms
 abbrev pub WasAsked : Terms → Call → Call → List PlainPacket → Bool → Port → Port → Type 0
 WasAsked terms k j [] reaches p o = (p.terms ≡ terms) × Even k j reaches p o
-WasAsked terms k j (clear channel cause diagnostic ∷ rest) reaches p o = Far true (clear channel cause diagnostic ∷ rest) k terms reaches p o
+WasAsked terms k j (clear channel cause diagnostic ∷ rest) reaches p o = FarClear (clear channel cause diagnostic) rest k terms reaches p o
 WasAsked terms k j (restart cause diagnostic ∷ rest) reaches p o = Far true (restart cause diagnostic ∷ rest) k terms reaches p o
 WasAsked terms k j tail reaches p o = ⊥
 
@@ -71,7 +75,7 @@ WasAsked terms k j tail reaches p o = ⊥
 abbrev pub HasNone : List PlainPacket → Bool → Port → Port → Type 0
 HasNone [] reaches p o = Even Idle Idle reaches p o
 HasNone (call channel called calling facilities user ∷ rest) reaches p o = WasAsked (said facilities usual) Called Calling rest reaches p o
-HasNone (clear channel cause diagnostic ∷ rest) reaches p o = (x : Terms) × Far true (clear channel cause diagnostic ∷ rest) Idle x reaches p o
+HasNone (clear channel cause diagnostic ∷ rest) reaches p o = (x : Terms) × FarClear (clear channel cause diagnostic) rest Idle x reaches p o
 HasNone (restart cause diagnostic ∷ rest) reaches p o = (x : Terms) × Far true (restart cause diagnostic ∷ rest) Idle x reaches p o
 HasNone tail reaches p o = ⊥
 
@@ -83,7 +87,7 @@ InCall terms way reaches p o = Stands terms.calling_window (octets_of terms.call
 abbrev pub Asks : Terms → Call → Call → List PlainPacket → Bool → Port → Port → Type 0
 Asks terms k j [] reaches p o = (o.terms ≡ terms) × Even k j reaches p o
 Asks terms k j (accept channel facilities ∷ rest) reaches p o = InCall (said facilities terms) rest reaches p o
-Asks terms k j (clear channel cause diagnostic ∷ rest) reaches p o = (x : Terms) × Far true (clear channel cause diagnostic ∷ rest) k x reaches p o
+Asks terms k j (clear channel cause diagnostic ∷ rest) reaches p o = (x : Terms) × FarClear (clear channel cause diagnostic) rest k x reaches p o
 Asks terms k j (restart cause diagnostic ∷ rest) reaches p o = (x : Terms) × Far true (restart cause diagnostic ∷ rest) k x reaches p o
 Asks terms k j tail reaches p o = ⊥
 
@@ -120,9 +124,6 @@ other_dce Dce = refl
 dark_unless : (shut : Bool) (p : Port) → (shut ≡ true → ⊥) → Dark shut (port.unknown p)
 dark_unless true p never = absurd (never refl)
 dark_unless false p never = record { known = refl; clearing = refl; call = refl }
-
-dark_broken : (shut : Bool) (v : Pair) → Dark shut (pair.doubts v).other
-dark_broken shut v = record { known = refl; clearing = refl; call = and_right (shut || false) _ refl }
 
 more_same : (b : Bool) (n : ℕ) → b ≡ false → port.more b n ≡ n
 more_same b n e = ap (λ x. port.more x n) e
@@ -369,23 +370,25 @@ module _ (k j : Call) (v : Pair) (e : Even k j v.reaches v.other v.own) where
   even_other none (restart cause diagnostic) is = absurd is
   even_other none restart_conf is = absurd is
 
-  pub even_clear : (channel cause diagnostic : ℕ) → Far true (clear channel cause diagnostic ∷ []) k v.other.terms (sends (clear channel cause diagnostic) v).reaches (sends (clear channel cause diagnostic) v).other (sends (clear channel cause diagnostic) v).own
+  pub even_clear : (channel cause diagnostic : ℕ) → FarClear (clear channel cause diagnostic) [] k v.other.terms (sends (clear channel cause diagnostic) v).reaches (sends (clear channel cause diagnostic) v).other (sends (clear channel cause diagnostic) v).own
   unfolding sends_known
   even_clear channel cause diagnostic =
-      subst (λ (x : Pair). Far true (clear channel cause diagnostic ∷ []) k v.other.terms x.reaches x.other x.own)
-      (sym (even_known (clear channel cause diagnostic) ∙ cond-false (pair.is_awaiting v) _ (pair.marks true v) (awaits_not v.own.is_clearing v.other.owed e.none_clearing)))
-      (record {
-        known = e.known;
-        others_known = e.others_known;
-        none_cleared = ap (λ x. x - 1) e.none_cleared;
-        none_reset = refl;
-        parted = and_right v.reaches _ (ap (λ n. n == 0) one);
-        no_former = refl;
-        call = e.call;
-        its_terms = refl;
-        over = subst (λ n. 1 ≤ n) (sym one) (omega arith);
-        strict = λ _. record { none_reset = e.none_reset; sure = refl; former = λ _. e.flow };
-      })
+      subst (λ (x : Pair). FarClear (clear channel cause diagnostic) [] k v.other.terms x.reaches x.other x.own)
+      (sym (even_known (clear channel cause diagnostic) ∙ cond-false (pair.is_awaiting v) _ (pair.marks true v) (awaits_not v.own.is_clearing v.other.owed e.none_clearing))) (
+        record {
+          known = e.known;
+          others_known = e.others_known;
+          none_cleared = ap (λ x. x - 1) e.none_cleared;
+          none_reset = refl;
+          parted = and_right v.reaches _ (ap (λ n. n == 0) one);
+          no_former = refl;
+          call = e.call;
+          its_terms = refl;
+          over = subst (λ n. 1 ≤ n) (sym one) (omega arith);
+          strict = λ _. record { none_reset = e.none_reset; sure = refl; former = λ _. e.flow };
+        },
+        record { reached = e.reached; once = one; its_clear = refl; call = refl; flow = refl },
+      )
     where
       reach : (v.reaches && v.own.owed == 0) ≡ true
       reach = rw (e.reached, e.none_cleared) refl
@@ -562,8 +565,8 @@ module _ (t : Pair) where
 
     -- and CLEAR or RESTART behind it
     cross_far : (tail : List PlainPacket) (terms : Terms) (P : Pair → Type 0) → Far true tail Called terms t.reaches t.own t.other
-        → ((x : Pair) → x.rule ≡ None → pair.is_dce t.from ≡ true → Far true tail Collided terms x.reaches x.own x.other → P x)
-        → ((x : Pair) → x.rule ≡ None → pair.is_dce t.from ≡ false → Far true tail Collided proposed x.reaches x.own x.other → P x) → P (sends asks t)
+        → ((own : Port) → own.owed ≡ t.own.owed → pair.is_dce t.from ≡ true → Far true tail Collided terms t.reaches own t.other → P (pair.with_own own (pair.starts t)))
+        → ((own : Port) → own.owed ≡ t.own.owed → pair.is_dce t.from ≡ false → Far true tail Collided proposed t.reaches own t.other → P (pair.with_own own (pair.starts t))) → P (sends asks t)
     cross_far tail terms P w dce dte = go (pair.is_dce t.from) refl
       where
         put : Bool → Pair
@@ -573,20 +576,20 @@ module _ (t : Pair) where
         so b role = called_call tail terms w ∙ ap put role
 
         go : (b : Bool) → pair.is_dce t.from ≡ b → P (sends asks t)
-        go true role = subst P (sym (so true role)) (dce (put true) quiet role (subst (λ x. Far true tail Collided x t.reaches (port.in_call Collided (port.clearing false t.own)) t.other) w.its_terms (far_call Called terms tail (port.in_call Collided (port.clearing false t.own)) w refl refl refl refl)))
-        go false role = subst P (sym (so false role)) (dte (put false) quiet role (far_call Called terms tail (port.proposing proposed (port.in_call Collided (port.clearing false t.own))) w refl refl refl refl))
+        go true role = subst P (sym (so true role)) (dce (port.in_call Collided (port.clearing false t.own)) refl role (subst (λ x. Far true tail Collided x t.reaches (port.in_call Collided (port.clearing false t.own)) t.other) w.its_terms (far_call Called terms tail (port.in_call Collided (port.clearing false t.own)) w refl refl refl refl)))
+        go false role = subst P (sym (so false role)) (dte (port.proposing proposed (port.in_call Collided (port.clearing false t.own))) refl role (far_call Called terms tail (port.proposing proposed (port.in_call Collided (port.clearing false t.own))) w refl refl refl refl))
 
     pub calls_none : (way : List PlainPacket) → HasNone way t.reaches t.own t.other → CallSent way proposed (sends (call channel to from facilities user) t)
     calls_none [] e = even_call e
     calls_none (call two called calling field user2 ∷ []) e = cross_even two called calling field user2 e
-    calls_none (call two called calling field user2 ∷ clear three cause diagnostic ∷ rest) w = cross_far (clear three cause diagnostic ∷ rest) (said field usual) (CallSent (call two called calling field user2 ∷ clear three cause diagnostic ∷ rest) proposed) w
-        (λ x quiet role f. record { quiet = quiet; stands = inl (role, f) })
-        (λ x quiet role f. record { quiet = quiet; stands = inr (role, (proposed, f)) })
+    calls_none (call two called calling field user2 ∷ clear three cause diagnostic ∷ rest) (w, closes) = cross_far (clear three cause diagnostic ∷ rest) (said field usual) (CallSent (call two called calling field user2 ∷ clear three cause diagnostic ∷ rest) proposed) w
+        (λ own owed role f. record { quiet = quiet; stands = inl (role, (f, subst (λ n. Closing rest t.reaches n t.other.is_clearing t.other.call t.other.talk.flow) (sym owed) closes)) })
+        (λ own owed role f. record { quiet = quiet; stands = inr (role, (proposed, (f, subst (λ n. Closing rest t.reaches n t.other.is_clearing t.other.call t.other.talk.flow) (sym owed) closes))) })
     calls_none (call two called calling field user2 ∷ restart cause diagnostic ∷ rest) w = cross_far (restart cause diagnostic ∷ rest) (said field usual) (CallSent (call two called calling field user2 ∷ restart cause diagnostic ∷ rest) proposed) w
-        (λ x quiet role f. record { quiet = quiet; stands = inl (role, f) })
-        (λ x quiet role f. record { quiet = quiet; stands = inr (role, (proposed, f)) })
-    calls_none (clear two cause diagnostic ∷ rest) (x, w) = subst (CallSent (clear two cause diagnostic ∷ rest) proposed) (sym (idle_call (clear two cause diagnostic ∷ rest) x w))
-        (record { quiet = quiet; stands = (proposed, far_call Idle x (clear two cause diagnostic ∷ rest) (port.proposing proposed (port.in_call Calling (port.clearing false t.own))) w refl refl refl refl) })
+        (λ own owed role f. record { quiet = quiet; stands = inl (role, f) })
+        (λ own owed role f. record { quiet = quiet; stands = inr (role, (proposed, f)) })
+    calls_none (clear two cause diagnostic ∷ rest) (x, (w, closes)) = subst (CallSent (clear two cause diagnostic ∷ rest) proposed) (sym (idle_call (clear two cause diagnostic ∷ rest) x w))
+        (record { quiet = quiet; stands = (proposed, (far_call Idle x (clear two cause diagnostic ∷ rest) (port.proposing proposed (port.in_call Calling (port.clearing false t.own))) w refl refl refl refl, closes)) })
     calls_none (restart cause diagnostic ∷ rest) (x, w) = subst (CallSent (restart cause diagnostic ∷ rest) proposed) (sym (idle_call (restart cause diagnostic ∷ rest) x w))
         (record { quiet = quiet; stands = (proposed, far_call Idle x (restart cause diagnostic ∷ rest) (port.proposing proposed (port.in_call Calling (port.clearing false t.own))) w refl refl refl refl) })
     calls_none (call two called calling field user2 ∷ call three to2 from2 field2 user3 ∷ rest) w = absurd w
@@ -649,7 +652,7 @@ module _ (t : Pair) where
         ∙ ap (λ x. pair.accepts_terms (said facilities x) (pair.starts t)) w.its_terms
         ∙ ap (λ (x : Pair). pair.with_own (port.set_up Open true agreed (port.clearing false t.own)) x) (cond-false (pair.is_matched (pair.starts t)) _ (pair.starts t) (unmatched true tail k terms w))
 
-    accepted_far : (tail : List PlainPacket) → (w : Far true tail k terms t.reaches t.own t.other) → Due tail t.reaches t.own.owed 0 → Behind tail t.reaches t.own.owed 0 t.other.call t.other.talk
+    accepted_far : (tail : List PlainPacket) → (w : Far true tail k terms t.reaches t.own t.other) → Due tail t.reaches t.own.owed 0 → Behind tail t.reaches t.own.owed 0 t.other.is_clearing t.other.call t.other.talk
         → Away agreed.called_window (octets_of agreed.called_size) tail (Behind tail) t.reaches (port.set_up Open true agreed (port.clearing false t.own)) t.other nothing_given nothing_came
     accepted_far tail w due behind = record {
       go = record { known = w.known; up = refl; others_known = w.others_known; none_cleared = w.none_cleared; none_reset = w.none_reset };
@@ -668,7 +671,7 @@ module _ (t : Pair) where
 
     pub accepts_asked : (way : List PlainPacket) → WasAsked terms k j way t.reaches t.own t.other → AcceptSent way agreed (sends (accept channel facilities) t)
     accepts_asked [] (its, e) = accept_even its e
-    accepts_asked (clear two cause diagnostic ∷ rest) w = subst (AcceptSent (clear two cause diagnostic ∷ rest) agreed) (sym (accept_far (clear two cause diagnostic ∷ rest) w)) (record { quiet = quiet; stands = inr (inl (accepted_far (clear two cause diagnostic ∷ rest) w w.over tt)) })
+    accepts_asked (clear two cause diagnostic ∷ rest) (w, closes) = subst (AcceptSent (clear two cause diagnostic ∷ rest) agreed) (sym (accept_far (clear two cause diagnostic ∷ rest) w)) (record { quiet = quiet; stands = inr (inl (accepted_far (clear two cause diagnostic ∷ rest) w w.over closes)) })
     accepts_asked (restart cause diagnostic ∷ rest) w = subst (AcceptSent (restart cause diagnostic ∷ rest) agreed) (sym (accept_far (restart cause diagnostic ∷ rest) w)) (record { quiet = quiet; stands = inr (inl (accepted_far (restart cause diagnostic ∷ rest) w w.over tt)) })
     accepts_asked (call two called calling field user ∷ rest) w = absurd w
     accepts_asked (accept two field ∷ rest) w = absurd w

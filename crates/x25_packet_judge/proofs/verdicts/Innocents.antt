@@ -1,7 +1,7 @@
 -- An end that keeps the rules is told of by no rule, whatever the other end sends.
 use Rattle.std.proofs.Common.{◌≡◌, ◌⊎◌, inl, inr, ℕ, ◌+◌, ◌≤◌, arith, Bool, true, false, List, [], ◌∷◌, ◌++◌, None, refl, sym, ap, ◌∙◌, subst}
 use Rattle.std.specs.Prelude.{nat_lt, ◌&&◌, ◌||◌, not}
-use Rattle.std.proofs.lemmas.Bool.{lt-ltb, and_left, and_right, both_ways, cond_both, cond-true, cond-false}
+use Rattle.std.proofs.lemmas.Bool.{lt-ltb, and_parts, or_parts, and_left, and_right, both_ways, cond_both, cond-true, cond-false}
 use Rattle.x25_bits.specs.declared.role.Role.{Role}
 use Rattle.x25_bits.specs.declared.role.Role.TheVariants.{Dte, Dce}
 use Rattle.x25_packet.specs.Packet.{PlainPacket, call, accept, clear, clear_conf, user_data, rr, rnr, interrupt, interrupt_conf, reset, reset_conf, restart, restart_conf}
@@ -16,15 +16,17 @@ use Rattle.x25_packet_judge.specs.Message.{octets_of}
 use Rattle.x25_packet_judge.specs.declared.packet_rule.PacketRule.TheVariants.{CallAgain}
 use Rattle.x25_packet_judge.specs.declared.port.Call.{Call}
 use Rattle.x25_packet_judge.specs.declared.port.Call.TheVariants.{Idle, Called, Calling, Collided}
+use Rattle.x25_packet_judge.specs.declared.port.Port.{Port}
 use Rattle.x25_packet_judge.specs.declared.terms.Terms.{Terms}
-use Rattle.x25_packet_judge.specs.laws.Keeping.{Given, Come, nothing_given, nothing_came, Phase, Idles, Calls, WasCalled, Talks, Resets, WasReset, WasCleared, WasRestarted, fresh_phase, called_phase, MaySend, MayDo, MayEnd, comes, MayTake, IsOfChannel, AreIdle, AreBegun, next, turned, MayBe, Starts, Begins, Does, Shown, Comes, restarted, Restarts}
+use Rattle.x25_packet_judge.specs.laws.Keeping.{Given, Come, nothing_given, nothing_came, Phase, Idles, Calls, WasCalled, Talks, Resets, WasReset, Clears, WasCleared, WasRestarted, fresh_phase, called_phase, MaySend, MayDo, MayEnd, comes, MayTake, IsOfChannel, IsFollowed, AreIdle, AreBegun, next, turned, MayBe, Starts, Begins, Does, Shown, Comes, restarted, Restarts}
 use Rattle.x25_packet_judge.specs.laws.VerdictClaims.{NoInnocentPacketIsTold, NoEndingIsTold}
-use Rattle.x25_packet_judge.proofs.verdicts.Standing.{ahead, ahead_low, tail_of, more_tail, none_left, tail_more_none, tail_more_some, ahead_more_none, ahead_more_some, bit, MayGo, Due, Behind, Behinds, Any, Level, Away, Dark, Gone, as_gone, Stands}
+use Rattle.x25_packet_judge.proofs.verdicts.Standing.{ahead, ahead_low, tail_of, more_tail, none_left, tail_more_none, tail_more_some, ahead_more_none, ahead_more_some, bit, MayGo, Due, Closing, closing_more, Behind, Any, Level, Away, Dark, Gone, as_gone, Stands}
 use Rattle.x25_packet_judge.proofs.verdicts.Saying.{before, awaits_none, enters, Goes, says_unknown, says}
 use Rattle.x25_packet_judge.proofs.verdicts.Showing.{shown_level, shown_dark}
-use Rattle.x25_packet_judge.proofs.verdicts.Reaching.{sends_from}
-use Rattle.x25_packet_judge.proofs.verdicts.Callings.{Even, Far, WasAsked, HasNone, InCall, Asks, HasCalled, begins_idle, other_dce, FarOrDark, far_shown, far_tail, far_open, far_restarted, even_restarted, even_other, even_clear, even_again, even_unasked, even_called, even_crossed, even_accepts, calls_none, accepts_asked, calls_dark, accepts_dark}
-use Rattle.x25_packet_judge.proofs.verdicts.Stretches.{lots, flow_begins, Talking, Waiting, with_tail, knows_if, begins_anew, asks, Turned, cleared_shown, away_shown, asked_shown}
+use Rattle.x25_packet_judge.proofs.verdicts.Reaching.{sends_from, sends_reaches}
+use Rattle.x25_packet_judge.proofs.verdicts.Callings.{Even, Far, FarClear, WasAsked, HasNone, InCall, Asks, HasCalled, begins_idle, other_dce, FarOrDark, far_shown, far_tail, far_open, far_restarted, even_restarted, even_other, even_clear, even_again, even_unasked, even_called, even_crossed, even_accepts, calls_none, accepts_asked, calls_dark, accepts_dark}
+use Rattle.x25_packet_judge.proofs.verdicts.Closings.{Lone, HasCleared, skipped, lone_shown, lone_cleared, lone_confirmed, leave_closing, leave_none, leave_asked, leave_asks, leave_called, leave_stands, leave_waits, leave_reset}
+use Rattle.x25_packet_judge.proofs.verdicts.Stretches.{lots, closed_shown, flow_begins, Talking, Waiting, with_tail, knows_if, begins_anew, asks, Turned, cleared_shown, away_shown, asked_shown}
 
 -- ---- where the channel stands beside the end
 
@@ -35,7 +37,8 @@ Standing from t (WasCalled terms) way = (WasAsked terms Called Calling way t.rea
 Standing from t (Talks window most g c) way = Talking window most t g c way
 Standing from t (Resets window most) way = Waiting window most t (tail_of way) ⊎ Gone t.own
 Standing from t (WasReset window most) way = ((g : Given) × (a : Come) × Away window most (reset 0 0 0 ∷ way) (Behind (reset 0 0 0 ∷ way)) t.reaches t.own t.other g a) ⊎ Gone t.own
-Standing from t WasCleared way = ((k : Call) × (terms : Terms) × Far false (clear 0 0 0 ∷ []) k terms t.reaches t.own t.other) ⊎ Gone t.own
+Standing from t Clears way = HasCleared way t.reaches t.own t.other ⊎ Dark true t.own
+Standing from t WasCleared way = ((k : Call) × (terms : Terms) × Far false (clear 0 0 0 ∷ []) k terms t.reaches t.own t.other × Closing way t.reaches t.own.owed t.other.is_clearing t.other.call t.other.talk.flow) ⊎ Gone t.own
 Standing from t WasRestarted way = Unit {0}
 
 pub record Sound (from : Role) (t : Pair) (s : Phase) (way : List PlainPacket) : Type 0 where
@@ -130,63 +133,272 @@ sound_accepts t terms way channel facilities quiet (inl (inl h)) = let r = accep
 sound_accepts t terms way channel facilities quiet (inl (inr (role, h))) = let r = accepts_asked t channel facilities quiet Collided Collided role (λ x w. refl) terms way h in record { quiet = r.quiet; stands = r.stands }
 sound_accepts t terms way channel facilities quiet (inr k) = let r = accepts_dark t quiet k channel facilities in record { quiet = r.quiet; stands = inr (inr r.gone) }
 
-pub sound_does : (t : Pair) (s r : Phase) (way : List PlainPacket) (packet : PlainPacket) → MayDo s packet r → Sound t.from t s way → Sound t.from (sends packet t) r way
-sound_does t (Talks window most g c) r way (reset channel cause diagnostic) may h = subst (λ (x : Phase). Sound t.from (sends (reset channel cause diagnostic) t) x way) (sym may) (sound_resets window most t g c way channel cause diagnostic h.quiet h.stands)
-sound_does t (Talks window most g c) r way (user_data channel q m ps pr user) (n, may, is) h = subst (λ (x : Phase). Sound t.from (sends (user_data channel q m ps pr user) t) x way) (sym is) (sound_sends window most t g n c way (user_data channel q m ps pr user) h.quiet may h.stands)
-sound_does t (Talks window most g c) r way (rr channel pr) (n, may, is) h = subst (λ (x : Phase). Sound t.from (sends (rr channel pr) t) x way) (sym is) (sound_sends window most t g n c way (rr channel pr) h.quiet may h.stands)
-sound_does t (Talks window most g c) r way (rnr channel pr) (n, may, is) h = subst (λ (x : Phase). Sound t.from (sends (rnr channel pr) t) x way) (sym is) (sound_sends window most t g n c way (rnr channel pr) h.quiet may h.stands)
-sound_does t (Talks window most g c) r way (interrupt channel user) (n, may, is) h = subst (λ (x : Phase). Sound t.from (sends (interrupt channel user) t) x way) (sym is) (sound_sends window most t g n c way (interrupt channel user) h.quiet may h.stands)
-sound_does t (Talks window most g c) r way (interrupt_conf channel) (n, may, is) h = subst (λ (x : Phase). Sound t.from (sends (interrupt_conf channel) t) x way) (sym is) (sound_sends window most t g n c way (interrupt_conf channel) h.quiet may h.stands)
-sound_does t (Talks window most g c) r way (reset_conf channel) (n, may, is) h = absurd may
-sound_does t (Talks window most g c) r way (call channel called calling facilities user) (n, may, is) h = absurd may
-sound_does t (Talks window most g c) r way (accept channel facilities) (n, may, is) h = absurd may
-sound_does t (Talks window most g c) r way (clear channel cause diagnostic) (n, may, is) h = absurd may
-sound_does t (Talks window most g c) r way (clear_conf channel) (n, may, is) h = absurd may
-sound_does t (Talks window most g c) r way (restart cause diagnostic) (n, may, is) h = absurd may
-sound_does t (Talks window most g c) r way restart_conf (n, may, is) h = absurd may
-sound_does t (WasReset window most) r way (reset_conf channel) may h = subst (λ (x : Phase). Sound t.from (sends (reset_conf channel) t) x way) (sym may) (sound_confirms window most t way channel h.quiet h.stands)
-sound_does t (WasReset window most) r way (reset channel cause diagnostic) may h = absurd may
-sound_does t (WasReset window most) r way (user_data channel q m ps pr user) may h = absurd may
-sound_does t (WasReset window most) r way (rr channel pr) may h = absurd may
-sound_does t (WasReset window most) r way (rnr channel pr) may h = absurd may
-sound_does t (WasReset window most) r way (interrupt channel user) may h = absurd may
-sound_does t (WasReset window most) r way (interrupt_conf channel) may h = absurd may
-sound_does t (WasReset window most) r way (call channel called calling facilities user) may h = absurd may
-sound_does t (WasReset window most) r way (accept channel facilities) may h = absurd may
-sound_does t (WasReset window most) r way (clear channel cause diagnostic) may h = absurd may
-sound_does t (WasReset window most) r way (clear_conf channel) may h = absurd may
-sound_does t (WasReset window most) r way (restart cause diagnostic) may h = absurd may
-sound_does t (WasReset window most) r way restart_conf may h = absurd may
-sound_does t (Resets window most) r way packet may h = absurd may
-sound_does t WasCleared r way packet may h = absurd may
-sound_does t WasRestarted r way packet may h = absurd may
-sound_does t Idles r way (call channel called calling facilities user) may h = subst (λ (x : Phase). Sound t.from (sends (call channel called calling facilities user) t) x way) (sym may) (sound_calls t way channel called calling facilities user h.quiet h.stands)
-sound_does t Idles r way (accept channel facilities) may h = absurd may
-sound_does t Idles r way (clear channel cause diagnostic) may h = absurd may
-sound_does t Idles r way (clear_conf channel) may h = absurd may
-sound_does t Idles r way (user_data channel q m ps pr user) may h = absurd may
-sound_does t Idles r way (rr channel pr) may h = absurd may
-sound_does t Idles r way (rnr channel pr) may h = absurd may
-sound_does t Idles r way (interrupt channel user) may h = absurd may
-sound_does t Idles r way (interrupt_conf channel) may h = absurd may
-sound_does t Idles r way (reset channel cause diagnostic) may h = absurd may
-sound_does t Idles r way (reset_conf channel) may h = absurd may
-sound_does t Idles r way (restart cause diagnostic) may h = absurd may
-sound_does t Idles r way restart_conf may h = absurd may
-sound_does t (WasCalled terms) r way (call channel called calling facilities user) may h = absurd may
-sound_does t (WasCalled terms) r way (accept channel facilities) may h = subst (λ (x : Phase). Sound t.from (sends (accept channel facilities) t) x way) (sym may) (sound_accepts t terms way channel facilities h.quiet h.stands)
-sound_does t (WasCalled terms) r way (clear channel cause diagnostic) may h = absurd may
-sound_does t (WasCalled terms) r way (clear_conf channel) may h = absurd may
-sound_does t (WasCalled terms) r way (user_data channel q m ps pr user) may h = absurd may
-sound_does t (WasCalled terms) r way (rr channel pr) may h = absurd may
-sound_does t (WasCalled terms) r way (rnr channel pr) may h = absurd may
-sound_does t (WasCalled terms) r way (interrupt channel user) may h = absurd may
-sound_does t (WasCalled terms) r way (interrupt_conf channel) may h = absurd may
-sound_does t (WasCalled terms) r way (reset channel cause diagnostic) may h = absurd may
-sound_does t (WasCalled terms) r way (reset_conf channel) may h = absurd may
-sound_does t (WasCalled terms) r way (restart cause diagnostic) may h = absurd may
-sound_does t (WasCalled terms) r way restart_conf may h = absurd may
-sound_does t (Calls terms) r way packet may h = absurd may
+pub clear_quiet : (t : Pair) (channel cause diagnostic : ℕ) → t.rule ≡ None → (sends (clear channel cause diagnostic) t).rule ≡ None
+unfolding sends sends_known sends_unknown is_clearing
+clear_quiet t channel cause diagnostic quiet = cond_both (not (pair.is_known t)) (pair.clears_unknown t) _ (λ (v : Pair). v.rule ≡ None)
+    (λ _. unknown t quiet)
+    (λ _. subst (λ (v : Pair). v.rule ≡ None) (sym (cond-false (pair.is_awaiting t && false) (sends_unknown (clear channel cause diagnostic) (pair.starts_early t)) (pair.clears t) (and_right (pair.is_awaiting t) false refl)))
+    (cond_both (pair.is_awaiting t) _ _ (λ (v : Pair). v.rule ≡ None) (λ _. unknown (pair.unknown t) quiet) (λ _. quiet)))
+  where
+    unknown : (x : Pair) → x.rule ≡ None → (pair.clears_unknown x).rule ≡ None
+    unknown x quiet = cond_both x.reaches _ _ (λ (y : Pair). y.rule ≡ None) (λ _. quiet) (λ _. quiet)
+
+-- no CLEAR of the end waits
+module _ (reaches : Bool) (p o : Port) where
+  none_cleared_asked : (terms : Terms) (k j : Call) (way : List PlainPacket) → WasAsked terms k j way reaches p o → o.owed ≡ 0
+  none_cleared_asked terms k j [] (its, e) = e.none_cleared
+  none_cleared_asked terms k j (clear channel cause diagnostic ∷ rest) (w, c) = w.none_cleared
+  none_cleared_asked terms k j (restart cause diagnostic ∷ rest) w = w.none_cleared
+  none_cleared_asked terms k j (user_data channel q m ps pr user ∷ rest) h = absurd h
+  none_cleared_asked terms k j (rr channel pr ∷ rest) h = absurd h
+  none_cleared_asked terms k j (rnr channel pr ∷ rest) h = absurd h
+  none_cleared_asked terms k j (interrupt channel user ∷ rest) h = absurd h
+  none_cleared_asked terms k j (interrupt_conf channel ∷ rest) h = absurd h
+  none_cleared_asked terms k j (reset channel cause diagnostic ∷ rest) h = absurd h
+  none_cleared_asked terms k j (reset_conf channel ∷ rest) h = absurd h
+  none_cleared_asked terms k j (call channel called calling facilities user ∷ rest) h = absurd h
+  none_cleared_asked terms k j (accept channel facilities ∷ rest) h = absurd h
+  none_cleared_asked terms k j (clear_conf channel ∷ rest) h = absurd h
+  none_cleared_asked terms k j (restart_conf ∷ rest) h = absurd h
+
+  none_cleared_none : (way : List PlainPacket) → HasNone way reaches p o → o.owed ≡ 0
+  none_cleared_none [] e = e.none_cleared
+  none_cleared_none (call channel called calling facilities user ∷ rest) h = none_cleared_asked (said facilities usual) Called Calling rest h
+  none_cleared_none (clear channel cause diagnostic ∷ rest) (x, (w, c)) = w.none_cleared
+  none_cleared_none (restart cause diagnostic ∷ rest) (x, w) = w.none_cleared
+  none_cleared_none (user_data channel q m ps pr user ∷ rest) h = absurd h
+  none_cleared_none (rr channel pr ∷ rest) h = absurd h
+  none_cleared_none (rnr channel pr ∷ rest) h = absurd h
+  none_cleared_none (interrupt channel user ∷ rest) h = absurd h
+  none_cleared_none (interrupt_conf channel ∷ rest) h = absurd h
+  none_cleared_none (reset channel cause diagnostic ∷ rest) h = absurd h
+  none_cleared_none (reset_conf channel ∷ rest) h = absurd h
+  none_cleared_none (accept channel facilities ∷ rest) h = absurd h
+  none_cleared_none (clear_conf channel ∷ rest) h = absurd h
+  none_cleared_none (restart_conf ∷ rest) h = absurd h
+
+  module _ (known : p.is_known ≡ true) where
+    none_cleared_stands : (window most : ℕ) (tail : List PlainPacket) (g : Given) (a : Come) → Stands window most tail reaches p o g a → o.owed ≡ 0
+    none_cleared_stands window most tail g a (inl l) = l.go.none_cleared
+    none_cleared_stands window most tail g a (inr (inl w)) = w.go.none_cleared
+    none_cleared_stands window most tail g a (inr (inr k)) = absurd (both_ways p.is_known k.known known)
+
+    none_cleared_asks : (terms : Terms) (k j : Call) (way : List PlainPacket) → Asks terms k j way reaches p o → o.owed ≡ 0
+    none_cleared_asks terms k j [] (its, e) = e.none_cleared
+    none_cleared_asks terms k j (accept channel facilities ∷ rest) h = none_cleared_stands (said facilities terms).calling_window (octets_of (said facilities terms).calling_size) (tail_of rest) nothing_given (ahead rest nothing_came) h
+    none_cleared_asks terms k j (clear channel cause diagnostic ∷ rest) (x, (w, c)) = w.none_cleared
+    none_cleared_asks terms k j (restart cause diagnostic ∷ rest) (x, w) = w.none_cleared
+    none_cleared_asks terms k j (user_data channel q m ps pr user ∷ rest) h = absurd h
+    none_cleared_asks terms k j (rr channel pr ∷ rest) h = absurd h
+    none_cleared_asks terms k j (rnr channel pr ∷ rest) h = absurd h
+    none_cleared_asks terms k j (interrupt channel user ∷ rest) h = absurd h
+    none_cleared_asks terms k j (interrupt_conf channel ∷ rest) h = absurd h
+    none_cleared_asks terms k j (reset channel cause diagnostic ∷ rest) h = absurd h
+    none_cleared_asks terms k j (reset_conf channel ∷ rest) h = absurd h
+    none_cleared_asks terms k j (call channel called calling facilities user ∷ rest) h = absurd h
+    none_cleared_asks terms k j (clear_conf channel ∷ rest) h = absurd h
+    none_cleared_asks terms k j (restart_conf ∷ rest) h = absurd h
+
+    none_cleared_called : (from : Role) (terms : Terms) (way : List PlainPacket) → HasCalled from terms way reaches p o → o.owed ≡ 0
+    none_cleared_called from terms (call channel called calling facilities user ∷ rest) (inl (role, h)) = none_cleared_asked (said facilities usual) Collided Collided rest h
+    none_cleared_called from terms (call channel called calling facilities user ∷ rest) (inr (role, h)) = none_cleared_asks terms Collided Collided rest h
+    none_cleared_called from terms [] h = none_cleared_asks terms Calling Called [] h
+    none_cleared_called from terms (user_data channel q m ps pr user ∷ rest) h = none_cleared_asks terms Calling Called (user_data channel q m ps pr user ∷ rest) h
+    none_cleared_called from terms (rr channel pr ∷ rest) h = none_cleared_asks terms Calling Called (rr channel pr ∷ rest) h
+    none_cleared_called from terms (rnr channel pr ∷ rest) h = none_cleared_asks terms Calling Called (rnr channel pr ∷ rest) h
+    none_cleared_called from terms (interrupt channel user ∷ rest) h = none_cleared_asks terms Calling Called (interrupt channel user ∷ rest) h
+    none_cleared_called from terms (interrupt_conf channel ∷ rest) h = none_cleared_asks terms Calling Called (interrupt_conf channel ∷ rest) h
+    none_cleared_called from terms (reset channel cause diagnostic ∷ rest) h = none_cleared_asks terms Calling Called (reset channel cause diagnostic ∷ rest) h
+    none_cleared_called from terms (reset_conf channel ∷ rest) h = none_cleared_asks terms Calling Called (reset_conf channel ∷ rest) h
+    none_cleared_called from terms (accept channel facilities ∷ rest) h = none_cleared_asks terms Calling Called (accept channel facilities ∷ rest) h
+    none_cleared_called from terms (clear channel cause diagnostic ∷ rest) h = none_cleared_asks terms Calling Called (clear channel cause diagnostic ∷ rest) h
+    none_cleared_called from terms (clear_conf channel ∷ rest) h = none_cleared_asks terms Calling Called (clear_conf channel ∷ rest) h
+    none_cleared_called from terms (restart cause diagnostic ∷ rest) h = none_cleared_asks terms Calling Called (restart cause diagnostic ∷ rest) h
+    none_cleared_called from terms (restart_conf ∷ rest) h = none_cleared_asks terms Calling Called (restart_conf ∷ rest) h
+
+abbrev IsNotRestart : List PlainPacket → Type 0
+IsNotRestart (restart cause diagnostic ∷ rest) = ⊥
+IsNotRestart tail = Unit {0}
+
+none_cleared_waits : (t : Pair) → t.own.is_known ≡ true → (window most : ℕ) (tail : List PlainPacket) → IsNotRestart tail → Waiting window most t tail → t.other.owed ≡ 0
+none_cleared_waits t known window most [] is k = k.others_cleared
+none_cleared_waits t known window most (reset channel cause diagnostic ∷ rest) is h = none_cleared_stands t.reaches t.own t.other known window most (tail_of rest) nothing_given (ahead rest nothing_came) h
+none_cleared_waits t known window most (reset_conf channel ∷ rest) is h = none_cleared_stands t.reaches t.own t.other known window most (tail_of rest) nothing_given (ahead rest nothing_came) h
+none_cleared_waits t known window most (clear channel cause diagnostic ∷ rest) is w = w.go.none_cleared
+none_cleared_waits t known window most (restart cause diagnostic ∷ rest) is h = absurd is
+none_cleared_waits t known window most (user_data channel q m ps pr user ∷ rest) is h = absurd h
+none_cleared_waits t known window most (rr channel pr ∷ rest) is h = absurd h
+none_cleared_waits t known window most (rnr channel pr ∷ rest) is h = absurd h
+none_cleared_waits t known window most (interrupt channel user ∷ rest) is h = absurd h
+none_cleared_waits t known window most (interrupt_conf channel ∷ rest) is h = absurd h
+none_cleared_waits t known window most (call channel called calling facilities user ∷ rest) is h = absurd h
+none_cleared_waits t known window most (accept channel facilities ∷ rest) is h = absurd h
+none_cleared_waits t known window most (clear_conf channel ∷ rest) is h = absurd h
+none_cleared_waits t known window most (restart_conf ∷ rest) is h = absurd h
+
+-- CLEAR, and the confirmation of the one that came
+abbrev MayClear : Phase → Type 0
+MayClear Clears = ⊥
+MayClear WasCleared = ⊥
+MayClear WasRestarted = ⊥
+MayClear s = Unit {0}
+
+sound_clears : (t : Pair) (s : Phase) (way : List PlainPacket) (channel cause diagnostic : ℕ) → MayClear s → t.rule ≡ None → Standing t.from t s way → (pair.is_known t ≡ true) × (pair.is_doubtful t ≡ false) → Sound t.from (sends (clear channel cause diagnostic) t) Clears way
+unfolding sends_known
+sound_clears t s way channel cause diagnostic may quiet stands (certain, sure) = go s may stands
+  where
+    known : t.own.is_known ≡ true
+    known = (and_parts t.own.is_known t.other.is_known certain).0
+
+    others_known : t.other.is_known ≡ true
+    others_known = (and_parts t.own.is_known t.other.is_known certain).1
+
+    none_doubtful : t.other.is_doubtful ≡ false
+    none_doubtful = (or_parts t.own.is_doubtful t.other.is_doubtful sure).1
+
+    put : t.other.owed ≡ 0 → HasCleared way (pair.marks true t).reaches (pair.marks true t).own (pair.marks true t).other → Sound t.from (sends (clear channel cause diagnostic) t) Clears way
+    put none h = subst (λ (x : Pair). Sound t.from x Clears way)
+        (sym (knows_if t (clear channel cause diagnostic) certain (awaits_none t.own.is_clearing t.other.owed none) ∙ cond-false (pair.is_awaiting t) _ (pair.marks true t) (awaits_none t.own.is_clearing t.other.owed none)))
+        (record { quiet = quiet; stands = inl h })
+
+    dark : {X : Type 0} (shut : Bool) → Dark shut t.own → X
+    dark shut k = absurd (both_ways t.own.is_known k.known known)
+
+    go : (s : Phase) → MayClear s → Standing t.from t s way → Sound t.from (sends (clear channel cause diagnostic) t) Clears way
+    go Idles may (inl h) = put (none_cleared_none t.reaches t.own t.other way h) (leave_none t known others_known none_doubtful way h)
+    go Idles may (inr k) = dark true k
+    go (Calls terms) may (inl (inl h)) = put (none_cleared_called t.reaches t.own t.other known t.from terms way h) (leave_called t known others_known none_doubtful t.from terms way h)
+    go (Calls terms) may (inl (inr (role, h))) = put (none_cleared_asks t.reaches t.own t.other known terms Collided Collided way h) (leave_asks t known others_known none_doubtful terms Collided Collided way h)
+    go (Calls terms) may (inr k) = dark true k
+    go (WasCalled terms) may (inl (inl h)) = put (none_cleared_asked t.reaches t.own t.other terms Called Calling way h) (leave_asked t known others_known none_doubtful terms Called Calling way h)
+    go (WasCalled terms) may (inl (inr (role, h))) = put (none_cleared_asked t.reaches t.own t.other terms Collided Collided way h) (leave_asked t known others_known none_doubtful terms Collided Collided way h)
+    go (WasCalled terms) may (inr k) = dark true k
+    go (Talks window most g c) may h = put (none_cleared_stands t.reaches t.own t.other known window most (tail_of way) g (ahead way c) h) (leave_stands t known others_known none_doubtful window most g (ahead way c) way h)
+    go (Resets window most) may (inl h) = waits (tail_of way) refl h
+      where
+        waits : (tail : List PlainPacket) → tail_of way ≡ tail → Waiting window most t tail → Sound t.from (sends (clear channel cause diagnostic) t) Clears way
+        waits (restart causes diagnostics ∷ rest) is h = record { quiet = clear_quiet t channel cause diagnostic quiet; stands = inl (skipped _ _ _ way (subst (λ x. HasCleared x (sends (clear channel cause diagnostic) t).reaches (sends (clear channel cause diagnostic) t).own (sends (clear channel cause diagnostic) t).other) (sym is) tt)) }
+        waits [] is h = put (none_cleared_waits t known window most [] tt h) (skipped _ _ _ way (subst (λ x. HasCleared x (pair.marks true t).reaches (pair.marks true t).own (pair.marks true t).other) (sym is) (leave_waits t known others_known none_doubtful window most [] h)))
+        waits (user_data channel2 q2 m2 ps2 pr2 user2 ∷ rest) is h = put (none_cleared_waits t known window most (user_data channel2 q2 m2 ps2 pr2 user2 ∷ rest) tt h) (skipped _ _ _ way (subst (λ x. HasCleared x (pair.marks true t).reaches (pair.marks true t).own (pair.marks true t).other) (sym is) (leave_waits t known others_known none_doubtful window most (user_data channel2 q2 m2 ps2 pr2 user2 ∷ rest) h)))
+        waits (rr channel2 pr2 ∷ rest) is h = put (none_cleared_waits t known window most (rr channel2 pr2 ∷ rest) tt h) (skipped _ _ _ way (subst (λ x. HasCleared x (pair.marks true t).reaches (pair.marks true t).own (pair.marks true t).other) (sym is) (leave_waits t known others_known none_doubtful window most (rr channel2 pr2 ∷ rest) h)))
+        waits (rnr channel2 pr2 ∷ rest) is h = put (none_cleared_waits t known window most (rnr channel2 pr2 ∷ rest) tt h) (skipped _ _ _ way (subst (λ x. HasCleared x (pair.marks true t).reaches (pair.marks true t).own (pair.marks true t).other) (sym is) (leave_waits t known others_known none_doubtful window most (rnr channel2 pr2 ∷ rest) h)))
+        waits (interrupt channel2 user2 ∷ rest) is h = put (none_cleared_waits t known window most (interrupt channel2 user2 ∷ rest) tt h) (skipped _ _ _ way (subst (λ x. HasCleared x (pair.marks true t).reaches (pair.marks true t).own (pair.marks true t).other) (sym is) (leave_waits t known others_known none_doubtful window most (interrupt channel2 user2 ∷ rest) h)))
+        waits (interrupt_conf channel2 ∷ rest) is h = put (none_cleared_waits t known window most (interrupt_conf channel2 ∷ rest) tt h) (skipped _ _ _ way (subst (λ x. HasCleared x (pair.marks true t).reaches (pair.marks true t).own (pair.marks true t).other) (sym is) (leave_waits t known others_known none_doubtful window most (interrupt_conf channel2 ∷ rest) h)))
+        waits (reset channel2 cause2 diagnostic2 ∷ rest) is h = put (none_cleared_waits t known window most (reset channel2 cause2 diagnostic2 ∷ rest) tt h) (skipped _ _ _ way (subst (λ x. HasCleared x (pair.marks true t).reaches (pair.marks true t).own (pair.marks true t).other) (sym is) (leave_waits t known others_known none_doubtful window most (reset channel2 cause2 diagnostic2 ∷ rest) h)))
+        waits (reset_conf channel2 ∷ rest) is h = put (none_cleared_waits t known window most (reset_conf channel2 ∷ rest) tt h) (skipped _ _ _ way (subst (λ x. HasCleared x (pair.marks true t).reaches (pair.marks true t).own (pair.marks true t).other) (sym is) (leave_waits t known others_known none_doubtful window most (reset_conf channel2 ∷ rest) h)))
+        waits (call channel2 called2 calling2 facilities2 user2 ∷ rest) is h = put (none_cleared_waits t known window most (call channel2 called2 calling2 facilities2 user2 ∷ rest) tt h) (skipped _ _ _ way (subst (λ x. HasCleared x (pair.marks true t).reaches (pair.marks true t).own (pair.marks true t).other) (sym is) (leave_waits t known others_known none_doubtful window most (call channel2 called2 calling2 facilities2 user2 ∷ rest) h)))
+        waits (accept channel2 facilities2 ∷ rest) is h = put (none_cleared_waits t known window most (accept channel2 facilities2 ∷ rest) tt h) (skipped _ _ _ way (subst (λ x. HasCleared x (pair.marks true t).reaches (pair.marks true t).own (pair.marks true t).other) (sym is) (leave_waits t known others_known none_doubtful window most (accept channel2 facilities2 ∷ rest) h)))
+        waits (clear channel2 cause2 diagnostic2 ∷ rest) is h = put (none_cleared_waits t known window most (clear channel2 cause2 diagnostic2 ∷ rest) tt h) (skipped _ _ _ way (subst (λ x. HasCleared x (pair.marks true t).reaches (pair.marks true t).own (pair.marks true t).other) (sym is) (leave_waits t known others_known none_doubtful window most (clear channel2 cause2 diagnostic2 ∷ rest) h)))
+        waits (clear_conf channel2 ∷ rest) is h = put (none_cleared_waits t known window most (clear_conf channel2 ∷ rest) tt h) (skipped _ _ _ way (subst (λ x. HasCleared x (pair.marks true t).reaches (pair.marks true t).own (pair.marks true t).other) (sym is) (leave_waits t known others_known none_doubtful window most (clear_conf channel2 ∷ rest) h)))
+        waits (restart_conf ∷ rest) is h = put (none_cleared_waits t known window most (restart_conf ∷ rest) tt h) (skipped _ _ _ way (subst (λ x. HasCleared x (pair.marks true t).reaches (pair.marks true t).own (pair.marks true t).other) (sym is) (leave_waits t known others_known none_doubtful window most (restart_conf ∷ rest) h)))
+    go (Resets window most) may (inr k) = dark false k
+    go (WasReset window most) may (inl (g, a, w)) = put w.go.none_cleared (leave_reset t known others_known none_doubtful window most g a way w)
+    go (WasReset window most) may (inr k) = dark false k
+    go Clears may h = absurd may
+    go WasCleared may h = absurd may
+    go WasRestarted may h = absurd may
+
+sound_frees : (t : Pair) (way : List PlainPacket) (channel : ℕ) → t.rule ≡ None → Standing t.from t WasCleared way → (pair.is_known t ≡ true) × (pair.is_doubtful t ≡ false) → Sound t.from (sends (clear_conf channel) t) Idles way
+unfolding sends_known
+sound_frees t way channel quiet (inl (k, terms, w, closes)) (certain, sure) = subst (λ (x : Pair). Sound t.from x Idles way)
+    (sym (knows_if t (clear_conf channel) certain (awaits_none t.own.is_clearing t.other.owed w.none_cleared) ∙ cond-true (nat_lt 0 t.own.owed) (pair.marks false t) _ (lt-ltb 0 t.own.owed (omega (arith, w.over)))))
+    (record { quiet = quiet; stands = inl (leave_closing false t w.known w.others_known w.none_cleared (or_parts t.own.is_doubtful t.other.is_doubtful sure).1 w.none_reset way closes) })
+sound_frees t way channel quiet (inr k) (certain, sure) = absurd (both_ways t.own.is_known k.known (and_parts t.own.is_known t.other.is_known certain).0)
+
+pub sound_does : (t : Pair) (s r : Phase) (way : List PlainPacket) (packet : PlainPacket) → MayDo s packet r → IsFollowed t packet → Sound t.from t s way → Sound t.from (sends packet t) r way
+sound_does t (Talks window most g c) r way (reset channel cause diagnostic) may followed h = subst (λ (x : Phase). Sound t.from (sends (reset channel cause diagnostic) t) x way) (sym may) (sound_resets window most t g c way channel cause diagnostic h.quiet h.stands)
+sound_does t (Talks window most g c) r way (user_data channel q m ps pr user) (n, may, is) followed h = subst (λ (x : Phase). Sound t.from (sends (user_data channel q m ps pr user) t) x way) (sym is) (sound_sends window most t g n c way (user_data channel q m ps pr user) h.quiet may h.stands)
+sound_does t (Talks window most g c) r way (rr channel pr) (n, may, is) followed h = subst (λ (x : Phase). Sound t.from (sends (rr channel pr) t) x way) (sym is) (sound_sends window most t g n c way (rr channel pr) h.quiet may h.stands)
+sound_does t (Talks window most g c) r way (rnr channel pr) (n, may, is) followed h = subst (λ (x : Phase). Sound t.from (sends (rnr channel pr) t) x way) (sym is) (sound_sends window most t g n c way (rnr channel pr) h.quiet may h.stands)
+sound_does t (Talks window most g c) r way (interrupt channel user) (n, may, is) followed h = subst (λ (x : Phase). Sound t.from (sends (interrupt channel user) t) x way) (sym is) (sound_sends window most t g n c way (interrupt channel user) h.quiet may h.stands)
+sound_does t (Talks window most g c) r way (interrupt_conf channel) (n, may, is) followed h = subst (λ (x : Phase). Sound t.from (sends (interrupt_conf channel) t) x way) (sym is) (sound_sends window most t g n c way (interrupt_conf channel) h.quiet may h.stands)
+sound_does t (Talks window most g c) r way (reset_conf channel) (n, may, is) followed h = absurd may
+sound_does t (Talks window most g c) r way (call channel called calling facilities user) (n, may, is) followed h = absurd may
+sound_does t (Talks window most g c) r way (accept channel facilities) (n, may, is) followed h = absurd may
+sound_does t (Talks window most g c) r way (clear channel cause diagnostic) may followed h = subst (λ (x : Phase). Sound t.from (sends (clear channel cause diagnostic) t) x way) (sym may) (sound_clears t (Talks window most g c) way channel cause diagnostic tt h.quiet h.stands followed)
+sound_does t (Talks window most g c) r way (clear_conf channel) (n, may, is) followed h = absurd may
+sound_does t (Talks window most g c) r way (restart cause diagnostic) (n, may, is) followed h = absurd may
+sound_does t (Talks window most g c) r way restart_conf (n, may, is) followed h = absurd may
+sound_does t (WasReset window most) r way (reset_conf channel) may followed h = subst (λ (x : Phase). Sound t.from (sends (reset_conf channel) t) x way) (sym may) (sound_confirms window most t way channel h.quiet h.stands)
+sound_does t (WasReset window most) r way (reset channel cause diagnostic) may followed h = absurd may
+sound_does t (WasReset window most) r way (user_data channel q m ps pr user) may followed h = absurd may
+sound_does t (WasReset window most) r way (rr channel pr) may followed h = absurd may
+sound_does t (WasReset window most) r way (rnr channel pr) may followed h = absurd may
+sound_does t (WasReset window most) r way (interrupt channel user) may followed h = absurd may
+sound_does t (WasReset window most) r way (interrupt_conf channel) may followed h = absurd may
+sound_does t (WasReset window most) r way (call channel called calling facilities user) may followed h = absurd may
+sound_does t (WasReset window most) r way (accept channel facilities) may followed h = absurd may
+sound_does t (WasReset window most) r way (clear channel cause diagnostic) may followed h = subst (λ (x : Phase). Sound t.from (sends (clear channel cause diagnostic) t) x way) (sym may) (sound_clears t (WasReset window most) way channel cause diagnostic tt h.quiet h.stands followed)
+sound_does t (WasReset window most) r way (clear_conf channel) may followed h = absurd may
+sound_does t (WasReset window most) r way (restart cause diagnostic) may followed h = absurd may
+sound_does t (WasReset window most) r way restart_conf may followed h = absurd may
+sound_does t (Calls terms) r way (user_data channel q m ps pr user) may followed h = absurd may
+sound_does t (Calls terms) r way (rr channel pr) may followed h = absurd may
+sound_does t (Calls terms) r way (rnr channel pr) may followed h = absurd may
+sound_does t (Calls terms) r way (interrupt channel user) may followed h = absurd may
+sound_does t (Calls terms) r way (interrupt_conf channel) may followed h = absurd may
+sound_does t (Calls terms) r way (reset channel cause diagnostic) may followed h = absurd may
+sound_does t (Calls terms) r way (reset_conf channel) may followed h = absurd may
+sound_does t (Calls terms) r way (call channel called calling facilities user) may followed h = absurd may
+sound_does t (Calls terms) r way (accept channel facilities) may followed h = absurd may
+sound_does t (Calls terms) r way (clear channel cause diagnostic) may followed h = subst (λ (x : Phase). Sound t.from (sends (clear channel cause diagnostic) t) x way) (sym may) (sound_clears t (Calls terms) way channel cause diagnostic tt h.quiet h.stands followed)
+sound_does t (Calls terms) r way (clear_conf channel) may followed h = absurd may
+sound_does t (Calls terms) r way (restart cause diagnostic) may followed h = absurd may
+sound_does t (Calls terms) r way restart_conf may followed h = absurd may
+sound_does t (Resets window most) r way (user_data channel q m ps pr user) may followed h = absurd may
+sound_does t (Resets window most) r way (rr channel pr) may followed h = absurd may
+sound_does t (Resets window most) r way (rnr channel pr) may followed h = absurd may
+sound_does t (Resets window most) r way (interrupt channel user) may followed h = absurd may
+sound_does t (Resets window most) r way (interrupt_conf channel) may followed h = absurd may
+sound_does t (Resets window most) r way (reset channel cause diagnostic) may followed h = absurd may
+sound_does t (Resets window most) r way (reset_conf channel) may followed h = absurd may
+sound_does t (Resets window most) r way (call channel called calling facilities user) may followed h = absurd may
+sound_does t (Resets window most) r way (accept channel facilities) may followed h = absurd may
+sound_does t (Resets window most) r way (clear channel cause diagnostic) may followed h = subst (λ (x : Phase). Sound t.from (sends (clear channel cause diagnostic) t) x way) (sym may) (sound_clears t (Resets window most) way channel cause diagnostic tt h.quiet h.stands followed)
+sound_does t (Resets window most) r way (clear_conf channel) may followed h = absurd may
+sound_does t (Resets window most) r way (restart cause diagnostic) may followed h = absurd may
+sound_does t (Resets window most) r way restart_conf may followed h = absurd may
+sound_does t WasCleared r way (user_data channel q m ps pr user) may followed h = absurd may
+sound_does t WasCleared r way (rr channel pr) may followed h = absurd may
+sound_does t WasCleared r way (rnr channel pr) may followed h = absurd may
+sound_does t WasCleared r way (interrupt channel user) may followed h = absurd may
+sound_does t WasCleared r way (interrupt_conf channel) may followed h = absurd may
+sound_does t WasCleared r way (reset channel cause diagnostic) may followed h = absurd may
+sound_does t WasCleared r way (reset_conf channel) may followed h = absurd may
+sound_does t WasCleared r way (call channel called calling facilities user) may followed h = absurd may
+sound_does t WasCleared r way (accept channel facilities) may followed h = absurd may
+sound_does t WasCleared r way (clear channel cause diagnostic) may followed h = absurd may
+sound_does t WasCleared r way (clear_conf channel) may followed h = subst (λ (x : Phase). Sound t.from (sends (clear_conf channel) t) x way) (sym may) (sound_frees t way channel h.quiet h.stands followed)
+sound_does t WasCleared r way (restart cause diagnostic) may followed h = absurd may
+sound_does t WasCleared r way restart_conf may followed h = absurd may
+sound_does t Clears r way packet may followed h = absurd may
+sound_does t WasRestarted r way packet may followed h = absurd may
+sound_does t Idles r way (call channel called calling facilities user) may followed h = subst (λ (x : Phase). Sound t.from (sends (call channel called calling facilities user) t) x way) (sym may) (sound_calls t way channel called calling facilities user h.quiet h.stands)
+sound_does t Idles r way (accept channel facilities) may followed h = absurd may
+sound_does t Idles r way (clear channel cause diagnostic) may followed h = subst (λ (x : Phase). Sound t.from (sends (clear channel cause diagnostic) t) x way) (sym may) (sound_clears t Idles way channel cause diagnostic tt h.quiet h.stands followed)
+sound_does t Idles r way (clear_conf channel) may followed h = absurd may
+sound_does t Idles r way (user_data channel q m ps pr user) may followed h = absurd may
+sound_does t Idles r way (rr channel pr) may followed h = absurd may
+sound_does t Idles r way (rnr channel pr) may followed h = absurd may
+sound_does t Idles r way (interrupt channel user) may followed h = absurd may
+sound_does t Idles r way (interrupt_conf channel) may followed h = absurd may
+sound_does t Idles r way (reset channel cause diagnostic) may followed h = absurd may
+sound_does t Idles r way (reset_conf channel) may followed h = absurd may
+sound_does t Idles r way (restart cause diagnostic) may followed h = absurd may
+sound_does t Idles r way restart_conf may followed h = absurd may
+sound_does t (WasCalled terms) r way (call channel called calling facilities user) may followed h = absurd may
+sound_does t (WasCalled terms) r way (accept channel facilities) may followed h = subst (λ (x : Phase). Sound t.from (sends (accept channel facilities) t) x way) (sym may) (sound_accepts t terms way channel facilities h.quiet h.stands)
+sound_does t (WasCalled terms) r way (clear channel cause diagnostic) may followed h = subst (λ (x : Phase). Sound t.from (sends (clear channel cause diagnostic) t) x way) (sym may) (sound_clears t (WasCalled terms) way channel cause diagnostic tt h.quiet h.stands followed)
+sound_does t (WasCalled terms) r way (clear_conf channel) may followed h = absurd may
+sound_does t (WasCalled terms) r way (user_data channel q m ps pr user) may followed h = absurd may
+sound_does t (WasCalled terms) r way (rr channel pr) may followed h = absurd may
+sound_does t (WasCalled terms) r way (rnr channel pr) may followed h = absurd may
+sound_does t (WasCalled terms) r way (interrupt channel user) may followed h = absurd may
+sound_does t (WasCalled terms) r way (interrupt_conf channel) may followed h = absurd may
+sound_does t (WasCalled terms) r way (reset channel cause diagnostic) may followed h = absurd may
+sound_does t (WasCalled terms) r way (reset_conf channel) may followed h = absurd may
+sound_does t (WasCalled terms) r way (restart cause diagnostic) may followed h = absurd may
+sound_does t (WasCalled terms) r way restart_conf may followed h = absurd may
 
 -- ---- the other end sends
 
@@ -223,9 +435,9 @@ module _ (t : Pair) (packet : PlainPacket) (is : IsOfChannel packet) where
       at [] none k = subst (λ tail. Waiting window most v tail ⊎ Gone v.own) (sym (tail_more_none packet way none)) (asked_shown window most (turned t) k packet is)
       at (reset channel cause diagnostic ∷ rest) some s = done (reset channel cause diagnostic) rest some (talking_shown window most nothing_given nothing_came rest s)
       at (reset_conf channel ∷ rest) some s = done (reset_conf channel) rest some (talking_shown window most nothing_given nothing_came rest s)
-      at (clear channel cause diagnostic ∷ rest) some w = go (cleared_shown window most (turned t) nothing_given nothing_came packet is channel cause diagnostic rest (rest ++ packet ∷ []) w)
+      at (clear channel cause diagnostic ∷ rest) some w = go (cleared_shown window most (turned t) nothing_given nothing_came packet is channel cause diagnostic rest w)
         where
-          go : Away window most (clear channel cause diagnostic ∷ (rest ++ packet ∷ [])) Any v.reaches v.own v.other nothing_given nothing_came ⊎ Gone v.own → Waiting window most v (tail_of (way ++ packet ∷ [])) ⊎ Gone v.own
+          go : Turned window most nothing_given nothing_came (clear channel cause diagnostic ∷ (rest ++ packet ∷ [])) (sends packet (turned t)) → Waiting window most v (tail_of (way ++ packet ∷ [])) ⊎ Gone v.own
           go (inl w) = done (clear channel cause diagnostic) rest some w
           go (inr k) = inr k
       at (restart cause diagnostic ∷ rest) some s = done (restart cause diagnostic) rest some tt
@@ -261,13 +473,44 @@ module _ (t : Pair) where
       go (inl f) = inl (terms, f)
       go (inr k) = inr k
 
+  cleared_on : (packet : PlainPacket) → IsOfChannel packet → (channel cause diagnostic : ℕ) (rest : List PlainPacket) (k : Call) (terms : Terms) → FarClear (clear channel cause diagnostic) rest k terms t.reaches t.own t.other
+      → FarClear (clear channel cause diagnostic) (rest ++ packet ∷ []) k terms (seen packet).reaches (seen packet).own (seen packet).other ⊎ Dark true (seen packet).own
+  cleared_on packet is channel cause diagnostic [] k terms (w, c) = inr (closed_shown true (turned t) w.known w.others_known w.none_cleared c.its_clear c.once packet is)
+  cleared_on packet is channel cause diagnostic (restart causes diagnostics ∷ more) k terms (w, c) = go (far_on packet (clear channel cause diagnostic ∷ restart causes diagnostics ∷ more) (clear channel cause diagnostic ∷ restart causes diagnostics ∷ (more ++ packet ∷ [])) k terms (λ _ _ d. d) w)
+    where
+      go : Far true (clear channel cause diagnostic ∷ restart causes diagnostics ∷ (more ++ packet ∷ [])) k terms (seen packet).reaches (seen packet).own (seen packet).other ⊎ Dark true (seen packet).own
+          → FarClear (clear channel cause diagnostic) (restart causes diagnostics ∷ (more ++ packet ∷ [])) k terms (seen packet).reaches (seen packet).own (seen packet).other ⊎ Dark true (seen packet).own
+      go (inl f) = inl (f, (sends_reaches packet (turned t) ∙ c.0, f.over))
+      go (inr d) = inr d
+  cleared_on packet is channel cause diagnostic (user_data channel2 q2 m2 ps2 pr2 user2 ∷ more) k terms (w, c) = absurd c
+  cleared_on packet is channel cause diagnostic (rr channel2 pr2 ∷ more) k terms (w, c) = absurd c
+  cleared_on packet is channel cause diagnostic (rnr channel2 pr2 ∷ more) k terms (w, c) = absurd c
+  cleared_on packet is channel cause diagnostic (interrupt channel2 user2 ∷ more) k terms (w, c) = absurd c
+  cleared_on packet is channel cause diagnostic (interrupt_conf channel2 ∷ more) k terms (w, c) = absurd c
+  cleared_on packet is channel cause diagnostic (reset channel2 cause2 diagnostic2 ∷ more) k terms (w, c) = absurd c
+  cleared_on packet is channel cause diagnostic (reset_conf channel2 ∷ more) k terms (w, c) = absurd c
+  cleared_on packet is channel cause diagnostic (call channel2 called2 calling2 facilities2 user2 ∷ more) k terms (w, c) = absurd c
+  cleared_on packet is channel cause diagnostic (accept channel2 facilities2 ∷ more) k terms (w, c) = absurd c
+  cleared_on packet is channel cause diagnostic (clear channel2 cause2 diagnostic2 ∷ more) k terms (w, c) = absurd c
+  cleared_on packet is channel cause diagnostic (clear_conf channel2 ∷ more) k terms (w, c) = absurd c
+  cleared_on packet is channel cause diagnostic (restart_conf ∷ more) k terms (w, c) = absurd c
+
+  cleared_any : (packet : PlainPacket) → IsOfChannel packet → (channel cause diagnostic : ℕ) (rest : List PlainPacket) (k : Call) (terms : Terms) → FarClear (clear channel cause diagnostic) rest k terms t.reaches t.own t.other
+      → ((x : Terms) × FarClear (clear channel cause diagnostic) (rest ++ packet ∷ []) k x (seen packet).reaches (seen packet).own (seen packet).other) ⊎ Dark true (seen packet).own
+  cleared_any packet is channel cause diagnostic rest k terms h = go (cleared_on packet is channel cause diagnostic rest k terms h)
+    where
+      go : FarClear (clear channel cause diagnostic) (rest ++ packet ∷ []) k terms (seen packet).reaches (seen packet).own (seen packet).other ⊎ Dark true (seen packet).own
+          → ((x : Terms) × FarClear (clear channel cause diagnostic) (rest ++ packet ∷ []) k x (seen packet).reaches (seen packet).own (seen packet).other) ⊎ Dark true (seen packet).own
+      go (inl f) = inl (terms, f)
+      go (inr d) = inr d
+
   -- CALL came
   module _ (terms : Terms) (k j : Call) (silent : pair.may_talk_in j ≡ false) (again : (x : Terms) (w : Pair) → pair.calls_in j x w ≡ pair.breaks CallAgain w) (unasked : pair.may_accept_in j (other t.from) ≡ false) where
     abbrev AskedOrDark : List PlainPacket → Pair → Type 0
     AskedOrDark way v = WasAsked terms k j way v.reaches v.own v.other ⊎ Dark true v.own
 
     asked_even : (packet : PlainPacket) → IsOfChannel packet → (t.own.terms ≡ terms) × Even k j t.reaches t.own t.other → AskedOrDark (packet ∷ []) (seen packet)
-    asked_even (clear channel cause diagnostic) is (its, e) = inl (subst (λ x. Far true (clear channel cause diagnostic ∷ []) k x (seen (clear channel cause diagnostic)).reaches (seen (clear channel cause diagnostic)).own (seen (clear channel cause diagnostic)).other) its (even_clear k j (turned t) e channel cause diagnostic))
+    asked_even (clear channel cause diagnostic) is (its, e) = inl (subst (λ x. FarClear (clear channel cause diagnostic) [] k x (seen (clear channel cause diagnostic)).reaches (seen (clear channel cause diagnostic)).own (seen (clear channel cause diagnostic)).other) its (even_clear k j (turned t) e channel cause diagnostic))
     asked_even (call channel called calling facilities user) is (its, e) = inr (even_again k j (turned t) e channel called calling facilities user (again (said facilities usual) (pair.starts (turned t))))
     asked_even (accept channel facilities) is (its, e) = inr (even_unasked k j (turned t) e channel facilities unasked)
     asked_even (restart cause diagnostic) is h = absurd is
@@ -283,7 +526,7 @@ module _ (t : Pair) where
 
     asked_shown_so : (packet : PlainPacket) → IsOfChannel packet → (way : List PlainPacket) → WasAsked terms k j way t.reaches t.own t.other → AskedOrDark (way ++ packet ∷ []) (seen packet)
     asked_shown_so packet is [] h = asked_even packet is h
-    asked_shown_so packet is (clear channel cause diagnostic ∷ rest) h = far_on packet (clear channel cause diagnostic ∷ rest) (clear channel cause diagnostic ∷ (rest ++ packet ∷ [])) k terms (λ _ _ d. d) h
+    asked_shown_so packet is (clear channel cause diagnostic ∷ rest) h = cleared_on packet is channel cause diagnostic rest k terms h
     asked_shown_so packet is (restart cause diagnostic ∷ rest) h = far_on packet (restart cause diagnostic ∷ rest) (restart cause diagnostic ∷ (rest ++ packet ∷ [])) k terms (λ _ _ d. d) h
     asked_shown_so packet is (call channel called calling facilities user ∷ rest) h = absurd h
     asked_shown_so packet is (accept channel facilities ∷ rest) h = absurd h
@@ -319,7 +562,7 @@ module _ (t : Pair) where
   none_shown : (packet : PlainPacket) → IsOfChannel packet → (way : List PlainPacket) → HasNone way t.reaches t.own t.other → NoneOrDark (way ++ packet ∷ []) (seen packet)
   none_shown packet is [] e = none_even packet is e
   none_shown packet is (call channel called calling facilities user ∷ rest) h = asked_shown_so (said facilities usual) Called Calling refl (λ x w. refl) refl packet is rest h
-  none_shown packet is (clear channel cause diagnostic ∷ rest) (x, h) = far_any packet (clear channel cause diagnostic ∷ rest) (clear channel cause diagnostic ∷ (rest ++ packet ∷ [])) Idle x (λ _ _ d. d) h
+  none_shown packet is (clear channel cause diagnostic ∷ rest) (x, h) = cleared_any packet is channel cause diagnostic rest Idle x h
   none_shown packet is (restart cause diagnostic ∷ rest) (x, h) = far_any packet (restart cause diagnostic ∷ rest) (restart cause diagnostic ∷ (rest ++ packet ∷ [])) Idle x (λ _ _ d. d) h
   none_shown packet is (accept channel facilities ∷ rest) h = absurd h
   none_shown packet is (clear_conf channel ∷ rest) h = absurd h
@@ -358,7 +601,7 @@ module _ (t : Pair) where
   crossed_shown : pair.is_dce t.from ≡ false → (terms : Terms) (packet : PlainPacket) → IsOfChannel packet → (way : List PlainPacket) → Asks terms Collided Collided way t.reaches t.own t.other → AsksOrDark terms Collided Collided (way ++ packet ∷ []) (seen packet)
   crossed_shown role terms packet is [] h = crossed_even role terms packet is h
   crossed_shown role terms packet is (accept channel facilities ∷ rest) h = inl (asks_accepted (said facilities terms) packet is rest h)
-  crossed_shown role terms packet is (clear channel cause diagnostic ∷ rest) (x, h) = far_any packet (clear channel cause diagnostic ∷ rest) (clear channel cause diagnostic ∷ (rest ++ packet ∷ [])) Collided x (λ _ _ d. d) h
+  crossed_shown role terms packet is (clear channel cause diagnostic ∷ rest) (x, h) = cleared_any packet is channel cause diagnostic rest Collided x h
   crossed_shown role terms packet is (restart cause diagnostic ∷ rest) (x, h) = far_any packet (restart cause diagnostic ∷ rest) (restart cause diagnostic ∷ (rest ++ packet ∷ [])) Collided x (λ _ _ d. d) h
   crossed_shown role terms packet is (call channel called calling facilities user ∷ rest) h = absurd h
   crossed_shown role terms packet is (clear_conf channel ∷ rest) h = absurd h
@@ -403,7 +646,7 @@ module _ (t : Pair) where
       go (inl x) = inl (inr (role, x))
       go (inr k) = inr k
   called_shown terms packet is (accept channel facilities ∷ rest) h = inl (asks_accepted (said facilities terms) packet is rest h)
-  called_shown terms packet is (clear channel cause diagnostic ∷ rest) (x, h) = far_any packet (clear channel cause diagnostic ∷ rest) (clear channel cause diagnostic ∷ (rest ++ packet ∷ [])) Calling x (λ _ _ d. d) h
+  called_shown terms packet is (clear channel cause diagnostic ∷ rest) (x, h) = cleared_any packet is channel cause diagnostic rest Calling x h
   called_shown terms packet is (restart cause diagnostic ∷ rest) (x, h) = far_any packet (restart cause diagnostic ∷ rest) (restart cause diagnostic ∷ (rest ++ packet ∷ [])) Calling x (λ _ _ d. d) h
   called_shown terms packet is (clear_conf channel ∷ rest) h = absurd h
   called_shown terms packet is (user_data channel q m ps pr user ∷ rest) h = absurd h
@@ -414,6 +657,62 @@ module _ (t : Pair) where
   called_shown terms packet is (reset channel cause diagnostic ∷ rest) h = absurd h
   called_shown terms packet is (reset_conf channel ∷ rest) h = absurd h
   called_shown terms packet is (restart_conf ∷ rest) h = absurd h
+
+  -- its CLEAR waits
+  abbrev ClearedOrDark : List PlainPacket → Pair → Type 0
+  ClearedOrDark way v = HasCleared way v.reaches v.own v.other ⊎ Dark true v.own
+
+  left_lone : (packet : PlainPacket) → IsOfChannel packet → Lone t.reaches t.own t.other → ClearedOrDark (packet ∷ []) (seen packet)
+  left_lone (clear channel cause diagnostic) is h = inl (lone_cleared (turned t) h channel cause diagnostic)
+  left_lone (clear_conf channel) is h = inl (lone_confirmed (turned t) h channel)
+  left_lone (restart cause diagnostic) is h = absurd is
+  left_lone restart_conf is h = absurd is
+  left_lone (user_data channel q m ps pr user) is h = lone_shown (user_data channel q m ps pr user) (turned t) h tt
+  left_lone (rr channel pr) is h = lone_shown (rr channel pr) (turned t) h tt
+  left_lone (rnr channel pr) is h = lone_shown (rnr channel pr) (turned t) h tt
+  left_lone (interrupt channel user) is h = lone_shown (interrupt channel user) (turned t) h tt
+  left_lone (interrupt_conf channel) is h = lone_shown (interrupt_conf channel) (turned t) h tt
+  left_lone (reset channel cause diagnostic) is h = lone_shown (reset channel cause diagnostic) (turned t) h tt
+  left_lone (reset_conf channel) is h = lone_shown (reset_conf channel) (turned t) h tt
+  left_lone (call channel called calling facilities user) is h = lone_shown (call channel called calling facilities user) (turned t) h tt
+  left_lone (accept channel facilities) is h = lone_shown (accept channel facilities) (turned t) h tt
+
+  left_shown : (packet : PlainPacket) → IsOfChannel packet → (way : List PlainPacket) → HasCleared way t.reaches t.own t.other → ClearedOrDark (way ++ packet ∷ []) (seen packet)
+  left_shown packet is [] h = left_lone packet is h
+  left_shown packet is (clear channel cause diagnostic ∷ rest) h = none_shown packet is rest h
+  left_shown packet is (clear_conf channel ∷ rest) h = none_shown packet is rest h
+  left_shown packet is (restart cause diagnostic ∷ rest) h = inl tt
+  left_shown packet is (user_data channel q m ps pr user ∷ rest) h = left_shown packet is rest h
+  left_shown packet is (rr channel pr ∷ rest) h = left_shown packet is rest h
+  left_shown packet is (rnr channel pr ∷ rest) h = left_shown packet is rest h
+  left_shown packet is (interrupt channel user ∷ rest) h = left_shown packet is rest h
+  left_shown packet is (interrupt_conf channel ∷ rest) h = left_shown packet is rest h
+  left_shown packet is (reset channel cause diagnostic ∷ rest) h = left_shown packet is rest h
+  left_shown packet is (reset_conf channel ∷ rest) h = left_shown packet is rest h
+  left_shown packet is (call channel called calling facilities user ∷ rest) h = left_shown packet is rest h
+  left_shown packet is (accept channel facilities ∷ rest) h = left_shown packet is rest h
+  left_shown packet is (restart_conf ∷ rest) h = left_shown packet is rest h
+
+  closing_on : (packet : PlainPacket) → IsOfChannel packet → (way : List PlainPacket) (k : Call) (terms : Terms) → Far false (clear 0 0 0 ∷ []) k terms t.reaches t.own t.other → Closing way t.reaches t.own.owed t.other.is_clearing t.other.call t.other.talk.flow
+      → Standing t.from (seen packet) WasCleared (way ++ packet ∷ [])
+  closing_on packet is [] k terms w c = inr (closed_shown false (turned t) w.known w.others_known w.none_cleared c.its_clear c.once packet is)
+  closing_on packet is (restart cause diagnostic ∷ rest) k terms w c = go (far_shown false (clear 0 0 0 ∷ []) k terms packet (turned t) w)
+    where
+      go : FarOrDark false (clear 0 0 0 ∷ []) k terms (sends packet (turned t)) → Standing t.from (seen packet) WasCleared (restart cause diagnostic ∷ (rest ++ packet ∷ []))
+      go (inl f) = inl (k, terms, f, (sends_reaches packet (turned t) ∙ c.0, f.over))
+      go (inr d) = inr d
+  closing_on packet is (user_data channel q m ps pr user ∷ rest) k terms w c = absurd c
+  closing_on packet is (rr channel pr ∷ rest) k terms w c = absurd c
+  closing_on packet is (rnr channel pr ∷ rest) k terms w c = absurd c
+  closing_on packet is (interrupt channel user ∷ rest) k terms w c = absurd c
+  closing_on packet is (interrupt_conf channel ∷ rest) k terms w c = absurd c
+  closing_on packet is (reset channel cause diagnostic ∷ rest) k terms w c = absurd c
+  closing_on packet is (reset_conf channel ∷ rest) k terms w c = absurd c
+  closing_on packet is (call channel called calling facilities user ∷ rest) k terms w c = absurd c
+  closing_on packet is (accept channel facilities ∷ rest) k terms w c = absurd c
+  closing_on packet is (clear channel cause diagnostic ∷ rest) k terms w c = absurd c
+  closing_on packet is (clear_conf channel ∷ rest) k terms w c = absurd c
+  closing_on packet is (restart_conf ∷ rest) k terms w c = absurd c
 
   pub standing_shown : (packet : PlainPacket) → IsOfChannel packet → (s : Phase) (way : List PlainPacket) → Standing t.from t s way → Standing t.from (seen packet) s (way ++ packet ∷ [])
   standing_shown packet is Idles way (inl h) = none_shown packet is way h
@@ -449,11 +748,9 @@ module _ (t : Pair) where
       go (inl w) = inl (g, a, w)
       go (inr k) = inr k
   standing_shown packet is (WasReset window most) way (inr k) = inr (gone_shown t packet is k)
-  standing_shown packet is WasCleared way (inl (k, terms, w)) = go (far_shown false (clear 0 0 0 ∷ []) k terms packet (turned t) w)
-    where
-      go : FarOrDark false (clear 0 0 0 ∷ []) k terms (sends packet (turned t)) → Standing t.from (seen packet) WasCleared (way ++ packet ∷ [])
-      go (inl f) = inl (k, terms, f)
-      go (inr d) = inr d
+  standing_shown packet is Clears way (inl h) = left_shown packet is way h
+  standing_shown packet is Clears way (inr k) = inr (shown_dark true packet (turned t) k)
+  standing_shown packet is WasCleared way (inl (k, terms, w, c)) = closing_on packet is way k terms w c
   standing_shown packet is WasCleared way (inr k) = inr (gone_shown t packet is k)
   standing_shown packet is WasRestarted way s = tt
 
@@ -462,17 +759,6 @@ module _ (t : Pair) where
 module _ (t : Pair) (cause diagnostic : ℕ) where
   abbrev r : PlainPacket
   r = restart cause diagnostic
-
-  away_restarted : (window most : ℕ) (g : Given) (a : Come) (tail : List PlainPacket) → Away window most tail Any t.reaches t.own t.other g a → Due tail false t.own.owed t.own.talk.owed → Away window most tail Any false t.own port.fresh g a
-  away_restarted window most g a tail w due = record {
-    go = record { known = w.go.known; up = w.go.up; others_known = refl; none_cleared = refl; none_reset = refl };
-    parted = refl;
-    no_former = w.no_former;
-    own = w.own;
-    others = λ e. absurd (both_ways false refl e);
-    over = due;
-    behind = tt;
-  }
 
   level_restarted : (window most : ℕ) (g : Given) (a : Come) (tail : List PlainPacket) → Level window most tail t.reaches t.own t.other g a → Away window most (r ∷ []) (Behind (r ∷ [])) false t.own port.fresh g a
   level_restarted window most g a tail l = record {
@@ -489,7 +775,7 @@ module _ (t : Pair) (cause diagnostic : ℕ) where
       → Away window most (x ∷ (rest ++ r ∷ [])) (Behind (x ∷ (rest ++ r ∷ []))) false t.own port.fresh g a
   behind_restarted window most g a x rest w = go x rest w.over w.behind
     where
-      put : (tail : List PlainPacket) → Due tail false t.own.owed t.own.talk.owed → Behind tail false t.own.owed t.own.talk.owed port.fresh.call port.fresh.talk → Away window most tail (Behind tail) false t.own port.fresh g a
+      put : (tail : List PlainPacket) → Due tail false t.own.owed t.own.talk.owed → Behind tail false t.own.owed t.own.talk.owed port.fresh.is_clearing port.fresh.call port.fresh.talk → Away window most tail (Behind tail) false t.own port.fresh g a
       put tail due behind = record {
         go = record { known = w.go.known; up = w.go.up; others_known = refl; none_cleared = refl; none_reset = refl };
         parted = refl;
@@ -500,9 +786,12 @@ module _ (t : Pair) (cause diagnostic : ℕ) where
         behind = behind;
       }
 
-      more : (channel cause diagnostic : ℕ) (rest : List PlainPacket) → Behind (reset channel cause diagnostic ∷ rest) t.reaches t.own.owed t.own.talk.owed t.other.call t.other.talk → Behind (reset channel cause diagnostic ∷ (rest ++ r ∷ [])) false t.own.owed t.own.talk.owed port.fresh.call port.fresh.talk
+      closing_of : (rest : List PlainPacket) → Closing rest t.reaches t.own.owed t.other.is_clearing t.other.call t.other.talk.flow → Closing (rest ++ r ∷ []) false t.own.owed port.fresh.is_clearing port.fresh.call port.fresh.talk.flow
+      closing_of rest h = closing_more cause diagnostic rest t.reaches t.own.owed t.other.is_clearing port.fresh.is_clearing t.other.call port.fresh.call t.other.talk.flow port.fresh.talk.flow h
+
+      more : (channel cause diagnostic : ℕ) (rest : List PlainPacket) → Behind (reset channel cause diagnostic ∷ rest) t.reaches t.own.owed t.own.talk.owed t.other.is_clearing t.other.call t.other.talk → Behind (reset channel cause diagnostic ∷ (rest ++ r ∷ [])) false t.own.owed t.own.talk.owed port.fresh.is_clearing port.fresh.call port.fresh.talk
       more one causes diagnostics [] b = refl
-      more one causes diagnostics (clear two others reasons ∷ rest) b = b
+      more one causes diagnostics (clear two others reasons ∷ rest) b = closing_of rest b
       more one causes diagnostics (restart others reasons ∷ rest) b = refl
       more one causes diagnostics (reset two others reasons ∷ rest) b = absurd b
       more one causes diagnostics (reset_conf two ∷ rest) b = absurd b
@@ -516,9 +805,9 @@ module _ (t : Pair) (cause diagnostic : ℕ) where
       more one causes diagnostics (interrupt_conf two ∷ rest) b = absurd b
       more one causes diagnostics (restart_conf ∷ rest) b = absurd b
 
-      go : (x : PlainPacket) (rest : List PlainPacket) → Due (x ∷ rest) t.reaches t.own.owed t.own.talk.owed → Behind (x ∷ rest) t.reaches t.own.owed t.own.talk.owed t.other.call t.other.talk → Away window most (x ∷ (rest ++ r ∷ [])) (Behind (x ∷ (rest ++ r ∷ []))) false t.own port.fresh g a
+      go : (x : PlainPacket) (rest : List PlainPacket) → Due (x ∷ rest) t.reaches t.own.owed t.own.talk.owed → Behind (x ∷ rest) t.reaches t.own.owed t.own.talk.owed t.other.is_clearing t.other.call t.other.talk → Away window most (x ∷ (rest ++ r ∷ [])) (Behind (x ∷ (rest ++ r ∷ []))) false t.own port.fresh g a
       go (reset channel causes diagnostics) rest due b = put (reset channel causes diagnostics ∷ (rest ++ r ∷ [])) due (more channel causes diagnostics rest b)
-      go (clear channel causes diagnostics) rest due b = put (clear channel causes diagnostics ∷ (rest ++ r ∷ [])) due tt
+      go (clear channel causes diagnostics) rest due b = put (clear channel causes diagnostics ∷ (rest ++ r ∷ [])) due (closing_of rest b)
       go (restart causes diagnostics) rest due b = put (restart causes diagnostics ∷ (rest ++ r ∷ [])) refl tt
       go (reset_conf channel) rest due b = absurd due
       go (call channel called calling facilities user) rest due b = absurd due
@@ -553,7 +842,7 @@ module _ (t : Pair) (cause diagnostic : ℕ) where
       at [] none k = subst (Waiting window most (restarted t)) (sym (tail_more_none r way none)) tt
       at (reset channel causes diagnostics ∷ rest) some s = done (reset channel causes diagnostics) rest some (talking_restarted window most nothing_given nothing_came rest s)
       at (reset_conf channel ∷ rest) some s = done (reset_conf channel) rest some (talking_restarted window most nothing_given nothing_came rest s)
-      at (clear channel causes diagnostics ∷ rest) some w = done (clear channel causes diagnostics) rest some (with_tail window most _ (clear channel causes diagnostics ∷ (rest ++ r ∷ [])) Any Any false t.own port.fresh nothing_given nothing_came w.over tt (away_restarted window most nothing_given nothing_came (clear channel causes diagnostics ∷ rest) w w.over))
+      at (clear channel causes diagnostics ∷ rest) some w = done (clear channel causes diagnostics) rest some (behind_restarted window most nothing_given nothing_came (clear channel causes diagnostics) rest w)
       at (restart causes diagnostics ∷ rest) some s = done (restart causes diagnostics) rest some tt
       at (call channel called calling facilities user ∷ rest) some s = absurd s
       at (accept channel facilities ∷ rest) some s = absurd s
@@ -569,9 +858,15 @@ module _ (t : Pair) (cause diagnostic : ℕ) where
   far_again : (tail more : List PlainPacket) (k : Call) (terms : Terms) → ((owed : ℕ) → Due tail t.reaches owed 0 → Due more false owed 0) → Far true tail k terms t.reaches t.own t.other → Far true more k terms false t.own port.fresh
   far_again tail more k terms due w = far_restarted true tail more k terms t.reaches t.own t.other (due t.own.owed w.over) w
 
+  closing_again : (rest : List PlainPacket) → Closing rest t.reaches t.own.owed t.other.is_clearing t.other.call t.other.talk.flow → Closing (rest ++ r ∷ []) false t.own.owed port.fresh.is_clearing port.fresh.call port.fresh.talk.flow
+  closing_again rest h = closing_more cause diagnostic rest t.reaches t.own.owed t.other.is_clearing port.fresh.is_clearing t.other.call port.fresh.call t.other.talk.flow port.fresh.talk.flow h
+
+  cleared_again : (channel causes diagnostics : ℕ) (rest : List PlainPacket) (k : Call) (terms : Terms) → FarClear (clear channel causes diagnostics) rest k terms t.reaches t.own t.other → FarClear (clear channel causes diagnostics) (rest ++ r ∷ []) k terms false t.own port.fresh
+  cleared_again channel causes diagnostics rest k terms (w, c) = (far_again (clear channel causes diagnostics ∷ rest) (clear channel causes diagnostics ∷ (rest ++ r ∷ [])) k terms (λ _ d. d) w, closing_again rest c)
+
   asked_restarted : (terms : Terms) (k j : Call) (way : List PlainPacket) → WasAsked terms k j way t.reaches t.own t.other → WasAsked terms k j (way ++ r ∷ []) false t.own port.fresh
   asked_restarted terms k j [] (its, e) = subst (λ x. Far true (r ∷ []) k x false t.own port.fresh) its (even_restarted k j cause diagnostic t.reaches t.own t.other e)
-  asked_restarted terms k j (clear channel causes diagnostics ∷ rest) w = far_again (clear channel causes diagnostics ∷ rest) (clear channel causes diagnostics ∷ (rest ++ r ∷ [])) k terms (λ _ d. d) w
+  asked_restarted terms k j (clear channel causes diagnostics ∷ rest) w = cleared_again channel causes diagnostics rest k terms w
   asked_restarted terms k j (restart causes diagnostics ∷ rest) w = far_again (restart causes diagnostics ∷ rest) (restart causes diagnostics ∷ (rest ++ r ∷ [])) k terms (λ _ _. refl) w
   asked_restarted terms k j (call channel called calling facilities user ∷ rest) h = absurd h
   asked_restarted terms k j (accept channel facilities ∷ rest) h = absurd h
@@ -588,7 +883,7 @@ module _ (t : Pair) (cause diagnostic : ℕ) where
   none_restarted : (way : List PlainPacket) → HasNone way t.reaches t.own t.other → HasNone (way ++ r ∷ []) false t.own port.fresh
   none_restarted [] e = (t.own.terms, even_restarted Idle Idle cause diagnostic t.reaches t.own t.other e)
   none_restarted (call channel called calling facilities user ∷ rest) h = asked_restarted (said facilities usual) Called Calling rest h
-  none_restarted (clear channel causes diagnostics ∷ rest) (x, w) = (x, far_again (clear channel causes diagnostics ∷ rest) (clear channel causes diagnostics ∷ (rest ++ r ∷ [])) Idle x (λ _ d. d) w)
+  none_restarted (clear channel causes diagnostics ∷ rest) (x, w) = (x, cleared_again channel causes diagnostics rest Idle x w)
   none_restarted (restart causes diagnostics ∷ rest) (x, w) = (x, far_again (restart causes diagnostics ∷ rest) (restart causes diagnostics ∷ (rest ++ r ∷ [])) Idle x (λ _ _. refl) w)
   none_restarted (accept channel facilities ∷ rest) h = absurd h
   none_restarted (clear_conf channel ∷ rest) h = absurd h
@@ -604,7 +899,7 @@ module _ (t : Pair) (cause diagnostic : ℕ) where
   asks_restarted : (terms : Terms) (k j : Call) (way : List PlainPacket) → Asks terms k j way t.reaches t.own t.other → Asks terms k j (way ++ r ∷ []) false t.own port.fresh
   asks_restarted terms k j [] (its, e) = (t.own.terms, even_restarted k j cause diagnostic t.reaches t.own t.other e)
   asks_restarted terms k j (accept channel facilities ∷ rest) h = talking_restarted (said facilities terms).calling_window (octets_of (said facilities terms).calling_size) nothing_given nothing_came rest h
-  asks_restarted terms k j (clear channel causes diagnostics ∷ rest) (x, w) = (x, far_again (clear channel causes diagnostics ∷ rest) (clear channel causes diagnostics ∷ (rest ++ r ∷ [])) k x (λ _ d. d) w)
+  asks_restarted terms k j (clear channel causes diagnostics ∷ rest) (x, w) = (x, cleared_again channel causes diagnostics rest k x w)
   asks_restarted terms k j (restart causes diagnostics ∷ rest) (x, w) = (x, far_again (restart causes diagnostics ∷ rest) (restart causes diagnostics ∷ (rest ++ r ∷ [])) k x (λ _ _. refl) w)
   asks_restarted terms k j (call channel called calling facilities user ∷ rest) h = absurd h
   asks_restarted terms k j (clear_conf channel ∷ rest) h = absurd h
@@ -634,6 +929,22 @@ module _ (t : Pair) (cause diagnostic : ℕ) where
   called_restarted from terms (reset_conf channel ∷ rest) h = absurd h
   called_restarted from terms (restart_conf ∷ rest) h = absurd h
 
+  left_restarted : (way : List PlainPacket) → HasCleared way t.reaches t.own t.other → HasCleared (way ++ r ∷ []) false t.own port.fresh
+  left_restarted [] h = tt
+  left_restarted (clear channel causes diagnostics ∷ rest) h = none_restarted rest h
+  left_restarted (clear_conf channel ∷ rest) h = none_restarted rest h
+  left_restarted (restart causes diagnostics ∷ rest) h = tt
+  left_restarted (user_data channel2 q2 m2 ps2 pr2 user2 ∷ rest) h = left_restarted rest h
+  left_restarted (rr channel2 pr2 ∷ rest) h = left_restarted rest h
+  left_restarted (rnr channel2 pr2 ∷ rest) h = left_restarted rest h
+  left_restarted (interrupt channel2 user2 ∷ rest) h = left_restarted rest h
+  left_restarted (interrupt_conf channel2 ∷ rest) h = left_restarted rest h
+  left_restarted (reset channel2 cause2 diagnostic2 ∷ rest) h = left_restarted rest h
+  left_restarted (reset_conf channel2 ∷ rest) h = left_restarted rest h
+  left_restarted (call channel2 called2 calling2 facilities2 user2 ∷ rest) h = left_restarted rest h
+  left_restarted (accept channel2 facilities2 ∷ rest) h = left_restarted rest h
+  left_restarted (restart_conf ∷ rest) h = left_restarted rest h
+
   pub standing_restarted : (from : Role) (s : Phase) (way : List PlainPacket) → Standing from t s way → Standing from (restarted t) s (way ++ r ∷ [])
   standing_restarted from Idles way (inl h) = inl (none_restarted way h)
   standing_restarted from Idles way (inr k) = inr k
@@ -648,7 +959,9 @@ module _ (t : Pair) (cause diagnostic : ℕ) where
   standing_restarted from (Resets window most) way (inr k) = inr k
   standing_restarted from (WasReset window most) way (inl (g, a, w)) = inl (g, a, behind_restarted window most g a (reset 0 0 0) way w)
   standing_restarted from (WasReset window most) way (inr k) = inr k
-  standing_restarted from WasCleared way (inl (k, terms, w)) = inl (k, terms, far_restarted false (clear 0 0 0 ∷ []) (clear 0 0 0 ∷ []) k terms t.reaches t.own t.other w.over w)
+  standing_restarted from Clears way (inl h) = inl (left_restarted way h)
+  standing_restarted from Clears way (inr k) = inr k
+  standing_restarted from WasCleared way (inl (k, terms, w, c)) = inl (k, terms, far_restarted false (clear 0 0 0 ∷ []) (clear 0 0 0 ∷ []) k terms t.reaches t.own t.other w.over w, closing_again way c)
   standing_restarted from WasCleared way (inr k) = inr k
   standing_restarted from WasRestarted way s = tt
 
@@ -656,17 +969,17 @@ module _ (t : Pair) (cause diagnostic : ℕ) where
 
 module _ (from : Role) (t : Pair) (way : List PlainPacket) where
   -- CLEAR came
-  away_cleared : (window most channel cause diagnostic : ℕ) (rest : List PlainPacket) (B : Behinds) (g : Given) (a : Come) → Away window most (clear channel cause diagnostic ∷ rest) B t.reaches t.own t.other g a → Standing from t WasCleared way
-  away_cleared window most channel cause diagnostic rest B g a w = inl (t.own.call, t.own.terms, record { known = w.go.known; others_known = w.go.others_known; none_cleared = w.go.none_cleared; none_reset = w.go.none_reset; parted = and_right t.reaches _ (lots t.own.owed w.over); no_former = w.no_former; call = refl; its_terms = refl; over = w.over; strict = λ e. absurd (both_ways false refl e) })
+  away_cleared : (window most channel cause diagnostic : ℕ) (g : Given) (a : Come) → Away window most (clear channel cause diagnostic ∷ way) (Behind (clear channel cause diagnostic ∷ way)) t.reaches t.own t.other g a → Standing from t WasCleared way
+  away_cleared window most channel cause diagnostic g a w = inl (t.own.call, t.own.terms, record { known = w.go.known; others_known = w.go.others_known; none_cleared = w.go.none_cleared; none_reset = w.go.none_reset; parted = and_right t.reaches _ (lots t.own.owed w.over); no_former = w.no_former; call = refl; its_terms = refl; over = w.over; strict = λ e. absurd (both_ways false refl e) }, w.behind)
 
   talking_comes : (window most : ℕ) (g : Given) (c : Come) (packet : PlainPacket) → Talking window most t g c (packet ∷ way) → Standing from t (comes from (Talks window most g c) packet) way
   talking_comes window most g c (reset channel cause diagnostic) (inl l) = absurd (none_left _ way l.on)
   talking_comes window most g c (reset channel cause diagnostic) (inr (inl w)) = inl (g, c, as_reset way w.behind)
     where
-      as_reset : (way : List PlainPacket) → Behind (reset channel cause diagnostic ∷ way) t.reaches t.own.owed t.own.talk.owed t.other.call t.other.talk → Away window most (reset 0 0 0 ∷ way) (Behind (reset 0 0 0 ∷ way)) t.reaches t.own t.other g c
+      as_reset : (way : List PlainPacket) → Behind (reset channel cause diagnostic ∷ way) t.reaches t.own.owed t.own.talk.owed t.other.is_clearing t.other.call t.other.talk → Away window most (reset 0 0 0 ∷ way) (Behind (reset 0 0 0 ∷ way)) t.reaches t.own t.other g c
       as_reset way b = with_tail window most _ (reset 0 0 0 ∷ way) _ (Behind (reset 0 0 0 ∷ way)) t.reaches t.own t.other g c w.over (same way b) w
         where
-          same : (way : List PlainPacket) → Behind (reset channel cause diagnostic ∷ way) t.reaches t.own.owed t.own.talk.owed t.other.call t.other.talk → Behind (reset 0 0 0 ∷ way) t.reaches t.own.owed t.own.talk.owed t.other.call t.other.talk
+          same : (way : List PlainPacket) → Behind (reset channel cause diagnostic ∷ way) t.reaches t.own.owed t.own.talk.owed t.other.is_clearing t.other.call t.other.talk → Behind (reset 0 0 0 ∷ way) t.reaches t.own.owed t.own.talk.owed t.other.is_clearing t.other.call t.other.talk
           same [] b = b
           same (clear two causes diagnostics ∷ rest) b = b
           same (restart causes diagnostics ∷ rest) b = b
@@ -683,7 +996,7 @@ module _ (from : Role) (t : Pair) (way : List PlainPacket) where
           same (restart_conf ∷ rest) b = b
   talking_comes window most g c (reset channel cause diagnostic) (inr (inr k)) = inr k
   talking_comes window most g c (clear channel cause diagnostic) (inl l) = absurd (none_left _ way l.on)
-  talking_comes window most g c (clear channel cause diagnostic) (inr (inl w)) = away_cleared window most channel cause diagnostic way (Behind (clear channel cause diagnostic ∷ way)) g c w
+  talking_comes window most g c (clear channel cause diagnostic) (inr (inl w)) = away_cleared window most channel cause diagnostic g c w
   talking_comes window most g c (clear channel cause diagnostic) (inr (inr k)) = inr k
   talking_comes window most g c (restart cause diagnostic) s = tt
   talking_comes window most g c (reset_conf channel) (inl l) = absurd (none_left _ way l.on)
@@ -706,7 +1019,7 @@ module _ (from : Role) (t : Pair) (way : List PlainPacket) where
   resets_comes window most (reset channel cause diagnostic) (inr k) = inr (inr k)
   resets_comes window most (reset_conf channel) (inl s) = s
   resets_comes window most (reset_conf channel) (inr k) = inr (inr k)
-  resets_comes window most (clear channel cause diagnostic) (inl w) = away_cleared window most channel cause diagnostic way Any nothing_given nothing_came w
+  resets_comes window most (clear channel cause diagnostic) (inl w) = away_cleared window most channel cause diagnostic nothing_given nothing_came w
   resets_comes window most (clear channel cause diagnostic) (inr k) = inr k
   resets_comes window most (restart cause diagnostic) s = tt
   resets_comes window most (user_data channel q m ps pr user) s = s
@@ -720,8 +1033,8 @@ module _ (from : Role) (t : Pair) (way : List PlainPacket) where
   resets_comes window most (clear_conf channel) (inr k) = inr k
   resets_comes window most restart_conf s = s
 
-  far_comes : (channel cause diagnostic : ℕ) (k : Call) (terms : Terms) → Far true (clear channel cause diagnostic ∷ way) k terms t.reaches t.own t.other → Standing from t WasCleared way
-  far_comes channel cause diagnostic k terms w = inl (k, terms, far_tail false (clear channel cause diagnostic ∷ way) (clear 0 0 0 ∷ []) k terms t.reaches t.own t.other w.over (far_open (clear channel cause diagnostic ∷ way) k terms t.reaches t.own t.other w))
+  far_comes : (channel cause diagnostic : ℕ) (k : Call) (terms : Terms) → FarClear (clear channel cause diagnostic) way k terms t.reaches t.own t.other → Standing from t WasCleared way
+  far_comes channel cause diagnostic k terms (w, c) = inl (k, terms, far_tail false (clear channel cause diagnostic ∷ way) (clear 0 0 0 ∷ []) k terms t.reaches t.own t.other w.over (far_open (clear channel cause diagnostic ∷ way) k terms t.reaches t.own t.other w), c)
 
   idles_comes : (packet : PlainPacket) → Standing from t Idles (packet ∷ way) → Standing from t (comes from Idles packet) way
   idles_comes (call channel called calling facilities user) (inl h) = inl (inl h)
@@ -829,6 +1142,33 @@ module _ (from : Role) (t : Pair) (way : List PlainPacket) where
   calls_comes terms restart_conf (inl (inr (role, h))) = absurd h
   calls_comes terms restart_conf (inr k) = inr k
 
+  left_comes : (packet : PlainPacket) → Standing from t Clears (packet ∷ way) → Standing from t (comes from Clears packet) way
+  left_comes (restart cause diagnostic) h = tt
+  left_comes (user_data channel q m ps pr user) (inl h) = inl h
+  left_comes (user_data channel q m ps pr user) (inr k) = inr k
+  left_comes (rr channel pr) (inl h) = inl h
+  left_comes (rr channel pr) (inr k) = inr k
+  left_comes (rnr channel pr) (inl h) = inl h
+  left_comes (rnr channel pr) (inr k) = inr k
+  left_comes (interrupt channel user) (inl h) = inl h
+  left_comes (interrupt channel user) (inr k) = inr k
+  left_comes (interrupt_conf channel) (inl h) = inl h
+  left_comes (interrupt_conf channel) (inr k) = inr k
+  left_comes (reset channel cause diagnostic) (inl h) = inl h
+  left_comes (reset channel cause diagnostic) (inr k) = inr k
+  left_comes (reset_conf channel) (inl h) = inl h
+  left_comes (reset_conf channel) (inr k) = inr k
+  left_comes (call channel called calling facilities user) (inl h) = inl h
+  left_comes (call channel called calling facilities user) (inr k) = inr k
+  left_comes (accept channel facilities) (inl h) = inl h
+  left_comes (accept channel facilities) (inr k) = inr k
+  left_comes (clear channel cause diagnostic) (inl h) = inl h
+  left_comes (clear channel cause diagnostic) (inr k) = inr k
+  left_comes (clear_conf channel) (inl h) = inl h
+  left_comes (clear_conf channel) (inr k) = inr k
+  left_comes restart_conf (inl h) = inl h
+  left_comes restart_conf (inr k) = inr k
+
   pub standing_comes : (s : Phase) (packet : PlainPacket) → MayTake s → Standing from t s (packet ∷ way) → Standing from t (comes from s packet) way
   standing_comes Idles packet may s = idles_comes packet s
   standing_comes (Calls terms) packet may s = calls_comes terms packet s
@@ -836,6 +1176,7 @@ module _ (from : Role) (t : Pair) (way : List PlainPacket) where
   standing_comes (Talks window most g c) packet may s = talking_comes window most g c packet s
   standing_comes (Resets window most) packet may s = resets_comes window most packet s
   standing_comes (WasReset window most) packet may s = absurd may
+  standing_comes Clears packet may s = left_comes packet s
   standing_comes WasCleared packet may s = absurd may
   standing_comes WasRestarted packet may s = absurd may
 
@@ -851,25 +1192,12 @@ other_twice Dce = refl
 pub sound : (t : Pair) (s : Phase) (way : List PlainPacket) → MayBe t s way → Sound t.from t s way
 sound _ _ _ (Starts t idle) = starts_idle t.from t idle
 sound _ _ _ (Begins window most t begun) = sound_begins t.from window most t begun
-sound _ _ _ (Does t s r way packet may was) = let h = sound_does t s r way packet may (sound t s way was) in record { quiet = refl; stands = subst (λ from. Standing from (next (sends packet t)) r way) (sym (sends_from packet t)) h.stands }
+sound _ _ _ (Does t s r way packet may followed was) = let h = sound_does t s r way packet may followed (sound t s way was) in record { quiet = refl; stands = subst (λ from. Standing from (next (sends packet t)) r way) (sym (sends_from packet t)) h.stands }
 sound _ _ _ (Shown t s way packet is was) = record { quiet = refl; stands = subst (λ from. Standing from (turned (sends packet (turned t))) s (way ++ packet ∷ [])) (sym (ap other (sends_from packet (turned t)) ∙ other_twice t.from)) (standing_shown t packet is s way (sound t s way was).stands) }
 sound _ _ _ (Restarts t s way cause diagnostic was) = record { quiet = (sound t s way was).quiet; stands = standing_restarted t cause diagnostic t.from s way (sound t s way was).stands }
 sound _ _ _ (Comes t s packet way may was) = let h = sound t s (packet ∷ way) was in record { quiet = h.quiet; stands = standing_comes t.from t way s packet may h.stands }
 
-pub no_innocent_packet_is_told : NoInnocentPacketIsTold
-no_innocent_packet_is_told t s r way packet may_be may = (sound_does t s r way packet may (sound t s way may_be)).quiet
-
 -- ---- how it leaves the call
-
-pub clear_quiet : (t : Pair) (channel cause diagnostic : ℕ) → t.rule ≡ None → (sends (clear channel cause diagnostic) t).rule ≡ None
-unfolding sends sends_known sends_unknown is_clearing
-clear_quiet t channel cause diagnostic quiet = cond_both (not (pair.is_known t)) (pair.clears_unknown t) _ (λ (v : Pair). v.rule ≡ None)
-    (λ _. unknown t quiet)
-    (λ _. subst (λ (v : Pair). v.rule ≡ None) (sym (cond-false (pair.is_awaiting t && false) (sends_unknown (clear channel cause diagnostic) (pair.starts_early t)) (pair.clears t) (and_right (pair.is_awaiting t) false refl)))
-    (cond_both (pair.is_awaiting t) _ _ (λ (v : Pair). v.rule ≡ None) (λ _. unknown (pair.unknown t) quiet) (λ _. quiet)))
-  where
-    unknown : (x : Pair) → x.rule ≡ None → (pair.clears_unknown x).rule ≡ None
-    unknown x quiet = cond_both x.reaches _ _ (λ (y : Pair). y.rule ≡ None) (λ _. quiet) (λ _. quiet)
 
 -- where the channel isn't known
 pub clear_conf_unknown : (t : Pair) (channel : ℕ) → t.rule ≡ None → pair.is_known t ≡ false → (sends (clear_conf channel) t).rule ≡ None
@@ -880,18 +1208,49 @@ clear_conf_unknown t channel quiet unknown = ap (λ (v : Pair). v.rule) (cond-tr
     found : (w : Pair) → w.rule ≡ None → (pair.finds w).rule ≡ None
     found w quiet = cond_both (pair.is_sure_answer w) _ _ (λ (v : Pair). v.rule ≡ None) (λ _. quiet) (λ _. cond_both w.reaches _ _ (λ (v : Pair). v.rule ≡ None) (λ _. quiet) (λ _. quiet))
 
-clear_conf_quiet : (from : Role) (t : Pair) (channel : ℕ) → t.rule ≡ None → Standing from t WasCleared [] → (sends (clear_conf channel) t).rule ≡ None
+clear_conf_quiet : (from : Role) (t : Pair) (way : List PlainPacket) (channel : ℕ) → t.rule ≡ None → Standing from t WasCleared way → (sends (clear_conf channel) t).rule ≡ None
 unfolding sends_known
-clear_conf_quiet from t channel quiet (inl (k, terms, w)) = ap (λ (v : Pair). v.rule) (knows_if t (clear_conf channel) (rw (w.known, w.others_known) refl) (awaits_none t.own.is_clearing t.other.owed w.none_cleared) ∙ cond-true (nat_lt 0 t.own.owed) (pair.marks false t) _ (lt-ltb 0 t.own.owed (omega (arith, w.over)))) ∙ quiet
-clear_conf_quiet from t channel quiet (inr k) = clear_conf_unknown t channel quiet (and_left t.own.is_known t.other.is_known k.known)
+clear_conf_quiet from t way channel quiet (inl (k, terms, w, c)) = ap (λ (v : Pair). v.rule) (knows_if t (clear_conf channel) (rw (w.known, w.others_known) refl) (awaits_none t.own.is_clearing t.other.owed w.none_cleared) ∙ cond-true (nat_lt 0 t.own.owed) (pair.marks false t) _ (lt-ltb 0 t.own.owed (omega (arith, w.over)))) ∙ quiet
+clear_conf_quiet from t way channel quiet (inr k) = clear_conf_unknown t channel quiet (and_left t.own.is_known t.other.is_known k.known)
 
 pub sound_ends : (from : Role) (t : Pair) (s : Phase) (way : List PlainPacket) (packet : PlainPacket) → t.rule ≡ None → Standing from t s way → MayEnd s packet → (sends packet t).rule ≡ None
 sound_ends from t s way packet quiet stands may = go s quiet stands packet may
   where
     go : (s : Phase) → t.rule ≡ None → Standing from t s way → (packet : PlainPacket) → MayEnd s packet → (sends packet t).rule ≡ None
     go s quiet stands (clear channel cause diagnostic) may = clear_quiet t channel cause diagnostic quiet
-    go WasCleared quiet stands (clear_conf channel) may = clear_conf_quiet from t channel quiet stands
+    go WasCleared quiet stands (clear_conf channel) may = clear_conf_quiet from t way channel quiet stands
     go s quiet stands packet may = absurd may
 
 pub no_ending_is_told : NoEndingIsTold
 no_ending_is_told t s way packet may_be may = let h = sound t s way may_be in sound_ends t.from t s way packet h.quiet h.stands may
+
+-- ---- what it sends
+
+confirms_so : (s r : Phase) (channel : ℕ) → MayDo s (clear_conf channel) r → MayEnd s (clear_conf channel)
+confirms_so (Talks window most g c) r channel (n, may, is) = absurd may
+confirms_so Idles r channel may = absurd may
+confirms_so (Calls terms) r channel may = absurd may
+confirms_so (WasCalled terms) r channel may = absurd may
+confirms_so (Resets window most) r channel may = absurd may
+confirms_so (WasReset window most) r channel may = absurd may
+confirms_so Clears r channel may = absurd may
+confirms_so WasCleared r channel may = tt
+confirms_so WasRestarted r channel may = absurd may
+
+pub does_quiet : (t : Pair) (s r : Phase) (way : List PlainPacket) (packet : PlainPacket) → MayDo s packet r → Sound t.from t s way → (sends packet t).rule ≡ None
+does_quiet t s r way (clear channel cause diagnostic) may h = clear_quiet t channel cause diagnostic h.quiet
+does_quiet t s r way (clear_conf channel) may h = sound_ends t.from t s way (clear_conf channel) h.quiet h.stands (confirms_so s r channel may)
+does_quiet t s r way (user_data channel q m ps pr user) may h = (sound_does t s r way (user_data channel q m ps pr user) may tt h).quiet
+does_quiet t s r way (rr channel pr) may h = (sound_does t s r way (rr channel pr) may tt h).quiet
+does_quiet t s r way (rnr channel pr) may h = (sound_does t s r way (rnr channel pr) may tt h).quiet
+does_quiet t s r way (interrupt channel user) may h = (sound_does t s r way (interrupt channel user) may tt h).quiet
+does_quiet t s r way (interrupt_conf channel) may h = (sound_does t s r way (interrupt_conf channel) may tt h).quiet
+does_quiet t s r way (reset channel cause diagnostic) may h = (sound_does t s r way (reset channel cause diagnostic) may tt h).quiet
+does_quiet t s r way (reset_conf channel) may h = (sound_does t s r way (reset_conf channel) may tt h).quiet
+does_quiet t s r way (call channel called calling facilities user) may h = (sound_does t s r way (call channel called calling facilities user) may tt h).quiet
+does_quiet t s r way (accept channel facilities) may h = (sound_does t s r way (accept channel facilities) may tt h).quiet
+does_quiet t s r way (restart cause diagnostic) may h = (sound_does t s r way (restart cause diagnostic) may tt h).quiet
+does_quiet t s r way restart_conf may h = (sound_does t s r way restart_conf may tt h).quiet
+
+pub no_innocent_packet_is_told : NoInnocentPacketIsTold
+no_innocent_packet_is_told t s r way packet may_be may = does_quiet t s r way packet may (sound t s way may_be)

@@ -187,7 +187,7 @@ module _ (window most : ℕ) (tail : List PlainPacket) (s : Pair) (g : Given) (a
         own = record { its_window = l.own.its_window; its_most = l.own.its_most; number = l.own.number; numbered = l.own.numbered; message = l.own.message; interrupts = l.own.interrupts };
         others = λ _. record { numbered = l.others.numbered; interrupts = l.others.interrupts };
         over = subst (λ b. 1 ≤ port.more b s.other.owed) (sym owed_so) (owes_one s.other.owed);
-        behind = tt;
+        behind = record { reached = l.reached; once = ap (λ b. port.more b s.other.owed) owed_so ∙ ap (λ x. min (x + 1) 255) l.back.none_cleared; its_clear = refl; call = refl; flow = refl };
       })))
 
   pub shown_level : (packet : PlainPacket) → IsOfChannel packet → Turns window most (more_tail packet tail) g (takes packet a) (sends packet s)
@@ -218,6 +218,9 @@ more_not n = not_true (port.more true n == 0) (λ e. some n (eqb-true (port.more
   where
     some : (n : ℕ) → min (n + 1) 255 ≡ 0 → ⊥
     some n e = omega arith
+
+pub dark_broken : (shut : Bool) (v : Pair) → Dark shut (pair.doubts v).other
+dark_broken shut v = record { known = refl; clearing = refl; call = and_right (shut || false) _ refl }
 
 module _ (shut : Bool) where
   barred_so : (i d z x y w e : Bool) → ((shut || i) && (not d && z)) ≡ false → (i && ((x && (z && y)) && (w && not (e || d)))) ≡ false

@@ -24,13 +24,14 @@ use Rattle.x25_packet_judge.specs.declared.port.Call.{Call}
 use Rattle.x25_packet_judge.specs.declared.port.Call.TheVariants.{Idle, Called, Calling, Collided}
 use Rattle.x25_packet_judge.specs.declared.port.Port.{Port}
 use Rattle.x25_packet_judge.specs.declared.terms.Terms.{Terms}
-use Rattle.x25_packet_judge.specs.laws.Keeping.{Given, Come, nothing_given, nothing_came, Phase, Idles, Calls, WasCalled, Talks, Resets, WasReset, WasCleared, WasRestarted, fresh_phase, MayDo, MayEnd, comes, MayTake, IsOfChannel, IsIdle, AreIdle, IsBegun, AreBegun, turned}
+use Rattle.x25_packet_judge.specs.laws.Keeping.{Given, Come, nothing_given, nothing_came, Phase, Idles, Calls, WasCalled, Talks, Resets, WasReset, Clears, WasCleared, WasRestarted, fresh_phase, MayDo, MayEnd, comes, MayTake, IsOfChannel, IsFollowed, IsIdle, AreIdle, IsBegun, AreBegun, turned}
 use Rattle.x25_packet_judge.specs.laws.Tape.{all_running, IsBook, AreApart, AreRunning, view, MayStand, Starts, Begins, Does, DoesApart, Shown, ShownApart, Restarts, Confirms, Comes}
 use Rattle.x25_packet_judge.specs.laws.VerdictClaims.{NoInnocentTapeIsTold, NoEndOfTapeIsTold, NoRestartOfTapeIsTold, TapesBegin}
-use Rattle.x25_packet_judge.proofs.verdicts.Standing.{ahead, tail_of, Behind, Behinds, Any, Level, Away, Dark, Gone, Stands}
+use Rattle.x25_packet_judge.proofs.verdicts.Standing.{ahead, tail_of, Behind, Behinds, Level, Away, Dark, Gone, Stands}
 use Rattle.x25_packet_judge.proofs.verdicts.Callings.{Even, Far, WasAsked, HasNone, Asks, HasCalled}
+use Rattle.x25_packet_judge.proofs.verdicts.Closings.{HasCleared}
 use Rattle.x25_packet_judge.proofs.verdicts.Stretches.{Talking, Asking as Asked, Waiting}
-use Rattle.x25_packet_judge.proofs.verdicts.Innocents.{Standing, sound_begins, starts_idle, sound_does, standing_shown, standing_restarted, standing_comes, sound_ends}
+use Rattle.x25_packet_judge.proofs.verdicts.Innocents.{Standing, sound_begins, starts_idle, sound_does, does_quiet, standing_shown, standing_restarted, standing_comes, sound_ends}
 use Rattle.x25_packet_judge.proofs.verdicts.Books.{put, runs_on, none_yet}
 use Rattle.x25_packet_judge.proofs.verdicts.Parts.{filled, filled_full, layer_at, port_at, Parts, Left, of_channel, takes_on_parts, takes_on_apart, takes_on_any, kept_fills, fills_book, confirms_parts}
 use Rattle.x25_packet_judge.proofs.verdicts.Reaching.{sends_reaches}
@@ -86,7 +87,7 @@ module _ (reaches : Bool) (p o : Port) where
 
   noted_asked : (terms : Terms) (k j : Call) (way : List PlainPacket) → WasAsked terms k j way reaches p o → WasAsked terms k j way reaches (port.noted p) (port.noted o)
   noted_asked terms k j [] (its, e) = (its, noted_even k j e)
-  noted_asked terms k j (clear channel cause diagnostic ∷ rest) w = noted_far true (clear channel cause diagnostic ∷ rest) k terms w
+  noted_asked terms k j (clear channel cause diagnostic ∷ rest) (w, closes) = (noted_far true (clear channel cause diagnostic ∷ rest) k terms w, closes)
   noted_asked terms k j (restart cause diagnostic ∷ rest) w = noted_far true (restart cause diagnostic ∷ rest) k terms w
   noted_asked terms k j (user_data channel q m ps pr user ∷ rest) h = absurd h
   noted_asked terms k j (rr channel pr ∷ rest) h = absurd h
@@ -103,7 +104,7 @@ module _ (reaches : Bool) (p o : Port) where
   noted_none : (way : List PlainPacket) → HasNone way reaches p o → HasNone way reaches (port.noted p) (port.noted o)
   noted_none [] e = noted_even Idle Idle e
   noted_none (call channel called calling facilities user ∷ rest) h = noted_asked (said facilities usual) Called Calling rest h
-  noted_none (clear channel cause diagnostic ∷ rest) (x, w) = (x, noted_far true (clear channel cause diagnostic ∷ rest) Idle x w)
+  noted_none (clear channel cause diagnostic ∷ rest) (x, (w, closes)) = (x, (noted_far true (clear channel cause diagnostic ∷ rest) Idle x w, closes))
   noted_none (restart cause diagnostic ∷ rest) (x, w) = (x, noted_far true (restart cause diagnostic ∷ rest) Idle x w)
   noted_none (user_data channel q m ps pr user ∷ rest) h = absurd h
   noted_none (rr channel pr ∷ rest) h = absurd h
@@ -116,6 +117,22 @@ module _ (reaches : Bool) (p o : Port) where
   noted_none (clear_conf channel ∷ rest) h = absurd h
   noted_none (restart_conf ∷ rest) h = absurd h
 
+  noted_cleared : (way : List PlainPacket) → HasCleared way reaches p o → HasCleared way reaches (port.noted p) (port.noted o)
+  noted_cleared [] w = record { reached = w.reached; known = w.known; others_known = w.others_known; none_clearing = w.none_clearing; cleared = w.cleared; none_reset = w.none_reset; sure = w.sure; call = w.call }
+  noted_cleared (clear channel cause diagnostic ∷ rest) h = noted_none rest h
+  noted_cleared (clear_conf channel ∷ rest) h = noted_none rest h
+  noted_cleared (restart cause diagnostic ∷ rest) h = tt
+  noted_cleared (user_data channel q m ps pr user ∷ rest) h = noted_cleared rest h
+  noted_cleared (rr channel pr ∷ rest) h = noted_cleared rest h
+  noted_cleared (rnr channel pr ∷ rest) h = noted_cleared rest h
+  noted_cleared (interrupt channel user ∷ rest) h = noted_cleared rest h
+  noted_cleared (interrupt_conf channel ∷ rest) h = noted_cleared rest h
+  noted_cleared (reset channel cause diagnostic ∷ rest) h = noted_cleared rest h
+  noted_cleared (reset_conf channel ∷ rest) h = noted_cleared rest h
+  noted_cleared (call channel called calling facilities user ∷ rest) h = noted_cleared rest h
+  noted_cleared (accept channel facilities ∷ rest) h = noted_cleared rest h
+  noted_cleared (restart_conf ∷ rest) h = noted_cleared rest h
+
   noted_stands : (window most : ℕ) (tail : List PlainPacket) (g : Given) (a : Come) → Stands window most tail reaches p o g a → Stands window most tail reaches (port.noted p) (port.noted o) g a
   noted_stands window most tail g a (inl l) = inl (noted_level window most tail reaches p o g a l)
   noted_stands window most tail g a (inr (inl w)) = inr (inl (noted_away window most tail reaches p o g a (Behind tail) w))
@@ -124,7 +141,7 @@ module _ (reaches : Bool) (p o : Port) where
   noted_asks : (terms : Terms) (k j : Call) (way : List PlainPacket) → Asks terms k j way reaches p o → Asks terms k j way reaches (port.noted p) (port.noted o)
   noted_asks terms k j [] (its, e) = (its, noted_even k j e)
   noted_asks terms k j (accept channel facilities ∷ rest) h = noted_stands (said facilities terms).calling_window (octets_of (said facilities terms).calling_size) (tail_of rest) nothing_given (ahead rest nothing_came) h
-  noted_asks terms k j (clear channel cause diagnostic ∷ rest) (x, w) = (x, noted_far true (clear channel cause diagnostic ∷ rest) k x w)
+  noted_asks terms k j (clear channel cause diagnostic ∷ rest) (x, (w, closes)) = (x, (noted_far true (clear channel cause diagnostic ∷ rest) k x w, closes))
   noted_asks terms k j (restart cause diagnostic ∷ rest) (x, w) = (x, noted_far true (restart cause diagnostic ∷ rest) k x w)
   noted_asks terms k j (user_data channel q m ps pr user ∷ rest) h = absurd h
   noted_asks terms k j (rr channel pr ∷ rest) h = absurd h
@@ -164,7 +181,7 @@ module _ (t : Pair) where
   noted_waiting window most [] k = noted_asking window most t.reaches t.own t.other k
   noted_waiting window most (reset channel cause diagnostic ∷ rest) s = noted_talking window most nothing_given nothing_came rest s
   noted_waiting window most (reset_conf channel ∷ rest) s = noted_talking window most nothing_given nothing_came rest s
-  noted_waiting window most (clear channel cause diagnostic ∷ rest) w = noted_away window most _ t.reaches t.own t.other nothing_given nothing_came Any w
+  noted_waiting window most (clear channel cause diagnostic ∷ rest) w = noted_away window most _ t.reaches t.own t.other nothing_given nothing_came (Behind (clear channel cause diagnostic ∷ rest)) w
   noted_waiting window most (restart cause diagnostic ∷ rest) s = tt
   noted_waiting window most (call channel called calling facilities user ∷ rest) s = absurd s
   noted_waiting window most (accept channel facilities ∷ rest) s = absurd s
@@ -190,7 +207,9 @@ module _ (t : Pair) where
   noted_standing from (Resets window most) way (inr k) = inr (noted_gone t.own k)
   noted_standing from (WasReset window most) way (inl (g, a, w)) = inl (g, a, noted_away window most _ t.reaches t.own t.other g a _ w)
   noted_standing from (WasReset window most) way (inr k) = inr (noted_gone t.own k)
-  noted_standing from WasCleared way (inl (k, terms, w)) = inl (k, terms, noted_far t.reaches t.own t.other false (clear 0 0 0 ∷ []) k terms w)
+  noted_standing from WasCleared way (inl (k, terms, w, closes)) = inl (k, terms, noted_far t.reaches t.own t.other false (clear 0 0 0 ∷ []) k terms w, closes)
+  noted_standing from Clears way (inl h) = inl (noted_cleared t.reaches t.own t.other way h)
+  noted_standing from Clears way (inr k) = inr (noted_dark t.own k)
   noted_standing from WasCleared way (inr k) = inr (noted_gone t.own k)
   noted_standing from WasRestarted way s = tt
 
@@ -223,6 +242,7 @@ module _ (from : Role) (rule : Option PacketRule) (t : Pair) where
   standing_of end (Resets window most) way (inl s) = inl (waiting_of window most (tail_of way) s)
   standing_of end (Resets window most) way (inr k) = inr k
   standing_of end (WasReset window most) way s = s
+  standing_of end Clears way s = s
   standing_of end WasCleared way s = s
   standing_of end WasRestarted way s = tt
 
@@ -245,14 +265,17 @@ record Sent (from : Role) (s : Phase) (way : List PlainPacket) (P O : Layer) (q 
   pub quiet : q.rule ≡ None
   pub on : On from s way P O q.own q.other
 
-on_does : (from : Role) (s r : Phase) (way : List PlainPacket) (P O : Layer) (p o : Port) (packet : PlainPacket) → MayDo s packet r → On from s way P O p o → Sent from r way P O (sends packet (pair_at from P O p o))
-on_does from s r way P O p o packet may h =
-    let k = sound_does (pair_at from P O p o) s r way packet may (record { quiet = refl; stands = h }) in
+on_does : (from : Role) (s r : Phase) (way : List PlainPacket) (P O : Layer) (p o : Port) (packet : PlainPacket) → MayDo s packet r → IsFollowed (pair_at from P O p o) packet → On from s way P O p o → Sent from r way P O (sends packet (pair_at from P O p o))
+on_does from s r way P O p o packet may followed h =
+    let k = sound_does (pair_at from P O p o) s r way packet may followed (record { quiet = refl; stands = h }) in
     record {
       quiet = k.quiet;
       on = subst (λ b. Standing from (record { from = from; reaches = b; own = (sends packet (pair_at from P O p o)).own; other = (sends packet (pair_at from P O p o)).other; rule = None }) r way) (sends_reaches packet (pair_at from P O p o))
           (standing_of from None (sends packet (pair_at from P O p o)) from r way k.stands);
     }
+
+on_quiet : (from : Role) (s r : Phase) (way : List PlainPacket) (P O : Layer) (p o : Port) (packet : PlainPacket) → MayDo s packet r → On from s way P O p o → (sends packet (pair_at from P O p o)).rule ≡ None
+on_quiet from s r way P O p o packet may h = does_quiet (pair_at from P O p o) s r way packet may (record { quiet = refl; stands = h })
 
 -- the other end sends
 and_turned : (a b : Bool) → (a && b) ≡ (b && a)
@@ -324,7 +347,7 @@ does_not (Talks window most g c) r (reset channel cause diagnostic) may = ap was
 does_not (Talks window most g c) r (reset_conf channel) (n, may, is) = ap was_restarted is
 does_not (Talks window most g c) r (call channel called calling facilities user) (n, may, is) = ap was_restarted is
 does_not (Talks window most g c) r (accept channel facilities) (n, may, is) = ap was_restarted is
-does_not (Talks window most g c) r (clear channel cause diagnostic) (n, may, is) = ap was_restarted is
+does_not (Talks window most g c) r (clear channel cause diagnostic) may = ap was_restarted may
 does_not (Talks window most g c) r (clear_conf channel) (n, may, is) = ap was_restarted is
 does_not (Talks window most g c) r (restart cause diagnostic) (n, may, is) = ap was_restarted is
 does_not (Talks window most g c) r restart_conf (n, may, is) = ap was_restarted is
@@ -337,7 +360,7 @@ does_not (WasReset window most) r (reset channel cause diagnostic) may = absurd 
 does_not (WasReset window most) r (reset_conf channel) may = ap was_restarted may
 does_not (WasReset window most) r (call channel called calling facilities user) may = absurd may
 does_not (WasReset window most) r (accept channel facilities) may = absurd may
-does_not (WasReset window most) r (clear channel cause diagnostic) may = absurd may
+does_not (WasReset window most) r (clear channel cause diagnostic) may = ap was_restarted may
 does_not (WasReset window most) r (clear_conf channel) may = absurd may
 does_not (WasReset window most) r (restart cause diagnostic) may = absurd may
 does_not (WasReset window most) r restart_conf may = absurd may
@@ -350,7 +373,7 @@ does_not Idles r (reset channel cause diagnostic) may = absurd may
 does_not Idles r (reset_conf channel) may = absurd may
 does_not Idles r (call channel called calling facilities user) may = ap was_restarted may
 does_not Idles r (accept channel facilities) may = absurd may
-does_not Idles r (clear channel cause diagnostic) may = absurd may
+does_not Idles r (clear channel cause diagnostic) may = ap was_restarted may
 does_not Idles r (clear_conf channel) may = absurd may
 does_not Idles r (restart cause diagnostic) may = absurd may
 does_not Idles r restart_conf may = absurd may
@@ -363,13 +386,50 @@ does_not (WasCalled terms) r (reset channel cause diagnostic) may = absurd may
 does_not (WasCalled terms) r (reset_conf channel) may = absurd may
 does_not (WasCalled terms) r (call channel called calling facilities user) may = absurd may
 does_not (WasCalled terms) r (accept channel facilities) may = ap was_restarted may
-does_not (WasCalled terms) r (clear channel cause diagnostic) may = absurd may
+does_not (WasCalled terms) r (clear channel cause diagnostic) may = ap was_restarted may
 does_not (WasCalled terms) r (clear_conf channel) may = absurd may
 does_not (WasCalled terms) r (restart cause diagnostic) may = absurd may
 does_not (WasCalled terms) r restart_conf may = absurd may
-does_not (Calls terms) r packet may = absurd may
-does_not (Resets window most) r packet may = absurd may
-does_not WasCleared r packet may = absurd may
+does_not (Calls terms) r (user_data channel q m ps pr user) may = absurd may
+does_not (Calls terms) r (rr channel pr) may = absurd may
+does_not (Calls terms) r (rnr channel pr) may = absurd may
+does_not (Calls terms) r (interrupt channel user) may = absurd may
+does_not (Calls terms) r (interrupt_conf channel) may = absurd may
+does_not (Calls terms) r (reset channel cause diagnostic) may = absurd may
+does_not (Calls terms) r (reset_conf channel) may = absurd may
+does_not (Calls terms) r (call channel called calling facilities user) may = absurd may
+does_not (Calls terms) r (accept channel facilities) may = absurd may
+does_not (Calls terms) r (clear channel cause diagnostic) may = ap was_restarted may
+does_not (Calls terms) r (clear_conf channel) may = absurd may
+does_not (Calls terms) r (restart cause diagnostic) may = absurd may
+does_not (Calls terms) r restart_conf may = absurd may
+does_not (Resets window most) r (user_data channel q m ps pr user) may = absurd may
+does_not (Resets window most) r (rr channel pr) may = absurd may
+does_not (Resets window most) r (rnr channel pr) may = absurd may
+does_not (Resets window most) r (interrupt channel user) may = absurd may
+does_not (Resets window most) r (interrupt_conf channel) may = absurd may
+does_not (Resets window most) r (reset channel cause diagnostic) may = absurd may
+does_not (Resets window most) r (reset_conf channel) may = absurd may
+does_not (Resets window most) r (call channel called calling facilities user) may = absurd may
+does_not (Resets window most) r (accept channel facilities) may = absurd may
+does_not (Resets window most) r (clear channel cause diagnostic) may = ap was_restarted may
+does_not (Resets window most) r (clear_conf channel) may = absurd may
+does_not (Resets window most) r (restart cause diagnostic) may = absurd may
+does_not (Resets window most) r restart_conf may = absurd may
+does_not WasCleared r (user_data channel q m ps pr user) may = absurd may
+does_not WasCleared r (rr channel pr) may = absurd may
+does_not WasCleared r (rnr channel pr) may = absurd may
+does_not WasCleared r (interrupt channel user) may = absurd may
+does_not WasCleared r (interrupt_conf channel) may = absurd may
+does_not WasCleared r (reset channel cause diagnostic) may = absurd may
+does_not WasCleared r (reset_conf channel) may = absurd may
+does_not WasCleared r (call channel called calling facilities user) may = absurd may
+does_not WasCleared r (accept channel facilities) may = absurd may
+does_not WasCleared r (clear channel cause diagnostic) may = absurd may
+does_not WasCleared r (clear_conf channel) may = ap was_restarted may
+does_not WasCleared r (restart cause diagnostic) may = absurd may
+does_not WasCleared r restart_conf may = absurd may
+does_not Clears r packet may = absurd may
 does_not WasRestarted r packet may = absurd may
 
 does_due : (s r : Phase) (way : List PlainPacket) (packet : PlainPacket) → MayDo s packet r → is_due r way ≡ true → is_due s way ≡ true
@@ -445,6 +505,19 @@ comes_due from (WasCalled terms) (clear_conf channel) way may e = e
 comes_due from (WasCalled terms) (restart cause diagnostic) way may e = refl
 comes_due from (WasCalled terms) restart_conf way may e = e
 comes_due from (WasReset window most) packet way may e = absurd may
+comes_due from Clears (user_data channel q m ps pr user) way may e = e
+comes_due from Clears (rr channel pr) way may e = e
+comes_due from Clears (rnr channel pr) way may e = e
+comes_due from Clears (interrupt channel user) way may e = e
+comes_due from Clears (interrupt_conf channel) way may e = e
+comes_due from Clears (reset channel cause diagnostic) way may e = e
+comes_due from Clears (reset_conf channel) way may e = e
+comes_due from Clears (call channel called calling facilities user) way may e = e
+comes_due from Clears (accept channel facilities) way may e = e
+comes_due from Clears (clear channel cause diagnostic) way may e = e
+comes_due from Clears (clear_conf channel) way may e = e
+comes_due from Clears (restart cause diagnostic) way may e = refl
+comes_due from Clears restart_conf way may e = e
 comes_due from WasCleared packet way may e = absurd may
 comes_due from WasRestarted packet way may e = absurd may
 
@@ -507,12 +580,12 @@ module _ (from : Role) (s : Phase) (way : List PlainPacket) (P O : Layer) (p o :
   fits_theirs : (way2 : List PlainPacket) (p2 o2 : Port) → (is_due s way2 ≡ true → is_due s way ≡ true) → (are_sure P O ≡ true → On from s way2 P O p2 o2) → Fits from s way2 P (at_ready O) p2 o2
   fits_theirs way2 p2 o2 due on = record { ready = h.ready; begun = refl; found = h.found; uncounted = h.uncounted; owed = h.owed; on = on; due = λ k e. h.due k (due e) }
 
-  does_fits : (r : Phase) (packet : PlainPacket) → MayDo s packet r → Fits from r way (at_ready P) O (sends packet (pair_at from P O p o)).own (sends packet (pair_at from P O p o)).other
-  does_fits r packet may = fits_on r way (sends packet (pair_at from P O p o)).own (sends packet (pair_at from P O p o)).other (does_due s r way packet may) (λ k. (on_does from s r way P O p o packet may (h.on k)).on)
+  does_fits : (r : Phase) (packet : PlainPacket) → MayDo s packet r → IsFollowed (pair_at from P O p o) packet → Fits from r way (at_ready P) O (sends packet (pair_at from P O p o)).own (sends packet (pair_at from P O p o)).other
+  does_fits r packet may followed = fits_on r way (sends packet (pair_at from P O p o)).own (sends packet (pair_at from P O p o)).other (does_due s r way packet may) (λ k. (on_does from s r way P O p o packet may followed (h.on k)).on)
 
-  does_noted : (r : Phase) (packet : PlainPacket) → MayDo s packet r → Fits from r way (at_ready P) O (port.noted (sends packet (pair_at from P O p o)).own) (port.noted (sends packet (pair_at from P O p o)).other)
-  does_noted r packet may = fits_on r way (port.noted (sends packet (pair_at from P O p o)).own) (port.noted (sends packet (pair_at from P O p o)).other) (does_due s r way packet may)
-      (λ k. on_noted from r way P O (sends packet (pair_at from P O p o)).own (sends packet (pair_at from P O p o)).other (on_does from s r way P O p o packet may (h.on k)).on)
+  does_noted : (r : Phase) (packet : PlainPacket) → MayDo s packet r → IsFollowed (pair_at from P O p o) packet → Fits from r way (at_ready P) O (port.noted (sends packet (pair_at from P O p o)).own) (port.noted (sends packet (pair_at from P O p o)).other)
+  does_noted r packet may followed = fits_on r way (port.noted (sends packet (pair_at from P O p o)).own) (port.noted (sends packet (pair_at from P O p o)).other) (does_due s r way packet may)
+      (λ k. on_noted from r way P O (sends packet (pair_at from P O p o)).own (sends packet (pair_at from P O p o)).other (on_does from s r way P O p o packet may followed (h.on k)).on)
 
   does_lost : (r : Phase) (p2 o2 : Port) → are_sure P O ≡ false → Fits from r way (at_ready P) O p2 o2
   does_lost r p2 o2 e = lost_fits from r way (at_ready P) O p2 o2 refl h.begun e (h.uncounted e)
@@ -675,6 +748,7 @@ may_of (Calls terms) r (restart cause diagnostic) may = absurd may
 may_of (WasCalled terms) r (restart cause diagnostic) may = absurd may
 may_of (Resets window most) r (restart cause diagnostic) may = absurd may
 may_of (WasReset window most) r (restart cause diagnostic) may = absurd may
+may_of Clears r (restart cause diagnostic) may = absurd may
 may_of WasCleared r (restart cause diagnostic) may = absurd may
 may_of WasRestarted r (restart cause diagnostic) may = absurd may
 may_of (Talks window most g c) r restart_conf (n, may, is) = absurd may
@@ -683,6 +757,7 @@ may_of (Calls terms) r restart_conf may = absurd may
 may_of (WasCalled terms) r restart_conf may = absurd may
 may_of (Resets window most) r restart_conf may = absurd may
 may_of (WasReset window most) r restart_conf may = absurd may
+may_of Clears r restart_conf may = absurd may
 may_of WasCleared r restart_conf may = absurd may
 may_of WasRestarted r restart_conf may = absurd may
 
@@ -731,19 +806,19 @@ module _ (channel : ℕ) (b : Book) (s : Phase) (way : List PlainPacket) where
   as_dce : (way2 : List PlainPacket) (b2 : Book) → Left Dte channel (Theirs Dce way2) b2 → At Dce channel s way2 b2
   as_dce way2 b2 x = record { book = x.book; parts = x.parts }
 
-  does_at : (from : Role) (r : Phase) (packet : PlainPacket) → MayDo s packet r → At from channel s way b → At from channel r way (book.takes from channel packet b).book
-  does_at Dte r packet may x =
+  does_at : (from : Role) (r : Phase) (packet : PlainPacket) → MayDo s packet r → IsFollowed (view from channel b) packet → At from channel s way b → At from channel r way (book.takes from channel packet b).book
+  does_at Dte r packet may followed x =
       subst (λ (z : book.Seen). At Dte channel r way z.book) (sym (runs_calm Dte channel packet b (may_of s r packet may) (ap layer.is_begun x.parts.ready) (early_not (layers_of Dte b) x.parts.ready)))
       (takes_on_parts Dte channel (layers.goes_to Ready (layers_of Dte b)) packet b (Fits Dte r way) x.book refl
       (λ e. does_lost Dte s way b.dte b.dce (port_at Dte channel b) (port_at Dce channel b) x.parts r (port.noted (port_at Dte channel b)) (port.noted (port_at Dce channel b)) e)
-      (λ _. does_fits Dte s way b.dte b.dce (port_at Dte channel b) (port_at Dce channel b) x.parts r packet may)
-      (λ _. does_noted Dte s way b.dte b.dce (port_at Dte channel b) (port_at Dce channel b) x.parts r packet may))
-  does_at Dce r packet may x =
+      (λ _. does_fits Dte s way b.dte b.dce (port_at Dte channel b) (port_at Dce channel b) x.parts r packet may followed)
+      (λ _. does_noted Dte s way b.dte b.dce (port_at Dte channel b) (port_at Dce channel b) x.parts r packet may followed))
+  does_at Dce r packet may followed x =
       subst (λ (z : book.Seen). At Dce channel r way z.book) (sym (runs_calm Dce channel packet b (may_of s r packet may) (ap layer.is_begun x.parts.ready) (early_not (layers_of Dce b) x.parts.ready)))
       (takes_on_parts Dce channel (layers.goes_to Ready (layers_of Dce b)) packet b (Fits Dce r way) x.book refl
       (λ e. does_lost Dce s way b.dce b.dte (port_at Dce channel b) (port_at Dte channel b) x.parts r (port.noted (port_at Dce channel b)) (port.noted (port_at Dte channel b)) e)
-      (λ _. does_fits Dce s way b.dce b.dte (port_at Dce channel b) (port_at Dte channel b) x.parts r packet may)
-      (λ _. does_noted Dce s way b.dce b.dte (port_at Dce channel b) (port_at Dte channel b) x.parts r packet may))
+      (λ _. does_fits Dce s way b.dce b.dte (port_at Dce channel b) (port_at Dte channel b) x.parts r packet may followed)
+      (λ _. does_noted Dce s way b.dce b.dte (port_at Dce channel b) (port_at Dte channel b) x.parts r packet may followed))
 
   does_apart : (from : Role) (two : ℕ) (packet : PlainPacket) → IsOfChannel packet → AreApart channel two → At from channel s way b → At from channel s way (book.takes from two packet b).book
   does_apart Dte two packet is far x =
@@ -806,8 +881,8 @@ module _ (channel : ℕ) (b : Book) (s : Phase) (way : List PlainPacket) where
       (λ found uncounted. unseen_uncounted Dce s way b.dce b.dte (port_at Dce channel b) (port_at Dte channel b) x.parts uncounted))
 
   quiet_at : (from : Role) (r : Phase) (packet : PlainPacket) → MayDo s packet r → At from channel s way b → (book.takes from channel packet b).verdict.rule ≡ None
-  quiet_at Dte r packet may x = untold Dte channel b packet (may_of s r packet may) (ap layer.is_begun x.parts.ready) (early_not (layers_of Dte b) x.parts.ready) (λ e. (on_does Dte s r way b.dte b.dce (port_at Dte channel b) (port_at Dce channel b) packet may (x.parts.on e)).quiet)
-  quiet_at Dce r packet may x = untold Dce channel b packet (may_of s r packet may) (ap layer.is_begun x.parts.ready) (early_not (layers_of Dce b) x.parts.ready) (λ e. (on_does Dce s r way b.dce b.dte (port_at Dce channel b) (port_at Dte channel b) packet may (x.parts.on e)).quiet)
+  quiet_at Dte r packet may x = untold Dte channel b packet (may_of s r packet may) (ap layer.is_begun x.parts.ready) (early_not (layers_of Dte b) x.parts.ready) (λ e. on_quiet Dte s r way b.dte b.dce (port_at Dte channel b) (port_at Dce channel b) packet may (x.parts.on e))
+  quiet_at Dce r packet may x = untold Dce channel b packet (may_of s r packet may) (ap layer.is_begun x.parts.ready) (early_not (layers_of Dce b) x.parts.ready) (λ e. on_quiet Dce s r way b.dce b.dte (port_at Dce channel b) (port_at Dte channel b) packet may (x.parts.on e))
 
   end_at : (from : Role) (packet : PlainPacket) → MayEnd s packet → At from channel s way b → (book.takes from channel packet b).verdict.rule ≡ None
   end_at Dte packet may x = untold Dte channel b packet (may_end s packet may) (ap layer.is_begun x.parts.ready) (early_not (layers_of Dte b) x.parts.ready) (λ e. on_ends Dte s way b.dte b.dce (port_at Dte channel b) (port_at Dce channel b) packet may (x.parts.on e))
@@ -847,7 +922,7 @@ comes_at from channel b s packet way may x = record {
 runs_at : (from : Role) (channel : ℕ) (b : Book) (s : Phase) (way : List PlainPacket) → MayStand from channel b s way → At from channel s way b
 runs_at from channel _ _ _ (Starts b full run idle) = starts_at from channel b full run idle
 runs_at from channel _ _ _ (Begins window most b full run begun) = begins_at from channel window most b full run begun
-runs_at from channel _ _ _ (Does b s r way packet may was) = does_at channel b s way from r packet may (runs_at from channel b s way was)
+runs_at from channel _ _ _ (Does b s r way packet may followed was) = does_at channel b s way from r packet may followed (runs_at from channel b s way was)
 runs_at from channel _ _ _ (DoesApart b s way two packet is far was) = does_apart channel b s way from two packet is far (runs_at from channel b s way was)
 runs_at from channel _ _ _ (Shown b s way packet is was) = shown_at channel b s way from packet is (runs_at from channel b s way was)
 runs_at from channel _ _ _ (ShownApart b s way two packet is far was) = shown_apart channel b s way from two packet is far (runs_at from channel b s way was)

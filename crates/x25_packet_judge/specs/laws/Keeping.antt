@@ -11,7 +11,7 @@ use Rattle.x25_packet_judge.specs.Flow.{fresh}
 use Rattle.x25_packet_judge.specs.Message.{octets_of}
 use Rattle.x25_packet_judge.specs.Numbers.{apart}
 use Rattle.x25_packet_judge.specs.Packets.{sends}
-use Rattle.x25_packet_judge.specs.Pair.{is_dce, may_talk_in}
+use Rattle.x25_packet_judge.specs.Pair.{is_dce, is_known, is_doubtful, may_talk_in}
 use Rattle.x25_packet_judge.specs.Port as port
 use Rattle.x25_packet_judge.specs.Terms.{said, usual}
 use Rattle.x25_packet_judge.specs.declared.message.Message.TheVariants.{Ended}
@@ -41,7 +41,8 @@ pub record Come : Type 0 where
 
 -- Where it stands: it has no call (p1); its CALL waits (p2), or CALL came (p3), which proposes such sizes and windows.
 -- In a call, that gives it this window and packet size: in flow control ready (d1), with what it sent and what came in
--- the stretch; its RESET waits for the confirmation (d2); RESET came (d3). CLEAR came (p7), or RESTART (r3).
+-- the stretch; its RESET waits for the confirmation (d2); RESET came (d3). Its CLEAR waits (p6); CLEAR came (p7), or
+-- RESTART (r3).
 pub data Phase : Type 0 where
   Idles : Phase
   Calls : Terms → Phase
@@ -49,6 +50,7 @@ pub data Phase : Type 0 where
   Talks : (window most : ℕ) → Given → Come → Phase
   Resets : (window most : ℕ) → Phase
   WasReset : (window most : ℕ) → Phase
+  Clears : Phase
   WasCleared : Phase
   WasRestarted : Phase
 
@@ -102,15 +104,22 @@ MaySend window most g c (interrupt_conf channel) h =
     (g.answered < c.asked) × (h ≡ record g { answered = g.answered + 1 })
 MaySend window most g c packet h = ⊥
 
--- What it may send, and where it stands then: CALL where there is no call, and behind the one that came CALL ACCEPTED
--- (section 4.1); RESET at any moment of a stretch, behind which it sends nothing; and behind the RESET that came its
--- confirmation (section 4.4.3).
+-- What it may send, and where it stands then: CALL where there is no call, and behind the one that came CALL ACCEPTED;
+-- CLEAR where none is under way, behind which it sends nothing, and behind the one that came its confirmation (section
+-- 4.1); RESET and its confirmation so in a stretch (section 4.4.3).
 abbrev pub MayDo : Phase → PlainPacket → Phase → Type 0
 MayDo Idles (call channel called calling facilities user) s = s ≡ Calls (said facilities usual)
+MayDo Idles (clear channel cause diagnostic) s = s ≡ Clears
+MayDo (Calls terms) (clear channel cause diagnostic) s = s ≡ Clears
 MayDo (WasCalled terms) (accept channel facilities) s = s ≡ called_phase (said facilities terms)
+MayDo (WasCalled terms) (clear channel cause diagnostic) s = s ≡ Clears
+MayDo (Talks window most g c) (clear channel cause diagnostic) s = s ≡ Clears
 MayDo (Talks window most g c) (reset channel cause diagnostic) s = s ≡ Resets window most
 MayDo (Talks window most g c) packet s = (h : Given) × MaySend window most g c packet h × (s ≡ Talks window most h c)
+MayDo (Resets window most) (clear channel cause diagnostic) s = s ≡ Clears
 MayDo (WasReset window most) (reset_conf channel) s = s ≡ fresh_phase window most
+MayDo (WasReset window most) (clear channel cause diagnostic) s = s ≡ Clears
+MayDo WasCleared (clear_conf channel) s = s ≡ Idles
 MayDo s packet r = ⊥
 
 -- How it may leave it: by CLEAR at any moment, or the confirmation of the one that came (section 4.1.7).
@@ -141,7 +150,7 @@ takes packet c = c
 
 -- Where it stands behind a packet that comes. Where the calls of both ends collide, the DCE gives its own up (section
 -- 4.1.6). While its RESET waits all is dropped but RESET and its confirmation, either of which ends that (section
--- 4.4.3.3), and what ends the call.
+-- 4.4.3.3), and what ends the call; and so with its CLEAR (section 4.1.9).
 abbrev pub comes : Role → Phase → PlainPacket → Phase
 comes from Idles (call channel called calling facilities user) = WasCalled (said facilities usual)
 comes from Idles (clear channel cause diagnostic) = WasCleared
@@ -161,6 +170,9 @@ comes from (Resets window most) (reset channel cause diagnostic) = fresh_phase w
 comes from (Resets window most) (reset_conf channel) = fresh_phase window most
 comes from (Resets window most) (clear channel cause diagnostic) = WasCleared
 comes from (Resets window most) (restart cause diagnostic) = WasRestarted
+comes from Clears (clear channel cause diagnostic) = Idles
+comes from Clears (clear_conf channel) = Idles
+comes from Clears (restart cause diagnostic) = WasRestarted
 comes from s packet = s
 
 -- RESET, CLEAR and RESTART are answered before it takes what comes behind them.
@@ -224,6 +236,12 @@ turned t = record { from = other t.from; reaches = t.reaches; own = t.other; oth
 abbrev pub restarted : Pair → Pair
 restarted t = record t { reaches = false; other = port.fresh }
 
+-- Its CLEAR and its confirmation of one are followed where the channel is known, and nothing left open.
+abbrev pub IsFollowed : Pair → PlainPacket → Type 0
+IsFollowed t (clear channel cause diagnostic) = (is_known t ≡ true) × (is_doubtful t ≡ false)
+IsFollowed t (clear_conf channel) = (is_known t ≡ true) × (is_doubtful t ≡ false)
+IsFollowed t packet = Unit {0}
+
 -- The first end may stand so, where the channel is so, and such packets of the other end are on the way to it, front
 -- first.
 pub data MayBe : Pair → Phase → List PlainPacket → Type 0 where
@@ -231,7 +249,7 @@ pub data MayBe : Pair → Phase → List PlainPacket → Type 0 where
   Begins : (window most : ℕ) (t : Pair) → AreBegun window most t → MayBe t (fresh_phase window most) []
   -- it sends what the rules allow
   Does : (t : Pair) (s r : Phase) (way : List PlainPacket) (packet : PlainPacket) → MayDo s packet r
-      → MayBe t s way → MayBe (next (sends packet t)) r way
+      → IsFollowed t packet → MayBe t s way → MayBe (next (sends packet t)) r way
   -- the other end sends any packet on the channel
   Shown : (t : Pair) (s : Phase) (way : List PlainPacket) (packet : PlainPacket) → IsOfChannel packet
       → MayBe t s way → MayBe (turned (sends packet (turned t))) s (way ++ packet ∷ [])

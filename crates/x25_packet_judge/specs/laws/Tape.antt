@@ -14,7 +14,7 @@ use Rattle.x25_packet_judge.specs.declared.layers.Layers.{Layers}
 use Rattle.x25_packet_judge.specs.declared.pair.Pair.{Pair}
 use Rattle.x25_packet_judge.specs.declared.port.Port.{Port}
 use Rattle.x25_packet_judge.specs.laws.Keeping.{Phase, Idles, fresh_phase, MayDo, comes, MayTake, IsOfChannel}
-use Rattle.x25_packet_judge.specs.laws.Keeping.{AreIdle, AreBegun}
+use Rattle.x25_packet_judge.specs.laws.Keeping.{AreIdle, AreBegun, IsFollowed}
 
 -- both ends of a channel, the end that is spoken of first
 abbrev pub view : Role → ℕ → Book → Pair
@@ -45,7 +45,8 @@ pub data MayStand (from : Role) (channel : ℕ) : Book → Phase → List PlainP
       → AreBegun window most (view from channel b) → MayStand from channel b (fresh_phase window most) []
   -- it sends what the rules allow, or anything on another channel
   Does : (b : Book) (s r : Phase) (way : List PlainPacket) (packet : PlainPacket) → MayDo s packet r
-      → MayStand from channel b s way → MayStand from channel (takes from channel packet b).book r way
+      → IsFollowed (view from channel b) packet → MayStand from channel b s way
+      → MayStand from channel (takes from channel packet b).book r way
   DoesApart : (b : Book) (s : Phase) (way : List PlainPacket) (two : ℕ) (packet : PlainPacket) → IsOfChannel packet
       → AreApart channel two → MayStand from channel b s way
       → MayStand from channel (takes from two packet b).book s way
