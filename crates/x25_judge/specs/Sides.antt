@@ -81,9 +81,10 @@ asking Answered = Answered
 asking Up = Waiting
 asking Unanswered = Waiting
 
--- behind a UA that it sent: an end that awaits UA goes on to, or begins by this one, and is up now
+-- behind a UA that it sent: an end that awaits UA goes on to, or begins by this one, and is up now; one of which
+-- nothing is known may await it too
 abbrev pub accepting : Phase → Phase
-accepting Unseen = Up
+accepting Unseen = Unanswered
 accepting Out = Up
 accepting Waiting = Unanswered
 accepting Answered = Answered

@@ -121,14 +121,14 @@ impl Phase {
         }
     }
 
-    /// Behind a UA that it sent. One that awaited UA may begin by this one, and is up then.
+    /// Behind a UA that it sent. One that awaited UA, or may have, may begin by this one, and is up then.
     fn accepting(self) -> Phase
         ensures { result ≡ definition.accepting self }
     {
         match self {
             Phase::Answered => self,
-            Phase::Waiting | Phase::Unanswered => Phase::Unanswered,
-            Phase::Unseen | Phase::Out | Phase::Up => Phase::Up,
+            Phase::Unseen | Phase::Waiting | Phase::Unanswered => Phase::Unanswered,
+            Phase::Out | Phase::Up => Phase::Up,
         }
     }
 

@@ -16,7 +16,7 @@ use Rattle.x25_judge.specs.laws.Session.{IsNumbered}
 use Rattle.x25_judge.specs.laws.Sessions.{IsUa}
 use Rattle.x25_judge.specs.laws.VerdictClaims.{IsAnswered}
 use Rattle.x25_judge.proofs.verdicts.Fair.{OwnIf}
-use Rattle.x25_judge.proofs.verdicts.Frames.{Owes, running_late}
+use Rattle.x25_judge.proofs.verdicts.Frames.{Owes, is_bool, running_late}
 use Rattle.x25_judge.proofs.verdicts.Beside.{acks, heard_all, heard_more, brings, took_all, took_more, Hears, Seen, Rested, deaf_hears, hears_less, own_if_less}
 use Rattle.x25_judge.proofs.verdicts.Damage.{unheard_own_if, missed_hears, misses_is, misses_seen}
 use Rattle.x25_judge.proofs.verdicts.Showing.{Gives, gives, gives_seen}
@@ -54,15 +54,30 @@ no_less : (a : ℕ) → 0 ≤ a
 no_less a = omega arith
 
 numbered_own : (p : Phase) (t v : Sides) (frame : PlainFrame) → (sides.is_up p ≡ false → Owes t.other v.other) → Gives t v frame → RestsOwn p t.other t.own.way → RestsOwn p v.other v.own.way
-numbered_own phase.Unseen t v frame owes h r = tt
+numbered_own phase.Unseen t v frame owes h r =
+    elim (is_bool (way.may_hear v.own.way)) [ inl hears ↦ absurd (both_ways (way.may_hear t.own.way) r (h.hearing 0 0 (deaf_hears t.own.way 0 0 r) hears)) | inr deaf ↦ deaf ]
 numbered_own phase.Out t v frame owes h r = tt
-numbered_own phase.Waiting t v frame owes h r = (λ e. r.0 (sym (owes refl).0 ∙ e), own_if_less v.other.way 0 (acks frame 0) 0 (no_less (acks frame 0)) (h.own 0 0 r.1))
+numbered_own phase.Waiting t v frame owes h r = (
+  own_if_less v.other.way 0 (acks frame 0) 0 (no_less (acks frame 0)) (h.own 0 0 r.0),
+  elim r.1 [ inl asked ↦ inl (λ e. asked (sym (owes refl).0 ∙ e)) | inr hears ↦ inr (hears_less v.own.way (brings frame 0) 0 0 (no_less (brings frame 0)) (h.hears 0 0 hears)) ],
+)
 numbered_own phase.Answered t v frame owes h r = (
   own_if_less v.other.way 0 (acks frame 0) 0 (no_less (acks frame 0)) (h.own 0 0 r.0),
   elim r.1 [ inl asked ↦ inl (λ e. asked (sym (owes refl).0 ∙ e)) | inr hears ↦ inr (hears_less v.own.way (brings frame 0) 0 0 (no_less (brings frame 0)) (h.hears 0 0 hears)) ],
 )
 numbered_own phase.Up t v frame owes h r = tt
-numbered_own phase.Unanswered t v frame owes h r = (λ e. r.0 (sym (owes refl).0 ∙ e), own_if_less v.other.way 0 (acks frame 0) 0 (no_less (acks frame 0)) (h.own 0 0 r.1))
+numbered_own phase.Unanswered t v frame owes h r = (
+  own_if_less v.other.way 0 (acks frame 0) 0 (no_less (acks frame 0)) (h.own 0 0 r.0),
+  elim r.1 [ inl asked ↦ inl (λ e. asked (sym (owes refl).0 ∙ e)) | inr hears ↦ inr (hears_less v.own.way (brings frame 0) 0 0 (no_less (brings frame 0)) (h.hears 0 0 hears)) ],
+)
+
+numbered_awaits : (p : Phase) (x y : ℕ) → (sides.is_up p ≡ false → y ≡ x) → Awaits p x → Awaits p y
+numbered_awaits phase.Unseen x y same w = absurd w
+numbered_awaits phase.Out x y same w = absurd w
+numbered_awaits phase.Waiting x y same w = λ z. w (sym (same refl) ∙ z)
+numbered_awaits phase.Answered x y same w = tt
+numbered_awaits phase.Up x y same w = absurd w
+numbered_awaits phase.Unanswered x y same w = λ z. w (sym (same refl) ∙ z)
 
 numbered_other : (p : Phase) (w : Way) → RestsOther (sides.running p) w
 numbered_other phase.Unseen w = tt
@@ -122,7 +137,7 @@ numbered_fits t v stand p frames frame is h f = record {
   other = subst (λ x. RestsOther x v.own.way) (sym h.phase) (numbered_other t.own.phase v.own.way);
   sabms = λ on none. sabms_more t.other.way t.own.way v.other.way v.own.way frames frame (numbered_anew t v frame is h) (λ sabm_is. absurd (never_sabm frame is sabm_is))
       (f.sabms (on_running t.own.phase (subst On h.phase on)) (sym (running_kept t.own.phase t.own.asked t.own.late (subst On h.phase on)) ∙ sym h.same.late ∙ none));
-  holds = holds_more t.other t.own v.other v.own stand p frames frame (subst Awaits (sym h.same.phase)) (subst IsAnswered (sym h.same.phase)) (numbered_seen t v frame is h) (λ w ua_is. absurd (never_ua frame is ua_is)) f.holds;
+  holds = holds_more t.other t.own v.other v.own stand p frames frame (λ w. subst (λ x. Awaits x v.other.asked) (sym h.same.phase) (numbered_awaits t.other.phase t.other.asked v.other.asked (λ out. (h.owes out).0) w)) (subst IsAnswered (sym h.same.phase)) (numbered_seen t v frame is h) (λ w ua_is. absurd (never_ua frame is ua_is)) f.holds;
 }
   where
     same : (x : ℕ) → min (x + 0) 255 ≤ x
@@ -130,21 +145,21 @@ numbered_fits t v stand p frames frame is h f = record {
 
 -- ---- octets of it are damaged
 
-accepted_awaits : (p : Phase) → Awaits p → Awaits (sides.accepted p)
-accepted_awaits phase.Unseen h = absurd h
-accepted_awaits phase.Out h = absurd h
-accepted_awaits phase.Waiting h = tt
-accepted_awaits phase.Answered h = tt
-accepted_awaits phase.Up h = absurd h
-accepted_awaits phase.Unanswered h = tt
+accepted_awaits : (p : Phase) (x y : ℕ) → Awaits p x → Awaits (sides.accepted p) y
+accepted_awaits phase.Unseen x y h = absurd h
+accepted_awaits phase.Out x y h = absurd h
+accepted_awaits phase.Waiting x y h = tt
+accepted_awaits phase.Answered x y h = tt
+accepted_awaits phase.Up x y h = absurd h
+accepted_awaits phase.Unanswered x y h = tt
 
-may_be_awaits : (p : Phase) → Awaits p → Awaits (sides.may_be_accepted p)
-may_be_awaits phase.Unseen h = absurd h
-may_be_awaits phase.Out h = absurd h
-may_be_awaits phase.Waiting h = tt
-may_be_awaits phase.Answered h = tt
-may_be_awaits phase.Up h = absurd h
-may_be_awaits phase.Unanswered h = tt
+may_be_awaits : (p : Phase) (x y : ℕ) → Awaits p x → Awaits (sides.may_be_accepted p) y
+may_be_awaits phase.Unseen x y h = absurd h
+may_be_awaits phase.Out x y h = absurd h
+may_be_awaits phase.Waiting x y h = tt
+may_be_awaits phase.Answered x y h = tt
+may_be_awaits phase.Up x y h = absurd h
+may_be_awaits phase.Unanswered x y h = tt
 
 may_be_answered : (p : Phase) → IsAnswered p → IsAnswered (sides.may_be_accepted p)
 may_be_answered phase.Unseen on = absurd on
@@ -164,15 +179,21 @@ accepted_answered phase.Unanswered on = absurd on
 
 missed_own : (k : Bool) (p : Phase) (a c : End) (w : Way) → c.asked ≡ a.asked → c.way ≡ way.unheard a.way → RestsOwn p a w
     → RestsOwn (sides.may_be_accepted p) c (way.missed k w)
-missed_own k phase.Unseen a c w e f r = tt
+missed_own k phase.Unseen a c w e f r = r
 missed_own k phase.Out a c w e f r = tt
-missed_own k phase.Waiting a c w e f r = (subst (λ v. OwnIf v 0 0) (sym f) (unheard_own_if a.way 0 0 r.1), inl (λ z. r.0 (sym e ∙ z)))
+missed_own k phase.Waiting a c w e f r = (
+  subst (λ v. OwnIf v 0 0) (sym f) (unheard_own_if a.way 0 0 r.0),
+  elim r.1 [ inl asked ↦ inl (λ z. asked (sym e ∙ z)) | inr hears ↦ inr (missed_hears k w 0 0 hears) ],
+)
 missed_own k phase.Answered a c w e f r = (
   subst (λ v. OwnIf v 0 0) (sym f) (unheard_own_if a.way 0 0 r.0),
   elim r.1 [ inl asked ↦ inl (λ z. asked (sym e ∙ z)) | inr hears ↦ inr (missed_hears k w 0 0 hears) ],
 )
 missed_own k phase.Up a c w e f r = tt
-missed_own k phase.Unanswered a c w e f r = (subst (λ v. OwnIf v 0 0) (sym f) (unheard_own_if a.way 0 0 r.1), inl (λ z. r.0 (sym e ∙ z)))
+missed_own k phase.Unanswered a c w e f r = (
+  subst (λ v. OwnIf v 0 0) (sym f) (unheard_own_if a.way 0 0 r.0),
+  elim r.1 [ inl asked ↦ inl (λ z. asked (sym e ∙ z)) | inr hears ↦ inr (missed_hears k w 0 0 hears) ],
+)
 
 stays_rested : (k : Bool) (w : Way) → Rested w → Rested (way.missed k w)
 stays_rested k w h = record { hears = missed_hears k w 0 0 h.hears; none = h.none }
@@ -237,7 +258,7 @@ missed_fits t stand p frames f =
       sabms = λ on none. subst (λ w. BehindSabm w v.own.way frames) (sym s.other) (subst (λ w. BehindSabm (way.unheard t.other.way) w frames) (sym s.own)
           (sabms_to t.other.way t.own.way (way.unheard t.other.way) (way.missed (sides.is_unasked t) t.own.way) frames (missed_anew (sides.is_unasked t) t.other.way t.own.way)
           (unsure_sabms t.own.phase t.other.way t.own.way frames t.own.asked t.own.late f.asked (subst On (missed_phase t) on) (sym s.late ∙ none) f.sabms)));
-      holds = holds_to t.other t.own v.other v.own stand p frames (λ w. subst Awaits (sym s.other_phase) (may_be_awaits t.other.phase w)) (λ on. subst IsAnswered (sym s.other_phase) (may_be_answered t.other.phase on)) (missed_seen t) f.holds;
+      holds = holds_to t.other t.own v.other v.own stand p frames (λ w. subst (λ x. Awaits x v.other.asked) (sym s.other_phase) (may_be_awaits t.other.phase t.other.asked v.other.asked w)) (λ on. subst IsAnswered (sym s.other_phase) (may_be_answered t.other.phase on)) (missed_seen t) f.holds;
     }
   where
     more : (a x : ℕ) → min a 255 ≤ x → min a 255 ≤ min (x + 1) 255
@@ -251,13 +272,13 @@ ends_late t v frames frame bare is asked late =
     subst (λ x. min x 255 ≤ v.own.late) (sym (late_bare frames frame bare)) (subst (λ x. min (late_all frames) 255 ≤ x) (sym is) (ended_bound t.own.phase frames t.own.asked t.own.late asked late))
 
 -- where the end or the other one was up or not
-pub own_to : (p : Phase) (a c : End) (w v : Way) → c.asked ≡ a.asked → c.way ≡ a.way → (Hears w 0 0 → Hears v 0 0) → RestsOwn p a w → RestsOwn p c v
-own_to phase.Unseen a c w v e f g r = tt
-own_to phase.Out a c w v e f g r = tt
-own_to phase.Waiting a c w v e f g r = (λ z. r.0 (sym e ∙ z), subst (λ x. OwnIf x 0 0) (sym f) r.1)
-own_to phase.Answered a c w v e f g r = (subst (λ x. OwnIf x 0 0) (sym f) r.0, elim r.1 [ inl asked ↦ inl (λ z. asked (sym e ∙ z)) | inr hears ↦ inr (g hears) ])
-own_to phase.Up a c w v e f g r = tt
-own_to phase.Unanswered a c w v e f g r = (λ z. r.0 (sym e ∙ z), subst (λ x. OwnIf x 0 0) (sym f) r.1)
+pub own_to : (p : Phase) (a c : End) (w v : Way) → c.asked ≡ a.asked → c.way ≡ a.way → (Hears w 0 0 → Hears v 0 0) → (sides.awaits_ua p ≡ false → way.may_hear w ≡ false → way.may_hear v ≡ false) → RestsOwn p a w → RestsOwn p c v
+own_to phase.Unseen a c w v e f g deaf r = deaf refl r
+own_to phase.Out a c w v e f g deaf r = tt
+own_to phase.Waiting a c w v e f g deaf r = (subst (λ x. OwnIf x 0 0) (sym f) r.0, elim r.1 [ inl asked ↦ inl (λ z. asked (sym e ∙ z)) | inr hears ↦ inr (g hears) ])
+own_to phase.Answered a c w v e f g deaf r = (subst (λ x. OwnIf x 0 0) (sym f) r.0, elim r.1 [ inl asked ↦ inl (λ z. asked (sym e ∙ z)) | inr hears ↦ inr (g hears) ])
+own_to phase.Up a c w v e f g deaf r = tt
+own_to phase.Unanswered a c w v e f g deaf r = (subst (λ x. OwnIf x 0 0) (sym f) r.0, elim r.1 [ inl asked ↦ inl (λ z. asked (sym e ∙ z)) | inr hears ↦ inr (g hears) ])
 
 asking_rested : (p : Phase) (knows : Bool) (w : Way) → RestsOther p w → Rested (sides.asking_way p (way.fresh knows) w)
 asking_rested phase.Unseen knows w r = begun_rested _
@@ -291,6 +312,14 @@ asking_hears phase.Answered knows w g t bare h = h
 asking_hears phase.Up knows w g t bare h = subst (λ k. Hears (way.fresh k) g t) (sym bare) (deaf_hears (way.fresh false) g t refl)
 asking_hears phase.Unanswered knows w g t bare h = subst (λ k. Hears (way.fresh k) g t) (sym bare) (deaf_hears (way.fresh false) g t refl)
 
+asking_deaf : (p : Phase) (knows : Bool) (w : Way) → knows ≡ false → way.may_hear w ≡ false → way.may_hear (sides.asking_way p (way.fresh knows) w) ≡ false
+asking_deaf phase.Unseen knows w bare deaf = subst (λ k. way.may_hear (way.fresh k) ≡ false) (sym bare) refl
+asking_deaf phase.Out knows w bare deaf = subst (λ k. way.may_hear (way.fresh k) ≡ false) (sym bare) refl
+asking_deaf phase.Waiting knows w bare deaf = subst (λ k. way.may_hear (way.fresh k) ≡ false) (sym bare) refl
+asking_deaf phase.Answered knows w bare deaf = deaf
+asking_deaf phase.Up knows w bare deaf = subst (λ k. way.may_hear (way.fresh k) ≡ false) (sym bare) refl
+asking_deaf phase.Unanswered knows w bare deaf = subst (λ k. way.may_hear (way.fresh k) ≡ false) (sym bare) refl
+
 -- UA answered one before, and no frame with a number was sent since
 pub record AsksAgain (p : Phase) (anew w : Way) : Type 0 where
   pub on : On p
@@ -314,12 +343,13 @@ sabm_fits : (t v : Sides) (stand : Stand) (p : Peer) (frames : List PlainFrame) 
 sabm_fits t v stand p frames b a f = record {
   asked = asked_more frames (sabm b) t.own.asked v.own.asked f.asked (subst (λ x. min (t.own.asked + 1) 255 ≤ x) (sym a.asked) (least (min (t.own.asked + 1) 255)));
   late = λ rests. ends_late t v frames (sabm b) (λ x. x) a.late f.asked f.late;
-  own = subst (λ x. RestsOwn x v.other v.own.way) (sym a.other_phase) (own_to t.other.phase t.other v.other t.own.way v.own.way a.other_asked a.other (λ _. rested.hears) f.own);
+  own = subst (λ x. RestsOwn x v.other v.own.way) (sym a.other_phase) (own_to t.other.phase t.other v.other t.own.way v.own.way a.other_asked a.other (λ _. rested.hears)
+      (λ bare deaf. ap way.may_hear a.own ∙ asking_deaf t.own.phase (sides.awaits_ua t.other.phase) t.own.way bare deaf) f.own);
   count = f.count;
   sent = subst (λ w. OwnIf w f.count 0) (sym a.other) f.sent;
   other = subst (λ x. RestsOther x v.own.way) (sym a.phase) (asking_other t.own.phase v.own.way rested);
   sabms = λ on none. sabms_more t.other.way t.own.way v.other.way v.own.way frames (sabm b) (again on) (λ _. record { count = f.count; own = subst (λ w. OwnIf w f.count 0) (sym a.other) f.sent; hears = rested.hears; first = λ _. tt }) (f.sabms (still on).on (sym ((still on).kept t.own.asked t.own.late) ∙ sym a.late ∙ none));
-  holds = holds_more t.other t.own v.other v.own stand p frames (sabm b) (subst Awaits (sym a.other_phase)) (subst IsAnswered (sym a.other_phase)) seen (λ w is. absurd is) f.holds;
+  holds = holds_more t.other t.own v.other v.own stand p frames (sabm b) (λ w. subst (λ x. Awaits x v.other.asked) (sym a.other_phase) (subst (λ x. Awaits t.other.phase x) (sym a.other_asked) w)) (subst IsAnswered (sym a.other_phase)) seen (λ w is. absurd is) f.holds;
 }
   where
     least : (x : ℕ) → x ≤ x
@@ -361,12 +391,12 @@ aside_fits : (t v : Sides) (stand : Stand) (p : Peer) (frames : List PlainFrame)
 aside_fits t v stand p frames frame a rests still no_number no_sabm no_ua f = record {
   asked = asked_more frames frame t.own.asked v.own.asked f.asked a.asked;
   late = λ rests. ends_late t v frames frame no_number a.late f.asked f.late;
-  own = subst (λ x. RestsOwn x v.other v.own.way) (sym a.other_phase) (own_to t.other.phase t.other v.other t.own.way v.own.way a.other_asked a.other (subst (λ w. Hears w 0 0) (sym a.own)) f.own);
+  own = subst (λ x. RestsOwn x v.other v.own.way) (sym a.other_phase) (own_to t.other.phase t.other v.other t.own.way v.own.way a.other_asked a.other (subst (λ w. Hears w 0 0) (sym a.own)) (λ _ deaf. ap way.may_hear a.own ∙ deaf) f.own);
   count = f.count;
   sent = subst (λ w. OwnIf w f.count 0) (sym a.other) f.sent;
   other = subst (λ w. RestsOther v.own.phase w) (sym a.own) (rests f.other);
   sabms = λ on none. sabms_more t.other.way t.own.way v.other.way v.own.way frames frame (anew on) (λ is. absurd (no_sabm is)) (f.sabms (still on).0 (sym (still on).2 ∙ sym a.late ∙ none));
-  holds = holds_more t.other t.own v.other v.own stand p frames frame (subst Awaits (sym a.other_phase)) (subst IsAnswered (sym a.other_phase)) seen (λ w is. absurd (no_ua is)) f.holds;
+  holds = holds_more t.other t.own v.other v.own stand p frames frame (λ w. subst (λ x. Awaits x v.other.asked) (sym a.other_phase) (subst (λ x. Awaits t.other.phase x) (sym a.other_asked) w)) (subst IsAnswered (sym a.other_phase)) seen (λ w is. absurd (no_ua is)) f.holds;
 }
   where
     anew : On v.own.phase → (rest : List PlainFrame) → Anew t.other.way t.own.way rest → Anew v.other.way v.own.way (rest ++ frame ∷ [])
@@ -420,10 +450,10 @@ accepted_rests l phase.Out a c w v e h r = tt
 accepted_rests l phase.Waiting a c w v e h r = (subst (λ x. OwnIf x 0 0) (sym e) (deafened_own l (way.answered a.way) 0 0 (answered_own a.way)), inr h)
 accepted_rests l phase.Answered a c w v e h r = (subst (λ x. OwnIf x 0 0) (sym e) (deafened_own l (way.answered_again a.way) 0 0 (again_own a.way 0 0 r.0)), inr h)
 accepted_rests l phase.Up a c w v e h r = tt
-accepted_rests l phase.Unanswered a c w v e h r = (subst (λ x. OwnIf x 0 0) (sym e) (deafened_own l (way.answered_again a.way) 0 0 (again_own a.way 0 0 r.1)), inr h)
+accepted_rests l phase.Unanswered a c w v e h r = (subst (λ x. OwnIf x 0 0) (sym e) (deafened_own l (way.answered_again a.way) 0 0 (again_own a.way 0 0 r.0)), inr h)
 
 accepting_other : (p : Phase) (w : Way) → Rested w → RestsOther (sides.accepting p) w
-accepting_other phase.Unseen w r = tt
+accepting_other phase.Unseen w r = inr r
 accepting_other phase.Out w r = tt
 accepting_other phase.Waiting w r = inr r
 accepting_other phase.Answered w r = r
@@ -438,13 +468,13 @@ accepted_up phase.Answered h = refl
 accepted_up phase.Up h = refl
 accepted_up phase.Unanswered h = refl
 
-awaits_up : (p : Phase) → Awaits p → (sides.may_run (sides.accepted p) ≡ true) × IsAnswered (sides.accepted p)
-awaits_up phase.Unseen h = absurd h
-awaits_up phase.Out h = absurd h
-awaits_up phase.Waiting h = (refl, tt)
-awaits_up phase.Answered h = (refl, tt)
-awaits_up phase.Up h = absurd h
-awaits_up phase.Unanswered h = (refl, tt)
+awaits_up : (p : Phase) (asked : ℕ) → Awaits p asked → (sides.may_run (sides.accepted p) ≡ true) × IsAnswered (sides.accepted p)
+awaits_up phase.Unseen asked h = absurd h
+awaits_up phase.Out asked h = absurd h
+awaits_up phase.Waiting asked h = (refl, tt)
+awaits_up phase.Answered asked h = (refl, tt)
+awaits_up phase.Up asked h = absurd h
+awaits_up phase.Unanswered asked h = (refl, tt)
 
 accepted_own : (p : Phase) (w : Way) (m u : ℕ) → sides.may_run p ≡ true → OwnIf w m u → OwnIf (sides.accepted_way p w) m u
 accepted_own phase.Unseen w m u up h = inl refl
@@ -492,13 +522,13 @@ accepting_none phase.Answered w g t up h hears = let is = answering_hearing w he
 accepting_none phase.Up w g t up h hears = let is = answering_hearing w hears in (h.none is.0 is.1).0
 accepting_none phase.Unanswered w g t up h hears = let is = answering_hearing w hears in (h.none is.0 is.1).0
 
-new_own : (p : Phase) (a : End) (w : Way) → Awaits p → RestsOwn p a w → OwnIf (sides.accepted_way p a.way) 0 0
+new_own : (p : Phase) (a : End) (w : Way) → Awaits p a.asked → RestsOwn p a w → OwnIf (sides.accepted_way p a.way) 0 0
 new_own phase.Unseen a w h r = absurd h
 new_own phase.Out a w h r = absurd h
 new_own phase.Waiting a w h r = answered_own a.way
 new_own phase.Answered a w h r = again_own a.way 0 0 r.0
 new_own phase.Up a w h r = absurd h
-new_own phase.Unanswered a w h r = again_own a.way 0 0 r.1
+new_own phase.Unanswered a w h r = again_own a.way 0 0 r.0
 
 -- behind a late one nothing is judged of either end's N(R)s
 pub late_anew : (a b : Way) (m u : ℕ) (rest : List PlainFrame) → OwnIf a m u → Anew (way.deafened true a) (way.deafened true b) rest
@@ -533,7 +563,7 @@ accepted_fits t v stand p frames f a h = record {
   sabms = λ on none. subst (λ w. BehindSabm w v.own.way (frames ++ ua f ∷ [])) (sym a.other) (subst (λ w. BehindSabm (way.deafened l (sides.accepted_way t.other.phase t.other.way)) w (frames ++ ua f ∷ [])) (sym a.own)
       (accepted_sabms l (sides.accepted_way t.other.phase t.other.way) (sides.accepting_way t.other.phase t.own.way) counted.count (frames ++ ua f ∷ [])
       (none_at_all (late_all (frames ++ ua f ∷ [])) v.own.late (ends_late t v frames (ua f) (λ x. x) a.late h.asked h.late) none) counted.own (accepting_rested t.other.phase t.own.way)));
-  holds = holds_more t.other t.own v.other v.own stand p frames (ua f) (λ w. subst Awaits (sym a.other_phase) (accepted_awaits t.other.phase w)) (λ on. subst IsAnswered (sym a.other_phase) (accepted_answered t.other.phase on)) seen new h.holds;
+  holds = holds_more t.other t.own v.other v.own stand p frames (ua f) (λ w. subst (λ x. Awaits x v.other.asked) (sym a.other_phase) (accepted_awaits t.other.phase t.other.asked v.other.asked w)) (λ on. subst IsAnswered (sym a.other_phase) (accepted_answered t.other.phase on)) seen new h.holds;
 }
   where
     within : (x : ℕ) → min (x + 0) 255 ≤ x
@@ -561,12 +591,12 @@ accepted_fits t v stand p frames f a h = record {
           ∙ accepting_none t.other.phase t.own.way (took_all rest (length q.taken)) q.told s.seen.up s.seen.hears (deafened_hearing l (sides.accepting_way t.other.phase t.own.way) (sym (ap way.may_hear a.own) ∙ hears)));
     }
 
-    new : Awaits t.other.phase → IsUa (ua f) → IsAnswered v.other.phase × SeenIn v.other v.own fresh_peer []
+    new : Awaits t.other.phase t.other.asked → IsUa (ua f) → IsAnswered v.other.phase × SeenIn v.other v.own fresh_peer []
     new w is = (
-      subst IsAnswered (sym a.other_phase) (awaits_up t.other.phase w).1,
+      subst IsAnswered (sym a.other_phase) (awaits_up t.other.phase t.other.asked w).1,
       record {
         seen = record {
-          up = ap sides.may_run a.other_phase ∙ (awaits_up t.other.phase w).0;
+          up = ap sides.may_run a.other_phase ∙ (awaits_up t.other.phase t.other.asked w).0;
           own = subst (λ x. OwnIf x 0 0) (sym a.other) (deafened_own l (sides.accepted_way t.other.phase t.other.way) 0 0 (new_own t.other.phase t.other t.own.way w h.own));
           hears = rested.hears;
         };
@@ -575,13 +605,13 @@ accepted_fits t v stand p frames f a h = record {
     )
 
 -- one that is told of
-unasked_seen : (p : Phase) (a b : End) → a.phase ≡ p → Awaits p → RestsOwn p a b.way → a.asked ≡ 0 → IsAnswered p × Seen a b 0 0 0 0
+unasked_seen : (p : Phase) (a b : End) → a.phase ≡ p → Awaits p a.asked → RestsOwn p a b.way → a.asked ≡ 0 → IsAnswered p × Seen a b 0 0 0 0
 unasked_seen phase.Unseen a b is w r none = absurd w
 unasked_seen phase.Out a b is w r none = absurd w
-unasked_seen phase.Waiting a b is w r none = absurd (r.0 none)
+unasked_seen phase.Waiting a b is w r none = absurd (w none)
 unasked_seen phase.Answered a b is w r none = (tt, record { up = ap sides.may_run is; own = r.0; hears = elim r.1 [ inl some ↦ absurd (some none) | inr hears ↦ hears ] })
 unasked_seen phase.Up a b is w r none = absurd w
-unasked_seen phase.Unanswered a b is w r none = absurd (r.0 none)
+unasked_seen phase.Unanswered a b is w r none = absurd (w none)
 
 unasked_fits : (a b : End) (stand : Stand) (p : Peer) (frames : List PlainFrame) (f : Bool) → a.asked ≡ 0 → Fits a b stand p frames → Fits a b stand p (frames ++ ua f ∷ [])
 unasked_fits a b stand p frames f none h = record {

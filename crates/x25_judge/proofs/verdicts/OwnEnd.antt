@@ -31,20 +31,20 @@ some_asked : (x : ℕ) → min (x + 1) 255 ≡ 0 → ⊥
 some_asked x e = omega arith
 
 asking_own : (p : Phase) (knows : Bool) (a c : End) (w v : Way) → c.way ≡ sides.asking_way p (way.fresh knows) a.way → c.asked ≡ min (a.asked + 1) 255 → RestsOwn p a w → RestsOwn (sides.asking p) c v
-asking_own phase.Unseen knows a c w v e f r = (λ z. some_asked a.asked (sym f ∙ z), subst (λ x. OwnIf x 0 0) (sym e) (begun_own _))
-asking_own phase.Out knows a c w v e f r = (λ z. some_asked a.asked (sym f ∙ z), subst (λ x. OwnIf x 0 0) (sym e) (begun_own _))
-asking_own phase.Waiting knows a c w v e f r = (λ z. some_asked a.asked (sym f ∙ z), subst (λ x. OwnIf x 0 0) (sym e) (begun_own _))
+asking_own phase.Unseen knows a c w v e f r = (subst (λ x. OwnIf x 0 0) (sym e) (begun_own _), inl (λ z. some_asked a.asked (sym f ∙ z)))
+asking_own phase.Out knows a c w v e f r = (subst (λ x. OwnIf x 0 0) (sym e) (begun_own _), inl (λ z. some_asked a.asked (sym f ∙ z)))
+asking_own phase.Waiting knows a c w v e f r = (subst (λ x. OwnIf x 0 0) (sym e) (begun_own _), inl (λ z. some_asked a.asked (sym f ∙ z)))
 asking_own phase.Answered knows a c w v e f r = (subst (λ x. OwnIf x 0 0) (sym e) r.0, inl (λ z. some_asked a.asked (sym f ∙ z)))
-asking_own phase.Up knows a c w v e f r = (λ z. some_asked a.asked (sym f ∙ z), subst (λ x. OwnIf x 0 0) (sym e) (begun_own _))
-asking_own phase.Unanswered knows a c w v e f r = (λ z. some_asked a.asked (sym f ∙ z), subst (λ x. OwnIf x 0 0) (sym e) (begun_own _))
+asking_own phase.Up knows a c w v e f r = (subst (λ x. OwnIf x 0 0) (sym e) (begun_own _), inl (λ z. some_asked a.asked (sym f ∙ z)))
+asking_own phase.Unanswered knows a c w v e f r = (subst (λ x. OwnIf x 0 0) (sym e) (begun_own _), inl (λ z. some_asked a.asked (sym f ∙ z)))
 
-asking_awaits : (p : Phase) → Awaits (sides.asking p)
-asking_awaits phase.Unseen = tt
-asking_awaits phase.Out = tt
-asking_awaits phase.Waiting = tt
-asking_awaits phase.Answered = tt
-asking_awaits phase.Up = tt
-asking_awaits phase.Unanswered = tt
+asking_awaits : (p : Phase) (asked : ℕ) → Awaits (sides.asking p) (min (asked + 1) 255)
+asking_awaits phase.Unseen asked = some_asked asked
+asking_awaits phase.Out asked = some_asked asked
+asking_awaits phase.Waiting asked = some_asked asked
+asking_awaits phase.Answered asked = tt
+asking_awaits phase.Up asked = some_asked asked
+asking_awaits phase.Unanswered asked = some_asked asked
 
 asking_any : (p : Phase) (knows : Bool) (w : Way) (m : ℕ) → OwnIf w m 0 → Counted (sides.asking_way p (way.fresh knows) w)
 asking_any phase.Unseen knows w m h = record { count = 0; own = begun_own _ }
@@ -104,7 +104,7 @@ asks_fits t v stand p frames uas a f = record {
   other = subst (λ x. RestsOther x v.other.way) (sym a.other_phase) (subst (λ w. RestsOther t.other.phase w) (sym a.other) f.other);
   sabms = λ on none. same_sabms anew t.other.way v.own.way v.other.way frames a.own a.other (sabms_to t.own.way t.other.way anew t.other.way frames
       (λ rest. asking_anew t.own.phase (sides.awaits_ua t.other.phase) t.own.way t.other.way rest (on_waits t.other.phase (subst On a.other_phase on))) (f.sabms (subst On a.other_phase on) (sym a.other_late ∙ none)));
-  holds = (subst Awaits (sym a.phase) (asking_awaits t.own.phase), uas);
+  holds = (subst (λ x. Awaits x v.own.asked) (sym a.phase) (subst (λ x. Awaits (sides.asking t.own.phase) x) (sym a.asked) (asking_awaits t.own.phase t.own.asked)), uas);
 }
   where
     anew : Way
@@ -128,21 +128,21 @@ leaves_fits t v stand p q frames frame a own f = record {
   holds = tt;
 }
 
-declining_own : (p : Phase) (a c : End) (w v : Way) → c.asked ≡ a.asked → c.way ≡ a.way → (Hears w 0 0 → Hears v 0 0) → RestsOwn p a w → RestsOwn (sides.declining p) c v
-declining_own phase.Unseen a c w v e f g r = tt
-declining_own phase.Out a c w v e f g r = tt
-declining_own phase.Waiting a c w v e f g r = own_to phase.Waiting a c w v e f g r
-declining_own phase.Answered a c w v e f g r = own_to phase.Answered a c w v e f g r
-declining_own phase.Up a c w v e f g r = tt
-declining_own phase.Unanswered a c w v e f g r = own_to phase.Waiting a c w v e f g r
+declining_own : (p : Phase) (a c : End) (w v : Way) → c.asked ≡ a.asked → c.way ≡ a.way → (Hears w 0 0 → Hears v 0 0) → (way.may_hear w ≡ false → way.may_hear v ≡ false) → RestsOwn p a w → RestsOwn (sides.declining p) c v
+declining_own phase.Unseen a c w v e f g deaf r = deaf r
+declining_own phase.Out a c w v e f g deaf r = tt
+declining_own phase.Waiting a c w v e f g deaf r = own_to phase.Waiting a c w v e f g (λ _. deaf) r
+declining_own phase.Answered a c w v e f g deaf r = own_to phase.Answered a c w v e f g (λ _. deaf) r
+declining_own phase.Up a c w v e f g deaf r = tt
+declining_own phase.Unanswered a c w v e f g deaf r = own_to phase.Waiting a c w v e f g (λ _. deaf) r
 
-declining_awaits : (p : Phase) → Awaits p → Awaits (sides.declining p)
-declining_awaits phase.Unseen h = absurd h
-declining_awaits phase.Out h = absurd h
-declining_awaits phase.Waiting h = tt
-declining_awaits phase.Answered h = tt
-declining_awaits phase.Up h = absurd h
-declining_awaits phase.Unanswered h = tt
+declining_awaits : (p : Phase) (asked : ℕ) → Awaits p asked → Awaits (sides.declining p) asked
+declining_awaits phase.Unseen asked h = absurd h
+declining_awaits phase.Out asked h = absurd h
+declining_awaits phase.Waiting asked h = h
+declining_awaits phase.Answered asked h = tt
+declining_awaits phase.Up asked h = absurd h
+declining_awaits phase.Unanswered asked h = h
 
 declining_up : (p : Phase) → IsAnswered p → (sides.may_run (sides.declining p) ≡ true) × IsAnswered (sides.declining p)
 declining_up phase.Unseen on = absurd on
@@ -157,7 +157,7 @@ declines_holds : (t v : Sides) (stand : Stand) (p : Peer) (frames : List PlainFr
 declines_holds t v Out p frames f a is h = tt
 declines_holds t v In p frames f a is h = tt
 declines_holds t v Asking p frames f a is h = (
-  subst Awaits (sym is) (declining_awaits t.own.phase h.0),
+  subst (λ x. Awaits x v.own.asked) (sym is) (subst (λ x. Awaits (sides.declining t.own.phase) x) (sym (a.own_asked refl)) (declining_awaits t.own.phase t.own.asked h.0)),
   uas_to t.own t.other v.own v.other frames (λ on. subst IsAnswered (sym is) (declining_up t.own.phase on).1) (λ rest on s. record {
     seen = record {
       up = ap sides.may_run is ∙ (declining_up t.own.phase on).0;
@@ -173,7 +173,7 @@ pub declines_fits : (t v : Sides) (stand : Stand) (p : Peer) (frames : List Plai
 declines_fits t v stand p frames f a is h = record {
   asked = subst (λ x. min (asks_all frames) 255 ≤ x) (sym a.other_asked) h.asked;
   late = λ rests. subst (λ x. min (late_all frames) 255 ≤ x) (sym a.other_late) (h.late (subst IsAtRest a.other_phase rests));
-  own = subst (λ x. RestsOwn x v.own v.other.way) (sym is) (declining_own t.own.phase t.own v.own t.other.way v.other.way (a.own_asked refl) a.own (subst (λ w. Hears w 0 0) (sym a.other)) h.own);
+  own = subst (λ x. RestsOwn x v.own v.other.way) (sym is) (declining_own t.own.phase t.own v.own t.other.way v.other.way (a.own_asked refl) a.own (subst (λ w. Hears w 0 0) (sym a.other)) (λ deaf. ap way.may_hear a.other ∙ deaf) h.own);
   count = h.count;
   sent = subst (λ w. OwnIf w h.count 0) (sym a.own) h.sent;
   other = subst (λ x. RestsOther x v.other.way) (sym a.other_phase) (subst (λ w. RestsOther t.other.phase w) (sym a.other) h.other);
@@ -277,12 +277,12 @@ accepting_own phase.Up w = begun_own _
 accepting_own phase.Unanswered w = begun_own _
 
 accepting_rests : (p : Phase) (a c : End) (w v : Way) → c.asked ≡ a.asked → OwnIf c.way 0 0 → (Hears w 0 0 → Hears v 0 0) → RestsOwn p a w → RestsOwn (sides.accepting p) c v
-accepting_rests phase.Unseen a c w v e o g r = tt
+accepting_rests phase.Unseen a c w v e o g r = (o, inr (g (deaf_hears w 0 0 r)))
 accepting_rests phase.Out a c w v e o g r = tt
-accepting_rests phase.Waiting a c w v e o g r = (λ z. r.0 (sym e ∙ z), o)
+accepting_rests phase.Waiting a c w v e o g r = (o, elim r.1 [ inl asked ↦ inl (λ z. asked (sym e ∙ z)) | inr hears ↦ inr (g hears) ])
 accepting_rests phase.Answered a c w v e o g r = (o, elim r.1 [ inl asked ↦ inl (λ z. asked (sym e ∙ z)) | inr hears ↦ inr (g hears) ])
 accepting_rests phase.Up a c w v e o g r = tt
-accepting_rests phase.Unanswered a c w v e o g r = (λ z. r.0 (sym e ∙ z), o)
+accepting_rests phase.Unanswered a c w v e o g r = (o, elim r.1 [ inl asked ↦ inl (λ z. asked (sym e ∙ z)) | inr hears ↦ inr (g hears) ])
 
 none_hears : (p : Phase) (w : Way) → Hears w 0 0 → Hears (sides.accepted_way p w) 0 0
 none_hears phase.Unseen w h = deaf_hears (way.lost w) 0 0 refl
@@ -308,13 +308,13 @@ accepting_up phase.Answered = refl
 accepting_up phase.Up = refl
 accepting_up phase.Unanswered = refl
 
-pub accepting_awaits : (p : Phase) → Awaits p → Awaits (sides.accepting p)
-accepting_awaits phase.Unseen h = absurd h
-accepting_awaits phase.Out h = absurd h
-accepting_awaits phase.Waiting h = tt
-accepting_awaits phase.Answered h = tt
-accepting_awaits phase.Up h = absurd h
-accepting_awaits phase.Unanswered h = tt
+pub accepting_awaits : (p : Phase) (asked : ℕ) → Awaits p asked → Awaits (sides.accepting p) asked
+accepting_awaits phase.Unseen asked h = absurd h
+accepting_awaits phase.Out asked h = absurd h
+accepting_awaits phase.Waiting asked h = h
+accepting_awaits phase.Answered asked h = tt
+accepting_awaits phase.Up asked h = absurd h
+accepting_awaits phase.Unanswered asked h = h
 
 pub accepting_answered : (p : Phase) → IsAnswered p → IsAnswered (sides.accepting p)
 accepting_answered phase.Unseen on = absurd on

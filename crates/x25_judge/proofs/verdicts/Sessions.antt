@@ -101,13 +101,13 @@ declined_in Out e = cc
 declined_in Asking e = cc
 declined_in In e = cc
 
-running_rests : (p : Phase) (a : End) (w : Way) → sides.may_run p ≡ true → RestsOwn (sides.running p) a w
-running_rests phase.Unseen a w h = tt
-running_rests phase.Out a w h = tt
-running_rests phase.Waiting a w h = tt
-running_rests phase.Answered a w h = tt
-running_rests phase.Up a w h = tt
-running_rests phase.Unanswered a w h = tt
+running_rests : (p : Phase) (a c : End) (w v : Way) → (way.may_hear v ≡ true → way.may_hear w ≡ true) → sides.may_run p ≡ true → RestsOwn p a w → RestsOwn (sides.running p) c v
+running_rests phase.Unseen a c w v hearing up r = elim (is_bool (way.may_hear v)) [ inl hears ↦ absurd (both_ways (way.may_hear w) r (hearing hears)) | inr deaf ↦ deaf ]
+running_rests phase.Out a c w v hearing up r = absurd (both_ways false refl up)
+running_rests phase.Waiting a c w v hearing up r = absurd (both_ways false refl up)
+running_rests phase.Answered a c w v hearing up r = tt
+running_rests phase.Up a c w v hearing up r = tt
+running_rests phase.Unanswered a c w v hearing up r = tt
 
 other_rests : (p : Phase) (w v : Way) → (Rested w → Rested v) → v.is_missed ≡ w.is_missed → RestsOther p w → RestsOther p v
 other_rests phase.Unseen w v f e r = tt
@@ -155,7 +155,7 @@ module _ (from : Role) (j k : Judge) (p : Peer) (frames : List PlainFrame) where
     fits = record {
       asked = asked u.settles;
       late = λ rests. late (subst IsAtRest u.same.phase rests) u.settles;
-      own = subst (λ x. RestsOwn x v.own v.other.way) (sym u.up) (running_rests t.own.phase v.own v.other.way f.holds.seen.up);
+      own = subst (λ x. RestsOwn x v.own v.other.way) (sym u.up) (running_rests t.own.phase t.own v.own t.other.way v.other.way u.hearing f.holds.seen.up f.own);
       count = q.sent;
       sent = own_if_less v.own.way q.sent (heard_all frames q.acked) 0 (omega arith) own;
       other = subst (λ x. RestsOther x v.other.way) (sym u.same.phase) (other_rests t.other.phase t.other.way v.other.way u.rests u.missed f.other);
@@ -282,7 +282,7 @@ ua_untold from j k stand next p q rest frame f none one h holds held =
 -- it waits on for another one
 waiting : (t v : Sides) (p : Peer) (b : Bool) (rest : List PlainFrame) → Accepted t v → Fits t.own t.other Asking p (sabm b ∷ rest) → Holds v.own v.other Asking p rest
 waiting t v p b rest a f = (
-  subst Awaits (sym a.phase) (accepting_awaits t.own.phase f.holds.0),
+  subst (λ x. Awaits x v.own.asked) (sym a.phase) (subst (λ x. Awaits (sides.accepting t.own.phase) x) (sym a.asked) (accepting_awaits t.own.phase t.own.asked f.holds.0)),
   accepted_uas t.own t.other v.own v.other (sides.is_late t) rest (ap sides.may_run a.phase ∙ accepting_up t.own.phase) (λ on. subst IsAnswered (sym a.phase) (accepting_answered t.own.phase on)) a.own a.other (bare t v Asking p (sabm b) rest refl a f) f.other f.holds.1.1,
 )
 
@@ -346,8 +346,8 @@ fits_less a b stand next p q frame frames f h = record {
     fewer_asked x y z h = omega arith
 
 begins_fits : (from : Role) (window : ℕ) (reading : Reading) (strictness : Strictness) → Fits (end_of from (judge.begins window reading strictness)) (end_of (other from) (judge.begins window reading strictness)) Out fresh_peer []
-begins_fits Dte window reading strictness = record { asked = omega arith; late = λ rests. omega arith; own = tt; count = 0; sent = inl refl; other = tt; sabms = λ on none. tt; holds = tt }
-begins_fits Dce window reading strictness = record { asked = omega arith; late = λ rests. omega arith; own = tt; count = 0; sent = inl refl; other = tt; sabms = λ on none. tt; holds = tt }
+begins_fits Dte window reading strictness = record { asked = omega arith; late = λ rests. omega arith; own = refl; count = 0; sent = inl refl; other = tt; sabms = λ on none. tt; holds = tt }
+begins_fits Dce window reading strictness = record { asked = omega arith; late = λ rests. omega arith; own = refl; count = 0; sent = inl refl; other = tt; sabms = λ on none. tt; holds = tt }
 
 handed : (a b : End) (stand : Stand) (p : Peer) (packet : List ℕ) (frames : List PlainFrame) → Holds a b stand p frames → Holds a b stand (record p { given = p.given ++ packet ∷ [] }) frames
 handed a b Out p packet frames h = h

@@ -389,11 +389,13 @@ deafened_rested false w h = h
 
 -- ---- both ends
 
--- it awaits UA, or UA was shown and it sent no frame with a number since
+-- It awaits UA, or UA was shown, and it sent no frame with a number since. Where nothing is known of it, none was sent
+-- to it that is judged.
 abbrev pub RestsOwn : Phase → End → Way → Type 0
-RestsOwn phase.Waiting a w = (a.asked ≡ 0 → ⊥) × OwnIf a.way 0 0
+RestsOwn phase.Unseen a w = way.may_hear w ≡ false
+RestsOwn phase.Waiting a w = OwnIf a.way 0 0 × ((a.asked ≡ 0 → ⊥) ⊎ Hears w 0 0)
 RestsOwn phase.Answered a w = OwnIf a.way 0 0 × ((a.asked ≡ 0 → ⊥) ⊎ Hears w 0 0)
-RestsOwn phase.Unanswered a w = (a.asked ≡ 0 → ⊥) × OwnIf a.way 0 0
+RestsOwn phase.Unanswered a w = OwnIf a.way 0 0 × ((a.asked ≡ 0 → ⊥) ⊎ Hears w 0 0)
 RestsOwn p a w = Unit {0}
 
 abbrev pub RestsOther : Phase → Way → Type 0
@@ -435,15 +437,16 @@ abbrev pub BehindUa : End → End → List PlainFrame → Type 0
 BehindUa a b [] = Unit {0}
 BehindUa a b (frame ∷ frames) = (IsUa frame → IsAnswered a.phase × SeenIn a b fresh_peer frames) × BehindUa a b frames
 
-abbrev pub Awaits : Phase → Type 0
-Awaits phase.Waiting = Unit {0}
-Awaits phase.Answered = Unit {0}
-Awaits phase.Unanswered = Unit {0}
-Awaits p = ⊥
+-- where no UA was shown to it, one to its SABM is missing
+abbrev pub Awaits : Phase → ℕ → Type 0
+Awaits phase.Waiting asked = asked ≡ 0 → ⊥
+Awaits phase.Unanswered asked = asked ≡ 0 → ⊥
+Awaits phase.Answered asked = Unit {0}
+Awaits p asked = ⊥
 
 abbrev pub Holds : End → End → Stand → Peer → List PlainFrame → Type 0
 Holds a b Out p frames = Unit {0}
-Holds a b Asking p frames = Awaits a.phase × BehindUa a b frames
+Holds a b Asking p frames = Awaits a.phase a.asked × BehindUa a b frames
 Holds a b In p frames = SeenIn a b p frames
 
 pub record Fits (a b : End) (stand : Stand) (p : Peer) (frames : List PlainFrame) : Type 0 where
@@ -518,14 +521,14 @@ seen_more a b p frames frame h =
     subst (λ u. Seen a b p.sent u (took_all (frames ++ frame ∷ []) (length p.taken)) p.told) (sym (heard_more frames frame p.acked))
     (subst (λ x. Seen a b p.sent (acks frame (heard_all frames p.acked)) x p.told) (sym (took_more frames frame (length p.taken))) h)
 
-pub holds_to : (a b c d : End) (stand : Stand) (p : Peer) (frames : List PlainFrame) → (Awaits a.phase → Awaits c.phase) → (IsAnswered a.phase → IsAnswered c.phase) → ((q : Peer) (rest : List PlainFrame) → SeenIn a b q rest → SeenIn c d q rest)
+pub holds_to : (a b c d : End) (stand : Stand) (p : Peer) (frames : List PlainFrame) → (Awaits a.phase a.asked → Awaits c.phase c.asked) → (IsAnswered a.phase → IsAnswered c.phase) → ((q : Peer) (rest : List PlainFrame) → SeenIn a b q rest → SeenIn c d q rest)
     → Holds a b stand p frames → Holds c d stand p frames
 holds_to a b c d Out p frames w on f h = tt
 holds_to a b c d Asking p frames w on f h = (w h.0, uas_to a b c d frames on (λ rest _. f fresh_peer rest) h.1)
 holds_to a b c d In p frames w on f h = f p frames h
 
-pub holds_more : (a b c d : End) (stand : Stand) (p : Peer) (frames : List PlainFrame) (frame : PlainFrame) → (Awaits a.phase → Awaits c.phase) → (IsAnswered a.phase → IsAnswered c.phase)
-    → ((q : Peer) (rest : List PlainFrame) → SeenIn a b q rest → SeenIn c d q (rest ++ frame ∷ [])) → (Awaits a.phase → IsUa frame → IsAnswered c.phase × SeenIn c d fresh_peer []) → Holds a b stand p frames
+pub holds_more : (a b c d : End) (stand : Stand) (p : Peer) (frames : List PlainFrame) (frame : PlainFrame) → (Awaits a.phase a.asked → Awaits c.phase c.asked) → (IsAnswered a.phase → IsAnswered c.phase)
+    → ((q : Peer) (rest : List PlainFrame) → SeenIn a b q rest → SeenIn c d q (rest ++ frame ∷ [])) → (Awaits a.phase a.asked → IsUa frame → IsAnswered c.phase × SeenIn c d fresh_peer []) → Holds a b stand p frames
     → Holds c d stand p (frames ++ frame ∷ [])
 holds_more a b c d Out p frames frame w on f new h = tt
 holds_more a b c d Asking p frames frame w on f new h = (w h.0, uas_more a b c d frames frame on (λ rest. f fresh_peer rest) (new h.0) h.1)
