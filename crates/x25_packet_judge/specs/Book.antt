@@ -14,7 +14,7 @@ use Rattle.x25_packet_judge.specs.Layer.{unseen}
 use Rattle.x25_packet_judge.specs.Layers as layers
 use Rattle.x25_packet_judge.specs.Packets.{sends}
 use Rattle.x25_packet_judge.specs.Pair.{is_known, noted, unknown}
-use Rattle.x25_packet_judge.specs.Port.{all_alike, blank, doubted, fresh}
+use Rattle.x25_packet_judge.specs.Port.{all_alike, blank, fresh}
 use Rattle.x25_packet_judge.specs.declared.book.Book.{Book}
 use Rattle.x25_packet_judge.specs.declared.book.Verdict.{Verdict}
 use Rattle.x25_packet_judge.specs.declared.layers.Layers.{Layers}
@@ -233,11 +233,9 @@ sends_info from reading ns nr octets is_broken b =
 unfoldable pub begins : Role → Layers → Book → Book
 begins from t b = keeps from t (fills_both blank b)
 
--- UA; behind frames of the other end, which is up, it comes again, and nothing is known of channels, nor which
--- acceptances of before may still be taken for the answer to a CALL
+-- UA; behind frames of the other end, which is up, it comes again
 unfoldable pub accepts : Role → Layers → Book → Book
-accepts from t b = if t.other.is_fresh then begins from (layers.accepts t) b
-    else keeps from (layers.accepts t) (fills_both (doubted blank) b)
+accepts from t b = if t.other.is_fresh then begins from (layers.accepts t) b else keeps from (layers.accepts t) b
 
 unfoldable pub accepts_if : Role → Bool → Layers → Book → Book
 accepts_if from is_broken t b = if is_broken && layers.is_unasked t then b else accepts from t b

@@ -1,6 +1,7 @@
 -- The packet layer of one end, as the frames of the link and its RESTARTs show it. ITU-T X.25 (10/96), section 3.3.
 -- What is known where, and behind a fault, is profile.
 use Rattle.std.specs.Prelude.{ℕ, ◌+◌, ◌-◌, ◌%◌, Bool, true, false, ◌&&◌, ◌||◌, if◌then◌else◌, min}
+use Rattle.x25_packet_judge.specs.Numbers.{less}
 use Rattle.x25_packet_judge.specs.declared.layer.Restart.{Restart}
 use Rattle.x25_packet_judge.specs.declared.layer.Restart.TheVariants.{Begun, Asking, Confirmed, Ready}
 use Rattle.x25_packet_judge.specs.declared.layer.Track.{Track}
@@ -87,10 +88,16 @@ set_up_again l = if l.is_fresh then begun l.asked else record l { track = Droppe
 abbrev pub worn : Layer → Layer
 worn l = record l { is_fresh = false }
 
--- UA again, behind frames that the other end sent since it is up: the packets of the first end are followed from an
--- N(R) on, or from the UA on where it sent nothing since the first one
+abbrev pub behind_ua : Track → Track
+behind_ua Unseen = Unseen
+behind_ua Dropped = Dropped
+behind_ua Followed = Dropped
+
+-- UA again, behind frames that the other end sent since it is up: it changes nothing where the first end sent nothing
+-- since the first one. Else its numbers begin anew, and the other end may take those of before or these.
 abbrev pub late : Layer → Layer
-late l = if l.is_fresh then begun (l.asked - 1) else unknown (l.asked - 1)
+late l = if l.is_fresh then record l { asked = less l.asked }
+    else record l { track = behind_ua l.track; asked = less l.asked }
 
 abbrev pub with_asked : ℕ → Layer → Layer
 with_asked asked l = record l { asked = asked }
@@ -134,14 +141,14 @@ abbrev pub unsure : Layer → Layer
 unsure l = record l { is_sure = false; is_counted = false }
 
 abbrev pub uncounted : Layer → Layer
-uncounted l = record l { is_counted = false; owed = 0 }
+uncounted l = record l { is_counted = false }
 
 -- A RESTART of the other end that is sent again while it waits may be confirmed once more.
 abbrev pub asked_again : Layer → Layer
 asked_again l = record l { again = min (l.again + 1) 255 }
 
 abbrev pub confirmed_again : Layer → Layer
-confirmed_again l = record l { again = l.again - 1 }
+confirmed_again l = record l { again = less l.again }
 
 abbrev pub found : Restart → Layer → Layer
 found restart l = record l {
@@ -167,7 +174,14 @@ given_up is_answered l = record l {
 }
 
 abbrev pub owing_less : Layer → Layer
-owing_less l = record l { owed = l.owed - 1 }
+owing_less l = record l { owed = less l.owed }
+
+-- where restarts aren't counted, and its RESTART and one of the other end answer one another
+abbrev pub met : Layer → Layer
+met l = record l { restart = Ready; owed = l.again; again = 0; is_sure = false; is_counted = false }
+
+abbrev pub faultless : Layer → Layer
+faultless l = record l { is_lost = false }
 
 abbrev pub strayed : Layer → Layer
 strayed l = record l { is_stray = true }

@@ -1,13 +1,13 @@
 -- The packet layers of both ends, as the frames of the link and their RESTARTs show them, and the rules on these.
 -- ITU-T X.25 (10/96), section 3.3. When packets are judged, and what is said behind a fault, is profile.
-use Rattle.std.specs.Prelude.{ℕ, ◌+◌, ◌-◌, ◌==◌, nat_lt, Bool, true, not, ◌&&◌, ◌||◌, if◌then◌else◌, min, Some}
+use Rattle.std.specs.Prelude.{ℕ, ◌+◌, ◌==◌, nat_lt, Bool, true, not, ◌&&◌, ◌||◌, if◌then◌else◌, min, Some}
 use Rattle.x25_packet_judge.specs.Layer.{is_unseen, is_dropped, is_followed, begun, found_at, lost}
 use Rattle.x25_packet_judge.specs.Layer.{set_up_again, worn, late, with_asked, with_acked, moved, is_asking, is_begun}
 use Rattle.x25_packet_judge.specs.Layer.{is_confirmed}
-use Rattle.x25_packet_judge.specs.Layer.{with_restart, restarted, owing, unsure, uncounted, asked_again}
+use Rattle.x25_packet_judge.specs.Layer.{with_restart, restarted, owing, unsure, uncounted, asked_again, met, faultless}
 use Rattle.x25_packet_judge.specs.Layer.{confirmed_again, found, given_up, owing_less, strayed}
 use Rattle.x25_packet_judge.specs.PacketRule.{first}
-use Rattle.x25_packet_judge.specs.Numbers.{apart}
+use Rattle.x25_packet_judge.specs.Numbers.{apart, less}
 use Rattle.x25_packet_judge.specs.declared.layer.Restart.{Restart}
 use Rattle.x25_packet_judge.specs.declared.layer.Restart.TheVariants.{Asking, Confirmed, Ready}
 use Rattle.x25_packet_judge.specs.declared.layer.Layer.{Layer}
@@ -39,7 +39,7 @@ abbrev pub asks_more : Layers → Layers
 asks_more t = with_other (with_asked (min (t.other.asked + 1) 255) t.other) t
 
 abbrev pub answers : Layers → Layers
-answers t = with_own (with_asked (t.own.asked - 1) t.own) t
+answers t = with_own (with_asked (less t.own.asked) t.own) t
 
 -- An N(R) is about the packets of the other end, but where one of both is behind a set-up.
 abbrev pub may_hear : Layers → Bool
@@ -71,10 +71,10 @@ abbrev pub asks : Layers → Layers
 asks t = begins t.own.asked (asks_more t)
 
 abbrev pub accepts_late : Layers → Layers
-accepts_late t = with_other (uncounted t.other) (with_own (late t.own) t)
+accepts_late t = with_own (late t.own) t
 
 abbrev pub accepts : Layers → Layers
-accepts t = if t.other.is_fresh then begins (t.own.asked - 1) t else accepts_late t
+accepts t = if t.other.is_fresh then begins (less t.own.asked) t else accepts_late t
 
 -- a UA that nothing asked for
 abbrev pub is_unasked : Layers → Bool
@@ -131,42 +131,64 @@ asks_again t = with_other (asked_again t.other) t
 abbrev pub is_awaiting : Layers → Bool
 is_awaiting t = is_asking t.own.restart && (are_counted t && nat_lt 0 t.other.owed)
 
--- Where packets may have gone unseen: behind one of the other end it may be the answer, and then no confirmation is of
--- either; else it may be one that is sent again. Nothing is said of channels until one is confirmed.
-abbrev pub restarts_unseen : Layers → Layers
-restarts_unseen t =
-    if is_asking t.other.restart
-    then are_unsure (asks_again (goes_to Ready (with_other (with_restart Ready t.other) t)))
-    else are_unsure (asks_again (goes_to Asking t))
+-- The confirmation answers the RESTART that was sent last, where that is the only one that may still be confirmed, and
+-- no other answer to it may be on its way.
+abbrev pub is_sure_answer : Layers → Bool
+is_sure_answer t = (is_asking t.other.restart && t.own.owed == 1) && (t.other.owed == 0 && not t.other.is_stray)
 
--- behind a fault
+abbrev pub owes_more : Layers → Layers
+owes_more t = with_other (owing true t.other) t
+
+-- One more may be confirmed, and nothing is said of channels until it is.
 abbrev pub restarts_lost : Layers → Layers
-restarts_lost t = goes_to Asking (with_other (owing true t.other) t)
+restarts_lost t = goes_to Asking (owes_more (give_up t))
+
+-- so it is where packets may have gone unseen, without a fault
+abbrev pub restarts_unseen : Layers → Layers
+restarts_unseen t = with_other (faultless (restarts_lost t).other) (with_own (faultless (restarts_lost t).own) t)
+
+-- Where that of the other end waits, and nothing else may be taken for an answer, each answers the other one, and
+-- neither is confirmed.
+abbrev pub meets : Layers → Bool
+meets t = is_sure_answer t && not t.own.is_stray
+
+abbrev pub meet : Layers → Layers
+meet t = with_other (met t.other) (with_own (met t.own) t)
+
+abbrev pub restarts_uncounted : Layers → Layers
+restarts_uncounted t = if meets t then meet t else if are_lost t then restarts_lost t else restarts_unseen t
 
 -- One that was sent again may still be confirmed, or be taken for the answer; or so may a second confirmation.
 abbrev pub is_unclear : Layers → Bool
 is_unclear t = nat_lt 0 t.own.again || (nat_lt 0 t.other.again || t.own.is_stray)
 
 -- One that is sent again while it waits is confirmed once or twice.
+abbrev pub is_repeat : Layers → Bool
+is_repeat t = is_asking t.own.restart && nat_lt 0 t.other.owed
+
 abbrev pub restarts : Layers → Layers
 restarts t =
-    if are_lost t then restarts_lost t
-    else if not (are_counted t) then restarts_unseen t
-    else if is_awaiting t then asks_again t
-    else if is_unclear t then restarts_lost (give_up t)
+    if is_repeat t then asks_again t
+    else if not (are_counted t) then restarts_uncounted t
+    else if is_unclear t then restarts_lost t
     else marks Asking t
 
--- the confirmation answers a RESTART that was seen, and no other answer to it may be on its way
+-- the confirmation answers a RESTART that was seen
 abbrev pub is_answer : Layers → Bool
-is_answer t = if are_counted t then nat_lt 0 t.own.owed else is_asking t.other.restart && not t.other.is_stray
+is_answer t = if are_counted t then nat_lt 0 t.own.owed else is_sure_answer t
 
 -- the confirmation answers again a RESTART that was sent again
 abbrev pub is_second_answer : Layers → Bool
 is_second_answer t = are_counted t && nat_lt 0 t.own.again
 
--- Behind packets that were missed, or a fault, a confirmation makes both ends known.
+-- Behind packets that were missed, or a fault, a confirmation makes both ends known. A RESTART that went unseen may be
+-- confirmed too.
+abbrev pub misses_one : Layers → Bool
+misses_one t = not (are_sure t || are_lost t)
+
 abbrev pub refinds : Layers → Layers
-refinds t = with_other (found Asking t.other) (with_own (found Confirmed t.own) t)
+refinds t = with_other (found Asking t.other)
+    (with_own (found Confirmed (if misses_one t then asked_again t.own else t.own)) t)
 
 abbrev pub answers_restart : Layers → Layers
 answers_restart t = marks Confirmed t
@@ -178,11 +200,6 @@ confirms_unseen t =
     if are_counted t then strays (give_up (tells RestartUnasked t))
     else if is_asking t.own.restart then strays (give_up t)
     else strays t
-
--- Behind a fault it does where the RESTART that was sent last is the only one that may be confirmed, and no other
--- answer to it may be on its way.
-abbrev pub is_sure_answer : Layers → Bool
-is_sure_answer t = (is_asking t.other.restart && t.own.owed == 1) && (t.other.owed == 0 && not t.other.is_stray)
 
 abbrev pub confirms_lost : Layers → Layers
 confirms_lost t = goes_to Ready (with_other (strayed (with_restart Ready t.other)) (with_own (owing_less t.own) t))

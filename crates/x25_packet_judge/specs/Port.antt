@@ -3,6 +3,7 @@
 use Rattle.std.specs.Prelude.{ℕ, ◌+◌, ◌-◌, Bool, true, false, ◌&&◌, ◌||◌, if◌then◌else◌, min, List, replicate}
 use Rattle.x25_packet_judge.specs.Flow as flow
 use Rattle.x25_packet_judge.specs.Message.{octets_of}
+use Rattle.x25_packet_judge.specs.Numbers.{less}
 use Rattle.x25_packet_judge.specs.Terms.{usual}
 use Rattle.x25_packet_judge.specs.declared.flow.Flow.{Flow}
 use Rattle.x25_packet_judge.specs.declared.message.Message.{Message}
@@ -108,9 +109,14 @@ doubted p = record p { is_doubtful = true }
 abbrev pub strayed : Bool → Port → Port
 strayed is_stray p = record p { is_stray = p.is_stray || is_stray }
 
--- CLEAR and CALL, where nothing is known
+-- CLEAR and CALL, where nothing is known. Where a confirmation of none may be taken for the answer to the CLEAR, it is
+-- open which CALL of the other end is accepted behind it.
 abbrev pub clears_unknown : Bool → Port → Port
-clears_unknown is_clearing p = record p { is_clearing = is_clearing; call = Idle }
+clears_unknown is_clearing p = record p {
+  is_doubtful = p.is_doubtful || p.is_stray;
+  is_clearing = is_clearing;
+  call = Idle;
+}
 
 abbrev pub calls_unknown : Terms → Port → Port
 calls_unknown terms p = record p { is_clearing = false; call = Calling; terms = terms }
@@ -135,7 +141,7 @@ owing_clear is_more p = record p { owed = more is_more p.owed }
 
 -- it has confirmed one more, where nothing is known
 abbrev pub owing_less : Port → Port
-owing_less p = record p { owed = p.owed - 1 }
+owing_less p = record p { owed = less p.owed }
 
 abbrev pub clearing : Bool → Port → Port
 clearing is_clearing p = record p { is_clearing = is_clearing }

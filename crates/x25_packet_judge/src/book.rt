@@ -435,7 +435,6 @@ impl Book {
         if layers.other.is_fresh {
             self.begins(from, layers.accepts());
         } else {
-            self.fill_both(Port::blank().doubted());
             self.keep(from, layers.accepts());
         }
     }

@@ -2,6 +2,8 @@
 ghost use Rattle.std.specs.Prelude.{◌≡◌};
 ghost use Rattle.x25_packet_judge.specs.Layer as definition;
 
+use crate::numbers::less;
+
 /// Where an end is with a restart: nothing was sent since set-up; RESTART was, or its confirmation, and nothing behind
 /// it yet; ready.
 #[derive(Clone, Copy)]
@@ -34,8 +36,8 @@ pub(crate) struct Layer {
     /// How many SABMs and DISCs of the other end may still be answered.
     pub(crate) asked: u8,
     pub(crate) restart: Restart,
-    /// How many RESTARTs and confirmations the other end has sent more than this one; behind a fault, how many RESTARTs
-    /// it may still confirm.
+    /// How many RESTARTs and confirmations the other end has sent more than this one; where restarts aren't counted,
+    /// how many RESTARTs it may still confirm.
     pub(crate) owed: u8,
     /// How many RESTARTs of the other end were sent again while they waited, and may be confirmed once more.
     pub(crate) again: u8,
@@ -47,6 +49,18 @@ pub(crate) struct Layer {
     pub(crate) is_lost: bool,
     /// A confirmation that none of its RESTARTs waits for may be on its way to it.
     pub(crate) is_stray: bool,
+}
+
+impl Track {
+    /// Behind a UA of the end that comes again, where its numbers begin anew.
+    fn behind_ua(self) -> Track
+        ensures { result ≡ definition.behind_ua self }
+    {
+        match self {
+            Track::Unseen => Track::Unseen,
+            Track::Dropped | Track::Followed => Track::Dropped,
+        }
+    }
 }
 
 impl Layer {
@@ -174,11 +188,15 @@ impl Layer {
     pub(crate) fn late(self) -> Layer
         ensures { result ≡ definition.late self }
     {
-        let asked = self.asked.saturating_sub(1);
+        let asked = less(self.asked);
         if self.is_fresh {
-            Layer::begun(asked)
+            Layer { asked, ..self }
         } else {
-            Layer::unknown(asked)
+            Layer {
+                track: self.track.behind_ua(),
+                asked,
+                ..self
+            }
         }
     }
 
@@ -270,7 +288,6 @@ impl Layer {
     {
         Layer {
             is_counted: false,
-            owed: 0,
             ..self
         }
     }
@@ -289,7 +306,7 @@ impl Layer {
         ensures { result ≡ definition.confirmed_again self }
     {
         Layer {
-            again: self.again.saturating_sub(1),
+            again: less(self.again),
             ..self
         }
     }
@@ -329,7 +346,30 @@ impl Layer {
         ensures { result ≡ definition.owing_less self }
     {
         Layer {
-            owed: self.owed.saturating_sub(1),
+            owed: less(self.owed),
+            ..self
+        }
+    }
+
+    /// Its RESTART and one of the other end answer one another, where restarts aren't counted.
+    pub(crate) fn met(self) -> Layer
+        ensures { result ≡ definition.met self }
+    {
+        Layer {
+            restart: Restart::Ready,
+            owed: self.again,
+            again: 0,
+            is_sure: false,
+            is_counted: false,
+            ..self
+        }
+    }
+
+    pub(crate) fn faultless(self) -> Layer
+        ensures { result ≡ definition.faultless self }
+    {
+        Layer {
+            is_lost: false,
             ..self
         }
     }

@@ -3,7 +3,7 @@ ghost use Rattle.std.specs.Prelude.{◌≡◌};
 ghost use Rattle.x25_packet_judge.specs.Layers as definition;
 
 use crate::layer::{Layer, Restart};
-use crate::numbers::apart;
+use crate::numbers::{apart, less};
 use crate::packet_rule::{PacketRule, first};
 
 /// The end that sends and the other end, and the rule that a packet breaks.
@@ -67,7 +67,7 @@ impl Layers {
     fn answers(self) -> Layers
         ensures { result ≡ definition.answers self }
     {
-        self.with_own(self.own.with_asked(self.own.asked.saturating_sub(1)))
+        self.with_own(self.own.with_asked(less(self.own.asked)))
     }
 
     /// Whether an N(R) is about the packets of the other end.
@@ -137,7 +137,6 @@ impl Layers {
         ensures { result ≡ definition.accepts_late self }
     {
         self.with_own(self.own.late())
-            .with_other(self.other.uncounted())
     }
 
     /// The end sends UA.
@@ -145,7 +144,7 @@ impl Layers {
         ensures { result ≡ definition.accepts self }
     {
         if self.other.is_fresh {
-            self.begins(self.own.asked.saturating_sub(1))
+            self.begins(less(self.own.asked))
         } else {
             self.accepts_late()
         }
@@ -266,26 +265,60 @@ impl Layers {
         self.own.is_asking() && (self.are_counted() && 0 < self.other.owed)
     }
 
-    /// RESTART where packets may have gone unseen: it may answer one of the other end.
-    fn restarts_unseen(self) -> Layers
-        ensures { result ≡ definition.restarts_unseen self }
+    /// Whether a confirmation answers the RESTART that was sent last, and nothing else can be the answer to it.
+    pub(crate) fn is_sure_answer(self) -> bool
+        ensures { result ≡ definition.is_sure_answer self }
     {
-        if self.other.is_asking() {
-            self.with_other(self.other.with_restart(Restart::Ready))
-                .goes_to(Restart::Ready)
-                .asks_again()
-                .unsure()
-        } else {
-            self.goes_to(Restart::Asking).asks_again().unsure()
-        }
+        (self.other.is_asking() && self.own.owed == 1)
+            && (self.other.owed == 0 && !self.other.is_stray)
+    }
+
+    fn owes_more(self) -> Layers
+        ensures { result ≡ definition.owes_more self }
+    {
+        self.with_other(self.other.owing(true))
     }
 
     /// RESTART behind a fault.
     fn restarts_lost(self) -> Layers
         ensures { result ≡ definition.restarts_lost self }
     {
-        self.with_other(self.other.owing(true))
-            .goes_to(Restart::Asking)
+        self.give_up().owes_more().goes_to(Restart::Asking)
+    }
+
+    /// RESTART where packets may have gone unseen.
+    fn restarts_unseen(self) -> Layers
+        ensures { result ≡ definition.restarts_unseen self }
+    {
+        let next = self.restarts_lost();
+        self.with_own(next.own.faultless())
+            .with_other(next.other.faultless())
+    }
+
+    /// Whether a RESTART and the one of the other end that waits answer one another.
+    fn meets(self) -> bool
+        ensures { result ≡ definition.meets self }
+    {
+        self.is_sure_answer() && !self.own.is_stray
+    }
+
+    fn meet(self) -> Layers
+        ensures { result ≡ definition.meet self }
+    {
+        self.with_own(self.own.met()).with_other(self.other.met())
+    }
+
+    /// RESTART where restarts aren't counted.
+    fn restarts_uncounted(self) -> Layers
+        ensures { result ≡ definition.restarts_uncounted self }
+    {
+        if self.meets() {
+            self.meet()
+        } else if self.are_lost() {
+            self.restarts_lost()
+        } else {
+            self.restarts_unseen()
+        }
     }
 
     /// Whether a RESTART that was sent again, or a second confirmation, leaves open what answers the next RESTART.
@@ -295,17 +328,22 @@ impl Layers {
         0 < self.own.again || (0 < self.other.again || self.own.is_stray)
     }
 
+    /// Whether a RESTART is sent again while it waits.
+    fn is_repeat(self) -> bool
+        ensures { result ≡ definition.is_repeat self }
+    {
+        self.own.is_asking() && 0 < self.other.owed
+    }
+
     pub(crate) fn restarts(self) -> Layers
         ensures { result ≡ definition.restarts self }
     {
-        if self.are_lost() {
-            self.restarts_lost()
-        } else if !self.are_counted() {
-            self.restarts_unseen()
-        } else if self.is_awaiting() {
+        if self.is_repeat() {
             self.asks_again()
+        } else if !self.are_counted() {
+            self.restarts_uncounted()
         } else if self.is_unclear() {
-            self.give_up().restarts_lost()
+            self.restarts_lost()
         } else {
             self.marks(Restart::Asking)
         }
@@ -318,7 +356,7 @@ impl Layers {
         if self.are_counted() {
             0 < self.own.owed
         } else {
-            self.other.is_asking() && !self.other.is_stray
+            self.is_sure_answer()
         }
     }
 
@@ -335,21 +373,24 @@ impl Layers {
         self.marks(Restart::Confirmed)
     }
 
+    /// Whether a RESTART that went unseen may be confirmed too.
+    fn misses_one(self) -> bool
+        ensures { result ≡ definition.misses_one self }
+    {
+        !(self.are_sure() || self.are_lost())
+    }
+
     /// Behind packets that were missed, or a fault, a confirmation makes both ends known.
     pub(crate) fn refinds(self) -> Layers
         ensures { result ≡ definition.refinds self }
     {
-        self.with_own(self.own.found(Restart::Confirmed))
+        let own = if self.misses_one() {
+            self.own.asked_again()
+        } else {
+            self.own
+        };
+        self.with_own(own.found(Restart::Confirmed))
             .with_other(self.other.found(Restart::Asking))
-    }
-
-    /// Whether behind a fault a confirmation answers the RESTART that was sent last, and nothing else can be the answer
-    /// to it.
-    pub(crate) fn is_sure_answer(self) -> bool
-        ensures { result ≡ definition.is_sure_answer self }
-    {
-        (self.other.is_asking() && self.own.owed == 1)
-            && (self.other.owed == 0 && !self.other.is_stray)
     }
 
     /// A confirmation behind a fault that leaves open where the ends are.

@@ -8,3 +8,14 @@ pub fn apart(to: u8, from: u8) -> u8
 {
     (8 + to % 8 - from % 8) % 8
 }
+
+/// A count that goes down by one: 255 stands for 255 and more, so it stays.
+pub(crate) fn less(count: u8) -> u8
+    ensures { result ≡ definition.less count }
+{
+    if count == 255 {
+        255
+    } else {
+        count.saturating_sub(1)
+    }
+}

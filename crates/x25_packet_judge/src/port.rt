@@ -4,6 +4,7 @@ ghost use Rattle.x25_packet_judge.specs.Port as definition;
 
 use crate::flow::Flow;
 use crate::message::{Message, octets_of};
+use crate::numbers::less;
 use crate::terms::Terms;
 
 /// A call, as an end may know it: none; one from the other end; its own; both; its own, and accepted; or one in which
@@ -261,6 +262,7 @@ impl Port {
         ensures { result ≡ definition.clears_unknown is_clearing self }
     {
         Port {
+            is_doubtful: self.is_doubtful || self.is_stray,
             is_clearing,
             call: Call::Idle,
             ..self
@@ -318,7 +320,7 @@ impl Port {
         ensures { result ≡ definition.owing_less self }
     {
         Port {
-            owed: self.owed.saturating_sub(1),
+            owed: less(self.owed),
             ..self
         }
     }

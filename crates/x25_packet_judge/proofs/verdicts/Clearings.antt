@@ -3,6 +3,7 @@ use Rattle.std.proofs.Common.{◌≡◌, ◌==◌, ◌⊎◌, inl, inr, ℕ, ◌
 use Rattle.std.specs.Prelude.{◌&&◌, ◌||◌, not, nat_lt}
 use Rattle.std.proofs.lemmas.Bool.{eqb-true, lt-ltb, ltb-true, and_parts, and_left, and_right, both_ways, cond_both, cond-true, cond-false}
 use Rattle.x25_packet.specs.Packet.{PlainPacket, call, accept, clear, clear_conf, user_data, rr, rnr, interrupt, interrupt_conf, reset, reset_conf, restart, restart_conf}
+use Rattle.x25_packet_judge.specs.Numbers as numbers
 use Rattle.x25_packet_judge.specs.Packets.{speaks, talks, sends_known, is_clearing, sends_unknown, sends}
 use Rattle.x25_packet_judge.specs.Pair as pair
 use Rattle.x25_packet_judge.specs.Port as port
@@ -197,10 +198,16 @@ module _ (v : Pair) where
   finds_moved : Moved v (pair.finds v)
   finds_moved = cond_both (pair.is_sure_answer v) _ _ (Moved v)
       (λ _. record { free = λ _. refl; less = none v.own.owed; clearing = λ e. e; known = λ _. inr refl })
-      (λ _. reaching_moved (port.strayed (v.own.owed == 0 || pair.is_doubtful v) (port.clearing false v.other)) (port.owing_less (port.settled v.own)) (le_less v.own.owed) refl (λ e. e) none_true refl)
+      (λ _. reaching_moved (port.strayed (v.own.owed == 0 || pair.is_doubtful v) (port.clearing false v.other)) (port.owing_less (port.settled v.own)) (fewer v.own.owed) refl (λ e. e) none_true refl)
     where
       none : (n : ℕ) → 0 ≤ n
       none n = omega arith
+
+      none_below : (n : ℕ) → n ≡ 255 → 255 ≤ n
+      none_below n e = omega arith
+
+      fewer : (n : ℕ) → numbers.less n ≤ n
+      fewer n = cond_both (n == 255) _ _ (λ k. k ≤ n) (λ e. none_below n (eqb-true n 255 e)) (λ _. le_less n)
 
   hastens_moved : Moved v (pair.hastens v)
   hastens_moved = hastened_moved (λ w. w) (stays v) (record { free = λ e. e; less = le_self v.own.owed; clearing = λ e. e; known = λ e. inl e })

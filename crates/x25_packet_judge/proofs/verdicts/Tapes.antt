@@ -617,25 +617,30 @@ module _ (from : Role) (s : Phase) (way : List PlainPacket) (P O : Layer) (p o :
       neither : (a b : Bool) → a ≡ false → b ≡ false → (a || b) ≡ false
       neither a b x y = rw (x, y) refl
 
+  sure_answer_not : layers.is_sure_answer (theirs P O) ≡ false
+  sure_answer_not = and_left (layer.is_asking P.restart && O.owed == 1) _ (and_left (layer.is_asking P.restart) _ asks_not)
+
   -- RESTART
   abbrev Restarted : ℕ → ℕ → Layers → Type 0
   Restarted cause diagnostic T = Fits from s (way ++ restart cause diagnostic ∷ []) T.other T.own p port.fresh
 
   restarts_fits : (cause diagnostic : ℕ) → Fits from s (way ++ restart cause diagnostic ∷ []) (layers.restarts (theirs P O)).other (layers.restarts (theirs P O)).own p port.fresh
-  restarts_fits cause diagnostic = cond_both (layers.are_lost (theirs P O)) _ _ (Restarted cause diagnostic)
-      (λ lost. lost_fits from s (way ++ restart cause diagnostic ∷ []) _ _ p port.fresh h.ready refl (unsure lost) (h.uncounted (unsure lost)))
-      (λ _. cond_both (not (layers.are_counted (theirs P O))) _ _ (Restarted cause diagnostic)
-      (λ _. cond_both (layer.is_asking P.restart) _ _ (Restarted cause diagnostic) (λ e. not_both (layer.is_asking P.restart) asks_not e) (λ _. lost_fits from s (way ++ restart cause diagnostic ∷ []) _ _ p port.fresh h.ready refl refl refl))
-      (λ counted. cond_both (layers.is_awaiting (theirs P O)) _ _ (Restarted cause diagnostic)
+  restarts_fits cause diagnostic = cond_both (layers.is_repeat (theirs P O)) _ _ (Restarted cause diagnostic)
       (λ awaits. record {
         ready = h.ready;
         begun = h.begun;
         found = h.found;
         uncounted = h.uncounted;
         owed = h.owed;
-        on = λ e. on_restarted from s way P O (layer.asked_again P) O p o cause diagnostic (and_left (P.owed == 0) _ (some P.owed (ltb-true 0 P.owed (and_parts _ (nat_lt 0 P.owed) (and_parts (layer.is_asking O.restart) _ awaits).1).1))) (h.on e);
-        due = λ _ _. (and_parts _ (nat_lt 0 P.owed) (and_parts (layer.is_asking O.restart) _ awaits).1).1;
+        on = λ e. on_restarted from s way P O (layer.asked_again P) O p o cause diagnostic (and_left (P.owed == 0) _ (some P.owed (ltb-true 0 P.owed (and_parts (layer.is_asking O.restart) (nat_lt 0 P.owed) awaits).1))) (h.on e);
+        due = λ _ _. (and_parts (layer.is_asking O.restart) (nat_lt 0 P.owed) awaits).1;
       })
+      (λ _. cond_both (not (layers.are_counted (theirs P O))) _ _ (Restarted cause diagnostic)
+      (λ _. cond_both (layers.meets (theirs P O)) _ _ (Restarted cause diagnostic)
+      (λ e. not_both (layers.meets (theirs P O)) (and_left (layers.is_sure_answer (theirs P O)) _ sure_answer_not) e)
+      (λ _. cond_both (layers.are_lost (theirs P O)) _ _ (Restarted cause diagnostic)
+      (λ _. lost_fits from s (way ++ restart cause diagnostic ∷ []) _ _ p port.fresh refl refl refl refl)
+      (λ _. lost_fits from s (way ++ restart cause diagnostic ∷ []) _ _ p port.fresh refl refl refl refl)))
       (λ _. cond_both (layers.is_unclear (theirs P O)) _ _ (Restarted cause diagnostic)
       (λ _. lost_fits from s (way ++ restart cause diagnostic ∷ []) _ _ p port.fresh refl refl refl refl)
       (λ _. record {
@@ -646,15 +651,8 @@ module _ (from : Role) (s : Phase) (way : List PlainPacket) (P O : Layer) (p o :
         owed = λ e. ap (λ n. n - 1) (h.owed e);
         on = λ e. on_restarted from s way P O (layer.owing (O.owed == 0) P) (layer.restarted Asking O) p o cause diagnostic (and_left ((layer.owing (O.owed == 0) P).owed == 0) _ (ap (λ b. (if b then min (P.owed + 1) 255 else P.owed) == 0) (ap (λ n. n == 0) (h.owed e)) ∙ more P.owed)) (h.on e);
         due = λ e _. ap (λ b. nat_lt 0 (if b then min (P.owed + 1) 255 else P.owed)) (ap (λ n. n == 0) (h.owed e)) ∙ lt-ltb 0 (min (P.owed + 1) 255) (one P.owed);
-      }))))
+      })))
     where
-      unsure : layers.are_lost (theirs P O) ≡ true → are_sure P O ≡ false
-      unsure lost = go (are_sure P O) refl
-        where
-          go : (b : Bool) → are_sure P O ≡ b → are_sure P O ≡ false
-          go true e = not_both (are_lost P O) (h.found e) (or_turned P.is_lost O.is_lost ∙ lost)
-          go false e = e
-
       some : (n : ℕ) → 0 < n → (n == 0) ≡ false
       some n due = not_true2 (n == 0) (λ e. none n due (eqb-true n 0 e))
         where
@@ -672,9 +670,6 @@ module _ (from : Role) (s : Phase) (way : List PlainPacket) (P O : Layer) (p o :
       more n = some (min (n + 1) 255) (one n)
 
   -- its confirmation, that answers none
-  sure_answer_not : layers.is_sure_answer (theirs P O) ≡ false
-  sure_answer_not = and_left (layer.is_asking P.restart && O.owed == 1) _ (and_left (layer.is_asking P.restart) _ asks_not)
-
   counted_sure : layers.are_counted (theirs P O) ≡ true → are_sure P O ≡ true
   counted_sure e = go (are_sure P O) refl
     where
@@ -685,7 +680,7 @@ module _ (from : Role) (s : Phase) (way : List PlainPacket) (P O : Layer) (p o :
   answer_not : layers.is_answer (theirs P O) ≡ false
   answer_not = cond_both (layers.are_counted (theirs P O)) _ _ (λ b. b ≡ false)
       (λ e. ap (λ n. nat_lt 0 n) (h.owed (counted_sure e)))
-      (λ _. and_left (layer.is_asking P.restart) _ asks_not)
+      (λ _. sure_answer_not)
 
   lost_unsure : layers.are_lost (theirs P O) ≡ true → are_sure P O ≡ false
   lost_unsure lost = go (are_sure P O) refl
@@ -937,11 +932,11 @@ pub no_end_of_tape_is_told : NoEndOfTapeIsTold
 no_end_of_tape_is_told from channel b s way packet stands may = end_at channel b s way from packet may (runs_at from channel b s way stands)
 
 restarts_untold : (t : Layers) → t.rule ≡ None → (layers.restarts t).rule ≡ None
-restarts_untold t quiet = cond_both (layers.are_lost t) _ _ (λ (x : Layers). x.rule ≡ None) (λ _. quiet)
+restarts_untold t quiet = cond_both (layers.is_repeat t) _ _ (λ (x : Layers). x.rule ≡ None) (λ _. quiet)
     (λ _. cond_both (not (layers.are_counted t)) _ _ (λ (x : Layers). x.rule ≡ None)
-    (λ _. cond_both (layer.is_asking t.other.restart) _ _ (λ (x : Layers). x.rule ≡ None) (λ _. quiet) (λ _. quiet))
-    (λ _. cond_both (layers.is_awaiting t) _ _ (λ (x : Layers). x.rule ≡ None) (λ _. quiet)
-    (λ _. cond_both (layers.is_unclear t) _ _ (λ (x : Layers). x.rule ≡ None) (λ _. quiet) (λ _. quiet))))
+    (λ _. cond_both (layers.meets t) _ _ (λ (x : Layers). x.rule ≡ None) (λ _. quiet)
+    (λ _. cond_both (layers.are_lost t) _ _ (λ (x : Layers). x.rule ≡ None) (λ _. quiet) (λ _. quiet)))
+    (λ _. cond_both (layers.is_unclear t) _ _ (λ (x : Layers). x.rule ≡ None) (λ _. quiet) (λ _. quiet)))
 
 confirms_untold : (from : Role) (t : Layers) (b : Book) → t.rule ≡ None → (layers.are_counted t ≡ true → nat_lt 0 t.own.owed ≡ true) → (book.confirms from t b).verdict.rule ≡ None
 unfolding book.confirms book.restarts
