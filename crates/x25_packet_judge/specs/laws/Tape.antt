@@ -13,8 +13,8 @@ use Rattle.x25_packet_judge.specs.declared.layer.Restart.TheVariants.{Ready}
 use Rattle.x25_packet_judge.specs.declared.layers.Layers.{Layers}
 use Rattle.x25_packet_judge.specs.declared.pair.Pair.{Pair}
 use Rattle.x25_packet_judge.specs.declared.port.Port.{Port}
-use Rattle.x25_packet_judge.specs.laws.Keeping.{Phase, Idles, WasRestarted, fresh_phase, MayDo, comes, MayTake, IsOfChannel}
-use Rattle.x25_packet_judge.specs.laws.Keeping.{AreIdle, AreBegun, IsFollowed}
+use Rattle.x25_packet_judge.specs.laws.Keeping.{Phase, Idles, WasRestarted, fresh_phase, MayDo, comes, MayTake}
+use Rattle.x25_packet_judge.specs.laws.Keeping.{IsOfChannel, AreIdle, AreBegun, IsFollowed}
 
 -- both ends of a channel, the end that is spoken of first
 abbrev pub view : Role → ℕ → Book → Pair
@@ -56,7 +56,8 @@ pub data MayStand (from : Role) (channel : ℕ) : Book → Phase → List PlainP
       → AreApart channel two → MayStand from channel b s way
       → MayStand from channel (takes from two packet b).book s way
   -- it confirms the RESTART that came, and its channels begin anew
-  Answers : (b : Book) (way : List PlainPacket) → AreCounted (layers_of from b) → MayStand from channel b WasRestarted way
+  Answers : (b : Book) (way : List PlainPacket) → AreCounted (layers_of from b)
+      → MayStand from channel b WasRestarted way
       → MayStand from channel (takes from 0 restart_conf b).book Idles way
   -- the other end sends any packet on the channel, on another one, or RESTART and its confirmation
   Shown : (b : Book) (s : Phase) (way : List PlainPacket) (packet : PlainPacket) → IsOfChannel packet
