@@ -7,6 +7,7 @@ pub mod Leaving
 pub mod Stretches
 pub mod Callings
 pub mod Closings
+pub mod Restartings
 pub mod Innocents
 pub mod Silences
 pub mod Beginnings

@@ -25,6 +25,7 @@ use Rattle.x25_packet_judge.proofs.verdicts.Saying.{before, awaits_none, enters,
 use Rattle.x25_packet_judge.proofs.verdicts.Showing.{shown_level, shown_dark}
 use Rattle.x25_packet_judge.proofs.verdicts.Reaching.{sends_from, sends_reaches}
 use Rattle.x25_packet_judge.proofs.verdicts.Callings.{Even, Far, FarClear, WasAsked, HasNone, InCall, Asks, HasCalled, begins_idle, other_dce, FarOrDark, far_shown, far_tail, far_open, far_restarted, even_restarted, even_other, even_clear, even_again, even_unasked, even_called, even_crossed, even_accepts, calls_none, accepts_asked, calls_dark, accepts_dark}
+use Rattle.x25_packet_judge.proofs.verdicts.Restartings.{IsOwed}
 use Rattle.x25_packet_judge.proofs.verdicts.Closings.{Lone, HasCleared, skipped, lone_shown, lone_cleared, lone_confirmed, leave_closing, leave_none, leave_asked, leave_asks, leave_called, leave_stands, leave_waits, leave_reset}
 use Rattle.x25_packet_judge.proofs.verdicts.Stretches.{lots, closed_shown, flow_begins, Talking, Waiting, with_tail, knows_if, begins_anew, asks, Turned, cleared_shown, away_shown, asked_shown}
 
@@ -399,6 +400,51 @@ sound_does t (WasCalled terms) r way (reset channel cause diagnostic) may follow
 sound_does t (WasCalled terms) r way (reset_conf channel) may followed h = absurd may
 sound_does t (WasCalled terms) r way (restart cause diagnostic) may followed h = absurd may
 sound_does t (WasCalled terms) r way restart_conf may followed h = absurd may
+
+-- there is a call to accept
+asked_call : (terms : Terms) (k j : Call) (way : List PlainPacket) (reaches : Bool) (p o : Port) → WasAsked terms k j way reaches p o → p.call ≡ k
+asked_call terms k j [] reaches p o (its, e) = e.call
+asked_call terms k j (clear channel cause diagnostic ∷ rest) reaches p o (w, c) = w.call
+asked_call terms k j (restart cause diagnostic ∷ rest) reaches p o w = w.call
+asked_call terms k j (user_data channel q m ps pr user ∷ rest) reaches p o h = absurd h
+asked_call terms k j (rr channel pr ∷ rest) reaches p o h = absurd h
+asked_call terms k j (rnr channel pr ∷ rest) reaches p o h = absurd h
+asked_call terms k j (interrupt channel user ∷ rest) reaches p o h = absurd h
+asked_call terms k j (interrupt_conf channel ∷ rest) reaches p o h = absurd h
+asked_call terms k j (reset channel cause diagnostic ∷ rest) reaches p o h = absurd h
+asked_call terms k j (reset_conf channel ∷ rest) reaches p o h = absurd h
+asked_call terms k j (call channel called calling facilities user ∷ rest) reaches p o h = absurd h
+asked_call terms k j (accept channel facilities ∷ rest) reaches p o h = absurd h
+asked_call terms k j (clear_conf channel ∷ rest) reaches p o h = absurd h
+asked_call terms k j (restart_conf ∷ rest) reaches p o h = absurd h
+
+accept_owed : (t : Pair) (terms : Terms) (way : List PlainPacket) → Standing t.from t (WasCalled terms) way → pair.is_known t ≡ true → pair.may_accept_in t.own.call t.from ≡ true
+accept_owed t terms way (inl (inl h)) known = ap (λ k. pair.may_accept_in k t.from) (asked_call terms Called Calling way t.reaches t.own t.other h)
+accept_owed t terms way (inl (inr (role, h))) known = ap (λ k. pair.may_accept_in k t.from) (asked_call terms Collided Collided way t.reaches t.own t.other h) ∙ role
+accept_owed t terms way (inr k) known = absurd (both_ways t.own.is_known k.known (and_parts t.own.is_known t.other.is_known known).0)
+
+pub does_owed : (t : Pair) (s r : Phase) (way : List PlainPacket) (packet : PlainPacket) → MayDo s packet r → Standing t.from t s way → IsOwed t packet
+does_owed t s r way (user_data channel q m ps pr user) may h = tt
+does_owed t s r way (rr channel pr) may h = tt
+does_owed t s r way (rnr channel pr) may h = tt
+does_owed t s r way (interrupt channel user) may h = tt
+does_owed t s r way (interrupt_conf channel) may h = tt
+does_owed t s r way (reset channel cause diagnostic) may h = tt
+does_owed t s r way (reset_conf channel) may h = tt
+does_owed t s r way (call channel called calling facilities user) may h = tt
+does_owed t (WasCalled terms) r way (accept channel facilities) may h = accept_owed t terms way h
+does_owed t Idles r way (accept channel facilities) may h = absurd may
+does_owed t (Calls terms) r way (accept channel facilities) may h = absurd may
+does_owed t (Resets window most) r way (accept channel facilities) may h = absurd may
+does_owed t (WasReset window most) r way (accept channel facilities) may h = absurd may
+does_owed t Clears r way (accept channel facilities) may h = absurd may
+does_owed t WasCleared r way (accept channel facilities) may h = absurd may
+does_owed t WasRestarted r way (accept channel facilities) may h = absurd may
+does_owed t (Talks window most g c) r way (accept channel facilities) (n, may, is) h = absurd may
+does_owed t s r way (clear channel cause diagnostic) may h = tt
+does_owed t s r way (clear_conf channel) may h = tt
+does_owed t s r way (restart cause diagnostic) may h = tt
+does_owed t s r way restart_conf may h = tt
 
 -- ---- the other end sends
 

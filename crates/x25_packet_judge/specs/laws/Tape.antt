@@ -5,7 +5,7 @@ use Rattle.x25_bits.specs.declared.role.Role.{Role}
 use Rattle.x25_packet.specs.Packet.{PlainPacket, restart, restart_conf}
 use Rattle.x25_packet_judge.specs.Book.{other, layers_of, pair_of, takes}
 use Rattle.x25_packet_judge.specs.Layer.{is_begun, begun, with_restart}
-use Rattle.x25_packet_judge.specs.Layers.{are_sure, are_lost, are_level}
+use Rattle.x25_packet_judge.specs.Layers.{are_sure, are_counted, are_lost, are_level}
 use Rattle.x25_packet_judge.specs.Port.{all_alike}
 use Rattle.x25_packet_judge.specs.declared.book.Book.{Book}
 use Rattle.x25_packet_judge.specs.declared.layer.Layer.{Layer}
@@ -13,8 +13,8 @@ use Rattle.x25_packet_judge.specs.declared.layer.Restart.TheVariants.{Ready}
 use Rattle.x25_packet_judge.specs.declared.layers.Layers.{Layers}
 use Rattle.x25_packet_judge.specs.declared.pair.Pair.{Pair}
 use Rattle.x25_packet_judge.specs.declared.port.Port.{Port}
-use Rattle.x25_packet_judge.specs.laws.Keeping.{Phase, Idles, fresh_phase, MayDo, comes, MayTake, IsOfChannel}
-use Rattle.x25_packet_judge.specs.laws.Keeping.{AreIdle, AreBegun, IsFollowed}
+use Rattle.x25_packet_judge.specs.laws.Keeping.{Phase, Idles, WasRestarted, fresh_phase, MayDo, comes, MayTake}
+use Rattle.x25_packet_judge.specs.laws.Keeping.{IsOfChannel, AreIdle, AreBegun, IsFollowed}
 
 -- both ends of a channel, the end that is spoken of first
 abbrev pub view : Role → ℕ → Book → Pair
@@ -36,6 +36,11 @@ pub record AreRunning (t : Layers) : Type 0 where
 abbrev pub AreApart : ℕ → ℕ → Type 0
 AreApart one two = (one % 4096) ≡ (two % 4096) → ⊥
 
+-- restarts are counted, and the other end sent none again
+pub record AreCounted (t : Layers) : Type 0 where
+  pub counted : are_counted t ≡ true
+  pub once : t.own.again ≡ 0
+
 -- The end may stand so, where the book is so, and such packets of the other end are on the way to it that
 -- are of this channel or of all.
 pub data MayStand (from : Role) (channel : ℕ) : Book → Phase → List PlainPacket → Type 0 where
@@ -50,6 +55,10 @@ pub data MayStand (from : Role) (channel : ℕ) : Book → Phase → List PlainP
   DoesApart : (b : Book) (s : Phase) (way : List PlainPacket) (two : ℕ) (packet : PlainPacket) → IsOfChannel packet
       → AreApart channel two → MayStand from channel b s way
       → MayStand from channel (takes from two packet b).book s way
+  -- it confirms the RESTART that came, and its channels begin anew
+  Answers : (b : Book) (way : List PlainPacket) → AreCounted (layers_of from b)
+      → MayStand from channel b WasRestarted way
+      → MayStand from channel (takes from 0 restart_conf b).book Idles way
   -- the other end sends any packet on the channel, on another one, or RESTART and its confirmation
   Shown : (b : Book) (s : Phase) (way : List PlainPacket) (packet : PlainPacket) → IsOfChannel packet
       → MayStand from channel b s way
