@@ -15,6 +15,7 @@ pub mod OtherEnd
 pub mod OwnEnd
 pub mod Sessions
 pub mod Silences
+pub mod Numbering
 pub mod Lag
 pub mod Stations
 pub mod SetUps

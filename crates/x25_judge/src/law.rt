@@ -3,7 +3,7 @@
 ghost use Rattle.x25_frame.specs.laws.ReadingLaw.{ReadsSpelled, ReadsWhatIsSpelled};
 ghost use Rattle.x25_judge.specs.laws.VerdictClaims.{NoInnocentIsAccused, NoStationIsAccused};
 ghost use Rattle.x25_judge.specs.laws.VerdictClaims.{NoSessionIsAccused, SilenceMeansOrder, SilenceMeansRules};
-ghost use Rattle.x25_judge.specs.laws.VerdictClaims.{SetUpsBegin};
+ghost use Rattle.x25_judge.specs.laws.VerdictClaims.{SetUpsBegin, SilenceMeansNumbers};
 ghost use Rattle.x25_line.specs.laws.LawsBelow.{Laws};
 ghost use Rattle.x25_line.specs.laws.PeerClaims.{KeepsOrder, OnAnySilentTape};
 ghost use Rattle.x25_line.specs.laws.StationClaims.{EachEventHandsOne};
@@ -60,6 +60,15 @@ pub fn silence_means_order()
 /// and hears and takes what comes as the trace shows it.
 pub fn silence_means_rules_kept()
     ensures { SilenceMeansRules }
+{
+    laws_below();
+}
+
+/// The same of the numbers alone, where nothing is told of an end, whatever is told of the other one and whichever of
+/// its lines are damaged: the end's I frames carry one packet for each number, from 0 on, each for the first time in
+/// its turn, and the same one each time that its number goes again, which it does not eight behind.
+pub fn silence_means_one_packet()
+    ensures { SilenceMeansNumbers }
 {
     laws_below();
 }

@@ -20,12 +20,12 @@ use Rattle.x25_packet_judge.specs.Numbers.{apart}
 use Rattle.x25_judge.specs.declared.sides.End.{End}
 use Rattle.x25_judge.specs.declared.way.Way.{Way}
 use Rattle.x25_judge.specs.laws.Keeping.{MaySend}
-use Rattle.x25_judge.specs.laws.Session.{end_of, is_of_order}
+use Rattle.x25_judge.specs.laws.Session.{end_of, IsSupervisory, is_of_order}
 use Rattle.x25_judge.proofs.verdicts.Ways.{Counts, Numbered, deaf_numbered, same_numbered}
 use Rattle.x25_judge.proofs.verdicts.Fair.{Own, OwnIf, Fair, new_fair, old_fair, heard_fair}
 use Rattle.x25_judge.proofs.verdicts.Frames.{IsUp, AreSame, Owes, Settles, AreAlike, Sees, is_bool, runs_on, info_sees, ready_sees, reject_sees, first_of_order}
 use Rattle.x25_judge.proofs.verdicts.Lines.{Goes, stands}
-use Rattle.x25_judge.proofs.verdicts.Octets.{IsHeld, IsSupervisory, same_held, sent_held, same_octets, bare_held}
+use Rattle.x25_judge.proofs.verdicts.Octets.{IsHeld, same_held, sent_held, same_octets, bare_held}
 
 -- ---- what is on the way
 

@@ -21,7 +21,7 @@ use Rattle.x25_judge.proofs.verdicts.Lines.{other_twice, Past}
 use Rattle.x25_judge.proofs.verdicts.Octets.{IsHeld}
 use Rattle.x25_judge.proofs.verdicts.Beside.{heard_all, took_all, Own_fit, Hears_fit, Hears, Seen, SeenBy, Beside}
 
-runs_accepted : (p : Phase) → sides.may_run p ≡ true → sides.may_run (sides.may_be_accepted p) ≡ true
+pub runs_accepted : (p : Phase) → sides.may_run p ≡ true → sides.may_run (sides.may_be_accepted p) ≡ true
 runs_accepted Unseen e = refl
 runs_accepted Out e = e
 runs_accepted Waiting e = refl
@@ -32,6 +32,7 @@ runs_accepted Unanswered e = refl
 pub record Misses (t : Sides) : Type 0 where
   pub own : (sides.misses t).own.way ≡ way.missed (sides.is_unasked t) t.own.way
   pub other : (sides.misses t).other.way ≡ way.unheard t.other.way
+  pub phase : (sides.misses t).own.phase ≡ sides.unsure t.own.phase
   pub other_phase : (sides.misses t).other.phase ≡ sides.may_be_accepted t.other.phase
   pub asked : (sides.misses t).own.asked ≡ min (t.own.asked + 1) 255
   pub late : (sides.misses t).own.late ≡ (sides.ended t.own).late
@@ -39,7 +40,7 @@ pub record Misses (t : Sides) : Type 0 where
 
 pub misses_is : (t : Sides) → Misses t
 unfolding sides.misses
-misses_is t = record { own = refl; other = refl; other_phase = refl; asked = refl; late = refl; other_asked = refl }
+misses_is t = record { own = refl; other = refl; phase = refl; other_phase = refl; asked = refl; late = refl; other_asked = refl }
 
 unheard_own : (w : Way) (m u : ℕ) → Own w m u → Own (way.unheard w) m u
 unheard_own w m u h = record {

@@ -170,7 +170,7 @@ abbrev Keeps : Way → ℕ → Way → Type 0
 Keeps w m v = (way.is_unseen v ≡ false) × (v.next ≡ m % 8) × (v.ever ≡ min m 255) × (v.kept ≡ min m 255) × (v.is_missed ≡ false)
 
 -- an N(R) changes the sight and what is unacknowledged
-heard_any : (w : Way) (nr : ℕ) (P : Way → Type 0) → P w → P (way.astray w) → P (way.deaf w) → ((a : ℕ) → P (way.acknowledged a w)) → P (way.heard nr w).way
+pub heard_any : (w : Way) (nr : ℕ) (P : Way → Type 0) → P w → P (way.astray w) → P (way.deaf w) → ((a : ℕ) → P (way.acknowledged a w)) → P (way.heard nr w).way
 heard_any w nr P same astray deaf acknowledged =
     cond_both (way.may_hear w) (way.heard_ahead ahead w) (way.quiet w) (λ (t : Told). P t.way)
     (λ _. cond_both (nat_le ahead w.pending) (way.quiet (way.acknowledged ahead w)) (way.strayed ahead w) (λ (t : Told). P t.way)

@@ -7,10 +7,7 @@ use Rattle.std.proofs.lemmas.Slice.Eq.{bytes_eq-Decides}
 use Rattle.x25_frame.specs.Frame.{PlainFrame, info, rr, rnr, rej, sabm, disc, ua, dm, frmr}
 use Rattle.x25_text.specs.declared.text.TheConstants.{ROOM}
 use Rattle.x25_judge.specs.Held.{kept, keeps, is_same}
-
-abbrev pub IsSupervisory : PlainFrame → Type 0
-IsSupervisory (info ns nr pf packet) = ⊥
-IsSupervisory frame = Unit {0}
+use Rattle.x25_judge.specs.laws.Session.{IsSupervisory}
 
 -- each of the last eight is held under its number
 pub record IsHeld (hs : List (List ℕ)) (given : List (List ℕ)) (m : ℕ) : Type 0 where

@@ -231,17 +231,13 @@ unsure_sabms phase.Answered a b frames asked late h on none sabms = sabms tt non
 unsure_sabms phase.Up a b frames asked late h on none sabms = sabms_none a b frames (none_at_all (asks_all frames) asked h none)
 unsure_sabms phase.Unanswered a b frames asked late h on none sabms = sabms tt none
 
-missed_phase : (t : Sides) → (sides.misses t).own.phase ≡ sides.unsure t.own.phase
-unfolding sides.misses
-missed_phase t = refl
-
 missed_anew : (k : Bool) (a b : Way) (rest : List PlainFrame) → Anew a b rest → Anew (way.unheard a) (way.missed k b) rest
 missed_anew k a b rest h = record { count = h.count; own = unheard_own_if a h.count (heard_all rest 0) h.own; hears = missed_hears k b (took_all rest 0) 0 h.hears; first = h.first }
 
 missed_seen : (t : Sides) (p : Peer) (rest : List PlainFrame) → SeenIn t.other t.own p rest → SeenIn (sides.misses t).other (sides.misses t).own p rest
 missed_seen t p rest s = record {
   seen = misses_seen t p.sent (heard_all rest p.acked) (took_all rest (length p.taken)) p.told s.seen;
-  first = λ on hears. s.first (on_unsure t.own.phase (subst On (missed_phase t) on)) (sym (ap way.may_hear (misses_is t).own) ∙ hears);
+  first = λ on hears. s.first (on_unsure t.own.phase (subst On (misses_is t).phase on)) (sym (ap way.may_hear (misses_is t).own) ∙ hears);
 }
 
 pub missed_fits : (t : Sides) (stand : Stand) (p : Peer) (frames : List PlainFrame) → Fits t.other t.own stand p frames → Fits (sides.misses t).other (sides.misses t).own stand p frames
@@ -254,10 +250,10 @@ missed_fits t stand p frames f =
       own = subst (λ x. RestsOwn x v.other v.own.way) (sym s.other_phase) (subst (λ w. RestsOwn (sides.may_be_accepted t.other.phase) v.other w) (sym s.own) (missed_own (sides.is_unasked t) t.other.phase t.other v.other t.own.way s.other_asked s.other f.own));
       count = f.count;
       sent = subst (λ w. OwnIf w f.count 0) (sym s.other) (unheard_own_if t.other.way f.count 0 f.sent);
-      other = subst (λ x. RestsOther x v.own.way) (sym (missed_phase t)) (subst (λ w. RestsOther (sides.unsure t.own.phase) w) (sym s.own) (missed_other (sides.is_unasked t) t.own.phase t.own.way f.other));
+      other = subst (λ x. RestsOther x v.own.way) (sym (misses_is t).phase) (subst (λ w. RestsOther (sides.unsure t.own.phase) w) (sym s.own) (missed_other (sides.is_unasked t) t.own.phase t.own.way f.other));
       sabms = λ on none. subst (λ w. BehindSabm w v.own.way frames) (sym s.other) (subst (λ w. BehindSabm (way.unheard t.other.way) w frames) (sym s.own)
           (sabms_to t.other.way t.own.way (way.unheard t.other.way) (way.missed (sides.is_unasked t) t.own.way) frames (missed_anew (sides.is_unasked t) t.other.way t.own.way)
-          (unsure_sabms t.own.phase t.other.way t.own.way frames t.own.asked t.own.late f.asked (subst On (missed_phase t) on) (sym s.late ∙ none) f.sabms)));
+          (unsure_sabms t.own.phase t.other.way t.own.way frames t.own.asked t.own.late f.asked (subst On (misses_is t).phase on) (sym s.late ∙ none) f.sabms)));
       holds = holds_to t.other t.own v.other v.own stand p frames (λ w. subst (λ x. Awaits x v.other.asked) (sym s.other_phase) (may_be_awaits t.other.phase t.other.asked v.other.asked w)) (λ on. subst IsAnswered (sym s.other_phase) (may_be_answered t.other.phase on)) (missed_seen t) f.holds;
     }
   where

@@ -30,20 +30,20 @@ use Rattle.x25_judge.specs.declared.sides.Sides.{Sides}
 use Rattle.x25_judge.specs.declared.way.Told.{Told}
 use Rattle.x25_judge.specs.declared.way.Way.{Way}
 use Rattle.x25_judge.specs.laws.Keeping.{MaySend}
-use Rattle.x25_judge.specs.laws.Session.{end_of, IsSetUp, Shows, IsNumbered}
+use Rattle.x25_judge.specs.laws.Session.{end_of, IsSetUp, Shows, IsNumbered, IsSupervisory}
 use Rattle.x25_judge.specs.laws.Watching.{Watched, watched_from, more, IsSilent, Begins, Acts, Says, Comes, Fails}
 use Rattle.x25_judge.specs.laws.VerdictClaims.{SilenceMeansOrder, SilenceMeansRules}
 use Rattle.x25_judge.specs.laws.Explaining.{IsQuiet, Starts, Follows, IsKept, Fresh, HandsDown, Sends, Hears}
 use Rattle.x25_judge.proofs.verdicts.Silent.{Exact, IsNew, IsOld, IsInOrder, sent_silent, heard_silent}
 use Rattle.x25_judge.proofs.verdicts.Frames.{IsUp, runs_on, AreAlike, Sees, info_sees, ready_sees, reject_sees, first_none}
 use Rattle.x25_judge.proofs.verdicts.Lines.{other_twice, Goes, goes, stands, none_told}
-use Rattle.x25_judge.proofs.verdicts.Octets.{IsHeld, IsSupervisory, begun_held, same_held, new_held, old_held, old_octets, last_of, bare_held}
+use Rattle.x25_judge.proofs.verdicts.Octets.{IsHeld, begun_held, same_held, new_held, old_held, old_octets, last_of, bare_held}
 
 same_to_itself : (xs : List ℕ) → same_octets xs xs ≡ true
 same_to_itself [] = refl
 same_to_itself (x ∷ xs) = and_from (x == x) (same_octets xs xs) (eq-eqb x x refl) (same_to_itself xs)
 
-abbrev HasRoom : PlainFrame → Type 0
+abbrev pub HasRoom : PlainFrame → Type 0
 HasRoom (info ns nr pf packet) = length packet ≤ 65536
 HasRoom frame = Unit {0}
 
@@ -435,7 +435,7 @@ notes_given (dm f) p = refl
 notes_given (frmr f why) p = refl
 
 -- a line has room for what it spells
-has_room : (frame : PlainFrame) → IsWithin n1 frame (information_of frame) → HasRoom frame
+pub has_room : (frame : PlainFrame) → IsWithin n1 frame (information_of frame) → HasRoom frame
 has_room (info ns nr pf packet) h = room (length packet) h
   where
     room : (x : ℕ) → x ≤ 4099 → x ≤ 65536

@@ -13,6 +13,15 @@ use Rattle.x25_judge.specs.declared.way.Way.{Way}
 use Rattle.x25_packet_judge.specs.Numbers.{apart}
 use Rattle.x25_window.specs.code.Modulo.{resolved}
 
+-- the numbers of a way that counts m frames, and no octets of them are in doubt
+pub record Numbers (w : Way) (m : ℕ) : Type 0 where
+  pub seen : way.is_unseen w ≡ false
+  pub whole : w.is_missed ≡ false
+  pub next : w.next ≡ m % 8
+  pub ever : w.ever ≡ min m 255
+  pub kept : w.kept ≡ min m 255
+  pub behind : w.behind ≤ m
+
 -- the way counts m frames, of which u are acknowledged, and nothing is in doubt
 pub record Exact (w : Way) (m u : ℕ) : Type 0 where
   pub sure : way.is_sure w ≡ true
@@ -32,22 +41,21 @@ never_told rule e = absurd (no e)
 
 -- ---- N(S)
 
--- what went is the next new number, in the window, or one of the seven before it with the same octets
-pub record IsNew (t : Told) (ns m u : ℕ) : Type 0 where
+-- what went is the next new number, or one of the seven before it with the same octets, and this is known behind it
+pub record IsNext (Q : Way → ℕ → Type 0) (t : Told) (ns m : ℕ) : Type 0 where
   pub number : ns % 8 ≡ m % 8
-  pub window : m < u + 7
-  pub exact : Exact t.way (m + 1) u
+  pub after : Q t.way (m + 1)
 
-pub record IsOld (t : Told) (is_same : Bool) (ns m u : ℕ) : Type 0 where
+pub record IsAgain (Q : Way → ℕ → Type 0) (t : Told) (is_same : Bool) (ns m : ℕ) : Type 0 where
   pub n : ℕ
   pub number : ns % 8 ≡ n % 8
   pub before : n < m
   pub near : m ≤ n + 7
   pub same : is_same ≡ true
-  pub exact : Exact t.way m u
+  pub after : Q t.way m
 
-abbrev pub IsInOrder : Told → Bool → ℕ → ℕ → ℕ → Type 0
-IsInOrder t is_same ns m u = IsNew t ns m u ⊎ IsOld t is_same ns m u
+abbrev pub IsInTurn : (Way → ℕ → Type 0) → Told → Bool → ℕ → ℕ → Type 0
+IsInTurn Q t is_same ns m = IsNext Q t ns m ⊎ IsAgain Q t is_same ns m
 
 told_never : (v w : Way) (rule : Rule) (P : Told → Type 0) → w.is_missed ≡ false → (way.told v rule w).rule ≡ None → P (way.told v rule w)
 told_never v w rule P whole = cond_both w.is_missed (way.notes SentBehindDamage v) (way.breaks rule v) (λ (t : Told). t.rule ≡ None → P t) (λ missed. absurd (both_ways w.is_missed whole missed)) (λ _ e. never_told rule e)
@@ -63,68 +71,23 @@ pending_if : (b : Bool) (p : ℕ) → b ≡ false → (if b then 7 else p) ≡ p
 pending_if true p h = absurd (both_ways true h refl)
 pending_if false p h = refl
 
-module _ (w : Way) (m u : ℕ) (h : Exact w m u) where
-  repeated_exact : (back : ℕ) → back ≤ m → Exact (way.repeated back w) m u
-  repeated_exact back le = record { sure = h.sure; whole = h.whole; next = h.next; ever = h.ever; kept = h.kept; pending = h.pending; few = h.few; behind = less back le }
-    where
-      less : (b : ℕ) → b ≤ m → b - 1 ≤ m
-      less b le = omega arith
-
-  gone_back_exact : (is_poll : Bool) (back : ℕ) → back ≤ m → Exact (way.gone_back is_poll back w) m u
-  gone_back_exact true back le = repeated_exact back le
-  gone_back_exact false back le =
-      let r = repeated_exact back le in
-      record { sure = r.sure; whole = r.whole; next = r.next; ever = r.ever; kept = r.kept; pending = r.pending; few = r.few; behind = r.behind }
-
-  grown_exact : w.pending ≤ 6 → Exact (way.grown 1 w) (m + 1) u
-  grown_exact room = record {
-    sure = sure_if (nat_lt 7 p) w.sight small h.sure;
-    whole = refl;
-    next = next_grown w.next h.next;
-    ever = ever_grown w.ever h.ever;
-    kept = ever_grown w.kept h.kept;
-    pending = ap (λ x. x + u) (pending_if (nat_lt 7 p) p small) ∙ pending_grown w.pending h.pending room;
-    few = rw (pending_if (nat_lt 7 p) p small) (few w.pending room);
-    behind = omega arith;
-  }
-    where
-      p : ℕ
-      p = min (w.pending + 1) 255
-
-      small : nat_lt 7 p ≡ false
-      small = le-ltb 7 p (few w.pending room)
-        where
-          few : (x : ℕ) → x ≤ 6 → min (x + 1) 255 ≤ 7
-          few x room = omega arith
-
-      few : (x : ℕ) → x ≤ 6 → min (x + 1) 255 ≤ 7
-      few x room = omega arith
-
-      next_grown : (x : ℕ) → x ≡ m % 8 → min (x + 1) 255 % 8 ≡ (m + 1) % 8
-      next_grown x is = omega arith
-
-      ever_grown : (x : ℕ) → x ≡ min m 255 → min (x + 1) 255 ≡ min (m + 1) 255
-      ever_grown x is = omega arith
-
-      pending_grown : (x : ℕ) → x + u ≡ m → x ≤ 6 → min (x + 1) 255 + u ≡ m + 1
-      pending_grown x is room = omega arith
-
+module _ (w : Way) (m : ℕ) (h : Numbers w m) (Q : Way → ℕ → Type 0) (repeats : (back : ℕ) → back ≤ m → Q (way.repeated back w) m) (goes_back : (is_poll : Bool) (back : ℕ) → back ≤ m → Q (way.gone_back is_poll back w) m) where
   module _ (ns : ℕ) (is_same : Bool) where
     abbrev back : ℕ
     back = apart w.next ns
 
     abbrev P : Told → Type 0
-    P t = t.rule ≡ None → IsInOrder t is_same ns m u
+    P t = t.rule ≡ None → IsInTurn Q t is_same ns m
 
     low : back ≤ 7
     low = omega arith
 
     -- a number that was sent goes again
-    again_silent : (v : Way) → 0 < back → back ≤ m → Exact v m u → P (way.again is_same back v w)
-    again_silent v some there exact =
+    again_silent : (v : Way) → 0 < back → back ≤ m → Q v m → P (way.again is_same back v w)
+    again_silent v some there after =
         cond_both (way.is_other is_same back w) (way.sent_before (way.breaks Differs v)) (way.sent_before (way.notes SentAgain v)) P
         (λ _ e. never_told Differs e)
-        (λ test _. inr (record { n = m - back; number = number w.next h.next there; before = before back some there; near = near back low; same = same test; exact = exact }))
+        (λ test _. inr (record { n = m - back; number = number w.next h.next there; before = before back some there; near = near back low; same = same test; after = after }))
       where
         number : (x : ℕ) → x ≡ m % 8 → apart x ns ≤ m → ns % 8 ≡ (m - apart x ns) % 8
         number x is there = omega arith
@@ -163,10 +126,10 @@ module _ (w : Way) (m u : ℕ) (h : Exact w m u) where
         (λ _. skips_never (nat_le back w.ever || way.has_room (9 - back) w) (9 - back)))))
       where
         skips_never : (in_order : Bool) (c : ℕ) → P (way.skips in_order c w)
-        skips_never in_order c = told_never (way.grown c w) w (if in_order then Skips (way.place w) else OverWindow 7) (λ t. IsInOrder t is_same ns m u) h.whole
+        skips_never in_order c = told_never (way.grown c w) w (if in_order then Skips (way.place w) else OverWindow 7) (λ t. IsInTurn Q t is_same ns m) h.whole
 
         again_never : (rule : Rule) → P (way.told_again (way.repeated back w) rule w)
-        again_never rule = told_again_never (way.repeated back w) w rule (λ t. IsInOrder t is_same ns m u) h.whole
+        again_never rule = told_again_never (way.repeated back w) w rule (λ t. IsInTurn Q t is_same ns m) h.whole
 
     -- the place from which frames are sent again is one that was sent
     is_near : (back == w.behind || (nat_le (way.known_pending w) back && nat_lt back w.behind)) ≡ true → back ≤ m
@@ -195,48 +158,145 @@ module _ (w : Way) (m u : ℕ) (h : Exact w m u) where
     sent_again_silent : (is_poll : Bool) → 0 < back → P (way.sent_again is_poll is_same back w)
     sent_again_silent is_poll some =
         cond_both (back == w.behind || (nat_le (way.known_pending w) back && nat_lt back w.behind)) (way.again is_same back (way.repeated back w) w) _ P
-        (λ test. again_silent (way.repeated back w) some (is_near test) (repeated_exact back (is_near test)))
+        (λ test. again_silent (way.repeated back w) some (is_near test) (repeats back (is_near test)))
         (λ _. cond_both (way.may_go_back is_poll back w) (way.again is_same back (way.gone_back is_poll back w) w) (way.unexplained is_same back w) P
-        (λ test. again_silent (way.gone_back is_poll back w) some (may_go is_poll test) (gone_back_exact is_poll back (may_go is_poll test)))
+        (λ test. again_silent (way.gone_back is_poll back w) some (may_go is_poll test) (goes_back is_poll back (may_go is_poll test)))
         (λ _. unexplained_silent))
 
-    sent_new_silent : (window : ℕ) → window ≤ 7 → back ≤ 0 → P (way.sent_new window w)
-    sent_new_silent window small none =
+    -- the next new one, within the window that the judge has
+    sent_new_silent : (window : ℕ) → ((way.is_sure w && nat_le window w.pending) ≡ false → Q (way.grown 1 w) (m + 1)) → back ≤ 0 → P (way.sent_new window w)
+    sent_new_silent window grows none =
         cond_both (way.is_sure w && nat_le window w.pending) (way.breaks (OverWindow (way.passed window w)) (way.grown 1 w)) (way.quiet (way.grown 1 w)) P
         (λ _ e. never_told (OverWindow (way.passed window w)) e)
-        (λ test _. inl (record { number = number w.next h.next none; window = near w.pending h.pending (room test); exact = grown_exact (room test) }))
+        (λ test _. inl (record { number = number w.next h.next none; after = grows test }))
       where
         number : (x : ℕ) → x ≡ m % 8 → apart x ns ≤ 0 → ns % 8 ≡ m % 8
         number x is none = omega arith
 
-        near : (p : ℕ) → p + u ≡ m → p ≤ 6 → m < u + 7
-        near p is room = omega arith
-
-        below : (p : ℕ) → p < window → p ≤ 6
-        below p lt = omega (arith, small)
-
-        room : (way.is_sure w && nat_le window w.pending) ≡ false → w.pending ≤ 6
-        room test = go (and_cases (way.is_sure w) (nat_le window w.pending) test)
-          where
-            go : ((way.is_sure w ≡ false) ⊎ (nat_le window w.pending ≡ false)) → w.pending ≤ 6
-            go (inl e) = absurd (both_ways (way.is_sure w) e h.sure)
-            go (inr e) = below w.pending (leb-false window w.pending e)
-
-    pub sent_silent : (window : ℕ) (is_poll : Bool) → window ≤ 7 → P (way.sent window ns is_poll is_same w)
-    sent_silent window is_poll small =
+    pub sent_in_turn : (window : ℕ) (is_poll : Bool) → ((way.is_sure w && nat_le window w.pending) ≡ false → Q (way.grown 1 w) (m + 1)) → P (way.sent window ns is_poll is_same w)
+    sent_in_turn window is_poll grows =
         cond_both (way.is_unseen w) (way.quiet (way.counted w)) (way.sent_number window is_poll is_same back w) P
-        (λ test. absurd (seen w.sight test h.sure))
+        (λ test. absurd (both_ways (way.is_unseen w) h.seen test))
         (λ _. cond_both (nat_lt 0 back) (way.sent_again is_poll is_same back w) _ P
         (λ test. sent_again_silent is_poll (ltb-true 0 back test))
         (λ test. cond_both (w.behind == 0 || way.known_pending w == 0) (way.sent_new window w) (way.unexplained is_same back w) P
-        (λ _. sent_new_silent window small (ltb-false 0 back test))
+        (λ _. sent_new_silent window grows (ltb-false 0 back test))
         (λ _. unexplained_silent)))
-      where
-        seen : (s : Sight) → way.is_unseen_sight s ≡ true → way.is_sure_sight s ≡ true → ⊥
-        seen Unseen e f = both_ways false refl f
-        seen Deaf e f = both_ways false refl e
-        seen Astray e f = both_ways false refl e
-        seen Sure e f = both_ways false refl e
+
+-- ---- with nothing known of what is acknowledged
+
+seen_if : (b : Bool) (s : Sight) → way.is_unseen_sight s ≡ false → way.is_unseen_sight (if b then Deaf else s) ≡ false
+seen_if true s h = refl
+seen_if false s h = h
+
+next_grown : (x m : ℕ) → x ≡ m % 8 → min (x + 1) 255 % 8 ≡ (m + 1) % 8
+next_grown x m is = omega arith
+
+ever_grown : (x m : ℕ) → x ≡ min m 255 → min (x + 1) 255 ≡ min (m + 1) 255
+ever_grown x m is = omega arith
+
+less : (m b : ℕ) → b ≤ m → b - 1 ≤ m
+less m b le = omega arith
+
+module _ (w : Way) (m : ℕ) (h : Numbers w m) where
+  repeated_numbers : (back : ℕ) → back ≤ m → Numbers (way.repeated back w) m
+  repeated_numbers back le = record { seen = h.seen; whole = h.whole; next = h.next; ever = h.ever; kept = h.kept; behind = less m back le }
+
+  gone_back_numbers : (is_poll : Bool) (back : ℕ) → back ≤ m → Numbers (way.gone_back is_poll back w) m
+  gone_back_numbers true back le = repeated_numbers back le
+  gone_back_numbers false back le = record { seen = h.seen; whole = h.whole; next = h.next; ever = h.ever; kept = h.kept; behind = less m back le }
+
+  grown_numbers : Numbers (way.grown 1 w) (m + 1)
+  grown_numbers = record { seen = seen_if (nat_lt 7 (min (w.pending + 1) 255)) w.sight h.seen; whole = refl; next = next_grown w.next m h.next; ever = ever_grown w.ever m h.ever; kept = ever_grown w.kept m h.kept; behind = omega arith }
+
+  pub sent_numbers : (ns : ℕ) (is_same : Bool) (window : ℕ) (is_poll : Bool) → (way.sent window ns is_poll is_same w).rule ≡ None → IsInTurn Numbers (way.sent window ns is_poll is_same w) is_same ns m
+  sent_numbers ns is_same window is_poll = sent_in_turn w m h Numbers repeated_numbers gone_back_numbers ns is_same window is_poll (λ _. grown_numbers)
+
+-- ---- with all known
+
+-- in the window too
+pub record IsNew (t : Told) (ns m u : ℕ) : Type 0 where
+  pub number : ns % 8 ≡ m % 8
+  pub window : m < u + 7
+  pub exact : Exact t.way (m + 1) u
+
+pub record IsOld (t : Told) (is_same : Bool) (ns m u : ℕ) : Type 0 where
+  pub n : ℕ
+  pub number : ns % 8 ≡ n % 8
+  pub before : n < m
+  pub near : m ≤ n + 7
+  pub same : is_same ≡ true
+  pub exact : Exact t.way m u
+
+abbrev pub IsInOrder : Told → Bool → ℕ → ℕ → ℕ → Type 0
+IsInOrder t is_same ns m u = IsNew t ns m u ⊎ IsOld t is_same ns m u
+
+module _ (w : Way) (m u : ℕ) (h : Exact w m u) where
+  repeated_exact : (back : ℕ) → back ≤ m → Exact (way.repeated back w) m u
+  repeated_exact back le = record { sure = h.sure; whole = h.whole; next = h.next; ever = h.ever; kept = h.kept; pending = h.pending; few = h.few; behind = less m back le }
+
+  gone_back_exact : (is_poll : Bool) (back : ℕ) → back ≤ m → Exact (way.gone_back is_poll back w) m u
+  gone_back_exact true back le = repeated_exact back le
+  gone_back_exact false back le =
+      let r = repeated_exact back le in
+      record { sure = r.sure; whole = r.whole; next = r.next; ever = r.ever; kept = r.kept; pending = r.pending; few = r.few; behind = r.behind }
+
+  grown_exact : w.pending ≤ 6 → Exact (way.grown 1 w) (m + 1) u
+  grown_exact room = record {
+    sure = sure_if (nat_lt 7 p) w.sight small h.sure;
+    whole = refl;
+    next = next_grown w.next m h.next;
+    ever = ever_grown w.ever m h.ever;
+    kept = ever_grown w.kept m h.kept;
+    pending = ap (λ x. x + u) (pending_if (nat_lt 7 p) p small) ∙ pending_grown w.pending h.pending room;
+    few = rw (pending_if (nat_lt 7 p) p small) (few w.pending room);
+    behind = omega arith;
+  }
+    where
+      p : ℕ
+      p = min (w.pending + 1) 255
+
+      small : nat_lt 7 p ≡ false
+      small = le-ltb 7 p (few w.pending room)
+        where
+          few : (x : ℕ) → x ≤ 6 → min (x + 1) 255 ≤ 7
+          few x room = omega arith
+
+      few : (x : ℕ) → x ≤ 6 → min (x + 1) 255 ≤ 7
+      few x room = omega arith
+
+      pending_grown : (x : ℕ) → x + u ≡ m → x ≤ 6 → min (x + 1) 255 + u ≡ m + 1
+      pending_grown x is room = omega arith
+
+  numbers : Numbers w m
+  numbers = record { seen = seen w.sight h.sure; whole = h.whole; next = h.next; ever = h.ever; kept = h.kept; behind = h.behind }
+    where
+      seen : (s : Sight) → way.is_sure_sight s ≡ true → way.is_unseen_sight s ≡ false
+      seen Unseen e = absurd (both_ways false refl e)
+      seen Deaf e = absurd (both_ways false refl e)
+      seen Astray e = absurd (both_ways false refl e)
+      seen Sure e = refl
+
+  room : (window : ℕ) → window ≤ 7 → (way.is_sure w && nat_le window w.pending) ≡ false → w.pending ≤ 6
+  room window small test = go (and_cases (way.is_sure w) (nat_le window w.pending) test)
+    where
+      below : (p : ℕ) → p < window → p ≤ 6
+      below p lt = omega (arith, small)
+
+      go : ((way.is_sure w ≡ false) ⊎ (nat_le window w.pending ≡ false)) → w.pending ≤ 6
+      go (inl e) = absurd (both_ways (way.is_sure w) e h.sure)
+      go (inr e) = below w.pending (leb-false window w.pending e)
+
+  pub sent_silent : (ns : ℕ) (is_same : Bool) (window : ℕ) (is_poll : Bool) → window ≤ 7 → (way.sent window ns is_poll is_same w).rule ≡ None → IsInOrder (way.sent window ns is_poll is_same w) is_same ns m u
+  sent_silent ns is_same window is_poll small none =
+      order (sent_in_turn w m numbers (λ v n. Exact v n u) repeated_exact gone_back_exact ns is_same window is_poll (λ test. grown_exact (room window small test)) none)
+    where
+      near : (p : ℕ) → p + u ≡ m + 1 → p ≤ 7 → m < u + 7
+      near p is few = omega arith
+
+      order : IsInTurn (λ v n. Exact v n u) (way.sent window ns is_poll is_same w) is_same ns m → IsInOrder (way.sent window ns is_poll is_same w) is_same ns m u
+      order (inl new) = inl (record { number = new.number; window = near (way.sent window ns is_poll is_same w).way.pending new.after.pending new.after.few; exact = new.after })
+      order (inr old) = inr (record { n = old.n; number = old.number; before = old.before; near = old.near; same = old.same; exact = old.after })
 
 -- ---- N(R)
 

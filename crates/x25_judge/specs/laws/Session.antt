@@ -49,6 +49,11 @@ IsNumbered (rnr command nr pf) = Unit {0}
 IsNumbered (rej command nr pf) = Unit {0}
 IsNumbered frame = ⊥
 
+-- it has no N(S)
+abbrev pub IsSupervisory : PlainFrame → Type 0
+IsSupervisory (info ns nr pf octets) = ⊥
+IsSupervisory frame = Unit {0}
+
 -- ---- rules
 
 -- the rule that is told of a frame

@@ -15,7 +15,7 @@ use Rattle.x25_line.specs.laws.Peer.{Peer}
 use Rattle.x25_link.specs.Hearing.{other}
 use Rattle.x25_link.specs.Station.{Settings}
 use Rattle.x25_sessions.specs.laws.PeerSessions.{Stand}
-use Rattle.x25_judge.specs.laws.Explaining.{IsQuiet, IsKept}
+use Rattle.x25_judge.specs.laws.Explaining.{IsQuiet, IsKept, IsUntold, Carries}
 use Rattle.x25_judge.specs.laws.Keeping.{MaySend, MayBe}
 use Rattle.x25_judge.specs.laws.Sessions.{MaySay, MayStand}
 use Rattle.x25_judge.specs.laws.Session.{end_of, IsSetUp, Shows, IsNumbered, rule_of, is_of_order}
@@ -52,6 +52,12 @@ SilenceMeansOrder =
 abbrev pub SilenceMeansRules : Type 0
 SilenceMeansRules =
     (from : Role) (j : Judge) (lines : List (List ℕ)) → IsQuiet j lines → (p : Peer) × IsKept from lines p
+
+-- and where lines of the other end are damaged, whatever is told of it, each number of an end carries one packet
+abbrev pub SilenceMeansNumbers : Type 0
+SilenceMeansNumbers =
+    (from : Role) (j : Judge) (lines : List (List ℕ)) → IsUntold from j lines
+    → (given : List (List ℕ)) × Carries from lines given
 
 -- what the judge is behind these lines
 abbrev pub after : Judge → List (List ℕ) → Judge
