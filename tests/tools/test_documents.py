@@ -99,7 +99,7 @@ class Names(unittest.TestCase):
         for document in documents():
             for code in code_of(text_of(document)):
                 if not is_path(code):
-                    for word in re.findall(r"\w+(?!\w*\*)", HOLDERS.sub("x25_bits", code)):
+                    for word in re.findall(r"\w+(?!\w*\*)", HOLDERS.sub("x25_link", code)):
                         if "_" in word.strip("_") or re.search(r"[a-z][A-Z]", word):
                             with self.subTest(f"{document}: {code}"):
                                 self.assertIn(word, self.words)
