@@ -20,7 +20,7 @@ ELSEWHERE = ("build/*", "out/*", "/*", "../x25_*", "net/*", "AnswersOffered.antt
 # What a name may be part of: FILE.FUNCTION.what.edit, crates/NAME/CLAIMS.md, NAME_tests.
 HOLDERS = re.compile(r"NAME|CRATE|FILE|FUNCTION|\bwhat\b")
 ENDINGS = ("rt", "antt", "md", "py", "sh", "c", "h", "txt", "svg", "edit", "script", "trace", "gz", "bash")
-OF_TESTS = ("x25_embed", "x25_refusals", "x25_failing_devices")
+OF_TESTS = ("x25_embed", "x25_refusals")
 
 
 def text_of(*path):
