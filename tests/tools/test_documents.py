@@ -20,7 +20,7 @@ ELSEWHERE = ("build/*", "out/*", "/*", "../x25_*", "net/*", "AnswersOffered.antt
 # What a name may be part of: FILE.FUNCTION.what.edit, crates/NAME/CLAIMS.md, NAME_tests.
 HOLDERS = re.compile(r"NAME|CRATE|FILE|FUNCTION|\bwhat\b")
 ENDINGS = ("rt", "antt", "md", "py", "sh", "c", "h", "txt", "svg", "edit", "script", "trace", "gz", "bash")
-OF_TESTS = ("x25_embed", "x25_refusals", "x25_failing_devices")
+OF_TESTS = ("x25_embed", "x25_refusals")
 
 
 def text_of(*path):
@@ -99,7 +99,7 @@ class Names(unittest.TestCase):
         for document in documents():
             for code in code_of(text_of(document)):
                 if not is_path(code):
-                    for word in re.findall(r"\w+(?!\w*\*)", HOLDERS.sub("x25_bits", code)):
+                    for word in re.findall(r"\w+(?!\w*\*)", HOLDERS.sub("x25_link", code)):
                         if "_" in word.strip("_") or re.search(r"[a-z][A-Z]", word):
                             with self.subTest(f"{document}: {code}"):
                                 self.assertIn(word, self.words)

@@ -82,7 +82,7 @@ def crates_and_what_they_use():
     """The crates of crates.txt, but for those of tests, each with what it stands on, in their order there."""
     text = support.read(os.path.join(support.ROOT, "crates.txt")).decode()
     lines = [line.partition(":") for line in text.splitlines() if line.strip() and not line.startswith("#")]
-    return {name.split()[0]: low.split() for name, _, low in lines if not name.endswith("_tests") and name != "x25_failing_devices"}
+    return {name.split()[0]: low.split() for name, _, low in lines if not name.endswith("_tests")}
 
 
 class Crates(unittest.TestCase):

@@ -1,16 +1,18 @@
-//! Tests of `decode`, `sim`, `station`, `deframe` and `frame` over readers and writers that fail, or that take and give
-//! a few octets at a time; `tests/golden` has worked traces, scripts and sessions.
+//! Tests of `x25_io`, and of `decode`, `sim`, `station`, `deframe` and `frame` over readers and writers that fail, or
+//! that take and give a few octets at a time; `tests/golden` has worked traces, scripts and sessions.
 #![tactic(auto)]
 
 #[cfg(test)]
-mod deframed;
+mod devices;
 #[cfg(test)]
-mod framed;
+mod faults;
+#[cfg(test)]
+mod lines;
+#[cfg(test)]
+mod output;
+#[cfg(test)]
+mod pieces;
 #[cfg(test)]
 mod runs;
 #[cfg(test)]
-mod scripts;
-#[cfg(test)]
-mod sessions;
-#[cfg(test)]
-mod traces;
+mod statuses;

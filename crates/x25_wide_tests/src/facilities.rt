@@ -19,7 +19,7 @@ static FIELDS: [(&[u8], bool); 12] = [
 
 #[test]
 fn facilities_of_each_class(rt: HostRuntime) {
-    for (field, wanted) in FIELDS {
+    for &(field, wanted) in &FIELDS {
         assert_eq!(rt; are_facilities(field), wanted, "{field:?}");
     }
 }
@@ -59,43 +59,45 @@ const WINDOWS: Option<Directions> = Some(Directions {
     calling: 3,
 });
 
+/// A facility field, and those of its facilities that stand before a marker.
+static OWN: [(&[u8], Own); 4] = [
+    (
+        &[0x43, 2, 3, 0x01, 0x81, 0x42, 8, 7],
+        Own {
+            fast_select: true,
+            packet_size: SIZES,
+            window_size: WINDOWS,
+        },
+    ),
+    (
+        &[0x01, 0x80, 0x01, 0x01],
+        Own {
+            fast_select: false,
+            packet_size: None,
+            window_size: None,
+        },
+    ),
+    (
+        &[0x42, 8, 7, 0x00, 0x0F, 0x43, 2, 3, 0x01, 0x80],
+        Own {
+            fast_select: false,
+            packet_size: SIZES,
+            window_size: None,
+        },
+    ),
+    (
+        &[0xC9, 3, 0x42, 8, 7, 0x43, 2, 3],
+        Own {
+            fast_select: false,
+            packet_size: None,
+            window_size: WINDOWS,
+        },
+    ),
+];
+
 #[test]
 fn facilities_before_a_marker(rt: HostRuntime) {
-    let rows: [(&[u8], Own); 4] = [
-        (
-            &[0x43, 2, 3, 0x01, 0x81, 0x42, 8, 7],
-            Own {
-                fast_select: true,
-                packet_size: SIZES,
-                window_size: WINDOWS,
-            },
-        ),
-        (
-            &[0x01, 0x80, 0x01, 0x01],
-            Own {
-                fast_select: false,
-                packet_size: None,
-                window_size: None,
-            },
-        ),
-        (
-            &[0x42, 8, 7, 0x00, 0x0F, 0x43, 2, 3, 0x01, 0x80],
-            Own {
-                fast_select: false,
-                packet_size: SIZES,
-                window_size: None,
-            },
-        ),
-        (
-            &[0xC9, 3, 0x42, 8, 7, 0x43, 2, 3],
-            Own {
-                fast_select: false,
-                packet_size: None,
-                window_size: WINDOWS,
-            },
-        ),
-    ];
-    for (field, wanted) in rows {
-        assert_eq!(rt; own_facilities(field), wanted, "{field:?}");
+    for &(field, wanted) in &OWN {
+        assert!(rt; own_facilities(field) == wanted, "{field:?}");
     }
 }

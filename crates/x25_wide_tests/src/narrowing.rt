@@ -1,34 +1,48 @@
-use std::test::Fail;
-use x25_packet::{Digits, Packet, PacketError};
+use crate::fields::are_digits;
+use std::alloc::Global;
+use x25_packet::{Packet, PacketError};
 use x25_wide::{NarrowField, decode, narrow, read, reads_alike, take, taking_keeps_octets};
 
-/// What is taken of a packet: a cause, a diagnostic, and the facility field in hexadecimal.
-type Taken = (u8, u8, &'static str);
+/// What is taken of a packet: a cause, a diagnostic, and the facility field.
+type Taken = (u8, u8, &'static [u8]);
 
-/// Octets in hexadecimal, and what a station takes of them, or the number of the error that they are for it.
-static ROWS: [(&str, Result<Taken, u8>); 19] = [
-    ("10010b431234567000", Ok((0, 0, ""))),
-    ("50010b11120201014142", Ok((0, 0, ""))),
-    ("10010b111206430202420707", Ok((0, 0, "420707430202"))),
-    ("10010b1112084207070000420808", Ok((0, 0, "420707"))),
-    ("10010b1112", Ok((0, 0, ""))),
-    ("90010b0605114930201320064207", Err(20)),
+/// Octets in hexadecimal, the number of the error that they are for a station, or 0, and what it takes of them.
+static ROWS: [(&str, u8, Taken); 19] = [
+    ("10010b431234567000", 0, (0, 0, &[])),
+    ("50010b11120201014142", 0, (0, 0, &[])),
+    (
+        "10010b111206430202420707",
+        0,
+        (0, 0, &[0x42, 0x07, 0x07, 0x43, 0x02, 0x02]),
+    ),
+    (
+        "10010b1112084207070000420808",
+        0,
+        (0, 0, &[0x42, 0x07, 0x07]),
+    ),
+    ("10010b1112", 0, (0, 0, &[])),
+    ("90010b0605114930201320064207", 20, (0, 0, &[])),
     (
         "90010b060511493020132006420707430202",
-        Ok((0, 0, "420707430202")),
+        0,
+        (0, 0, &[0x42, 0x07, 0x07, 0x43, 0x02, 0x02]),
     ),
-    ("10010f0000", Ok((0, 0, ""))),
-    ("10010f11120343020241", Ok((0, 0, "430202"))),
-    ("10011305", Ok((5, 0, ""))),
-    ("10011305410000c0ffee", Ok((5, 65, ""))),
-    ("10011b05", Ok((5, 0, ""))),
-    ("1000fb0741", Ok((7, 65, ""))),
-    ("100149", Err(22)),
-    ("1000f121", Err(22)),
-    ("10010b111203420307", Err(26)),
-    ("10010b111206420808430303", Ok((0, 0, "420808430303"))),
-    ("1001130541", Ok((5, 65, ""))),
-    ("1001", Err(20)),
+    ("10010f0000", 0, (0, 0, &[])),
+    ("10010f11120343020241", 0, (0, 0, &[0x43, 0x02, 0x02])),
+    ("10011305", 0, (5, 0, &[])),
+    ("10011305410000c0ffee", 0, (5, 65, &[])),
+    ("10011b05", 0, (5, 0, &[])),
+    ("1000fb0741", 0, (7, 65, &[])),
+    ("100149", 22, (0, 0, &[])),
+    ("1000f121", 22, (0, 0, &[])),
+    ("10010b111203420307", 26, (0, 0, &[])),
+    (
+        "10010b111206420808430303",
+        0,
+        (0, 0, &[0x42, 0x08, 0x08, 0x43, 0x03, 0x03]),
+    ),
+    ("1001130541", 0, (5, 65, &[])),
+    ("1001", 20, (0, 0, &[])),
 ];
 
 fn told<'a>(packet: &Packet<'a>) -> (u8, u8, &'a [u8]) {
@@ -49,34 +63,56 @@ fn told<'a>(packet: &Packet<'a>) -> (u8, u8, &'a [u8]) {
     }
 }
 
-/// Whether this is taken of octets, read in all forms.
-fn is_narrowed(
-    octets: &[u8],
-    cause: u8,
-    diagnostic: u8,
-    field: &[u8],
-) -> Result<bool, PacketError> {
+// The number of the error, 0 where a packet tells what is wanted, and else 255.
+fn number_of(taken: &Result<Packet, PacketError>, wanted: &Taken) -> u8 {
+    match taken {
+        Ok(packet) => {
+            let (cause, diagnostic, field) = told(packet);
+            let is_wanted = cause == wanted.0 && diagnostic == wanted.1 && field == wanted.2;
+            if is_wanted { 0 } else { 255 }
+        }
+        Err(error) => error.number(),
+    }
+}
+
+/// Of octets that are read in all forms.
+fn narrowed(octets: &[u8], wanted: &Taken) -> Result<u8, PacketError> {
     let packet = decode(16, octets)?;
     let own = NarrowField::of(&packet)?;
-    let taken = narrow(&packet, &own)?;
-    let (a, b, c) = told(&taken);
-    Ok(a == cause && b == diagnostic && c == field)
+    Ok(number_of(&narrow(&packet, &own), wanted))
 }
 
-/// Whether a station takes this of octets.
-fn is_taken(octets: &[u8], cause: u8, diagnostic: u8, field: &[u8]) -> Result<bool, PacketError> {
+/// Of octets that a station takes.
+fn taken(octets: &[u8], wanted: &Taken) -> u8 {
     let mut own = NarrowField::none();
-    let taken = take(16, octets, &mut own)?;
-    let (a, b, c) = told(&taken);
-    Ok(a == cause && b == diagnostic && c == field)
+    number_of(&take(16, octets, &mut own), wanted)
 }
 
-/// The same of what a station reads that reads all forms.
-fn is_read(octets: &[u8], cause: u8, diagnostic: u8, field: &[u8]) -> Result<bool, PacketError> {
+/// Of octets that a station reads that reads all forms.
+fn read_in_all(octets: &[u8], wanted: &Taken) -> u8 {
     let mut own = NarrowField::none();
-    let taken = read(16, octets, Some(&mut own))?;
-    let (a, b, c) = told(&taken);
-    Ok(a == cause && b == diagnostic && c == field)
+    number_of(&read(16, octets, Some(&mut own)), wanted)
+}
+
+fn numbers(octets: &[u8], wanted: &Taken) -> (u8, u8, u8) {
+    let narrowed = match narrowed(octets, wanted) {
+        Ok(number) => number,
+        Err(error) => error.number(),
+    };
+    (narrowed, taken(octets, wanted), read_in_all(octets, wanted))
+}
+
+fn numbers_of(alloc: Global, text: &str, wanted: &Taken) -> Option<(u8, u8, u8)> {
+    let octets = hex::decode(alloc, text).ok()?;
+    Some(numbers(octets.as_slice(), wanted))
+}
+
+#[test]
+fn taken_for_packets(rt: HostRuntime) {
+    for &(text, number, wanted) in &ROWS {
+        let found = numbers_of(rt.alloc(), text, &wanted);
+        assert_eq!(rt; found, Some((number, number, number)), "{text}");
+    }
 }
 
 /// The error of octets in the form that a station writes, or 0.
@@ -87,32 +123,15 @@ fn strict_error(octets: &[u8]) -> u8 {
     }
 }
 
-fn is_right(found: Result<bool, PacketError>, wanted: Result<Taken, u8>) -> bool {
-    match (found, wanted) {
-        (Ok(same), Ok(_)) => same,
-        (Err(error), Err(number)) => error.number() == number,
-        _ => false,
-    }
-}
-
 #[test]
-fn taken_for_packets(rt: HostRuntime) -> Result<(), Fail> {
-    for (text, wanted) in ROWS {
-        let octets = hex::decode(rt.alloc(), text)?;
-        let (cause, diagnostic, field) = wanted.unwrap_or((0, 0, ""));
-        let field = hex::decode(rt.alloc(), field)?;
-        let narrowed = is_narrowed(octets.as_slice(), cause, diagnostic, field.as_slice());
-        let taken = is_taken(octets.as_slice(), cause, diagnostic, field.as_slice());
-        assert!(rt; is_right(narrowed, wanted), "{text}");
-        assert!(rt; is_right(taken, wanted), "{text}");
-        let read = is_read(octets.as_slice(), cause, diagnostic, field.as_slice());
-        assert!(rt; is_right(read, wanted), "{text}");
-    }
-    assert_eq!(rt; strict_error(&[0x10, 0x01, 0x13, 0x05]), 20);
-    assert_eq!(rt; strict_error(&[0x10, 0x01, 0x13, 0x05, 0x00]), 0);
+fn reads_the_form_that_a_station_writes(rt: HostRuntime) {
     reads_alike();
     taking_keeps_octets();
-    Ok(())
+    let short = strict_error(&[0x10, 0x01, 0x13, 0x05]);
+    assert_eq!(rt;
+        (short, strict_error(&[0x10, 0x01, 0x13, 0x05, 0x00])),
+        (20, 0)
+    );
 }
 
 /// The octets of a CALL whose addresses have their types and plans, and the addresses that a station takes.
@@ -130,37 +149,31 @@ static TYPED: [(&str, &str, &str); 7] = [
     ("90010b040513c0134980", "", ""),
 ];
 
-fn are_digits(found: &Digits, wanted: &str) -> bool {
-    let wanted = wanted.as_bytes();
-    if found.len() != wanted.len() {
-        return false;
-    }
-    for place in 0..wanted.len() {
-        if found.get(place) + 48 != wanted[place] {
-            return false;
-        }
-    }
-    true
-}
-
-#[test]
-fn addresses_with_types_taken(rt: HostRuntime) -> Result<(), Fail> {
-    for (text, wanted_called, wanted_calling) in TYPED {
-        let octets = hex::decode(rt.alloc(), text)?;
-        let mut field = NarrowField::none();
-        let taken = take(16, octets.as_slice(), &mut field);
-        let Ok(
+// Whether these addresses are taken of a CALL.
+fn are_taken(octets: &[u8], wanted_called: &str, wanted_calling: &str) -> bool {
+    let mut field = NarrowField::none();
+    match take(16, octets, &mut field) {
+        Ok(
             Packet::Call {
                 called,
                 calling,
                 ..
             },
-        ) = taken
-        else {
-            return Err(Fail::from("a CALL"));
-        };
-        assert!(rt; are_digits(&called, wanted_called), "{text}");
-        assert!(rt; are_digits(&calling, wanted_calling), "{text}");
+        ) => are_digits(&called, wanted_called) && are_digits(&calling, wanted_calling),
+        _ => false,
     }
-    Ok(())
+}
+
+fn takes(alloc: Global, text: &str, called: &str, calling: &str) -> bool {
+    match hex::decode(alloc, text) {
+        Ok(octets) => are_taken(octets.as_slice(), called, calling),
+        Err(_) => false,
+    }
+}
+
+#[test]
+fn addresses_with_types_taken(rt: HostRuntime) {
+    for &(text, called, calling) in &TYPED {
+        assert!(rt; takes(rt.alloc(), text, called, calling), "{text}");
+    }
 }

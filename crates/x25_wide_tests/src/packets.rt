@@ -1,140 +1,243 @@
-use std::test::Fail;
-use x25_wide::{Kind, WidePacket, decode};
+use std::alloc::Global;
+use x25_packet::{
+    NoMemory, Packet, PacketError, channel, decode, decode_long, decode_within, encode,
+    longest_user,
+};
 
 /// Octets in hexadecimal, and the number of their error, 0 where they spell a packet.
-static ROWS: [(&str, u8); 61] = [
-    // CALL: D; reverse charging; facilities of an OSI stack; no facility length; 17 octets of user data without and
-    // with fast select; a field of 110 octets; a facility whose octets are missing; a digit that is none
-    ("50010b111200", 0),
-    ("10010b1112020101", 0),
-    ("10010b111208000fc902123401ff", 0),
-    ("10010b1112", 0),
-    ("10010b11120001020304050607080910111213141516", 0),
-    ("10010b1112000102030405060708091011121314151617", 23),
-    ("10010b1112020180000102030405060708091011121314151617", 0),
-    ("10010b11126e", 23),
-    ("10010b1112054207074302", 26),
-    ("10010b1112064207074302", 20),
-    ("10010b11120442070743", 26),
-    ("10010b111a00", 24),
-    ("10010b", 20),
-    ("10010b11", 20),
-    ("d0011b00", 21),
-    // addresses with their types and plans: two of digits; none; a type alone; an alternative address; the longest; a
-    // length is missing; octets are missing; a half octet that is left over isn't 0; in an ACCEPT, a CLEAR and its
-    // confirmation; without addresses; in a RESET and a RR, which have no A
-    ("90010b0708114930113208075000", 0),
-    ("90010b07071149301132080700", 0),
-    ("90010b0000", 0),
-    ("90010b010010", 0),
-    ("90010b0a0050c0a80001", 0),
-    ("d0010b060013123400", 0),
-    ("90010b00", 20),
-    ("90010b030013", 20),
-    ("90010b0300131f", 24),
-    ("90010f030313113200", 0),
-    ("90011305410300131000", 0),
-    ("90011703001310", 0),
-    ("900113", 20),
-    ("90011b00", 21),
-    // ACCEPT: basic, lengths, a facility field, user data
-    ("10010f", 0),
-    ("10010f00", 0),
-    ("10010f0000", 0),
-    ("50010f", 0),
-    ("10010f111203420707", 0),
-    ("10010f000041", 0),
-    ("10010f1112034207", 20),
-    // CLEAR and its confirmation: the cause alone, a diagnostic, the extended format
-    ("100113", 20),
-    ("10011300", 0),
-    ("1001130541", 0),
-    ("100113054100", 0),
-    ("10011305410000c0ffee", 0),
-    ("5001130000", 21),
-    ("100117", 0),
-    ("1001170000", 0),
-    ("100117000041", 23),
-    // RESET and RESTART: the cause alone
-    ("10011b", 20),
-    ("10011b00", 0),
-    ("10011b000000", 23),
-    ("1000fb07", 0),
+static ROWS: [(&str, u8); 29] = [
+    ("1000fb0000", 0),
+    ("1000fb0700", 0),
     ("1000ff", 0),
-    // DATA with D; REJ; DIAGNOSTIC; REGISTRATION
-    ("5001024142", 0),
-    ("d00102", 0),
-    ("100149", 0),
-    ("10014900", 23),
-    ("1000f1", 20),
-    ("1000f12110010b", 0),
-    ("1000f12110010b00", 23),
-    ("1000f30000", 0),
-    ("1000f7", 0),
-    // no packet modulo 8, and types that none has
-    ("2001ff", 21),
-    ("100119", 22),
+    ("9001b4", 0),
+    ("d001b4", 21),
+    ("10010b43123456700041", 0),
+    ("10010b43123456710041", 24),
+    ("10010b111206420707430202", 0),
+    ("10010b111206430202420707", 25),
+    ("10010b111206420307430202", 26),
+    ("10010b1112024207", 26),
+    ("10011300", 20),
+    ("1001130000", 0),
+    ("100113000000", 23),
+    ("9001130000", 21),
+    ("1001fb0000", 22),
+    ("100109", 22),
+    ("1000f1", 22),
+    ("10010f", 0),
+    ("10010f00", 20),
+    ("10010f01", 24),
+    ("10010f0000", 26),
+    ("100123", 20),
+    ("10012300", 0),
+    ("1fff27", 0),
+    ("11001b0501", 0),
+    ("10011f", 0),
+    ("100117", 0),
+    ("100141", 0),
+];
+
+/// The number of the error, 0 where there is none.
+fn number_in(read: Result<Packet, PacketError>) -> u8 {
+    match read {
+        Ok(_) => 0,
+        Err(error) => error.number(),
+    }
+}
+
+// The number of the error that the octets have, 0 where they spell a packet and are what it is spelled as, and none
+// where it is spelled otherwise or there is no memory.
+fn error_number(alloc: Global, octets: &[u8]) -> Option<u8> {
+    let packet = match decode(octets) {
+        Ok(packet) => packet,
+        Err(error) => return Some(error.number()),
+    };
+    let mut again = Vec::new(alloc);
+    if encode(&packet, &mut again).is_err() || again.as_slice() != octets {
+        return None;
+    }
+    Some(0)
+}
+
+// The errors that `decode` and `decode_long` tell of these octets.
+fn errors_of(alloc: Global, text: &str) -> Option<(u8, u8)> {
+    let octets = hex::decode(alloc, text).ok()?;
+    let number = error_number(alloc, octets.as_slice())?;
+    Some((number, number_in(decode_long(octets.as_slice()))))
+}
+
+#[test]
+fn packets_and_errors(rt: HostRuntime) {
+    for &(text, number) in &ROWS {
+        assert_eq!(rt;
+            errors_of(rt.alloc(), text),
+            Some((number, number)),
+            "{text}"
+        );
+    }
+}
+
+/// The first octets of a packet, how many 0 octets follow, as many as may and one more, and the error.
+static LONGEST: [(&[u8], usize, u8); 6] = [
+    (&[0x10, 0x01, 0x23], 32, 0),
+    (&[0x10, 0x01, 0x23], 33, 23),
+    (&[0x10, 0x01, 0x00], 4096, 0),
+    (&[0x10, 0x01, 0x00], 4097, 23),
+    (&[0x10, 0x01, 0x0B, 0, 0], 16, 0),
+    (&[0x10, 0x01, 0x0B, 0, 0], 17, 23),
+];
+
+/// The head with so many 0 octets behind it.
+fn lengthened(alloc: Global, head: &[u8], count: usize) -> Result<Vec<u8>, NoMemory> {
+    let mut octets = head.to_vec(alloc)?;
+    for _ in 0..count {
+        octets.push(0)?;
+    }
+    Ok(octets)
+}
+
+fn error_of_long(alloc: Global, head: &[u8], count: usize) -> Option<u8> {
+    let octets = lengthened(alloc, head, count).ok()?;
+    error_number(alloc, octets.as_slice())
+}
+
+#[test]
+fn longest_bodies(rt: HostRuntime) {
+    for &(head, count, number) in &LONGEST {
+        let found = error_of_long(rt.alloc(), head, count);
+        assert_eq!(rt; found, Some(number), "{head:?} {count}");
+    }
+}
+
+/// How many octets of user data a CALL has, and the errors that `decode` and `decode_long` tell of it.
+static USER_DATA: [(usize, u8, u8); 5] = [
+    (0, 0, 0),
+    (16, 0, 0),
+    (17, 23, 0),
+    (128, 23, 0),
+    (129, 23, 23),
+];
+
+// The errors that are told of a CALL by `decode` and by `decode_long`, and where it may have its octets of user data
+// and where one fewer; and whether it has the octets behind the first five as its user data.
+fn errors_of_call(octets: &[u8], count: usize) -> (u8, u8, u8, u8, bool) {
+    let fewer = match count.checked_sub(1) {
+        Some(fewer) => number_in(decode_within(fewer, octets)),
+        None => 23,
+    };
+    (
+        number_in(decode(octets)),
+        number_in(decode_long(octets)),
+        number_in(decode_within(count, octets)),
+        fewer,
+        has_user_data(octets),
+    )
+}
+
+// Where it is read at all.
+fn has_user_data(octets: &[u8]) -> bool {
+    match decode_long(octets) {
+        Ok(Packet::Call { user, .. }) => octets.len() >= 5 && user == &octets[5..],
+        _ => true,
+    }
+}
+
+fn errors_of_user_data(alloc: Global, count: usize) -> Option<(u8, u8, u8, u8, bool)> {
+    let octets = lengthened(alloc, &[0x10, 0x01, 0x0B, 0, 0], count).ok()?;
+    Some(errors_of_call(octets.as_slice(), count))
+}
+
+#[test]
+fn user_data_of_a_call(rt: HostRuntime) {
+    for &(count, short, long) in &USER_DATA {
+        let found = errors_of_user_data(rt.alloc(), count);
+        assert_eq!(rt; found, Some((short, long, 0, 23, true)), "{count}");
+    }
+}
+
+#[test]
+fn longest_user_data_of_a_call(rt: HostRuntime) {
+    assert_eq!(rt; (longest_user(false), longest_user(true)), (16, 128));
+}
+
+/// Octets, and the channel that they name.
+static CHANNELS: [(&[u8], Option<u16>); 3] = [
+    (&[0x1F, 0xFF, 0], Some(4095)),
+    (&[0xD0, 0x01, 0xB4], Some(1)),
+    (&[0x10, 0x01], None),
 ];
 
 #[test]
-fn packets_and_errors(rt: HostRuntime) -> Result<(), Fail> {
-    for (text, number) in ROWS {
-        let octets = hex::decode(rt.alloc(), text)?;
-        let found = match decode(16, octets.as_slice()) {
-            Ok(_) => 0,
-            Err(error) => error.number(),
-        };
-        assert_eq!(rt; found, number, "{text}");
+fn channels(rt: HostRuntime) {
+    for &(octets, wanted) in &CHANNELS {
+        assert_eq!(rt; channel(octets), wanted, "{octets:?}");
     }
-    Ok(())
+}
+
+// Whether a CLEAR is spelled right on channel 256.
+fn spells_on_another_channel(alloc: Global) -> bool {
+    let packet = Packet::Clear {
+        channel: 1,
+        cause: 0,
+        diagnostic: 20,
+    };
+    let mut octets = Vec::new(alloc);
+    let is_spelled = encode(&packet.with_channel(256), &mut octets).is_ok();
+    is_spelled && octets.as_slice() == [0x11, 0x00, 0x13, 0, 20].as_slice()
 }
 
 #[test]
-fn addresses_and_fields(rt: HostRuntime) -> Result<(), Fail> {
-    let octets = hex::decode(rt.alloc(), "50010b43123456700201014142")?;
-    let Ok(
-        WidePacket {
-            channel: 1,
-            bit_8: false,
-            d: true,
-            kind: Kind::Call { block },
-        },
-    ) = decode(16, octets.as_slice())
-    else {
-        return Err(Fail::from("a CALL with D"));
-    };
-    assert_eq!(rt; block.called_digits().len(), 3);
-    assert_eq!(rt; block.called_digits().get(2), 3);
-    assert_eq!(rt; block.calling_digits().len(), 4);
-    assert_eq!(rt; block.calling_digits().get(3), 7);
-    let fields = block.fields.ok_or("a facility field")?;
-    assert_eq!(rt; fields.facilities, [0x01, 0x01].as_slice());
-    assert_eq!(rt; fields.user, [0x41, 0x42].as_slice());
-    Ok(())
+fn another_channel(rt: HostRuntime) {
+    assert!(rt; spells_on_another_channel(rt.alloc()));
+}
+
+/// Each error, its number, its diagnostic code and its message.
+static ERRORS: [(PacketError, u8, u8, &str); 8] = [
+    (PacketError::TooShort, 20, 38, "too few octets"),
+    (
+        PacketError::BadFormat,
+        21,
+        40,
+        "a wrong general format identifier",
+    ),
+    (
+        PacketError::Unidentified,
+        22,
+        33,
+        "an unidentifiable packet type",
+    ),
+    (PacketError::TooLong, 23, 39, "too many octets"),
+    (PacketError::BadDigit, 24, 0, "a wrong digit of an address"),
+    (
+        PacketError::BadFacility,
+        25,
+        65,
+        "a facility that is not allowed",
+    ),
+    (
+        PacketError::BadParameter,
+        26,
+        66,
+        "a facility parameter that is not allowed",
+    ),
+    (PacketError::NoMemory, 70, 0, "no memory"),
+];
+
+fn says(alloc: Global, error: PacketError, message: &str) -> bool {
+    match error.to_string(alloc) {
+        Ok(told) => told.as_str() == message,
+        Err(_) => false,
+    }
 }
 
 #[test]
-fn addresses_with_types(rt: HostRuntime) -> Result<(), Fail> {
-    let octets = hex::decode(rt.alloc(), "90010b05061149313208f0")?;
-    let Ok(
-        WidePacket {
-            bit_8: true,
-            kind: Kind::Call { block },
-            ..
-        },
-    ) = decode(16, octets.as_slice())
-    else {
-        return Err(Fail::from("a CALL with A"));
-    };
-    let called = block.called_halves();
-    let calling = block.calling_halves();
-    assert_eq!(rt; called.len(), 5);
-    assert_eq!(rt; (called.get(0), called.get(1), called.get(4)), (1, 1, 3));
-    assert_eq!(rt; calling.len(), 6);
-    assert_eq!(rt;
-        (calling.get(0), calling.get(1), calling.get(5)),
-        (1, 3, 15)
-    );
-    assert_eq!(rt; (called.behind(2).len(), called.behind(2).get(0)), (3, 4));
-    Ok(())
+fn has_a_number_a_diagnostic_and_a_message(rt: HostRuntime) {
+    for &(error, number, diagnostic, message) in &ERRORS {
+        let found = (
+            error.number(),
+            error.diagnostic(),
+            says(rt.alloc(), error, message),
+        );
+        assert_eq!(rt; found, (number, diagnostic, true), "{message}");
+    }
 }

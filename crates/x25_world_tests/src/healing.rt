@@ -1,33 +1,44 @@
 //! What `heal` answers.
 
-use crate::calls::{USUAL, establish, heal, start};
-use std::process::Abort;
-use std::test::Fail;
+use crate::calls::{USUAL, establish, start};
+use std::alloc::Global;
 use x25_world::{Entered, Healed, World, WorldError};
 
-// So many frames arrive each time, and nothing is told. It is answered each time whether both links are at rest.
-fn brings(
-    rt: &impl Abort,
-    world: &mut World,
-    told: &mut Vec<Entered>,
-    counts: [u64; 2],
-    at_rest: bool,
-) -> Result<(), WorldError> {
-    for arrived in counts {
-        assert_eq!(rt; heal(world, told)?, Healed { arrived, at_rest });
-    }
-    assert_eq!(rt; told.len(), 0);
-    Ok(())
+// Without its claims.
+fn heal(world: &mut World, told: &mut Vec<Entered>) -> Result<Healed, WorldError> {
+    world.heal(told)
 }
 
-// Of a world just set up two RESTART arrive, and what acknowledges them; then nothing is left. Links that are down are
-// never at rest.
+/// How many frames arrive, and how many when the line heals once more; whether both links are at rest each time, and
+/// how many entries are told.
+type Brings = (u64, u64, bool, bool, usize);
+
+fn brings(world: &mut World, told: &mut Vec<Entered>) -> Result<Brings, WorldError> {
+    let first = heal(world, told)?;
+    let second = heal(world, told)?;
+    Ok((
+        first.arrived,
+        second.arrived,
+        first.at_rest,
+        second.at_rest,
+        told.len(),
+    ))
+}
+
+fn brought_up(alloc: Global) -> Result<Brings, WorldError> {
+    let mut world = establish(alloc, USUAL)?;
+    brings(&mut world, &mut Vec::new(alloc))
+}
+
+fn brought_down(alloc: Global) -> Result<Brings, WorldError> {
+    let mut world = start(alloc, USUAL)?;
+    brings(&mut world, &mut Vec::new(alloc))
+}
+
+// Behind set-up two RESTART arrive, and what acknowledges them; then nothing is left. Links that are down are never at
+// rest.
 #[test]
-fn answers_what_it_brought(rt: HostRuntime) -> Result<(), Fail> {
-    let mut told = Vec::new(rt.alloc());
-    let mut up = establish(rt.alloc(), USUAL)?;
-    brings(&rt, &mut up, &mut told, [4, 0], true)?;
-    let mut down = start(rt.alloc(), USUAL)?;
-    brings(&rt, &mut down, &mut told, [0, 0], false)?;
-    Ok(())
+fn answers_what_it_brought(rt: HostRuntime) {
+    assert_eq!(rt; brought_up(rt.alloc()), Ok((4, 0, true, true, 0)));
+    assert_eq!(rt; brought_down(rt.alloc()), Ok((0, 0, false, false, 0)));
 }

@@ -2,8 +2,6 @@
 #![tactic(auto)]
 
 #[cfg(test)]
-mod bit_damage;
-#[cfg(test)]
 mod calls;
 #[cfg(test)]
 mod healing;
@@ -11,3 +9,5 @@ mod healing;
 mod refusals;
 #[cfg(test)]
 mod set_up;
+#[cfg(test)]
+mod steps;

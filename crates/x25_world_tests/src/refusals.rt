@@ -1,14 +1,9 @@
-//! Refusals: their numbers, settings, and which event of a list is refused.
+//! The errors of a world, and settings that are refused.
 
-use crate::calls::{USUAL, establish, number_of, start, step};
+use crate::calls::{USUAL, establish, start};
 use std::alloc::Global;
-use std::process::Abort;
-use std::test::Fail;
-use x25_station::{Cfg, Cmd, StationError, Step};
-use x25_world::Direction::{ToDce, ToDte};
-use x25_world::Event::{Command, Damage, Deliver, Lose, T1};
-use x25_world::Role::{Dce, Dte};
-use x25_world::{Event, World, WorldError};
+use x25_station::{Cfg, StationError};
+use x25_world::WorldError;
 
 /// Each error, its number, and its message.
 static NUMBERS: [(WorldError, u8, &str); 7] = [
@@ -25,13 +20,19 @@ static NUMBERS: [(WorldError, u8, &str); 7] = [
     (WorldError::NoMemory, 70, "no memory"),
 ];
 
-#[test]
-fn errors_have_numbers(rt: HostRuntime) -> Result<(), Fail> {
-    for &(error, number, message) in &NUMBERS {
-        assert_eq!(rt; error.number(), number);
-        assert_eq!(rt; error.to_string(rt.alloc())?.as_str(), message);
+fn says(alloc: Global, error: WorldError, message: &str) -> bool {
+    match error.to_string(alloc) {
+        Ok(told) => told.as_str() == message,
+        Err(_) => false,
     }
-    Ok(())
+}
+
+#[test]
+fn errors_have_numbers(rt: HostRuntime) {
+    for &(error, number, message) in &NUMBERS {
+        let found = (error.number(), says(rt.alloc(), error, message));
+        assert_eq!(rt; found, (number, true), "{message}");
+    }
 }
 
 /// k, N2 and channels, and whether they are in their ranges.
@@ -47,14 +48,18 @@ static SETTINGS: [(u8, u8, u8, bool); 9] = [
     (4, 20, 2, true),
 ];
 
-fn establishes(alloc: Global, cfg: Cfg) -> Result<(), WorldError> {
-    establish(alloc, cfg)?;
-    Ok(())
+fn refusals(alloc: Global, cfg: Cfg) -> [Option<WorldError>; 2] {
+    [establish(alloc, cfg).err(), start(alloc, cfg).err()]
 }
 
-fn starts(alloc: Global, cfg: Cfg) -> Result<(), WorldError> {
-    start(alloc, cfg)?;
-    Ok(())
+// Whether settings that are fine are taken by both, and others refused.
+fn are_judged(alloc: Global, cfg: Cfg, is_fine: bool) -> bool {
+    let wanted = if is_fine {
+        None
+    } else {
+        Some(WorldError::BadConfig)
+    };
+    refusals(alloc, cfg) == [wanted, wanted]
 }
 
 #[test]
@@ -64,72 +69,8 @@ fn settings_are_in_range(rt: HostRuntime) {
             k,
             n2,
             channels,
-            long_data: false,
-            say_sizes: false,
-            wide: false,
+            ..USUAL
         };
-        let wanted = if is_fine {
-            Ok(())
-        } else {
-            Err(WorldError::BadConfig)
-        };
-        assert_eq!(rt; establishes(rt.alloc(), cfg), wanted, "{cfg:?}");
-        assert_eq!(rt; starts(rt.alloc(), cfg), wanted, "{cfg:?}");
+        assert!(rt; are_judged(rt.alloc(), cfg, is_fine), "{k} {n2} {channels}");
     }
-}
-
-/// A list of events, and the place and number of the refusal where it stops.
-type List = (&'static [Event<'static>], Option<(usize, u8)>);
-
-static LISTS: [List; 7] = [
-    (
-        &[Deliver(ToDce), Deliver(ToDce), Deliver(ToDte)],
-        Some((1, 50)),
-    ),
-    (&[T1(Dce), Deliver(ToDte)], None),
-    (&[Deliver(ToDte), Lose(ToDte, 0), T1(Dte)], Some((2, 11))),
-    (&[T1(Dce), Lose(ToDte, 1)], Some((1, 51))),
-    (
-        &[
-            Damage(ToDte, 0, b""),
-            Damage(ToDte, 0, b"\x00\x00\x00"),
-            Damage(ToDte, 0, b"\x01\x73\x83\x57"),
-        ],
-        Some((2, 52)),
-    ),
-    (&[Lose(ToDte, 65535)], Some((0, 51))),
-    (
-        &[Command(Dte, Cmd::Disconnect), Command(Dte, Cmd::Disconnect)],
-        Some((1, 13)),
-    ),
-];
-
-// The place and the number of the first refusal. Nothing is told then.
-fn refusal(
-    rt: &impl Abort,
-    world: &mut World,
-    events: &[Event<'static>],
-    out: &mut Step,
-) -> Option<(usize, u8)> {
-    for (index, event) in events.iter().enumerate() {
-        if let Err(error) = step(world, *event, out) {
-            assert_eq!(rt; out.entries.len(), 0, "{event:?}");
-            return Some((index, number_of(error)));
-        }
-    }
-    None
-}
-
-// Each list goes on where the one before stopped.
-fn stops(rt: &impl Abort, world: &mut World, out: &mut Step) {
-    for &(events, wanted) in &LISTS {
-        assert_eq!(rt; refusal(rt, world, events, out), wanted, "{events:?}");
-    }
-}
-
-#[test]
-fn events_are_refused(rt: HostRuntime) -> Result<(), Fail> {
-    let mut world = establish(rt.alloc(), USUAL)?;
-    stops(&rt, &mut world, &mut Step::new(rt.alloc()));
-    Ok(())
 }

@@ -15,13 +15,15 @@ fn writes_what_was_told_in_order(rt: HostRuntime) -> Result<(), Fail> {
     let mut writer = Device::new(Vec::new(rt.alloc()));
     let mut output = Output::new(rt.alloc())?;
     let mut told = Vec::new(rt.alloc());
-    for (character, count) in LINES {
+    let mut faults = 0u8;
+    for &(character, count) in &LINES {
         let line = vec![in rt.alloc(); character; count]?;
         told.extend_from_slice(line.as_slice())?;
-        assert!(rt; output.tell(line.as_slice(), &mut writer).is_ok());
+        faults |= u8::from(output.tell(line.as_slice(), &mut writer).is_err());
     }
-    assert!(rt; output.flush(&mut writer).is_ok());
-    assert!(rt; writer.into_inner().as_slice() == told.as_slice());
+    faults |= u8::from(output.flush(&mut writer).is_err());
+    let written = writer.into_inner();
+    assert_eq!(rt; (faults, written.as_slice() == told.as_slice()), (0, true));
     Ok(())
 }
 
@@ -30,7 +32,10 @@ fn makes_room_behind_what_waits(rt: HostRuntime) -> Result<(), Fail> {
     let mut writer = Device::new(Vec::new(rt.alloc()));
     let mut output = Output::new(rt.alloc())?;
     output.text().push(b"ab");
-    assert!(rt; output.make_room(65_536, &mut writer).is_ok());
-    assert!(rt; writer.into_inner().as_slice() == b"ab".as_slice());
+    let is_made = output.make_room(65_536, &mut writer).is_ok();
+    assert_eq!(rt;
+        (is_made, writer.into_inner().as_slice()),
+        (true, b"ab".as_slice())
+    );
     Ok(())
 }

@@ -1,4 +1,4 @@
-use std::test::Fail;
+use std::alloc::Global;
 use x25_frame::Role::{Dce, Dte};
 use x25_frame::{Frame, Role, Seq, command_address, decode, encode};
 
@@ -62,16 +62,21 @@ static ROWS: [(Role, &[u8], Kind); 8] = [
     ),
 ];
 
+// Whether these octets spell the frame, and are what it is spelled as.
+fn spells(alloc: Global, from: Role, octets: &[u8], kind: Kind) -> bool {
+    let Ok(frame) = decode(from, 4099, octets) else {
+        return false;
+    };
+    let mut spelled = Vec::new(alloc);
+    let is_spelled = encode(from, &frame, &mut spelled).is_ok();
+    is_spelled && frame == frame_of(kind) && spelled.as_slice() == octets
+}
+
 #[test]
-fn octets_and_frames(rt: HostRuntime) -> Result<(), Fail> {
-    for (from, octets, kind) in ROWS {
-        let frame = decode(from, 4099, octets)?;
-        assert_eq!(rt; frame, frame_of(kind), "{octets:?}");
-        let mut spelled = Vec::new(rt.alloc());
-        encode(from, &frame, &mut spelled)?;
-        assert_eq!(rt; spelled.as_slice(), octets);
+fn octets_and_frames(rt: HostRuntime) {
+    for &(from, octets, kind) in &ROWS {
+        assert!(rt; spells(rt.alloc(), from, octets, kind), "{octets:?}");
     }
-    Ok(())
 }
 
 /// A kind, whether it is a command, its poll or final bit, and whether it is a poll.
@@ -85,18 +90,19 @@ static KINDS: [(Kind, bool, bool, bool); 7] = [
     (Kind::I, true, false, false),
 ];
 
+fn told(kind: Kind) -> (bool, bool, bool) {
+    let frame = frame_of(kind);
+    (frame.is_command(), frame.poll_or_final(), frame.is_poll())
+}
+
 #[test]
 fn commands_and_polls(rt: HostRuntime) {
-    for (kind, is_command, bit, is_poll) in KINDS {
-        let frame = frame_of(kind);
-        assert_eq!(rt; frame.is_command(), is_command, "{frame:?}");
-        assert_eq!(rt;
-            (frame.poll_or_final(), frame.is_poll()),
-            (bit, is_poll),
-            "{frame:?}"
-        );
+    for (row, &(kind, is_command, bit, is_poll)) in KINDS.iter().enumerate() {
+        assert_eq!(rt; told(kind), (is_command, bit, is_poll), "row {row}");
     }
-    for (role, address) in [(Dte, 1), (Dce, 3)] {
-        assert_eq!(rt; command_address(role), address);
-    }
+}
+
+#[test]
+fn addresses_of_commands(rt: HostRuntime) {
+    assert_eq!(rt; (command_address(Dte), command_address(Dce)), (1, 3));
 }

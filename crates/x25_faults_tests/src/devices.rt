@@ -1,5 +1,4 @@
-//! For tests: readers and writers in memory that fail at one call alone, and work again after it.
-#![tactic(auto)]
+//! Readers and writers in memory that fail at one call alone, and work again after it.
 
 use std::io::{self, ErrorKind, Read, Write};
 use x25_io::{Failed, Sink, Source};
