@@ -51,10 +51,11 @@ pub fn books_tell_of_channels()
     ensures { BooksTellOfChannels }
 {}
 
-/// On a channel, of an end that keeps the rules neither a rule nor manners are told in the run of a book, call after
-/// call, whatever the other end sends on that channel and on all others, RESTART and its confirmation too, and whatever
-/// the end itself sends on others; and so it goes on behind its confirmation of the RESTART that came, where restarts
-/// are counted. Nor are they told of its RESTART, at any moment, or of any such confirmation. Such runs there are.
+/// On a channel, of an end that keeps the rules neither a rule nor manners are told in the run of a book, over calls,
+/// clears, resets and restarts of either end, whatever the other end sends on that channel and on all others, RESTART
+/// and its confirmation too, and whatever the end itself sends on others. Nor are they told of its RESTART, at any
+/// moment, or of its confirmation of the one that came; it is followed behind these where restarts are counted. Such
+/// runs there are.
 pub fn innocent_tapes_stay_untold()
     ensures sends { NoInnocentTapeIsTold }
     ensures ends { NoEndOfTapeIsTold }
