@@ -1,7 +1,7 @@
 -- Why no end in a call is told of in a trace, whatever the other end sends on any channel.
 use Rattle.std.proofs.Common.{◌≡◌, ◌==◌, ◌⊎◌, inl, inr, ℕ, ◌+◌, ◌-◌, ◌<◌, ◌≤◌, arith, min, Bool, true, false, if◌then◌else◌, List, [], ◌∷◌, ◌++◌, Option, None, refl, sym, ap, ◌∙◌, subst}
 use Rattle.std.specs.Prelude.{◌&&◌, ◌||◌, not, is_some, nat_lt}
-use Rattle.std.proofs.lemmas.Bool.{eqb-true, lt-ltb, ltb-true, and_parts, and_left, or_parts, or_from, and_right, both_ways, cond_both, cond-true, cond-false, ltb-false, or_left, false_from_ne_true, true_from_ne_false}
+use Rattle.std.proofs.lemmas.Bool.{eqb-true, lt-ltb, ltb-true, and_parts, and_left, or_parts, or_from, and_right, both_ways, cond_both, cond-true, cond-false, ltb-false, or_left, or_right, false_from_ne_true, true_from_ne_false}
 use Rattle.x25_bits.specs.declared.role.Role.{Role}
 use Rattle.x25_bits.specs.declared.role.Role.TheVariants.{Dte, Dce}
 use Rattle.x25_packet.specs.Packet.{PlainPacket, call, accept, clear, clear_conf, user_data, rr, rnr, interrupt, interrupt_conf, reset, reset_conf, restart, restart_conf}
@@ -25,8 +25,8 @@ use Rattle.x25_packet_judge.specs.declared.port.Call.TheVariants.{Idle, Called, 
 use Rattle.x25_packet_judge.specs.declared.port.Port.{Port}
 use Rattle.x25_packet_judge.specs.declared.terms.Terms.{Terms}
 use Rattle.x25_packet_judge.specs.laws.Keeping.{Given, Come, nothing_given, nothing_came, Phase, Idles, Calls, WasCalled, Talks, Resets, WasReset, Clears, WasCleared, HasRestarted, WasRestarted, fresh_phase, MayDo, MayLeave, MayEnd, comes, MayTake, IsOfChannel, IsFollowed, IsIdle, AreIdle, IsBegun, AreBegun, turned}
-use Rattle.x25_packet_judge.specs.laws.Tape.{all_running, IsBook, AreApart, AreRunning, view, MayStand, AreCounted, AreClear, MayAsk, is_answered, with_answer, Answers, DoesRestart, Starts, Begins, Does, DoesApart, Shown, ShownApart, Restarts, Confirms, Comes}
-use Rattle.x25_packet_judge.specs.laws.VerdictClaims.{NoInnocentTapeIsTold, NoEndOfTapeIsTold, NoRestartOfTapeIsTold, TapesBegin}
+use Rattle.x25_packet_judge.specs.laws.Tape.{all_running, IsBook, IsJustUp, AreApart, AreRunning, view, MayStand, AreCounted, AreClear, MayAsk, is_answered, with_answer, Answers, DoesRestart, Starts, Begins, Does, DoesApart, Shown, ShownApart, Restarts, Confirms, Comes}
+use Rattle.x25_packet_judge.specs.laws.VerdictClaims.{NoInnocentTapeIsTold, NoEndOfTapeIsTold, NoRestartOfTapeIsTold, RestartsBegin, TapesBegin}
 use Rattle.x25_packet_judge.proofs.verdicts.Standing.{none_left, bit, ahead, tail_of, Behind, Behinds, Level, Away, Dark, Gone, Stands}
 use Rattle.x25_packet_judge.proofs.verdicts.Callings.{Even, Far, WasAsked, HasNone, Asks, HasCalled, begins_idle}
 use Rattle.x25_packet_judge.proofs.verdicts.Restartings.{Still, still_fresh, still_noted, Kept, kept_sent, still_sent, IsOwed, Sure, sure_sent}
@@ -1332,27 +1332,30 @@ le_none n = omega arith
 none_owed : {X : Type 0} (n : ℕ) → n ≡ 0 → nat_lt 0 n ≡ true → X
 none_owed n e due = absurd (both_ways (nat_lt 0 n) (ap (λ n. nat_lt 0 n) e) due)
 
-ready_so : (P O : Layer) → P.restart ≡ Ready → Calm P O
-ready_so P O ready = (λ e. absurd (both_ways (layer.is_asking P.restart) (ap layer.is_asking ready) e), ap layer.is_begun ready)
+ready_of : (t : Layers) → AreRunning t → Calm t.own t.other
+ready_of t run = (λ asking. (run.sure, counted asking), run.begun)
+  where
+    counted : layer.is_asking t.own.restart ≡ true → layers.are_counted t ≡ true
+    counted asking = true_from_ne_false (layers.are_counted t) (λ un. both_ways (layers.runs_early t) run.calm (or_right (layers.is_awaiting t) (layers.is_hasty t) (rw (asking, un, run.found) refl)))
 
 begins_at : (from : Role) (channel window most : ℕ) (b : Book) → IsBook b → AreRunning (layers_of from b) → AreBegun window most (view from channel b) → At from channel (fresh_phase window most) [] b
 begins_at Dte channel window most b full run begun = record {
   book = full;
-  parts = record { ready = ready_so b.dte b.dce run.ready; begun = run.begun; found = λ _. run.found; uncounted = λ e. not_both (are_sure b.dte b.dce) e run.sure; owed = λ _. eqb-true b.dce.owed 0 (and_parts (b.dte.owed == 0) (b.dce.owed == 0) begun.reaches).1; on = λ _. (sound_begins Dte window most (view Dte channel b) begun).stands; due = λ _ e. absurd (both_ways false refl e); once = λ _. le_one b.dte.owed (level_owed b.dte.owed b.dce.owed begun.reaches); few = λ _ _. le_none b.dte.owed; sealed = λ _ e. none_owed b.dte.owed (level_owed b.dte.owed b.dce.owed begun.reaches) e; plain = λ _. refl };
+  parts = record { ready = ready_of (layers_of Dte b) run; begun = run.others_begun; found = λ _. run.found; uncounted = λ e. not_both (are_sure b.dte b.dce) e run.sure; owed = λ _. eqb-true b.dce.owed 0 (and_parts (b.dte.owed == 0) (b.dce.owed == 0) begun.reaches).1; on = λ _. (sound_begins Dte window most (view Dte channel b) begun).stands; due = λ _ e. absurd (both_ways false refl e); once = λ _. le_one b.dte.owed (level_owed b.dte.owed b.dce.owed begun.reaches); few = λ _ _. le_none b.dte.owed; sealed = λ _ e. none_owed b.dte.owed (level_owed b.dte.owed b.dce.owed begun.reaches) e; plain = λ _. refl };
 }
 begins_at Dce channel window most b full run begun = record {
   book = full;
-  parts = record { ready = ready_so b.dce b.dte run.ready; begun = run.begun; found = λ _. run.found; uncounted = λ e. not_both (are_sure b.dce b.dte) e run.sure; owed = λ _. eqb-true b.dte.owed 0 (and_parts (b.dce.owed == 0) (b.dte.owed == 0) begun.reaches).1; on = λ _. (sound_begins Dce window most (view Dce channel b) begun).stands; due = λ _ e. absurd (both_ways false refl e); once = λ _. le_one b.dce.owed (level_owed b.dce.owed b.dte.owed begun.reaches); few = λ _ _. le_none b.dce.owed; sealed = λ _ e. none_owed b.dce.owed (level_owed b.dce.owed b.dte.owed begun.reaches) e; plain = λ _. refl };
+  parts = record { ready = ready_of (layers_of Dce b) run; begun = run.others_begun; found = λ _. run.found; uncounted = λ e. not_both (are_sure b.dce b.dte) e run.sure; owed = λ _. eqb-true b.dte.owed 0 (and_parts (b.dce.owed == 0) (b.dte.owed == 0) begun.reaches).1; on = λ _. (sound_begins Dce window most (view Dce channel b) begun).stands; due = λ _ e. absurd (both_ways false refl e); once = λ _. le_one b.dce.owed (level_owed b.dce.owed b.dte.owed begun.reaches); few = λ _ _. le_none b.dce.owed; sealed = λ _ e. none_owed b.dce.owed (level_owed b.dce.owed b.dte.owed begun.reaches) e; plain = λ _. refl };
 }
 
 starts_at : (from : Role) (channel : ℕ) (b : Book) → IsBook b → AreRunning (layers_of from b) → AreIdle (view from channel b) → At from channel Idles [] b
 starts_at Dte channel b full run idle = record {
   book = full;
-  parts = record { ready = ready_so b.dte b.dce run.ready; begun = run.begun; found = λ _. run.found; uncounted = λ e. not_both (are_sure b.dte b.dce) e run.sure; owed = λ _. eqb-true b.dce.owed 0 (and_parts (b.dte.owed == 0) (b.dce.owed == 0) idle.reaches).1; on = λ _. (starts_idle Dte (view Dte channel b) idle).stands; due = λ _ e. absurd (both_ways false refl e); once = λ _. le_one b.dte.owed (level_owed b.dte.owed b.dce.owed idle.reaches); few = λ _ _. le_none b.dte.owed; sealed = λ _ e. none_owed b.dte.owed (level_owed b.dte.owed b.dce.owed idle.reaches) e; plain = λ _. refl };
+  parts = record { ready = ready_of (layers_of Dte b) run; begun = run.others_begun; found = λ _. run.found; uncounted = λ e. not_both (are_sure b.dte b.dce) e run.sure; owed = λ _. eqb-true b.dce.owed 0 (and_parts (b.dte.owed == 0) (b.dce.owed == 0) idle.reaches).1; on = λ _. (starts_idle Dte (view Dte channel b) idle).stands; due = λ _ e. absurd (both_ways false refl e); once = λ _. le_one b.dte.owed (level_owed b.dte.owed b.dce.owed idle.reaches); few = λ _ _. le_none b.dte.owed; sealed = λ _ e. none_owed b.dte.owed (level_owed b.dte.owed b.dce.owed idle.reaches) e; plain = λ _. refl };
 }
 starts_at Dce channel b full run idle = record {
   book = full;
-  parts = record { ready = ready_so b.dce b.dte run.ready; begun = run.begun; found = λ _. run.found; uncounted = λ e. not_both (are_sure b.dce b.dte) e run.sure; owed = λ _. eqb-true b.dte.owed 0 (and_parts (b.dce.owed == 0) (b.dte.owed == 0) idle.reaches).1; on = λ _. (starts_idle Dce (view Dce channel b) idle).stands; due = λ _ e. absurd (both_ways false refl e); once = λ _. le_one b.dce.owed (level_owed b.dce.owed b.dte.owed idle.reaches); few = λ _ _. le_none b.dce.owed; sealed = λ _ e. none_owed b.dce.owed (level_owed b.dce.owed b.dte.owed idle.reaches) e; plain = λ _. refl };
+  parts = record { ready = ready_of (layers_of Dce b) run; begun = run.others_begun; found = λ _. run.found; uncounted = λ e. not_both (are_sure b.dce b.dte) e run.sure; owed = λ _. eqb-true b.dte.owed 0 (and_parts (b.dce.owed == 0) (b.dte.owed == 0) idle.reaches).1; on = λ _. (starts_idle Dce (view Dce channel b) idle).stands; due = λ _ e. absurd (both_ways false refl e); once = λ _. le_one b.dce.owed (level_owed b.dce.owed b.dte.owed idle.reaches); few = λ _ _. le_none b.dce.owed; sealed = λ _ e. none_owed b.dce.owed (level_owed b.dce.owed b.dte.owed idle.reaches) e; plain = λ _. refl };
 }
 
 leaves : (from : Role) (s : Phase) (way : List PlainPacket) (P O : Layer) (p o : Port) → On from s way P O p o → MayLeave s
@@ -2081,8 +2084,8 @@ tapes_begin from channel = (
 )
   where
     running_so : (p : Port) (from : Role) → AreRunning (layers_of from (all_running p))
-    running_so p Dte = record { ready = refl; begun = refl; sure = refl; found = refl }
-    running_so p Dce = record { ready = refl; begun = refl; sure = refl; found = refl }
+    running_so p Dte = record { begun = refl; others_begun = refl; calm = refl; sure = refl; found = refl }
+    running_so p Dce = record { begun = refl; others_begun = refl; calm = refl; sure = refl; found = refl }
 
     idle_pair : (from : Role) (q r : Port) → q ≡ port.fresh → r ≡ port.fresh → AreIdle (record { from = from; reaches = true; own = q; other = r; rule = None })
     idle_pair from q r e f = record { reaches = refl; quiet = refl; own = subst IsIdle (sym e) fresh_idle; other = subst IsIdle (sym f) fresh_idle }
@@ -2098,3 +2101,90 @@ tapes_begin from channel = (
     begun_so : (p : Port) → IsBegun p → (from : Role) → AreBegun p.talk.window p.talk.most (view from channel (all_running p))
     begun_so p b Dte = pair_so p b Dte (port_at Dte channel (all_running p)) (port_at Dce channel (all_running p)) (filled channel p) (filled channel p)
     begun_so p b Dce = pair_so p b Dce (port_at Dce channel (all_running p)) (port_at Dte channel (all_running p)) (filled channel p) (filled channel p)
+
+-- ---- from the set-up of the link on
+
+module _ (P O : Layer) (p : IsJustUp P) (o : IsJustUp O) where
+  up_first : Layers
+  up_first = layers.marks Asking (record { own = P; other = O; rule = None })
+
+  up_restarts : layers.restarts (record { own = P; other = O; rule = None }) ≡ layers.marks Asking (record { own = P; other = O; rule = None })
+  up_restarts = restarts_so (record { own = P; other = O; rule = None }) (and_left (layer.is_asking P.restart) _ (ap layer.is_asking p.restart)) (rw (p.counted, o.counted) refl) (unclear_not (record { own = P; other = O; rule = None }) p.again o.again p.none)
+
+  abbrev FirstOwn : Layer
+  FirstOwn = layer.restarted Asking P
+
+  abbrev FirstOther : Layer
+  FirstOther = layer.owing (P.owed == 0) O
+
+  abbrev LastOwn : Layer
+  LastOwn = layer.owing (FirstOther.owed == 0) FirstOwn
+
+  abbrev LastOther : Layer
+  LastOther = layer.restarted Confirmed FirstOther
+
+  first_one : FirstOther.owed ≡ 1
+  first_one = ap (λ b. if b then min (O.owed + 1) 255 else O.owed) (ap (λ n. n == 0) p.owed) ∙ ap (λ n. min (n + 1) 255) o.owed
+
+  last_own : LastOwn.owed ≡ 0
+  last_own = ap (λ b. if b then min (FirstOwn.owed + 1) 255 else FirstOwn.owed) (ap (λ n. n == 0) first_one) ∙ ap (λ n. n - 1) p.owed
+
+  last_other : LastOther.owed ≡ 0
+  last_other = ap (λ n. n - 1) first_one
+
+  up_sure : are_sure LastOwn LastOther ≡ true
+  up_sure = rw (p.sure, o.sure) refl
+
+  up_counted : are_counted LastOwn LastOther ≡ true
+  up_counted = rw (p.counted, o.counted) refl
+
+  up_found : are_lost LastOwn LastOther ≡ false
+  up_found = rw (p.found, o.found) refl
+
+  asker_runs : AreRunning (record { own = LastOwn; other = LastOther; rule = None })
+  asker_runs = record { begun = refl; others_begun = refl; calm = early_not (record { own = LastOwn; other = LastOther; rule = None }) (λ _. (up_sure, up_counted), refl) (λ _. last_other); sure = up_sure; found = up_found }
+
+  answerer_runs : AreRunning (record { own = LastOther; other = LastOwn; rule = None })
+  answerer_runs = record { begun = refl; others_begun = refl; calm = early_not (record { own = LastOther; other = LastOwn; rule = None }) (λ e. absurd (both_ways false refl e), refl) (λ _. last_own); sure = and_turned O.is_sure P.is_sure ∙ up_sure; found = or_turned O.is_lost P.is_lost ∙ up_found }
+
+both_idle : (from : Role) (reaches : Bool) (q r : Port) → reaches ≡ true → q ≡ port.fresh → r ≡ port.fresh → AreIdle (record { from = from; reaches = reaches; own = q; other = r; rule = None })
+both_idle from reaches q r near e f = record { reaches = near; quiet = refl; own = subst IsIdle (sym e) fresh_idle; other = subst IsIdle (sym f) fresh_idle }
+
+-- one end restarts, and the other one confirms
+record Started (asks : Role) (channel : ℕ) (b : Book) : Type 0 where
+  pub asker : MayStand asks channel b Idles []
+  pub answerer : MayStand (other asks) channel b Idles []
+
+started : (asks : Role) (channel cause diagnostic : ℕ) (b : Book) → IsBook b → IsJustUp (layers_of asks b).own → IsJustUp (layers_of asks b).other → Started asks channel (book.takes (other asks) 0 restart_conf (book.takes asks 0 (restart cause diagnostic) b).book).book
+started Dte channel cause diagnostic b full p o = subst (Started Dte channel) (sym (ap (λ (z : book.Seen). (book.takes Dce 0 restart_conf z.book).book) (asks_book Dte b cause diagnostic (up_restarts b.dte b.dce p o)) ∙ ap (λ (z : book.Seen). z.book) (answers_book Dce one (or_turned b.dce.is_lost b.dte.is_lost ∙ up_found b.dte b.dce p o) (and_turned b.dce.is_counted b.dte.is_counted ∙ up_counted b.dte b.dce p o) (ap (λ n. nat_lt 0 n) (first_one b.dte b.dce p o)))))
+    (record {
+      asker = Starts two filled_both (asker_runs b.dte b.dce p o) (both_idle Dte _ _ _ (rw (last_own b.dte b.dce p o, last_other b.dte b.dce p o) refl) (filled channel port.fresh) (filled channel port.fresh));
+      answerer = Starts two filled_both (answerer_runs b.dte b.dce p o) (both_idle Dce _ _ _ (rw (last_own b.dte b.dce p o, last_other b.dte b.dce p o) refl) (filled channel port.fresh) (filled channel port.fresh));
+    })
+  where
+    one : Book
+    one = keeps Dte (layers.marks Asking (layers_of Dte b)) (fills Dte port.fresh b)
+
+    two : Book
+    two = keeps Dce (layers.answers_restart (layers_of Dce (keeps Dte (layers.marks Asking (layers_of Dte b)) (fills Dte port.fresh b)))) (fills Dce port.fresh (keeps Dte (layers.marks Asking (layers_of Dte b)) (fills Dte port.fresh b)))
+
+    filled_both : IsBook two
+    filled_both = record { dte = filled_full port.fresh; dce = filled_full port.fresh }
+started Dce channel cause diagnostic b full p o = subst (Started Dce channel) (sym (ap (λ (z : book.Seen). (book.takes Dte 0 restart_conf z.book).book) (asks_book Dce b cause diagnostic (up_restarts b.dce b.dte p o)) ∙ ap (λ (z : book.Seen). z.book) (answers_book Dte one (or_turned b.dte.is_lost b.dce.is_lost ∙ up_found b.dce b.dte p o) (and_turned b.dte.is_counted b.dce.is_counted ∙ up_counted b.dce b.dte p o) (ap (λ n. nat_lt 0 n) (first_one b.dce b.dte p o)))))
+    (record {
+      asker = Starts two filled_both (asker_runs b.dce b.dte p o) (both_idle Dce _ _ _ (rw (last_own b.dce b.dte p o, last_other b.dce b.dte p o) refl) (filled channel port.fresh) (filled channel port.fresh));
+      answerer = Starts two filled_both (answerer_runs b.dce b.dte p o) (both_idle Dte _ _ _ (rw (last_own b.dce b.dte p o, last_other b.dce b.dte p o) refl) (filled channel port.fresh) (filled channel port.fresh));
+    })
+  where
+    one : Book
+    one = keeps Dce (layers.marks Asking (layers_of Dce b)) (fills Dce port.fresh b)
+
+    two : Book
+    two = keeps Dte (layers.answers_restart (layers_of Dte (keeps Dce (layers.marks Asking (layers_of Dce b)) (fills Dce port.fresh b)))) (fills Dte port.fresh (keeps Dce (layers.marks Asking (layers_of Dce b)) (fills Dce port.fresh b)))
+
+    filled_both : IsBook two
+    filled_both = record { dte = filled_full port.fresh; dce = filled_full port.fresh }
+
+pub restarts_begin : RestartsBegin
+restarts_begin Dte channel cause diagnostic b full p o = ((started Dte channel cause diagnostic b full p o).asker, (started Dce channel cause diagnostic b full o p).answerer)
+restarts_begin Dce channel cause diagnostic b full p o = ((started Dce channel cause diagnostic b full p o).asker, (started Dte channel cause diagnostic b full o p).answerer)

@@ -5,11 +5,11 @@ use Rattle.x25_bits.specs.declared.role.Role.{Role}
 use Rattle.x25_packet.specs.Packet.{PlainPacket, restart, restart_conf}
 use Rattle.x25_packet_judge.specs.Book.{other, layers_of, pair_of, takes}
 use Rattle.x25_packet_judge.specs.Layer.{is_begun, begun, with_restart}
-use Rattle.x25_packet_judge.specs.Layers.{are_sure, are_counted, are_lost, are_level}
+use Rattle.x25_packet_judge.specs.Layers.{are_sure, are_counted, are_lost, are_level, runs_early}
 use Rattle.x25_packet_judge.specs.Port.{all_alike}
 use Rattle.x25_packet_judge.specs.declared.book.Book.{Book}
 use Rattle.x25_packet_judge.specs.declared.layer.Layer.{Layer}
-use Rattle.x25_packet_judge.specs.declared.layer.Restart.TheVariants.{Ready}
+use Rattle.x25_packet_judge.specs.declared.layer.Restart.TheVariants.{Begun, Ready}
 use Rattle.x25_packet_judge.specs.declared.layers.Layers.{Layers}
 use Rattle.x25_packet_judge.specs.declared.pair.Pair.{Pair}
 use Rattle.x25_packet_judge.specs.declared.port.Port.{Port}
@@ -25,12 +25,24 @@ pub record IsBook (b : Book) : Type 0 where
   pub dte : length b.dte_ports ≡ 4096
   pub dce : length b.dce_ports ≡ 4096
 
--- restarts are known, both ends have sent since the link was set up, and no RESTART of the end waits
+-- restarts are known, both ends have restarted, confirmed or sent since the link was set up, and no RESTART of the end
+-- waits
 pub record AreRunning (t : Layers) : Type 0 where
-  pub ready : t.own.restart ≡ Ready
-  pub begun : is_begun t.other.restart ≡ false
+  pub begun : is_begun t.own.restart ≡ false
+  pub others_begun : is_begun t.other.restart ≡ false
+  pub calm : runs_early t ≡ false
   pub sure : are_sure t ≡ true
   pub found : are_lost t ≡ false
+
+-- the link was set up, and no packet sent
+pub record IsJustUp (l : Layer) : Type 0 where
+  pub restart : l.restart ≡ Begun
+  pub owed : l.owed ≡ 0
+  pub again : l.again ≡ 0
+  pub sure : l.is_sure ≡ true
+  pub counted : l.is_counted ≡ true
+  pub found : l.is_lost ≡ false
+  pub none : l.is_stray ≡ false
 
 -- another channel
 abbrev pub AreApart : ℕ → ℕ → Type 0
