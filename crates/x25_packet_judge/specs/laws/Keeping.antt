@@ -1,6 +1,6 @@
--- An end that keeps rules 9 to 13 and 15 to 19 of docs/PEER.md as it sets a call up and in it, beside one that does
--- what it likes: what the two ends of the channel are behind what both have sent, and which states the end may be in.
--- ITU-T X.25 (10/96), sections 4.1.2 to 4.1.6, 4.3, 4.4.1 and 4.4.3.
+-- An end that keeps rules 9 to 13 and 15 to 19 of docs/PEER.md, call after call, beside one that does what it likes:
+-- what the two ends of the channel are behind what both have sent, and which states the end may be in.
+-- ITU-T X.25 (10/96), sections 3.3, 4.1, 4.3, 4.4.1 and 4.4.3.
 use Rattle.std.specs.Prelude.{◌≡◌, ◌==◌, ℕ, ◌+◌, ◌%◌, ◌<◌, ◌≤◌, Bool, true, false, List, [], ◌∷◌, ◌++◌, length}
 use Rattle.std.specs.Prelude.{Option, Some, None, if◌then◌else◌}
 use Rattle.x25_bits.specs.declared.role.Role.{Role}
