@@ -5,6 +5,9 @@ pub mod Saying
 pub mod Showing
 pub mod Leaving
 pub mod Stretches
+pub mod Callings
+pub mod Closings
+pub mod Restartings
 pub mod Innocents
 pub mod Silences
 pub mod Beginnings

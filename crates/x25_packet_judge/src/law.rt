@@ -6,11 +6,12 @@ ghost use Rattle.x25_packet_judge.specs.laws.VerdictClaims.{NoInnocentTapeIsTold
 ghost use Rattle.x25_packet_judge.specs.laws.VerdictClaims.{NoRestartOfTapeIsTold, ResetsBegin};
 ghost use Rattle.x25_packet_judge.specs.laws.VerdictClaims.{SilentPacketsKeepTheRules, StretchesFollow, TapesBegin};
 
-/// In a call, of an end that keeps the rules of docs/PEER.md neither a rule nor manners are told, in one stretch and in
-/// the next ones, behind RESETs of either end, whatever the other end sends on the channel, whether it keeps any rule
-/// or not, and whenever that comes: data, RR, RNR and interrupts that break rules, and RESTART, RESET, CLEAR and what
-/// belongs to no stretch. Nor are they told where it leaves the call by CLEAR, or by the confirmation of the one that
-/// came.
+/// Of an end that keeps the rules of docs/PEER.md neither a rule nor manners are told, of its CALL or its acceptance of
+/// the one that came, in one stretch of the call and in the next ones, behind RESETs of either end, and in the calls
+/// behind CLEARs of either end that go on a known channel, whatever the other end sends on the channel, whether it
+/// keeps any rule or not, and whenever that comes: calls, data, RR, RNR and interrupts that break rules, and RESTART,
+/// RESET, CLEAR and what belongs to no stretch. Nor are they told where it leaves a channel that isn't known by CLEAR,
+/// or by the confirmation of the one that came.
 pub fn innocent_packets_stay_untold()
     ensures sends { NoInnocentPacketIsTold }
     ensures ends { NoEndingIsTold }
@@ -33,7 +34,8 @@ pub fn resets_begin()
     ensures { ResetsBegin }
 {}
 
-/// Nor are they told of its next call, where the other end has confirmed its CLEAR, or it has confirmed the other's.
+/// Nor are they told of its next call there, where the other end has confirmed its CLEAR, or it has confirmed the
+/// other's.
 pub fn next_calls_stay_untold()
     ensures { NoNextCallIsTold }
 {}
@@ -49,10 +51,10 @@ pub fn books_tell_of_channels()
     ensures { BooksTellOfChannels }
 {}
 
-/// In a call on a channel, of an end that keeps the rules neither a rule nor manners are told there in the run of a
-/// book, whatever the other end sends on that channel and on all others, RESTART and its confirmation too, and whatever
-/// the end itself sends on others. Nor are they told of its RESTART, at any moment, or of its confirmation of the one
-/// that came. Such runs there are.
+/// On a channel, of an end that keeps the rules neither a rule nor manners are told in the run of a book, call after
+/// call, whatever the other end sends on that channel and on all others, RESTART and its confirmation too, and whatever
+/// the end itself sends on others; and so it goes on behind its confirmation of the RESTART that came, where restarts
+/// are counted. Nor are they told of its RESTART, at any moment, or of any such confirmation. Such runs there are.
 pub fn innocent_tapes_stay_untold()
     ensures sends { NoInnocentTapeIsTold }
     ensures ends { NoEndOfTapeIsTold }

@@ -147,7 +147,7 @@ stretches_follow window most t one two cause diagnostic b = (theirs, ours)
     theirs =
         let both = resets_begin (turned t) one two cause diagnostic b.reaches clear_other clear_own b.other.up b.own.up b.other.reset b.own.reset in
         record {
-          stands = Does _ _ _ [] (reset_conf two) refl (Comes _ _ (reset one cause diagnostic) [] tt (Shown t (fresh_phase window most) [] (reset one cause diagnostic) tt (Begins window most t b)));
+          stands = Does _ _ _ [] (reset_conf two) refl tt (Comes _ _ (reset one cause diagnostic) [] tt (Shown t (fresh_phase window most) [] (reset one cause diagnostic) tt (Begins window most t b)));
           begun = record { reaches = both.other.reaches; quiet = refl; own = both.other.own; other = both.other.other; its_window = both.other.its_window ∙ b.its_window; its_most = both.other.its_most ∙ b.its_most };
         }
 
@@ -155,6 +155,6 @@ stretches_follow window most t one two cause diagnostic b = (theirs, ours)
     ours =
         let both = resets_begin t one two cause diagnostic b.reaches clear_own clear_other b.own.up b.other.up b.own.reset b.other.reset in
         record {
-          stands = Comes _ _ (reset_conf two) [] tt (Shown _ (Resets window most) [] (reset_conf two) tt (Does t (fresh_phase window most) (Resets window most) [] (reset one cause diagnostic) refl (Begins window most t b)));
+          stands = Comes _ _ (reset_conf two) [] tt (Shown _ (Resets window most) [] (reset_conf two) tt (Does t (fresh_phase window most) (Resets window most) [] (reset one cause diagnostic) refl tt (Begins window most t b)));
           begun = record { reaches = both.own.reaches; quiet = refl; own = both.own.own; other = both.own.other; its_window = both.own.its_window ∙ b.its_window; its_most = both.own.its_most ∙ b.its_most };
         }

@@ -16,10 +16,11 @@ use Rattle.x25_packet_judge.specs.declared.port.Call.TheVariants.{Idle, Called, 
 use Rattle.x25_packet_judge.specs.declared.port.Port.{Port}
 use Rattle.x25_packet_judge.specs.declared.terms.Terms.{Terms}
 use Rattle.x25_packet_judge.specs.laws.Clearing.{IsInCall, Answers, Clears, Asks, Shown, Restarts, Drops, IsReady, Answered, Confirms, Seen, RestartSeen}
-use Rattle.x25_packet_judge.specs.laws.Keeping.{Given, Come, Phase, Talks, Resets, WasReset, WasCleared, WasRestarted, turned}
+use Rattle.x25_packet_judge.specs.laws.Keeping.{Given, Come, Phase, Idles, Calls, WasCalled, Talks, Resets, WasReset, Clears as Waiting, WasCleared, WasRestarted, turned}
 use Rattle.x25_packet_judge.specs.laws.VerdictClaims.{NoNextCallIsTold}
-use Rattle.x25_packet_judge.proofs.verdicts.Standing.{ends, tail_of, none_left, not_true, MayGo, Due, Behind, Away, Gone}
+use Rattle.x25_packet_judge.proofs.verdicts.Standing.{ends, tail_of, none_left, not_true, MayGo, Due, closing_due, Behind, Away, Gone}
 use Rattle.x25_packet_judge.proofs.verdicts.Innocents.{Standing, sound}
+use Rattle.x25_packet_judge.proofs.verdicts.Stretches.{knows_if}
 use Rattle.x25_packet_judge.proofs.verdicts.Saying.{awaits_none, owes_none, knows}
 
 -- ---- what the other end changes by a packet: its port is the pair's own
@@ -458,11 +459,11 @@ module _ (t : Pair) (channel cause diagnostic : ℕ) (way : List PlainPacket) wh
   as_away : (window most : ℕ) (g : Given) (a : Come) (tail : List PlainPacket) → has_answer way ≡ has_answer tail → Away window most tail (Behind tail) t.reaches t.own t.other g a → After (sends (clear channel cause diagnostic) t)
   as_away window most g a tail is w = go tail is w.over w.behind
     where
-      go : (tail : List PlainPacket) → has_answer way ≡ has_answer tail → Due tail t.reaches t.own.owed t.own.talk.owed → Behind tail t.reaches t.own.owed t.own.talk.owed t.other.call t.other.talk → After (sends (clear channel cause diagnostic) t)
+      go : (tail : List PlainPacket) → has_answer way ≡ has_answer tail → Due tail t.reaches t.own.owed t.own.talk.owed → Behind tail t.reaches t.own.owed t.own.talk.owed t.other.is_clearing t.other.call t.other.talk → After (sends (clear channel cause diagnostic) t)
       go (clear two causes diagnostics ∷ rest) is due b = as_free w.go (and_right t.reaches _ (some_owed t.own.owed due))
       go (restart causes diagnostics ∷ rest) is due b = as_free w.go (and_left t.reaches _ due)
       go (reset two causes diagnostics ∷ []) is due b = as_half w.go is
-      go (reset two causes diagnostics ∷ clear three others reasons ∷ rest) is due b = as_free w.go (and_right t.reaches _ (some_owed t.own.owed b))
+      go (reset two causes diagnostics ∷ clear three others reasons ∷ rest) is due b = as_free w.go (and_right t.reaches _ (some_owed t.own.owed (closing_due rest t.reaches t.own.owed t.other.is_clearing t.other.call t.other.talk.flow b)))
       go (reset two causes diagnostics ∷ restart others reasons ∷ rest) is due b = as_free w.go (and_left t.reaches _ b)
       go (reset two causes diagnostics ∷ reset three others reasons ∷ rest) is due b = absurd b
       go (reset two causes diagnostics ∷ reset_conf three ∷ rest) is due b = absurd b
@@ -491,13 +492,17 @@ module _ (t : Pair) (channel cause diagnostic : ℕ) (way : List PlainPacket) wh
   tail_has [] e = has_none way e
   tail_has (x ∷ rest) e = has_tail way x rest e
 
-  asks_cleared : (s : Phase) → IsInCall s → Standing t s way → After (sends (clear channel cause diagnostic) t)
+  asks_cleared : (s : Phase) → IsInCall s → Standing t.from t s way → After (sends (clear channel cause diagnostic) t)
   asks_cleared (Talks window most g c) is (inl l) = as_half l.go (has_none way l.on)
   asks_cleared (Talks window most g c) is (inr (inl w)) = as_away window most g _ (tail_of way) (tail_has (tail_of way) refl) w
   asks_cleared (Talks window most g c) is (inr (inr k)) = as_gone k
   asks_cleared (WasReset window most) is (inl (g, a, w)) = as_away window most g a (reset 0 0 0 ∷ way) refl w
   asks_cleared (WasReset window most) is (inr k) = as_gone k
   asks_cleared (Resets window most) is s = absurd is
+  asks_cleared Idles is s = absurd is
+  asks_cleared (Calls terms) is s = absurd is
+  asks_cleared (WasCalled terms) is s = absurd is
+  asks_cleared Waiting is s = absurd is
   asks_cleared WasCleared is s = absurd is
   asks_cleared WasRestarted is s = absurd is
 
@@ -541,10 +546,10 @@ record IsFree (t : Pair) : Type 0 where
   pub quiet : t.rule ≡ None
   pub free : Free t.other t.own
 
-confirmed : (t : Pair) (way : List PlainPacket) (channel : ℕ) → Standing t WasCleared way → Free (sends (clear_conf channel) t).other (sends (clear_conf channel) t).own
+confirmed : (t : Pair) (way : List PlainPacket) (channel : ℕ) → Standing t.from t WasCleared way → Free (sends (clear_conf channel) t).other (sends (clear_conf channel) t).own
 unfolding sends sends_known sends_unknown
-confirmed t way channel (inl (window, most, g, a, w)) =
-    subst (λ (x : Pair). Free x.other x.own) (sym (knows t w.go (clear_conf channel) ∙ cond-true (nat_lt 0 t.own.owed) (pair.marks false t) _ (lt-ltb 0 t.own.owed (omega (arith, w.over)))))
+confirmed t way channel (inl (k, terms, w, closes)) =
+    subst (λ (x : Pair). Free x.other x.own) (sym (knows_if t (clear_conf channel) (rw (w.known, w.others_known) refl) (awaits_none t.own.is_clearing t.other.owed w.none_cleared) ∙ cond-true (nat_lt 0 t.own.owed) (pair.marks false t) _ (lt-ltb 0 t.own.owed (omega (arith, w.over)))))
     (record { free = refl; still = λ _. refl })
 confirmed t way channel (inr k) = subst (λ (x : Pair). Free x.other x.own) (sym (cond-true (not (pair.is_known t)) (sends_unknown (clear_conf channel) t) _ (rw (k.known) refl)))
     (cond_both (t.own.is_clearing || port.is_calling t.own.call) _ t (λ (x : Pair). Free (pair.finds x).other (pair.finds x).own) (λ _. found (pair.with_own (port.doubted t.own) t)) (λ _. found t))

@@ -16,7 +16,7 @@ use Rattle.x25_packet_judge.specs.declared.terms.Terms.{Terms}
 use Rattle.x25_packet_judge.specs.laws.Keeping.{Given, Come}
 use Rattle.x25_packet_judge.proofs.verdicts.Standing.{Due, Any, not_true, Others, Away, Gone}
 use Rattle.x25_packet_judge.proofs.verdicts.Saying.{owes_none, parted_second}
-use Rattle.x25_packet_judge.proofs.verdicts.Showing.{called_same, answered_same, gone_unknown}
+use Rattle.x25_packet_judge.proofs.verdicts.Showing.{called_same, answered_same, dark_unknown}
 
 -- behind a reset or a clear of the other end
 module _ (window most : ℕ) (tail : List PlainPacket) (g : Given) (a : Come) where
@@ -239,5 +239,5 @@ module _ (window most : ℕ) (tail : List PlainPacket) (g : Given) (a : Come) wh
   unfolding sends
   shown_left packet v w = subst LeftOrGone (sym (cond-false (not (pair.is_known v)) (sends_unknown packet v) _ (rw (w.go.known, w.go.others_known) refl)))
       (cond_both (pair.is_awaiting v && not (is_clearing packet)) (sends_unknown packet (pair.starts_early v)) (sends_known packet v) LeftOrGone
-      (λ _. inr (gone_unknown packet (pair.starts_early v) (record { known = refl; clearing = refl; call = refl })))
+      (λ _. inr (dark_unknown false packet (pair.starts_early v) (record { known = refl; clearing = refl; call = refl })))
       (λ _. left_known packet v w))

@@ -2,6 +2,7 @@
 use Rattle.std.proofs.Common.{◌≡◌, ℕ, Bool, refl}
 use Rattle.std.specs.Prelude.{◌&&◌, ◌||◌, not, nat_lt}
 use Rattle.std.proofs.lemmas.Bool.{cond_both}
+use Rattle.x25_bits.specs.declared.role.Role.{Role}
 use Rattle.x25_packet.specs.Packet.{PlainPacket, call, accept, clear, clear_conf, user_data, rr, rnr, interrupt, interrupt_conf, reset, reset_conf, restart, restart_conf}
 use Rattle.x25_packet_judge.specs.Packets.{speaks, talks, sends_known, is_clearing, sends_unknown, sends}
 use Rattle.x25_packet_judge.specs.Pair as pair
@@ -14,11 +15,11 @@ use Rattle.x25_packet_judge.specs.declared.port.Call.TheVariants.{Idle, Called, 
 use Rattle.x25_packet_judge.specs.declared.port.Port.{Port}
 use Rattle.x25_packet_judge.specs.declared.terms.Terms.{Terms}
 
--- ---- whether packets reach the other end is by the layers alone
+-- ---- which end sends, and whether packets reach the other one, is by the layers alone
 
-module _ (r : Bool) where
+module _ (f : Role) (r : Bool) where
   abbrev Same : Pair → Type 0
-  Same v = v.reaches ≡ r
+  Same v = (v.from ≡ f) × (v.reaches ≡ r)
 
   goes_on_same : (v : Pair) → Same v → Same (talking.goes_on v)
   goes_on_same v h = cond_both (v.own.talk.is_resetting && nat_lt 0 v.other.talk.owed) _ _ Same (λ _. h) (λ _. h)
@@ -106,8 +107,14 @@ module _ (r : Bool) where
   unknown_same (reset channel cause diagnostic) v h = hastens_same v h
   unknown_same (reset_conf channel) v h = hastens_same v h
 
-pub sends_reaches : (packet : PlainPacket) (v : Pair) → (sends packet v).reaches ≡ v.reaches
+sends_same : (packet : PlainPacket) (v : Pair) → Same v.from v.reaches (sends packet v)
 unfolding sends
-sends_reaches packet v = cond_both (not (pair.is_known v)) _ _ (Same v.reaches)
-    (λ _. unknown_same v.reaches packet v refl)
-    (λ _. cond_both (pair.is_awaiting v && not (is_clearing packet)) _ _ (Same v.reaches) (λ _. unknown_same v.reaches packet (pair.starts_early v) refl) (λ _. known_same v.reaches packet v refl))
+sends_same packet v = cond_both (not (pair.is_known v)) _ _ (Same v.from v.reaches)
+    (λ _. unknown_same v.from v.reaches packet v (refl, refl))
+    (λ _. cond_both (pair.is_awaiting v && not (is_clearing packet)) _ _ (Same v.from v.reaches) (λ _. unknown_same v.from v.reaches packet (pair.starts_early v) (refl, refl)) (λ _. known_same v.from v.reaches packet v (refl, refl)))
+
+pub sends_from : (packet : PlainPacket) (v : Pair) → (sends packet v).from ≡ v.from
+sends_from packet v = (sends_same packet v).0
+
+pub sends_reaches : (packet : PlainPacket) (v : Pair) → (sends packet v).reaches ≡ v.reaches
+sends_reaches packet v = (sends_same packet v).1

@@ -1,7 +1,7 @@
 -- What the other end sends in the stretch, and on a channel of which nothing is known.
 use Rattle.std.proofs.Common.{◌≡◌, ◌==◌, inl, inr, ℕ, ◌+◌, ◌-◌, ◌≤◌, arith, min, Bool, true, false, List, [], ◌∷◌, length, refl, sym, ap, ◌∙◌, subst}
 use Rattle.std.specs.Prelude.{nat_lt, ◌&&◌, ◌||◌, not}
-use Rattle.std.proofs.lemmas.Bool.{eqb-true, and_left, and_right, both_ways, cond_both, cond-true, cond-false}
+use Rattle.std.proofs.lemmas.Bool.{eqb-true, and_left, and_right, or_right, both_ways, cond_both, cond-true, cond-false}
 use Rattle.x25_bits.specs.declared.role.Role.{Role}
 use Rattle.x25_packet.specs.Packet.{PlainPacket, call, accept, clear, clear_conf, user_data, rr, rnr, interrupt, interrupt_conf, reset, reset_conf, restart, restart_conf}
 use Rattle.x25_packet_judge.specs.Flow as flow
@@ -19,7 +19,7 @@ use Rattle.x25_packet_judge.specs.declared.port.Talk.{Talk}
 use Rattle.x25_packet_judge.specs.declared.terms.Terms.{Terms}
 use Rattle.x25_packet_judge.specs.laws.Keeping.{Given, Come, takes, IsOfChannel}
 use Rattle.x25_packet_judge.proofs.verdicts.Flows.{heard_numbered, brings_one, others_sent, heard_next}
-use Rattle.x25_packet_judge.proofs.verdicts.Standing.{more_tail, bit, not_true, Own, Level, Gone, Stands}
+use Rattle.x25_packet_judge.proofs.verdicts.Standing.{more_tail, bit, not_true, Own, Level, Dark, Gone, Stands}
 use Rattle.x25_packet_judge.proofs.verdicts.Saying.{before, going, awaits_none, owes_none, knows, enters, goes_on_so, together}
 
 -- ---- the other end sends: its port is the pair's own
@@ -187,7 +187,7 @@ module _ (window most : ℕ) (tail : List PlainPacket) (s : Pair) (g : Given) (a
         own = record { its_window = l.own.its_window; its_most = l.own.its_most; number = l.own.number; numbered = l.own.numbered; message = l.own.message; interrupts = l.own.interrupts };
         others = λ _. record { numbered = l.others.numbered; interrupts = l.others.interrupts };
         over = subst (λ b. 1 ≤ port.more b s.other.owed) (sym owed_so) (owes_one s.other.owed);
-        behind = tt;
+        behind = record { reached = l.reached; once = ap (λ b. port.more b s.other.owed) owed_so ∙ ap (λ x. min (x + 1) 255) l.back.none_cleared; its_clear = refl; call = refl; flow = refl };
       })))
 
   pub shown_level : (packet : PlainPacket) → IsOfChannel packet → Turns window most (more_tail packet tail) g (takes packet a) (sends packet s)
@@ -213,53 +213,71 @@ module _ (window most : ℕ) (tail : List PlainPacket) (s : Pair) (g : Given) (a
   shown_level restart_conf is = absurd is
 
 -- where nothing is known
-pub gone_unknown : (packet : PlainPacket) (v : Pair) → Gone v.other → Gone (sends_unknown packet v).other
-unfolding sends_unknown
-gone_unknown packet v k = go packet
+pub more_not : (n : ℕ) → (port.more true n == 0) ≡ false
+more_not n = not_true (port.more true n == 0) (λ e. some n (eqb-true (port.more true n) 0 e))
   where
-    kept : (w : Pair) → w.other ≡ v.other → Gone w.other
-    kept w is = subst Gone (sym is) k
+    some : (n : ℕ) → min (n + 1) 255 ≡ 0 → ⊥
+    some n e = omega arith
 
-    cleared : Gone (pair.clears_unknown v).other
-    cleared = cond_both v.reaches _ _ (λ (w : Pair). Gone w.other) (λ _. record { known = k.known; clearing = refl; call = refl }) (λ _. k)
+pub dark_broken : (shut : Bool) (v : Pair) → Dark shut (pair.doubts v).other
+dark_broken shut v = record { known = refl; clearing = refl; call = and_right (shut || false) _ refl }
 
-    hastened : (P : Pair → Pair) → Gone (P v).other → Gone (P (pair.with_own (port.doubted v.own) v)).other → Gone (P (pair.hastens v)).other
-    hastened P h j = cond_both (v.own.is_clearing || port.is_calling v.own.call) _ v (λ (w : Pair). Gone (P w).other) (λ _. j) (λ _. h)
+module _ (shut : Bool) where
+  barred_so : (i d z x y w e : Bool) → ((shut || i) && (not d && z)) ≡ false → (i && ((x && (z && y)) && (w && not (e || d)))) ≡ false
+  barred_so false d z x y w e h = refl
+  barred_so true true z x y w e h = and_right (x && (z && y)) _ (and_right w _ (last e))
+    where
+      last : (e : Bool) → not (e || true) ≡ false
+      last true = refl
+      last false = refl
+  barred_so true false true x y w e h = absurd (both_ways (shut || true) (sym (go shut) ∙ h) (or_right shut true refl))
+    where
+      go : (b : Bool) → ((b || true) && true) ≡ (b || true)
+      go true = refl
+      go false = refl
+  barred_so true false false x y w e h = and_left (x && false) _ (and_right x false refl)
 
-    doubted : (own : Port) → Gone (pair.reaching (port.doubted v.other) (pair.with_own own v)).other
-    doubted own = cond_both v.reaches _ _ (λ (w : Pair). Gone w.other) (λ _. record { known = k.known; clearing = k.clearing; call = k.call }) (λ _. k)
+  pub dark_unknown : (packet : PlainPacket) (v : Pair) → Dark shut v.other → Dark shut (sends_unknown packet v).other
+  unfolding sends_unknown
+  dark_unknown packet v k = go packet
+    where
+      cleared : Dark shut (pair.clears_unknown v).other
+      cleared = cond_both v.reaches _ _ (λ (w : Pair). Dark shut w.other) (λ _. record { known = k.known; clearing = refl; call = and_right (shut || false) _ (and_right (not v.other.is_doubtful) _ (more_not v.other.owed)) }) (λ _. k)
 
-    found : (w : Pair) → Gone w.other → Gone (pair.finds w).other
-    found w k = subst (λ (x : Pair). Gone x.other) (sym (cond-false (pair.is_sure_answer w) _ _ (sure_not w k)))
-        (cond_both w.reaches _ _ (λ (x : Pair). Gone x.other) (λ _. record { known = k.known; clearing = refl; call = k.call }) (λ _. k))
-      where
-        sure_not : (w : Pair) → Gone w.other → pair.is_sure_answer w ≡ false
-        sure_not w k = rw (k.clearing) refl
+      hastened : (P : Pair → Pair) → Dark shut (P v).other → Dark shut (P (pair.with_own (port.doubted v.own) v)).other → Dark shut (P (pair.hastens v)).other
+      hastened P h j = cond_both (v.own.is_clearing || port.is_calling v.own.call) _ v (λ (w : Pair). Dark shut (P w).other) (λ _. j) (λ _. h)
 
-    calling_not : port.is_calling v.other.call ≡ false
-    calling_not = ap port.is_calling k.call
+      doubted : (own : Port) → Dark shut (pair.reaching (port.doubted v.other) (pair.with_own own v)).other
+      doubted own = cond_both v.reaches _ _ (λ (w : Pair). Dark shut w.other) (λ _. record { known = k.known; clearing = k.clearing; call = and_right (shut || port.is_calling v.other.call) _ refl }) (λ _. k)
 
-    go : (packet : PlainPacket) → Gone (sends_unknown packet v).other
-    go (clear channel cause diagnostic) = cleared
-    go (clear_conf channel) = hastened pair.finds (found v k) (found (pair.with_own (port.doubted v.own) v) k)
-    go (call channel called calling facilities user) = hastened (pair.calls_unknown (said facilities usual)) k k
-    go (accept channel facilities) =
-        subst (λ (w : Pair). Gone w.other)
-        (sym (cond-false (pair.may_find_call v) _ (pair.accepts_unknown v) (and_left (port.is_calling v.other.call) _ calling_not)))
-        (doubted (port.doubted (port.settled v.own)))
-    go (restart cause diagnostic) = k
-    go restart_conf = k
-    go (user_data channel q m ps pr user) = hastened pair.settles k k
-    go (rr channel pr) = hastened pair.settles k k
-    go (rnr channel pr) = hastened pair.settles k k
-    go (interrupt channel user) = hastened pair.settles k k
-    go (interrupt_conf channel) = hastened pair.settles k k
-    go (reset channel cause diagnostic) = hastened pair.settles k k
-    go (reset_conf channel) = hastened pair.settles k k
+      found : (w : Pair) → Dark shut w.other → Dark shut (pair.finds w).other
+      found w k = subst (λ (x : Pair). Dark shut x.other) (sym (cond-false (pair.is_sure_answer w) _ _ (sure_not w k)))
+          (cond_both w.reaches _ _ (λ (x : Pair). Dark shut x.other) (λ _. record { known = k.known; clearing = refl; call = k.call }) (λ _. k))
+        where
+          sure_not : (w : Pair) → Dark shut w.other → pair.is_sure_answer w ≡ false
+          sure_not w k = rw (k.clearing) refl
 
-pub shown_gone : (packet : PlainPacket) (s : Pair) → Gone s.other → Gone (sends packet s).other
-unfolding sends
-shown_gone packet s k = subst (λ (v : Pair). Gone v.other) (sym (cond-true (not (pair.is_known s)) (sends_unknown packet s) _ (unknown_so s.own.is_known s.other.is_known k.known))) (gone_unknown packet s k)
-  where
-    unknown_so : (b c : Bool) → c ≡ false → not (b && c) ≡ true
-    unknown_so b c none = ap not (and_right b c none)
+      go : (packet : PlainPacket) → Dark shut (sends_unknown packet v).other
+      go (clear channel cause diagnostic) = cleared
+      go (clear_conf channel) = hastened pair.finds (found v k) (found (pair.with_own (port.doubted v.own) v) k)
+      go (call channel called calling facilities user) = hastened (pair.calls_unknown (said facilities usual)) k k
+      go (accept channel facilities) =
+          subst (λ (w : Pair). Dark shut w.other)
+          (sym (cond-false (pair.may_find_call v) _ (pair.accepts_unknown v) (barred_so (port.is_calling v.other.call) v.other.is_doubtful (v.other.owed == 0) (v.own.owed == 0) (not v.other.is_stray) (not (port.is_calling v.own.call)) v.own.is_doubtful k.call)))
+          (doubted (port.doubted (port.settled v.own)))
+      go (restart cause diagnostic) = k
+      go restart_conf = k
+      go (user_data channel q m ps pr user) = hastened pair.settles k k
+      go (rr channel pr) = hastened pair.settles k k
+      go (rnr channel pr) = hastened pair.settles k k
+      go (interrupt channel user) = hastened pair.settles k k
+      go (interrupt_conf channel) = hastened pair.settles k k
+      go (reset channel cause diagnostic) = hastened pair.settles k k
+      go (reset_conf channel) = hastened pair.settles k k
+
+  pub shown_dark : (packet : PlainPacket) (s : Pair) → Dark shut s.other → Dark shut (sends packet s).other
+  unfolding sends
+  shown_dark packet s k = subst (λ (v : Pair). Dark shut v.other) (sym (cond-true (not (pair.is_known s)) (sends_unknown packet s) _ (unknown_so s.own.is_known s.other.is_known k.known))) (dark_unknown packet s k)
+    where
+      unknown_so : (b c : Bool) → c ≡ false → not (b && c) ≡ true
+      unknown_so b c none = ap not (and_right b c none)

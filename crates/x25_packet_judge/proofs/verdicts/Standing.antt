@@ -1,12 +1,13 @@
 -- What comes to an end where all that is on the way has come, and where the channel may stand beside that.
 use Rattle.std.proofs.Common.{◌≡◌, ◌==◌, ◌⊎◌, ℕ, ◌+◌, ◌%◌, ◌<◌, ◌≤◌, arith, Bool, true, false, if◌then◌else◌, List, [], ◌∷◌, ◌++◌, Option, Some, None, refl, sym, ap, ◌∙◌, subst}
-use Rattle.std.specs.Prelude.{nat_lt, ◌&&◌}
-use Rattle.std.proofs.lemmas.Bool.{ltb-true, and_parts, both_ways, cond_both, cond-true, cond-false}
+use Rattle.std.specs.Prelude.{nat_lt, ◌&&◌, ◌||◌, not}
+use Rattle.std.proofs.lemmas.Bool.{ltb-true, and_parts, and_right, both_ways, cond_both, cond-true, cond-false}
 use Rattle.x25_packet.specs.Packet.{PlainPacket, call, accept, clear, clear_conf, user_data, rr, rnr, interrupt, interrupt_conf, reset, reset_conf, restart, restart_conf}
 use Rattle.x25_packet_judge.specs.Flow.{fresh}
 use Rattle.x25_packet_judge.specs.Message.{after, broken, differs}
 use Rattle.x25_packet_judge.specs.Numbers.{apart}
 use Rattle.x25_packet_judge.specs.Pair as pair
+use Rattle.x25_packet_judge.specs.Port as port
 use Rattle.x25_packet_judge.specs.declared.flow.Flow.{Flow}
 use Rattle.x25_packet_judge.specs.declared.message.Message.{Message}
 use Rattle.x25_packet_judge.specs.declared.message.Message.TheVariants.{Ended, Plain, Qualified}
@@ -216,19 +217,66 @@ pub record Waits (reaches : Bool) (owed reset_owed : ℕ) (k : Call) (talk : Tal
   pub flow : talk.flow ≡ fresh
   pub interrupt : talk.is_interrupting ≡ false
 
--- or CLEAR or RESTART behind it
-abbrev pub Behind : List PlainPacket → Bool → ℕ → ℕ → Call → Talk → Type 0
-Behind (reset channel cause diagnostic ∷ []) reaches owed reset_owed k talk = Waits reaches owed reset_owed k talk
-Behind (reset channel cause diagnostic ∷ clear two causes diagnostics ∷ rest) reaches owed reset_owed k talk = 1 ≤ owed
-Behind (reset channel cause diagnostic ∷ restart causes diagnostics ∷ rest) reaches owed reset_owed k talk = reaches ≡ false
-Behind (reset channel cause diagnostic ∷ packet ∷ rest) reaches owed reset_owed k talk = ⊥
-Behind tail reaches owed reset_owed k talk = Unit {0}
+-- it sent CLEAR, and nothing behind it
+pub record Closes (reaches : Bool) (owed : ℕ) (clearing : Bool) (k : Call) (f : Flow) : Type 0 where
+  pub reached : reaches ≡ true
+  pub once : owed ≡ 1
+  pub its_clear : clearing ≡ true
+  pub call : k ≡ Idle
+  pub flow : f ≡ fresh
+
+-- or RESTART behind it
+abbrev pub Closing : List PlainPacket → Bool → ℕ → Bool → Call → Flow → Type 0
+Closing [] reaches owed clearing k f = Closes reaches owed clearing k f
+Closing (restart cause diagnostic ∷ rest) reaches owed clearing k f = (reaches ≡ false) × (1 ≤ owed)
+Closing tail reaches owed clearing k f = ⊥
+
+pub closing_due : (rest : List PlainPacket) (reaches : Bool) (owed : ℕ) (clearing : Bool) (k : Call) (f : Flow) → Closing rest reaches owed clearing k f → 1 ≤ owed
+closing_due [] reaches owed clearing k f c = subst (λ n. 1 ≤ n) (sym c.once) (omega arith)
+closing_due (restart cause diagnostic ∷ rest) reaches owed clearing k f c = c.1
+closing_due (user_data channel q m ps pr user ∷ rest) reaches owed clearing k f c = absurd c
+closing_due (rr channel pr ∷ rest) reaches owed clearing k f c = absurd c
+closing_due (rnr channel pr ∷ rest) reaches owed clearing k f c = absurd c
+closing_due (interrupt channel user ∷ rest) reaches owed clearing k f c = absurd c
+closing_due (interrupt_conf channel ∷ rest) reaches owed clearing k f c = absurd c
+closing_due (reset channel cause diagnostic ∷ rest) reaches owed clearing k f c = absurd c
+closing_due (reset_conf channel ∷ rest) reaches owed clearing k f c = absurd c
+closing_due (call channel called calling facilities user ∷ rest) reaches owed clearing k f c = absurd c
+closing_due (accept channel facilities ∷ rest) reaches owed clearing k f c = absurd c
+closing_due (clear channel cause diagnostic ∷ rest) reaches owed clearing k f c = absurd c
+closing_due (clear_conf channel ∷ rest) reaches owed clearing k f c = absurd c
+closing_due (restart_conf ∷ rest) reaches owed clearing k f c = absurd c
+
+pub closing_more : (causes diagnostics : ℕ) (rest : List PlainPacket) (reaches : Bool) (owed : ℕ) (c d : Bool) (k j : Call) (f e : Flow) → Closing rest reaches owed c k f → Closing (rest ++ restart causes diagnostics ∷ []) false owed d j e
+closing_more causes diagnostics [] reaches owed c d k j f e h = (refl, subst (λ n. 1 ≤ n) (sym h.once) (omega arith))
+closing_more causes diagnostics (restart cause diagnostic ∷ rest) reaches owed c d k j f e h = (refl, h.1)
+closing_more causes diagnostics (user_data channel2 q2 m2 ps2 pr2 user2 ∷ rest) reaches owed c d k j f e h = absurd h
+closing_more causes diagnostics (rr channel2 pr2 ∷ rest) reaches owed c d k j f e h = absurd h
+closing_more causes diagnostics (rnr channel2 pr2 ∷ rest) reaches owed c d k j f e h = absurd h
+closing_more causes diagnostics (interrupt channel2 user2 ∷ rest) reaches owed c d k j f e h = absurd h
+closing_more causes diagnostics (interrupt_conf channel2 ∷ rest) reaches owed c d k j f e h = absurd h
+closing_more causes diagnostics (reset channel2 cause2 diagnostic2 ∷ rest) reaches owed c d k j f e h = absurd h
+closing_more causes diagnostics (reset_conf channel2 ∷ rest) reaches owed c d k j f e h = absurd h
+closing_more causes diagnostics (call channel2 called2 calling2 facilities2 user2 ∷ rest) reaches owed c d k j f e h = absurd h
+closing_more causes diagnostics (accept channel2 facilities2 ∷ rest) reaches owed c d k j f e h = absurd h
+closing_more causes diagnostics (clear channel2 cause2 diagnostic2 ∷ rest) reaches owed c d k j f e h = absurd h
+closing_more causes diagnostics (clear_conf channel2 ∷ rest) reaches owed c d k j f e h = absurd h
+closing_more causes diagnostics (restart_conf ∷ rest) reaches owed c d k j f e h = absurd h
+
+-- what it sent behind its RESET or CLEAR
+abbrev pub Behind : List PlainPacket → Bool → ℕ → ℕ → Bool → Call → Talk → Type 0
+Behind (reset channel cause diagnostic ∷ []) reaches owed reset_owed clearing k talk = Waits reaches owed reset_owed k talk
+Behind (reset channel cause diagnostic ∷ clear two causes diagnostics ∷ rest) reaches owed reset_owed clearing k talk = Closing rest reaches owed clearing k talk.flow
+Behind (reset channel cause diagnostic ∷ restart causes diagnostics ∷ rest) reaches owed reset_owed clearing k talk = reaches ≡ false
+Behind (reset channel cause diagnostic ∷ packet ∷ rest) reaches owed reset_owed clearing k talk = ⊥
+Behind (clear channel cause diagnostic ∷ rest) reaches owed reset_owed clearing k talk = Closing rest reaches owed clearing k talk.flow
+Behind tail reaches owed reset_owed clearing k talk = Unit {0}
 
 abbrev pub Behinds : Type 1
-Behinds = Bool → ℕ → ℕ → Call → Talk → Type 0
+Behinds = Bool → ℕ → ℕ → Bool → Call → Talk → Type 0
 
 abbrev pub Any : Behinds
-Any reaches owed reset_owed k talk = Unit {0}
+Any reaches owed reset_owed clearing k talk = Unit {0}
 
 -- both ends are in the stretch
 pub record Level (window most : ℕ) (tail : List PlainPacket) (reaches : Bool) (p o : Port) (g : Given) (a : Come) : Type 0 where
@@ -248,13 +296,19 @@ pub record Away (window most : ℕ) (tail : List PlainPacket) (B : Behinds) (rea
   pub own : Own window most p.talk g a.acked a.confirmed
   pub others : o.former.is_known ≡ true → Others o.former.flow o.former.is_interrupting g a.taken a.asked
   pub over : Due tail reaches p.owed p.talk.owed
-  pub behind : B reaches p.owed p.talk.owed o.call o.talk
+  pub behind : B reaches p.owed p.talk.owed o.is_clearing o.call o.talk
 
--- nothing is known
-pub record Gone (p : Port) : Type 0 where
+-- Nothing is known, and no packet of the other end makes it known; nor does CALL ACCEPTED of the end, where it is shut.
+pub record Dark (shut : Bool) (p : Port) : Type 0 where
   pub known : p.is_known ≡ false
   pub clearing : p.is_clearing ≡ false
-  pub call : p.call ≡ Idle
+  pub call : ((shut || port.is_calling p.call) && (not p.is_doubtful && p.owed == 0)) ≡ false
+
+abbrev pub Gone : Port → Type 0
+Gone p = Dark false p
+
+pub as_gone : (p : Port) → Dark true p → Gone p
+as_gone p k = record { known = k.known; clearing = k.clearing; call = and_right (port.is_calling p.call) _ k.call }
 
 abbrev pub Stands : ℕ → ℕ → List PlainPacket → Bool → Port → Port → Given → Come → Type 0
 Stands window most tail reaches p o g a = Level window most tail reaches p o g a ⊎ (Away window most tail (Behind tail) reaches p o g a ⊎ Gone p)

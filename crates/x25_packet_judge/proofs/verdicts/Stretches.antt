@@ -1,6 +1,6 @@
 -- Where an end stands from one stretch of a call to the next, and what either end sends there.
 use Rattle.std.proofs.Common.{◌≡◌, ◌==◌, ◌⊎◌, inl, inr, ℕ, ◌+◌, ◌-◌, ◌≤◌, arith, min, Bool, true, false, List, [], ◌∷◌, ◌++◌, length, refl, sym, ap, ◌∙◌, subst}
-use Rattle.std.specs.Prelude.{nat_lt, ◌&&◌, not}
+use Rattle.std.specs.Prelude.{nat_lt, ◌&&◌, ◌||◌, not}
 use Rattle.std.proofs.lemmas.Bool.{eqb-true, and_left, and_right, both_ways, cond_both, cond-true, cond-false}
 use Rattle.x25_packet.specs.Packet.{PlainPacket, call, accept, clear, clear_conf, user_data, rr, rnr, interrupt, interrupt_conf, reset, reset_conf, restart, restart_conf}
 use Rattle.x25_packet_judge.specs.Flow as flow
@@ -10,18 +10,19 @@ use Rattle.x25_packet_judge.specs.Port as port
 use Rattle.x25_packet_judge.specs.Talking as talking
 use Rattle.x25_packet_judge.specs.Terms.{said, usual}
 use Rattle.x25_packet_judge.specs.declared.flow.Flow.{Flow}
-use Rattle.x25_packet_judge.specs.declared.packet_rule.PacketRule.TheVariants.{NoCall, ResetAwaited}
+use Rattle.x25_packet_judge.specs.declared.packet_rule.PacketRule.TheVariants.{NoCall, ResetAwaited, ClearUnasked}
 use Rattle.x25_packet_judge.specs.declared.pair.Pair.{Pair}
 use Rattle.x25_packet_judge.specs.declared.port.Port.{Port}
 use Rattle.x25_packet_judge.specs.declared.port.Talk.{Talk}
 use Rattle.x25_packet_judge.specs.laws.Keeping.{Given, Come, nothing_given, nothing_came, IsOfChannel}
 use Rattle.x25_packet_judge.proofs.verdicts.Flows.{Counts}
-use Rattle.x25_packet_judge.proofs.verdicts.Standing.{ahead, tail_of, more_tail, none_left, not_true, Own, Others, MayGo, Due, Waits, Behind, Behinds, Any, Level, Away, Gone, Stands}
+use Rattle.x25_packet_judge.proofs.verdicts.Standing.{ahead, tail_of, more_tail, none_left, not_true, Own, Others, MayGo, Due, Waits, Closes, Closing, closing_due, Behind, Behinds, Any, Level, Away, Dark, Gone, Stands}
 use Rattle.x25_packet_judge.proofs.verdicts.Saying.{before, going, awaits_none, owes_none, enters, speaks_so, goes_on_so, parted_so}
-use Rattle.x25_packet_judge.proofs.verdicts.Showing.{calls_gone, accepts_none}
+use Rattle.x25_packet_judge.proofs.verdicts.Showing.{calls_gone, accepts_none, more_not, dark_broken, dark_unknown}
+use Rattle.x25_packet_judge.proofs.verdicts.Reaching.{sends_reaches}
 use Rattle.x25_packet_judge.proofs.verdicts.Leaving.{LeftOrGone, gone_hears, gone_interrupts, gone_confirms, shown_left}
 
-lots : (n : ℕ) → 1 ≤ n → (n == 0) ≡ false
+pub lots : (n : ℕ) → 1 ≤ n → (n == 0) ≡ false
 lots n due = not_true (n == 0) (λ e. none n due (eqb-true n 0 e))
   where
     none : (n : ℕ) → 1 ≤ n → n ≡ 0 → ⊥
@@ -66,13 +67,13 @@ abbrev pub Waiting : ℕ → ℕ → Pair → List PlainPacket → Type 0
 Waiting window most t [] = Asking window most t.reaches t.own t.other
 Waiting window most t (reset channel cause diagnostic ∷ rest) = Talking window most t nothing_given nothing_came rest
 Waiting window most t (reset_conf channel ∷ rest) = Talking window most t nothing_given nothing_came rest
-Waiting window most t (clear channel cause diagnostic ∷ rest) = Away window most (clear channel cause diagnostic ∷ rest) Any t.reaches t.own t.other nothing_given nothing_came
+Waiting window most t (clear channel cause diagnostic ∷ rest) = Away window most (clear channel cause diagnostic ∷ rest) (Behind (clear channel cause diagnostic ∷ rest)) t.reaches t.own t.other nothing_given nothing_came
 Waiting window most t (restart cause diagnostic ∷ rest) = Unit {0}
 Waiting window most t tail = ⊥
 
 -- the other end left by such a packet
 pub with_tail : (window most : ℕ) (one two : List PlainPacket) (B C : Behinds) (reaches : Bool) (p o : Port) (g : Given) (a : Come)
-    → Due two reaches p.owed p.talk.owed → C reaches p.owed p.talk.owed o.call o.talk → Away window most one B reaches p o g a → Away window most two C reaches p o g a
+    → Due two reaches p.owed p.talk.owed → C reaches p.owed p.talk.owed o.is_clearing o.call o.talk → Away window most one B reaches p o g a → Away window most two C reaches p o g a
 with_tail window most one two B C reaches p o g a due behind w = record { go = w.go; parted = w.parted; no_former = w.no_former; own = w.own; others = w.others; over = due; behind = behind }
 
 pub knows_if : (t : Pair) (packet : PlainPacket) → pair.is_known t ≡ true → pair.is_awaiting t ≡ false → sends packet t ≡ sends_known packet t
@@ -127,7 +128,7 @@ module _ (window most : ℕ) (t : Pair) (g : Given) (a : Come) where
       }
 
       away : (packet : PlainPacket) (more : List PlainPacket) → (t.reaches && (t.own.owed == 0 && (t.own.talk.owed - 1) == 0)) ≡ false → Due (packet ∷ more) t.reaches t.own.owed (t.own.talk.owed - 1)
-          → Behind (packet ∷ more) t.reaches t.own.owed (t.own.talk.owed - 1) v.other.call v.other.talk → Away window most (packet ∷ more) (Behind (packet ∷ more)) v.reaches v.own v.other nothing_given nothing_came
+          → Behind (packet ∷ more) t.reaches t.own.owed (t.own.talk.owed - 1) v.other.is_clearing v.other.call v.other.talk → Away window most (packet ∷ more) (Behind (packet ∷ more)) v.reaches v.own v.other nothing_given nothing_came
       away packet more parted due behind = record {
         go = may_go;
         parted = parted;
@@ -138,12 +139,12 @@ module _ (window most : ℕ) (t : Pair) (g : Given) (a : Come) where
         behind = behind;
       }
 
-      go : (rest : List PlainPacket) → Behind (reset channel cause diagnostic ∷ rest) t.reaches t.own.owed t.own.talk.owed t.other.call t.other.talk → Talking window most v nothing_given nothing_came rest
+      go : (rest : List PlainPacket) → Behind (reset channel cause diagnostic ∷ rest) t.reaches t.own.owed t.own.talk.owed t.other.is_clearing t.other.call t.other.talk → Talking window most v nothing_given nothing_came rest
       go [] waits = inl (level waits)
-      go (clear two causes diagnostics ∷ more) due = inr (inl (away (clear two causes diagnostics) more (and_right t.reaches _ (flag_first t.own.owed (t.own.talk.owed - 1) due)) due tt))
+      go (clear two causes diagnostics ∷ more) closes = inr (inl (away (clear two causes diagnostics) more (and_right t.reaches _ (and_left (t.own.owed == 0) _ (lots t.own.owed (due closes)))) (due closes) closes))
         where
-          flag_first : (n m : ℕ) → 1 ≤ n → (n == 0 && m == 0) ≡ false
-          flag_first n m due = and_left (n == 0) (m == 0) (lots n due)
+          due : Closing more t.reaches t.own.owed t.other.is_clearing t.other.call t.other.talk.flow → 1 ≤ t.own.owed
+          due closes = closing_due more t.reaches t.own.owed t.other.is_clearing t.other.call t.other.talk.flow closes
       go (restart causes diagnostics ∷ more) unreached = inr (inl (away (restart causes diagnostics) more (and_left t.reaches _ unreached) unreached tt))
       go (reset two causes diagnostics ∷ more) e = absurd e
       go (reset_conf two ∷ more) e = absurd e
@@ -173,16 +174,16 @@ module _ (window most : ℕ) (t : Pair) (g : Given) (a : Come) where
       matches = rw (l.reached, l.go.none_cleared, l.back.none_cleared, l.back.none_reset) refl
 
   -- where CLEAR is on the way
-  pub asks_cleared : (channel cause diagnostic : ℕ) (rest : List PlainPacket) (B : Behinds) → Away window most (clear channel cause diagnostic ∷ rest) B t.reaches t.own t.other g a
-      → Away window most (clear channel cause diagnostic ∷ rest) Any (talking.marks_reset true (before t)).reaches (talking.marks_reset true (before t)).own (talking.marks_reset true (before t)).other nothing_given nothing_came
-  asks_cleared channel cause diagnostic rest B w = record {
+  pub asks_cleared : (channel cause diagnostic : ℕ) (rest : List PlainPacket) → Away window most (clear channel cause diagnostic ∷ rest) (Behind (clear channel cause diagnostic ∷ rest)) t.reaches t.own t.other g a
+      → Away window most (clear channel cause diagnostic ∷ rest) (Behind (clear channel cause diagnostic ∷ rest)) (talking.marks_reset true (before t)).reaches (talking.marks_reset true (before t)).own (talking.marks_reset true (before t)).other nothing_given nothing_came
+  asks_cleared channel cause diagnostic rest w = record {
     go = record { known = w.go.known; up = refl; others_known = w.go.others_known; none_cleared = w.go.none_cleared; none_reset = ap (λ b. port.more b t.other.talk.owed) unmatched ∙ w.go.none_reset };
     parted = and_right t.reaches _ (and_left (t.own.owed == 0) _ (lots t.own.owed w.over));
-    no_former = and_right true (pair.is_together (before t)) (parted_so window most (clear channel cause diagnostic ∷ rest) B t g a w);
+    no_former = and_right true (pair.is_together (before t)) (parted_so window most (clear channel cause diagnostic ∷ rest) (Behind (clear channel cause diagnostic ∷ rest)) t g a w);
     own = own_begins window most true (t.own.talk.owed - 1) t.own.talk.window t.own.talk.most w.own.its_window w.own.its_most;
     others = λ e. absurd (both_ways false refl e);
     over = w.over;
-    behind = tt;
+    behind = w.behind;
   }
     where
       unmatched : (pair.is_matched (before t) && t.own.talk.owed == 0) ≡ false
@@ -193,7 +194,7 @@ module _ (window most : ℕ) (t : Pair) (g : Given) (a : Come) where
   asks [] B (inr w) = absurd w.over
   asks (x ∷ rest) B (inl l) = absurd (none_left x rest l.on)
   asks (reset channel cause diagnostic ∷ rest) B (inr w) = begins_anew true channel cause diagnostic rest w
-  asks (clear channel cause diagnostic ∷ rest) B (inr w) = asks_cleared channel cause diagnostic rest (Behind (clear channel cause diagnostic ∷ rest)) w
+  asks (clear channel cause diagnostic ∷ rest) B (inr w) = asks_cleared channel cause diagnostic rest w
   asks (restart cause diagnostic ∷ rest) B (inr w) = tt
   asks (reset_conf channel ∷ rest) B (inr w) = absurd w.over
   asks (call channel called calling facilities user ∷ rest) B (inr w) = absurd w.over
@@ -224,7 +225,7 @@ module _ (window most : ℕ) (tail : List PlainPacket) (B : Behinds) (v : Pair) 
   waits_speaks packet = cond-true (pair.may_talk (pair.starts v)) (speaks packet (before v)) (pair.breaks NoCall (pair.starts v)) waits.up
 
   abbrev pub AfterReset : PlainPacket → Type 0
-  AfterReset packet = Behind (reset 0 0 0 ∷ packet ∷ []) (sends packet v).reaches (sends packet v).other.owed (sends packet v).other.talk.owed (sends packet v).own.call (sends packet v).own.talk ⊎ Gone (sends packet v).other
+  AfterReset packet = Behind (reset 0 0 0 ∷ packet ∷ []) (sends packet v).reaches (sends packet v).other.owed (sends packet v).other.talk.owed (sends packet v).own.is_clearing (sends packet v).own.call (sends packet v).own.talk ⊎ Gone (sends packet v).other
 
   waits_gone : (packet : PlainPacket) (x : Pair) → sends packet v ≡ x → Gone x.other → Gone (sends packet v).other
   waits_gone packet x is k = subst (λ (y : Pair). Gone y.other) (sym is) k
@@ -240,15 +241,12 @@ module _ (window most : ℕ) (tail : List PlainPacket) (B : Behinds) (v : Pair) 
   waits_shown (reset channel cause diagnostic) is = inr (waits_gone (reset channel cause diagnostic) _ (waits_known (reset channel cause diagnostic) ∙ waits_speaks (reset channel cause diagnostic) ∙ cond-true (v.own.talk.is_resetting && nat_lt 0 v.other.talk.owed) (pair.unknown (before v)) _ (rw (waits.resetting, waits.once) refl)) (record { known = refl; clearing = refl; call = refl }))
   waits_shown (reset_conf channel) is = inr (waits_gone (reset_conf channel) _ (waits_known (reset_conf channel) ∙ waits_speaks (reset_conf channel) ∙ cond-false (nat_lt 0 v.own.talk.owed) _ _ (owes_none v.own.talk.owed w.go.none_reset)) (record { known = refl; clearing = refl; call = refl }))
   waits_shown (clear channel cause diagnostic) is =
-      subst (λ (x : Pair). (1 ≤ x.other.owed) ⊎ Gone x.other)
+      subst (λ (x : Pair). Closes x.reaches x.other.owed x.own.is_clearing x.own.call x.own.talk.flow ⊎ Gone x.other)
       (sym (waits_known (clear channel cause diagnostic) ∙ cond-false (pair.is_awaiting v) _ (pair.marks true v) (awaits_not v.own.is_clearing v.other.owed waits.none_cleared)))
-      (inl (subst (λ b. 1 ≤ port.more b v.other.owed) (sym reach) (one v.other.owed)))
+      (inl (record { reached = waits.reached; once = ap (λ b. port.more b v.other.owed) reach ∙ ap (λ x. min (x + 1) 255) waits.none_cleared; its_clear = refl; call = refl; flow = refl }))
     where
       reach : (v.reaches && v.own.owed == 0) ≡ true
       reach = rw (waits.reached, w.go.none_cleared) refl
-
-      one : (n : ℕ) → 1 ≤ port.more true n
-      one n = omega arith
   waits_shown (clear_conf channel) is = inr (waits_gone (clear_conf channel) _ (waits_known (clear_conf channel) ∙ cond-false (nat_lt 0 v.own.owed) _ _ (owes_none v.own.owed w.go.none_cleared)) (record { known = refl; clearing = refl; call = refl }))
   waits_shown (call channel called calling facilities user) is = inr (waits_gone (call channel called calling facilities user) _ (waits_known (call channel called calling facilities user)) (calls_gone v.own.call (said facilities usual) (pair.starts v) waits.up))
   waits_shown (accept channel facilities) is =
@@ -258,26 +256,75 @@ module _ (window most : ℕ) (tail : List PlainPacket) (B : Behinds) (v : Pair) 
   waits_shown (restart cause diagnostic) is = absurd is
   waits_shown restart_conf is = absurd is
 
+-- behind its CLEAR, that waits, all leaves the channel unknown
+module _ (shut : Bool) (v : Pair) (known : v.other.is_known ≡ true) (others_known : v.own.is_known ≡ true) (none_cleared : v.own.owed ≡ 0) (clears : v.own.is_clearing ≡ true) (once : v.other.owed ≡ 1) where
+  closed_awaits : pair.is_awaiting v ≡ true
+  closed_awaits = rw (clears, once) refl
+
+  closed_known : not (pair.is_known v) ≡ false
+  closed_known = rw (known, others_known) refl
+
+  closed_early : (packet : PlainPacket) → not (is_clearing packet) ≡ true → Dark shut (sends packet v).other
+  unfolding sends
+  closed_early packet other = subst (λ (x : Pair). Dark shut x.other)
+      (sym (cond-false (not (pair.is_known v)) (sends_unknown packet v) _ closed_known ∙ cond-true (pair.is_awaiting v && not (is_clearing packet)) (sends_unknown packet (pair.starts_early v)) (sends_known packet v) (ap (λ b. b && not (is_clearing packet)) closed_awaits ∙ other)))
+      (dark_unknown shut packet (pair.starts_early v) (dark_broken shut v))
+
+  closed_clearing : (packet : PlainPacket) → not (is_clearing packet) ≡ false → sends packet v ≡ sends_known packet v
+  unfolding sends
+  closed_clearing packet other = cond-false (not (pair.is_known v)) (sends_unknown packet v) _ closed_known ∙ cond-false (pair.is_awaiting v && not (is_clearing packet)) (sends_unknown packet (pair.starts_early v)) (sends_known packet v) (and_right (pair.is_awaiting v) _ other)
+
+  pub closed_shown : (packet : PlainPacket) → IsOfChannel packet → Dark shut (sends packet v).other
+  unfolding sends_known is_clearing
+  closed_shown (clear channel cause diagnostic) is =
+      subst (λ (x : Pair). Dark shut x.other) (sym (closed_clearing (clear channel cause diagnostic) refl ∙ cond-true (pair.is_awaiting v) (pair.clears_unknown (pair.unknown v)) _ closed_awaits))
+      (cond_both v.reaches _ _ (λ (x : Pair). Dark shut x.other)
+      (λ _. record { known = refl; clearing = refl; call = and_right (shut || false) _ (and_right (not v.other.is_doubtful) _ (more_not v.other.owed)) })
+      (λ _. record { known = refl; clearing = refl; call = and_right (shut || false) _ (and_right (not v.other.is_doubtful) _ (ap (λ n. n == 0) once)) }))
+  closed_shown (clear_conf channel) is =
+      subst (λ (x : Pair). Dark shut x.other) (sym (closed_clearing (clear_conf channel) refl ∙ cond-false (nat_lt 0 v.own.owed) _ (pair.strays true (pair.breaks ClearUnasked v)) (owes_none v.own.owed none_cleared)))
+      (record { known = refl; clearing = refl; call = and_right (shut || false) _ refl })
+  closed_shown (user_data channel q m ps pr user) is = closed_early (user_data channel q m ps pr user) refl
+  closed_shown (rr channel pr) is = closed_early (rr channel pr) refl
+  closed_shown (rnr channel pr) is = closed_early (rnr channel pr) refl
+  closed_shown (interrupt channel user) is = closed_early (interrupt channel user) refl
+  closed_shown (interrupt_conf channel) is = closed_early (interrupt_conf channel) refl
+  closed_shown (reset channel cause diagnostic) is = closed_early (reset channel cause diagnostic) refl
+  closed_shown (reset_conf channel) is = closed_early (reset_conf channel) refl
+  closed_shown (call channel called calling facilities user) is = closed_early (call channel called calling facilities user) refl
+  closed_shown (accept channel facilities) is = closed_early (accept channel facilities) refl
+  closed_shown (restart cause diagnostic) is = absurd is
+  closed_shown restart_conf is = absurd is
+
 -- once it has left the stretch
 module _ (window most : ℕ) (v : Pair) (g : Given) (a : Come) (packet : PlainPacket) (is : IsOfChannel packet) where
   -- by what stands so behind each packet that it sends
   due_shown : (x : PlainPacket) (rest : List PlainPacket) → Away window most (x ∷ rest) Any v.reaches v.other v.own g a → LeftOrGone window most (x ∷ rest) g a (sends packet v)
   due_shown x rest w = shown_left window most (x ∷ rest) g a packet v w
 
-  pub cleared_shown : (channel cause diagnostic : ℕ) (rest more : List PlainPacket) → Away window most (clear channel cause diagnostic ∷ rest) Any v.reaches v.other v.own g a
-      → Away window most (clear channel cause diagnostic ∷ more) Any (sends packet v).reaches (sends packet v).other (sends packet v).own g a ⊎ Gone (sends packet v).other
-  cleared_shown channel cause diagnostic rest more w = go (due_shown (clear channel cause diagnostic) rest w)
+  pub cleared_shown : (channel cause diagnostic : ℕ) (rest : List PlainPacket) → Away window most (clear channel cause diagnostic ∷ rest) (Behind (clear channel cause diagnostic ∷ rest)) v.reaches v.other v.own g a
+      → Turned window most g a (clear channel cause diagnostic ∷ (rest ++ packet ∷ [])) (sends packet v)
+  cleared_shown channel cause diagnostic [] w = inr (closed_shown false v w.go.known w.go.others_known w.go.none_cleared w.behind.its_clear w.behind.once packet is)
+  cleared_shown channel cause diagnostic (restart causes diagnostics ∷ more) w = go (due_shown (clear channel cause diagnostic) (restart causes diagnostics ∷ more) (with_tail window most _ (clear channel cause diagnostic ∷ restart causes diagnostics ∷ more) _ Any v.reaches v.other v.own g a w.over tt w))
     where
-      go : LeftOrGone window most (clear channel cause diagnostic ∷ rest) g a (sends packet v) → Away window most (clear channel cause diagnostic ∷ more) Any (sends packet v).reaches (sends packet v).other (sends packet v).own g a ⊎ Gone (sends packet v).other
-      go (inl l) = inl (with_tail window most (clear channel cause diagnostic ∷ rest) (clear channel cause diagnostic ∷ more) Any Any (sends packet v).reaches (sends packet v).other (sends packet v).own g a l.over tt l)
+      go : LeftOrGone window most (clear channel cause diagnostic ∷ restart causes diagnostics ∷ more) g a (sends packet v) → Turned window most g a (clear channel cause diagnostic ∷ (restart causes diagnostics ∷ (more ++ packet ∷ []))) (sends packet v)
+      go (inl l) = inl (with_tail window most _ (clear channel cause diagnostic ∷ (restart causes diagnostics ∷ (more ++ packet ∷ []))) Any (Behind (clear channel cause diagnostic ∷ (restart causes diagnostics ∷ (more ++ packet ∷ [])))) (sends packet v).reaches (sends packet v).other (sends packet v).own g a l.over (sends_reaches packet v ∙ w.behind.0, l.over) l)
       go (inr k) = inr k
+  cleared_shown channel cause diagnostic (user_data channel2 q2 m2 ps2 pr2 user2 ∷ more) w = absurd w.behind
+  cleared_shown channel cause diagnostic (rr channel2 pr2 ∷ more) w = absurd w.behind
+  cleared_shown channel cause diagnostic (rnr channel2 pr2 ∷ more) w = absurd w.behind
+  cleared_shown channel cause diagnostic (interrupt channel2 user2 ∷ more) w = absurd w.behind
+  cleared_shown channel cause diagnostic (interrupt_conf channel2 ∷ more) w = absurd w.behind
+  cleared_shown channel cause diagnostic (reset channel2 cause2 diagnostic2 ∷ more) w = absurd w.behind
+  cleared_shown channel cause diagnostic (reset_conf channel2 ∷ more) w = absurd w.behind
+  cleared_shown channel cause diagnostic (call channel2 called2 calling2 facilities2 user2 ∷ more) w = absurd w.behind
+  cleared_shown channel cause diagnostic (accept channel2 facilities2 ∷ more) w = absurd w.behind
+  cleared_shown channel cause diagnostic (clear channel2 cause2 diagnostic2 ∷ more) w = absurd w.behind
+  cleared_shown channel cause diagnostic (clear_conf channel2 ∷ more) w = absurd w.behind
+  cleared_shown channel cause diagnostic (restart_conf ∷ more) w = absurd w.behind
 
   pub away_shown : (x : PlainPacket) (rest : List PlainPacket) → Away window most (x ∷ rest) (Behind (x ∷ rest)) v.reaches v.other v.own g a → Turned window most g a (x ∷ (rest ++ packet ∷ [])) (sends packet v)
-  away_shown (clear channel cause diagnostic) rest w = go (cleared_shown channel cause diagnostic rest (rest ++ packet ∷ []) (with_tail window most _ (clear channel cause diagnostic ∷ rest) _ Any v.reaches v.other v.own g a w.over tt w))
-    where
-      go : Away window most (clear channel cause diagnostic ∷ (rest ++ packet ∷ [])) Any (sends packet v).reaches (sends packet v).other (sends packet v).own g a ⊎ Gone (sends packet v).other → Turned window most g a (clear channel cause diagnostic ∷ (rest ++ packet ∷ [])) (sends packet v)
-      go (inl l) = inl (with_tail window most _ (clear channel cause diagnostic ∷ (rest ++ packet ∷ [])) _ (Behind (clear channel cause diagnostic ∷ (rest ++ packet ∷ []))) (sends packet v).reaches (sends packet v).other (sends packet v).own g a l.over tt l)
-      go (inr k) = inr k
+  away_shown (clear channel cause diagnostic) rest w = cleared_shown channel cause diagnostic rest w
   away_shown (restart cause diagnostic) rest w = go (due_shown (restart cause diagnostic) rest (with_tail window most _ (restart cause diagnostic ∷ rest) _ Any v.reaches v.other v.own g a w.over tt w))
     where
       go : LeftOrGone window most (restart cause diagnostic ∷ rest) g a (sends packet v) → Turned window most g a (restart cause diagnostic ∷ (rest ++ packet ∷ [])) (sends packet v)
@@ -288,22 +335,35 @@ module _ (window most : ℕ) (v : Pair) (g : Given) (a : Come) (packet : PlainPa
       b : Pair
       b = sends packet v
 
-      put : (more : List PlainPacket) → Behind (reset channel cause diagnostic ∷ (more ++ packet ∷ [])) b.reaches b.other.owed b.other.talk.owed b.own.call b.own.talk → Away window most (reset channel cause diagnostic ∷ rest) Any b.reaches b.other b.own g a
+      put : (more : List PlainPacket) → Behind (reset channel cause diagnostic ∷ (more ++ packet ∷ [])) b.reaches b.other.owed b.other.talk.owed b.own.is_clearing b.own.call b.own.talk → Away window most (reset channel cause diagnostic ∷ rest) Any b.reaches b.other b.own g a
           → Turned window most g a (reset channel cause diagnostic ∷ (more ++ packet ∷ [])) b
       put more behind l = inl (with_tail window most _ (reset channel cause diagnostic ∷ (more ++ packet ∷ [])) _ (Behind (reset channel cause diagnostic ∷ (more ++ packet ∷ []))) b.reaches b.other b.own g a l.over behind l)
 
-      go : (more : List PlainPacket) → Behind (reset channel cause diagnostic ∷ more) v.reaches v.other.owed v.other.talk.owed v.own.call v.own.talk → LeftOrGone window most (reset channel cause diagnostic ∷ rest) g a b → Turned window most g a (reset channel cause diagnostic ∷ (more ++ packet ∷ [])) b
+      go : (more : List PlainPacket) → Behind (reset channel cause diagnostic ∷ more) v.reaches v.other.owed v.other.talk.owed v.own.is_clearing v.own.call v.own.talk → LeftOrGone window most (reset channel cause diagnostic ∷ rest) g a b → Turned window most g a (reset channel cause diagnostic ∷ (more ++ packet ∷ [])) b
       go more behind (inr k) = inr k
       go [] waits (inl l) = first (waits_shown window most (reset channel cause diagnostic ∷ rest) (Behind (reset channel cause diagnostic ∷ rest)) v g a w waits packet is)
         where
-          first : Behind (reset 0 0 0 ∷ packet ∷ []) b.reaches b.other.owed b.other.talk.owed b.own.call b.own.talk ⊎ Gone b.other → Turned window most g a (reset channel cause diagnostic ∷ packet ∷ []) b
+          first : Behind (reset 0 0 0 ∷ packet ∷ []) b.reaches b.other.owed b.other.talk.owed b.own.is_clearing b.own.call b.own.talk ⊎ Gone b.other → Turned window most g a (reset channel cause diagnostic ∷ packet ∷ []) b
           first (inl behind) = put [] behind l
           first (inr k) = inr k
-      go (clear two causes diagnostics ∷ more) due (inl l) = again (due_shown (clear two causes diagnostics) more (with_tail window most _ (clear two causes diagnostics ∷ more) _ Any v.reaches v.other v.own g a due tt w))
+      go (clear two causes diagnostics ∷ []) closes (inl l) = inr (closed_shown false v w.go.known w.go.others_known w.go.none_cleared closes.its_clear closes.once packet is)
+      go (clear two causes diagnostics ∷ restart others reasons ∷ more) (unreached, due) (inl l) = again (due_shown (clear two causes diagnostics) (restart others reasons ∷ more) (with_tail window most _ (clear two causes diagnostics ∷ restart others reasons ∷ more) _ Any v.reaches v.other v.own g a due tt w))
         where
-          again : LeftOrGone window most (clear two causes diagnostics ∷ more) g a b → Turned window most g a (reset channel cause diagnostic ∷ ((clear two causes diagnostics ∷ more) ++ packet ∷ [])) b
-          again (inl j) = put (clear two causes diagnostics ∷ more) j.over l
+          again : LeftOrGone window most (clear two causes diagnostics ∷ restart others reasons ∷ more) g a b → Turned window most g a (reset channel cause diagnostic ∷ ((clear two causes diagnostics ∷ restart others reasons ∷ more) ++ packet ∷ [])) b
+          again (inl j) = put (clear two causes diagnostics ∷ restart others reasons ∷ more) (sends_reaches packet v ∙ unreached, j.over) l
           again (inr k) = inr k
+      go (clear two causes diagnostics ∷ user_data channel2 q2 m2 ps2 pr2 user2 ∷ more) e (inl l) = absurd e
+      go (clear two causes diagnostics ∷ rr channel2 pr2 ∷ more) e (inl l) = absurd e
+      go (clear two causes diagnostics ∷ rnr channel2 pr2 ∷ more) e (inl l) = absurd e
+      go (clear two causes diagnostics ∷ interrupt channel2 user2 ∷ more) e (inl l) = absurd e
+      go (clear two causes diagnostics ∷ interrupt_conf channel2 ∷ more) e (inl l) = absurd e
+      go (clear two causes diagnostics ∷ reset channel2 cause2 diagnostic2 ∷ more) e (inl l) = absurd e
+      go (clear two causes diagnostics ∷ reset_conf channel2 ∷ more) e (inl l) = absurd e
+      go (clear two causes diagnostics ∷ call channel2 called2 calling2 facilities2 user2 ∷ more) e (inl l) = absurd e
+      go (clear two causes diagnostics ∷ accept channel2 facilities2 ∷ more) e (inl l) = absurd e
+      go (clear two causes diagnostics ∷ clear channel2 cause2 diagnostic2 ∷ more) e (inl l) = absurd e
+      go (clear two causes diagnostics ∷ clear_conf channel2 ∷ more) e (inl l) = absurd e
+      go (clear two causes diagnostics ∷ restart_conf ∷ more) e (inl l) = absurd e
       go (restart causes diagnostics ∷ more) due (inl l) = again (due_shown (restart causes diagnostics) more (with_tail window most _ (restart causes diagnostics ∷ more) _ Any v.reaches v.other v.own g a due tt w))
         where
           again : LeftOrGone window most (restart causes diagnostics ∷ more) g a b → Turned window most g a (reset channel cause diagnostic ∷ ((restart causes diagnostics ∷ more) ++ packet ∷ [])) b
@@ -395,7 +455,7 @@ module _ (window most : ℕ) (v : Pair) (k : Asking window most v.reaches v.othe
       flag : (pair.is_matched (before v) && v.own.talk.owed == 0) ≡ false
       flag = and_right (pair.is_matched (before v)) _ (rw (k.once) refl)
 
-  cleared : (channel cause diagnostic : ℕ) → Away window most (clear channel cause diagnostic ∷ []) Any (pair.marks true v).reaches (pair.marks true v).other (pair.marks true v).own nothing_given nothing_came
+  cleared : (channel cause diagnostic : ℕ) → Away window most (clear channel cause diagnostic ∷ []) (Behind (clear channel cause diagnostic ∷ [])) (pair.marks true v).reaches (pair.marks true v).other (pair.marks true v).own nothing_given nothing_came
   cleared channel cause diagnostic = record {
     go = record { known = k.go; up = k.up; others_known = k.back.known; none_cleared = ap (λ x. x - 1) k.others_cleared; none_reset = refl };
     parted = and_right v.reaches _ (and_left (port.more (v.reaches && v.own.owed == 0) v.other.owed == 0) _ (ap (λ n. n == 0) one));
@@ -403,7 +463,7 @@ module _ (window most : ℕ) (v : Pair) (k : Asking window most v.reaches v.othe
     own = record { its_window = k.own.its_window; its_most = k.own.its_most; number = k.own.number; numbered = k.own.numbered; message = k.own.message; interrupts = k.own.interrupts };
     others = λ e. absurd (both_ways (pair.is_together v) apart_yet e);
     over = subst (λ n. 1 ≤ n) (sym one) (omega arith);
-    behind = tt;
+    behind = record { reached = k.reached; once = one; its_clear = refl; call = refl; flow = refl };
   }
     where
       reach : (v.reaches && v.own.owed == 0) ≡ true
@@ -443,7 +503,7 @@ module _ (window most : ℕ) (v : Pair) (k : Asking window most v.reaches v.othe
       (sym (enters v k.back (reset_conf channel) tt ∙ cond-true (nat_lt 0 v.own.talk.owed) (talking.marks_reset false (before v)) _ (rw (k.once) refl)))
       (inl (answered false)))
   asked_shown (clear channel cause diagnostic) is =
-      inl (subst (λ (x : Pair). Away window most (clear channel cause diagnostic ∷ []) Any x.reaches x.other x.own nothing_given nothing_came)
+      inl (subst (λ (x : Pair). Away window most (clear channel cause diagnostic ∷ []) (Behind (clear channel cause diagnostic ∷ [])) x.reaches x.other x.own nothing_given nothing_came)
       (sym (asked_known (clear channel cause diagnostic) ∙ cond-false (pair.is_awaiting v) _ (pair.marks true v) (awaits_not v.own.is_clearing v.other.owed k.back.none_cleared)))
       (cleared channel cause diagnostic))
   asked_shown (clear_conf channel) is = gone_so (clear_conf channel) _ (asked_known (clear_conf channel) ∙ cond-false (nat_lt 0 v.own.owed) _ _ (owes_none v.own.owed k.others_cleared)) (record { known = refl; clearing = refl; call = refl })

@@ -1,19 +1,24 @@
--- An end that keeps rules 9 to 12 and 15 to 19 of docs/PEER.md in a call, beside one that does what it likes: what the
--- two ends of the channel are behind what both have sent, and which states the end may be in.
--- ITU-T X.25 (10/96), sections 4.3, 4.4.1 and 4.4.3.
+-- An end that keeps rules 9 to 13 and 15 to 19 of docs/PEER.md as it sets a call up and in it, beside one that does
+-- what it likes: what the two ends of the channel are behind what both have sent, and which states the end may be in.
+-- ITU-T X.25 (10/96), sections 4.1.2 to 4.1.6, 4.3, 4.4.1 and 4.4.3.
 use Rattle.std.specs.Prelude.{◌≡◌, ◌==◌, ℕ, ◌+◌, ◌%◌, ◌<◌, ◌≤◌, Bool, true, false, List, [], ◌∷◌, ◌++◌, length}
 use Rattle.std.specs.Prelude.{Option, Some, None, if◌then◌else◌}
-use Rattle.x25_packet.specs.Packet.{PlainPacket, clear, clear_conf, user_data, rr, rnr, interrupt, interrupt_conf}
-use Rattle.x25_packet.specs.Packet.{reset, reset_conf, restart, restart_conf}
+use Rattle.x25_bits.specs.declared.role.Role.{Role}
+use Rattle.x25_packet.specs.Packet.{PlainPacket, call, accept, clear, clear_conf, user_data, rr, rnr, interrupt}
+use Rattle.x25_packet.specs.Packet.{interrupt_conf, reset, reset_conf, restart, restart_conf}
 use Rattle.x25_packet_judge.specs.Book.{other}
 use Rattle.x25_packet_judge.specs.Flow.{fresh}
+use Rattle.x25_packet_judge.specs.Message.{octets_of}
 use Rattle.x25_packet_judge.specs.Numbers.{apart}
 use Rattle.x25_packet_judge.specs.Packets.{sends}
-use Rattle.x25_packet_judge.specs.Pair.{may_talk_in}
+use Rattle.x25_packet_judge.specs.Pair.{is_dce, is_known, is_doubtful, may_talk_in}
 use Rattle.x25_packet_judge.specs.Port as port
+use Rattle.x25_packet_judge.specs.Terms.{said, usual}
 use Rattle.x25_packet_judge.specs.declared.message.Message.TheVariants.{Ended}
 use Rattle.x25_packet_judge.specs.declared.pair.Pair.{Pair}
+use Rattle.x25_packet_judge.specs.declared.port.Call.TheVariants.{Idle}
 use Rattle.x25_packet_judge.specs.declared.port.Port.{Port}
+use Rattle.x25_packet_judge.specs.declared.terms.Terms.{Terms}
 
 -- ---- the end
 
@@ -34,12 +39,18 @@ pub record Come : Type 0 where
   pub confirmed : ℕ
   pub asked : ℕ
 
--- Where it stands in a call, that gives it this window and packet size: in flow control ready (d1), with what it sent
--- and what came in the stretch; its RESET waits for the confirmation (d2); RESET came (d3), CLEAR (p7) or RESTART (r3).
+-- Where it stands: it has no call (p1); its CALL waits (p2), or CALL came (p3), which proposes such sizes and windows.
+-- In a call, that gives it this window and packet size: in flow control ready (d1), with what it sent and what came in
+-- the stretch; its RESET waits for the confirmation (d2); RESET came (d3). Its CLEAR waits (p6); CLEAR came (p7), or
+-- RESTART (r3).
 pub data Phase : Type 0 where
+  Idles : Phase
+  Calls : Terms → Phase
+  WasCalled : Terms → Phase
   Talks : (window most : ℕ) → Given → Come → Phase
   Resets : (window most : ℕ) → Phase
   WasReset : (window most : ℕ) → Phase
+  Clears : Phase
   WasCleared : Phase
   WasRestarted : Phase
 
@@ -52,6 +63,13 @@ nothing_came = record { acked = 0; taken = 0; confirmed = 0; asked = 0 }
 -- numbers begin anew, and no interrupt is out (section 4.4.3)
 abbrev pub fresh_phase : ℕ → ℕ → Phase
 fresh_phase window most = Talks window most nothing_given nothing_came
+
+-- in a call with such sizes and windows, of the end that was called, and of the one that called (section 6.12)
+abbrev pub called_phase : Terms → Phase
+called_phase terms = fresh_phase terms.called_window (octets_of terms.called_size)
+
+abbrev pub calling_phase : Terms → Phase
+calling_phase terms = fresh_phase terms.calling_window (octets_of terms.calling_size)
 
 -- a P(R) acknowledges no more than it took, and no less than its last one (section 4.4.1.3)
 pub record MayAcknowledge (g : Given) (c : Come) (pr t : ℕ) : Type 0 where
@@ -86,15 +104,25 @@ MaySend window most g c (interrupt_conf channel) h =
     (g.answered < c.asked) × (h ≡ record g { answered = g.answered + 1 })
 MaySend window most g c packet h = ⊥
 
--- What it may send in the call, and where it stands then: RESET at any moment of a stretch, behind which it sends
--- nothing; and behind the RESET that came its confirmation (section 4.4.3).
+-- What it may send, and where it stands then: CALL where there is no call, and behind the one that came CALL ACCEPTED;
+-- CLEAR where none is under way, behind which it sends nothing, and behind the one that came its confirmation (section
+-- 4.1); RESET and its confirmation so in a stretch (section 4.4.3).
 abbrev pub MayDo : Phase → PlainPacket → Phase → Type 0
+MayDo Idles (call channel called calling facilities user) s = s ≡ Calls (said facilities usual)
+MayDo Idles (clear channel cause diagnostic) s = s ≡ Clears
+MayDo (Calls terms) (clear channel cause diagnostic) s = s ≡ Clears
+MayDo (WasCalled terms) (accept channel facilities) s = s ≡ called_phase (said facilities terms)
+MayDo (WasCalled terms) (clear channel cause diagnostic) s = s ≡ Clears
+MayDo (Talks window most g c) (clear channel cause diagnostic) s = s ≡ Clears
 MayDo (Talks window most g c) (reset channel cause diagnostic) s = s ≡ Resets window most
 MayDo (Talks window most g c) packet s = (h : Given) × MaySend window most g c packet h × (s ≡ Talks window most h c)
+MayDo (Resets window most) (clear channel cause diagnostic) s = s ≡ Clears
 MayDo (WasReset window most) (reset_conf channel) s = s ≡ fresh_phase window most
+MayDo (WasReset window most) (clear channel cause diagnostic) s = s ≡ Clears
+MayDo WasCleared (clear_conf channel) s = s ≡ Idles
 MayDo s packet r = ⊥
 
--- How it may leave the call: by CLEAR at any moment, or the confirmation of the one that came (section 4.1.7).
+-- How it may leave it: by CLEAR at any moment, or the confirmation of the one that came (section 4.1.7).
 abbrev pub MayEnd : Phase → PlainPacket → Type 0
 MayEnd s (clear channel cause diagnostic) = Unit {0}
 MayEnd WasCleared (clear_conf channel) = Unit {0}
@@ -120,24 +148,39 @@ takes (interrupt channel user) c = record c { asked = c.asked + 1 }
 takes (interrupt_conf channel) c = record c { confirmed = c.confirmed + 1 }
 takes packet c = c
 
--- Where it stands behind a packet that comes. While its RESET waits all is dropped but RESET and its confirmation,
--- either of which ends that (section 4.4.3.3), and what ends the call.
-abbrev pub comes : Phase → PlainPacket → Phase
-comes (Talks window most g c) (reset channel cause diagnostic) = WasReset window most
-comes (Talks window most g c) (clear channel cause diagnostic) = WasCleared
-comes (Talks window most g c) (restart cause diagnostic) = WasRestarted
-comes (Talks window most g c) packet = Talks window most g (takes packet c)
-comes (Resets window most) (reset channel cause diagnostic) = fresh_phase window most
-comes (Resets window most) (reset_conf channel) = fresh_phase window most
-comes (Resets window most) (clear channel cause diagnostic) = WasCleared
-comes (Resets window most) (restart cause diagnostic) = WasRestarted
-comes s packet = s
+-- Where it stands behind a packet that comes. Where the calls of both ends collide, the DCE gives its own up (section
+-- 4.1.6). While its RESET waits all is dropped but RESET and its confirmation, either of which ends that (section
+-- 4.4.3.3), and what ends the call; and so with its CLEAR (section 4.1.9).
+abbrev pub comes : Role → Phase → PlainPacket → Phase
+comes from Idles (call channel called calling facilities user) = WasCalled (said facilities usual)
+comes from Idles (clear channel cause diagnostic) = WasCleared
+comes from Idles (restart cause diagnostic) = WasRestarted
+comes from (Calls terms) (accept channel facilities) = calling_phase (said facilities terms)
+comes from (Calls terms) (call channel called calling facilities user) =
+    if is_dce from then WasCalled (said facilities usual) else Calls terms
+comes from (Calls terms) (clear channel cause diagnostic) = WasCleared
+comes from (Calls terms) (restart cause diagnostic) = WasRestarted
+comes from (WasCalled terms) (clear channel cause diagnostic) = WasCleared
+comes from (WasCalled terms) (restart cause diagnostic) = WasRestarted
+comes from (Talks window most g c) (reset channel cause diagnostic) = WasReset window most
+comes from (Talks window most g c) (clear channel cause diagnostic) = WasCleared
+comes from (Talks window most g c) (restart cause diagnostic) = WasRestarted
+comes from (Talks window most g c) packet = Talks window most g (takes packet c)
+comes from (Resets window most) (reset channel cause diagnostic) = fresh_phase window most
+comes from (Resets window most) (reset_conf channel) = fresh_phase window most
+comes from (Resets window most) (clear channel cause diagnostic) = WasCleared
+comes from (Resets window most) (restart cause diagnostic) = WasRestarted
+comes from Clears (clear channel cause diagnostic) = Idles
+comes from Clears (clear_conf channel) = Idles
+comes from Clears (restart cause diagnostic) = WasRestarted
+comes from s packet = s
 
 -- RESET, CLEAR and RESTART are answered before it takes what comes behind them.
 abbrev pub MayTake : Phase → Type 0
-MayTake (Talks window most g c) = Unit {0}
-MayTake (Resets window most) = Unit {0}
-MayTake s = ⊥
+MayTake (WasReset window most) = ⊥
+MayTake WasCleared = ⊥
+MayTake WasRestarted = ⊥
+MayTake s = Unit {0}
 
 -- ---- a run
 
@@ -166,6 +209,22 @@ pub record AreBegun (window most : ℕ) (t : Pair) : Type 0 where
   pub its_window : t.own.talk.window ≡ window
   pub its_most : t.own.talk.most ≡ most
 
+-- the channel is known, there is no call, and no clear or reset waits for its confirmation
+pub record IsIdle (p : Port) : Type 0 where
+  pub known : p.is_known ≡ true
+  pub sure : p.is_doubtful ≡ false
+  pub owed : p.owed ≡ 0
+  pub call : p.call ≡ Idle
+  pub reset : p.talk.owed ≡ 0
+  pub flow : p.talk.flow ≡ fresh
+  pub former : p.former.is_known ≡ false
+
+pub record AreIdle (t : Pair) : Type 0 where
+  pub reaches : t.reaches ≡ true
+  pub quiet : t.rule ≡ None
+  pub own : IsIdle t.own
+  pub other : IsIdle t.other
+
 -- before the next packet of the first end, and before one of the other
 abbrev pub next : Pair → Pair
 next t = record t { rule = None }
@@ -177,13 +236,20 @@ turned t = record { from = other t.from; reaches = t.reaches; own = t.other; oth
 abbrev pub restarted : Pair → Pair
 restarted t = record t { reaches = false; other = port.fresh }
 
+-- Its CLEAR and its confirmation of one are followed where the channel is known, and nothing left open.
+abbrev pub IsFollowed : Pair → PlainPacket → Type 0
+IsFollowed t (clear channel cause diagnostic) = (is_known t ≡ true) × (is_doubtful t ≡ false)
+IsFollowed t (clear_conf channel) = (is_known t ≡ true) × (is_doubtful t ≡ false)
+IsFollowed t packet = Unit {0}
+
 -- The first end may stand so, where the channel is so, and such packets of the other end are on the way to it, front
 -- first.
 pub data MayBe : Pair → Phase → List PlainPacket → Type 0 where
+  Starts : (t : Pair) → AreIdle t → MayBe t Idles []
   Begins : (window most : ℕ) (t : Pair) → AreBegun window most t → MayBe t (fresh_phase window most) []
   -- it sends what the rules allow
   Does : (t : Pair) (s r : Phase) (way : List PlainPacket) (packet : PlainPacket) → MayDo s packet r
-      → MayBe t s way → MayBe (next (sends packet t)) r way
+      → IsFollowed t packet → MayBe t s way → MayBe (next (sends packet t)) r way
   -- the other end sends any packet on the channel
   Shown : (t : Pair) (s : Phase) (way : List PlainPacket) (packet : PlainPacket) → IsOfChannel packet
       → MayBe t s way → MayBe (turned (sends packet (turned t))) s (way ++ packet ∷ [])
@@ -192,4 +258,4 @@ pub data MayBe : Pair → Phase → List PlainPacket → Type 0 where
       → MayBe t s way → MayBe (restarted t) s (way ++ restart cause diagnostic ∷ [])
   -- the front one comes
   Comes : (t : Pair) (s : Phase) (packet : PlainPacket) (way : List PlainPacket) → MayTake s
-      → MayBe t s (packet ∷ way) → MayBe t (comes s packet) way
+      → MayBe t s (packet ∷ way) → MayBe t (comes t.from s packet) way

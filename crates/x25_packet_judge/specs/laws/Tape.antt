@@ -1,11 +1,11 @@
--- An end in a call on one channel, and the packets of both ends on all channels, with the other end's RESTARTs: what
--- the book is behind them, and which states the end may be in. ITU-T X.25 (10/96), sections 3.3, 4.3 and 4.4.
+-- An end on one channel, and the packets of both ends on all channels, with the other end's RESTARTs: what the
+-- book is behind them, and which states the end may be in. ITU-T X.25 (10/96), sections 3.3, 4.1, 4.3 and 4.4.
 use Rattle.std.specs.Prelude.{◌≡◌, ℕ, ◌%◌, false, true, List, [], ◌∷◌, ◌++◌, length}
 use Rattle.x25_bits.specs.declared.role.Role.{Role}
 use Rattle.x25_packet.specs.Packet.{PlainPacket, restart, restart_conf}
 use Rattle.x25_packet_judge.specs.Book.{other, layers_of, pair_of, takes}
 use Rattle.x25_packet_judge.specs.Layer.{is_begun, begun, with_restart}
-use Rattle.x25_packet_judge.specs.Layers.{are_sure, are_lost, are_level}
+use Rattle.x25_packet_judge.specs.Layers.{are_sure, are_counted, are_lost, are_level}
 use Rattle.x25_packet_judge.specs.Port.{all_alike}
 use Rattle.x25_packet_judge.specs.declared.book.Book.{Book}
 use Rattle.x25_packet_judge.specs.declared.layer.Layer.{Layer}
@@ -13,7 +13,8 @@ use Rattle.x25_packet_judge.specs.declared.layer.Restart.TheVariants.{Ready}
 use Rattle.x25_packet_judge.specs.declared.layers.Layers.{Layers}
 use Rattle.x25_packet_judge.specs.declared.pair.Pair.{Pair}
 use Rattle.x25_packet_judge.specs.declared.port.Port.{Port}
-use Rattle.x25_packet_judge.specs.laws.Keeping.{Phase, fresh_phase, MayDo, comes, MayTake, IsOfChannel, AreBegun}
+use Rattle.x25_packet_judge.specs.laws.Keeping.{Phase, Idles, WasRestarted, fresh_phase, MayDo, comes, MayTake}
+use Rattle.x25_packet_judge.specs.laws.Keeping.{IsOfChannel, AreIdle, AreBegun, IsFollowed}
 
 -- both ends of a channel, the end that is spoken of first
 abbrev pub view : Role → ℕ → Book → Pair
@@ -35,17 +36,29 @@ pub record AreRunning (t : Layers) : Type 0 where
 abbrev pub AreApart : ℕ → ℕ → Type 0
 AreApart one two = (one % 4096) ≡ (two % 4096) → ⊥
 
--- The end may stand so in the call, where the book is so, and such packets of the other end are on the way to it that
+-- restarts are counted, and the other end sent none again
+pub record AreCounted (t : Layers) : Type 0 where
+  pub counted : are_counted t ≡ true
+  pub once : t.own.again ≡ 0
+
+-- The end may stand so, where the book is so, and such packets of the other end are on the way to it that
 -- are of this channel or of all.
 pub data MayStand (from : Role) (channel : ℕ) : Book → Phase → List PlainPacket → Type 0 where
+  Starts : (b : Book) → IsBook b → AreRunning (layers_of from b) → AreIdle (view from channel b)
+      → MayStand from channel b Idles []
   Begins : (window most : ℕ) (b : Book) → IsBook b → AreRunning (layers_of from b)
       → AreBegun window most (view from channel b) → MayStand from channel b (fresh_phase window most) []
   -- it sends what the rules allow, or anything on another channel
   Does : (b : Book) (s r : Phase) (way : List PlainPacket) (packet : PlainPacket) → MayDo s packet r
-      → MayStand from channel b s way → MayStand from channel (takes from channel packet b).book r way
+      → IsFollowed (view from channel b) packet → MayStand from channel b s way
+      → MayStand from channel (takes from channel packet b).book r way
   DoesApart : (b : Book) (s : Phase) (way : List PlainPacket) (two : ℕ) (packet : PlainPacket) → IsOfChannel packet
       → AreApart channel two → MayStand from channel b s way
       → MayStand from channel (takes from two packet b).book s way
+  -- it confirms the RESTART that came, and its channels begin anew
+  Answers : (b : Book) (way : List PlainPacket) → AreCounted (layers_of from b)
+      → MayStand from channel b WasRestarted way
+      → MayStand from channel (takes from 0 restart_conf b).book Idles way
   -- the other end sends any packet on the channel, on another one, or RESTART and its confirmation
   Shown : (b : Book) (s : Phase) (way : List PlainPacket) (packet : PlainPacket) → IsOfChannel packet
       → MayStand from channel b s way
@@ -60,7 +73,7 @@ pub data MayStand (from : Role) (channel : ℕ) : Book → Phase → List PlainP
       → MayStand from channel (takes (other from) 0 restart_conf b).book s way
   -- the front one comes
   Comes : (b : Book) (s : Phase) (packet : PlainPacket) (way : List PlainPacket) → MayTake s
-      → MayStand from channel b s (packet ∷ way) → MayStand from channel b (comes s packet) way
+      → MayStand from channel b s (packet ∷ way) → MayStand from channel b (comes from s packet) way
 
 -- ---- such books there are
 
@@ -69,5 +82,5 @@ abbrev pub running : Layer
 running = with_restart Ready (begun 0)
 
 -- of all channels both ends are as this one
-abbrev pub all_in_call : Port → Book
-all_in_call p = record { dte = running; dce = running; dte_ports = all_alike p; dce_ports = all_alike p }
+abbrev pub all_running : Port → Book
+all_running p = record { dte = running; dce = running; dte_ports = all_alike p; dce_ports = all_alike p }

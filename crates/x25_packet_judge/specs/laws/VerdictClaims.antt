@@ -8,6 +8,7 @@ use Rattle.x25_packet_judge.specs.Layers.{runs_early, are_sure, are_level}
 use Rattle.x25_packet_judge.specs.Message.{octets_of}
 use Rattle.x25_packet_judge.specs.Packets.{sends}
 use Rattle.x25_packet_judge.specs.Pair.{may_talk_in}
+use Rattle.x25_packet_judge.specs.Port as port
 use Rattle.x25_packet_judge.specs.Terms.{said, usual}
 use Rattle.x25_packet_judge.specs.declared.book.Book.{Book}
 use Rattle.x25_packet_judge.specs.declared.pair.Pair.{Pair}
@@ -15,18 +16,18 @@ use Rattle.x25_packet_judge.specs.declared.port.Call.TheVariants.{Idle}
 use Rattle.x25_packet_judge.specs.declared.port.Port.{Port}
 use Rattle.x25_packet_judge.specs.declared.terms.Terms.{Terms}
 use Rattle.x25_packet_judge.specs.laws.Clearing.{IsReady}
-use Rattle.x25_packet_judge.specs.laws.Keeping.{Given, Come, Phase, MayDo, MayEnd, MayRestart, IsOfChannel, MayBe}
-use Rattle.x25_packet_judge.specs.laws.Keeping.{IsBegun, AreBegun, fresh_phase, next, turned}
-use Rattle.x25_packet_judge.specs.laws.Tape.{MayStand, all_in_call}
+use Rattle.x25_packet_judge.specs.laws.Keeping.{Given, Come, Phase, Idles, MayDo, MayEnd, MayRestart, IsOfChannel}
+use Rattle.x25_packet_judge.specs.laws.Keeping.{MayBe, IsBegun, AreBegun, fresh_phase, next, turned}
+use Rattle.x25_packet_judge.specs.laws.Tape.{MayStand, all_running}
 use Rattle.x25_packet_judge.specs.laws.Watching.{Line, IsSilent, IsKept}
 
--- no rule is told of what an end sends that keeps the rules, in any stretch of a call
+-- no rule is told of what an end sends that keeps the rules, as a call is set up and in any stretch of it
 abbrev pub NoInnocentPacketIsTold : Type 0
 NoInnocentPacketIsTold =
     (t : Pair) (s r : Phase) (way : List PlainPacket) (packet : PlainPacket) → MayBe t s way → MayDo s packet r
     → (sends packet t).rule ≡ None
 
--- nor of how it leaves the call
+-- nor of how it leaves it
 abbrev pub NoEndingIsTold : Type 0
 NoEndingIsTold =
     (t : Pair) (s : Phase) (way : List PlainPacket) (packet : PlainPacket) → MayBe t s way → MayEnd s packet
@@ -100,7 +101,7 @@ BooksTellOfChannels =
     → (takes from channel packet b).verdict.rule
     ≡ (sends packet (pair_of from (are_level (layers_of from b)) channel b)).rule
 
--- of an end in a call, whatever the other end sends on any channel, in as many stretches as there are
+-- of an end, whatever the other end sends on any channel, in as many stretches of its call as there are
 abbrev pub NoInnocentTapeIsTold : Type 0
 NoInnocentTapeIsTold =
     (from : Role) (channel : ℕ) (b : Book) (s r : Phase) (way : List PlainPacket) (packet : PlainPacket)
@@ -116,11 +117,11 @@ NoRestartOfTapeIsTold =
     (from : Role) (channel : ℕ) (b : Book) (s : Phase) (way : List PlainPacket) (packet : PlainPacket)
     → MayStand from channel b s way → MayRestart s packet → (takes from 0 packet b).verdict.rule ≡ None
 
--- such an end there is, and its numbers begin as the channel's do
+-- such an end there is, without a call, and at the beginning of a stretch of one
 abbrev pub TapesBegin : Type 0
 TapesBegin =
-    (from : Role) (channel : ℕ) (p : Port) → IsBegun p
-    → MayStand from channel (all_in_call p) (fresh_phase p.talk.window p.talk.most) []
+    (from : Role) (channel : ℕ) → MayStand from channel (all_running port.fresh) Idles []
+    × ((p : Port) → IsBegun p → MayStand from channel (all_running p) (fresh_phase p.talk.window p.talk.most) [])
 
 -- ---- behind a clear
 
