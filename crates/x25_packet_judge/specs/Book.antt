@@ -13,7 +13,7 @@ use Rattle.x25_decode.specs.declared.answer.Reading.{Reading}
 use Rattle.x25_packet_judge.specs.Layer.{unseen}
 use Rattle.x25_packet_judge.specs.Layers as layers
 use Rattle.x25_packet_judge.specs.Packets.{sends}
-use Rattle.x25_packet_judge.specs.Pair.{is_known, noted, unknown}
+use Rattle.x25_packet_judge.specs.Pair.{is_known, noted, unread}
 use Rattle.x25_packet_judge.specs.Port.{all_alike, blank, fresh}
 use Rattle.x25_packet_judge.specs.declared.book.Book.{Book}
 use Rattle.x25_packet_judge.specs.declared.book.Verdict.{Verdict}
@@ -163,11 +163,18 @@ takes from channel (restart cause diagnostic) b = restarts from (layers.restarts
 takes from channel restart_conf b = confirms from (layers_of from b) b
 takes from channel packet b = runs from channel packet b
 
--- octets that spell none: nothing may be said of their channel, or of restarts where they name none
+-- a packet of the channel that isn't read
+abbrev pub takes_unread : Role → Layers → ℕ → Book → Seen
+takes_unread from t channel b = blind from channel (unread (pair_of from (layers.are_level t) channel b))
+    (keeps from t b)
+
+-- octets that spell none: nothing may be said of restarts where they name no channel
 abbrev pub misses_on : Role → ℕ → Book → Seen
 misses_on from channel b =
     if channel == 0 then passed (keeps from (layers.are_unsure (layers_of from b)) b) (Some 0)
-    else blind from channel (unknown (pair_of from (layers.are_level (layers_of from b)) channel b)) b
+    else if layers.runs_early (layers_of from b)
+    then takes_unread from (layers.runs (layers_of from b)) channel (fills from blank b)
+    else takes_unread from (layers.runs (layers_of from b)) channel b
 
 -- DIAGNOSTIC changes nothing of calls and restarts
 abbrev pub diagnoses : PlainKind → Bool

@@ -91,6 +91,10 @@ starts_early t = breaks ClearAwaited t
 abbrev pub reaching : Port → Pair → Pair
 reaching other t = if t.reaches then with_other other t else t
 
+-- a packet that isn't read, which the other end may take where it reaches it
+abbrev pub unread : Pair → Pair
+unread t = with_own (port.doubtful (t.other.owed == 0) t.own) (reaching (port.doubtful (t.own.owed == 0) t.other) t)
+
 -- `owed` is the most CLEARs of the other end that an end may still confirm. A CLEAR that may be the answer to one waits
 -- for none; what the other end sent waits for nothing behind it.
 abbrev pub clears_unknown : Pair → Pair

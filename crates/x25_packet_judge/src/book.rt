@@ -333,7 +333,17 @@ impl Book {
         }
     }
 
-    /// Octets that spell no packet: nothing may be said of their channel, or of restarts where they name none.
+    /// A packet of the channel that isn't read.
+    fn takes_unread(&mut self, from: Role, layers: Layers, channel: u16) -> Verdict
+        ensures book { self.new ≡ (definition.takes_unread from layers channel self.old).book }
+        ensures verdict { result ≡ (definition.takes_unread from layers channel self.old).verdict }
+    {
+        let pair = self.pair(from, layers.are_level(), channel).unread();
+        self.keep(from, layers);
+        self.blind(from, channel, pair)
+    }
+
+    /// Octets that spell no packet: nothing may be said of restarts where they name no channel.
     fn misses_on(&mut self, from: Role, channel: u16) -> Verdict
         ensures book { self.new ≡ (definition.misses_on from channel self.old).book }
         ensures verdict { result ≡ (definition.misses_on from channel self.old).verdict }
@@ -343,8 +353,12 @@ impl Book {
             self.keep(from, layers.unsure());
             return passed(Some(0));
         }
-        let pair = self.pair(from, layers.are_level(), channel).unknown();
-        self.blind(from, channel, pair)
+        if layers.runs_early() {
+            self.fill(from, Port::blank());
+            self.takes_unread(from, layers.runs(), channel)
+        } else {
+            self.takes_unread(from, layers.runs(), channel)
+        }
     }
 
     /// A packet in the form that a station writes.

@@ -189,6 +189,15 @@ impl Pair {
         }
     }
 
+    /// A packet that isn't read, which the other end may take where it reaches it.
+    pub(crate) fn unread(self) -> Pair
+        ensures { result ≡ definition.unread self }
+    {
+        let own = self.own.doubtful(self.other.owed == 0);
+        self.reaching(self.other.doubtful(self.own.owed == 0))
+            .with_own(own)
+    }
+
     pub(crate) fn clears_unknown(self) -> Pair
         ensures { result ≡ definition.clears_unknown self }
     {
