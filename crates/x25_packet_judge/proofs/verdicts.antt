@@ -14,5 +14,7 @@ pub mod Beginnings
 pub mod Books
 pub mod Parts
 pub mod Reaching
+pub mod Noting
+pub mod Ways
 pub mod Tapes
 pub mod Clearings

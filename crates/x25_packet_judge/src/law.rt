@@ -3,7 +3,7 @@
 ghost use Rattle.x25_packet_judge.specs.laws.VerdictClaims.{BooksTellOfChannels, CallsBegin, NoEndingIsTold};
 ghost use Rattle.x25_packet_judge.specs.laws.VerdictClaims.{NoEndOfTapeIsTold, NoInnocentPacketIsTold};
 ghost use Rattle.x25_packet_judge.specs.laws.VerdictClaims.{NoInnocentTapeIsTold, NoNextCallIsTold};
-ghost use Rattle.x25_packet_judge.specs.laws.VerdictClaims.{NoRestartOfTapeIsTold, ResetsBegin};
+ghost use Rattle.x25_packet_judge.specs.laws.VerdictClaims.{NoRestartOfTapeIsTold, ResetsBegin, RestartsBegin};
 ghost use Rattle.x25_packet_judge.specs.laws.VerdictClaims.{SilentPacketsKeepTheRules, StretchesFollow, TapesBegin};
 
 /// Of an end that keeps the rules of docs/PEER.md neither a rule nor manners are told, of its CALL or its acceptance of
@@ -51,13 +51,15 @@ pub fn books_tell_of_channels()
     ensures { BooksTellOfChannels }
 {}
 
-/// On a channel, of an end that keeps the rules neither a rule nor manners are told in the run of a book, call after
-/// call, whatever the other end sends on that channel and on all others, RESTART and its confirmation too, and whatever
-/// the end itself sends on others; and so it goes on behind its confirmation of the RESTART that came, where restarts
-/// are counted. Nor are they told of its RESTART, at any moment, or of any such confirmation. Such runs there are.
+/// On a channel, of an end that keeps the rules neither a rule nor manners are told in the run of a book, over calls,
+/// clears, resets and restarts of either end, whatever the other end sends on that channel and on all others, RESTART
+/// and its confirmation too, and whatever the end itself sends on others. Nor are they told of its RESTART, at any
+/// moment, or of its confirmation of the one that came; it is followed behind these where restarts are counted. Such
+/// runs there are, also from the first RESTART and its confirmation behind the set-up of the link on.
 pub fn innocent_tapes_stay_untold()
     ensures sends { NoInnocentTapeIsTold }
     ensures ends { NoEndOfTapeIsTold }
     ensures restarts { NoRestartOfTapeIsTold }
     ensures begins { TapesBegin }
+    ensures follows { RestartsBegin }
 {}

@@ -16,7 +16,7 @@ use Rattle.x25_packet_judge.specs.declared.port.Call.TheVariants.{Idle, Called, 
 use Rattle.x25_packet_judge.specs.declared.port.Port.{Port}
 use Rattle.x25_packet_judge.specs.declared.terms.Terms.{Terms}
 use Rattle.x25_packet_judge.specs.laws.Clearing.{IsInCall, Answers, Clears, Asks, Shown, Restarts, Drops, IsReady, Answered, Confirms, Seen, RestartSeen}
-use Rattle.x25_packet_judge.specs.laws.Keeping.{Given, Come, Phase, Idles, Calls, WasCalled, Talks, Resets, WasReset, Clears as Waiting, WasCleared, WasRestarted, turned}
+use Rattle.x25_packet_judge.specs.laws.Keeping.{Given, Come, Phase, Idles, Calls, WasCalled, Talks, Resets, WasReset, Clears as Waiting, WasCleared, HasRestarted, WasRestarted, turned}
 use Rattle.x25_packet_judge.specs.laws.VerdictClaims.{NoNextCallIsTold}
 use Rattle.x25_packet_judge.proofs.verdicts.Standing.{ends, tail_of, none_left, not_true, MayGo, Due, closing_due, Behind, Away, Gone}
 use Rattle.x25_packet_judge.proofs.verdicts.Innocents.{Standing, sound}
@@ -504,6 +504,7 @@ module _ (t : Pair) (channel cause diagnostic : ℕ) (way : List PlainPacket) wh
   asks_cleared (WasCalled terms) is s = absurd is
   asks_cleared Waiting is s = absurd is
   asks_cleared WasCleared is s = absurd is
+  asks_cleared HasRestarted is s = absurd is
   asks_cleared WasRestarted is s = absurd is
 
 -- ---- any run

@@ -18,7 +18,7 @@ use Rattle.x25_packet_judge.specs.declared.port.Call.{Call}
 use Rattle.x25_packet_judge.specs.declared.port.Call.TheVariants.{Idle, Called, Calling, Collided}
 use Rattle.x25_packet_judge.specs.declared.port.Port.{Port}
 use Rattle.x25_packet_judge.specs.declared.terms.Terms.{Terms}
-use Rattle.x25_packet_judge.specs.laws.Keeping.{Given, Come, nothing_given, nothing_came, Phase, Idles, Calls, WasCalled, Talks, Resets, WasReset, Clears, WasCleared, WasRestarted, fresh_phase, called_phase, MaySend, MayDo, MayEnd, comes, MayTake, IsOfChannel, IsFollowed, AreIdle, AreBegun, next, turned, MayBe, Starts, Begins, Does, Shown, Comes, restarted, Restarts}
+use Rattle.x25_packet_judge.specs.laws.Keeping.{Given, Come, nothing_given, nothing_came, Phase, Idles, Calls, WasCalled, Talks, Resets, WasReset, Clears, WasCleared, HasRestarted, WasRestarted, fresh_phase, called_phase, MaySend, MayDo, MayEnd, comes, MayTake, IsOfChannel, IsFollowed, AreIdle, AreBegun, next, turned, MayBe, Starts, Begins, Does, Shown, Comes, restarted, Restarts}
 use Rattle.x25_packet_judge.specs.laws.VerdictClaims.{NoInnocentPacketIsTold, NoEndingIsTold}
 use Rattle.x25_packet_judge.proofs.verdicts.Standing.{ahead, ahead_low, tail_of, more_tail, none_left, tail_more_none, tail_more_some, ahead_more_none, ahead_more_some, bit, MayGo, Due, Closing, closing_more, Behind, Any, Level, Away, Dark, Gone, as_gone, Stands}
 use Rattle.x25_packet_judge.proofs.verdicts.Saying.{before, awaits_none, enters, Goes, says_unknown, says}
@@ -40,6 +40,7 @@ Standing from t (Resets window most) way = Waiting window most t (tail_of way) �
 Standing from t (WasReset window most) way = ((g : Given) × (a : Come) × Away window most (reset 0 0 0 ∷ way) (Behind (reset 0 0 0 ∷ way)) t.reaches t.own t.other g a) ⊎ Gone t.own
 Standing from t Clears way = HasCleared way t.reaches t.own t.other ⊎ Dark true t.own
 Standing from t WasCleared way = ((k : Call) × (terms : Terms) × Far false (clear 0 0 0 ∷ []) k terms t.reaches t.own t.other × Closing way t.reaches t.own.owed t.other.is_clearing t.other.call t.other.talk.flow) ⊎ Gone t.own
+Standing from t HasRestarted way = ⊥
 Standing from t WasRestarted way = Unit {0}
 
 pub record Sound (from : Role) (t : Pair) (s : Phase) (way : List PlainPacket) : Type 0 where
@@ -241,6 +242,7 @@ none_cleared_waits t known window most (restart_conf ∷ rest) is h = absurd h
 abbrev MayClear : Phase → Type 0
 MayClear Clears = ⊥
 MayClear WasCleared = ⊥
+MayClear HasRestarted = ⊥
 MayClear WasRestarted = ⊥
 MayClear s = Unit {0}
 
@@ -297,6 +299,7 @@ sound_clears t s way channel cause diagnostic may quiet stands (certain, sure) =
     go (WasReset window most) may (inr k) = dark false k
     go Clears may h = absurd may
     go WasCleared may h = absurd may
+    go HasRestarted may h = absurd may
     go WasRestarted may h = absurd may
 
 sound_frees : (t : Pair) (way : List PlainPacket) (channel : ℕ) → t.rule ≡ None → Standing t.from t WasCleared way → (pair.is_known t ≡ true) × (pair.is_doubtful t ≡ false) → Sound t.from (sends (clear_conf channel) t) Idles way
@@ -373,6 +376,7 @@ sound_does t WasCleared r way (clear_conf channel) may followed h = subst (λ (x
 sound_does t WasCleared r way (restart cause diagnostic) may followed h = absurd may
 sound_does t WasCleared r way restart_conf may followed h = absurd may
 sound_does t Clears r way packet may followed h = absurd may
+sound_does t HasRestarted r way packet may followed h = absurd may
 sound_does t WasRestarted r way packet may followed h = absurd may
 sound_does t Idles r way (call channel called calling facilities user) may followed h = subst (λ (x : Phase). Sound t.from (sends (call channel called calling facilities user) t) x way) (sym may) (sound_calls t way channel called calling facilities user h.quiet h.stands)
 sound_does t Idles r way (accept channel facilities) may followed h = absurd may
@@ -432,13 +436,14 @@ does_owed t s r way (interrupt_conf channel) may h = tt
 does_owed t s r way (reset channel cause diagnostic) may h = tt
 does_owed t s r way (reset_conf channel) may h = tt
 does_owed t s r way (call channel called calling facilities user) may h = tt
-does_owed t (WasCalled terms) r way (accept channel facilities) may h = accept_owed t terms way h
+does_owed t (WasCalled terms) r way (accept channel facilities) may h = λ known. inl (accept_owed t terms way h known)
 does_owed t Idles r way (accept channel facilities) may h = absurd may
 does_owed t (Calls terms) r way (accept channel facilities) may h = absurd may
 does_owed t (Resets window most) r way (accept channel facilities) may h = absurd may
 does_owed t (WasReset window most) r way (accept channel facilities) may h = absurd may
 does_owed t Clears r way (accept channel facilities) may h = absurd may
 does_owed t WasCleared r way (accept channel facilities) may h = absurd may
+does_owed t HasRestarted r way (accept channel facilities) may h = absurd may
 does_owed t WasRestarted r way (accept channel facilities) may h = absurd may
 does_owed t (Talks window most g c) r way (accept channel facilities) (n, may, is) h = absurd may
 does_owed t s r way (clear channel cause diagnostic) may h = tt
@@ -798,6 +803,7 @@ module _ (t : Pair) where
   standing_shown packet is Clears way (inr k) = inr (shown_dark true packet (turned t) k)
   standing_shown packet is WasCleared way (inl (k, terms, w, c)) = closing_on packet is way k terms w c
   standing_shown packet is WasCleared way (inr k) = inr (gone_shown t packet is k)
+  standing_shown packet is HasRestarted way s = absurd s
   standing_shown packet is WasRestarted way s = tt
 
 -- ---- the other end restarts
@@ -1009,6 +1015,7 @@ module _ (t : Pair) (cause diagnostic : ℕ) where
   standing_restarted from Clears way (inr k) = inr k
   standing_restarted from WasCleared way (inl (k, terms, w, c)) = inl (k, terms, far_restarted false (clear 0 0 0 ∷ []) (clear 0 0 0 ∷ []) k terms t.reaches t.own t.other w.over w, closing_again way c)
   standing_restarted from WasCleared way (inr k) = inr k
+  standing_restarted from HasRestarted way s = absurd s
   standing_restarted from WasRestarted way s = tt
 
 -- ---- a packet comes to the end
@@ -1224,6 +1231,7 @@ module _ (from : Role) (t : Pair) (way : List PlainPacket) where
   standing_comes (WasReset window most) packet may s = absurd may
   standing_comes Clears packet may s = left_comes packet s
   standing_comes WasCleared packet may s = absurd may
+  standing_comes HasRestarted packet may s = absurd s
   standing_comes WasRestarted packet may s = absurd may
 
 -- ---- any run
@@ -1281,6 +1289,7 @@ confirms_so (Resets window most) r channel may = absurd may
 confirms_so (WasReset window most) r channel may = absurd may
 confirms_so Clears r channel may = absurd may
 confirms_so WasCleared r channel may = tt
+confirms_so HasRestarted r channel may = absurd may
 confirms_so WasRestarted r channel may = absurd may
 
 pub does_quiet : (t : Pair) (s r : Phase) (way : List PlainPacket) (packet : PlainPacket) → MayDo s packet r → Sound t.from t s way → (sends packet t).rule ≡ None

@@ -1,252 +1,37 @@
 -- Why no end in a call is told of in a trace, whatever the other end sends on any channel.
-use Rattle.std.proofs.Common.{◌≡◌, ◌==◌, inl, inr, ℕ, ◌+◌, ◌-◌, ◌<◌, ◌≤◌, arith, min, Bool, true, false, if◌then◌else◌, List, [], ◌∷◌, ◌++◌, Option, None, refl, sym, ap, ◌∙◌, subst}
+use Rattle.std.proofs.Common.{◌≡◌, ◌==◌, ◌⊎◌, inl, inr, ℕ, ◌+◌, ◌-◌, ◌<◌, ◌≤◌, arith, min, Bool, true, false, if◌then◌else◌, List, [], ◌∷◌, ◌++◌, Option, None, refl, sym, ap, ◌∙◌, subst}
 use Rattle.std.specs.Prelude.{◌&&◌, ◌||◌, not, is_some, nat_lt}
-use Rattle.std.proofs.lemmas.Bool.{eqb-true, lt-ltb, ltb-true, and_parts, and_left, both_ways, cond_both, cond-true, cond-false, ltb-false, or_left, false_from_ne_true, true_from_ne_false}
+use Rattle.std.proofs.lemmas.Bool.{eqb-true, lt-ltb, ltb-true, and_parts, and_left, or_parts, and_right, both_ways, cond_both, cond-true, cond-false, ltb-false, or_left, or_right, false_from_ne_true, true_from_ne_false}
 use Rattle.x25_bits.specs.declared.role.Role.{Role}
 use Rattle.x25_bits.specs.declared.role.Role.TheVariants.{Dte, Dce}
 use Rattle.x25_packet.specs.Packet.{PlainPacket, call, accept, clear, clear_conf, user_data, rr, rnr, interrupt, interrupt_conf, reset, reset_conf, restart, restart_conf}
 use Rattle.x25_packet_judge.specs.Book as book
-use Rattle.x25_packet_judge.specs.Book.{other, layers_of, pair_of, keeps, fills, puts}
+use Rattle.x25_packet_judge.specs.Book.{other, layers_of, keeps, fills}
 use Rattle.x25_packet_judge.specs.Layers as layers
 use Rattle.x25_packet_judge.specs.Layer as layer
-use Rattle.x25_packet_judge.specs.Message.{octets_of}
 use Rattle.x25_packet_judge.specs.Packets.{sends}
-use Rattle.x25_packet_judge.specs.Pair as pair
 use Rattle.x25_packet_judge.specs.Port as port
-use Rattle.x25_packet_judge.specs.Terms.{said, usual}
 use Rattle.x25_packet_judge.specs.declared.book.Book.{Book}
 use Rattle.x25_packet_judge.specs.declared.layer.Layer.{Layer}
 use Rattle.x25_packet_judge.specs.declared.layer.Restart.TheVariants.{Asking, Confirmed, Ready}
 use Rattle.x25_packet_judge.specs.declared.layers.Layers.{Layers}
 use Rattle.x25_packet_judge.specs.declared.packet_rule.PacketRule.{PacketRule}
 use Rattle.x25_packet_judge.specs.declared.pair.Pair.{Pair}
-use Rattle.x25_packet_judge.specs.declared.port.Call.{Call}
-use Rattle.x25_packet_judge.specs.declared.port.Call.TheVariants.{Idle, Called, Calling, Collided}
 use Rattle.x25_packet_judge.specs.declared.port.Port.{Port}
-use Rattle.x25_packet_judge.specs.declared.terms.Terms.{Terms}
-use Rattle.x25_packet_judge.specs.laws.Keeping.{Given, Come, nothing_given, nothing_came, Phase, Idles, Calls, WasCalled, Talks, Resets, WasReset, Clears, WasCleared, WasRestarted, fresh_phase, MayDo, MayEnd, comes, MayTake, IsOfChannel, IsFollowed, IsIdle, AreIdle, IsBegun, AreBegun, turned}
-use Rattle.x25_packet_judge.specs.laws.Tape.{all_running, IsBook, AreApart, AreRunning, view, MayStand, AreCounted, Answers, Starts, Begins, Does, DoesApart, Shown, ShownApart, Restarts, Confirms, Comes}
-use Rattle.x25_packet_judge.specs.laws.VerdictClaims.{NoInnocentTapeIsTold, NoEndOfTapeIsTold, NoRestartOfTapeIsTold, TapesBegin}
-use Rattle.x25_packet_judge.proofs.verdicts.Standing.{none_left, bit, ahead, tail_of, Behind, Behinds, Level, Away, Dark, Gone, Stands}
-use Rattle.x25_packet_judge.proofs.verdicts.Callings.{Even, Far, WasAsked, HasNone, Asks, HasCalled, begins_idle}
-use Rattle.x25_packet_judge.proofs.verdicts.Restartings.{Still, still_fresh, still_noted, still_sent}
-use Rattle.x25_packet_judge.proofs.verdicts.Closings.{HasCleared}
-use Rattle.x25_packet_judge.proofs.verdicts.Stretches.{Talking, Asking as Asked, Waiting}
+use Rattle.x25_packet_judge.specs.laws.Keeping.{Phase, Idles, Calls, WasCalled, Talks, Resets, WasReset, Clears, WasCleared, HasRestarted, WasRestarted, fresh_phase, MayDo, MayLeave, MayEnd, comes, MayTake, IsOfChannel, IsFollowed, IsIdle, AreIdle, IsBegun, AreBegun, turned}
+use Rattle.x25_packet_judge.specs.laws.Tape.{all_running, IsBook, IsJustUp, AreApart, AreRunning, view, MayStand, AreCounted, AreClear, MayAsk, is_answered, with_answer, Answers, DoesRestart, Starts, Begins, Does, DoesApart, Shown, ShownApart, Restarts, Confirms, Comes}
+use Rattle.x25_packet_judge.specs.laws.VerdictClaims.{NoInnocentTapeIsTold, NoEndOfTapeIsTold, NoRestartOfTapeIsTold, RestartsBegin, TapesBegin}
+use Rattle.x25_packet_judge.proofs.verdicts.Standing.{bit, Dark}
+use Rattle.x25_packet_judge.proofs.verdicts.Callings.{HasNone, begins_idle}
+use Rattle.x25_packet_judge.proofs.verdicts.Restartings.{Still, still_fresh, still_noted, Kept, kept_sent, still_sent, IsOwed, Sure, sure_sent}
+use Rattle.x25_packet_judge.proofs.verdicts.Showing.{shown_dark}
 use Rattle.x25_packet_judge.proofs.verdicts.Innocents.{Standing, sound_begins, starts_idle, sound_does, does_quiet, does_owed, standing_shown, standing_restarted, standing_comes, sound_ends}
 use Rattle.x25_packet_judge.proofs.verdicts.Saying.{le_both}
 use Rattle.x25_packet_judge.proofs.verdicts.Books.{put, runs_on, none_yet}
-use Rattle.x25_packet_judge.proofs.verdicts.Parts.{filled, filled_full, layer_at, port_at, Parts, Left, of_channel, takes_on_parts, takes_on_apart, takes_on_any, kept_fills, fills_book, confirms_parts}
+use Rattle.x25_packet_judge.proofs.verdicts.Parts.{filled, filled_full, layer_at, port_at, Parts, PartsAt, Left, of_channel, takes_on_parts, takes_on_apart, takes_on_any, kept_fills, fills_book, confirms_parts}
 use Rattle.x25_packet_judge.proofs.verdicts.Reaching.{sends_reaches}
-
--- ---- what is noted changes nothing
-
-module _ (window most : ℕ) (tail : List PlainPacket) (reaches : Bool) (p o : Port) (g : Given) (a : Come) where
-  noted_level : Level window most tail reaches p o g a → Level window most tail reaches (port.noted p) (port.noted o) g a
-  noted_level l = record {
-    reached = l.reached;
-    no_former = l.no_former;
-    go = record { known = l.go.known; up = l.go.up; others_known = l.go.others_known; none_cleared = l.go.none_cleared; none_reset = l.go.none_reset };
-    back = record { known = l.back.known; up = l.back.up; others_known = l.back.others_known; none_cleared = l.back.none_cleared; none_reset = l.back.none_reset };
-    own = l.own;
-    others = l.others;
-    on = l.on;
-  }
-
-  noted_away : (B : Behinds) → Away window most tail B reaches p o g a → Away window most tail B reaches (port.noted p) (port.noted o) g a
-  noted_away B w = record {
-    go = record { known = w.go.known; up = w.go.up; others_known = w.go.others_known; none_cleared = w.go.none_cleared; none_reset = w.go.none_reset };
-    parted = w.parted;
-    no_former = w.no_former;
-    own = w.own;
-    others = w.others;
-    over = w.over;
-    behind = w.behind;
-  }
-
-noted_gone : (p : Port) → Gone p → Gone (port.noted p)
-noted_gone p k = record { known = k.known; clearing = k.clearing; call = k.call }
-
-noted_asking : (window most : ℕ) (reaches : Bool) (p o : Port) → Asked window most reaches p o → Asked window most reaches (port.noted p) (port.noted o)
-noted_asking window most reaches p o k = record {
-  reached = k.reached;
-  go = k.go;
-  up = k.up;
-  back = record { known = k.back.known; up = k.back.up; others_known = k.back.others_known; none_cleared = k.back.none_cleared; none_reset = k.back.none_reset };
-  others_cleared = k.others_cleared;
-  once = k.once;
-  own = k.own;
-}
-
-noted_dark : (p : Port) → Dark true p → Dark true (port.noted p)
-noted_dark p k = record { known = k.known; clearing = k.clearing; call = k.call }
-
-module _ (reaches : Bool) (p o : Port) where
-  noted_even : (k j : Call) → Even k j reaches p o → Even k j reaches (port.noted p) (port.noted o)
-  noted_even k j e = record { reached = e.reached; known = e.known; others_known = e.others_known; none_clearing = e.none_clearing; none_cleared = e.none_cleared; none_reset = e.none_reset; no_former = e.no_former; sure = e.sure; flow = e.flow; call = e.call; others_call = e.others_call }
-
-  noted_far : (shut : Bool) (tail : List PlainPacket) (k : Call) (terms : Terms) → Far shut tail k terms reaches p o → Far shut tail k terms reaches (port.noted p) (port.noted o)
-  noted_far shut tail k terms w = record { known = w.known; others_known = w.others_known; none_cleared = w.none_cleared; none_reset = w.none_reset; parted = w.parted; no_former = w.no_former; call = w.call; its_terms = w.its_terms; over = w.over; strict = λ e. record { none_reset = (w.strict e).none_reset; sure = (w.strict e).sure; former = (w.strict e).former } }
-
-  noted_asked : (terms : Terms) (k j : Call) (way : List PlainPacket) → WasAsked terms k j way reaches p o → WasAsked terms k j way reaches (port.noted p) (port.noted o)
-  noted_asked terms k j [] (its, e) = (its, noted_even k j e)
-  noted_asked terms k j (clear channel cause diagnostic ∷ rest) (w, closes) = (noted_far true (clear channel cause diagnostic ∷ rest) k terms w, closes)
-  noted_asked terms k j (restart cause diagnostic ∷ rest) w = noted_far true (restart cause diagnostic ∷ rest) k terms w
-  noted_asked terms k j (user_data channel q m ps pr user ∷ rest) h = absurd h
-  noted_asked terms k j (rr channel pr ∷ rest) h = absurd h
-  noted_asked terms k j (rnr channel pr ∷ rest) h = absurd h
-  noted_asked terms k j (interrupt channel user ∷ rest) h = absurd h
-  noted_asked terms k j (interrupt_conf channel ∷ rest) h = absurd h
-  noted_asked terms k j (reset channel cause diagnostic ∷ rest) h = absurd h
-  noted_asked terms k j (reset_conf channel ∷ rest) h = absurd h
-  noted_asked terms k j (call channel called calling facilities user ∷ rest) h = absurd h
-  noted_asked terms k j (accept channel facilities ∷ rest) h = absurd h
-  noted_asked terms k j (clear_conf channel ∷ rest) h = absurd h
-  noted_asked terms k j (restart_conf ∷ rest) h = absurd h
-
-  noted_none : (way : List PlainPacket) → HasNone way reaches p o → HasNone way reaches (port.noted p) (port.noted o)
-  noted_none [] e = noted_even Idle Idle e
-  noted_none (call channel called calling facilities user ∷ rest) h = noted_asked (said facilities usual) Called Calling rest h
-  noted_none (clear channel cause diagnostic ∷ rest) (x, (w, closes)) = (x, (noted_far true (clear channel cause diagnostic ∷ rest) Idle x w, closes))
-  noted_none (restart cause diagnostic ∷ rest) (x, w) = (x, noted_far true (restart cause diagnostic ∷ rest) Idle x w)
-  noted_none (user_data channel q m ps pr user ∷ rest) h = absurd h
-  noted_none (rr channel pr ∷ rest) h = absurd h
-  noted_none (rnr channel pr ∷ rest) h = absurd h
-  noted_none (interrupt channel user ∷ rest) h = absurd h
-  noted_none (interrupt_conf channel ∷ rest) h = absurd h
-  noted_none (reset channel cause diagnostic ∷ rest) h = absurd h
-  noted_none (reset_conf channel ∷ rest) h = absurd h
-  noted_none (accept channel facilities ∷ rest) h = absurd h
-  noted_none (clear_conf channel ∷ rest) h = absurd h
-  noted_none (restart_conf ∷ rest) h = absurd h
-
-  noted_cleared : (way : List PlainPacket) → HasCleared way reaches p o → HasCleared way reaches (port.noted p) (port.noted o)
-  noted_cleared [] w = record { reached = w.reached; known = w.known; others_known = w.others_known; none_clearing = w.none_clearing; cleared = w.cleared; none_reset = w.none_reset; sure = w.sure; call = w.call }
-  noted_cleared (clear channel cause diagnostic ∷ rest) h = noted_none rest h
-  noted_cleared (clear_conf channel ∷ rest) h = noted_none rest h
-  noted_cleared (restart cause diagnostic ∷ rest) h = tt
-  noted_cleared (user_data channel q m ps pr user ∷ rest) h = noted_cleared rest h
-  noted_cleared (rr channel pr ∷ rest) h = noted_cleared rest h
-  noted_cleared (rnr channel pr ∷ rest) h = noted_cleared rest h
-  noted_cleared (interrupt channel user ∷ rest) h = noted_cleared rest h
-  noted_cleared (interrupt_conf channel ∷ rest) h = noted_cleared rest h
-  noted_cleared (reset channel cause diagnostic ∷ rest) h = noted_cleared rest h
-  noted_cleared (reset_conf channel ∷ rest) h = noted_cleared rest h
-  noted_cleared (call channel called calling facilities user ∷ rest) h = noted_cleared rest h
-  noted_cleared (accept channel facilities ∷ rest) h = noted_cleared rest h
-  noted_cleared (restart_conf ∷ rest) h = noted_cleared rest h
-
-  noted_stands : (window most : ℕ) (tail : List PlainPacket) (g : Given) (a : Come) → Stands window most tail reaches p o g a → Stands window most tail reaches (port.noted p) (port.noted o) g a
-  noted_stands window most tail g a (inl l) = inl (noted_level window most tail reaches p o g a l)
-  noted_stands window most tail g a (inr (inl w)) = inr (inl (noted_away window most tail reaches p o g a (Behind tail) w))
-  noted_stands window most tail g a (inr (inr k)) = inr (inr (noted_gone p k))
-
-  noted_asks : (terms : Terms) (k j : Call) (way : List PlainPacket) → Asks terms k j way reaches p o → Asks terms k j way reaches (port.noted p) (port.noted o)
-  noted_asks terms k j [] (its, e) = (its, noted_even k j e)
-  noted_asks terms k j (accept channel facilities ∷ rest) h = noted_stands (said facilities terms).calling_window (octets_of (said facilities terms).calling_size) (tail_of rest) nothing_given (ahead rest nothing_came) h
-  noted_asks terms k j (clear channel cause diagnostic ∷ rest) (x, (w, closes)) = (x, (noted_far true (clear channel cause diagnostic ∷ rest) k x w, closes))
-  noted_asks terms k j (restart cause diagnostic ∷ rest) (x, w) = (x, noted_far true (restart cause diagnostic ∷ rest) k x w)
-  noted_asks terms k j (user_data channel q m ps pr user ∷ rest) h = absurd h
-  noted_asks terms k j (rr channel pr ∷ rest) h = absurd h
-  noted_asks terms k j (rnr channel pr ∷ rest) h = absurd h
-  noted_asks terms k j (interrupt channel user ∷ rest) h = absurd h
-  noted_asks terms k j (interrupt_conf channel ∷ rest) h = absurd h
-  noted_asks terms k j (reset channel cause diagnostic ∷ rest) h = absurd h
-  noted_asks terms k j (reset_conf channel ∷ rest) h = absurd h
-  noted_asks terms k j (call channel called calling facilities user ∷ rest) h = absurd h
-  noted_asks terms k j (clear_conf channel ∷ rest) h = absurd h
-  noted_asks terms k j (restart_conf ∷ rest) h = absurd h
-
-  noted_called : (from : Role) (terms : Terms) (way : List PlainPacket) → HasCalled from terms way reaches p o → HasCalled from terms way reaches (port.noted p) (port.noted o)
-  noted_called from terms (call channel called calling facilities user ∷ rest) (inl (role, h)) = inl (role, noted_asked (said facilities usual) Collided Collided rest h)
-  noted_called from terms (call channel called calling facilities user ∷ rest) (inr (role, h)) = inr (role, noted_asks terms Collided Collided rest h)
-  noted_called from terms [] h = noted_asks terms Calling Called [] h
-  noted_called from terms (user_data channel q m ps pr user ∷ rest) h = noted_asks terms Calling Called (user_data channel q m ps pr user ∷ rest) h
-  noted_called from terms (rr channel pr ∷ rest) h = noted_asks terms Calling Called (rr channel pr ∷ rest) h
-  noted_called from terms (rnr channel pr ∷ rest) h = noted_asks terms Calling Called (rnr channel pr ∷ rest) h
-  noted_called from terms (interrupt channel user ∷ rest) h = noted_asks terms Calling Called (interrupt channel user ∷ rest) h
-  noted_called from terms (interrupt_conf channel ∷ rest) h = noted_asks terms Calling Called (interrupt_conf channel ∷ rest) h
-  noted_called from terms (reset channel cause diagnostic ∷ rest) h = noted_asks terms Calling Called (reset channel cause diagnostic ∷ rest) h
-  noted_called from terms (reset_conf channel ∷ rest) h = noted_asks terms Calling Called (reset_conf channel ∷ rest) h
-  noted_called from terms (accept channel facilities ∷ rest) h = noted_asks terms Calling Called (accept channel facilities ∷ rest) h
-  noted_called from terms (clear channel cause diagnostic ∷ rest) h = noted_asks terms Calling Called (clear channel cause diagnostic ∷ rest) h
-  noted_called from terms (clear_conf channel ∷ rest) h = noted_asks terms Calling Called (clear_conf channel ∷ rest) h
-  noted_called from terms (restart cause diagnostic ∷ rest) h = noted_asks terms Calling Called (restart cause diagnostic ∷ rest) h
-  noted_called from terms (restart_conf ∷ rest) h = noted_asks terms Calling Called (restart_conf ∷ rest) h
-
-module _ (t : Pair) where
-  noted_talking : (window most : ℕ) (g : Given) (c : Come) (way : List PlainPacket) → Talking window most t g c way → Talking window most (pair.noted t) g c way
-  noted_talking window most g c way (inl l) = inl (noted_level window most (tail_of way) t.reaches t.own t.other g _ l)
-  noted_talking window most g c way (inr (inl w)) = inr (inl (noted_away window most (tail_of way) t.reaches t.own t.other g _ (Behind (tail_of way)) w))
-  noted_talking window most g c way (inr (inr k)) = inr (inr (noted_gone t.own k))
-
-  noted_waiting : (window most : ℕ) (tail : List PlainPacket) → Waiting window most t tail → Waiting window most (pair.noted t) tail
-  noted_waiting window most [] k = noted_asking window most t.reaches t.own t.other k
-  noted_waiting window most (reset channel cause diagnostic ∷ rest) s = noted_talking window most nothing_given nothing_came rest s
-  noted_waiting window most (reset_conf channel ∷ rest) s = noted_talking window most nothing_given nothing_came rest s
-  noted_waiting window most (clear channel cause diagnostic ∷ rest) w = noted_away window most _ t.reaches t.own t.other nothing_given nothing_came (Behind (clear channel cause diagnostic ∷ rest)) w
-  noted_waiting window most (restart cause diagnostic ∷ rest) s = tt
-  noted_waiting window most (call channel called calling facilities user ∷ rest) s = absurd s
-  noted_waiting window most (accept channel facilities ∷ rest) s = absurd s
-  noted_waiting window most (clear_conf channel ∷ rest) s = absurd s
-  noted_waiting window most (user_data channel q m ps pr user ∷ rest) s = absurd s
-  noted_waiting window most (rr channel pr ∷ rest) s = absurd s
-  noted_waiting window most (rnr channel pr ∷ rest) s = absurd s
-  noted_waiting window most (interrupt channel user ∷ rest) s = absurd s
-  noted_waiting window most (interrupt_conf channel ∷ rest) s = absurd s
-  noted_waiting window most (restart_conf ∷ rest) s = absurd s
-
-  noted_standing : (from : Role) (s : Phase) (way : List PlainPacket) → Standing from t s way → Standing from (pair.noted t) s way
-  noted_standing from Idles way (inl h) = inl (noted_none t.reaches t.own t.other way h)
-  noted_standing from Idles way (inr k) = inr (noted_dark t.own k)
-  noted_standing from (Calls terms) way (inl (inl h)) = inl (inl (noted_called t.reaches t.own t.other from terms way h))
-  noted_standing from (Calls terms) way (inl (inr (role, h))) = inl (inr (role, noted_asks t.reaches t.own t.other terms Collided Collided way h))
-  noted_standing from (Calls terms) way (inr k) = inr (noted_dark t.own k)
-  noted_standing from (WasCalled terms) way (inl (inl h)) = inl (inl (noted_asked t.reaches t.own t.other terms Called Calling way h))
-  noted_standing from (WasCalled terms) way (inl (inr (role, h))) = inl (inr (role, noted_asked t.reaches t.own t.other terms Collided Collided way h))
-  noted_standing from (WasCalled terms) way (inr k) = inr (noted_dark t.own k)
-  noted_standing from (Talks window most g c) way s = noted_talking window most g c way s
-  noted_standing from (Resets window most) way (inl s) = inl (noted_waiting window most (tail_of way) s)
-  noted_standing from (Resets window most) way (inr k) = inr (noted_gone t.own k)
-  noted_standing from (WasReset window most) way (inl (g, a, w)) = inl (g, a, noted_away window most _ t.reaches t.own t.other g a _ w)
-  noted_standing from (WasReset window most) way (inr k) = inr (noted_gone t.own k)
-  noted_standing from WasCleared way (inl (k, terms, w, closes)) = inl (k, terms, noted_far t.reaches t.own t.other false (clear 0 0 0 ∷ []) k terms w, closes)
-  noted_standing from Clears way (inl h) = inl (noted_cleared t.reaches t.own t.other way h)
-  noted_standing from Clears way (inr k) = inr (noted_dark t.own k)
-  noted_standing from WasCleared way (inr k) = inr (noted_gone t.own k)
-  noted_standing from WasRestarted way s = tt
-
--- nor does from which end the last packet came
-abbrev as_of : Role → Option PacketRule → Pair → Pair
-as_of from rule t = record { from = from; reaches = t.reaches; own = t.own; other = t.other; rule = rule }
-
-module _ (from : Role) (rule : Option PacketRule) (t : Pair) where
-  waiting_of : (window most : ℕ) (tail : List PlainPacket) → Waiting window most t tail → Waiting window most (as_of from rule t) tail
-  waiting_of window most [] k = k
-  waiting_of window most (reset channel cause diagnostic ∷ rest) s = s
-  waiting_of window most (reset_conf channel ∷ rest) s = s
-  waiting_of window most (clear channel cause diagnostic ∷ rest) w = w
-  waiting_of window most (restart cause diagnostic ∷ rest) s = tt
-  waiting_of window most (call channel called calling facilities user ∷ rest) s = absurd s
-  waiting_of window most (accept channel facilities ∷ rest) s = absurd s
-  waiting_of window most (clear_conf channel ∷ rest) s = absurd s
-  waiting_of window most (user_data channel q m ps pr user ∷ rest) s = absurd s
-  waiting_of window most (rr channel pr ∷ rest) s = absurd s
-  waiting_of window most (rnr channel pr ∷ rest) s = absurd s
-  waiting_of window most (interrupt channel user ∷ rest) s = absurd s
-  waiting_of window most (interrupt_conf channel ∷ rest) s = absurd s
-  waiting_of window most (restart_conf ∷ rest) s = absurd s
-
-  standing_of : (end : Role) (s : Phase) (way : List PlainPacket) → Standing end t s way → Standing end (as_of from rule t) s way
-  standing_of end Idles way s = s
-  standing_of end (Calls terms) way s = s
-  standing_of end (WasCalled terms) way s = s
-  standing_of end (Talks window most g c) way s = s
-  standing_of end (Resets window most) way (inl s) = inl (waiting_of window most (tail_of way) s)
-  standing_of end (Resets window most) way (inr k) = inr k
-  standing_of end (WasReset window most) way s = s
-  standing_of end Clears way s = s
-  standing_of end WasCleared way s = s
-  standing_of end WasRestarted way s = tt
+use Rattle.x25_packet_judge.proofs.verdicts.Noting.{noted_dark, noted_standing, standing_of}
+use Rattle.x25_packet_judge.proofs.verdicts.Ways.{has_restart, was_restarted, is_due, channel_not, or_later, does_not, does_still_due, does_due, shown_due, comes_due, count, number, ends_so, is_conf, has_conf, conf_more, channel_conf, count_more, restart_due, ends_more, ends_tail, none_behind, less_none, less_one, le_more, comes_number, comes_still_due}
 
 -- ---- where restarts are known
 
@@ -299,369 +84,6 @@ on_restarted : (from : Role) (s : Phase) (way : List PlainPacket) (P O P2 O2 : L
 on_restarted from s way P O P2 O2 p o cause diagnostic parted h =
     subst (λ b. Standing from (record { from = from; reaches = b; own = p; other = port.fresh; rule = None }) s (way ++ restart cause diagnostic ∷ [])) (sym parted) (standing_restarted (pair_at from P O p o) cause diagnostic from s way h)
 
--- ---- a RESTART of the other end is answered by none yet
-
-abbrev is_restart : PlainPacket → Bool
-is_restart (restart cause diagnostic) = true
-is_restart packet = false
-
-abbrev has_restart : List PlainPacket → Bool
-has_restart [] = false
-has_restart (packet ∷ way) = is_restart packet || has_restart way
-
-abbrev was_restarted : Phase → Bool
-was_restarted WasRestarted = true
-was_restarted s = false
-
-abbrev is_due : Phase → List PlainPacket → Bool
-is_due s way = was_restarted s || has_restart way
-
-restart_more : (way : List PlainPacket) (packet : PlainPacket) → is_restart packet ≡ false → has_restart (way ++ packet ∷ []) ≡ has_restart way
-restart_more [] packet e = ap (λ b. b || false) e
-restart_more (p ∷ way) packet e = ap (λ b. is_restart p || b) (restart_more way packet e)
-
-channel_not : (packet : PlainPacket) → IsOfChannel packet → is_restart packet ≡ false
-channel_not (user_data channel q m ps pr user) is = refl
-channel_not (rr channel pr) is = refl
-channel_not (rnr channel pr) is = refl
-channel_not (interrupt channel user) is = refl
-channel_not (interrupt_conf channel) is = refl
-channel_not (reset channel cause diagnostic) is = refl
-channel_not (reset_conf channel) is = refl
-channel_not (call channel called calling facilities user) is = refl
-channel_not (accept channel facilities) is = refl
-channel_not (clear channel cause diagnostic) is = refl
-channel_not (clear_conf channel) is = refl
-channel_not (restart cause diagnostic) is = absurd is
-channel_not restart_conf is = absurd is
-
-or_later : (a b : Bool) → b ≡ true → (a || b) ≡ true
-or_later true b e = refl
-or_later false b e = e
-
-does_not : (s r : Phase) (packet : PlainPacket) → MayDo s packet r → was_restarted r ≡ false
-does_not (Talks window most g c) r (user_data channel q m ps pr user) (n, may, is) = ap was_restarted is
-does_not (Talks window most g c) r (rr channel pr) (n, may, is) = ap was_restarted is
-does_not (Talks window most g c) r (rnr channel pr) (n, may, is) = ap was_restarted is
-does_not (Talks window most g c) r (interrupt channel user) (n, may, is) = ap was_restarted is
-does_not (Talks window most g c) r (interrupt_conf channel) (n, may, is) = ap was_restarted is
-does_not (Talks window most g c) r (reset channel cause diagnostic) may = ap was_restarted may
-does_not (Talks window most g c) r (reset_conf channel) (n, may, is) = ap was_restarted is
-does_not (Talks window most g c) r (call channel called calling facilities user) (n, may, is) = ap was_restarted is
-does_not (Talks window most g c) r (accept channel facilities) (n, may, is) = ap was_restarted is
-does_not (Talks window most g c) r (clear channel cause diagnostic) may = ap was_restarted may
-does_not (Talks window most g c) r (clear_conf channel) (n, may, is) = ap was_restarted is
-does_not (Talks window most g c) r (restart cause diagnostic) (n, may, is) = ap was_restarted is
-does_not (Talks window most g c) r restart_conf (n, may, is) = ap was_restarted is
-does_not (WasReset window most) r (user_data channel q m ps pr user) may = absurd may
-does_not (WasReset window most) r (rr channel pr) may = absurd may
-does_not (WasReset window most) r (rnr channel pr) may = absurd may
-does_not (WasReset window most) r (interrupt channel user) may = absurd may
-does_not (WasReset window most) r (interrupt_conf channel) may = absurd may
-does_not (WasReset window most) r (reset channel cause diagnostic) may = absurd may
-does_not (WasReset window most) r (reset_conf channel) may = ap was_restarted may
-does_not (WasReset window most) r (call channel called calling facilities user) may = absurd may
-does_not (WasReset window most) r (accept channel facilities) may = absurd may
-does_not (WasReset window most) r (clear channel cause diagnostic) may = ap was_restarted may
-does_not (WasReset window most) r (clear_conf channel) may = absurd may
-does_not (WasReset window most) r (restart cause diagnostic) may = absurd may
-does_not (WasReset window most) r restart_conf may = absurd may
-does_not Idles r (user_data channel q m ps pr user) may = absurd may
-does_not Idles r (rr channel pr) may = absurd may
-does_not Idles r (rnr channel pr) may = absurd may
-does_not Idles r (interrupt channel user) may = absurd may
-does_not Idles r (interrupt_conf channel) may = absurd may
-does_not Idles r (reset channel cause diagnostic) may = absurd may
-does_not Idles r (reset_conf channel) may = absurd may
-does_not Idles r (call channel called calling facilities user) may = ap was_restarted may
-does_not Idles r (accept channel facilities) may = absurd may
-does_not Idles r (clear channel cause diagnostic) may = ap was_restarted may
-does_not Idles r (clear_conf channel) may = absurd may
-does_not Idles r (restart cause diagnostic) may = absurd may
-does_not Idles r restart_conf may = absurd may
-does_not (WasCalled terms) r (user_data channel q m ps pr user) may = absurd may
-does_not (WasCalled terms) r (rr channel pr) may = absurd may
-does_not (WasCalled terms) r (rnr channel pr) may = absurd may
-does_not (WasCalled terms) r (interrupt channel user) may = absurd may
-does_not (WasCalled terms) r (interrupt_conf channel) may = absurd may
-does_not (WasCalled terms) r (reset channel cause diagnostic) may = absurd may
-does_not (WasCalled terms) r (reset_conf channel) may = absurd may
-does_not (WasCalled terms) r (call channel called calling facilities user) may = absurd may
-does_not (WasCalled terms) r (accept channel facilities) may = ap was_restarted may
-does_not (WasCalled terms) r (clear channel cause diagnostic) may = ap was_restarted may
-does_not (WasCalled terms) r (clear_conf channel) may = absurd may
-does_not (WasCalled terms) r (restart cause diagnostic) may = absurd may
-does_not (WasCalled terms) r restart_conf may = absurd may
-does_not (Calls terms) r (user_data channel q m ps pr user) may = absurd may
-does_not (Calls terms) r (rr channel pr) may = absurd may
-does_not (Calls terms) r (rnr channel pr) may = absurd may
-does_not (Calls terms) r (interrupt channel user) may = absurd may
-does_not (Calls terms) r (interrupt_conf channel) may = absurd may
-does_not (Calls terms) r (reset channel cause diagnostic) may = absurd may
-does_not (Calls terms) r (reset_conf channel) may = absurd may
-does_not (Calls terms) r (call channel called calling facilities user) may = absurd may
-does_not (Calls terms) r (accept channel facilities) may = absurd may
-does_not (Calls terms) r (clear channel cause diagnostic) may = ap was_restarted may
-does_not (Calls terms) r (clear_conf channel) may = absurd may
-does_not (Calls terms) r (restart cause diagnostic) may = absurd may
-does_not (Calls terms) r restart_conf may = absurd may
-does_not (Resets window most) r (user_data channel q m ps pr user) may = absurd may
-does_not (Resets window most) r (rr channel pr) may = absurd may
-does_not (Resets window most) r (rnr channel pr) may = absurd may
-does_not (Resets window most) r (interrupt channel user) may = absurd may
-does_not (Resets window most) r (interrupt_conf channel) may = absurd may
-does_not (Resets window most) r (reset channel cause diagnostic) may = absurd may
-does_not (Resets window most) r (reset_conf channel) may = absurd may
-does_not (Resets window most) r (call channel called calling facilities user) may = absurd may
-does_not (Resets window most) r (accept channel facilities) may = absurd may
-does_not (Resets window most) r (clear channel cause diagnostic) may = ap was_restarted may
-does_not (Resets window most) r (clear_conf channel) may = absurd may
-does_not (Resets window most) r (restart cause diagnostic) may = absurd may
-does_not (Resets window most) r restart_conf may = absurd may
-does_not WasCleared r (user_data channel q m ps pr user) may = absurd may
-does_not WasCleared r (rr channel pr) may = absurd may
-does_not WasCleared r (rnr channel pr) may = absurd may
-does_not WasCleared r (interrupt channel user) may = absurd may
-does_not WasCleared r (interrupt_conf channel) may = absurd may
-does_not WasCleared r (reset channel cause diagnostic) may = absurd may
-does_not WasCleared r (reset_conf channel) may = absurd may
-does_not WasCleared r (call channel called calling facilities user) may = absurd may
-does_not WasCleared r (accept channel facilities) may = absurd may
-does_not WasCleared r (clear channel cause diagnostic) may = absurd may
-does_not WasCleared r (clear_conf channel) may = ap was_restarted may
-does_not WasCleared r (restart cause diagnostic) may = absurd may
-does_not WasCleared r restart_conf may = absurd may
-does_not Clears r packet may = absurd may
-does_not WasRestarted r packet may = absurd may
-
-does_due : (s r : Phase) (way : List PlainPacket) (packet : PlainPacket) → MayDo s packet r → is_due r way ≡ true → is_due s way ≡ true
-does_due s r way packet may e = or_later (was_restarted s) (has_restart way) (sym (ap (λ b. b || has_restart way) (does_not s r packet may)) ∙ e)
-
-shown_due : (s : Phase) (way : List PlainPacket) (packet : PlainPacket) → IsOfChannel packet → is_due s (way ++ packet ∷ []) ≡ true → is_due s way ≡ true
-shown_due s way packet is e = sym (ap (λ b. was_restarted s || b) (restart_more way packet (channel_not packet is))) ∙ e
-
-comes_due : (from : Role) (s : Phase) (packet : PlainPacket) (way : List PlainPacket) → MayTake s → is_due (comes from s packet) way ≡ true → is_due s (packet ∷ way) ≡ true
-comes_due from (Talks window most g c) (user_data channel q m ps pr user) way may e = e
-comes_due from (Talks window most g c) (rr channel pr) way may e = e
-comes_due from (Talks window most g c) (rnr channel pr) way may e = e
-comes_due from (Talks window most g c) (interrupt channel user) way may e = e
-comes_due from (Talks window most g c) (interrupt_conf channel) way may e = e
-comes_due from (Talks window most g c) (reset channel cause diagnostic) way may e = e
-comes_due from (Talks window most g c) (reset_conf channel) way may e = e
-comes_due from (Talks window most g c) (call channel called calling facilities user) way may e = e
-comes_due from (Talks window most g c) (accept channel facilities) way may e = e
-comes_due from (Talks window most g c) (clear channel cause diagnostic) way may e = e
-comes_due from (Talks window most g c) (clear_conf channel) way may e = e
-comes_due from (Talks window most g c) (restart cause diagnostic) way may e = refl
-comes_due from (Talks window most g c) restart_conf way may e = e
-comes_due from (Resets window most) (user_data channel q m ps pr user) way may e = e
-comes_due from (Resets window most) (rr channel pr) way may e = e
-comes_due from (Resets window most) (rnr channel pr) way may e = e
-comes_due from (Resets window most) (interrupt channel user) way may e = e
-comes_due from (Resets window most) (interrupt_conf channel) way may e = e
-comes_due from (Resets window most) (reset channel cause diagnostic) way may e = e
-comes_due from (Resets window most) (reset_conf channel) way may e = e
-comes_due from (Resets window most) (call channel called calling facilities user) way may e = e
-comes_due from (Resets window most) (accept channel facilities) way may e = e
-comes_due from (Resets window most) (clear channel cause diagnostic) way may e = e
-comes_due from (Resets window most) (clear_conf channel) way may e = e
-comes_due from (Resets window most) (restart cause diagnostic) way may e = refl
-comes_due from (Resets window most) restart_conf way may e = e
-comes_due from Idles (user_data channel q m ps pr user) way may e = e
-comes_due from Idles (rr channel pr) way may e = e
-comes_due from Idles (rnr channel pr) way may e = e
-comes_due from Idles (interrupt channel user) way may e = e
-comes_due from Idles (interrupt_conf channel) way may e = e
-comes_due from Idles (reset channel cause diagnostic) way may e = e
-comes_due from Idles (reset_conf channel) way may e = e
-comes_due from Idles (call channel called calling facilities user) way may e = e
-comes_due from Idles (accept channel facilities) way may e = e
-comes_due from Idles (clear channel cause diagnostic) way may e = e
-comes_due from Idles (clear_conf channel) way may e = e
-comes_due from Idles (restart cause diagnostic) way may e = refl
-comes_due from Idles restart_conf way may e = e
-comes_due from (Calls terms) (user_data channel q m ps pr user) way may e = e
-comes_due from (Calls terms) (rr channel pr) way may e = e
-comes_due from (Calls terms) (rnr channel pr) way may e = e
-comes_due from (Calls terms) (interrupt channel user) way may e = e
-comes_due from (Calls terms) (interrupt_conf channel) way may e = e
-comes_due from (Calls terms) (reset channel cause diagnostic) way may e = e
-comes_due from (Calls terms) (reset_conf channel) way may e = e
-comes_due from (Calls terms) (call channel called calling facilities user) way may e = cond_both (pair.is_dce from) (WasCalled (said facilities usual)) (Calls terms) (λ (s : Phase). is_due s way ≡ true → has_restart way ≡ true) (λ _ e. e) (λ _ e. e) e
-comes_due from (Calls terms) (accept channel facilities) way may e = e
-comes_due from (Calls terms) (clear channel cause diagnostic) way may e = e
-comes_due from (Calls terms) (clear_conf channel) way may e = e
-comes_due from (Calls terms) (restart cause diagnostic) way may e = refl
-comes_due from (Calls terms) restart_conf way may e = e
-comes_due from (WasCalled terms) (user_data channel q m ps pr user) way may e = e
-comes_due from (WasCalled terms) (rr channel pr) way may e = e
-comes_due from (WasCalled terms) (rnr channel pr) way may e = e
-comes_due from (WasCalled terms) (interrupt channel user) way may e = e
-comes_due from (WasCalled terms) (interrupt_conf channel) way may e = e
-comes_due from (WasCalled terms) (reset channel cause diagnostic) way may e = e
-comes_due from (WasCalled terms) (reset_conf channel) way may e = e
-comes_due from (WasCalled terms) (call channel called calling facilities user) way may e = e
-comes_due from (WasCalled terms) (accept channel facilities) way may e = e
-comes_due from (WasCalled terms) (clear channel cause diagnostic) way may e = e
-comes_due from (WasCalled terms) (clear_conf channel) way may e = e
-comes_due from (WasCalled terms) (restart cause diagnostic) way may e = refl
-comes_due from (WasCalled terms) restart_conf way may e = e
-comes_due from (WasReset window most) packet way may e = absurd may
-comes_due from Clears (user_data channel q m ps pr user) way may e = e
-comes_due from Clears (rr channel pr) way may e = e
-comes_due from Clears (rnr channel pr) way may e = e
-comes_due from Clears (interrupt channel user) way may e = e
-comes_due from Clears (interrupt_conf channel) way may e = e
-comes_due from Clears (reset channel cause diagnostic) way may e = e
-comes_due from Clears (reset_conf channel) way may e = e
-comes_due from Clears (call channel called calling facilities user) way may e = e
-comes_due from Clears (accept channel facilities) way may e = e
-comes_due from Clears (clear channel cause diagnostic) way may e = e
-comes_due from Clears (clear_conf channel) way may e = e
-comes_due from Clears (restart cause diagnostic) way may e = refl
-comes_due from Clears restart_conf way may e = e
-comes_due from WasCleared packet way may e = absurd may
-comes_due from WasRestarted packet way may e = absurd may
-
--- how many of them there are, and whether nothing is behind the last one
-abbrev count : List PlainPacket → ℕ
-count [] = 0
-count (packet ∷ way) = bit (is_restart packet) + count way
-
-abbrev number : Phase → List PlainPacket → ℕ
-number s way = bit (was_restarted s) + count way
-
-abbrev ends_so : List PlainPacket → Bool
-ends_so [] = true
-ends_so (packet ∷ []) = is_restart packet
-ends_so (packet ∷ next ∷ way) = ends_so (next ∷ way)
-
-count_more : (way : List PlainPacket) (packet : PlainPacket) → count (way ++ packet ∷ []) ≡ count way + bit (is_restart packet)
-count_more [] packet = turn (bit (is_restart packet))
-  where
-    turn : (n : ℕ) → n + 0 ≡ 0 + n
-    turn n = omega arith
-count_more (x ∷ way) packet = ap (λ n. bit (is_restart x) + n) (count_more way packet) ∙ group (bit (is_restart x)) (count way) (bit (is_restart packet))
-  where
-    group : (a b c : ℕ) → a + (b + c) ≡ (a + b) + c
-    group a b c = omega arith
-
-ends_more : (way : List PlainPacket) (cause diagnostic : ℕ) → ends_so (way ++ restart cause diagnostic ∷ []) ≡ true
-ends_more [] cause diagnostic = refl
-ends_more (x ∷ []) cause diagnostic = refl
-ends_more (x ∷ y ∷ way) cause diagnostic = ends_more (y ∷ way) cause diagnostic
-
-ends_tail : (packet : PlainPacket) (way : List PlainPacket) → ends_so (packet ∷ way) ≡ true → ends_so way ≡ true
-ends_tail packet [] e = refl
-ends_tail packet (x ∷ way) e = e
-
-none_behind : (way : List PlainPacket) → ends_so way ≡ true → count way ≤ 0 → way ≡ []
-none_behind [] e few = refl
-none_behind (x ∷ []) e few = absurd (never (is_restart x) e few)
-  where
-    one : 1 + 0 ≤ 0 → ⊥
-    one h = omega arith
-
-    never : (b : Bool) → b ≡ true → bit b + 0 ≤ 0 → ⊥
-    never true e few = one few
-    never false e few = both_ways false refl e
-none_behind (x ∷ y ∷ way) e few = absurd (none_left y way (none_behind (y ∷ way) e (less (bit (is_restart x)) (count (y ∷ way)) few)))
-  where
-    less : (a b : ℕ) → a + b ≤ 0 → b ≤ 0
-    less a b h = omega arith
-
-le_came : (n : ℕ) → 1 + n ≤ 0 + (1 + n)
-le_came n = omega arith
-
-le_other : (n : ℕ) → 0 + n ≤ 0 + (0 + n)
-le_other n = omega arith
-
-le_more : (b n : ℕ) → 0 + n ≤ b + n
-le_more b n = omega arith
-
-comes_number : (from : Role) (s : Phase) (packet : PlainPacket) (way : List PlainPacket) → MayTake s → number (comes from s packet) way ≤ number s (packet ∷ way)
-comes_number from Idles (user_data channel q m ps pr user) way may = le_other (count way)
-comes_number from Idles (rr channel pr) way may = le_other (count way)
-comes_number from Idles (rnr channel pr) way may = le_other (count way)
-comes_number from Idles (interrupt channel user) way may = le_other (count way)
-comes_number from Idles (interrupt_conf channel) way may = le_other (count way)
-comes_number from Idles (reset channel cause diagnostic) way may = le_other (count way)
-comes_number from Idles (reset_conf channel) way may = le_other (count way)
-comes_number from Idles (call channel called calling facilities user) way may = le_other (count way)
-comes_number from Idles (accept channel facilities) way may = le_other (count way)
-comes_number from Idles (clear channel cause diagnostic) way may = le_other (count way)
-comes_number from Idles (clear_conf channel) way may = le_other (count way)
-comes_number from Idles (restart cause diagnostic) way may = le_came (count way)
-comes_number from Idles restart_conf way may = le_other (count way)
-comes_number from (Calls terms) (user_data channel q m ps pr user) way may = le_other (count way)
-comes_number from (Calls terms) (rr channel pr) way may = le_other (count way)
-comes_number from (Calls terms) (rnr channel pr) way may = le_other (count way)
-comes_number from (Calls terms) (interrupt channel user) way may = le_other (count way)
-comes_number from (Calls terms) (interrupt_conf channel) way may = le_other (count way)
-comes_number from (Calls terms) (reset channel cause diagnostic) way may = le_other (count way)
-comes_number from (Calls terms) (reset_conf channel) way may = le_other (count way)
-comes_number from (Calls terms) (call channel called calling facilities user) way may = cond_both (pair.is_dce from) (WasCalled (said facilities usual)) (Calls terms) (λ (s : Phase). number s way ≤ 0 + (0 + count way)) (λ _. le_other (count way)) (λ _. le_other (count way))
-comes_number from (Calls terms) (accept channel facilities) way may = le_other (count way)
-comes_number from (Calls terms) (clear channel cause diagnostic) way may = le_other (count way)
-comes_number from (Calls terms) (clear_conf channel) way may = le_other (count way)
-comes_number from (Calls terms) (restart cause diagnostic) way may = le_came (count way)
-comes_number from (Calls terms) restart_conf way may = le_other (count way)
-comes_number from (WasCalled terms) (user_data channel q m ps pr user) way may = le_other (count way)
-comes_number from (WasCalled terms) (rr channel pr) way may = le_other (count way)
-comes_number from (WasCalled terms) (rnr channel pr) way may = le_other (count way)
-comes_number from (WasCalled terms) (interrupt channel user) way may = le_other (count way)
-comes_number from (WasCalled terms) (interrupt_conf channel) way may = le_other (count way)
-comes_number from (WasCalled terms) (reset channel cause diagnostic) way may = le_other (count way)
-comes_number from (WasCalled terms) (reset_conf channel) way may = le_other (count way)
-comes_number from (WasCalled terms) (call channel called calling facilities user) way may = le_other (count way)
-comes_number from (WasCalled terms) (accept channel facilities) way may = le_other (count way)
-comes_number from (WasCalled terms) (clear channel cause diagnostic) way may = le_other (count way)
-comes_number from (WasCalled terms) (clear_conf channel) way may = le_other (count way)
-comes_number from (WasCalled terms) (restart cause diagnostic) way may = le_came (count way)
-comes_number from (WasCalled terms) restart_conf way may = le_other (count way)
-comes_number from (Talks window most g c) (user_data channel q m ps pr user) way may = le_other (count way)
-comes_number from (Talks window most g c) (rr channel pr) way may = le_other (count way)
-comes_number from (Talks window most g c) (rnr channel pr) way may = le_other (count way)
-comes_number from (Talks window most g c) (interrupt channel user) way may = le_other (count way)
-comes_number from (Talks window most g c) (interrupt_conf channel) way may = le_other (count way)
-comes_number from (Talks window most g c) (reset channel cause diagnostic) way may = le_other (count way)
-comes_number from (Talks window most g c) (reset_conf channel) way may = le_other (count way)
-comes_number from (Talks window most g c) (call channel called calling facilities user) way may = le_other (count way)
-comes_number from (Talks window most g c) (accept channel facilities) way may = le_other (count way)
-comes_number from (Talks window most g c) (clear channel cause diagnostic) way may = le_other (count way)
-comes_number from (Talks window most g c) (clear_conf channel) way may = le_other (count way)
-comes_number from (Talks window most g c) (restart cause diagnostic) way may = le_came (count way)
-comes_number from (Talks window most g c) restart_conf way may = le_other (count way)
-comes_number from (Resets window most) (user_data channel q m ps pr user) way may = le_other (count way)
-comes_number from (Resets window most) (rr channel pr) way may = le_other (count way)
-comes_number from (Resets window most) (rnr channel pr) way may = le_other (count way)
-comes_number from (Resets window most) (interrupt channel user) way may = le_other (count way)
-comes_number from (Resets window most) (interrupt_conf channel) way may = le_other (count way)
-comes_number from (Resets window most) (reset channel cause diagnostic) way may = le_other (count way)
-comes_number from (Resets window most) (reset_conf channel) way may = le_other (count way)
-comes_number from (Resets window most) (call channel called calling facilities user) way may = le_other (count way)
-comes_number from (Resets window most) (accept channel facilities) way may = le_other (count way)
-comes_number from (Resets window most) (clear channel cause diagnostic) way may = le_other (count way)
-comes_number from (Resets window most) (clear_conf channel) way may = le_other (count way)
-comes_number from (Resets window most) (restart cause diagnostic) way may = le_came (count way)
-comes_number from (Resets window most) restart_conf way may = le_other (count way)
-comes_number from Clears (user_data channel q m ps pr user) way may = le_other (count way)
-comes_number from Clears (rr channel pr) way may = le_other (count way)
-comes_number from Clears (rnr channel pr) way may = le_other (count way)
-comes_number from Clears (interrupt channel user) way may = le_other (count way)
-comes_number from Clears (interrupt_conf channel) way may = le_other (count way)
-comes_number from Clears (reset channel cause diagnostic) way may = le_other (count way)
-comes_number from Clears (reset_conf channel) way may = le_other (count way)
-comes_number from Clears (call channel called calling facilities user) way may = le_other (count way)
-comes_number from Clears (accept channel facilities) way may = le_other (count way)
-comes_number from Clears (clear channel cause diagnostic) way may = le_other (count way)
-comes_number from Clears (clear_conf channel) way may = le_other (count way)
-comes_number from Clears (restart cause diagnostic) way may = le_came (count way)
-comes_number from Clears restart_conf way may = le_other (count way)
-comes_number from (WasReset window most) packet way may = absurd may
-comes_number from WasCleared packet way may = absurd may
-comes_number from WasRestarted packet way may = absurd may
-
 -- ---- what is known of restarts
 
 abbrev are_sure : Layer → Layer → Bool
@@ -673,22 +95,20 @@ are_counted P O = P.is_counted && O.is_counted
 abbrev are_lost : Layer → Layer → Bool
 are_lost P O = P.is_lost || O.is_lost
 
--- the end waits for no confirmation
-abbrev Calm : Layer → Type 0
-Calm P = (layer.is_asking P.restart ≡ false) × (layer.is_begun P.restart ≡ false)
-
-calm_so : (P : Layer) → P.restart ≡ Ready → Calm P
-calm_so P ready = (ap layer.is_asking ready, ap layer.is_begun ready)
+-- where a RESTART of the end was sent last, restarts are counted
+abbrev Calm : Layer → Layer → Type 0
+Calm P O = (layer.is_asking P.restart ≡ true → (are_sure P O ≡ true) × (are_counted P O ≡ true)) × (layer.is_begun P.restart ≡ false)
 
 -- RESTART of the other end waits, and it sent nothing since
-record Sealed (way : List PlainPacket) (P O : Layer) (o : Port) : Type 0 where
+record Sealed (s : Phase) (way : List PlainPacket) (P O : Layer) (o : Port) : Type 0 where
+  pub due : is_due s way ≡ true
   pub asking : layer.is_asking O.restart ≡ true
   pub counted : are_counted P O ≡ true
   pub still : Still o
   pub ends : ends_so way ≡ true
 
 record Fits (from : Role) (s : Phase) (way : List PlainPacket) (P O : Layer) (p o : Port) : Type 0 where
-  pub ready : Calm P
+  pub ready : Calm P O
   pub begun : layer.is_begun O.restart ≡ false
   pub found : are_sure P O ≡ true → are_lost P O ≡ false
   pub uncounted : are_sure P O ≡ false → are_counted P O ≡ false
@@ -697,13 +117,14 @@ record Fits (from : Role) (s : Phase) (way : List PlainPacket) (P O : Layer) (p 
   pub due : are_sure P O ≡ true → is_due s way ≡ true → nat_lt 0 P.owed ≡ true
   pub once : are_sure P O ≡ true → P.owed ≤ 1
   pub few : are_sure P O ≡ true → P.again ≡ 0 → number s way ≤ P.owed
-  pub sealed : are_sure P O ≡ true → nat_lt 0 P.owed ≡ true → Sealed way P O o
+  pub sealed : are_sure P O ≡ true → nat_lt 0 P.owed ≡ true → Sealed s way P O o
+  pub plain : are_sure P O ≡ true → has_conf way ≡ false
 
 not_both : {X : Type 0} (b : Bool) → b ≡ false → b ≡ true → X
 not_both b e is = absurd (both_ways b e is)
 
 -- restarts aren't known
-lost_fits : (from : Role) (s : Phase) (way : List PlainPacket) (P O : Layer) (p o : Port) → Calm P → layer.is_begun O.restart ≡ false → are_sure P O ≡ false → are_counted P O ≡ false → Fits from s way P O p o
+lost_fits : (from : Role) (s : Phase) (way : List PlainPacket) (P O : Layer) (p o : Port) → Calm P O → layer.is_begun O.restart ≡ false → are_sure P O ≡ false → are_counted P O ≡ false → Fits from s way P O p o
 lost_fits from s way P O p o ready begun unsure uncounted = record {
   ready = ready;
   begun = begun;
@@ -715,6 +136,7 @@ lost_fits from s way P O p o ready begun unsure uncounted = record {
   once = λ e. not_both (are_sure P O) unsure e;
   few = λ e _. not_both (are_sure P O) unsure e;
   sealed = λ e _. not_both (are_sure P O) unsure e;
+  plain = λ e. not_both (are_sure P O) unsure e;
 }
 
 or_turned : (a b : Bool) → (a || b) ≡ (b || a)
@@ -731,13 +153,10 @@ abbrev theirs : Layer → Layer → Layers
 theirs P O = record { own = O; other = P; rule = None }
 
 module _ (from : Role) (s : Phase) (way : List PlainPacket) (P O : Layer) (p o : Port) (h : Fits from s way P O p o) where
-  asks_not : layer.is_asking P.restart ≡ false
-  asks_not = h.ready.0
-
   -- the end sends, or the other one does
-  fits_on : (r : Phase) (p2 o2 : Port) → (is_due r way ≡ true → is_due s way ≡ true) → number r way ≤ number s way → (are_sure P O ≡ true → On from r way P O p2 o2) → (are_sure P O ≡ true → nat_lt 0 P.owed ≡ true → Still o2) → Fits from r way (at_ready P) O p2 o2
-  fits_on r p2 o2 due fewer on still = record {
-    ready = (refl, refl);
+  fits_on : (r : Phase) (p2 o2 : Port) → (is_due r way ≡ true → is_due s way ≡ true) → (is_due s way ≡ true → is_due r way ≡ true) → number r way ≤ number s way → (are_sure P O ≡ true → On from r way P O p2 o2) → (are_sure P O ≡ true → nat_lt 0 P.owed ≡ true → Still o2) → Fits from r way (at_ready P) O p2 o2
+  fits_on r p2 o2 due still_due fewer on still = record {
+    ready = (λ e. absurd (both_ways false refl e), refl);
     begun = h.begun;
     found = h.found;
     uncounted = h.uncounted;
@@ -746,7 +165,8 @@ module _ (from : Role) (s : Phase) (way : List PlainPacket) (P O : Layer) (p o :
     due = λ k e. h.due k (due e);
     once = h.once;
     few = λ k e. le_both (number r way) (number s way) P.owed fewer (h.few k e);
-    sealed = λ k e. record { asking = (h.sealed k e).asking; counted = (h.sealed k e).counted; still = still k e; ends = (h.sealed k e).ends };
+    sealed = λ k e. record { due = still_due (h.sealed k e).due; asking = (h.sealed k e).asking; counted = (h.sealed k e).counted; still = still k e; ends = (h.sealed k e).ends };
+    plain = h.plain;
   }
 
   not_sealed : {X : Type 0} → layers.runs_early (theirs P O) ≡ false → are_sure P O ≡ true → nat_lt 0 P.owed ≡ true → X
@@ -755,8 +175,8 @@ module _ (from : Role) (s : Phase) (way : List PlainPacket) (P O : Layer) (p o :
       waits : layers.is_awaiting (theirs P O) ≡ true
       waits = rw ((h.sealed sure due).asking, and_turned O.is_counted P.is_counted ∙ (h.sealed sure due).counted, due) refl
 
-  fits_theirs : (way2 : List PlainPacket) (p2 o2 : Port) → layers.runs_early (theirs P O) ≡ false → (is_due s way2 ≡ true → is_due s way ≡ true) → number s way2 ≤ number s way → (are_sure P O ≡ true → On from s way2 P O p2 o2) → Fits from s way2 P (at_ready O) p2 o2
-  fits_theirs way2 p2 o2 early due fewer on = record {
+  fits_theirs : (way2 : List PlainPacket) (p2 o2 : Port) → layers.runs_early (theirs P O) ≡ false → (has_conf way ≡ false → has_conf way2 ≡ false) → (is_due s way2 ≡ true → is_due s way ≡ true) → number s way2 ≤ number s way → (are_sure P O ≡ true → On from s way2 P O p2 o2) → Fits from s way2 P (at_ready O) p2 o2
+  fits_theirs way2 p2 o2 early plain due fewer on = record {
     ready = h.ready;
     begun = refl;
     found = h.found;
@@ -767,6 +187,7 @@ module _ (from : Role) (s : Phase) (way : List PlainPacket) (P O : Layer) (p o :
     once = h.once;
     few = λ k e. le_both (number s way2) (number s way) P.owed fewer (h.few k e);
     sealed = λ k e. not_sealed early k e;
+    plain = λ k. plain (h.plain k);
   }
 
   does_number : (r : Phase) (packet : PlainPacket) → MayDo s packet r → number r way ≤ number s way
@@ -791,21 +212,21 @@ module _ (from : Role) (s : Phase) (way : List PlainPacket) (P O : Layer) (p o :
   does_still r packet may k e = still_sent packet (pair_at from P O p o) (apart_so e) (h.sealed k e).still (does_owed (pair_at from P O p o) s r way packet may (h.on k)) (on_quiet from s r way P O p o packet may (h.on k))
 
   does_fits : (r : Phase) (packet : PlainPacket) → MayDo s packet r → IsFollowed (pair_at from P O p o) packet → Fits from r way (at_ready P) O (sends packet (pair_at from P O p o)).own (sends packet (pair_at from P O p o)).other
-  does_fits r packet may followed = fits_on r (sends packet (pair_at from P O p o)).own (sends packet (pair_at from P O p o)).other (does_due s r way packet may) (does_number r packet may) (λ k. (on_does from s r way P O p o packet may followed (h.on k)).on) (does_still r packet may)
+  does_fits r packet may followed = fits_on r (sends packet (pair_at from P O p o)).own (sends packet (pair_at from P O p o)).other (does_due s r way packet may) (does_still_due s r way packet may) (does_number r packet may) (λ k. (on_does from s r way P O p o packet may followed (h.on k)).on) (does_still r packet may)
 
   does_noted : (r : Phase) (packet : PlainPacket) → MayDo s packet r → IsFollowed (pair_at from P O p o) packet → Fits from r way (at_ready P) O (port.noted (sends packet (pair_at from P O p o)).own) (port.noted (sends packet (pair_at from P O p o)).other)
-  does_noted r packet may followed = fits_on r (port.noted (sends packet (pair_at from P O p o)).own) (port.noted (sends packet (pair_at from P O p o)).other) (does_due s r way packet may) (does_number r packet may)
+  does_noted r packet may followed = fits_on r (port.noted (sends packet (pair_at from P O p o)).own) (port.noted (sends packet (pair_at from P O p o)).other) (does_due s r way packet may) (does_still_due s r way packet may) (does_number r packet may)
       (λ k. on_noted from r way P O (sends packet (pair_at from P O p o)).own (sends packet (pair_at from P O p o)).other (on_does from s r way P O p o packet may followed (h.on k)).on)
       (λ k e. still_noted (sends packet (pair_at from P O p o)).other (does_still r packet may k e))
 
   does_lost : (r : Phase) (p2 o2 : Port) → are_sure P O ≡ false → Fits from r way (at_ready P) O p2 o2
-  does_lost r p2 o2 e = lost_fits from r way (at_ready P) O p2 o2 (refl, refl) h.begun e (h.uncounted e)
+  does_lost r p2 o2 e = lost_fits from r way (at_ready P) O p2 o2 (λ e. absurd (both_ways false refl e), refl) h.begun e (h.uncounted e)
 
   shown_fits : layers.runs_early (theirs P O) ≡ false → (packet : PlainPacket) → IsOfChannel packet → Fits from s (way ++ packet ∷ []) P (at_ready O) (sends packet (pair_at (other from) O P o p)).other (sends packet (pair_at (other from) O P o p)).own
-  shown_fits early packet is = fits_theirs (way ++ packet ∷ []) (sends packet (pair_at (other from) O P o p)).other (sends packet (pair_at (other from) O P o p)).own early (shown_due s way packet is) (shown_number packet is) (λ k. on_shown from s way P O p o packet is (h.on k))
+  shown_fits early packet is = fits_theirs (way ++ packet ∷ []) (sends packet (pair_at (other from) O P o p)).other (sends packet (pair_at (other from) O P o p)).own early (conf_more way packet (channel_conf packet is)) (shown_due s way packet is) (shown_number packet is) (λ k. on_shown from s way P O p o packet is (h.on k))
 
   shown_noted : layers.runs_early (theirs P O) ≡ false → (packet : PlainPacket) → IsOfChannel packet → Fits from s (way ++ packet ∷ []) P (at_ready O) (port.noted (sends packet (pair_at (other from) O P o p)).other) (port.noted (sends packet (pair_at (other from) O P o p)).own)
-  shown_noted early packet is = fits_theirs (way ++ packet ∷ []) (port.noted (sends packet (pair_at (other from) O P o p)).other) (port.noted (sends packet (pair_at (other from) O P o p)).own) early (shown_due s way packet is) (shown_number packet is)
+  shown_noted early packet is = fits_theirs (way ++ packet ∷ []) (port.noted (sends packet (pair_at (other from) O P o p)).other) (port.noted (sends packet (pair_at (other from) O P o p)).own) early (conf_more way packet (channel_conf packet is)) (shown_due s way packet is) (shown_number packet is)
       (λ k. on_noted from s (way ++ packet ∷ []) P O (sends packet (pair_at (other from) O P o p)).other (sends packet (pair_at (other from) O P o p)).own (on_shown from s way P O p o packet is (h.on k)))
 
   shown_lost : (way2 : List PlainPacket) (p2 o2 : Port) → are_sure P O ≡ false → Fits from s way2 P (at_ready O) p2 o2
@@ -820,16 +241,20 @@ module _ (from : Role) (s : Phase) (way : List PlainPacket) (P O : Layer) (p o :
   -- a packet of the other end where its RESTART waits
   early_fits : layers.runs_early (theirs P O) ≡ true → (way2 : List PlainPacket) (p2 o2 : Port) → Fits from s way2 (layers.runs (theirs P O)).other (layers.runs (theirs P O)).own p2 o2
   early_fits early way2 p2 o2 = cond_both (layers.is_awaiting (theirs P O)) _ _ (λ (T : Layers). Fits from s way2 T.other T.own p2 o2)
-      (λ _. lost_fits from s way2 _ _ p2 o2 (refl, refl) refl refl refl)
+      (λ _. lost_fits from s way2 _ _ p2 o2 (λ e. absurd (both_ways false refl e), refl) refl refl refl)
       (λ calm. cond_both (layers.is_hasty (theirs P O)) _ _ (λ (T : Layers). Fits from s way2 T.other T.own p2 o2)
-      (λ _. lost_fits from s way2 _ _ p2 o2 (refl, refl) refl refl refl)
+      (λ _. lost_fits from s way2 _ _ p2 o2 (λ e. absurd (both_ways false refl e), refl) refl refl refl)
       (λ slow. not_both (layers.runs_early (theirs P O)) (neither (layers.is_awaiting (theirs P O)) (layers.is_hasty (theirs P O)) calm slow) early))
     where
       neither : (a b : Bool) → a ≡ false → b ≡ false → (a || b) ≡ false
       neither a b x y = rw (x, y) refl
 
   sure_answer_not : layers.is_sure_answer (theirs P O) ≡ false
-  sure_answer_not = and_left (layer.is_asking P.restart && O.owed == 1) _ (and_left (layer.is_asking P.restart) _ asks_not)
+  sure_answer_not = and_left (layer.is_asking P.restart && O.owed == 1) _ (go (layer.is_asking P.restart) refl)
+    where
+      go : (b : Bool) → layer.is_asking P.restart ≡ b → (layer.is_asking P.restart && O.owed == 1) ≡ false
+      go false e = and_left (layer.is_asking P.restart) _ e
+      go true e = and_right (layer.is_asking P.restart) _ (ap (λ n. n == 1) (h.owed (h.ready.0 e).0))
 
   -- RESTART
   abbrev Restarted : ℕ → ℕ → Layers → Type 0
@@ -847,16 +272,17 @@ module _ (from : Role) (s : Phase) (way : List PlainPacket) (P O : Layer) (p o :
         due = λ _ _. (and_parts (layer.is_asking O.restart) (nat_lt 0 P.owed) awaits).1;
         once = h.once;
         few = λ k e. absurd (again_some P.again e);
-        sealed = λ k e. record { asking = (h.sealed k e).asking; counted = (h.sealed k e).counted; still = still_fresh; ends = ends_more way cause diagnostic };
+        sealed = λ k e. record { due = or_later (was_restarted s) _ (restart_due way cause diagnostic); asking = (h.sealed k e).asking; counted = (h.sealed k e).counted; still = still_fresh; ends = ends_more way cause diagnostic };
+        plain = λ k. conf_more way (restart cause diagnostic) refl (h.plain k);
       })
       (λ repeat. cond_both (not (layers.are_counted (theirs P O))) _ _ (Restarted cause diagnostic)
       (λ _. cond_both (layers.meets (theirs P O)) _ _ (Restarted cause diagnostic)
       (λ e. not_both (layers.meets (theirs P O)) (and_left (layers.is_sure_answer (theirs P O)) _ sure_answer_not) e)
       (λ _. cond_both (layers.are_lost (theirs P O)) _ _ (Restarted cause diagnostic)
-      (λ _. lost_fits from s (way ++ restart cause diagnostic ∷ []) _ _ p port.fresh (refl, refl) refl refl refl)
-      (λ _. lost_fits from s (way ++ restart cause diagnostic ∷ []) _ _ p port.fresh (refl, refl) refl refl refl)))
+      (λ _. lost_fits from s (way ++ restart cause diagnostic ∷ []) _ _ p port.fresh (λ e. absurd (both_ways false refl e), refl) refl refl refl)
+      (λ _. lost_fits from s (way ++ restart cause diagnostic ∷ []) _ _ p port.fresh (λ e. absurd (both_ways false refl e), refl) refl refl refl)))
       (λ counted. cond_both (layers.is_unclear (theirs P O)) _ _ (Restarted cause diagnostic)
-      (λ _. lost_fits from s (way ++ restart cause diagnostic ∷ []) _ _ p port.fresh (refl, refl) refl refl refl)
+      (λ _. lost_fits from s (way ++ restart cause diagnostic ∷ []) _ _ p port.fresh (λ e. absurd (both_ways false refl e), refl) refl refl refl)
       (λ _. record {
         ready = h.ready;
         begun = refl;
@@ -868,7 +294,8 @@ module _ (from : Role) (s : Phase) (way : List PlainPacket) (P O : Layer) (p o :
         once = λ k. subst (λ n. n ≤ 1) (sym (owed_one k repeat)) (omega arith);
         few = λ k e. subst (λ n. number s (way ++ restart cause diagnostic ∷ []) ≤ n) (sym (owed_one k repeat))
             (subst (λ n. bit (was_restarted s) + n ≤ 1) (sym (count_more way (restart cause diagnostic))) (one_more (bit (was_restarted s)) (count way) P.owed (none_yet_owed k repeat) (h.few k e)));
-        sealed = λ k e. record { asking = refl; counted = counted_so counted; still = still_fresh; ends = ends_more way cause diagnostic };
+        sealed = λ k e. record { due = or_later (was_restarted s) _ (restart_due way cause diagnostic); asking = refl; counted = counted_so counted; still = still_fresh; ends = ends_more way cause diagnostic };
+        plain = λ k. conf_more way (restart cause diagnostic) refl (h.plain k);
       })))
     where
       again_some : (n : ℕ) → min (n + 1) 255 ≡ 0 → ⊥
@@ -933,29 +360,37 @@ module _ (from : Role) (s : Phase) (way : List PlainPacket) (P O : Layer) (p o :
       go false e = e
 
   confirms_lost_fits : layers.are_lost (theirs P O) ≡ true → Fits from s way (layers.confirms_lost (theirs P O)).other (layers.confirms_lost (theirs P O)).own p o
-  confirms_lost_fits lost = lost_fits from s way _ _ p o (refl, refl) refl (lost_unsure lost) (h.uncounted (lost_unsure lost))
+  confirms_lost_fits lost = lost_fits from s way _ _ p o (λ e. absurd (both_ways false refl e), refl) refl (lost_unsure lost) (h.uncounted (lost_unsure lost))
 
   again_fits : layers.are_lost (theirs P O) ≡ false → layers.are_counted (theirs P O) ≡ true → Fits from s way (layers.confirms_again (theirs P O)).other (layers.confirms_again (theirs P O)).own p o
   again_fits found counted = cond_both (layer.is_confirmed O.restart) _ _ (λ (T : Layers). Fits from s way (layers.strays T).other (layers.strays T).own p o)
-      (λ _. record { ready = h.ready; begun = h.begun; found = h.found; uncounted = h.uncounted; owed = h.owed; on = h.on; due = h.due; once = h.once; few = h.few; sealed = λ k e. record { asking = (h.sealed k e).asking; counted = (h.sealed k e).counted; still = (h.sealed k e).still; ends = (h.sealed k e).ends } })
-      (λ _. lost_fits from s way _ _ p o (refl, refl) refl refl refl)
+      (λ _. record { ready = h.ready; begun = h.begun; found = h.found; uncounted = h.uncounted; owed = h.owed; on = h.on; due = h.due; once = h.once; few = h.few; sealed = λ k e. record { due = (h.sealed k e).due; asking = (h.sealed k e).asking; counted = (h.sealed k e).counted; still = (h.sealed k e).still; ends = (h.sealed k e).ends }; plain = h.plain })
+      (λ _. lost_fits from s way _ _ p o (λ e. absurd (both_ways false refl e), refl) refl refl refl)
 
   unseen_counted : layers.are_lost (theirs P O) ≡ false → layers.are_counted (theirs P O) ≡ true → Fits from s way (layers.confirms_unseen (theirs P O)).other (layers.confirms_unseen (theirs P O)).own p port.blank
-  unseen_counted found counted = subst (λ (T : Layers). Fits from s way T.other T.own p port.blank) (sym (cond-true (layers.are_counted (theirs P O)) _ _ counted)) (lost_fits from s way _ _ p port.blank (refl, refl) refl refl refl)
+  unseen_counted found counted = subst (λ (T : Layers). Fits from s way T.other T.own p port.blank) (sym (cond-true (layers.are_counted (theirs P O)) _ _ counted)) (lost_fits from s way _ _ p port.blank (λ e. absurd (both_ways false refl e), refl) refl refl refl)
 
   unseen_uncounted : layers.are_counted (theirs P O) ≡ false → Fits from s way (layers.confirms_unseen (theirs P O)).other (layers.confirms_unseen (theirs P O)).own p o
   unseen_uncounted uncounted = subst (λ (T : Layers). Fits from s way T.other T.own p o) (sym (cond-false (layers.are_counted (theirs P O)) _ _ uncounted))
       (cond_both (layer.is_asking O.restart) _ _ (λ (T : Layers). Fits from s way T.other T.own p o)
-      (λ _. lost_fits from s way _ _ p o (refl, refl) refl refl refl)
-      (λ _. record { ready = h.ready; begun = h.begun; found = h.found; uncounted = h.uncounted; owed = h.owed; on = h.on; due = h.due; once = h.once; few = h.few; sealed = λ k e. record { asking = (h.sealed k e).asking; counted = (h.sealed k e).counted; still = (h.sealed k e).still; ends = (h.sealed k e).ends } }))
+      (λ _. lost_fits from s way _ _ p o (λ e. absurd (both_ways false refl e), refl) refl refl refl)
+      (λ _. record { ready = h.ready; begun = h.begun; found = h.found; uncounted = h.uncounted; owed = h.owed; on = h.on; due = h.due; once = h.once; few = h.few; sealed = λ k e. record { due = (h.sealed k e).due; asking = (h.sealed k e).asking; counted = (h.sealed k e).counted; still = (h.sealed k e).still; ends = (h.sealed k e).ends }; plain = h.plain }))
 
 -- ---- the book
 
 abbrev At : Role → ℕ → Phase → List PlainPacket → Book → Type 0
 At from channel s way b = Left from channel (Fits from s way) b
 
-early_not : (t : Layers) → Calm t.own → layers.runs_early t ≡ false
-early_not t ready = rw (ready.0) refl
+early_not : (t : Layers) → Calm t.own t.other → (are_sure t.own t.other ≡ true → t.other.owed ≡ 0) → layers.runs_early t ≡ false
+early_not t ready owed = go (layer.is_asking t.own.restart) refl
+  where
+    go : (b : Bool) → layer.is_asking t.own.restart ≡ b → layers.runs_early t ≡ false
+    go false e = rw e refl
+    go true e = rw ((ready.0 e).1, owed (ready.0 e).0) (last (layer.is_asking t.own.restart))
+      where
+        last : (b : Bool) → ((b && (true && false)) || (b && not (true || layers.are_lost t))) ≡ false
+        last true = refl
+        last false = refl
 
 runs_calm : (from : Role) (channel : ℕ) (packet : PlainPacket) (b : Book) → IsOfChannel packet → layer.is_begun (layers_of from b).own.restart ≡ false → layers.runs_early (layers_of from b) ≡ false → book.takes from channel packet b ≡ book.takes_on from (layers.goes_to Ready (layers_of from b)) channel packet b
 unfolding book.runs
@@ -988,6 +423,7 @@ may_of (Resets window most) r (restart cause diagnostic) may = absurd may
 may_of (WasReset window most) r (restart cause diagnostic) may = absurd may
 may_of Clears r (restart cause diagnostic) may = absurd may
 may_of WasCleared r (restart cause diagnostic) may = absurd may
+may_of HasRestarted r (restart cause diagnostic) may = absurd may
 may_of WasRestarted r (restart cause diagnostic) may = absurd may
 may_of (Talks window most g c) r restart_conf (n, may, is) = absurd may
 may_of Idles r restart_conf may = absurd may
@@ -997,6 +433,7 @@ may_of (Resets window most) r restart_conf may = absurd may
 may_of (WasReset window most) r restart_conf may = absurd may
 may_of Clears r restart_conf may = absurd may
 may_of WasCleared r restart_conf may = absurd may
+may_of HasRestarted r restart_conf may = absurd may
 may_of WasRestarted r restart_conf may = absurd may
 
 untold : (from : Role) (channel : ℕ) (b : Book) (packet : PlainPacket) → IsOfChannel packet → layer.is_begun (layers_of from b).own.restart ≡ false → layers.runs_early (layers_of from b) ≡ false
@@ -1052,13 +489,13 @@ module _ (channel : ℕ) (b : Book) (s : Phase) (way : List PlainPacket) where
 
   does_at : (from : Role) (r : Phase) (packet : PlainPacket) → MayDo s packet r → IsFollowed (view from channel b) packet → At from channel s way b → At from channel r way (book.takes from channel packet b).book
   does_at Dte r packet may followed x =
-      subst (λ (z : book.Seen). At Dte channel r way z.book) (sym (runs_calm Dte channel packet b (may_of s r packet may) (x.parts.ready.1) (early_not (layers_of Dte b) x.parts.ready)))
+      subst (λ (z : book.Seen). At Dte channel r way z.book) (sym (runs_calm Dte channel packet b (may_of s r packet may) (x.parts.ready.1) (early_not (layers_of Dte b) x.parts.ready x.parts.owed)))
       (takes_on_parts Dte channel (layers.goes_to Ready (layers_of Dte b)) packet b (Fits Dte r way) x.book refl
       (λ e. does_lost Dte s way b.dte b.dce (port_at Dte channel b) (port_at Dce channel b) x.parts r (port.noted (port_at Dte channel b)) (port.noted (port_at Dce channel b)) e)
       (λ _. does_fits Dte s way b.dte b.dce (port_at Dte channel b) (port_at Dce channel b) x.parts r packet may followed)
       (λ _. does_noted Dte s way b.dte b.dce (port_at Dte channel b) (port_at Dce channel b) x.parts r packet may followed))
   does_at Dce r packet may followed x =
-      subst (λ (z : book.Seen). At Dce channel r way z.book) (sym (runs_calm Dce channel packet b (may_of s r packet may) (x.parts.ready.1) (early_not (layers_of Dce b) x.parts.ready)))
+      subst (λ (z : book.Seen). At Dce channel r way z.book) (sym (runs_calm Dce channel packet b (may_of s r packet may) (x.parts.ready.1) (early_not (layers_of Dce b) x.parts.ready x.parts.owed)))
       (takes_on_parts Dce channel (layers.goes_to Ready (layers_of Dce b)) packet b (Fits Dce r way) x.book refl
       (λ e. does_lost Dce s way b.dce b.dte (port_at Dce channel b) (port_at Dte channel b) x.parts r (port.noted (port_at Dce channel b)) (port.noted (port_at Dte channel b)) e)
       (λ _. does_fits Dce s way b.dce b.dte (port_at Dce channel b) (port_at Dte channel b) x.parts r packet may followed)
@@ -1066,11 +503,11 @@ module _ (channel : ℕ) (b : Book) (s : Phase) (way : List PlainPacket) where
 
   does_apart : (from : Role) (two : ℕ) (packet : PlainPacket) → IsOfChannel packet → AreApart channel two → At from channel s way b → At from channel s way (book.takes from two packet b).book
   does_apart Dte two packet is far x =
-      subst (λ (z : book.Seen). At Dte channel s way z.book) (sym (runs_calm Dte two packet b is (x.parts.ready.1) (early_not (layers_of Dte b) x.parts.ready)))
-      (takes_on_apart Dte channel two (layers.goes_to Ready (layers_of Dte b)) packet b (Fits Dte s way) far x.book (fits_on Dte s way b.dte b.dce (port_at Dte channel b) (port_at Dce channel b) x.parts s (port_at Dte channel b) (port_at Dce channel b) (λ e. e) (le_self_number s way) x.parts.on (λ k e. (x.parts.sealed k e).still)))
+      subst (λ (z : book.Seen). At Dte channel s way z.book) (sym (runs_calm Dte two packet b is (x.parts.ready.1) (early_not (layers_of Dte b) x.parts.ready x.parts.owed)))
+      (takes_on_apart Dte channel two (layers.goes_to Ready (layers_of Dte b)) packet b (Fits Dte s way) far x.book (fits_on Dte s way b.dte b.dce (port_at Dte channel b) (port_at Dce channel b) x.parts s (port_at Dte channel b) (port_at Dce channel b) (λ e. e) (λ e. e) (le_self_number s way) x.parts.on (λ k e. (x.parts.sealed k e).still)))
   does_apart Dce two packet is far x =
-      subst (λ (z : book.Seen). At Dce channel s way z.book) (sym (runs_calm Dce two packet b is (x.parts.ready.1) (early_not (layers_of Dce b) x.parts.ready)))
-      (takes_on_apart Dce channel two (layers.goes_to Ready (layers_of Dce b)) packet b (Fits Dce s way) far x.book (fits_on Dce s way b.dce b.dte (port_at Dce channel b) (port_at Dte channel b) x.parts s (port_at Dce channel b) (port_at Dte channel b) (λ e. e) (le_self_number s way) x.parts.on (λ k e. (x.parts.sealed k e).still)))
+      subst (λ (z : book.Seen). At Dce channel s way z.book) (sym (runs_calm Dce two packet b is (x.parts.ready.1) (early_not (layers_of Dce b) x.parts.ready x.parts.owed)))
+      (takes_on_apart Dce channel two (layers.goes_to Ready (layers_of Dce b)) packet b (Fits Dce s way) far x.book (fits_on Dce s way b.dce b.dte (port_at Dce channel b) (port_at Dte channel b) x.parts s (port_at Dce channel b) (port_at Dte channel b) (λ e. e) (λ e. e) (le_self_number s way) x.parts.on (λ k e. (x.parts.sealed k e).still)))
 
   shown_at : (from : Role) (packet : PlainPacket) → IsOfChannel packet → At from channel s way b → At from channel s (way ++ packet ∷ []) (book.takes (other from) channel packet b).book
   shown_at Dte packet is x = cond_both (layers.runs_early (layers_of Dce b)) true false (λ (early : Bool). layers.runs_early (layers_of Dce b) ≡ early → At Dte channel s (way ++ packet ∷ []) (book.takes Dce channel packet b).book)
@@ -1097,13 +534,13 @@ module _ (channel : ℕ) (b : Book) (s : Phase) (way : List PlainPacket) where
       (λ _ early. as_dte way _ (subst (λ (z : book.Seen). Left Dce channel (Theirs Dte way) z.book) (sym (runs_haste Dce two packet b is early))
       (takes_on_any Dce channel two (layers.runs (layers_of Dce b)) packet (fills Dce port.blank b) (Theirs Dte way) (fills_book Dce port.blank b x.book) (λ o2 p2. early_fits Dte s way b.dte b.dce (port_at Dte channel b) (port_at Dce channel b) x.parts early way p2 o2))))
       (λ _ early. as_dte way _ (subst (λ (z : book.Seen). Left Dce channel (Theirs Dte way) z.book) (sym (runs_calm Dce two packet b is x.parts.begun early))
-      (takes_on_apart Dce channel two (layers.goes_to Ready (layers_of Dce b)) packet b (Theirs Dte way) far x.book (fits_theirs Dte s way b.dte b.dce (port_at Dte channel b) (port_at Dce channel b) x.parts way (port_at Dte channel b) (port_at Dce channel b) early (λ e. e) (le_self_number s way) x.parts.on))))
+      (takes_on_apart Dce channel two (layers.goes_to Ready (layers_of Dce b)) packet b (Theirs Dte way) far x.book (fits_theirs Dte s way b.dte b.dce (port_at Dte channel b) (port_at Dce channel b) x.parts way (port_at Dte channel b) (port_at Dce channel b) early (λ e. e) (λ e. e) (le_self_number s way) x.parts.on))))
       (bool_self (layers.runs_early (layers_of Dce b)))
   shown_apart Dce two packet is far x = cond_both (layers.runs_early (layers_of Dte b)) true false (λ (early : Bool). layers.runs_early (layers_of Dte b) ≡ early → At Dce channel s way (book.takes Dte two packet b).book)
       (λ _ early. as_dce way _ (subst (λ (z : book.Seen). Left Dte channel (Theirs Dce way) z.book) (sym (runs_haste Dte two packet b is early))
       (takes_on_any Dte channel two (layers.runs (layers_of Dte b)) packet (fills Dte port.blank b) (Theirs Dce way) (fills_book Dte port.blank b x.book) (λ o2 p2. early_fits Dce s way b.dce b.dte (port_at Dce channel b) (port_at Dte channel b) x.parts early way p2 o2))))
       (λ _ early. as_dce way _ (subst (λ (z : book.Seen). Left Dte channel (Theirs Dce way) z.book) (sym (runs_calm Dte two packet b is x.parts.begun early))
-      (takes_on_apart Dte channel two (layers.goes_to Ready (layers_of Dte b)) packet b (Theirs Dce way) far x.book (fits_theirs Dce s way b.dce b.dte (port_at Dce channel b) (port_at Dte channel b) x.parts way (port_at Dce channel b) (port_at Dte channel b) early (λ e. e) (le_self_number s way) x.parts.on))))
+      (takes_on_apart Dte channel two (layers.goes_to Ready (layers_of Dte b)) packet b (Theirs Dce way) far x.book (fits_theirs Dce s way b.dce b.dte (port_at Dce channel b) (port_at Dte channel b) x.parts way (port_at Dce channel b) (port_at Dte channel b) early (λ e. e) (λ e. e) (le_self_number s way) x.parts.on))))
       (bool_self (layers.runs_early (layers_of Dte b)))
 
   restarts_at : (from : Role) (cause diagnostic : ℕ) → At from channel s way b → At from channel s (way ++ restart cause diagnostic ∷ []) (book.takes (other from) 0 (restart cause diagnostic) b).book
@@ -1125,12 +562,12 @@ module _ (channel : ℕ) (b : Book) (s : Phase) (way : List PlainPacket) where
       (λ found uncounted. unseen_uncounted Dce s way b.dce b.dte (port_at Dce channel b) (port_at Dte channel b) x.parts uncounted))
 
   quiet_at : (from : Role) (r : Phase) (packet : PlainPacket) → MayDo s packet r → At from channel s way b → (book.takes from channel packet b).verdict.rule ≡ None
-  quiet_at Dte r packet may x = untold Dte channel b packet (may_of s r packet may) (x.parts.ready.1) (early_not (layers_of Dte b) x.parts.ready) (λ e. on_quiet Dte s r way b.dte b.dce (port_at Dte channel b) (port_at Dce channel b) packet may (x.parts.on e))
-  quiet_at Dce r packet may x = untold Dce channel b packet (may_of s r packet may) (x.parts.ready.1) (early_not (layers_of Dce b) x.parts.ready) (λ e. on_quiet Dce s r way b.dce b.dte (port_at Dce channel b) (port_at Dte channel b) packet may (x.parts.on e))
+  quiet_at Dte r packet may x = untold Dte channel b packet (may_of s r packet may) (x.parts.ready.1) (early_not (layers_of Dte b) x.parts.ready x.parts.owed) (λ e. on_quiet Dte s r way b.dte b.dce (port_at Dte channel b) (port_at Dce channel b) packet may (x.parts.on e))
+  quiet_at Dce r packet may x = untold Dce channel b packet (may_of s r packet may) (x.parts.ready.1) (early_not (layers_of Dce b) x.parts.ready x.parts.owed) (λ e. on_quiet Dce s r way b.dce b.dte (port_at Dce channel b) (port_at Dte channel b) packet may (x.parts.on e))
 
   end_at : (from : Role) (packet : PlainPacket) → MayEnd s packet → At from channel s way b → (book.takes from channel packet b).verdict.rule ≡ None
-  end_at Dte packet may x = untold Dte channel b packet (may_end s packet may) (x.parts.ready.1) (early_not (layers_of Dte b) x.parts.ready) (λ e. on_ends Dte s way b.dte b.dce (port_at Dte channel b) (port_at Dce channel b) packet may (x.parts.on e))
-  end_at Dce packet may x = untold Dce channel b packet (may_end s packet may) (x.parts.ready.1) (early_not (layers_of Dce b) x.parts.ready) (λ e. on_ends Dce s way b.dce b.dte (port_at Dce channel b) (port_at Dte channel b) packet may (x.parts.on e))
+  end_at Dte packet may x = untold Dte channel b packet (may_end s packet may) (x.parts.ready.1) (early_not (layers_of Dte b) x.parts.ready x.parts.owed) (λ e. on_ends Dte s way b.dte b.dce (port_at Dte channel b) (port_at Dce channel b) packet may (x.parts.on e))
+  end_at Dce packet may x = untold Dce channel b packet (may_end s packet may) (x.parts.ready.1) (early_not (layers_of Dce b) x.parts.ready x.parts.owed) (λ e. on_ends Dce s way b.dce b.dte (port_at Dce channel b) (port_at Dte channel b) packet may (x.parts.on e))
 
 -- ---- any run
 
@@ -1146,30 +583,48 @@ le_none n = omega arith
 none_owed : {X : Type 0} (n : ℕ) → n ≡ 0 → nat_lt 0 n ≡ true → X
 none_owed n e due = absurd (both_ways (nat_lt 0 n) (ap (λ n. nat_lt 0 n) e) due)
 
+ready_of : (t : Layers) → AreRunning t → Calm t.own t.other
+ready_of t run = (λ asking. (run.sure, counted asking), run.begun)
+  where
+    counted : layer.is_asking t.own.restart ≡ true → layers.are_counted t ≡ true
+    counted asking = true_from_ne_false (layers.are_counted t) (λ un. both_ways (layers.runs_early t) run.calm (or_right (layers.is_awaiting t) (layers.is_hasty t) (rw (asking, un, run.found) refl)))
+
 begins_at : (from : Role) (channel window most : ℕ) (b : Book) → IsBook b → AreRunning (layers_of from b) → AreBegun window most (view from channel b) → At from channel (fresh_phase window most) [] b
 begins_at Dte channel window most b full run begun = record {
   book = full;
-  parts = record { ready = (ap layer.is_asking run.ready, ap layer.is_begun run.ready); begun = run.begun; found = λ _. run.found; uncounted = λ e. not_both (are_sure b.dte b.dce) e run.sure; owed = λ _. eqb-true b.dce.owed 0 (and_parts (b.dte.owed == 0) (b.dce.owed == 0) begun.reaches).1; on = λ _. (sound_begins Dte window most (view Dte channel b) begun).stands; due = λ _ e. absurd (both_ways false refl e); once = λ _. le_one b.dte.owed (level_owed b.dte.owed b.dce.owed begun.reaches); few = λ _ _. le_none b.dte.owed; sealed = λ _ e. none_owed b.dte.owed (level_owed b.dte.owed b.dce.owed begun.reaches) e };
+  parts = record { ready = ready_of (layers_of Dte b) run; begun = run.others_begun; found = λ _. run.found; uncounted = λ e. not_both (are_sure b.dte b.dce) e run.sure; owed = λ _. eqb-true b.dce.owed 0 (and_parts (b.dte.owed == 0) (b.dce.owed == 0) begun.reaches).1; on = λ _. (sound_begins Dte window most (view Dte channel b) begun).stands; due = λ _ e. absurd (both_ways false refl e); once = λ _. le_one b.dte.owed (level_owed b.dte.owed b.dce.owed begun.reaches); few = λ _ _. le_none b.dte.owed; sealed = λ _ e. none_owed b.dte.owed (level_owed b.dte.owed b.dce.owed begun.reaches) e; plain = λ _. refl };
 }
 begins_at Dce channel window most b full run begun = record {
   book = full;
-  parts = record { ready = (ap layer.is_asking run.ready, ap layer.is_begun run.ready); begun = run.begun; found = λ _. run.found; uncounted = λ e. not_both (are_sure b.dce b.dte) e run.sure; owed = λ _. eqb-true b.dte.owed 0 (and_parts (b.dce.owed == 0) (b.dte.owed == 0) begun.reaches).1; on = λ _. (sound_begins Dce window most (view Dce channel b) begun).stands; due = λ _ e. absurd (both_ways false refl e); once = λ _. le_one b.dce.owed (level_owed b.dce.owed b.dte.owed begun.reaches); few = λ _ _. le_none b.dce.owed; sealed = λ _ e. none_owed b.dce.owed (level_owed b.dce.owed b.dte.owed begun.reaches) e };
+  parts = record { ready = ready_of (layers_of Dce b) run; begun = run.others_begun; found = λ _. run.found; uncounted = λ e. not_both (are_sure b.dce b.dte) e run.sure; owed = λ _. eqb-true b.dte.owed 0 (and_parts (b.dce.owed == 0) (b.dte.owed == 0) begun.reaches).1; on = λ _. (sound_begins Dce window most (view Dce channel b) begun).stands; due = λ _ e. absurd (both_ways false refl e); once = λ _. le_one b.dce.owed (level_owed b.dce.owed b.dte.owed begun.reaches); few = λ _ _. le_none b.dce.owed; sealed = λ _ e. none_owed b.dce.owed (level_owed b.dce.owed b.dte.owed begun.reaches) e; plain = λ _. refl };
 }
 
 starts_at : (from : Role) (channel : ℕ) (b : Book) → IsBook b → AreRunning (layers_of from b) → AreIdle (view from channel b) → At from channel Idles [] b
 starts_at Dte channel b full run idle = record {
   book = full;
-  parts = record { ready = (ap layer.is_asking run.ready, ap layer.is_begun run.ready); begun = run.begun; found = λ _. run.found; uncounted = λ e. not_both (are_sure b.dte b.dce) e run.sure; owed = λ _. eqb-true b.dce.owed 0 (and_parts (b.dte.owed == 0) (b.dce.owed == 0) idle.reaches).1; on = λ _. (starts_idle Dte (view Dte channel b) idle).stands; due = λ _ e. absurd (both_ways false refl e); once = λ _. le_one b.dte.owed (level_owed b.dte.owed b.dce.owed idle.reaches); few = λ _ _. le_none b.dte.owed; sealed = λ _ e. none_owed b.dte.owed (level_owed b.dte.owed b.dce.owed idle.reaches) e };
+  parts = record { ready = ready_of (layers_of Dte b) run; begun = run.others_begun; found = λ _. run.found; uncounted = λ e. not_both (are_sure b.dte b.dce) e run.sure; owed = λ _. eqb-true b.dce.owed 0 (and_parts (b.dte.owed == 0) (b.dce.owed == 0) idle.reaches).1; on = λ _. (starts_idle Dte (view Dte channel b) idle).stands; due = λ _ e. absurd (both_ways false refl e); once = λ _. le_one b.dte.owed (level_owed b.dte.owed b.dce.owed idle.reaches); few = λ _ _. le_none b.dte.owed; sealed = λ _ e. none_owed b.dte.owed (level_owed b.dte.owed b.dce.owed idle.reaches) e; plain = λ _. refl };
 }
 starts_at Dce channel b full run idle = record {
   book = full;
-  parts = record { ready = (ap layer.is_asking run.ready, ap layer.is_begun run.ready); begun = run.begun; found = λ _. run.found; uncounted = λ e. not_both (are_sure b.dce b.dte) e run.sure; owed = λ _. eqb-true b.dte.owed 0 (and_parts (b.dce.owed == 0) (b.dte.owed == 0) idle.reaches).1; on = λ _. (starts_idle Dce (view Dce channel b) idle).stands; due = λ _ e. absurd (both_ways false refl e); once = λ _. le_one b.dce.owed (level_owed b.dce.owed b.dte.owed idle.reaches); few = λ _ _. le_none b.dce.owed; sealed = λ _ e. none_owed b.dce.owed (level_owed b.dce.owed b.dte.owed idle.reaches) e };
+  parts = record { ready = ready_of (layers_of Dce b) run; begun = run.others_begun; found = λ _. run.found; uncounted = λ e. not_both (are_sure b.dce b.dte) e run.sure; owed = λ _. eqb-true b.dte.owed 0 (and_parts (b.dce.owed == 0) (b.dte.owed == 0) idle.reaches).1; on = λ _. (starts_idle Dce (view Dce channel b) idle).stands; due = λ _ e. absurd (both_ways false refl e); once = λ _. le_one b.dce.owed (level_owed b.dce.owed b.dte.owed idle.reaches); few = λ _ _. le_none b.dce.owed; sealed = λ _ e. none_owed b.dce.owed (level_owed b.dce.owed b.dte.owed idle.reaches) e; plain = λ _. refl };
 }
+
+leaves : (from : Role) (s : Phase) (way : List PlainPacket) (P O : Layer) (p o : Port) → On from s way P O p o → MayLeave s
+leaves from Idles way P O p o h = tt
+leaves from (Calls terms) way P O p o h = tt
+leaves from (WasCalled terms) way P O p o h = tt
+leaves from (Talks window most g c) way P O p o h = tt
+leaves from (Resets window most) way P O p o h = tt
+leaves from (WasReset window most) way P O p o h = tt
+leaves from Clears way P O p o h = tt
+leaves from WasCleared way P O p o h = tt
+leaves from HasRestarted way P O p o h = absurd h
+leaves from WasRestarted way P O p o h = tt
 
 comes_at : (from : Role) (channel : ℕ) (b : Book) (s : Phase) (packet : PlainPacket) (way : List PlainPacket) → MayTake s → At from channel s (packet ∷ way) b → At from channel (comes from s packet) way b
 comes_at from channel b s packet way may x = record {
   book = x.book;
-  parts = record { ready = x.parts.ready; begun = x.parts.begun; found = x.parts.found; uncounted = x.parts.uncounted; owed = x.parts.owed; on = λ e. go (x.parts.on e); due = λ k e. x.parts.due k (comes_due from s packet way may e); once = x.parts.once; few = λ k e. le_both (number (comes from s packet) way) (number s (packet ∷ way)) (layer_at from b).owed (comes_number from s packet way may) (x.parts.few k e); sealed = λ k e. record { asking = (x.parts.sealed k e).asking; counted = (x.parts.sealed k e).counted; still = (x.parts.sealed k e).still; ends = ends_tail packet way (x.parts.sealed k e).ends } };
+  parts = record { ready = x.parts.ready; begun = x.parts.begun; found = x.parts.found; uncounted = x.parts.uncounted; owed = x.parts.owed; on = λ e. go (x.parts.on e); due = λ k e. x.parts.due k (comes_due from s packet way may e); once = x.parts.once; few = λ k e. le_both (number (comes from s packet) way) (number s (packet ∷ way)) (layer_at from b).owed (comes_number from s packet way may) (x.parts.few k e); sealed = λ k e. record { due = comes_still_due from s packet way may (leaves from s (packet ∷ way) (layer_at from b) (layer_at (other from) b) (port_at from channel b) (port_at (other from) channel b) (x.parts.on k)) (x.parts.sealed k e).due; asking = (x.parts.sealed k e).asking; counted = (x.parts.sealed k e).counted; still = (x.parts.sealed k e).still; ends = ends_tail packet way (x.parts.sealed k e).ends }; plain = λ k. (or_parts (is_conf packet) (has_conf way) (x.parts.plain k)).1 };
 }
   where
     go : On from s (packet ∷ way) (layer_at from b) (layer_at (other from) b) (port_at from channel b) (port_at (other from) channel b) → On from (comes from s packet) way (layer_at from b) (layer_at (other from) b) (port_at from channel b) (port_at (other from) channel b)
@@ -1200,7 +655,7 @@ module _ (from : Role) (way : List PlainPacket) (P O : Layer) (p o : Port) (h : 
 
   answers_fits : Fits from Idles way (layer.restarted Confirmed P) (layer.owing (P.owed == 0) O) port.fresh o
   answers_fits = record {
-    ready = (refl, refl);
+    ready = (λ e. absurd (both_ways false refl e), refl);
     begun = h.begun;
     found = h.found;
     uncounted = h.uncounted;
@@ -1211,6 +666,7 @@ module _ (from : Role) (way : List PlainPacket) (P O : Layer) (p o : Port) (h : 
     once = λ k. subst (λ n. n - 1 ≤ 1) (sym answer_one) (omega arith);
     few = λ k e. subst (λ x. number Idles x ≤ P.owed - 1) (sym answer_none) (le_none (P.owed - 1));
     sealed = λ k e. absurd (both_ways (nat_lt 0 (P.owed - 1)) (ap (λ n. nat_lt 0 (n - 1)) answer_one) e);
+    plain = λ k. ap has_conf answer_none;
   }
     where
       not_more : (layer.owing (P.owed == 0) O).owed ≡ O.owed
@@ -1231,23 +687,606 @@ answers_at Dte channel b way c x = subst (λ (z : book.Seen). At Dte channel Idl
 answers_at Dce channel b way c x = subst (λ (z : book.Seen). At Dce channel Idles way z.book) (sym (answers_book Dce b (x.parts.found (answer_sure Dce way b.dce b.dte (port_at Dce channel b) (port_at Dte channel b) x.parts c.counted c.once)) c.counted (answer_due Dce way b.dce b.dte (port_at Dce channel b) (port_at Dte channel b) x.parts c.counted c.once)))
     (kept_fills Dce channel (layers.answers_restart (layers_of Dce b)) port.fresh b (Fits Dce Idles way) x.book (answers_fits Dce way b.dce b.dte (port_at Dce channel b) (port_at Dte channel b) x.parts c.counted c.once))
 
-runs_at : (from : Role) (channel : ℕ) (b : Book) (s : Phase) (way : List PlainPacket) → MayStand from channel b s way → At from channel s way b
-runs_at from channel _ _ _ (Starts b full run idle) = starts_at from channel b full run idle
-runs_at from channel _ _ _ (Begins window most b full run begun) = begins_at from channel window most b full run begun
-runs_at from channel _ _ _ (Does b s r way packet may followed was) = does_at channel b s way from r packet may followed (runs_at from channel b s way was)
-runs_at from channel _ _ _ (Answers b way counted was) = answers_at from channel b way counted (runs_at from channel b WasRestarted way was)
-runs_at from channel _ _ _ (DoesApart b s way two packet is far was) = does_apart channel b s way from two packet is far (runs_at from channel b s way was)
-runs_at from channel _ _ _ (Shown b s way packet is was) = shown_at channel b s way from packet is (runs_at from channel b s way was)
-runs_at from channel _ _ _ (ShownApart b s way two packet is far was) = shown_apart channel b s way from two packet is far (runs_at from channel b s way was)
-runs_at from channel _ _ _ (Restarts b s way cause diagnostic was) = restarts_at channel b s way from cause diagnostic (runs_at from channel b s way was)
-runs_at from channel _ _ _ (Confirms b s way was) = confirms_at channel b s way from (runs_at from channel b s way was)
-runs_at from channel _ _ _ (Comes b s packet way may was) = comes_at from channel b s packet way may (runs_at from channel b s (packet ∷ way) was)
+-- ---- its RESTART waits
+
+abbrev Clean : Port → Port → Type 0
+Clean p o = (Still p × (o.is_known ≡ true → o.is_doubtful ≡ false)) ⊎ Dark true p
+
+record Unanswered (P O : Layer) (p o : Port) : Type 0 where
+  pub sure : are_sure P O ≡ true
+  pub found : are_lost P O ≡ false
+  pub counted : are_counted P O ≡ true
+  pub begun : layer.is_begun O.restart ≡ false
+  pub known : layer.is_begun P.restart ≡ false
+  pub none : P.owed ≡ 0
+  pub one : O.owed ≡ 1
+  pub clean : Clean p o
+
+-- by the first packet on the way that answers it
+abbrev Scan : Role → List PlainPacket → Layer → Layer → Port → Port → Type 0
+Scan from [] P O p o = Unanswered P O p o
+Scan from (restart cause diagnostic ∷ rest) P O p o = Fits from Idles rest P O p o
+Scan from (restart_conf ∷ rest) P O p o = Fits from Idles rest P O p o
+Scan from (packet ∷ rest) P O p o = Scan from rest P O p o
+
+record Blank (from : Role) (way : List PlainPacket) : Type 0 where
+  pub none : is_answered way ≡ false
+  pub same : (P O : Layer) (p o : Port) → Unanswered P O p o → Scan from way P O p o
+  pub more : (packet : PlainPacket) (P O : Layer) (p o : Port) → Scan from (packet ∷ []) P O p o → Scan from (way ++ packet ∷ []) P O p o
+
+record Answered (from : Role) (way : List PlainPacket) (P O : Layer) (p o : Port) : Type 0 where
+  pub rest : List PlainPacket
+  pub some : is_answered way ≡ true
+  pub fits : Fits from Idles rest P O p o
+  pub same : (P2 O2 : Layer) (p2 o2 : Port) → Fits from Idles rest P2 O2 p2 o2 → Scan from way P2 O2 p2 o2
+  pub more : (packet : PlainPacket) (P2 O2 : Layer) (p2 o2 : Port) → Fits from Idles (rest ++ packet ∷ []) P2 O2 p2 o2 → Scan from (way ++ packet ∷ []) P2 O2 p2 o2
+
+abbrev Split : Role → List PlainPacket → Layer → Layer → Port → Port → Type 0
+Split from way P O p o = (Unanswered P O p o × Blank from way) ⊎ Answered from way P O p o
+
+scan_split : (from : Role) (way : List PlainPacket) (P O : Layer) (p o : Port) → Scan from way P O p o → Split from way P O p o
+scan_split from [] P O p o u = inl (u, record { none = refl; same = λ _ _ _ _ u. u; more = λ _ _ _ _ _ h. h })
+scan_split from (restart cause diagnostic ∷ rest) P O p o h = inr (record { rest = rest; some = refl; fits = h; same = λ _ _ _ _ h. h; more = λ _ _ _ _ _ h. h })
+scan_split from (restart_conf ∷ rest) P O p o h = inr (record { rest = rest; some = refl; fits = h; same = λ _ _ _ _ h. h; more = λ _ _ _ _ _ h. h })
+scan_split from (user_data channel2 q2 m2 ps2 pr2 user2 ∷ rest) P O p o h = again (scan_split from rest P O p o h)
+  where
+    again : Split from rest P O p o → Split from (user_data channel2 q2 m2 ps2 pr2 user2 ∷ rest) P O p o
+    again (inl (u, b)) = inl (u, record { none = b.none; same = b.same; more = b.more })
+    again (inr a) = inr (record { rest = a.rest; some = a.some; fits = a.fits; same = a.same; more = a.more })
+scan_split from (rr channel2 pr2 ∷ rest) P O p o h = again (scan_split from rest P O p o h)
+  where
+    again : Split from rest P O p o → Split from (rr channel2 pr2 ∷ rest) P O p o
+    again (inl (u, b)) = inl (u, record { none = b.none; same = b.same; more = b.more })
+    again (inr a) = inr (record { rest = a.rest; some = a.some; fits = a.fits; same = a.same; more = a.more })
+scan_split from (rnr channel2 pr2 ∷ rest) P O p o h = again (scan_split from rest P O p o h)
+  where
+    again : Split from rest P O p o → Split from (rnr channel2 pr2 ∷ rest) P O p o
+    again (inl (u, b)) = inl (u, record { none = b.none; same = b.same; more = b.more })
+    again (inr a) = inr (record { rest = a.rest; some = a.some; fits = a.fits; same = a.same; more = a.more })
+scan_split from (interrupt channel2 user2 ∷ rest) P O p o h = again (scan_split from rest P O p o h)
+  where
+    again : Split from rest P O p o → Split from (interrupt channel2 user2 ∷ rest) P O p o
+    again (inl (u, b)) = inl (u, record { none = b.none; same = b.same; more = b.more })
+    again (inr a) = inr (record { rest = a.rest; some = a.some; fits = a.fits; same = a.same; more = a.more })
+scan_split from (interrupt_conf channel2 ∷ rest) P O p o h = again (scan_split from rest P O p o h)
+  where
+    again : Split from rest P O p o → Split from (interrupt_conf channel2 ∷ rest) P O p o
+    again (inl (u, b)) = inl (u, record { none = b.none; same = b.same; more = b.more })
+    again (inr a) = inr (record { rest = a.rest; some = a.some; fits = a.fits; same = a.same; more = a.more })
+scan_split from (reset channel2 cause2 diagnostic2 ∷ rest) P O p o h = again (scan_split from rest P O p o h)
+  where
+    again : Split from rest P O p o → Split from (reset channel2 cause2 diagnostic2 ∷ rest) P O p o
+    again (inl (u, b)) = inl (u, record { none = b.none; same = b.same; more = b.more })
+    again (inr a) = inr (record { rest = a.rest; some = a.some; fits = a.fits; same = a.same; more = a.more })
+scan_split from (reset_conf channel2 ∷ rest) P O p o h = again (scan_split from rest P O p o h)
+  where
+    again : Split from rest P O p o → Split from (reset_conf channel2 ∷ rest) P O p o
+    again (inl (u, b)) = inl (u, record { none = b.none; same = b.same; more = b.more })
+    again (inr a) = inr (record { rest = a.rest; some = a.some; fits = a.fits; same = a.same; more = a.more })
+scan_split from (call channel2 called2 calling2 facilities2 user2 ∷ rest) P O p o h = again (scan_split from rest P O p o h)
+  where
+    again : Split from rest P O p o → Split from (call channel2 called2 calling2 facilities2 user2 ∷ rest) P O p o
+    again (inl (u, b)) = inl (u, record { none = b.none; same = b.same; more = b.more })
+    again (inr a) = inr (record { rest = a.rest; some = a.some; fits = a.fits; same = a.same; more = a.more })
+scan_split from (accept channel2 facilities2 ∷ rest) P O p o h = again (scan_split from rest P O p o h)
+  where
+    again : Split from rest P O p o → Split from (accept channel2 facilities2 ∷ rest) P O p o
+    again (inl (u, b)) = inl (u, record { none = b.none; same = b.same; more = b.more })
+    again (inr a) = inr (record { rest = a.rest; some = a.some; fits = a.fits; same = a.same; more = a.more })
+scan_split from (clear channel2 cause2 diagnostic2 ∷ rest) P O p o h = again (scan_split from rest P O p o h)
+  where
+    again : Split from rest P O p o → Split from (clear channel2 cause2 diagnostic2 ∷ rest) P O p o
+    again (inl (u, b)) = inl (u, record { none = b.none; same = b.same; more = b.more })
+    again (inr a) = inr (record { rest = a.rest; some = a.some; fits = a.fits; same = a.same; more = a.more })
+scan_split from (clear_conf channel2 ∷ rest) P O p o h = again (scan_split from rest P O p o h)
+  where
+    again : Split from rest P O p o → Split from (clear_conf channel2 ∷ rest) P O p o
+    again (inl (u, b)) = inl (u, record { none = b.none; same = b.same; more = b.more })
+    again (inr a) = inr (record { rest = a.rest; some = a.some; fits = a.fits; same = a.same; more = a.more })
+
+scan_one : (from : Role) (packet : PlainPacket) (P O : Layer) (p o : Port) → IsOfChannel packet → Unanswered P O p o → Scan from (packet ∷ []) P O p o
+scan_one from (user_data channel2 q2 m2 ps2 pr2 user2) P O p o is u = u
+scan_one from (rr channel2 pr2) P O p o is u = u
+scan_one from (rnr channel2 pr2) P O p o is u = u
+scan_one from (interrupt channel2 user2) P O p o is u = u
+scan_one from (interrupt_conf channel2) P O p o is u = u
+scan_one from (reset channel2 cause2 diagnostic2) P O p o is u = u
+scan_one from (reset_conf channel2) P O p o is u = u
+scan_one from (call channel2 called2 calling2 facilities2 user2) P O p o is u = u
+scan_one from (accept channel2 facilities2) P O p o is u = u
+scan_one from (clear channel2 cause2 diagnostic2) P O p o is u = u
+scan_one from (clear_conf channel2) P O p o is u = u
+scan_one from (restart cause2 diagnostic2) P O p o is u = absurd is
+scan_one from restart_conf P O p o is u = absurd is
+
+scan_none : (from : Role) (way : List PlainPacket) (P O : Layer) (p o : Port) → count way ≤ 0 → has_conf way ≡ false → Unanswered P O p o → Scan from way P O p o
+scan_none from [] P O p o few plain u = u
+scan_none from (restart cause diagnostic ∷ rest) P O p o few plain u = absurd (never (count rest) few)
+  where
+    never : (n : ℕ) → 1 + n ≤ 0 → ⊥
+    never n h = omega arith
+scan_none from (restart_conf ∷ rest) P O p o few plain u = absurd (both_ways true plain refl)
+scan_none from (user_data channel2 q2 m2 ps2 pr2 user2 ∷ rest) P O p o few plain u = scan_none from rest P O p o (less_none (count rest) few) plain u
+scan_none from (rr channel2 pr2 ∷ rest) P O p o few plain u = scan_none from rest P O p o (less_none (count rest) few) plain u
+scan_none from (rnr channel2 pr2 ∷ rest) P O p o few plain u = scan_none from rest P O p o (less_none (count rest) few) plain u
+scan_none from (interrupt channel2 user2 ∷ rest) P O p o few plain u = scan_none from rest P O p o (less_none (count rest) few) plain u
+scan_none from (interrupt_conf channel2 ∷ rest) P O p o few plain u = scan_none from rest P O p o (less_none (count rest) few) plain u
+scan_none from (reset channel2 cause2 diagnostic2 ∷ rest) P O p o few plain u = scan_none from rest P O p o (less_none (count rest) few) plain u
+scan_none from (reset_conf channel2 ∷ rest) P O p o few plain u = scan_none from rest P O p o (less_none (count rest) few) plain u
+scan_none from (call channel2 called2 calling2 facilities2 user2 ∷ rest) P O p o few plain u = scan_none from rest P O p o (less_none (count rest) few) plain u
+scan_none from (accept channel2 facilities2 ∷ rest) P O p o few plain u = scan_none from rest P O p o (less_none (count rest) few) plain u
+scan_none from (clear channel2 cause2 diagnostic2 ∷ rest) P O p o few plain u = scan_none from rest P O p o (less_none (count rest) few) plain u
+scan_none from (clear_conf channel2 ∷ rest) P O p o few plain u = scan_none from rest P O p o (less_none (count rest) few) plain u
+
+scan_last : (from : Role) (way : List PlainPacket) (P O : Layer) (p o : Port) → has_restart way ≡ true → count way ≤ 1 → ends_so way ≡ true → has_conf way ≡ false → Fits from Idles [] P O p o → Scan from way P O p o
+scan_last from [] P O p o some few ends plain h = absurd (both_ways false refl some)
+scan_last from (restart cause diagnostic ∷ rest) P O p o some few ends plain h = subst (λ x. Fits from Idles x P O p o) (sym (none_behind rest (ends_tail (restart cause diagnostic) rest ends) (less (count rest) few))) h
+  where
+    less : (n : ℕ) → 1 + n ≤ 1 → n ≤ 0
+    less n h = omega arith
+scan_last from (restart_conf ∷ rest) P O p o some few ends plain h = absurd (both_ways true plain refl)
+scan_last from (user_data channel2 q2 m2 ps2 pr2 user2 ∷ rest) P O p o some few ends plain h = scan_last from rest P O p o some (less_one (count rest) few) (ends_tail (user_data channel2 q2 m2 ps2 pr2 user2) rest ends) plain h
+scan_last from (rr channel2 pr2 ∷ rest) P O p o some few ends plain h = scan_last from rest P O p o some (less_one (count rest) few) (ends_tail (rr channel2 pr2) rest ends) plain h
+scan_last from (rnr channel2 pr2 ∷ rest) P O p o some few ends plain h = scan_last from rest P O p o some (less_one (count rest) few) (ends_tail (rnr channel2 pr2) rest ends) plain h
+scan_last from (interrupt channel2 user2 ∷ rest) P O p o some few ends plain h = scan_last from rest P O p o some (less_one (count rest) few) (ends_tail (interrupt channel2 user2) rest ends) plain h
+scan_last from (interrupt_conf channel2 ∷ rest) P O p o some few ends plain h = scan_last from rest P O p o some (less_one (count rest) few) (ends_tail (interrupt_conf channel2) rest ends) plain h
+scan_last from (reset channel2 cause2 diagnostic2 ∷ rest) P O p o some few ends plain h = scan_last from rest P O p o some (less_one (count rest) few) (ends_tail (reset channel2 cause2 diagnostic2) rest ends) plain h
+scan_last from (reset_conf channel2 ∷ rest) P O p o some few ends plain h = scan_last from rest P O p o some (less_one (count rest) few) (ends_tail (reset_conf channel2) rest ends) plain h
+scan_last from (call channel2 called2 calling2 facilities2 user2 ∷ rest) P O p o some few ends plain h = scan_last from rest P O p o some (less_one (count rest) few) (ends_tail (call channel2 called2 calling2 facilities2 user2) rest ends) plain h
+scan_last from (accept channel2 facilities2 ∷ rest) P O p o some few ends plain h = scan_last from rest P O p o some (less_one (count rest) few) (ends_tail (accept channel2 facilities2) rest ends) plain h
+scan_last from (clear channel2 cause2 diagnostic2 ∷ rest) P O p o some few ends plain h = scan_last from rest P O p o some (less_one (count rest) few) (ends_tail (clear channel2 cause2 diagnostic2) rest ends) plain h
+scan_last from (clear_conf channel2 ∷ rest) P O p o some few ends plain h = scan_last from rest P O p o some (less_one (count rest) few) (ends_tail (clear_conf channel2) rest ends) plain h
+
+-- the answer makes both ends begin anew
+answered_fits : (from : Role) (P O : Layer) (p o : Port) → are_sure P O ≡ true → are_lost P O ≡ false → are_counted P O ≡ true → layer.is_begun P.restart ≡ false → layer.is_begun O.restart ≡ false → P.owed ≡ 0 → O.owed ≡ 0 → Still p ⊎ Dark true p → Still o → Fits from Idles [] P O p o
+answered_fits from P O p o sure found counted known begun none nought clean still = record {
+  ready = (λ _. (sure, counted), known);
+  begun = begun;
+  found = λ _. found;
+  uncounted = λ e. not_both (are_sure P O) e sure;
+  owed = λ _. nought;
+  on = λ _. on clean;
+  due = λ _ e. absurd (both_ways false refl e);
+  once = λ _. le_one P.owed none;
+  few = λ _ _. le_none P.owed;
+  sealed = λ _ e. none_owed P.owed none e;
+  plain = λ _. refl;
+}
+  where
+    on : Still p ⊎ Dark true p → On from Idles [] P O p o
+    on (inl s) = inl (begins_idle (pair_at from P O p o) (record { reaches = rw (none, nought) refl; quiet = refl; own = s.idle; other = still.idle }))
+    on (inr k) = inr k
+
+clean_of : (p o : Port) → Clean p o → Still p ⊎ Dark true p
+clean_of p o (inl (s, sure)) = inl s
+clean_of p o (inr k) = inr k
+
+-- ---- the other end sends
+
+owes_nothing : (packet : PlainPacket) (v : Pair) → Sure v → IsOwed v packet
+owes_nothing (user_data channel2 q2 m2 ps2 pr2 user2) v h = tt
+owes_nothing (rr channel2 pr2) v h = tt
+owes_nothing (rnr channel2 pr2) v h = tt
+owes_nothing (interrupt channel2 user2) v h = tt
+owes_nothing (interrupt_conf channel2) v h = tt
+owes_nothing (reset channel2 cause2 diagnostic2) v h = tt
+owes_nothing (reset_conf channel2) v h = tt
+owes_nothing (call channel2 called2 calling2 facilities2 user2) v h = tt
+owes_nothing (accept channel2 facilities2) v h = λ known. inr (h (and_parts v.own.is_known v.other.is_known known).0)
+owes_nothing (clear channel2 cause2 diagnostic2) v h = tt
+owes_nothing (clear_conf channel2) v h = tt
+owes_nothing (restart cause2 diagnostic2) v h = tt
+owes_nothing restart_conf v h = tt
+
+module _ (from : Role) (P O : Layer) (p o : Port) (u : Unanswered P O p o) where
+  un_calm : layers.runs_early (theirs P O) ≡ false
+  un_calm = rw (and_turned O.is_counted P.is_counted ∙ u.counted, u.none) (last (layer.is_asking O.restart))
+    where
+      last : (b : Bool) → ((b && (true && false)) || (b && not (true || layers.are_lost (theirs P O)))) ≡ false
+      last true = refl
+      last false = refl
+
+  un_sent : (packet : PlainPacket) → Unanswered P (at_ready O) (sends packet (pair_at (other from) O P o p)).other (sends packet (pair_at (other from) O P o p)).own
+  un_sent packet = record { sure = u.sure; found = u.found; counted = u.counted; begun = refl; known = u.known; none = u.none; one = u.one; clean = go u.clean }
+    where
+      v : Pair
+      v = pair_at (other from) O P o p
+
+      far : at_once O P ≡ false
+      far = and_left (O.owed == 0) _ (ap (λ n. n == 0) u.one)
+
+      kept : (Sure (pair_at (other from) O P o p)) → Still p → Kept (sends packet (pair_at (other from) O P o p)) → Clean (sends packet (pair_at (other from) O P o p)).other (sends packet (pair_at (other from) O P o p)).own
+      kept sure s (inl still) = inl (still, sure_sent packet (pair_at (other from) O P o p) s sure)
+      kept sure s (inr (dark, never)) = inr dark
+
+      go : Clean p o → Clean (sends packet (pair_at (other from) O P o p)).other (sends packet (pair_at (other from) O P o p)).own
+      go (inl (s, sure)) = kept sure s (kept_sent packet (pair_at (other from) O P o p) far s (owes_nothing packet (pair_at (other from) O P o p) sure))
+      go (inr k) = inr (shown_dark true packet (pair_at (other from) O P o p) k)
+
+  un_apart : Unanswered P (at_ready O) p o
+  un_apart = record { sure = u.sure; found = u.found; counted = u.counted; begun = refl; known = u.known; none = u.none; one = u.one; clean = u.clean }
+
+  un_restarts : (way : List PlainPacket) → Fits from HasRestarted way (layers.restarts (theirs P O)).other (layers.restarts (theirs P O)).own p port.fresh ⊎ Fits from Idles [] (layers.restarts (theirs P O)).other (layers.restarts (theirs P O)).own p port.fresh
+  un_restarts way = cond_both (layers.is_repeat (theirs P O)) _ _ Either
+      (λ again. absurd (both_ways (layers.is_repeat (theirs P O)) (and_right (layer.is_asking O.restart) _ (ap (λ n. nat_lt 0 n) u.none)) again))
+      (λ _. cond_both (not (layers.are_counted (theirs P O))) _ _ Either
+      (λ un. absurd (both_ways (not (layers.are_counted (theirs P O))) (ap not (and_turned O.is_counted P.is_counted ∙ u.counted)) un))
+      (λ _. cond_both (layers.is_unclear (theirs P O)) _ _ Either
+      (λ _. inl (lost_fits from HasRestarted way _ _ p port.fresh (λ e. absurd (both_ways false refl e), refl) refl refl refl))
+      (λ _. inr (answered_fits from (layer.owing (O.owed == 0) P) (layer.restarted Asking O) p port.fresh u.sure u.found u.counted u.known refl not_more (ap (λ n. n - 1) u.one) (clean_of p o u.clean) still_fresh))))
+    where
+      Either : Layers → Type 0
+      Either T = Fits from HasRestarted way T.other T.own p port.fresh ⊎ Fits from Idles [] T.other T.own p port.fresh
+
+      not_more : (layer.owing (O.owed == 0) P).owed ≡ 0
+      not_more = ap (λ b. if b then min (P.owed + 1) 255 else P.owed) (ap (λ n. n == 0) u.one) ∙ u.none
+
+  un_confirms : Fits from Idles [] (layer.owing (O.owed == 0) P) (layer.restarted Confirmed O) p port.fresh
+  un_confirms = answered_fits from (layer.owing (O.owed == 0) P) (layer.restarted Confirmed O) p port.fresh u.sure u.found u.counted u.known refl
+      (ap (λ b. if b then min (P.owed + 1) 255 else P.owed) (ap (λ n. n == 0) u.one) ∙ u.none) (ap (λ n. n - 1) u.one) (clean_of p o u.clean) still_fresh
+
+un_noted : (P O : Layer) (p o : Port) → Unanswered P O p o → Unanswered P O (port.noted p) (port.noted o)
+un_noted P O p o u = record { sure = u.sure; found = u.found; counted = u.counted; begun = u.begun; known = u.known; none = u.none; one = u.one; clean = go u.clean }
+  where
+    go : Clean p o → Clean (port.noted p) (port.noted o)
+    go (inl (s, sure)) = inl (still_noted p s, sure)
+    go (inr k) = inr (noted_dark p k)
+
+abbrev TheirUn : Layer → Layer → Port → Port → Type 0
+TheirUn O P o p = Unanswered P O p o
+
+abbrev TheirIdle : Role → Layer → Layer → Port → Port → Type 0
+TheirIdle from O P o p = Fits from Idles [] P O p o
+
+abbrev TheirEither : Role → List PlainPacket → Layer → Layer → Port → Port → Type 0
+TheirEither from way O P o p = Fits from HasRestarted way P O p o ⊎ Fits from Idles [] P O p o
+
+abbrev Either : Role → List PlainPacket → Layer → Layer → Port → Port → Type 0
+Either from way P O p o = Fits from HasRestarted way P O p o ⊎ Fits from Idles [] P O p o
+
+module _ (channel : ℕ) (b : Book) where
+  un_shown_dte : (packet : PlainPacket) → IsOfChannel packet → Left Dte channel Unanswered b → Left Dte channel Unanswered (book.takes Dce channel packet b).book
+  un_shown_dte packet is x = let y = there in record { book = y.book; parts = y.parts }
+    where
+      u : Unanswered b.dte b.dce (port_at Dte channel b) (port_at Dce channel b)
+      u = x.parts
+
+      there : Left Dce channel TheirUn (book.takes Dce channel packet b).book
+      there = subst (λ (z : book.Seen). Left Dce channel TheirUn z.book) (sym (runs_calm Dce channel packet b is u.begun (un_calm Dte b.dte b.dce (port_at Dte channel b) (port_at Dce channel b) u)))
+          (takes_on_parts Dce channel (layers.goes_to Ready (layers_of Dce b)) packet b TheirUn x.book refl
+          (λ e. absurd (both_ways (are_sure b.dte b.dce) (and_turned b.dte.is_sure b.dce.is_sure ∙ e) u.sure))
+          (λ _. un_sent Dte b.dte b.dce (port_at Dte channel b) (port_at Dce channel b) u packet)
+          (λ _. un_noted b.dte (at_ready b.dce) _ _ (un_sent Dte b.dte b.dce (port_at Dte channel b) (port_at Dce channel b) u packet)))
+
+  un_apart_dte : (two : ℕ) (packet : PlainPacket) → IsOfChannel packet → AreApart channel two → Left Dte channel Unanswered b → Left Dte channel Unanswered (book.takes Dce two packet b).book
+  un_apart_dte two packet is far x = let y = there in record { book = y.book; parts = y.parts }
+    where
+      u : Unanswered b.dte b.dce (port_at Dte channel b) (port_at Dce channel b)
+      u = x.parts
+
+      there : Left Dce channel TheirUn (book.takes Dce two packet b).book
+      there = subst (λ (z : book.Seen). Left Dce channel TheirUn z.book) (sym (runs_calm Dce two packet b is u.begun (un_calm Dte b.dte b.dce (port_at Dte channel b) (port_at Dce channel b) u)))
+          (takes_on_apart Dce channel two (layers.goes_to Ready (layers_of Dce b)) packet b TheirUn far x.book (un_apart Dte b.dte b.dce (port_at Dte channel b) (port_at Dce channel b) u))
+
+  un_restarts_dte : (way : List PlainPacket) (cause diagnostic : ℕ) → Left Dte channel Unanswered b → Left Dte channel (Either Dte way) (book.takes Dce 0 (restart cause diagnostic) b).book
+  unfolding book.takes book.restarts
+  un_restarts_dte way cause diagnostic x = let y = kept_fills Dce channel (layers.restarts (layers_of Dce b)) port.fresh b (TheirEither Dte way) x.book (un_restarts Dte b.dte b.dce (port_at Dte channel b) (port_at Dce channel b) x.parts way) in record { book = y.book; parts = y.parts }
+
+  un_confirms_dte : Left Dte channel Unanswered b → Left Dte channel (Fits Dte Idles []) (book.takes Dce 0 restart_conf b).book
+  un_confirms_dte x = let y = there in record { book = y.book; parts = y.parts }
+    where
+      u : Unanswered b.dte b.dce (port_at Dte channel b) (port_at Dce channel b)
+      u = x.parts
+
+      there : Left Dce channel (TheirIdle Dte) (book.takes Dce 0 restart_conf b).book
+      there = subst (λ (z : book.Seen). Left Dce channel (TheirIdle Dte) z.book) (sym (answers_book Dce b (or_turned b.dce.is_lost b.dte.is_lost ∙ u.found) (and_turned b.dce.is_counted b.dte.is_counted ∙ u.counted) (ap (λ n. nat_lt 0 n) u.one)))
+          (kept_fills Dce channel (layers.answers_restart (layers_of Dce b)) port.fresh b (TheirIdle Dte) x.book (un_confirms Dte b.dte b.dce (port_at Dte channel b) (port_at Dce channel b) u))
+
+  un_shown_dce : (packet : PlainPacket) → IsOfChannel packet → Left Dce channel Unanswered b → Left Dce channel Unanswered (book.takes Dte channel packet b).book
+  un_shown_dce packet is x = let y = there in record { book = y.book; parts = y.parts }
+    where
+      u : Unanswered b.dce b.dte (port_at Dce channel b) (port_at Dte channel b)
+      u = x.parts
+
+      there : Left Dte channel TheirUn (book.takes Dte channel packet b).book
+      there = subst (λ (z : book.Seen). Left Dte channel TheirUn z.book) (sym (runs_calm Dte channel packet b is u.begun (un_calm Dce b.dce b.dte (port_at Dce channel b) (port_at Dte channel b) u)))
+          (takes_on_parts Dte channel (layers.goes_to Ready (layers_of Dte b)) packet b TheirUn x.book refl
+          (λ e. absurd (both_ways (are_sure b.dce b.dte) (and_turned b.dce.is_sure b.dte.is_sure ∙ e) u.sure))
+          (λ _. un_sent Dce b.dce b.dte (port_at Dce channel b) (port_at Dte channel b) u packet)
+          (λ _. un_noted b.dce (at_ready b.dte) _ _ (un_sent Dce b.dce b.dte (port_at Dce channel b) (port_at Dte channel b) u packet)))
+
+  un_apart_dce : (two : ℕ) (packet : PlainPacket) → IsOfChannel packet → AreApart channel two → Left Dce channel Unanswered b → Left Dce channel Unanswered (book.takes Dte two packet b).book
+  un_apart_dce two packet is far x = let y = there in record { book = y.book; parts = y.parts }
+    where
+      u : Unanswered b.dce b.dte (port_at Dce channel b) (port_at Dte channel b)
+      u = x.parts
+
+      there : Left Dte channel TheirUn (book.takes Dte two packet b).book
+      there = subst (λ (z : book.Seen). Left Dte channel TheirUn z.book) (sym (runs_calm Dte two packet b is u.begun (un_calm Dce b.dce b.dte (port_at Dce channel b) (port_at Dte channel b) u)))
+          (takes_on_apart Dte channel two (layers.goes_to Ready (layers_of Dte b)) packet b TheirUn far x.book (un_apart Dce b.dce b.dte (port_at Dce channel b) (port_at Dte channel b) u))
+
+  un_restarts_dce : (way : List PlainPacket) (cause diagnostic : ℕ) → Left Dce channel Unanswered b → Left Dce channel (Either Dce way) (book.takes Dte 0 (restart cause diagnostic) b).book
+  unfolding book.takes book.restarts
+  un_restarts_dce way cause diagnostic x = let y = kept_fills Dte channel (layers.restarts (layers_of Dte b)) port.fresh b (TheirEither Dce way) x.book (un_restarts Dce b.dce b.dte (port_at Dce channel b) (port_at Dte channel b) x.parts way) in record { book = y.book; parts = y.parts }
+
+  un_confirms_dce : Left Dce channel Unanswered b → Left Dce channel (Fits Dce Idles []) (book.takes Dte 0 restart_conf b).book
+  un_confirms_dce x = let y = there in record { book = y.book; parts = y.parts }
+    where
+      u : Unanswered b.dce b.dte (port_at Dce channel b) (port_at Dte channel b)
+      u = x.parts
+
+      there : Left Dte channel (TheirIdle Dce) (book.takes Dte 0 restart_conf b).book
+      there = subst (λ (z : book.Seen). Left Dte channel (TheirIdle Dce) z.book) (sym (answers_book Dte b (or_turned b.dte.is_lost b.dce.is_lost ∙ u.found) (and_turned b.dte.is_counted b.dce.is_counted ∙ u.counted) (ap (λ n. nat_lt 0 n) u.one)))
+          (kept_fills Dte channel (layers.answers_restart (layers_of Dte b)) port.fresh b (TheirIdle Dce) x.book (un_confirms Dce b.dce b.dte (port_at Dce channel b) (port_at Dte channel b) u))
+
+un_shown_at : (from : Role) (channel : ℕ) (b : Book) (packet : PlainPacket) → IsOfChannel packet → Left from channel Unanswered b → Left from channel Unanswered (book.takes (other from) channel packet b).book
+un_shown_at Dte channel b packet is x = un_shown_dte channel b packet is x
+un_shown_at Dce channel b packet is x = un_shown_dce channel b packet is x
+
+un_apart_at : (from : Role) (channel : ℕ) (b : Book) (two : ℕ) (packet : PlainPacket) → IsOfChannel packet → AreApart channel two → Left from channel Unanswered b → Left from channel Unanswered (book.takes (other from) two packet b).book
+un_apart_at Dte channel b two packet is far x = un_apart_dte channel b two packet is far x
+un_apart_at Dce channel b two packet is far x = un_apart_dce channel b two packet is far x
+
+un_restarts_at : (from : Role) (channel : ℕ) (b : Book) (way : List PlainPacket) (cause diagnostic : ℕ) → Left from channel Unanswered b → Left from channel (Either from way) (book.takes (other from) 0 (restart cause diagnostic) b).book
+un_restarts_at Dte channel b way cause diagnostic x = un_restarts_dte channel b way cause diagnostic x
+un_restarts_at Dce channel b way cause diagnostic x = un_restarts_dce channel b way cause diagnostic x
+
+un_confirms_at : (from : Role) (channel : ℕ) (b : Book) → Left from channel Unanswered b → Left from channel (Fits from Idles []) (book.takes (other from) 0 restart_conf b).book
+un_confirms_at Dte channel b x = un_confirms_dte channel b x
+un_confirms_at Dce channel b x = un_confirms_dce channel b x
+
+-- ---- it restarts
+
+ask_from : (s : Phase) → MayAsk s → was_restarted s ≡ false
+ask_from Idles may = refl
+ask_from (Calls terms) may = refl
+ask_from (WasCalled terms) may = refl
+ask_from (Talks window most g c) may = refl
+ask_from (Resets window most) may = refl
+ask_from (WasReset window most) may = refl
+ask_from Clears may = refl
+ask_from WasCleared may = refl
+ask_from HasRestarted may = absurd may
+ask_from WasRestarted may = absurd may
+
+module _ (from : Role) (s : Phase) (way : List PlainPacket) (P O : Layer) (p o : Port) (h : Fits from s way P O p o) (may : MayAsk s) (counted : are_counted P O ≡ true) (once : P.again ≡ 0) (certain : o.is_known ≡ true → o.is_doubtful ≡ false) where
+  ask_sure : are_sure P O ≡ true
+  ask_sure = true_from_ne_false (are_sure P O) (λ e. both_ways (are_counted P O) (h.uncounted e) counted)
+
+  ask_count : count way ≤ P.owed
+  ask_count = below (bit (was_restarted s)) (count way) P.owed (h.few ask_sure once)
+    where
+      below : (a b n : ℕ) → a + b ≤ n → b ≤ n
+      below a b n h = omega arith
+
+  asks_fits : Scan from way (layer.restarted Asking P) (layer.owing (P.owed == 0) O) port.fresh o
+  asks_fits = go (nat_lt 0 P.owed) refl
+    where
+      zero_of : (n : ℕ) → nat_lt 0 n ≡ false → n ≡ 0
+      zero_of n e = le_zero n (ltb-false 0 n e)
+        where
+          le_zero : (n : ℕ) → n ≤ 0 → n ≡ 0
+          le_zero n e = omega arith
+
+      one_of : (n : ℕ) → 0 < n → n ≤ 1 → n ≡ 1
+      one_of n a b = omega arith
+
+      go : (b : Bool) → nat_lt 0 P.owed ≡ b → Scan from way (layer.restarted Asking P) (layer.owing (P.owed == 0) O) port.fresh o
+      go false none = scan_none from way (layer.restarted Asking P) (layer.owing (P.owed == 0) O) port.fresh o (subst (λ n. count way ≤ n) (zero_of P.owed none) ask_count) (h.plain ask_sure)
+          (record {
+            sure = ask_sure;
+            found = h.found ask_sure;
+            counted = counted;
+            begun = h.begun;
+            known = refl;
+            none = ap (λ n. n - 1) (zero_of P.owed none);
+            one = ap (λ b. if b then min (O.owed + 1) 255 else O.owed) (ap (λ n. n == 0) (zero_of P.owed none)) ∙ ap (λ n. min (n + 1) 255) (h.owed ask_sure);
+            clean = inl (still_fresh, certain);
+          })
+      go true due = last (one_of P.owed (ltb-true 0 P.owed due) (h.once ask_sure)) (h.sealed ask_sure due)
+        where
+          last : P.owed ≡ 1 → Sealed s way P O o → Scan from way (layer.restarted Asking P) (layer.owing (P.owed == 0) O) port.fresh o
+          last one sealed = scan_last from way (layer.restarted Asking P) (layer.owing (P.owed == 0) O) port.fresh o (sym (ap (λ b. b || has_restart way) (ask_from s may)) ∙ sealed.due) (subst (λ n. count way ≤ n) one ask_count) sealed.ends (h.plain ask_sure)
+              (answered_fits from (layer.restarted Asking P) (layer.owing (P.owed == 0) O) port.fresh o ask_sure (h.found ask_sure) counted refl h.begun (ap (λ n. n - 1) one)
+              (ap (λ b. if b then min (O.owed + 1) 255 else O.owed) (ap (λ n. n == 0) one) ∙ h.owed ask_sure) (inl still_fresh) sealed.still)
+
+  ask_calm : (layer.is_asking P.restart && nat_lt 0 O.owed) ≡ false
+  ask_calm = and_right (layer.is_asking P.restart) _ (ap (λ n. nat_lt 0 n) (h.owed ask_sure))
+
+restarts_so : (t : Layers) → layers.is_repeat t ≡ false → layers.are_counted t ≡ true → layers.is_unclear t ≡ false → layers.restarts t ≡ layers.marks Asking t
+restarts_so t calm counted none = cond-false (layers.is_repeat t) (layers.asks_again t) _ calm ∙ cond-false (not (layers.are_counted t)) (layers.restarts_uncounted t) _ (ap not counted) ∙ cond-false (layers.is_unclear t) (layers.restarts_lost t) (layers.marks Asking t) none
+
+asks_book : (from : Role) (b : Book) (cause diagnostic : ℕ) → layers.restarts (layers_of from b) ≡ layers.marks Asking (layers_of from b) → book.takes from 0 (restart cause diagnostic) b ≡ book.told (keeps from (layers.marks Asking (layers_of from b)) (fills from port.fresh b)) (layers.marks Asking (layers_of from b)).rule
+unfolding book.takes book.restarts
+asks_book from b cause diagnostic is = ap (λ (t : Layers). book.told (keeps from t (fills from port.fresh b)) t.rule) is
+
+unclear_not : (t : Layers) → t.own.again ≡ 0 → t.other.again ≡ 0 → t.own.is_stray ≡ false → layers.is_unclear t ≡ false
+unclear_not t once others none = rw (once, others, none) refl
+
+asks_at : (from : Role) (channel : ℕ) (b : Book) (s : Phase) (way : List PlainPacket) (cause diagnostic : ℕ) → MayAsk s → AreClear (layers_of from b) (view from channel b) → At from channel s way b → Left from channel (Scan from way) (book.takes from 0 (restart cause diagnostic) b).book
+asks_at Dte channel b s way cause diagnostic may c x = subst (λ (z : book.Seen). Left Dte channel (Scan Dte way) z.book)
+    (sym (asks_book Dte b cause diagnostic (restarts_so (layers_of Dte b) (ask_calm Dte s way b.dte b.dce (port_at Dte channel b) (port_at Dce channel b) x.parts may c.counted.counted c.counted.once c.sure) c.counted.counted (unclear_not (layers_of Dte b) c.counted.once c.others_once c.none))))
+    (kept_fills Dte channel (layers.marks Asking (layers_of Dte b)) port.fresh b (Scan Dte way) x.book (asks_fits Dte s way b.dte b.dce (port_at Dte channel b) (port_at Dce channel b) x.parts may c.counted.counted c.counted.once c.sure))
+asks_at Dce channel b s way cause diagnostic may c x = subst (λ (z : book.Seen). Left Dce channel (Scan Dce way) z.book)
+    (sym (asks_book Dce b cause diagnostic (restarts_so (layers_of Dce b) (ask_calm Dce s way b.dce b.dte (port_at Dce channel b) (port_at Dte channel b) x.parts may c.counted.counted c.counted.once c.sure) c.counted.counted (unclear_not (layers_of Dce b) c.counted.once c.others_once c.none))))
+    (kept_fills Dce channel (layers.marks Asking (layers_of Dce b)) port.fresh b (Scan Dce way) x.book (asks_fits Dce s way b.dce b.dte (port_at Dce channel b) (port_at Dte channel b) x.parts may c.counted.counted c.counted.once c.sure))
+
+-- ---- any run of both
+
+abbrev Run : Role → ℕ → Phase → List PlainPacket → Book → Type 0
+Run from channel s way b = At from channel s way b ⊎ ((s ≡ HasRestarted) × Left from channel (Scan from way) b)
+
+-- a phase in which it waits is of restarts that aren't known
+lost_way : (from : Role) (channel : ℕ) (b : Book) (way way2 : List PlainPacket) → At from channel HasRestarted way b → At from channel HasRestarted way2 b
+lost_way from channel b way way2 x = record {
+  book = x.book;
+  parts = record {
+    ready = x.parts.ready;
+    begun = x.parts.begun;
+    found = x.parts.found;
+    uncounted = x.parts.uncounted;
+    owed = x.parts.owed;
+    on = λ k. absurd (x.parts.on k);
+    due = λ k _. absurd (x.parts.on k);
+    once = x.parts.once;
+    few = λ k _. absurd (x.parts.on k);
+    sealed = λ k _. absurd (x.parts.on k);
+    plain = λ k. absurd (x.parts.on k);
+  };
+}
+
+confirms_way : (from : Role) (channel : ℕ) (b : Book) (s : Phase) (way : List PlainPacket) → At from channel s way b → At from channel s (with_answer s way) b
+confirms_way from channel b Idles way x = x
+confirms_way from channel b (Calls terms) way x = x
+confirms_way from channel b (WasCalled terms) way x = x
+confirms_way from channel b (Talks window most g c) way x = x
+confirms_way from channel b (Resets window most) way x = x
+confirms_way from channel b (WasReset window most) way x = x
+confirms_way from channel b Clears way x = x
+confirms_way from channel b WasCleared way x = x
+confirms_way from channel b HasRestarted way x = lost_way from channel b way (with_answer HasRestarted way) x
+confirms_way from channel b WasRestarted way x = x
+
+module _ (from : Role) (channel : ℕ) (b : Book) (way : List PlainPacket) (x : Left from channel (Scan from way) b) where
+  abbrev SplitAt : Type 0
+  SplitAt = Split from way (layer_at from b) (layer_at (other from) b) (port_at from channel b) (port_at (other from) channel b)
+
+  split_at : SplitAt
+  split_at = scan_split from way (layer_at from b) (layer_at (other from) b) (port_at from channel b) (port_at (other from) channel b) x.parts
+
+  wait_shown : (packet : PlainPacket) → IsOfChannel packet → Left from channel (Scan from (way ++ packet ∷ [])) (book.takes (other from) channel packet b).book
+  wait_shown packet is = go split_at
+    where
+      go : SplitAt → Left from channel (Scan from (way ++ packet ∷ [])) (book.takes (other from) channel packet b).book
+      go (inl (u, blank)) = let y = un_shown_at from channel b packet is (record { book = x.book; parts = u }) in record { book = y.book; parts = blank.more packet _ _ _ _ (scan_one from packet _ _ _ _ is y.parts) }
+      go (inr a) = let y = shown_at channel b Idles a.rest from packet is (record { book = x.book; parts = a.fits }) in record { book = y.book; parts = a.more packet _ _ _ _ y.parts }
+
+  wait_apart : (two : ℕ) (packet : PlainPacket) → IsOfChannel packet → AreApart channel two → Left from channel (Scan from way) (book.takes (other from) two packet b).book
+  wait_apart two packet is far = go split_at
+    where
+      go : SplitAt → Left from channel (Scan from way) (book.takes (other from) two packet b).book
+      go (inl (u, blank)) = let y = un_apart_at from channel b two packet is far (record { book = x.book; parts = u }) in record { book = y.book; parts = blank.same _ _ _ _ y.parts }
+      go (inr a) = let y = shown_apart channel b Idles a.rest from two packet is far (record { book = x.book; parts = a.fits }) in record { book = y.book; parts = a.same _ _ _ _ y.parts }
+
+  wait_restarts : (cause diagnostic : ℕ) → Run from channel HasRestarted (way ++ restart cause diagnostic ∷ []) (book.takes (other from) 0 (restart cause diagnostic) b).book
+  wait_restarts cause diagnostic = go split_at
+    where
+      both : Blank from way → Left from channel (Either from (way ++ restart cause diagnostic ∷ [])) (book.takes (other from) 0 (restart cause diagnostic) b).book → Run from channel HasRestarted (way ++ restart cause diagnostic ∷ []) (book.takes (other from) 0 (restart cause diagnostic) b).book
+      both blank y = last y.parts
+        where
+          last : PartsAt from channel (Either from (way ++ restart cause diagnostic ∷ [])) (book.takes (other from) 0 (restart cause diagnostic) b).book → Run from channel HasRestarted (way ++ restart cause diagnostic ∷ []) (book.takes (other from) 0 (restart cause diagnostic) b).book
+          last (inl f) = inl (record { book = y.book; parts = f })
+          last (inr f) = inr (refl, record { book = y.book; parts = blank.more (restart cause diagnostic) _ _ _ _ f })
+
+      go : SplitAt → Run from channel HasRestarted (way ++ restart cause diagnostic ∷ []) (book.takes (other from) 0 (restart cause diagnostic) b).book
+      go (inl (u, blank)) = both blank (un_restarts_at from channel b (way ++ restart cause diagnostic ∷ []) cause diagnostic (record { book = x.book; parts = u }))
+      go (inr a) = let y = restarts_at channel b Idles a.rest from cause diagnostic (record { book = x.book; parts = a.fits }) in inr (refl, record { book = y.book; parts = a.more (restart cause diagnostic) _ _ _ _ y.parts })
+
+  wait_confirms : Left from channel (Scan from (with_answer HasRestarted way)) (book.takes (other from) 0 restart_conf b).book
+  wait_confirms = go split_at
+    where
+      go : SplitAt → Left from channel (Scan from (with_answer HasRestarted way)) (book.takes (other from) 0 restart_conf b).book
+      go (inl (u, blank)) = subst (λ l. Left from channel (Scan from l) (book.takes (other from) 0 restart_conf b).book) (sym (cond-false (is_answered way) way (way ++ restart_conf ∷ []) blank.none))
+          (let y = un_confirms_at from channel b (record { book = x.book; parts = u }) in record { book = y.book; parts = blank.more restart_conf _ _ _ _ y.parts })
+      go (inr a) = subst (λ l. Left from channel (Scan from l) (book.takes (other from) 0 restart_conf b).book) (sym (cond-true (is_answered way) way (way ++ restart_conf ∷ []) a.some))
+          (let y = confirms_at channel b Idles a.rest from (record { book = x.book; parts = a.fits }) in record { book = y.book; parts = a.same _ _ _ _ y.parts })
+
+wait_comes : (from : Role) (channel : ℕ) (b : Book) (packet : PlainPacket) (way : List PlainPacket) → Left from channel (Scan from (packet ∷ way)) b → Run from channel (comes from HasRestarted packet) way b
+wait_comes from channel b (restart cause diagnostic) way x = inl (record { book = x.book; parts = x.parts })
+wait_comes from channel b restart_conf way x = inl (record { book = x.book; parts = x.parts })
+wait_comes from channel2 b (user_data channel q m ps pr user) way x = inr (refl, record { book = x.book; parts = x.parts })
+wait_comes from channel2 b (rr channel pr) way x = inr (refl, record { book = x.book; parts = x.parts })
+wait_comes from channel2 b (rnr channel pr) way x = inr (refl, record { book = x.book; parts = x.parts })
+wait_comes from channel2 b (interrupt channel user) way x = inr (refl, record { book = x.book; parts = x.parts })
+wait_comes from channel2 b (interrupt_conf channel) way x = inr (refl, record { book = x.book; parts = x.parts })
+wait_comes from channel2 b (reset channel cause diagnostic) way x = inr (refl, record { book = x.book; parts = x.parts })
+wait_comes from channel2 b (reset_conf channel) way x = inr (refl, record { book = x.book; parts = x.parts })
+wait_comes from channel2 b (call channel called calling facilities user) way x = inr (refl, record { book = x.book; parts = x.parts })
+wait_comes from channel2 b (accept channel facilities) way x = inr (refl, record { book = x.book; parts = x.parts })
+wait_comes from channel2 b (clear channel cause diagnostic) way x = inr (refl, record { book = x.book; parts = x.parts })
+wait_comes from channel2 b (clear_conf channel) way x = inr (refl, record { book = x.book; parts = x.parts })
+
+module _ (from : Role) (channel : ℕ) (s : Phase) where
+  as_run : (way : List PlainPacket) (b : Book) → s ≡ HasRestarted → Run from channel HasRestarted way b → Run from channel s way b
+  as_run way b e r = subst (λ s. Run from channel s way b) (sym e) r
+
+  run_does : (r : Phase) (way : List PlainPacket) (b : Book) (packet : PlainPacket) → MayDo s packet r → IsFollowed (view from channel b) packet → Run from channel s way b → Run from channel r way (book.takes from channel packet b).book
+  run_does r way b packet may followed (inl x) = inl (does_at channel b s way from r packet may followed x)
+  run_does r way b packet may followed (inr (e, x)) = absurd (subst (λ s. MayDo s packet r) e may)
+
+  run_apart : (way : List PlainPacket) (b : Book) (two : ℕ) (packet : PlainPacket) → IsOfChannel packet → AreApart channel two → MayLeave s → Run from channel s way b → Run from channel s way (book.takes from two packet b).book
+  run_apart way b two packet is far leave (inl x) = inl (does_apart channel b s way from two packet is far x)
+  run_apart way b two packet is far leave (inr (e, x)) = absurd (subst MayLeave e leave)
+
+  run_asks : (way : List PlainPacket) (b : Book) (cause diagnostic : ℕ) → MayAsk s → AreClear (layers_of from b) (view from channel b) → Run from channel s way b → Run from channel HasRestarted way (book.takes from 0 (restart cause diagnostic) b).book
+  run_asks way b cause diagnostic may known (inl x) = inr (refl, asks_at from channel b s way cause diagnostic may known x)
+  run_asks way b cause diagnostic may known (inr (e, x)) = absurd (subst MayAsk e may)
+
+  run_shown : (way : List PlainPacket) (b : Book) (packet : PlainPacket) → IsOfChannel packet → Run from channel s way b → Run from channel s (way ++ packet ∷ []) (book.takes (other from) channel packet b).book
+  run_shown way b packet is (inl x) = inl (shown_at channel b s way from packet is x)
+  run_shown way b packet is (inr (e, x)) = inr (e, wait_shown from channel b way x packet is)
+
+  run_shown_apart : (way : List PlainPacket) (b : Book) (two : ℕ) (packet : PlainPacket) → IsOfChannel packet → AreApart channel two → Run from channel s way b → Run from channel s way (book.takes (other from) two packet b).book
+  run_shown_apart way b two packet is far (inl x) = inl (shown_apart channel b s way from two packet is far x)
+  run_shown_apart way b two packet is far (inr (e, x)) = inr (e, wait_apart from channel b way x two packet is far)
+
+  run_restarts : (way : List PlainPacket) (b : Book) (cause diagnostic : ℕ) → Run from channel s way b → Run from channel s (way ++ restart cause diagnostic ∷ []) (book.takes (other from) 0 (restart cause diagnostic) b).book
+  run_restarts way b cause diagnostic (inl x) = inl (restarts_at channel b s way from cause diagnostic x)
+  run_restarts way b cause diagnostic (inr (e, x)) = as_run (way ++ restart cause diagnostic ∷ []) _ e (wait_restarts from channel b way x cause diagnostic)
+
+  run_confirms : (way : List PlainPacket) (b : Book) → Run from channel s way b → Run from channel s (with_answer s way) (book.takes (other from) 0 restart_conf b).book
+  run_confirms way b (inl x) = inl (confirms_way from channel _ s way (confirms_at channel b s way from x))
+  run_confirms way b (inr (e, x)) = subst (λ s. Run from channel s (with_answer s way) (book.takes (other from) 0 restart_conf b).book) (sym e) (inr (refl, wait_confirms from channel b way x))
+
+  run_comes : (packet : PlainPacket) (way : List PlainPacket) (b : Book) → MayTake s → Run from channel s (packet ∷ way) b → Run from channel (comes from s packet) way b
+  run_comes packet way b may (inl x) = inl (comes_at from channel b s packet way may x)
+  run_comes packet way b may (inr (e, x)) = subst (λ s. Run from channel (comes from s packet) way b) (sym e) (wait_comes from channel b packet way x)
+
+run_answers : (from : Role) (channel : ℕ) (way : List PlainPacket) (b : Book) → AreCounted (layers_of from b) → Run from channel WasRestarted way b → Run from channel Idles way (book.takes from 0 restart_conf b).book
+run_answers from channel way b counted (inl x) = inl (answers_at from channel b way counted x)
+run_answers from channel way b counted (inr (e, x)) = absurd (both_ways true (ap was_restarted e) refl)
+
+runs_at : (from : Role) (channel : ℕ) (b : Book) (s : Phase) (way : List PlainPacket) → MayStand from channel b s way → Run from channel s way b
+runs_at from channel _ _ _ (Starts b full run idle) = inl (starts_at from channel b full run idle)
+runs_at from channel _ _ _ (Begins window most b full run begun) = inl (begins_at from channel window most b full run begun)
+runs_at from channel _ _ _ (Does b s r way packet may followed was) = run_does from channel s r way b packet may followed (runs_at from channel b s way was)
+runs_at from channel _ _ _ (DoesApart b s way two packet is far leave was) = run_apart from channel s way b two packet is far leave (runs_at from channel b s way was)
+runs_at from channel _ _ _ (Answers b way counted was) = run_answers from channel way b counted (runs_at from channel b WasRestarted way was)
+runs_at from channel _ _ _ (DoesRestart b s way cause diagnostic may known was) = run_asks from channel s way b cause diagnostic may known (runs_at from channel b s way was)
+runs_at from channel _ _ _ (Shown b s way packet is was) = run_shown from channel s way b packet is (runs_at from channel b s way was)
+runs_at from channel _ _ _ (ShownApart b s way two packet is far was) = run_shown_apart from channel s way b two packet is far (runs_at from channel b s way was)
+runs_at from channel _ _ _ (Restarts b s way cause diagnostic was) = run_restarts from channel s way b cause diagnostic (runs_at from channel b s way was)
+runs_at from channel _ _ _ (Confirms b s way was) = run_confirms from channel s way b (runs_at from channel b s way was)
+runs_at from channel _ _ _ (Comes b s packet way may was) = run_comes from channel s packet way b may (runs_at from channel b s (packet ∷ way) was)
+
+run_quiet : (from : Role) (channel : ℕ) (b : Book) (s r : Phase) (way : List PlainPacket) (packet : PlainPacket) → MayDo s packet r → Run from channel s way b → (book.takes from channel packet b).verdict.rule ≡ None
+run_quiet from channel b s r way packet may (inl x) = quiet_at channel b s way from r packet may x
+run_quiet from channel b s r way packet may (inr (e, x)) = absurd (subst (λ s. MayDo s packet r) e may)
 
 pub no_innocent_tape_is_told : NoInnocentTapeIsTold
-no_innocent_tape_is_told from channel b s r way packet stands may = quiet_at channel b s way from r packet may (runs_at from channel b s way stands)
+no_innocent_tape_is_told from channel b s r way packet stands may = run_quiet from channel b s r way packet may (runs_at from channel b s way stands)
+
+ends_not : (packet : PlainPacket) → MayEnd HasRestarted packet → ⊥
+ends_not (user_data channel q m ps pr user) may = may
+ends_not (rr channel pr) may = may
+ends_not (rnr channel pr) may = may
+ends_not (interrupt channel user) may = may
+ends_not (interrupt_conf channel) may = may
+ends_not (reset channel cause diagnostic) may = may
+ends_not (reset_conf channel) may = may
+ends_not (call channel called calling facilities user) may = may
+ends_not (accept channel facilities) may = may
+ends_not (clear channel cause diagnostic) may = may
+ends_not (clear_conf channel) may = may
+ends_not (restart cause diagnostic) may = may
+ends_not restart_conf may = may
+
+run_ends : (from : Role) (channel : ℕ) (b : Book) (s : Phase) (way : List PlainPacket) (packet : PlainPacket) → MayEnd s packet → Run from channel s way b → (book.takes from channel packet b).verdict.rule ≡ None
+run_ends from channel b s way packet may (inl x) = end_at channel b s way from packet may x
+run_ends from channel b s way packet may (inr (e, x)) = absurd (ends_not packet (subst (λ s. MayEnd s packet) e may))
 
 pub no_end_of_tape_is_told : NoEndOfTapeIsTold
-no_end_of_tape_is_told from channel b s way packet stands may = end_at channel b s way from packet may (runs_at from channel b s way stands)
+no_end_of_tape_is_told from channel b s way packet stands may = run_ends from channel b s way packet may (runs_at from channel b s way stands)
 
 restarts_untold : (t : Layers) → t.rule ≡ None → (layers.restarts t).rule ≡ None
 restarts_untold t quiet = cond_both (layers.is_repeat t) _ _ (λ (x : Layers). x.rule ≡ None) (λ _. quiet)
@@ -1277,12 +1316,16 @@ counted_due from way P O p o h counted = go (are_sure P O) refl
     go true sure = h.due sure refl
     go false unsure = not_both (are_counted P O) (h.uncounted unsure) counted
 
+run_due : (from : Role) (channel : ℕ) (b : Book) (way : List PlainPacket) → Run from channel WasRestarted way b → are_counted (layer_at from b) (layer_at (other from) b) ≡ true → nat_lt 0 (layer_at from b).owed ≡ true
+run_due from channel b way (inl x) = counted_due from way (layer_at from b) (layer_at (other from) b) (port_at from channel b) (port_at (other from) channel b) x.parts
+run_due from channel b way (inr (e, x)) = absurd (both_ways true (ap was_restarted e) refl)
+
 pub no_restart_of_tape_is_told : NoRestartOfTapeIsTold
 unfolding book.takes book.restarts
 no_restart_of_tape_is_told Dte channel b s way (restart cause diagnostic) stands may = restarts_untold (layers_of Dte b) refl
 no_restart_of_tape_is_told Dce channel b s way (restart cause diagnostic) stands may = restarts_untold (layers_of Dce b) refl
-no_restart_of_tape_is_told Dte channel b WasRestarted way restart_conf stands may = confirms_untold Dte (layers_of Dte b) b refl (counted_due Dte way b.dte b.dce (port_at Dte channel b) (port_at Dce channel b) (runs_at Dte channel b WasRestarted way stands).parts)
-no_restart_of_tape_is_told Dce channel b WasRestarted way restart_conf stands may = confirms_untold Dce (layers_of Dce b) b refl (counted_due Dce way b.dce b.dte (port_at Dce channel b) (port_at Dte channel b) (runs_at Dce channel b WasRestarted way stands).parts)
+no_restart_of_tape_is_told Dte channel b WasRestarted way restart_conf stands may = confirms_untold Dte (layers_of Dte b) b refl (run_due Dte channel b way (runs_at Dte channel b WasRestarted way stands))
+no_restart_of_tape_is_told Dce channel b WasRestarted way restart_conf stands may = confirms_untold Dce (layers_of Dce b) b refl (run_due Dce channel b way (runs_at Dce channel b WasRestarted way stands))
 no_restart_of_tape_is_told from channel b s way packet stands may = absurd may
 
 pub tapes_begin : TapesBegin
@@ -1292,8 +1335,8 @@ tapes_begin from channel = (
 )
   where
     running_so : (p : Port) (from : Role) → AreRunning (layers_of from (all_running p))
-    running_so p Dte = record { ready = refl; begun = refl; sure = refl; found = refl }
-    running_so p Dce = record { ready = refl; begun = refl; sure = refl; found = refl }
+    running_so p Dte = record { begun = refl; others_begun = refl; calm = refl; sure = refl; found = refl }
+    running_so p Dce = record { begun = refl; others_begun = refl; calm = refl; sure = refl; found = refl }
 
     idle_pair : (from : Role) (q r : Port) → q ≡ port.fresh → r ≡ port.fresh → AreIdle (record { from = from; reaches = true; own = q; other = r; rule = None })
     idle_pair from q r e f = record { reaches = refl; quiet = refl; own = subst IsIdle (sym e) fresh_idle; other = subst IsIdle (sym f) fresh_idle }
@@ -1309,3 +1352,90 @@ tapes_begin from channel = (
     begun_so : (p : Port) → IsBegun p → (from : Role) → AreBegun p.talk.window p.talk.most (view from channel (all_running p))
     begun_so p b Dte = pair_so p b Dte (port_at Dte channel (all_running p)) (port_at Dce channel (all_running p)) (filled channel p) (filled channel p)
     begun_so p b Dce = pair_so p b Dce (port_at Dce channel (all_running p)) (port_at Dte channel (all_running p)) (filled channel p) (filled channel p)
+
+-- ---- from the set-up of the link on
+
+module _ (P O : Layer) (p : IsJustUp P) (o : IsJustUp O) where
+  up_first : Layers
+  up_first = layers.marks Asking (record { own = P; other = O; rule = None })
+
+  up_restarts : layers.restarts (record { own = P; other = O; rule = None }) ≡ layers.marks Asking (record { own = P; other = O; rule = None })
+  up_restarts = restarts_so (record { own = P; other = O; rule = None }) (and_left (layer.is_asking P.restart) _ (ap layer.is_asking p.restart)) (rw (p.counted, o.counted) refl) (unclear_not (record { own = P; other = O; rule = None }) p.again o.again p.none)
+
+  abbrev FirstOwn : Layer
+  FirstOwn = layer.restarted Asking P
+
+  abbrev FirstOther : Layer
+  FirstOther = layer.owing (P.owed == 0) O
+
+  abbrev LastOwn : Layer
+  LastOwn = layer.owing (FirstOther.owed == 0) FirstOwn
+
+  abbrev LastOther : Layer
+  LastOther = layer.restarted Confirmed FirstOther
+
+  first_one : FirstOther.owed ≡ 1
+  first_one = ap (λ b. if b then min (O.owed + 1) 255 else O.owed) (ap (λ n. n == 0) p.owed) ∙ ap (λ n. min (n + 1) 255) o.owed
+
+  last_own : LastOwn.owed ≡ 0
+  last_own = ap (λ b. if b then min (FirstOwn.owed + 1) 255 else FirstOwn.owed) (ap (λ n. n == 0) first_one) ∙ ap (λ n. n - 1) p.owed
+
+  last_other : LastOther.owed ≡ 0
+  last_other = ap (λ n. n - 1) first_one
+
+  up_sure : are_sure LastOwn LastOther ≡ true
+  up_sure = rw (p.sure, o.sure) refl
+
+  up_counted : are_counted LastOwn LastOther ≡ true
+  up_counted = rw (p.counted, o.counted) refl
+
+  up_found : are_lost LastOwn LastOther ≡ false
+  up_found = rw (p.found, o.found) refl
+
+  asker_runs : AreRunning (record { own = LastOwn; other = LastOther; rule = None })
+  asker_runs = record { begun = refl; others_begun = refl; calm = early_not (record { own = LastOwn; other = LastOther; rule = None }) (λ _. (up_sure, up_counted), refl) (λ _. last_other); sure = up_sure; found = up_found }
+
+  answerer_runs : AreRunning (record { own = LastOther; other = LastOwn; rule = None })
+  answerer_runs = record { begun = refl; others_begun = refl; calm = early_not (record { own = LastOther; other = LastOwn; rule = None }) (λ e. absurd (both_ways false refl e), refl) (λ _. last_own); sure = and_turned O.is_sure P.is_sure ∙ up_sure; found = or_turned O.is_lost P.is_lost ∙ up_found }
+
+both_idle : (from : Role) (reaches : Bool) (q r : Port) → reaches ≡ true → q ≡ port.fresh → r ≡ port.fresh → AreIdle (record { from = from; reaches = reaches; own = q; other = r; rule = None })
+both_idle from reaches q r near e f = record { reaches = near; quiet = refl; own = subst IsIdle (sym e) fresh_idle; other = subst IsIdle (sym f) fresh_idle }
+
+-- one end restarts, and the other one confirms
+record Started (asks : Role) (channel : ℕ) (b : Book) : Type 0 where
+  pub asker : MayStand asks channel b Idles []
+  pub answerer : MayStand (other asks) channel b Idles []
+
+started : (asks : Role) (channel cause diagnostic : ℕ) (b : Book) → IsBook b → IsJustUp (layers_of asks b).own → IsJustUp (layers_of asks b).other → Started asks channel (book.takes (other asks) 0 restart_conf (book.takes asks 0 (restart cause diagnostic) b).book).book
+started Dte channel cause diagnostic b full p o = subst (Started Dte channel) (sym (ap (λ (z : book.Seen). (book.takes Dce 0 restart_conf z.book).book) (asks_book Dte b cause diagnostic (up_restarts b.dte b.dce p o)) ∙ ap (λ (z : book.Seen). z.book) (answers_book Dce one (or_turned b.dce.is_lost b.dte.is_lost ∙ up_found b.dte b.dce p o) (and_turned b.dce.is_counted b.dte.is_counted ∙ up_counted b.dte b.dce p o) (ap (λ n. nat_lt 0 n) (first_one b.dte b.dce p o)))))
+    (record {
+      asker = Starts two filled_both (asker_runs b.dte b.dce p o) (both_idle Dte _ _ _ (rw (last_own b.dte b.dce p o, last_other b.dte b.dce p o) refl) (filled channel port.fresh) (filled channel port.fresh));
+      answerer = Starts two filled_both (answerer_runs b.dte b.dce p o) (both_idle Dce _ _ _ (rw (last_own b.dte b.dce p o, last_other b.dte b.dce p o) refl) (filled channel port.fresh) (filled channel port.fresh));
+    })
+  where
+    one : Book
+    one = keeps Dte (layers.marks Asking (layers_of Dte b)) (fills Dte port.fresh b)
+
+    two : Book
+    two = keeps Dce (layers.answers_restart (layers_of Dce (keeps Dte (layers.marks Asking (layers_of Dte b)) (fills Dte port.fresh b)))) (fills Dce port.fresh (keeps Dte (layers.marks Asking (layers_of Dte b)) (fills Dte port.fresh b)))
+
+    filled_both : IsBook two
+    filled_both = record { dte = filled_full port.fresh; dce = filled_full port.fresh }
+started Dce channel cause diagnostic b full p o = subst (Started Dce channel) (sym (ap (λ (z : book.Seen). (book.takes Dte 0 restart_conf z.book).book) (asks_book Dce b cause diagnostic (up_restarts b.dce b.dte p o)) ∙ ap (λ (z : book.Seen). z.book) (answers_book Dte one (or_turned b.dte.is_lost b.dce.is_lost ∙ up_found b.dce b.dte p o) (and_turned b.dte.is_counted b.dce.is_counted ∙ up_counted b.dce b.dte p o) (ap (λ n. nat_lt 0 n) (first_one b.dce b.dte p o)))))
+    (record {
+      asker = Starts two filled_both (asker_runs b.dce b.dte p o) (both_idle Dce _ _ _ (rw (last_own b.dce b.dte p o, last_other b.dce b.dte p o) refl) (filled channel port.fresh) (filled channel port.fresh));
+      answerer = Starts two filled_both (answerer_runs b.dce b.dte p o) (both_idle Dte _ _ _ (rw (last_own b.dce b.dte p o, last_other b.dce b.dte p o) refl) (filled channel port.fresh) (filled channel port.fresh));
+    })
+  where
+    one : Book
+    one = keeps Dce (layers.marks Asking (layers_of Dce b)) (fills Dce port.fresh b)
+
+    two : Book
+    two = keeps Dte (layers.answers_restart (layers_of Dte (keeps Dce (layers.marks Asking (layers_of Dce b)) (fills Dce port.fresh b)))) (fills Dte port.fresh (keeps Dce (layers.marks Asking (layers_of Dce b)) (fills Dce port.fresh b)))
+
+    filled_both : IsBook two
+    filled_both = record { dte = filled_full port.fresh; dce = filled_full port.fresh }
+
+pub restarts_begin : RestartsBegin
+restarts_begin Dte channel cause diagnostic b full p o = ((started Dte channel cause diagnostic b full p o).asker, (started Dce channel cause diagnostic b full o p).answerer)
+restarts_begin Dce channel cause diagnostic b full p o = ((started Dce channel cause diagnostic b full p o).asker, (started Dte channel cause diagnostic b full o p).answerer)

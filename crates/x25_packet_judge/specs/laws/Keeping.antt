@@ -1,6 +1,6 @@
--- An end that keeps rules 9 to 13 and 15 to 19 of docs/PEER.md as it sets a call up and in it, beside one that does
--- what it likes: what the two ends of the channel are behind what both have sent, and which states the end may be in.
--- ITU-T X.25 (10/96), sections 4.1.2 to 4.1.6, 4.3, 4.4.1 and 4.4.3.
+-- An end that keeps rules 9 to 13 and 15 to 19 of docs/PEER.md, call after call, beside one that does what it likes:
+-- what the two ends of the channel are behind what both have sent, and which states the end may be in.
+-- ITU-T X.25 (10/96), sections 3.3, 4.1, 4.3, 4.4.1 and 4.4.3.
 use Rattle.std.specs.Prelude.{◌≡◌, ◌==◌, ℕ, ◌+◌, ◌%◌, ◌<◌, ◌≤◌, Bool, true, false, List, [], ◌∷◌, ◌++◌, length}
 use Rattle.std.specs.Prelude.{Option, Some, None, if◌then◌else◌}
 use Rattle.x25_bits.specs.declared.role.Role.{Role}
@@ -41,8 +41,8 @@ pub record Come : Type 0 where
 
 -- Where it stands: it has no call (p1); its CALL waits (p2), or CALL came (p3), which proposes such sizes and windows.
 -- In a call, that gives it this window and packet size: in flow control ready (d1), with what it sent and what came in
--- the stretch; its RESET waits for the confirmation (d2); RESET came (d3). Its CLEAR waits (p6); CLEAR came (p7), or
--- RESTART (r3).
+-- the stretch; its RESET waits for the confirmation (d2); RESET came (d3). Its CLEAR waits (p6), or CLEAR came (p7);
+-- its RESTART waits (r2), or RESTART came (r3).
 pub data Phase : Type 0 where
   Idles : Phase
   Calls : Terms → Phase
@@ -52,6 +52,7 @@ pub data Phase : Type 0 where
   WasReset : (window most : ℕ) → Phase
   Clears : Phase
   WasCleared : Phase
+  HasRestarted : Phase
   WasRestarted : Phase
 
 abbrev pub nothing_given : Given
@@ -122,9 +123,14 @@ MayDo (WasReset window most) (clear channel cause diagnostic) s = s ≡ Clears
 MayDo WasCleared (clear_conf channel) s = s ≡ Idles
 MayDo s packet r = ⊥
 
--- How it may leave it: by CLEAR at any moment, or the confirmation of the one that came (section 4.1.7).
+-- How it may leave it: by CLEAR at any moment but behind its RESTART, or the confirmation of the one that came
+-- (section 4.1.7).
+abbrev pub MayLeave : Phase → Type 0
+MayLeave HasRestarted = ⊥
+MayLeave s = Unit {0}
+
 abbrev pub MayEnd : Phase → PlainPacket → Type 0
-MayEnd s (clear channel cause diagnostic) = Unit {0}
+MayEnd s (clear channel cause diagnostic) = MayLeave s
 MayEnd WasCleared (clear_conf channel) = Unit {0}
 MayEnd s packet = ⊥
 
@@ -150,7 +156,8 @@ takes packet c = c
 
 -- Where it stands behind a packet that comes. Where the calls of both ends collide, the DCE gives its own up (section
 -- 4.1.6). While its RESET waits all is dropped but RESET and its confirmation, either of which ends that (section
--- 4.4.3.3), and what ends the call; and so with its CLEAR (section 4.1.9).
+-- 4.4.3.3), and what ends the call; and so with its CLEAR and its
+-- RESTART (sections 3.3 and 4.1.9).
 abbrev pub comes : Role → Phase → PlainPacket → Phase
 comes from Idles (call channel called calling facilities user) = WasCalled (said facilities usual)
 comes from Idles (clear channel cause diagnostic) = WasCleared
@@ -173,6 +180,8 @@ comes from (Resets window most) (restart cause diagnostic) = WasRestarted
 comes from Clears (clear channel cause diagnostic) = Idles
 comes from Clears (clear_conf channel) = Idles
 comes from Clears (restart cause diagnostic) = WasRestarted
+comes from HasRestarted (restart cause diagnostic) = Idles
+comes from HasRestarted restart_conf = Idles
 comes from s packet = s
 
 -- RESET, CLEAR and RESTART are answered before it takes what comes behind them.

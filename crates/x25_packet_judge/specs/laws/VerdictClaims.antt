@@ -1,8 +1,8 @@
 -- What the laws say of the judge of packets.
 use Rattle.std.specs.Prelude.{◌≡◌, ℕ, true, false, List, [], None}
 use Rattle.x25_bits.specs.declared.role.Role.{Role}
-use Rattle.x25_packet.specs.Packet.{PlainPacket, call, accept, reset, reset_conf}
-use Rattle.x25_packet_judge.specs.Book.{layers_of, pair_of, takes}
+use Rattle.x25_packet.specs.Packet.{PlainPacket, call, accept, reset, reset_conf, restart, restart_conf}
+use Rattle.x25_packet_judge.specs.Book.{other, layers_of, pair_of, takes}
 use Rattle.x25_packet_judge.specs.Layer.{is_begun}
 use Rattle.x25_packet_judge.specs.Layers.{runs_early, are_sure, are_level}
 use Rattle.x25_packet_judge.specs.Message.{octets_of}
@@ -18,7 +18,7 @@ use Rattle.x25_packet_judge.specs.declared.terms.Terms.{Terms}
 use Rattle.x25_packet_judge.specs.laws.Clearing.{IsReady}
 use Rattle.x25_packet_judge.specs.laws.Keeping.{Given, Come, Phase, Idles, MayDo, MayEnd, MayRestart, IsOfChannel}
 use Rattle.x25_packet_judge.specs.laws.Keeping.{MayBe, IsBegun, AreBegun, fresh_phase, next, turned}
-use Rattle.x25_packet_judge.specs.laws.Tape.{MayStand, all_running}
+use Rattle.x25_packet_judge.specs.laws.Tape.{IsBook, IsJustUp, MayStand, all_running}
 use Rattle.x25_packet_judge.specs.laws.Watching.{Line, IsSilent, IsKept}
 
 -- no rule is told of what an end sends that keeps the rules, as a call is set up and in any stretch of it
@@ -122,6 +122,16 @@ abbrev pub TapesBegin : Type 0
 TapesBegin =
     (from : Role) (channel : ℕ) → MayStand from channel (all_running port.fresh) Idles []
     × ((p : Port) → IsBegun p → MayStand from channel (all_running p) (fresh_phase p.talk.window p.talk.most) [])
+
+-- such a one there is behind the set-up of the link, where one end restarts, and the other one confirms
+abbrev pub RestartsBegin : Type 0
+RestartsBegin =
+    (from : Role) (channel cause diagnostic : ℕ) (b : Book) → IsBook b → IsJustUp (layers_of from b).own
+    → IsJustUp (layers_of from b).other
+    → MayStand from channel
+    (takes (other from) 0 restart_conf (takes from 0 (restart cause diagnostic) b).book).book Idles []
+    × MayStand from channel
+    (takes from 0 restart_conf (takes (other from) 0 (restart cause diagnostic) b).book).book Idles []
 
 -- ---- behind a clear
 
