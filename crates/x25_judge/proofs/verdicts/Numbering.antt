@@ -1,6 +1,7 @@
 -- Where nothing is told, each number of an end carries one packet, also where lines of the other end are damaged.
 use Rattle.std.proofs.Common.{◌≡◌, ℕ, ◌+◌, ◌%◌, ◌<◌, ◌≤◌, arith, max, Bool, true, inl, inr, List, [], ◌∷◌, ◌++◌, length, Option, None, Some, refl, sym, ap, ◌∙◌, subst}
-use Rattle.std.proofs.lemmas.Bool.{cond-false}
+use Rattle.std.specs.Prelude.{◌&&◌, not}
+use Rattle.std.proofs.lemmas.Bool.{cond-false, cond_both}
 use Rattle.std.proofs.lemmas.List.{length_push}
 use Rattle.x25_bits.specs.declared.role.Role.{Role}
 use Rattle.x25_bits.specs.Role.{other}
@@ -45,6 +46,9 @@ heard_numbers w nr m h =
 -- nor do octets of the other end that are damaged
 unheard_numbers : (w : Way) (m : ℕ) → Numbers w m → Numbers (way.unheard w) m
 unheard_numbers w m h = record { seen = unheard_seen w.sight h.seen; whole = h.whole; next = h.next; ever = h.ever; kept = cond-false w.is_missed 0 w.kept h.whole ∙ h.kept; behind = h.behind }
+
+deafened_numbers : (l : Bool) (w : Way) (m : ℕ) → Numbers w m → Numbers (way.deafened l w) m
+deafened_numbers l w m h = cond_both (l && not (way.is_unseen w)) (way.deaf w) w (λ v. Numbers v m) (λ _. record { seen = refl; whole = h.whole; next = h.next; ever = h.ever; kept = h.kept; behind = h.behind }) (λ _. h)
 
 fresh_numbers : (w : Way) → w ≡ way.fresh true → Numbers w 0
 fresh_numbers w is = subst (λ x. Numbers x 0) (sym is) (record { seen = refl; whole = refl; next = refl; ever = refl; kept = refl; behind = omega arith })
@@ -116,7 +120,7 @@ failed_at from j k given g h =
           (ap (λ (e : End). sides.may_run e.phase) g.opposite ∙ ap sides.may_run m.other_phase ∙ runs_accepted (sides_of (other from) j).other.phase (opposite_up from j given h));
       other_up = ap (λ (e : End). sides.may_run e.phase) g.own ∙ ap sides.may_run m.phase ∙ runs_unsure (sides_of (other from) j).own.phase;
       numbers = subst (λ x. Numbers (end_of x k).way (length given)) (other_twice from)
-          (subst (λ w. Numbers w (length given)) (sym (ap (λ (e : End). e.way) g.opposite ∙ m.other)) (unheard_numbers (sides_of (other from) j).other.way (length given) (opposite_numbers from j given h)));
+          (subst (λ w. Numbers w (length given)) (sym (ap (λ (e : End). e.way) g.opposite ∙ m.other)) (deafened_numbers (sides.is_overdue (sides_of (other from) j)) (way.unheard (sides_of (other from) j).other.way) (length given) (unheard_numbers (sides_of (other from) j).other.way (length given) (opposite_numbers from j given h))));
       held = same_other from j k given g.other_held h;
     }
 
