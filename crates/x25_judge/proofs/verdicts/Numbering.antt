@@ -50,8 +50,8 @@ unheard_numbers w m h = record { seen = unheard_seen w.sight h.seen; whole = h.w
 deafened_numbers : (l : Bool) (w : Way) (m : ℕ) → Numbers w m → Numbers (way.deafened l w) m
 deafened_numbers l w m h = cond_both (l && not (way.is_unseen w)) (way.deaf w) w (λ v. Numbers v m) (λ _. record { seen = refl; whole = h.whole; next = h.next; ever = h.ever; kept = h.kept; behind = h.behind }) (λ _. h)
 
-fresh_numbers : (w : Way) → w ≡ way.fresh true → Numbers w 0
-fresh_numbers w is = subst (λ x. Numbers x 0) (sym is) (record { seen = refl; whole = refl; next = refl; ever = refl; kept = refl; behind = omega arith })
+fresh_numbers : (l : Bool) (w : Way) → w ≡ way.deafened l (way.fresh true) → Numbers w 0
+fresh_numbers l w is = subst (λ x. Numbers x 0) (sym is) (deafened_numbers l (way.fresh true) 0 (record { seen = refl; whole = refl; next = refl; ever = refl; kept = refl; behind = omega arith }))
 
 sent_none : (t v : Sides) (nr : ℕ) (mine : Way) (last : Option Rule) → Sees t v nr mine last → v.rule ≡ None → last ≡ None
 sent_none t v nr mine last s none = (first_none (sides.first s.before (way.heard nr t.other.way).rule) last (sym s.rule ∙ none)).1
@@ -222,10 +222,10 @@ module _ (from : Role) (j k : Judge) (lines : List (List ℕ)) (h : Has from j l
   other_line (frmr f why) is shows g = absurd is
 
 numbered : ReadsWhatIsSpelled → (from : Role) (j : Judge) (lines : List (List ℕ)) → IsUntold from j lines → Has from j lines
-numbered reads from j lines (Begins k up) = record {
+numbered reads from j lines (Begins late k up) = record {
   given = [];
   carries = Nothing;
-  knows = record { up = (up from).up; other_up = (up (other from)).up; numbers = fresh_numbers (end_of from j).way (up from).way; held = begun_held (held_of from j) (up from).room };
+  knows = record { up = (up from).up; other_up = (up (other from)).up; numbers = fresh_numbers late (end_of from j).way (up from).way; held = begun_held (held_of from j) (up from).room };
 }
 numbered reads from k all (Says j lines line octets frame shows is untold q) =
     let spelled = (reads from n1 frame octets shows.low).0 shows.reads in
