@@ -12,12 +12,14 @@ from support import PROGRAM
 
 import golden
 import judge_runs
+import link_runs
 import odd_runs
 import order_runs
 from x25lines import fcs, is_sealed
 
-# In the gate; `make judge-runs` plays 10,000, 5,000 and 3,600.
+# In the gate; `make judge-runs` plays 10,000, 10,000, 5,000 and 3,600.
 RUNS = 300
+LINK_RUNS = 200
 ODD_RUNS = 100
 ORDER_RUNS = 20
 
@@ -121,6 +123,13 @@ class Runs(support.ToolCase):
     def test_nothing_is_told(self):
         for seed in range(RUNS):
             self.assertEqual(judge_runs.told(PROGRAM, seed)[0], [], f"seed {seed}")
+
+
+@support.needs_program
+class Link(support.ToolCase):
+    def test_no_rule_of_order_is_told_of_an_end_that_keeps_them(self):
+        for seed in range(LINK_RUNS):
+            self.assertEqual(link_runs.told(PROGRAM, seed)[0], [], f"seed {seed}")
 
 
 @support.needs_station

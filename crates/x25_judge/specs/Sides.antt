@@ -54,6 +54,15 @@ is_up Answered = false
 is_up Up = true
 is_up Unanswered = false
 
+-- UA may come to it, and none was shown
+abbrev pub is_unanswered : Phase → Bool
+is_unanswered Unseen = false
+is_unanswered Out = false
+is_unanswered Waiting = true
+is_unanswered Answered = false
+is_unanswered Up = false
+is_unanswered Unanswered = true
+
 -- I frames and supervisory frames may be sent (section 2.4.4.2)
 abbrev pub may_run : Phase → Bool
 may_run Unseen = true
@@ -379,8 +388,18 @@ is_judged (ua f) t = judges_answer t.other.asked t
 is_judged (dm f) t = not f || judges_answer t.other.polls t
 is_judged (frmr f why) t = not f || judges_answer t.other.polls t
 
+-- a damaged frame may be a late UA to an end that none was shown to, and of which no frame was damaged
+abbrev pub is_overdue : Sides → Bool
+is_overdue t = is_late t && (is_unanswered t.other.phase && not t.other.way.is_missed)
+
+abbrev pub missed_way : Sides → Way
+missed_way t = deafened (is_overdue t) (missed (is_unasked t) t.own.way)
+
+abbrev pub unheard_way : Sides → Way
+unheard_way t = deafened (is_overdue t) (unheard t.other.way)
+
 -- octets that spell none: a frame that was damaged, which may have been any, one without a number too
 unfoldable pub misses : Sides → Sides
 misses t = asks_more (asks_on t.own.is_polling
-    (with_other (with_phase (may_be_accepted t.other.phase) (with_way (unheard t.other.way) t.other))
-    (with_own (with_phase (unsure t.own.phase) (with_way (missed (is_unasked t) t.own.way) (ended t.own))) t)))
+    (with_other (with_phase (may_be_accepted t.other.phase) (with_way (unheard_way t) t.other))
+    (with_own (with_phase (unsure t.own.phase) (with_way (missed_way t) (ended t.own))) t)))

@@ -12,9 +12,10 @@ use x25_frame::{reading_is_the_grammar, reads_what_is_spelled};
 use x25_line::{each_event_hands_one, silent_tape_keeps_order};
 use x25_link::{follows_the_window, notes_what_changes, sets_up_by_rows};
 
-/// SABM of an end and UA of the other, anywhere in a trace, begin the session that the two laws below are about; but
-/// not where UA answered a SABM of that end already, and it has sent no frame with a number since, nor where UA may
-/// still come to a SABM or DISC of that end that frames with numbers went behind.
+/// SABM of an end and UA of the other, anywhere in a trace, begin the session that the laws below are about, but where
+/// UA answered a SABM of that end already, and it has sent no frame with a number since. Where UA may still come to a
+/// SABM or DISC of that end that frames with numbers went behind, only the law on one packet for each number is about
+/// it.
 pub fn set_ups_begin()
     ensures { SetUpsBegin }
 {}

@@ -90,6 +90,13 @@ impl Phase {
         matches!(self, Phase::Up)
     }
 
+    /// Whether UA may come to it, and none was shown.
+    fn is_unanswered(self) -> bool
+        ensures { result ≡ definition.is_unanswered self }
+    {
+        matches!(self, Phase::Waiting | Phase::Unanswered)
+    }
+
     /// Behind an I frame or a supervisory frame.
     fn running(self) -> Phase
         ensures { result ≡ definition.running self }
@@ -647,14 +654,37 @@ impl Sides {
         }
     }
 
+    /// Whether octets that are no frame may be a late UA.
+    fn is_overdue(self) -> bool
+        ensures { result ≡ definition.is_overdue self }
+    {
+        self.is_late() && (self.other.phase.is_unanswered() && !self.other.way.is_missed)
+    }
+
+    /// The first end's I frames behind octets of it that are no frame.
+    fn missed_way(self) -> Way
+        ensures { result ≡ definition.missed_way self }
+    {
+        self.own
+            .way
+            .missed(self.is_unasked())
+            .deafened(self.is_overdue())
+    }
+
+    /// The other end's.
+    fn unheard_way(self) -> Way
+        ensures { result ≡ definition.unheard_way self }
+    {
+        self.other.way.unheard().deafened(self.is_overdue())
+    }
+
     /// The first end sends octets that are no frame: they may have been any, one without a number too.
     #[tactic(auto, unfolding(crate::specs::Sides::misses))]
     pub(crate) fn misses(self) -> Sides
         ensures { result ≡ definition.misses self }
     {
-        let way = self.own.way.missed(self.is_unasked());
-        let own = self.own.ended().with_way(way);
-        let other = self.other.with_way(self.other.way.unheard());
+        let own = self.own.ended().with_way(self.missed_way());
+        let other = self.other.with_way(self.unheard_way());
         self.with_own(own.with_phase(self.own.phase.unsure()))
             .with_other(other.with_phase(self.other.phase.may_be_accepted()))
             .asks_on(self.own.is_polling)

@@ -20,6 +20,7 @@ use Rattle.x25_judge.proofs.verdicts.Fair.{Own, OwnIf, unheard_seen, unheard_uns
 use Rattle.x25_judge.proofs.verdicts.Lines.{other_twice, Past}
 use Rattle.x25_judge.proofs.verdicts.Octets.{IsHeld}
 use Rattle.x25_judge.proofs.verdicts.Beside.{heard_all, took_all, Own_fit, Hears_fit, Hears, Seen, SeenBy, Beside}
+use Rattle.x25_judge.proofs.verdicts.Standing.{deafened_own, deafened_hears}
 
 pub runs_accepted : (p : Phase) → sides.may_run p ≡ true → sides.may_run (sides.may_be_accepted p) ≡ true
 runs_accepted Unseen e = refl
@@ -30,8 +31,8 @@ runs_accepted Up e = refl
 runs_accepted Unanswered e = refl
 
 pub record Misses (t : Sides) : Type 0 where
-  pub own : (sides.misses t).own.way ≡ way.missed (sides.is_unasked t) t.own.way
-  pub other : (sides.misses t).other.way ≡ way.unheard t.other.way
+  pub own : (sides.misses t).own.way ≡ sides.missed_way t
+  pub other : (sides.misses t).other.way ≡ sides.unheard_way t
   pub phase : (sides.misses t).own.phase ≡ sides.unsure t.own.phase
   pub other_phase : (sides.misses t).other.phase ≡ sides.may_be_accepted t.other.phase
   pub asked : (sides.misses t).own.asked ≡ min (t.own.asked + 1) 255
@@ -72,8 +73,8 @@ misses_seen t m u g told h =
     let s = misses_is t in
     record {
       up = ap sides.may_run s.other_phase ∙ runs_accepted t.other.phase h.up;
-      own = subst (λ w. OwnIf w m u) (sym s.other) (unheard_own_if t.other.way m u h.own);
-      hears = subst (λ w. Hears w g told) (sym s.own) (missed_hears (sides.is_unasked t) t.own.way g told h.hears);
+      own = subst (λ w. OwnIf w m u) (sym s.other) (deafened_own (sides.is_overdue t) (way.unheard t.other.way) m u (unheard_own_if t.other.way m u h.own));
+      hears = subst (λ w. Hears w g told) (sym s.own) (deafened_hears (sides.is_overdue t) (way.missed (sides.is_unasked t) t.own.way) g told (missed_hears (sides.is_unasked t) t.own.way g told h.hears));
     }
 
 failed_seen : (from : Role) (j k : Judge) (m u g t : ℕ) → Past j k (other from) → SeenBy from j m u g t → SeenBy from k m u g t

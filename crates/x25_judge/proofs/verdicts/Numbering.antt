@@ -1,6 +1,7 @@
 -- Where nothing is told, each number of an end carries one packet, also where lines of the other end are damaged.
 use Rattle.std.proofs.Common.{◌≡◌, ℕ, ◌+◌, ◌%◌, ◌<◌, ◌≤◌, arith, max, Bool, true, inl, inr, List, [], ◌∷◌, ◌++◌, length, Option, None, Some, refl, sym, ap, ◌∙◌, subst}
-use Rattle.std.proofs.lemmas.Bool.{cond-false}
+use Rattle.std.specs.Prelude.{◌&&◌, not}
+use Rattle.std.proofs.lemmas.Bool.{cond-false, cond_both}
 use Rattle.std.proofs.lemmas.List.{length_push}
 use Rattle.x25_bits.specs.declared.role.Role.{Role}
 use Rattle.x25_bits.specs.Role.{other}
@@ -46,8 +47,11 @@ heard_numbers w nr m h =
 unheard_numbers : (w : Way) (m : ℕ) → Numbers w m → Numbers (way.unheard w) m
 unheard_numbers w m h = record { seen = unheard_seen w.sight h.seen; whole = h.whole; next = h.next; ever = h.ever; kept = cond-false w.is_missed 0 w.kept h.whole ∙ h.kept; behind = h.behind }
 
-fresh_numbers : (w : Way) → w ≡ way.fresh true → Numbers w 0
-fresh_numbers w is = subst (λ x. Numbers x 0) (sym is) (record { seen = refl; whole = refl; next = refl; ever = refl; kept = refl; behind = omega arith })
+deafened_numbers : (l : Bool) (w : Way) (m : ℕ) → Numbers w m → Numbers (way.deafened l w) m
+deafened_numbers l w m h = cond_both (l && not (way.is_unseen w)) (way.deaf w) w (λ v. Numbers v m) (λ _. record { seen = refl; whole = h.whole; next = h.next; ever = h.ever; kept = h.kept; behind = h.behind }) (λ _. h)
+
+fresh_numbers : (l : Bool) (w : Way) → w ≡ way.deafened l (way.fresh true) → Numbers w 0
+fresh_numbers l w is = subst (λ x. Numbers x 0) (sym is) (deafened_numbers l (way.fresh true) 0 (record { seen = refl; whole = refl; next = refl; ever = refl; kept = refl; behind = omega arith }))
 
 sent_none : (t v : Sides) (nr : ℕ) (mine : Way) (last : Option Rule) → Sees t v nr mine last → v.rule ≡ None → last ≡ None
 sent_none t v nr mine last s none = (first_none (sides.first s.before (way.heard nr t.other.way).rule) last (sym s.rule ∙ none)).1
@@ -116,7 +120,7 @@ failed_at from j k given g h =
           (ap (λ (e : End). sides.may_run e.phase) g.opposite ∙ ap sides.may_run m.other_phase ∙ runs_accepted (sides_of (other from) j).other.phase (opposite_up from j given h));
       other_up = ap (λ (e : End). sides.may_run e.phase) g.own ∙ ap sides.may_run m.phase ∙ runs_unsure (sides_of (other from) j).own.phase;
       numbers = subst (λ x. Numbers (end_of x k).way (length given)) (other_twice from)
-          (subst (λ w. Numbers w (length given)) (sym (ap (λ (e : End). e.way) g.opposite ∙ m.other)) (unheard_numbers (sides_of (other from) j).other.way (length given) (opposite_numbers from j given h)));
+          (subst (λ w. Numbers w (length given)) (sym (ap (λ (e : End). e.way) g.opposite ∙ m.other)) (deafened_numbers (sides.is_overdue (sides_of (other from) j)) (way.unheard (sides_of (other from) j).other.way) (length given) (unheard_numbers (sides_of (other from) j).other.way (length given) (opposite_numbers from j given h))));
       held = same_other from j k given g.other_held h;
     }
 
@@ -218,10 +222,10 @@ module _ (from : Role) (j k : Judge) (lines : List (List ℕ)) (h : Has from j l
   other_line (frmr f why) is shows g = absurd is
 
 numbered : ReadsWhatIsSpelled → (from : Role) (j : Judge) (lines : List (List ℕ)) → IsUntold from j lines → Has from j lines
-numbered reads from j lines (Begins k up) = record {
+numbered reads from j lines (Begins late k up) = record {
   given = [];
   carries = Nothing;
-  knows = record { up = (up from).up; other_up = (up (other from)).up; numbers = fresh_numbers (end_of from j).way (up from).way; held = begun_held (held_of from j) (up from).room };
+  knows = record { up = (up from).up; other_up = (up (other from)).up; numbers = fresh_numbers late (end_of from j).way (up from).way; held = begun_held (held_of from j) (up from).room };
 }
 numbered reads from k all (Says j lines line octets frame shows is untold q) =
     let spelled = (reads from n1 frame octets shows.low).0 shows.reads in

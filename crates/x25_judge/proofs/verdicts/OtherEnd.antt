@@ -1,5 +1,6 @@
 -- What the other end sends, beside an end that keeps the rules over any number of set-ups.
 use Rattle.std.proofs.Common.{◌≡◌, ◌==◌, inl, inr, ℕ, ◌+◌, ◌≤◌, arith, min, Bool, true, false, List, [], ◌∷◌, ◌++◌, length, None, Some, refl, sym, ap, ◌∙◌, subst}
+use Rattle.std.specs.Prelude.{◌&&◌, not}
 use Rattle.std.proofs.lemmas.Bool.{eqb-true, and_parts, both_ways, cond_both}
 use Rattle.x25_frame.specs.Frame.{PlainFrame, info, rr, rnr, rej, sabm, disc, ua, dm, frmr}
 use Rattle.x25_line.specs.laws.Peer.{Peer, fresh_peer}
@@ -177,34 +178,42 @@ accepted_answered phase.Answered on = tt
 accepted_answered phase.Up on = absurd on
 accepted_answered phase.Unanswered on = absurd on
 
-missed_own : (k : Bool) (p : Phase) (a c : End) (w : Way) → c.asked ≡ a.asked → c.way ≡ way.unheard a.way → RestsOwn p a w
-    → RestsOwn (sides.may_be_accepted p) c (way.missed k w)
-missed_own k phase.Unseen a c w e f r = r
-missed_own k phase.Out a c w e f r = tt
-missed_own k phase.Waiting a c w e f r = (
-  subst (λ v. OwnIf v 0 0) (sym f) (unheard_own_if a.way 0 0 r.0),
-  elim r.1 [ inl asked ↦ inl (λ z. asked (sym e ∙ z)) | inr hears ↦ inr (missed_hears k w 0 0 hears) ],
+still_deaf : (l : Bool) (w : Way) → way.may_hear w ≡ false → way.may_hear (way.deafened l w) ≡ false
+still_deaf true w deaf = late_deaf w
+still_deaf false w deaf = deaf
+
+missed_own : (l k : Bool) (p : Phase) (a c : End) (w : Way) → c.asked ≡ a.asked → c.way ≡ way.deafened l (way.unheard a.way) → RestsOwn p a w
+    → RestsOwn (sides.may_be_accepted p) c (way.deafened l (way.missed k w))
+missed_own l k phase.Unseen a c w e f r = still_deaf l (way.missed k w) r
+missed_own l k phase.Out a c w e f r = tt
+missed_own l k phase.Waiting a c w e f r = (
+  subst (λ v. OwnIf v 0 0) (sym f) (deafened_own l (way.unheard a.way) 0 0 (unheard_own_if a.way 0 0 r.0)),
+  elim r.1 [ inl asked ↦ inl (λ z. asked (sym e ∙ z)) | inr hears ↦ inr (deafened_hears l (way.missed k w) 0 0 (missed_hears k w 0 0 hears)) ],
 )
-missed_own k phase.Answered a c w e f r = (
-  subst (λ v. OwnIf v 0 0) (sym f) (unheard_own_if a.way 0 0 r.0),
-  elim r.1 [ inl asked ↦ inl (λ z. asked (sym e ∙ z)) | inr hears ↦ inr (missed_hears k w 0 0 hears) ],
+missed_own l k phase.Answered a c w e f r = (
+  subst (λ v. OwnIf v 0 0) (sym f) (deafened_own l (way.unheard a.way) 0 0 (unheard_own_if a.way 0 0 r.0)),
+  elim r.1 [ inl asked ↦ inl (λ z. asked (sym e ∙ z)) | inr hears ↦ inr (deafened_hears l (way.missed k w) 0 0 (missed_hears k w 0 0 hears)) ],
 )
-missed_own k phase.Up a c w e f r = tt
-missed_own k phase.Unanswered a c w e f r = (
-  subst (λ v. OwnIf v 0 0) (sym f) (unheard_own_if a.way 0 0 r.0),
-  elim r.1 [ inl asked ↦ inl (λ z. asked (sym e ∙ z)) | inr hears ↦ inr (missed_hears k w 0 0 hears) ],
+missed_own l k phase.Up a c w e f r = tt
+missed_own l k phase.Unanswered a c w e f r = (
+  subst (λ v. OwnIf v 0 0) (sym f) (deafened_own l (way.unheard a.way) 0 0 (unheard_own_if a.way 0 0 r.0)),
+  elim r.1 [ inl asked ↦ inl (λ z. asked (sym e ∙ z)) | inr hears ↦ inr (deafened_hears l (way.missed k w) 0 0 (missed_hears k w 0 0 hears)) ],
 )
 
-stays_rested : (k : Bool) (w : Way) → Rested w → Rested (way.missed k w)
-stays_rested k w h = record { hears = missed_hears k w 0 0 h.hears; none = h.none }
+missed_rested : (l k : Bool) (w : Way) → Rested w → Rested (way.deafened l (way.missed k w))
+missed_rested l k w h = deafened_rested l (way.missed k w) (record { hears = missed_hears k w 0 0 h.hears; none = h.none })
 
-missed_other : (k : Bool) (p : Phase) (w : Way) → RestsOther p w → RestsOther (sides.unsure p) (way.missed k w)
-missed_other k phase.Unseen w r = tt
-missed_other k phase.Out w r = tt
-missed_other k phase.Waiting w r = tt
-missed_other k phase.Answered w r = stays_rested k w r
-missed_other k phase.Up w r = inl refl
-missed_other k phase.Unanswered w r = inl refl
+still_missed : (l k : Bool) (w : Way) → (way.deafened l (way.missed k w)).is_missed ≡ true
+still_missed true k w = cond_both (true && not (way.is_unseen w)) (way.deaf (way.missed k w)) (way.missed k w) (λ v. v.is_missed ≡ true) (λ _. refl) (λ _. refl)
+still_missed false k w = refl
+
+missed_other : (l k : Bool) (p : Phase) (w : Way) → RestsOther p w → RestsOther (sides.unsure p) (way.deafened l (way.missed k w))
+missed_other l k phase.Unseen w r = tt
+missed_other l k phase.Out w r = tt
+missed_other l k phase.Waiting w r = tt
+missed_other l k phase.Answered w r = missed_rested l k w r
+missed_other l k phase.Up w r = inl (still_missed l k w)
+missed_other l k phase.Unanswered w r = inl (still_missed l k w)
 
 on_unsure : (p : Phase) → On (sides.unsure p) → On p
 on_unsure phase.Unseen on = on
@@ -231,13 +240,18 @@ unsure_sabms phase.Answered a b frames asked late h on none sabms = sabms tt non
 unsure_sabms phase.Up a b frames asked late h on none sabms = sabms_none a b frames (none_at_all (asks_all frames) asked h none)
 unsure_sabms phase.Unanswered a b frames asked late h on none sabms = sabms tt none
 
-missed_anew : (k : Bool) (a b : Way) (rest : List PlainFrame) → Anew a b rest → Anew (way.unheard a) (way.missed k b) rest
-missed_anew k a b rest h = record { count = h.count; own = unheard_own_if a h.count (heard_all rest 0) h.own; hears = missed_hears k b (took_all rest 0) 0 h.hears; first = h.first }
+missed_anew : (l k : Bool) (a b : Way) (rest : List PlainFrame) → Anew a b rest → Anew (way.deafened l (way.unheard a)) (way.deafened l (way.missed k b)) rest
+missed_anew l k a b rest h = record {
+  count = h.count;
+  own = deafened_own l (way.unheard a) h.count (heard_all rest 0) (unheard_own_if a h.count (heard_all rest 0) h.own);
+  hears = deafened_hears l (way.missed k b) (took_all rest 0) 0 (missed_hears k b (took_all rest 0) 0 h.hears);
+  first = λ hears. h.first (deafened_hearing l (way.missed k b) hears);
+}
 
 missed_seen : (t : Sides) (p : Peer) (rest : List PlainFrame) → SeenIn t.other t.own p rest → SeenIn (sides.misses t).other (sides.misses t).own p rest
 missed_seen t p rest s = record {
   seen = misses_seen t p.sent (heard_all rest p.acked) (took_all rest (length p.taken)) p.told s.seen;
-  first = λ on hears. s.first (on_unsure t.own.phase (subst On (misses_is t).phase on)) (sym (ap way.may_hear (misses_is t).own) ∙ hears);
+  first = λ on hears. s.first (on_unsure t.own.phase (subst On (misses_is t).phase on)) (deafened_hearing (sides.is_overdue t) (way.missed (sides.is_unasked t) t.own.way) (sym (ap way.may_hear (misses_is t).own) ∙ hears));
 }
 
 pub missed_fits : (t : Sides) (stand : Stand) (p : Peer) (frames : List PlainFrame) → Fits t.other t.own stand p frames → Fits (sides.misses t).other (sides.misses t).own stand p frames
@@ -247,12 +261,12 @@ missed_fits t stand p frames f =
     record {
       asked = subst (λ x. min (asks_all frames) 255 ≤ x) (sym s.asked) (more (asks_all frames) t.own.asked f.asked);
       late = λ rests. subst (λ x. min (late_all frames) 255 ≤ x) (sym s.late) (ended_bound t.own.phase frames t.own.asked t.own.late f.asked f.late);
-      own = subst (λ x. RestsOwn x v.other v.own.way) (sym s.other_phase) (subst (λ w. RestsOwn (sides.may_be_accepted t.other.phase) v.other w) (sym s.own) (missed_own (sides.is_unasked t) t.other.phase t.other v.other t.own.way s.other_asked s.other f.own));
+      own = subst (λ x. RestsOwn x v.other v.own.way) (sym s.other_phase) (subst (λ w. RestsOwn (sides.may_be_accepted t.other.phase) v.other w) (sym s.own) (missed_own (sides.is_overdue t) (sides.is_unasked t) t.other.phase t.other v.other t.own.way s.other_asked s.other f.own));
       count = f.count;
-      sent = subst (λ w. OwnIf w f.count 0) (sym s.other) (unheard_own_if t.other.way f.count 0 f.sent);
-      other = subst (λ x. RestsOther x v.own.way) (sym (misses_is t).phase) (subst (λ w. RestsOther (sides.unsure t.own.phase) w) (sym s.own) (missed_other (sides.is_unasked t) t.own.phase t.own.way f.other));
-      sabms = λ on none. subst (λ w. BehindSabm w v.own.way frames) (sym s.other) (subst (λ w. BehindSabm (way.unheard t.other.way) w frames) (sym s.own)
-          (sabms_to t.other.way t.own.way (way.unheard t.other.way) (way.missed (sides.is_unasked t) t.own.way) frames (missed_anew (sides.is_unasked t) t.other.way t.own.way)
+      sent = subst (λ w. OwnIf w f.count 0) (sym s.other) (deafened_own (sides.is_overdue t) (way.unheard t.other.way) f.count 0 (unheard_own_if t.other.way f.count 0 f.sent));
+      other = subst (λ x. RestsOther x v.own.way) (sym (misses_is t).phase) (subst (λ w. RestsOther (sides.unsure t.own.phase) w) (sym s.own) (missed_other (sides.is_overdue t) (sides.is_unasked t) t.own.phase t.own.way f.other));
+      sabms = λ on none. subst (λ w. BehindSabm w v.own.way frames) (sym s.other) (subst (λ w. BehindSabm (sides.unheard_way t) w frames) (sym s.own)
+          (sabms_to t.other.way t.own.way (sides.unheard_way t) (sides.missed_way t) frames (missed_anew (sides.is_overdue t) (sides.is_unasked t) t.other.way t.own.way)
           (unsure_sabms t.own.phase t.other.way t.own.way frames t.own.asked t.own.late f.asked (subst On (misses_is t).phase on) (sym s.late ∙ none) f.sabms)));
       holds = holds_to t.other t.own v.other v.own stand p frames (λ w. subst (λ x. Awaits x v.other.asked) (sym s.other_phase) (may_be_awaits t.other.phase t.other.asked v.other.asked w)) (λ on. subst IsAnswered (sym s.other_phase) (may_be_answered t.other.phase on)) (missed_seen t) f.holds;
     }

@@ -26,7 +26,7 @@ use Rattle.x25_judge.specs.declared.sides.Phase.{Phase}
 use Rattle.x25_judge.specs.declared.sides.Phase.TheVariants.{Unseen, Out, Waiting, Answered, Up, Unanswered}
 use Rattle.x25_judge.specs.declared.sides.Sides.{Sides}
 use Rattle.x25_judge.specs.declared.way.Way.{Way}
-use Rattle.x25_judge.specs.laws.Session.{end_of, IsSetUp}
+use Rattle.x25_judge.specs.laws.Session.{end_of, IsBegun}
 use Rattle.x25_judge.specs.laws.VerdictClaims.{after, IsAnswered, SetUpsBegin}
 use Rattle.x25_judge.proofs.verdicts.Lines.{other_twice, Goes, next_goes, goes, stands}
 
@@ -152,11 +152,11 @@ sabm_late window s true t =
 
 -- ---- UA
 
-record AreBegun (t : Sides) : Type 0 where
+record AreBegun (is_late : Bool) (t : Sides) : Type 0 where
   pub own_up : sides.may_run t.own.phase ≡ true
-  pub own : t.own.way ≡ way.fresh true
+  pub own : t.own.way ≡ way.deafened is_late (way.fresh true)
   pub other_up : sides.may_run t.other.phase ≡ true
-  pub opposite : t.other.way ≡ way.fresh true
+  pub opposite : t.other.way ≡ way.deafened is_late (way.fresh true)
 
 is_up : (p : Phase) → sides.may_run (sides.accepting p) ≡ true
 is_up Unseen = refl
@@ -176,15 +176,13 @@ record Kept (t v : Sides) : Type 0 where
   pub way : v.other.way ≡ t.other.way
   pub other_late : v.other.late ≡ t.other.late
 
-in_time : (t : Sides) → t.other.late ≡ 0 → sides.is_late t ≡ false
-in_time t none = ap (λ x. not (x == 0)) none
-
-accepts_begin : (v : Sides) → Waits v.other → sides.is_late v ≡ false → AreBegun (sides.answers (sides.accepts v))
-accepts_begin v a late = record {
+accepts_begin : (v : Sides) → Waits v.other → AreBegun (sides.is_late v) (sides.answers (sides.accepts v))
+accepts_begin v a = record {
   own_up = is_up v.own.phase;
-  own = ap (λ l. way.deafened l (sides.accepting_way v.other.phase v.own.way)) late ∙ ap (λ p. sides.accepting_way p v.own.way) a.phase;
+  own = ap (λ p. way.deafened (sides.is_late v) (sides.accepting_way p v.own.way)) a.phase;
   other_up = ap (λ p. sides.may_run (sides.accepted p)) a.phase;
-  opposite = ap (λ l. way.deafened l (sides.accepted_way v.other.phase v.other.way)) late ∙ ap (λ p. sides.accepted_way p v.other.way) a.phase ∙ ap way.answered a.way ∙ answered_fresh a.knows;
+  opposite = ap (λ p. way.deafened (sides.is_late v) (sides.accepted_way p v.other.way)) a.phase ∙ ap (λ w. way.deafened (sides.is_late v) (way.answered w)) a.way
+      ∙ ap (λ w. way.deafened (sides.is_late v) w) (answered_fresh a.knows);
 }
 
 answered_kept : (f : Bool) (t : Sides) → Kept t (sides.answers_if f t)
@@ -196,24 +194,24 @@ answered_kept true t =
     (λ _. record { phase = refl; way = refl; other_late = refl })
     (λ _. record { phase = refl; way = refl; other_late = refl }))
 
-ua_begins : (window : ℕ) (s f : Bool) (t : Sides) → Asks t.other → t.other.late ≡ 0 → AreBegun (sides.sees window s (ua f) t)
+ua_begins : (window : ℕ) (s f : Bool) (t : Sides) → Asks t.other → AreBegun (sides.is_late t) (sides.sees window s (ua f) t)
 unfolding sides.sees
-ua_begins window s f t a none =
+ua_begins window s f t a =
     let u = sides.ends (sides.answers_if f t) in
     let k = answered_kept f t in
-    subst (λ v. AreBegun v) (sym (cond-false (sides.is_unasked t) (sides.tells (Some UaUnasked) t) (sides.answers (sides.accepts u)) (and_right t.other.is_followed (t.other.asked == 0) a.asked)))
-    (accepts_begin u (record { phase = k.phase ∙ a.waits.phase; knows = a.waits.knows; way = k.way ∙ a.waits.way }) (in_time u (k.other_late ∙ none)))
+    subst (λ v. AreBegun (sides.is_late t) v) (sym (cond-false (sides.is_unasked t) (sides.tells (Some UaUnasked) t) (sides.answers (sides.accepts u)) (and_right t.other.is_followed (t.other.asked == 0) a.asked)))
+    (subst (λ l. AreBegun l (sides.answers (sides.accepts u))) (ap (λ x. not (x == 0)) k.other_late) (accepts_begin u (record { phase = k.phase ∙ a.waits.phase; knows = a.waits.knows; way = k.way ∙ a.waits.way })))
 
 -- ---- both
 
-begun : (o : Role) (j k : Judge) (t : Sides) (f : Bool) → Goes j k o t (ua f) → AreBegun t → ((r : Role) → length (held_of r k) ≡ 8) → IsSetUp k
-begun Dte j k t f g b rooms Dte = record { up = ap (λ (e : End). sides.may_run e.phase) g.own ∙ b.own_up; way = ap (λ (e : End). e.way) g.own ∙ b.own; room = rooms Dte }
-begun Dte j k t f g b rooms Dce = record { up = ap (λ (e : End). sides.may_run e.phase) g.opposite ∙ b.other_up; way = ap (λ (e : End). e.way) g.opposite ∙ b.opposite; room = rooms Dce }
-begun Dce j k t f g b rooms Dce = record { up = ap (λ (e : End). sides.may_run e.phase) g.own ∙ b.own_up; way = ap (λ (e : End). e.way) g.own ∙ b.own; room = rooms Dce }
-begun Dce j k t f g b rooms Dte = record { up = ap (λ (e : End). sides.may_run e.phase) g.opposite ∙ b.other_up; way = ap (λ (e : End). e.way) g.opposite ∙ b.opposite; room = rooms Dte }
+begun : (l : Bool) (o : Role) (j k : Judge) (t : Sides) (f : Bool) → Goes j k o t (ua f) → AreBegun l t → ((r : Role) → length (held_of r k) ≡ 8) → (r : Role) → IsBegun l k r
+begun l Dte j k t f g b rooms Dte = record { up = ap (λ (e : End). sides.may_run e.phase) g.own ∙ b.own_up; way = ap (λ (e : End). e.way) g.own ∙ b.own; room = rooms Dte }
+begun l Dte j k t f g b rooms Dce = record { up = ap (λ (e : End). sides.may_run e.phase) g.opposite ∙ b.other_up; way = ap (λ (e : End). e.way) g.opposite ∙ b.opposite; room = rooms Dce }
+begun l Dce j k t f g b rooms Dce = record { up = ap (λ (e : End). sides.may_run e.phase) g.own ∙ b.own_up; way = ap (λ (e : End). e.way) g.own ∙ b.own; room = rooms Dce }
+begun l Dce j k t f g b rooms Dte = record { up = ap (λ (e : End). sides.may_run e.phase) g.opposite ∙ b.other_up; way = ap (λ (e : End). e.way) g.opposite ∙ b.opposite; room = rooms Dte }
 
 pub set_ups_begin : SetUpsBegin
-set_ups_begin window reading strictness lines from asks accepts asked accepted p f shows_asks shows_accepts unanswered prompt =
+set_ups_begin window reading strictness lines from asks accepts asked accepted p f shows_asks shows_accepts unanswered =
     let j = after (begins window reading strictness) lines in
     let k = (answer_to j asks).next in
     let g = goes j asks from asked (sabm p) shows_asks in
@@ -223,10 +221,11 @@ set_ups_begin window reading strictness lines from asks accepts asked accepted p
     subst (λ (e : End). Asks e) (sym g.own) (sabm_asks j.window _ p (sides_of from j) (λ (a : IsAnswered (sides_of from j).own.phase). unanswered (subst (λ (e : End). IsAnswered e.phase) (stands j from).own a))) in
     let opposite = (stands k (other from)).opposite ∙ ap (λ r. end_of r k) (other_twice from) in
     let at_other : Asks (sides_of (other from) k).other = subst (λ (e : End). Asks e) (sym opposite) asking in
-    let other_late = ap (λ (e : End). e.late) (opposite ∙ g.own) ∙ late ∙ ap (λ (e : End). (sides.ended e).late) (stands j from).own ∙ prompt in
+    let other_late = ap (λ (e : End). e.late) (opposite ∙ g.own) ∙ late ∙ ap (λ (e : End). (sides.ended e).late) (stands j from).own in
     let l = (answer_to k accepts).next in
     let stays = line_stays window k accepts (line_stays window j asks (lines_stay window (begins window reading strictness) lines (begins_so window reading strictness))) in
     record {
-      up = begun (other from) k l (seen_by k (other from) (ua f)) f (goes k accepts (other from) accepted (ua f) shows_accepts) (ua_begins k.window _ f (sides_of (other from) k) at_other other_late) stays.rooms;
+      up = subst (λ b. (r : Role) → IsBegun b l r) (ap (λ x. not (x == 0)) other_late)
+          (begun (sides.is_late (sides_of (other from) k)) (other from) k l (seen_by k (other from) (ua f)) f (goes k accepts (other from) accepted (ua f) shows_accepts) (ua_begins k.window _ f (sides_of (other from) k) at_other) stays.rooms);
       counts = stays.counts;
     }

@@ -7,7 +7,7 @@ use Rattle.x25_frame.specs.Frame.{PlainFrame, info, rr, rnr, rej}
 use Rattle.x25_frame.specs.Reading.{frame_of}
 use Rattle.x25_judge.specs.Judge.{held_of, remark_of, seen_by}
 use Rattle.x25_judge.specs.Sides.{may_run}
-use Rattle.x25_judge.specs.Way.{fresh}
+use Rattle.x25_judge.specs.Way.{fresh, deafened}
 use Rattle.x25_judge.specs.declared.judge.Judge.{Judge}
 use Rattle.x25_judge.specs.declared.rule.Rule.{Rule}
 use Rattle.x25_judge.specs.declared.rule.Rule.TheVariants.{NoFrame, UaUnasked, NotUp, Unsent, Falls, OverWindow}
@@ -19,15 +19,15 @@ abbrev pub end_of : Role → Judge → End
 end_of Dte j = j.dte
 end_of Dce j = j.dce
 
--- an end may send, and its numbers begin
-pub record IsBegun (j : Judge) (from : Role) : Type 0 where
+-- an end may send, and its numbers begin; where `is_late` the N(R)s that answer them aren't judged
+pub record IsBegun (is_late : Bool) (j : Judge) (from : Role) : Type 0 where
   pub up : may_run (end_of from j).phase ≡ true
-  pub way : (end_of from j).way ≡ fresh true
+  pub way : (end_of from j).way ≡ deafened is_late (fresh true)
   pub room : length (held_of from j) ≡ 8
 
 -- the trace has shown a set-up, and nothing behind it
 abbrev pub IsSetUp : Judge → Type 0
-IsSetUp j = (from : Role) → IsBegun j from
+IsSetUp j = (from : Role) → IsBegun false j from
 
 -- ---- lines
 

@@ -1,5 +1,5 @@
 -- What the laws say of `judge`.
-use Rattle.std.specs.Prelude.{◌≡◌, ℕ, ◌≤◌, Bool, false, List, [], ◌∷◌}
+use Rattle.std.specs.Prelude.{◌≡◌, ℕ, ◌==◌, ◌≤◌, Bool, false, not, List, [], ◌∷◌}
 use Rattle.x25_bits.specs.declared.role.Role.{Role}
 use Rattle.x25_decode.specs.Decoding.{n1}
 use Rattle.x25_decode.specs.declared.answer.Reading.{Reading}
@@ -18,7 +18,7 @@ use Rattle.x25_sessions.specs.laws.PeerSessions.{Stand}
 use Rattle.x25_judge.specs.laws.Explaining.{IsQuiet, IsKept, IsUntold, Carries}
 use Rattle.x25_judge.specs.laws.Keeping.{MaySend, MayBe}
 use Rattle.x25_judge.specs.laws.Sessions.{MaySay, MayStand}
-use Rattle.x25_judge.specs.laws.Session.{end_of, IsSetUp, Shows, IsNumbered, rule_of, is_of_order}
+use Rattle.x25_judge.specs.laws.Session.{end_of, IsBegun, Shows, IsNumbered, rule_of, is_of_order}
 use Rattle.x25_judge.specs.laws.Watching.{Watched, IsSilent, IsAny}
 
 -- no rule of order is told of what an end sends that keeps the rules
@@ -69,16 +69,17 @@ abbrev pub IsAnswered : Phase → Type 0
 IsAnswered Answered = Unit {0}
 IsAnswered phase = ⊥
 
-pub record SetsUp (j : Judge) (window : ℕ) : Type 0 where
-  pub up : IsSetUp j
+pub record SetsUp (is_late : Bool) (j : Judge) (window : ℕ) : Type 0 where
+  pub up : (from : Role) → IsBegun is_late j from
   pub counts : j.window ≡ window
 
--- wherever a trace shows SABM of an end and then UA of the other, but where UA may be late
+-- wherever a trace shows SABM of an end and then UA of the other, which is late where one to a SABM or DISC of before
+-- its numbers may be missing
 abbrev pub SetUpsBegin : Type 0
 SetUpsBegin =
     (window : ℕ) (reading : Reading) (strictness : Strictness) (lines : List (List ℕ)) (from : Role)
     (asks accepts asked accepted : List ℕ) (p f : Bool)
     → Shows asks from asked (sabm p) → Shows accepts (other from) accepted (ua f)
     → (IsAnswered (end_of from (after (begins window reading strictness) lines)).phase → ⊥)
-    → (ended (end_of from (after (begins window reading strictness) lines))).late ≡ 0
-    → SetsUp (after (after (begins window reading strictness) lines) (asks ∷ accepts ∷ [])) window
+    → SetsUp (not ((ended (end_of from (after (begins window reading strictness) lines))).late == 0))
+    (after (after (begins window reading strictness) lines) (asks ∷ accepts ∷ [])) window
