@@ -65,61 +65,58 @@ impl Kind {
     }
 }
 
-/// The calls of one kind. A call that is made again where it was refused memory counts once.
-#[derive(Clone, Copy)]
-struct Count {
-    calls: u64,
-    refused: u64,
+/// How many calls of each kind were made, and how many were refused. A call that is made again where it was refused
+/// memory counts once.
+#[derive(Drop)]
+pub(crate) struct Counts {
+    calls: [u64; KINDS],
+    refused: [u64; KINDS],
 }
 
-impl Count {
-    fn tell(&self, name: &str, shown: &mut Lines) -> Result<(), AllocError> {
-        if self.calls > 0 {
-            shown.push(name.as_bytes())?;
-            shown.push_number(b" calls=", self.calls)?;
-        }
-        if self.refused > 0 {
-            shown.push(name.as_bytes())?;
-            shown.push_number(b" refused=", self.refused)?;
-        }
-        Ok(())
+fn count(counts: &mut [u64; KINDS], kind: Kind) {
+    if let Some(count) = counts.get_mut(kind as usize) {
+        *count = count.saturating_add(1);
     }
 }
 
-/// The calls of each kind.
-#[derive(Drop)]
-pub(crate) struct Counts {
-    of: [Count; KINDS],
+/// Shows a name, a label and how many calls of this kind are counted, where there are any.
+fn tell(
+    counts: &[u64; KINDS],
+    kind: Kind,
+    name: &str,
+    label: &[u8],
+    shown: &mut Lines,
+) -> Result<(), AllocError> {
+    if let Some(count) = counts.get(kind as usize)
+        && *count > 0
+    {
+        shown.push(name.as_bytes())?;
+        shown.push_number(label, *count)?;
+    }
+    Ok(())
 }
 
 impl Counts {
     pub(crate) fn new() -> Counts {
         Counts {
-            of: [Count {
-                calls: 0,
-                refused: 0,
-            }; KINDS],
+            calls: [0; KINDS],
+            refused: [0; KINDS],
         }
     }
 
     pub(crate) fn called(&mut self, kind: Kind) {
-        if let Some(count) = self.of.get_mut(kind as usize) {
-            count.calls = count.calls.saturating_add(1);
-        }
+        count(&mut self.calls, kind);
     }
 
     pub(crate) fn refused(&mut self, kind: Kind) {
-        if let Some(count) = self.of.get_mut(kind as usize) {
-            count.refused = count.refused.saturating_add(1);
-        }
+        count(&mut self.refused, kind);
     }
 
     /// A line for each kind of call that was made, under these names, and one behind it where it was refused.
     pub(crate) fn tell(&self, names: &[(Kind, &str)], shown: &mut Lines) -> Result<(), AllocError> {
-        for (kind, name) in names {
-            if let Some(count) = self.of.get(*kind as usize) {
-                count.tell(name, shown)?;
-            }
+        for &(kind, name) in names {
+            tell(&self.calls, kind, name, b" calls=", shown)?;
+            tell(&self.refused, kind, name, b" refused=", shown)?;
         }
         Ok(())
     }

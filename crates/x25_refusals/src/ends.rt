@@ -1,10 +1,11 @@
 //! What scripts are played at: two ends and the lines between them.
+use crate::counts::Counts;
 use crate::lines::Lines;
 use std::alloc::AllocError;
 use thiserror::Error;
 use x25_layer::Stretch;
 use x25_station::Station;
-use x25_world::{Direction, Event};
+use x25_world::Event;
 
 /// Why the player ends.
 #[derive(Debug, Drop, Error)]
@@ -50,7 +51,7 @@ impl Outcome {
 }
 
 /// What a queue of packets answers, or which stretch is open on channel 1.
-#[derive(Clone, Copy, Debug, PartialEq, Eq)]
+#[derive(Drop, PartialEq)]
 pub(crate) enum Holds {
     Packets {
         acknowledged: u8,
@@ -63,7 +64,7 @@ pub(crate) enum Holds {
 }
 
 /// What an end answers.
-#[derive(Clone, Copy, Debug, PartialEq, Eq)]
+#[derive(Drop, PartialEq)]
 pub(crate) struct Answers {
     pub is_idle: bool,
     pub awaits_ua: bool,
@@ -82,7 +83,7 @@ pub(crate) fn answers_of(station: &Station) -> Answers {
 }
 
 /// What both ends answer, and how many frames are on the lines.
-#[derive(Clone, Copy, Debug, PartialEq, Eq)]
+#[derive(Drop, PartialEq)]
 pub(crate) struct Seen {
     pub dte: Answers,
     pub dce: Answers,
@@ -100,11 +101,7 @@ pub(crate) trait Ends {
     /// Whether all that was told and sent stands as it was shown.
     fn stands(&self) -> Result<bool, AllocError>;
 
-    fn on_line(&self, direction: Direction) -> usize {
-        let seen = self.seen();
-        match direction {
-            Direction::ToDce => seen.to_dce,
-            Direction::ToDte => seen.to_dte,
-        }
-    }
+    /// The line is good for a moment, and what is told is shown. Where memory is refused, what was told stands, and the
+    /// line is good again.
+    fn heals(&mut self, counts: &mut Counts, shown: &mut Lines) -> Result<(), Trouble>;
 }

@@ -1,66 +1,42 @@
-//! Two links, and the lines between them. What a user sends is handed down as one packet by `reserve` and `put`, as the
-//! packet layer hands packets down.
+//! A link. What its user sends is handed down as one packet by `reserve` and `put`, as the packet layer hands packets
+//! down.
 ghost use Rattle.std.specs.Prelude.{◌≤◌, vec_len};
 ghost use Rattle.x25_link.specs.code.FitsLink.{limit_of};
 
 use crate::boxes::boxed;
-use crate::counts::{Counts, Kind};
-use crate::ends::{Answers, Ends, Holds, Outcome, Seen, Trouble};
+use crate::ends::{Answers, Holds, Outcome, Trouble};
 use crate::lines::{Lines, end_name};
-use crate::stations::end_of;
+use crate::two::{Happens, Party};
 use crate::wire::Wire;
 use std::alloc::{AllocError, Global};
 use x25_link::{Heard, Link, LinkError, N1, OrderedLink, Reason};
 use x25_station::{Cfg, Cmd, Role};
-use x25_world::{Direction, Event};
 
-/// A link, and the line that leads to it.
+/// A link, and the frames that it sent last.
 #[derive(Drop)]
-struct End {
+pub(crate) struct LinkParty {
     alloc: Global,
     role: Role,
     link: Box<Link>,
     out: Vec<Vec<u8>>,
-    wire: Wire,
-}
-
-/// Two links, and the lines between them.
-#[derive(Drop)]
-pub(crate) struct Links {
-    dte: End,
-    dce: End,
 }
 
 // The calls of a link without their claims: a body that makes one of the link's own carries all that it promises.
 
-fn made(alloc: Global, role: Role, cfg: Cfg) -> Result<Box<Link>, LinkError> {
-    boxed(alloc, Link::new(alloc, role, cfg.k, N1, cfg.n2)?).ok_or(LinkError::NoMemory)
+fn made(alloc: Global, role: Role, cfg: Cfg) -> Option<Box<Link>> {
+    match Link::new(alloc, role, cfg.k, N1, cfg.n2) {
+        Ok(link) => boxed(alloc, link),
+        Err(_) => None,
+    }
 }
 
-fn connect(link: &mut Link) -> Result<Heard<'static>, LinkError> {
-    link.connect()
-}
-
-fn disconnect(link: &mut Link) -> Result<Heard<'static>, LinkError> {
-    link.disconnect()
-}
-
-fn fire(link: &mut Link) -> Result<Heard<'static>, LinkError> {
-    link.t1()
-}
-
-fn take<'a>(link: &mut Link, octets: &'a [u8]) -> Result<Heard<'a>, LinkError> {
-    link.take(octets)
-}
-
-fn link(alloc: Global, role: Role, cfg: Cfg, counts: &mut Counts) -> Result<Box<Link>, LinkError> {
-    counts.called(Kind::New);
-    match made(alloc, role, cfg) {
-        Err(LinkError::NoMemory) => {
-            counts.refused(Kind::New);
-            made(alloc, role, cfg)
-        }
-        answer => answer,
+fn call<'a>(link: &mut Link, what: Happens<'a>) -> Result<Result<Heard<'a>, LinkError>, Trouble> {
+    match what {
+        Happens::Asked(Cmd::Connect) => Ok(link.connect()),
+        Happens::Asked(Cmd::Disconnect) => Ok(link.disconnect()),
+        Happens::Asked(_) => Err(Trouble::NoSuchCall),
+        Happens::Fired => Ok(link.t1()),
+        Happens::Frame(octets) => Ok(link.take(octets)),
     }
 }
 
@@ -97,49 +73,11 @@ fn shows(from: Role, heard: &Heard, shown: &mut Lines) -> Result<(), AllocError>
     Ok(())
 }
 
-/// Shows the frames that a link sends, and puts them on the line to the other end.
-fn sends(
-    from: Role,
-    link: &mut Link,
-    out: &mut Vec<Vec<u8>>,
-    to: &mut Wire,
-    shown: &mut Lines,
-) -> Result<(), AllocError> {
-    link.swap_frames(out);
-    for frame in out.as_slice() {
-        shown.push_frame(from, frame.as_slice())?;
-    }
-    for frame in out.drain(..) {
-        to.put_one(frame)?;
-    }
-    Ok(())
-}
-
-fn answered(
-    from: Role,
-    answer: Result<Heard, LinkError>,
-    link: &mut Link,
-    out: &mut Vec<Vec<u8>>,
-    to: &mut Wire,
-    shown: &mut Lines,
-) -> Result<Outcome, Trouble> {
-    match answer {
-        Ok(heard) => {
-            shows(from, &heard, shown)?;
-            sends(from, link, out, to, shown)?;
-            Ok(Outcome::Accepted)
-        }
-        Err(error) => Ok(Outcome::of_number(error.number())),
-    }
-}
-
 fn packet_of(alloc: Global, octets: &[u8]) -> Result<Vec<u8>, AllocError> {
-    let mut packet = match Vec::with_capacity(alloc, octets.len()) {
-        Ok(packet) => packet,
-        Err(_) => Vec::with_capacity(alloc, octets.len())?,
-    };
-    packet.extend_from_slice(octets)?;
-    Ok(packet)
+    match octets.to_vec(alloc) {
+        Ok(packet) => Ok(packet),
+        Err(_) => octets.to_vec(alloc),
+    }
 }
 
 /// Sets memory aside, and hands a packet down.
@@ -150,19 +88,17 @@ fn room_and_put(link: &mut Link, packet: Vec<u8>) -> Result<(), LinkError>
     link.put(packet)
 }
 
-impl End {
-    fn new(alloc: Global, role: Role, cfg: Cfg, counts: &mut Counts) -> Result<End, Trouble> {
-        let wire = Wire::new(alloc)?;
-        match link(alloc, role, cfg, counts) {
-            Ok(link) => Ok(End {
-                alloc,
-                role,
-                link,
-                out: Vec::new(alloc),
-                wire,
-            }),
-            Err(_) => Err(Trouble::NoMemory),
+impl LinkParty {
+    /// Shows the frames that the link sends, and puts them on the line to the other end.
+    fn sends(&mut self, to: &mut Wire, shown: &mut Lines) -> Result<Outcome, Trouble> {
+        self.link.swap_frames(&mut self.out);
+        for frame in self.out.as_slice() {
+            shown.push_frame(self.role, frame.as_slice())?;
         }
+        for frame in self.out.drain(..) {
+            to.put(frame)?;
+        }
+        Ok(Outcome::Accepted)
     }
 
     fn puts(
@@ -175,72 +111,39 @@ impl End {
         if packet.len() > self.link.limit() {
             return Err(Trouble::NoSuchCall);
         }
-        if let Err(error) = room_and_put(&mut self.link, packet) {
-            return Ok(Outcome::of_number(error.number()));
-        }
-        sends(self.role, &mut self.link, &mut self.out, to, shown)?;
-        Ok(Outcome::Accepted)
-    }
-
-    fn answered(
-        &mut self,
-        answer: Result<Heard<'static>, LinkError>,
-        to: &mut Wire,
-        shown: &mut Lines,
-    ) -> Result<Outcome, Trouble> {
-        answered(self.role, answer, &mut self.link, &mut self.out, to, shown)
-    }
-
-    fn asks(
-        &mut self,
-        command: Cmd<'_>,
-        to: &mut Wire,
-        shown: &mut Lines,
-    ) -> Result<Outcome, Trouble> {
-        match command {
-            Cmd::Connect => {
-                let answer = connect(&mut self.link);
-                self.answered(answer, to, shown)
-            }
-            Cmd::Disconnect => {
-                let answer = disconnect(&mut self.link);
-                self.answered(answer, to, shown)
-            }
-            Cmd::Send { user, .. } => self.puts(user, to, shown),
-            _ => Err(Trouble::NoSuchCall),
+        match room_and_put(&mut self.link, packet) {
+            Ok(()) => self.sends(to, shown),
+            Err(error) => Ok(Outcome::of_number(error.number())),
         }
     }
+}
 
-    fn fires(&mut self, to: &mut Wire, shown: &mut Lines) -> Result<Outcome, Trouble> {
-        let answer = fire(&mut self.link);
-        self.answered(answer, to, shown)
-    }
-
-    /// The front frame arrives. It leaves the line where it is accepted.
-    fn receives(&mut self, to: &mut Wire, shown: &mut Lines) -> Result<Outcome, Trouble> {
-        let Some(octets) = self.wire.front() else {
-            return Ok(Outcome::Refused(50));
-        };
-        let answer = take(&mut self.link, octets);
-        let outcome = answered(self.role, answer, &mut self.link, &mut self.out, to, shown)?;
-        if matches!(outcome, Outcome::Accepted) {
-            self.wire.take_off(0);
-        }
-        Ok(outcome)
+impl Party for LinkParty {
+    fn new(alloc: Global, role: Role, cfg: Cfg) -> Option<LinkParty> {
+        let link = made(alloc, role, cfg)?;
+        Some(LinkParty {
+            alloc,
+            role,
+            link,
+            out: Vec::new(alloc),
+        })
     }
 
     fn happens(
         &mut self,
-        event: Event<'_>,
+        what: Happens<'_>,
         to: &mut Wire,
         shown: &mut Lines,
     ) -> Result<Outcome, Trouble> {
-        match event {
-            Event::Command(_, command) => self.asks(command, to, shown),
-            Event::T1(_) => self.fires(to, shown),
-            Event::Deliver(_) => self.receives(to, shown),
-            Event::Lose(_, place) => Ok(self.wire.loses(place)),
-            Event::Damage(_, _, _) => Err(Trouble::NoSuchCall),
+        if let Happens::Asked(Cmd::Send { user, .. }) = what {
+            return self.puts(user, to, shown);
+        }
+        match call(&mut self.link, what)? {
+            Ok(heard) => {
+                shows(self.role, &heard, shown)?;
+                self.sends(to, shown)
+            }
+            Err(error) => Ok(Outcome::of_number(error.number())),
         }
     }
 
@@ -257,37 +160,5 @@ impl End {
                 limit: self.link.limit(),
             },
         }
-    }
-}
-
-impl Links {
-    /// Two links that are down. One that is refused memory is made again.
-    pub(crate) fn new(alloc: Global, cfg: Cfg, counts: &mut Counts) -> Result<Links, Trouble> {
-        let dte = End::new(alloc, Role::Dte, cfg, counts)?;
-        let dce = End::new(alloc, Role::Dce, cfg, counts)?;
-        Ok(Links { dte, dce })
-    }
-}
-
-impl Ends for Links {
-    fn happens(&mut self, event: Event<'static>, shown: &mut Lines) -> Result<Outcome, Trouble> {
-        match end_of(event) {
-            Role::Dte => self.dte.happens(event, &mut self.dce.wire, shown),
-            Role::Dce => self.dce.happens(event, &mut self.dte.wire, shown),
-        }
-    }
-
-    fn seen(&self) -> Seen {
-        Seen {
-            dte: self.dte.answers(),
-            dce: self.dce.answers(),
-            to_dce: self.dce.wire.len(),
-            to_dte: self.dte.wire.len(),
-        }
-    }
-
-    // A link keeps nothing of what it told.
-    fn stands(&self) -> Result<bool, AllocError> {
-        Ok(true)
     }
 }

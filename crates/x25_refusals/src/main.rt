@@ -14,19 +14,21 @@ mod links;
 mod player;
 mod scripts;
 mod stations;
+mod two;
 mod wire;
 mod worlds;
 
 use counts::{Counts, Kind};
 use ends::Trouble;
 use lines::Lines;
-use links::Links;
+use links::LinkParty;
 use player::{Book, plays};
-use scripts::{OF_LINKS, OF_WORLDS_HEALED, OF_WORLDS_UP, SCRIPTS, Script};
-use stations::Stations;
+use scripts::{OF_LINKS, OF_WORLDS_UP, SCRIPTS, Script};
+use stations::StationParty;
 use std::alloc::Global;
 use std::io::{self, Write};
 use std::process::ExitCode;
+use two::{Party, Two};
 use worlds::Worlds;
 
 /// The calls of a link.
@@ -95,46 +97,23 @@ fn titled(place: &str, script: &Script, shown: &mut Lines) -> Result<(), Trouble
     Ok(())
 }
 
-fn play_links(alloc: Global, script: &Script, book: &mut Book) -> Result<(), Trouble> {
-    titled("two links: ", script, &mut book.shown)?;
-    let mut ends = Links::new(alloc, script.cfg, &mut book.counts)?;
+/// Plays a script at two links or two stations.
+fn play_two<P: Party>(
+    place: &str,
+    alloc: Global,
+    script: &Script,
+    book: &mut Book,
+) -> Result<(), Trouble> {
+    titled(place, script, &mut book.shown)?;
+    let mut ends: Two<P> = Two::new(alloc, script.cfg, &mut book.counts)?;
     plays(&mut ends, script, book)
 }
 
-fn play_stations(alloc: Global, script: &Script, book: &mut Book) -> Result<(), Trouble> {
-    titled("two stations: ", script, &mut book.shown)?;
-    let mut ends = Stations::new(alloc, script.cfg, &mut book.counts)?;
+/// Plays a script at a world, whose link is up by `Kind::Establish`.
+fn play_world(kind: Kind, alloc: Global, script: &Script, book: &mut Book) -> Result<(), Trouble> {
+    titled("a world: ", script, &mut book.shown)?;
+    let mut ends = Worlds::new(kind, alloc, script.cfg, &mut book.counts, &mut book.shown)?;
     plays(&mut ends, script, book)
-}
-
-fn play_world(alloc: Global, script: &Script, book: &mut Book) -> Result<(), Trouble> {
-    titled("a world: ", script, &mut book.shown)?;
-    let mut ends = Worlds::start(alloc, script.cfg, &mut book.counts)?;
-    plays(&mut ends, script, book)
-}
-
-/// A world whose link was just set up.
-fn play_world_up(alloc: Global, script: &Script, book: &mut Book) -> Result<(), Trouble> {
-    titled("a world: ", script, &mut book.shown)?;
-    let mut ends = Worlds::establish(alloc, script.cfg, &mut book.counts)?;
-    plays_up(&mut ends, script, book)
-}
-
-fn plays_up(ends: &mut Worlds, script: &Script, book: &mut Book) -> Result<(), Trouble> {
-    ends.shows(&mut book.shown)?;
-    plays(ends, script, book)
-}
-
-/// A world whose line is good for a moment behind the script.
-fn play_world_healed(alloc: Global, script: &Script, book: &mut Book) -> Result<(), Trouble> {
-    titled("a world: ", script, &mut book.shown)?;
-    let mut ends = Worlds::establish(alloc, script.cfg, &mut book.counts)?;
-    plays_healed(&mut ends, script, book)
-}
-
-fn plays_healed(ends: &mut Worlds, script: &Script, book: &mut Book) -> Result<(), Trouble> {
-    plays_up(ends, script, book)?;
-    ends.heals(&mut book.counts, &mut book.shown)
 }
 
 /// Writes what is shown.
@@ -157,36 +136,32 @@ fn closes<W: Write>(
     flushes(&mut book.shown, writer)
 }
 
-fn all_links<W: Write>(alloc: Global, book: &mut Book, writer: &mut W) -> Result<(), Trouble> {
-    for script in &OF_LINKS {
-        play_links(alloc, script, book)?;
+fn all_of_two<P: Party, W: Write>(
+    place: &str,
+    alloc: Global,
+    scripts: &[Script],
+    book: &mut Book,
+    writer: &mut W,
+) -> Result<(), Trouble> {
+    for script in scripts {
+        play_two::<P>(place, alloc, script, book)?;
         flushes(&mut book.shown, writer)?;
     }
-    closes(book, CALLS_OF_LINKS.as_slice(), writer)
+    Ok(())
 }
 
-fn all_stations<W: Write>(alloc: Global, book: &mut Book, writer: &mut W) -> Result<(), Trouble> {
-    for script in &SCRIPTS {
-        play_stations(alloc, script, book)?;
+fn all_of_worlds<W: Write>(
+    kind: Kind,
+    alloc: Global,
+    scripts: &[Script],
+    book: &mut Book,
+    writer: &mut W,
+) -> Result<(), Trouble> {
+    for script in scripts {
+        play_world(kind, alloc, script, book)?;
         flushes(&mut book.shown, writer)?;
     }
-    closes(book, CALLS_OF_STATIONS.as_slice(), writer)
-}
-
-fn all_worlds<W: Write>(alloc: Global, book: &mut Book, writer: &mut W) -> Result<(), Trouble> {
-    for script in &SCRIPTS {
-        play_world(alloc, script, book)?;
-        flushes(&mut book.shown, writer)?;
-    }
-    for script in &OF_WORLDS_UP {
-        play_world_up(alloc, script, book)?;
-        flushes(&mut book.shown, writer)?;
-    }
-    for script in &OF_WORLDS_HEALED {
-        play_world_healed(alloc, script, book)?;
-        flushes(&mut book.shown, writer)?;
-    }
-    closes(book, CALLS_OF_WORLDS.as_slice(), writer)
+    Ok(())
 }
 
 fn play_all<W: Write>(alloc: Global, writer: &mut W) -> Result<(), Trouble> {
@@ -194,9 +169,25 @@ fn play_all<W: Write>(alloc: Global, writer: &mut W) -> Result<(), Trouble> {
         counts: Counts::new(),
         shown: Lines::new(alloc)?,
     };
-    all_links(alloc, &mut book, writer)?;
-    all_stations(alloc, &mut book, writer)?;
-    all_worlds(alloc, &mut book, writer)
+    all_of_two::<LinkParty, W>("two links: ", alloc, OF_LINKS.as_slice(), &mut book, writer)?;
+    closes(&mut book, CALLS_OF_LINKS.as_slice(), writer)?;
+    all_of_two::<StationParty, W>(
+        "two stations: ",
+        alloc,
+        SCRIPTS.as_slice(),
+        &mut book,
+        writer,
+    )?;
+    closes(&mut book, CALLS_OF_STATIONS.as_slice(), writer)?;
+    all_of_worlds(Kind::New, alloc, SCRIPTS.as_slice(), &mut book, writer)?;
+    all_of_worlds(
+        Kind::Establish,
+        alloc,
+        OF_WORLDS_UP.as_slice(),
+        &mut book,
+        writer,
+    )?;
+    closes(&mut book, CALLS_OF_WORLDS.as_slice(), writer)
 }
 
 fn main(rt: HostRuntime) -> ExitCode {

@@ -60,10 +60,10 @@ fn plays_event<E: Ends>(
 }
 
 /// The direction of the next delivery of a drain.
-fn next_delivery<E: Ends>(ends: &E) -> Option<Direction> {
-    if ends.on_line(Direction::ToDce) > 0 {
+fn next_delivery(seen: &Seen) -> Option<Direction> {
+    if seen.to_dce > 0 {
         Some(Direction::ToDce)
-    } else if ends.on_line(Direction::ToDte) > 0 {
+    } else if seen.to_dte > 0 {
         Some(Direction::ToDte)
     } else {
         None
@@ -72,7 +72,7 @@ fn next_delivery<E: Ends>(ends: &E) -> Option<Direction> {
 
 fn drains<E: Ends>(ends: &mut E, book: &mut Book) -> Result<(), Trouble> {
     for _ in 0..MOST_DELIVERIES {
-        let Some(direction) = next_delivery(ends) else {
+        let Some(direction) = next_delivery(&ends.seen()) else {
             return Ok(());
         };
         plays_event(ends, Event::Deliver(direction), book)?;
@@ -103,6 +103,7 @@ pub(crate) fn plays<E: Ends>(
             Act::Do(event) => plays_event(ends, event, book)?,
             Act::Send(end, user) => plays_event(ends, message(end, user), book)?,
             Act::Drain => drains(ends, book)?,
+            Act::Heal => ends.heals(&mut book.counts, &mut book.shown)?,
         }
     }
     Ok(())

@@ -1,5 +1,5 @@
 //! Scripts of two stations, and stories of two links.
-use Act::{Do, Drain, Send};
+use Act::{Do, Drain, Heal, Send};
 use x25_layer::Params;
 use x25_station::{Cfg, Cmd};
 use x25_world::Direction::{ToDce, ToDte};
@@ -15,6 +15,8 @@ pub(crate) enum Act {
     Send(Role, &'static [u8]),
     /// Deliveries, first those to the DCE, until nothing is on the line.
     Drain,
+    /// The line is good for a moment.
+    Heal,
 }
 
 /// What is played at two ends.
@@ -298,26 +300,35 @@ pub(crate) static SCRIPTS: [Script; 10] = [
     },
 ];
 
-/// Played at a world alone, whose line damages too, from link set-up on.
-pub(crate) static OF_WORLDS_UP: [Script; 1] = [Script {
-    name: "a frame is damaged, and comes again",
-    cfg: USUAL,
-    acts: &[
-        Drain,
-        CALLS,
-        Do(Damage(ToDce, 0, b"\x01\x22")),
-        Drain,
-        T1_FIRES,
-        Drain,
-    ],
-}];
-
-/// Played at a world from link set-up on; then the line is good for a moment.
-pub(crate) static OF_WORLDS_HEALED: [Script; 1] = [Script {
-    name: "an I frame is lost, and the line is good then",
-    cfg: USUAL,
-    acts: &[Drain, CALLS, Drain, ACCEPTS, Drain, Send(Dte, b"a"), LOSES],
-}];
+/// Played at a world alone, whose line damages and heals too, from link set-up on.
+pub(crate) static OF_WORLDS_UP: [Script; 2] = [
+    Script {
+        name: "a frame is damaged, and comes again",
+        cfg: USUAL,
+        acts: &[
+            Drain,
+            CALLS,
+            Do(Damage(ToDce, 0, b"\x01\x22")),
+            Drain,
+            T1_FIRES,
+            Drain,
+        ],
+    },
+    Script {
+        name: "an I frame is lost, and the line is good then",
+        cfg: USUAL,
+        acts: &[
+            Drain,
+            CALLS,
+            Drain,
+            ACCEPTS,
+            Drain,
+            Send(Dte, b"a"),
+            LOSES,
+            Heal,
+        ],
+    },
+];
 
 /// Played at two links.
 pub(crate) static OF_LINKS: [Script; 4] = [

@@ -1,64 +1,35 @@
-//! Two stations, and the lines between them.
+//! A station.
 use crate::boxes::boxed;
-use crate::counts::{Counts, Kind};
-use crate::ends::{Ends, Outcome, Seen, Trouble, answers_of};
+use crate::ends::{Answers, Outcome, Trouble, answers_of};
 use crate::lines::Lines;
+use crate::two::{Happens, Party};
 use crate::wire::Wire;
 use std::alloc::{AllocError, Global};
 use x25_station::{Cfg, Cmd, Role, Station, StationError, Step};
-use x25_world::{Direction, Event};
 
-/// A station, and the line that leads to it.
+/// A station, and its last step.
 #[derive(Drop)]
-struct End {
+pub(crate) struct StationParty {
     role: Role,
     station: Box<Station>,
-    out: Step,
-    wire: Wire,
-}
-
-/// Two stations, and the lines between them.
-#[derive(Drop)]
-pub(crate) struct Stations {
-    dte: End,
-    dce: End,
+    step: Step,
 }
 
 // The calls of a station without their claims: a body that makes one of the station's own carries all that it promises.
 
-fn made(alloc: Global, role: Role, cfg: Cfg) -> Result<Box<Station>, StationError> {
-    boxed(alloc, Station::new(alloc, role, cfg)?).ok_or(StationError::NoMemory)
+fn made(alloc: Global, role: Role, cfg: Cfg) -> Option<Box<Station>> {
+    match Station::new(alloc, role, cfg) {
+        Ok(station) => boxed(alloc, station),
+        Err(_) => None,
+    }
 }
 
-fn connect(station: &mut Station, out: &mut Step) -> Result<(), StationError> {
-    station.connect(out)
-}
-
-fn ask(station: &mut Station, command: Cmd<'_>, out: &mut Step) -> Result<(), StationError> {
-    station.command(command, out)
-}
-
-fn fire(station: &mut Station, out: &mut Step) -> Result<(), StationError> {
-    station.t1(out)
-}
-
-fn receive(station: &mut Station, octets: &[u8], out: &mut Step) -> Result<(), StationError> {
-    station.receive(octets, out)
-}
-
-fn station(
-    alloc: Global,
-    role: Role,
-    cfg: Cfg,
-    counts: &mut Counts,
-) -> Result<Box<Station>, StationError> {
-    counts.called(Kind::New);
-    match made(alloc, role, cfg) {
-        Err(StationError::NoMemory) => {
-            counts.refused(Kind::New);
-            made(alloc, role, cfg)
-        }
-        answer => answer,
+fn call(station: &mut Station, what: Happens<'_>, out: &mut Step) -> Result<(), StationError> {
+    match what {
+        Happens::Asked(Cmd::Connect) => station.connect(out),
+        Happens::Asked(command) => station.command(command, out),
+        Happens::Fired => station.t1(out),
+        Happens::Frame(octets) => station.receive(octets, out),
     }
 }
 
@@ -76,126 +47,35 @@ fn goes_on(
         shown.push_frame(from, frame.as_slice())?;
     }
     for frame in step.frames.drain(..) {
-        to.put_one(frame)?;
+        to.put(frame)?;
     }
     Ok(())
 }
 
-fn answered(
-    from: Role,
-    answer: Result<(), StationError>,
-    step: &mut Step,
-    to: &mut Wire,
-    shown: &mut Lines,
-) -> Result<Outcome, Trouble> {
-    match answer {
-        Ok(()) => {
-            goes_on(from, step, to, shown)?;
-            Ok(Outcome::Accepted)
-        }
-        Err(error) => Ok(Outcome::of_number(error.number())),
-    }
-}
-
-impl End {
-    fn new(alloc: Global, role: Role, cfg: Cfg, counts: &mut Counts) -> Result<End, Trouble> {
-        let wire = Wire::new(alloc)?;
-        match station(alloc, role, cfg, counts) {
-            Ok(station) => Ok(End {
-                role,
-                station,
-                out: Step::new(alloc),
-                wire,
-            }),
-            Err(_) => Err(Trouble::NoMemory),
-        }
-    }
-
-    fn asks(
-        &mut self,
-        command: Cmd<'_>,
-        to: &mut Wire,
-        shown: &mut Lines,
-    ) -> Result<Outcome, Trouble> {
-        let answer = match command {
-            Cmd::Connect => connect(&mut self.station, &mut self.out),
-            _ => ask(&mut self.station, command, &mut self.out),
-        };
-        answered(self.role, answer, &mut self.out, to, shown)
-    }
-
-    fn fires(&mut self, to: &mut Wire, shown: &mut Lines) -> Result<Outcome, Trouble> {
-        let answer = fire(&mut self.station, &mut self.out);
-        answered(self.role, answer, &mut self.out, to, shown)
-    }
-
-    /// The front frame arrives. It leaves the line where it is accepted.
-    fn receives(&mut self, to: &mut Wire, shown: &mut Lines) -> Result<Outcome, Trouble> {
-        let Some(octets) = self.wire.front() else {
-            return Ok(Outcome::Refused(50));
-        };
-        let answer = receive(&mut self.station, octets, &mut self.out);
-        let outcome = answered(self.role, answer, &mut self.out, to, shown)?;
-        if matches!(outcome, Outcome::Accepted) {
-            self.wire.take_off(0);
-        }
-        Ok(outcome)
+impl Party for StationParty {
+    fn new(alloc: Global, role: Role, cfg: Cfg) -> Option<StationParty> {
+        let station = made(alloc, role, cfg)?;
+        Some(StationParty {
+            role,
+            station,
+            step: Step::new(alloc),
+        })
     }
 
     fn happens(
         &mut self,
-        event: Event<'_>,
+        what: Happens<'_>,
         to: &mut Wire,
         shown: &mut Lines,
     ) -> Result<Outcome, Trouble> {
-        match event {
-            Event::Command(_, command) => self.asks(command, to, shown),
-            Event::T1(_) => self.fires(to, shown),
-            Event::Deliver(_) => self.receives(to, shown),
-            Event::Lose(_, place) => Ok(self.wire.loses(place)),
-            Event::Damage(_, _, _) => Err(Trouble::NoSuchCall),
+        if let Err(error) = call(&mut self.station, what, &mut self.step) {
+            return Ok(Outcome::of_number(error.number()));
         }
-    }
-}
-
-/// The end at which an event happens.
-pub(crate) fn end_of(event: Event<'_>) -> Role {
-    match event {
-        Event::Command(end, _) | Event::T1(end) => end,
-        Event::Deliver(direction) | Event::Lose(direction, _) | Event::Damage(direction, _, _) => {
-            direction.end()
-        }
-    }
-}
-
-impl Stations {
-    /// Two stations whose links are down. One that is refused memory is made again.
-    pub(crate) fn new(alloc: Global, cfg: Cfg, counts: &mut Counts) -> Result<Stations, Trouble> {
-        let dte = End::new(alloc, Role::Dte, cfg, counts)?;
-        let dce = End::new(alloc, Role::Dce, cfg, counts)?;
-        Ok(Stations { dte, dce })
-    }
-}
-
-impl Ends for Stations {
-    fn happens(&mut self, event: Event<'static>, shown: &mut Lines) -> Result<Outcome, Trouble> {
-        match end_of(event) {
-            Role::Dte => self.dte.happens(event, &mut self.dce.wire, shown),
-            Role::Dce => self.dce.happens(event, &mut self.dte.wire, shown),
-        }
+        goes_on(self.role, &mut self.step, to, shown)?;
+        Ok(Outcome::Accepted)
     }
 
-    fn seen(&self) -> Seen {
-        Seen {
-            dte: answers_of(&self.dte.station),
-            dce: answers_of(&self.dce.station),
-            to_dce: self.dce.wire.len(),
-            to_dte: self.dte.wire.len(),
-        }
-    }
-
-    // A station keeps nothing of what it told.
-    fn stands(&self) -> Result<bool, AllocError> {
-        Ok(true)
+    fn answers(&self) -> Answers {
+        answers_of(&self.station)
     }
 }

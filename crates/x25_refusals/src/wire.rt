@@ -32,35 +32,18 @@ impl Wire {
         }
     }
 
-    /// Puts frames on the line.
-    pub(crate) fn put(&mut self, frames: Vec<Vec<u8>>) -> Result<(), AllocError> {
-        for frame in frames {
-            self.put_one(frame)?;
-        }
-        Ok(())
-    }
-
     /// Puts a frame on the line.
-    pub(crate) fn put_one(&mut self, frame: Vec<u8>) -> Result<(), AllocError> {
+    pub(crate) fn put(&mut self, frame: Vec<u8>) -> Result<(), AllocError> {
         self.frames.push(frame)?;
         Ok(())
     }
 
-    /// Takes the frame at this place off the line, and answers whether there was one.
-    pub(crate) fn take_off(&mut self, place: usize) -> bool {
+    /// Takes the frame at this place off the line. Refused with 51 where there is none.
+    pub(crate) fn take_off(&mut self, place: usize) -> Outcome {
         if place >= self.frames.len() {
-            return false;
+            return Outcome::Refused(51);
         }
         self.frames.remove(place);
-        true
-    }
-
-    /// The frame at this place is lost.
-    pub(crate) fn loses(&mut self, place: usize) -> Outcome {
-        if self.take_off(place) {
-            Outcome::Accepted
-        } else {
-            Outcome::Refused(51)
-        }
+        Outcome::Accepted
     }
 }

@@ -19,12 +19,18 @@ pub(crate) struct Worlds {
 
 // The calls of a world without their claims: a body that makes one of the world's own carries all that it promises.
 
-fn both_down(alloc: Global, cfg: Cfg) -> Result<Box<World>, WorldError> {
-    boxed(alloc, World::start(alloc, cfg)?).ok_or(WorldError::NoMemory)
+fn both_down(alloc: Global, cfg: Cfg) -> Option<Box<World>> {
+    match World::start(alloc, cfg) {
+        Ok(world) => boxed(alloc, world),
+        Err(_) => None,
+    }
 }
 
-fn set_up(alloc: Global, cfg: Cfg) -> Result<Box<World>, WorldError> {
-    boxed(alloc, World::establish(alloc, cfg)?).ok_or(WorldError::NoMemory)
+fn set_up(alloc: Global, cfg: Cfg) -> Option<Box<World>> {
+    match World::establish(alloc, cfg) {
+        Ok(world) => boxed(alloc, world),
+        Err(_) => None,
+    }
 }
 
 fn step(world: &mut World, event: Event<'static>, out: &mut Step) -> Result<(), WorldError> {
@@ -35,25 +41,10 @@ fn heal(world: &mut World, told: &mut Vec<Entered>) -> Result<Healed, WorldError
     world.heal(told)
 }
 
-fn started(alloc: Global, cfg: Cfg, counts: &mut Counts) -> Result<Box<World>, WorldError> {
-    counts.called(Kind::New);
-    match both_down(alloc, cfg) {
-        Err(WorldError::NoMemory) => {
-            counts.refused(Kind::New);
-            both_down(alloc, cfg)
-        }
-        answer => answer,
-    }
-}
-
-fn established(alloc: Global, cfg: Cfg, counts: &mut Counts) -> Result<Box<World>, WorldError> {
-    counts.called(Kind::Establish);
-    match set_up(alloc, cfg) {
-        Err(WorldError::NoMemory) => {
-            counts.refused(Kind::Establish);
-            set_up(alloc, cfg)
-        }
-        answer => answer,
+fn made(kind: Kind, alloc: Global, cfg: Cfg) -> Option<Box<World>> {
+    match kind {
+        Kind::Establish => set_up(alloc, cfg),
+        _ => both_down(alloc, cfg),
     }
 }
 
@@ -98,28 +89,29 @@ fn number_of(error: WorldError) -> u8 {
 }
 
 impl Worlds {
-    /// A world whose links are down. One that is refused memory is made again.
-    pub(crate) fn start(alloc: Global, cfg: Cfg, counts: &mut Counts) -> Result<Worlds, Trouble> {
-        match started(alloc, cfg, counts) {
-            Ok(world) => Ok(Worlds::of(alloc, world)?),
-            Err(_) => Err(Trouble::NoMemory),
-        }
-    }
-
-    /// A world whose link is up. One that is refused memory is made again.
-    pub(crate) fn establish(
+    /// A world whose links are down, or by `Kind::Establish` up. One that is refused memory is made again. What is on
+    /// its line is shown.
+    pub(crate) fn new(
+        kind: Kind,
         alloc: Global,
         cfg: Cfg,
         counts: &mut Counts,
+        shown: &mut Lines,
     ) -> Result<Worlds, Trouble> {
-        match established(alloc, cfg, counts) {
-            Ok(world) => Ok(Worlds::of(alloc, world)?),
-            Err(_) => Err(Trouble::NoMemory),
+        counts.called(kind);
+        if let Some(world) = made(kind, alloc, cfg) {
+            return Ok(Worlds::of(alloc, world, shown)?);
+        }
+        counts.refused(kind);
+        match made(kind, alloc, cfg) {
+            Some(world) => Ok(Worlds::of(alloc, world, shown)?),
+            None => Err(Trouble::NoMemory),
         }
     }
 
-    fn of(alloc: Global, world: Box<World>) -> Result<Worlds, AllocError> {
+    fn of(alloc: Global, world: Box<World>, shown: &mut Lines) -> Result<Worlds, AllocError> {
         let frames = line_of(alloc, &world)?;
+        shown.push(frames.as_slice())?;
         Ok(Worlds {
             alloc,
             world,
@@ -127,11 +119,6 @@ impl Worlds {
             healed: Vec::new(alloc),
             frames,
         })
-    }
-
-    /// Shows what is on the line.
-    pub(crate) fn shows(&self, shown: &mut Lines) -> Result<(), AllocError> {
-        shown.push(self.frames.as_slice())
     }
 
     /// Shows the step of an end, whose frames stand behind so many on the line.
@@ -149,19 +136,6 @@ impl Worlds {
             shown.push_entry(entered.at, &entered.entry)?;
         }
         Ok(())
-    }
-
-    /// The line is good for a moment, and what is told is shown. Where memory is refused, what was told stands, and the
-    /// line is good again.
-    pub(crate) fn heals(&mut self, counts: &mut Counts, shown: &mut Lines) -> Result<(), Trouble> {
-        counts.called(Kind::Heal);
-        let is_healed = heal(&mut self.world, &mut self.healed).is_ok();
-        self.tells_healed(shown)?;
-        if is_healed {
-            return Ok(());
-        }
-        counts.refused(Kind::Heal);
-        self.heals_again(shown)
     }
 
     fn heals_again(&mut self, shown: &mut Lines) -> Result<(), Trouble> {
@@ -195,5 +169,16 @@ impl Ends for Worlds {
     fn stands(&self) -> Result<bool, AllocError> {
         let frames = line_of(self.alloc, &self.world)?;
         Ok(self.step.entries.is_empty() && frames.as_slice() == self.frames.as_slice())
+    }
+
+    fn heals(&mut self, counts: &mut Counts, shown: &mut Lines) -> Result<(), Trouble> {
+        counts.called(Kind::Heal);
+        let is_healed = heal(&mut self.world, &mut self.healed).is_ok();
+        self.tells_healed(shown)?;
+        if is_healed {
+            return Ok(());
+        }
+        counts.refused(Kind::Heal);
+        self.heals_again(shown)
     }
 }
