@@ -34,7 +34,8 @@ use Rattle.x25_judge.proofs.verdicts.Lines.{Goes, goes, Past, past, stands, told
 use Rattle.x25_judge.proofs.verdicts.Octets.{IsHeld, begun_held, pushed_held}
 use Rattle.x25_judge.proofs.verdicts.SetUps.{Stays, line_stays, begins_so}
 use Rattle.x25_judge.proofs.verdicts.Beside.{acks, acks_low, heard_all, heard_rises, brings, brings_low, took_all, took_rises, Seen, Rested, seen_less, own_if_less, came_beside, comes, Acknowledged, IsUntold, sends}
-use Rattle.x25_judge.proofs.verdicts.OtherEnd.{missed_fits, shown_sides}
+use Rattle.x25_judge.proofs.verdicts.Damage.{missed_fits}
+use Rattle.x25_judge.proofs.verdicts.OtherEnd.{shown_sides}
 use Rattle.x25_judge.proofs.verdicts.Standing.{asks_one, asks_all, late_all, late_few, late_less, fewer_late}
 use Rattle.x25_judge.proofs.verdicts.Standing.{NoneBefore, none_less, none_asked}
 use Rattle.x25_judge.proofs.verdicts.Standing.{RestsOwn, RestsOther, On, IsAtRest, BehindSabm, BehindUa, Awaits, Holds, Fits, sabms_none, sabms_within, no_uas}
