@@ -27,32 +27,31 @@ const SETTINGS: Cfg = Cfg {
 /// One end: its station, and what a program keeps beside it.
 #[derive(Drop)]
 struct End {
-    station: Box<Station>,
+    station: Station,
     step: Step,
     out: Frames,
     timer: Flag,
     told: Told,
 }
 
-// A station is large: in a box it is let go of by one call, which is lighter for the prover.
+// An end is large: in a box it is let go of by one call, which is lighter for the prover.
 fn boxed<T: Drop>(alloc: Global, value: T) -> Option<Box<T>> {
     Box::new(alloc, value).ok()
 }
 
 impl End {
-    fn new(alloc: Global, role: Role) -> Result<End, StationError> {
+    fn new(alloc: Global, role: Role) -> Result<Box<End>, StationError> {
         let Ok(told) = Told::new(alloc, role) else {
             return Err(StationError::NoMemory);
         };
-        let station = boxed(alloc, Station::new(alloc, role, SETTINGS)?);
-        let station = station.ok_or(StationError::NoMemory)?;
-        Ok(End {
-            station,
+        let end = End {
+            station: Station::new(alloc, role, SETTINGS)?,
             step: Step::new(alloc),
             out: Frames::new(alloc),
             timer: Flag { runs: false },
             told,
-        })
+        };
+        boxed(alloc, end).ok_or(StationError::NoMemory)
     }
 
     fn happen(&mut self, event: Event<'_>) -> Result<(), Trouble> {

@@ -312,7 +312,16 @@ const SAYS: &str =
 
 /// What asks for help is told.
 const HELP: &str =
-    "X.25 packet layer over LAPB, on lines of text\n\nUsage: x25 <COMMAND>\n\nCommands:\n  decode   Answer lines of octets, `> HEX` from the DTE and `< HEX` from the DCE, by lines of text\n  vectors  Run the stored test vectors\n  sim      Run a script of two stations joined by a line, and write what each end is told\n  station  Run one station: lines of the other end and of its user in, what it does out\n  judge    Answer lines of a trace of both ends as `decode` does, and say which end broke which rule\n  deframe  Answer octets of a synchronous line by the lines of a trace that it carries\n  frame    Answer lines of a trace by octets of a synchronous line that carries their frames\n  help     Print this message or the help of the given subcommand(s)\n\nOptions:\n  -h, --help     Print help\n  -V, --version  Print version\n";
+    "X.25 packet layer over LAPB, on lines of text\n\nUsage: x25 <COMMAND>\n\nCommands:\n  \
+decode   Answer lines of octets, `> HEX` from the DTE and `< HEX` from the DCE, by lines of text\n  \
+vectors  Run the stored test vectors\n  \
+sim      Run a script of two stations joined by a line, and write what each end is told\n  \
+station  Run one station: lines of the other end and of its user in, what it does out\n  \
+judge    Answer lines of a trace of both ends as `decode` does, and say which end broke which rule\n  \
+deframe  Answer octets of a synchronous line by the lines of a trace that it carries\n  \
+frame    Answer lines of a trace by octets of a synchronous line that carries their frames\n  \
+help     Print this message or the help of the given subcommand(s)\n\nOptions:\n  \
+-h, --help     Print help\n  -V, --version  Print version\n";
 
 /// A number that is out of its range.
 const RANGE: &str =
@@ -320,19 +329,43 @@ const RANGE: &str =
 
 /// Words that the parser takes.
 const PLAIN: &str =
-    "error: each option is one word, and its number the next one, without a sign and leading zeros: `--k 3`\n\nUsage: x25 <COMMAND>\n\nFor more information, try '--help'.\n";
+    "error: each option is one word, and its number the next one, without a sign and leading zeros: `--k 3`\n\n\
+Usage: x25 <COMMAND>\n\nFor more information, try '--help'.\n";
 
 /// The help of `decode`.
 const DECODE: &str =
-    "Answer lines of octets, `> HEX` from the DTE and `< HEX` from the DCE, by lines of text\n\nUsage: x25 decode [--long] [--wide] < TRACE\n\nOptions:\n      --long  Take up to 128 octets of user data in a CALL, in place of 16\n      --wide  Read packets in all the forms that X.25 lets equipment send, and mark those by `~ wide`\n  -h, --help  Print help\n";
+    "Answer lines of octets, `> HEX` from the DTE and `< HEX` from the DCE, by lines of text\n\n\
+Usage: x25 decode [--long] [--wide] < TRACE\n\nOptions:\n      \
+--long  Take up to 128 octets of user data in a CALL, in place of 16\n      \
+--wide  Read packets in all the forms that X.25 lets equipment send, and mark those by `~ wide`\n  \
+-h, --help  Print help\n";
 
 /// The help of `sim`.
 const SIM: &str =
-    "Run a script of two stations joined by a line, and write what each end is told\n\nUsage: x25 sim [OPTIONS] < SCRIPT\n\nOptions:\n      --tap           Tell the frames of each step behind its entries, as lines for `decode`\n      --down          Begin with both links down, in place of just set up\n      --long          Take up to 128 octets of user data in a CALL, in place of 16\n      --say-sizes     Say packet sizes and windows in each CALL and CALL ACCEPTED, also where they are the default\n      --wide          Take packets in all the forms that X.25 lets equipment send\n      --k <N>         The window of the link: 1 to 7 [default: 7]\n      --n2 <N>        How often an unanswered command of the link is sent again: 1 to 255 [default: 10]\n      --channels <N>  The number of logical channels: 1 to 16 [default: 1]\n  -h, --help          Print help\n\nExamples:\n  x25 sim < examples/call.script\n  x25 sim --tap < examples/call.script | grep '^[<>]' | x25 decode\n";
+    "Run a script of two stations joined by a line, and write what each end is told\n\n\
+Usage: x25 sim [OPTIONS] < SCRIPT\n\nOptions:\n      \
+--tap           Tell the frames of each step behind its entries, as lines for `decode`\n      \
+--down          Begin with both links down, in place of just set up\n      \
+--long          Take up to 128 octets of user data in a CALL, in place of 16\n      \
+--say-sizes     Say packet sizes and windows in each CALL and CALL ACCEPTED, also where they are the default\n      \
+--wide          Take packets in all the forms that X.25 lets equipment send\n      \
+--k <N>         The window of the link: 1 to 7 [default: 7]\n      \
+--n2 <N>        How often an unanswered command of the link is sent again: 1 to 255 [default: 10]\n      \
+--channels <N>  The number of logical channels: 1 to 16 [default: 1]\n  \
+-h, --help          Print help\n\nExamples:\n  x25 sim < examples/call.script\n  \
+x25 sim --tap < examples/call.script | grep '^[<>]' | x25 decode\n";
 
 /// The help of `judge`.
 const JUDGE: &str =
-    "Answer lines of a trace of both ends as `decode` does, and say which end broke which rule\n\nUsage: x25 judge [OPTIONS] < TRACE\n\nOptions:\n      --k <N>    The window of the link: 1 to 7 [default: 7]\n      --long     Take up to 128 octets of user data in a CALL, in place of 16\n      --wide     Read packets in all the forms that X.25 lets equipment send, and mark those by `~ wide`\n      --manners  Answer status 1 too where manners were broken\n      --strict   Answer status 1 too where a frame or a packet wasn't judged\n  -h, --help     Print help\n\nExamples:\n  x25 judge < examples/exchange.trace\n  x25 sim --tap < examples/losses.script | grep '^[<>]' | x25 judge\n";
+    "Answer lines of a trace of both ends as `decode` does, and say which end broke which rule\n\n\
+Usage: x25 judge [OPTIONS] < TRACE\n\nOptions:\n      \
+--k <N>    The window of the link: 1 to 7 [default: 7]\n      \
+--long     Take up to 128 octets of user data in a CALL, in place of 16\n      \
+--wide     Read packets in all the forms that X.25 lets equipment send, and mark those by `~ wide`\n      \
+--manners  Answer status 1 too where manners were broken\n      \
+--strict   Answer status 1 too where a frame or a packet wasn't judged\n  \
+-h, --help     Print help\n\nExamples:\n  x25 judge < examples/exchange.trace\n  \
+x25 sim --tap < examples/losses.script | grep '^[<>]' | x25 judge\n";
 
 #[test]
 fn says_what_is_wrong(rt: HostRuntime) -> Result<(), Fail> {
