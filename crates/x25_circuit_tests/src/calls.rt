@@ -5,7 +5,6 @@ ghost use Rattle.x25_packet.specs.Packet.{plain};
 ghost use Rattle.x25_packet.specs.Spelling.{HasChannel};
 
 use std::alloc::Global;
-use std::test::Fail;
 use x25_circuit::{Circuit, CircuitError, Flow, Reply, Request, Role, Taken};
 use x25_packet::{Packet, PacketError};
 
@@ -38,10 +37,10 @@ fn is_of_channel(packet: &Packet) -> bool
 }
 
 /// A packet of a channel comes.
-pub fn hear<'a>(circuit: &mut Circuit, packet: &Packet<'a>) -> Result<Reply<'a>, Fail> {
+pub fn hear<'a>(circuit: &mut Circuit, packet: &Packet<'a>) -> Result<Reply<'a>, CircuitError> {
     let (clears, resets) = circuit.counts();
     if clears == u64::MAX || resets == u64::MAX || !is_of_channel(packet) {
-        return Err("no packet for a circuit")?;
+        return Err(CircuitError::WrongState);
     }
     Ok(circuit.packet(packet)?)
 }
