@@ -2,8 +2,6 @@
 
 use crate::calls::{connect, link, take};
 use std::alloc::Global;
-use std::process::Abort;
-use std::test::Fail;
 use x25_bits::Role;
 use x25_link::{Link, LinkError};
 
@@ -20,8 +18,10 @@ fn is_ua(frame: Option<&Vec<u8>>) -> bool {
     }
 }
 
-// How many frames a list holds, and whether the first two are UA.
-fn two(frames: &[Vec<u8>]) -> (usize, bool, bool) {
+/// How many frames a list holds, and whether the first two are UA.
+type Two = (usize, bool, bool);
+
+fn two(frames: &[Vec<u8>]) -> Two {
     (frames.len(), is_ua(frames.get(0)), is_ua(frames.get(1)))
 }
 
@@ -44,69 +44,67 @@ fn answers_behind_others(link: &mut Link, frames: &mut Vec<Vec<u8>>) -> Result<u
     Ok(count)
 }
 
-fn answers(rt: &impl Abort, link: &mut Link, frames: &mut Vec<Vec<u8>>) -> Result<(), Fail> {
+fn answers(link: &mut Link, frames: &mut Vec<Vec<u8>>) -> Result<(Two, usize, Two), LinkError> {
     answers_twice(link, frames)?;
-    assert_eq!(rt; two(frames.as_slice()), (2, true, true));
+    let twice = two(frames.as_slice());
     frames.clear();
     let count = answers_behind_others(link, frames)?;
-    assert_eq!(rt; (count, two(frames.as_slice())), (0, (2, true, true)));
-    Ok(())
+    Ok((twice, count, two(frames.as_slice())))
+}
+
+fn answers_of_a_dce(alloc: Global) -> Result<(Two, usize, Two), LinkError> {
+    let mut link = link(alloc, Role::Dce, 7, 10)?;
+    answers(&mut link, &mut Vec::new(alloc))
 }
 
 #[test]
-fn frames_come_in_order(rt: HostRuntime) -> Result<(), Fail> {
-    let mut link = link(rt.alloc(), Role::Dce, 7, 10)?;
-    answers(&rt, &mut link, &mut Vec::new(rt.alloc()))
+fn frames_come_in_order(rt: HostRuntime) {
+    let wanted = ((2, true, true), 0, (2, true, true));
+    assert_eq!(rt; answers_of_a_dce(rt.alloc()), Ok(wanted));
 }
 
-// For how many octets the first frame has memory, where it is SABM.
-fn memory_of_sabm(frames: &[Vec<u8>]) -> usize {
+/// How many buffers are kept before SABM is sent, and behind it; whether SABM stands in the memory that was given,
+/// where it is sent; and how many are kept once its frame is given back.
+type Kept = (usize, usize, Option<bool>, usize);
+
+/// For how many octets memory is given, and what comes of it: what is too small is let go of.
+static MEMORY: [(usize, Kept); 2] = [(40, (1, 0, Some(true), 1)), (3, (1, 0, Some(false), 1))];
+
+// Whether the first frame has memory for so many octets, where it is SABM.
+fn sabm_stands_in(frames: &[Vec<u8>], octets: usize) -> Option<bool> {
     match frames {
-        [frame, ..] if frame.as_slice() == SABM.as_slice() => frame.capacity(),
-        _ => 0,
+        [frame, ..] if frame.as_slice() == SABM.as_slice() => Some(frame.capacity() == octets),
+        _ => None,
     }
 }
 
-// How many buffers are kept before SABM is sent, and behind it, where memory of so many octets was given.
 fn sends(
-    alloc: Global,
     link: &mut Link,
-    count: usize,
+    memory: Vec<u8>,
+    octets: usize,
     frames: &mut Vec<Vec<u8>>,
-) -> Result<(usize, usize), Fail> {
-    link.keep(vec![in alloc; 9u8; count]?);
-    let kept = link.kept();
+) -> Result<Kept, LinkError> {
+    link.keep(memory);
+    let before = link.kept();
     connect(link)?;
     link.swap_frames(frames);
-    Ok((kept, link.kept()))
-}
-
-fn sends_in_forty(rt: &impl Abort, alloc: Global, link: &mut Link) -> Result<(), Fail> {
-    let mut frames = Vec::new(alloc);
-    let kept = sends(alloc, link, 40, &mut frames)?;
-    assert_eq!(rt; (kept, memory_of_sabm(frames.as_slice())), ((1, 0), 40));
+    let behind = link.kept();
+    let stands = sabm_stands_in(frames.as_slice(), octets);
     for frame in frames.drain(..) {
         link.keep(frame);
     }
-    assert_eq!(rt; link.kept(), 1);
-    Ok(())
+    Ok((before, behind, stands, link.kept()))
+}
+
+fn sends_in(alloc: Global, octets: usize) -> Result<Kept, LinkError> {
+    let mut link = link(alloc, Role::Dte, 7, 10)?;
+    let memory = vec![in alloc; 9u8; octets]?;
+    sends(&mut link, memory, octets, &mut Vec::new(alloc))
 }
 
 #[test]
-fn a_frame_is_sent_in_memory_that_was_kept(rt: HostRuntime) -> Result<(), Fail> {
-    let mut link = link(rt.alloc(), Role::Dte, 7, 10)?;
-    sends_in_forty(&rt, rt.alloc(), &mut link)
-}
-
-fn lets_go_of_three(rt: &impl Abort, alloc: Global, link: &mut Link) -> Result<(), Fail> {
-    let mut frames = Vec::new(alloc);
-    let (_, kept) = sends(alloc, link, 3, &mut frames)?;
-    assert_eq!(rt; (kept, memory_of_sabm(frames.as_slice()) > 3), (0, true));
-    Ok(())
-}
-
-#[test]
-fn what_is_too_small_is_let_go_of(rt: HostRuntime) -> Result<(), Fail> {
-    let mut link = link(rt.alloc(), Role::Dte, 7, 10)?;
-    lets_go_of_three(&rt, rt.alloc(), &mut link)
+fn a_frame_is_sent_in_memory_that_was_kept(rt: HostRuntime) {
+    for &(octets, wanted) in &MEMORY {
+        assert_eq!(rt; sends_in(rt.alloc(), octets), Ok(wanted), "{octets}");
+    }
 }

@@ -3,8 +3,6 @@ ghost use Rattle.std.specs.Prelude.{◌≤◌};
 
 use crate::calls::plain_link;
 use std::alloc::Global;
-use std::process::Abort;
-use std::test::Fail;
 use x25_link::{LinkError, OrderedLink, PlainLink};
 
 // Puts one packet through any link that is up and holds none.
@@ -24,17 +22,10 @@ fn out(link: &mut PlainLink) -> Option<(usize, u8)> {
     }
 }
 
-fn puts_and_takes(rt: &impl Abort, alloc: Global, link: &mut PlainLink) -> Result<(), Fail> {
-    put_one(link, alloc, 5)?;
-    put_one(link, alloc, 6)?;
-    let waiting = link.waiting();
-    let packets = (out(link), out(link), out(link));
-    assert_eq!(rt; (waiting, packets), (2, (Some((1, 5)), Some((1, 6)), None)));
-    Ok(())
-}
+/// Whether it is up, the most octets of a packet, how many packets wait, and whether memory can be used again.
+type Says = (bool, usize, usize, bool);
 
-// Whether it is up, the most octets of a packet, how many packets wait, and whether memory can be used again.
-fn says(link: &mut PlainLink) -> (bool, usize, usize, bool) {
+fn says(link: &mut PlainLink) -> Says {
     (
         link.is_up(),
         link.limit(),
@@ -43,12 +34,27 @@ fn says(link: &mut PlainLink) -> (bool, usize, usize, bool) {
     )
 }
 
+/// How many packets wait, the length and the first octet of those that come out, and what the link says then.
+type Found = (usize, [Option<(usize, u8)>; 3], Says);
+
+fn puts_and_takes(link: &mut PlainLink, alloc: Global) -> Result<Found, LinkError> {
+    put_one(link, alloc, 5)?;
+    put_one(link, alloc, 6)?;
+    let waiting = link.waiting();
+    let packets = [out(link), out(link), out(link)];
+    Ok((waiting, packets, says(link)))
+}
+
+fn found(alloc: Global) -> Result<Found, LinkError> {
+    let mut link = plain_link(alloc)?;
+    puts_and_takes(&mut link, alloc)
+}
+
 #[test]
-fn what_is_put_comes_out(rt: HostRuntime) -> Result<(), Fail> {
-    let mut link = plain_link(rt.alloc())?;
-    puts_and_takes(&rt, rt.alloc(), &mut link)?;
-    assert_eq!(rt; says(&mut link), (true, 4099, 0, false));
-    Ok(())
+fn what_is_put_comes_out(rt: HostRuntime) {
+    let packets = [Some((1, 5)), Some((1, 6)), None];
+    let wanted = (2, packets, (true, 4099, 0, false));
+    assert_eq!(rt; found(rt.alloc()), Ok(wanted));
 }
 
 fn put_empty(link: &mut PlainLink, alloc: Global) -> Result<(), LinkError> {
@@ -63,18 +69,21 @@ fn fill(link: &mut PlainLink, alloc: Global) -> Result<(), LinkError> {
     Ok(())
 }
 
-fn takes_no_more(rt: &impl Abort, alloc: Global, link: &mut PlainLink) {
+/// The number of the refusal of one more, how many are promised, and how many wait.
+type Full = (Option<u8>, usize, usize);
+
+fn one_more(link: &mut PlainLink, alloc: Global) -> Full {
     let refused = put_empty(link, alloc).err().map(LinkError::number);
-    assert_eq!(rt;
-        (refused, link.promised(), link.waiting()),
-        (Some(10), 0, 256)
-    );
+    (refused, link.promised(), link.waiting())
+}
+
+fn one_more_when_full(alloc: Global) -> Result<Full, LinkError> {
+    let mut link = plain_link(alloc)?;
+    fill(&mut link, alloc)?;
+    Ok(one_more(&mut link, alloc))
 }
 
 #[test]
-fn is_full_at_256(rt: HostRuntime) -> Result<(), Fail> {
-    let mut link = plain_link(rt.alloc())?;
-    fill(&mut link, rt.alloc())?;
-    takes_no_more(&rt, rt.alloc(), &mut link);
-    Ok(())
+fn is_full_at_256(rt: HostRuntime) {
+    assert_eq!(rt; one_more_when_full(rt.alloc()), Ok((Some(10), 0, 256)));
 }

@@ -1,18 +1,42 @@
 use std::alloc::{AllocError, Global};
-use std::test::Fail;
 use x25_circuit::{Message, Octets};
 use x25_layer::Stretch;
 use x25_station::{Asked, Entry, Role, Said, Told};
 use x25_text::Text;
 use x25_transcript::{entry_line, push_entry};
 
+/// Whether this is the line of the entry at this end.
+pub fn is_line(
+    alloc: Global,
+    at: Role,
+    entry: Result<Entry, AllocError>,
+    line: &str,
+) -> Result<bool, AllocError> {
+    let found = entry_line(alloc, at, &entry?)?;
+    Ok(found.as_slice() == line.as_bytes())
+}
+
+// Whether these are the lines of two entries, the one at the DCE and the other at the DTE.
+fn are_lines(
+    alloc: Global,
+    at_dce: &Entry,
+    at_dte: &Entry,
+    lines: &[u8],
+) -> Result<bool, AllocError> {
+    let mut text = Text::new(alloc)?;
+    push_entry(Role::Dce, at_dce, &mut text)?;
+    push_entry(Role::Dte, at_dte, &mut text)?;
+    Ok(text.as_slice() == lines)
+}
+
+fn are_link_up_and_restart(alloc: Global, lines: &[u8]) -> Result<bool, AllocError> {
+    are_lines(alloc, &Entry::LinkUp, &Entry::RestartAsked, lines)
+}
+
 #[test]
-fn stands_behind_what_was_pushed(rt: HostRuntime) -> Result<(), Fail> {
-    let mut text = Text::new(rt.alloc())?;
-    push_entry(Role::Dce, &Entry::LinkUp, &mut text)?;
-    push_entry(Role::Dte, &Entry::RestartAsked, &mut text)?;
-    assert_eq!(rt; text.as_slice(), b"dce linkup\ndte restart\n".as_slice());
-    Ok(())
+fn stands_behind_what_was_pushed(rt: HostRuntime) {
+    let lines = b"dce linkup\ndte restart\n".as_slice();
+    assert_eq!(rt; are_link_up_and_restart(rt.alloc(), lines), Ok(true));
 }
 
 /// A channel, and counts of several digits.
@@ -36,13 +60,12 @@ fn delivered(alloc: Global) -> Entry {
 }
 
 #[test]
-fn writes_deliveries_of_larger_numbers(rt: HostRuntime) -> Result<(), Fail> {
-    let line = entry_line(rt.alloc(), Role::Dce, &delivered(rt.alloc()))?;
+fn writes_deliveries_of_larger_numbers(rt: HostRuntime) {
+    let line = "dce message ch=16 at 10.3.18446744073709551615 q=1 data=-\n";
     assert_eq!(rt;
-        line.as_slice(),
-        b"dce message ch=16 at 10.3.18446744073709551615 q=1 data=-\n".as_slice()
+        is_line(rt.alloc(), Role::Dce, Ok(delivered(rt.alloc())), line),
+        Ok(true)
     );
-    Ok(())
 }
 
 // A message of so many octets that is to be sent.
@@ -66,15 +89,27 @@ fn longest(alloc: Global) -> Result<Vec<u8>, AllocError> {
     Ok(wanted)
 }
 
+fn is_longest(text: &Text, alloc: Global) -> Result<bool, AllocError> {
+    let wanted = longest(alloc)?;
+    Ok(text.as_slice() == wanted.as_slice())
+}
+
+fn push_longest(text: &mut Text, alloc: Global) -> Result<(), AllocError> {
+    let entry = sent(alloc, 1, LATE, 65_535)?;
+    push_entry(Role::Dte, &entry, text)
+}
+
+fn writes_longest(alloc: Global) -> Result<bool, AllocError> {
+    let mut text = Text::new(alloc)?;
+    push_longest(&mut text, alloc)?;
+    push_entry(Role::Dte, &Entry::LinkUp, &mut text)?;
+    is_longest(&text, alloc)
+}
+
 /// More characters than the text has room for.
 #[test]
-fn writes_the_longest_message(rt: HostRuntime) -> Result<(), Fail> {
-    let mut text = Text::new(rt.alloc())?;
-    push_entry(Role::Dte, &sent(rt.alloc(), 1, LATE, 65_535)?, &mut text)?;
-    push_entry(Role::Dte, &Entry::LinkUp, &mut text)?;
-    let wanted = longest(rt.alloc())?;
-    assert_eq!(rt; text.as_slice(), wanted.as_slice());
-    Ok(())
+fn writes_the_longest_message(rt: HostRuntime) {
+    assert_eq!(rt; writes_longest(rt.alloc()), Ok(true));
 }
 
 /// Channels and stretches whose numbers have one digit, two, three and more, and the lines of messages there.
@@ -163,12 +198,13 @@ static NUMBERS: [(u16, Stretch, &str); 9] = [
 ];
 
 #[test]
-fn writes_numbers_of_one_digit_and_more(rt: HostRuntime) -> Result<(), Fail> {
-    let mut text = Text::new(rt.alloc())?;
+fn writes_numbers_of_one_digit_and_more(rt: HostRuntime) {
     for &(channel, name, shown) in &NUMBERS {
-        text.clear();
-        push_entry(Role::Dte, &sent(rt.alloc(), channel, name, 2)?, &mut text)?;
-        assert_eq!(rt; text.as_slice(), shown.as_bytes());
+        let entry = sent(rt.alloc(), channel, name, 2);
+        assert_eq!(rt;
+            is_line(rt.alloc(), Role::Dte, entry, shown),
+            Ok(true),
+            "{shown}"
+        );
     }
-    Ok(())
 }

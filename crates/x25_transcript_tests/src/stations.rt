@@ -1,8 +1,7 @@
+use crate::lines::is_line;
 use std::alloc::{AllocError, Global};
-use std::test::Fail;
 use x25_link::Reason;
 use x25_station::{Entry, Role};
-use x25_transcript::entry_line;
 
 /// Why a link goes down, and its line at the DCE.
 static REASONS: [(Reason, &str); 8] = [
@@ -17,12 +16,11 @@ static REASONS: [(Reason, &str); 8] = [
 ];
 
 #[test]
-fn says_why_the_link_went_down(rt: HostRuntime) -> Result<(), Fail> {
+fn says_why_the_link_went_down(rt: HostRuntime) {
     for &(reason, shown) in &REASONS {
-        let line = entry_line(rt.alloc(), Role::Dce, &Entry::LinkDown(reason))?;
-        assert_eq!(rt; line.as_slice(), shown.as_bytes());
+        let is_shown = is_line(rt.alloc(), Role::Dce, Ok(Entry::LinkDown(reason)), shown);
+        assert_eq!(rt; is_shown, Ok(true), "{shown}");
     }
-    Ok(())
 }
 
 fn beside(alloc: Global, facilities: &[u8], user: &[u8]) -> Result<Entry, AllocError> {
@@ -40,11 +38,14 @@ static BESIDE: [(&[u8], &[u8], &str); 2] = [
 ];
 
 #[test]
-fn shows_what_came_beside(rt: HostRuntime) -> Result<(), Fail> {
+fn shows_what_came_beside(rt: HostRuntime) {
     for &(facilities, user, shown) in &BESIDE {
-        let entry = beside(rt.alloc(), facilities, user)?;
-        let line = entry_line(rt.alloc(), Role::Dce, &entry)?;
-        assert_eq!(rt; line.as_slice(), shown.as_bytes());
+        let is_shown = is_line(
+            rt.alloc(),
+            Role::Dce,
+            beside(rt.alloc(), facilities, user),
+            shown,
+        );
+        assert_eq!(rt; is_shown, Ok(true), "{shown}");
     }
-    Ok(())
 }

@@ -1,19 +1,38 @@
-use std::test::Fail;
+use std::alloc::Global;
 use x25_text::{is_hexadecimal, read_digits, read_hexadecimal, read_line, write_hexadecimal};
 
 static DIGITS: [u8; 58] = *b"0123456789abcdefABCDEF0011223344556677889900aaBBccDDeeFF12";
 
+fn hex_reads(alloc: Global, digits: &[u8], octets: &[u8]) -> bool {
+    match hex::decode(alloc, digits) {
+        Ok(read) => read.as_slice() == octets,
+        Err(_) => false,
+    }
+}
+
+fn hex_writes(alloc: Global, octets: &[u8], digits: &[u8]) -> bool {
+    match hex::encode(alloc, octets) {
+        Ok(written) => written.as_bytes() == digits,
+        Err(_) => false,
+    }
+}
+
 /// For each number of octets, with and without a block over the one before.
 #[test]
-fn reads_digits_as_hex_does(rt: HostRuntime) -> Result<(), Fail> {
+fn reads_and_writes_digits_as_hex_does(rt: HostRuntime) {
     for count in 0..30usize {
         let digits = &DIGITS[..2 * count];
-        let wanted = hex::decode(rt.alloc(), digits)?;
         let mut octets = [0u8; 29];
         let is_read = read_hexadecimal(digits, &mut octets[..count]);
-        assert_eq!(rt; (is_read, &octets[..count]), (true, wanted.as_slice()));
+        let mut written = [0u8; 58];
+        write_hexadecimal(&octets[..count], &mut written[..2 * count]);
+        let found = (
+            is_read,
+            hex_reads(rt.alloc(), digits, &octets[..count]),
+            hex_writes(rt.alloc(), &octets[..count], &written[..2 * count]),
+        );
+        assert_eq!(rt; found, (true, true, true), "{count}");
     }
-    Ok(())
 }
 
 static MANY_DIGITS: [u8; 100] =
@@ -22,25 +41,22 @@ static MANY_DIGITS: [u8; 100] =
 /// For each number of octets, of characters that were tested before: with none, one and more blocks of sixteen, and
 /// with and without a block over the one before.
 #[test]
-fn reads_tested_digits_as_hex_does(rt: HostRuntime) -> Result<(), Fail> {
+fn reads_tested_digits_as_hex_does(rt: HostRuntime) {
     for count in 0..51usize {
         let digits = &MANY_DIGITS[..2 * count];
-        let wanted = hex::decode(rt.alloc(), digits)?;
         let mut octets = [0u8; 50];
         if is_hexadecimal(digits) {
             read_digits(digits, &mut octets[..count]);
         }
-        assert_eq!(rt; &octets[..count], wanted.as_slice());
+        assert!(rt; hex_reads(rt.alloc(), digits, &octets[..count]), "{count}");
     }
-    Ok(())
 }
 
 /// For each number of octets, with a line feed behind them and more characters behind that.
 #[test]
-fn reads_a_line_as_hex_does(rt: HostRuntime) -> Result<(), Fail> {
+fn reads_a_line_as_hex_does(rt: HostRuntime) {
     for count in 0..30usize {
         let digits = &DIGITS[..2 * count];
-        let wanted = hex::decode(rt.alloc(), digits)?;
         let mut text = [b'0'; 80];
         text[..2 * count].copy_from_slice(digits);
         text[2 * count] = b'\n';
@@ -49,24 +65,9 @@ fn reads_a_line_as_hex_does(rt: HostRuntime) -> Result<(), Fail> {
         text[2 * count + 1] = b'\n';
         text[2 * count] = b'0';
         let odd = read_line(&text, &mut [0u8; 32]);
-        assert_eq!(rt;
-            (read, odd, &octets[..count]),
-            (Some(count), None, wanted.as_slice())
-        );
+        let is_read = hex_reads(rt.alloc(), digits, &octets[..count]);
+        assert_eq!(rt; (read, odd, is_read), (Some(count), None, true));
     }
-    Ok(())
-}
-
-#[test]
-fn writes_digits_as_hex_does(rt: HostRuntime) -> Result<(), Fail> {
-    for count in 0..30usize {
-        let octets = hex::decode(rt.alloc(), &DIGITS[..2 * count])?;
-        let wanted = hex::encode(rt.alloc(), octets.as_slice())?;
-        let mut digits = vec![in rt.alloc(); 0u8; 2 * octets.len()]?;
-        write_hexadecimal(octets.as_slice(), digits.as_mut_slice());
-        assert_eq!(rt; digits.as_slice(), wanted.as_bytes());
-    }
-    Ok(())
 }
 
 #[test]
