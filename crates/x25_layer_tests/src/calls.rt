@@ -1,10 +1,9 @@
 //! The calls of a layer without their claims: a body that makes one of the layer's own carries all that it promises.
 
 use std::alloc::Global;
-use std::test::Fail;
 use x25_circuit::Request;
 use x25_layer::{Delivery, Layer, LayerError, Params, Proposal, Report, Role};
-use x25_link::{Link, LinkError, OrderedLink, PlainLink};
+use x25_link::{Link, OrderedLink, PlainLink};
 use x25_wide::NarrowField;
 
 // A value in a place of its own: a body that holds the box lets go of it by one call, and not of each part of the
@@ -18,21 +17,31 @@ pub fn layer(alloc: Global, role: Role, channels: usize) -> Result<Box<Layer>, L
     boxed(alloc, Layer::with(alloc, role, channels, false)?).ok_or(LayerError::NoMemory)
 }
 
-pub fn plain_link(alloc: Global) -> Result<Box<PlainLink>, LinkError> {
-    boxed(alloc, PlainLink::new(alloc)?).ok_or(LinkError::NoMemory)
+pub fn plain_link(alloc: Global) -> Option<Box<PlainLink>> {
+    boxed(alloc, PlainLink::new(alloc).ok()?)
 }
 
 /// A link that is down.
-pub fn link_down(alloc: Global) -> Result<Box<Link>, LinkError> {
-    boxed(alloc, Link::new(alloc, Role::Dte, 7, 4099, 10)?).ok_or(LinkError::NoMemory)
+pub fn link_down(alloc: Global) -> Option<Box<Link>> {
+    boxed(alloc, Link::new(alloc, Role::Dte, 7, 4099, 10).ok()?)
 }
 
-/// Hands packets of the octet 7 down to the link, so many.
-pub fn fill(alloc: Global, link: &mut PlainLink, count: usize) -> Result<(), Fail> {
+/// Hands a packet of the octet 7 down to the link.
+fn put<L: OrderedLink>(alloc: Global, link: &mut L) -> bool {
+    let Ok(packet) = vec![in alloc; 7u8] else {
+        return false;
+    };
+    packet.len() <= link.limit() && link.put(packet).is_ok()
+}
+
+/// Hands so many such packets down.
+pub fn fill<L: OrderedLink>(alloc: Global, link: &mut L, count: usize) -> bool {
     for _ in 0..count {
-        link.put(vec![in alloc; 7u8]?)?;
+        if !put(alloc, link) {
+            return false;
+        }
     }
-    Ok(())
+    true
 }
 
 /// The link came up.
@@ -88,21 +97,17 @@ pub fn hear<'a>(
     link: &mut PlainLink,
     octets: &'a [u8],
     field: Option<&'a mut NarrowField>,
-) -> Result<Report<'a>, Fail> {
+) -> Result<Report<'a>, LayerError> {
     if link.waiting() == 256 || layer.full() {
-        return Err("the layer takes no packet")?;
+        return Err(LayerError::QueueFull);
     }
-    Ok(layer.packet(link, octets, field)?)
+    layer.packet(link, octets, field)
 }
 
 /// The same, by the call that takes packets of data transfer alone.
-pub fn transfer(
-    layer: &mut Layer,
-    link: &mut PlainLink,
-    octets: &[u8],
-) -> Result<Option<Delivery>, Fail> {
+pub fn transfer(layer: &mut Layer, link: &mut PlainLink, octets: &[u8]) -> Option<Delivery> {
     if link.waiting() == 256 {
-        return Err("the layer takes no packet")?;
+        return None;
     }
-    Ok(layer.transfer(link, octets))
+    layer.transfer(link, octets)
 }

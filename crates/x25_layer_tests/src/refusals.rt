@@ -1,11 +1,10 @@
 //! Which refusal comes, by the state of the link, of the layer and of the channel, and that it is told beforehand.
 
 use crate::calls::{ask, call, fill, layer, link_down, plain_link, restart};
-use std::process::Abort;
-use std::test::Fail;
+use std::alloc::Global;
 use x25_circuit::Request;
 use x25_layer::{Layer, LayerError, Role};
-use x25_link::{OrderedLink, PlainLink};
+use x25_link::OrderedLink;
 
 /// What is asked of a channel, by its index up to 6.
 pub fn request(index: usize) -> Request<'static> {
@@ -23,11 +22,19 @@ pub fn request(index: usize) -> Request<'static> {
     }
 }
 
-/// A channel, and the number of the refusal of each request, in order.
-type OfChannel = (u16, [u8; 7]);
-
-/// Addresses called and calling, how many octets of user data, and the number of the refusal.
-type OfCall = (&'static str, &'static str, &'static [u8], u8);
+/// What happens, and the number of its refusal or 0.
+#[derive(Clone, Copy)]
+enum Act {
+    Restart(u8),
+    /// So many packets are handed down to the link, by another than the layer.
+    Fill(usize),
+    /// Each request is asked on a channel, in order.
+    Ask(u16, [u8; 7]),
+    /// A call with these addresses, called and calling, and octets of user data.
+    Call(&'static str, &'static str, &'static [u8], u8),
+    /// So many packets wait: what is refused puts none.
+    Waits(usize),
+}
 
 fn number(error: Option<LayerError>) -> u8 {
     match error {
@@ -51,133 +58,163 @@ fn refusals<L: OrderedLink>(
 }
 
 fn refuses_on<L: OrderedLink>(
-    rt: &impl Abort,
     layer: &mut Layer,
     link: &mut L,
-    rows: &[OfChannel],
-) {
-    for &(channel, numbers) in rows {
-        for (index, wanted) in numbers.iter().enumerate() {
-            let found = refusals(layer, link, channel, index);
-            assert_eq!(rt; found, (*wanted, *wanted), "request {index} on {channel}");
+    channel: u16,
+    numbers: &[u8; 7],
+) -> bool {
+    for (index, wanted) in numbers.iter().enumerate() {
+        if refusals(layer, link, channel, index) != (*wanted, *wanted) {
+            return false;
         }
     }
+    true
 }
 
+// The same of a call.
 fn refusals_of_call<L: OrderedLink>(
     layer: &mut Layer,
     link: &mut L,
-    &(called, calling, user, _): &OfCall,
+    addresses: (&str, &str),
+    user: &[u8],
 ) -> (u8, u8) {
-    let (told, answer) = call(layer, link, (called, calling), user);
+    let (told, answer) = call(layer, link, addresses, user);
     (number(told), number(answer.err()))
 }
 
-fn refuses_calls<L: OrderedLink>(
-    rt: &impl Abort,
-    layer: &mut Layer,
-    link: &mut L,
-    rows: &[OfCall],
-) {
-    for (row, of_call) in rows.iter().enumerate() {
-        let found = refusals_of_call(layer, link, of_call);
-        assert_eq!(rt; found, (of_call.3, of_call.3), "call {row}");
+// Whether an act is refused as it says.
+fn happens<L: OrderedLink>(alloc: Global, layer: &mut Layer, link: &mut L, act: &Act) -> bool {
+    match act {
+        Act::Restart(wanted) => number(restart(layer, link).err()) == *wanted,
+        Act::Fill(count) => fill(alloc, link, *count),
+        Act::Ask(channel, numbers) => refuses_on(layer, link, *channel, numbers),
+        Act::Call(called, calling, user, wanted) => {
+            refusals_of_call(layer, link, (called, calling), user) == (*wanted, *wanted)
+        }
+        Act::Waits(count) => link.waiting() == *count,
     }
 }
 
-// What is refused puts nothing behind the 256 packets that wait.
-fn stays_full(rt: &impl Abort, link: &PlainLink) {
-    assert_eq!(rt; link.waiting(), 256);
+// The first act that is refused otherwise.
+fn odd_act<L: OrderedLink>(
+    alloc: Global,
+    layer: &mut Layer,
+    link: &mut L,
+    acts: &[Act],
+) -> Option<usize> {
+    for (place, act) in acts.iter().enumerate() {
+        if !happens(alloc, layer, link, act) {
+            return Some(place);
+        }
+    }
+    None
 }
 
-static RESTARTING: [OfChannel; 1] = [(4, [40; 7])];
-
-static CALLS_RESTARTING: [OfCall; 1] = [("1", "2", &[], 40)];
-
-#[test]
-fn a_restart_refuses_all(rt: HostRuntime) -> Result<(), Fail> {
-    let mut layer = layer(rt.alloc(), Role::Dte, 3)?;
-    let mut link = plain_link(rt.alloc())?;
-    restart(&mut layer, &mut *link)?;
-    fill(rt.alloc(), &mut link, 255)?;
-    refuses_on(&rt, &mut layer, &mut *link, &RESTARTING);
-    refuses_calls(&rt, &mut layer, &mut *link, &CALLS_RESTARTING);
-    stays_full(&rt, &link);
-    Ok(())
+// At a DTE with so many channels these acts happen in order.
+fn odd_act_of(alloc: Global, channels: usize, acts: &[Act]) -> Option<Option<usize>> {
+    let mut layer = layer(alloc, Role::Dte, channels).ok()?;
+    let mut link = plain_link(alloc)?;
+    Some(odd_act(alloc, &mut layer, &mut *link, acts))
 }
 
-static DOWN: [OfChannel; 1] = [(4, [9; 7])];
-
-static CALLS_DOWN: [OfCall; 1] = [("1", "2", &[], 9)];
-
-/// The layer awaits a confirmation of its RESTART.
-#[test]
-fn a_link_that_is_down_refuses_all(rt: HostRuntime) -> Result<(), Fail> {
-    let mut layer = layer(rt.alloc(), Role::Dte, 3)?;
-    restart(&mut layer, &mut *plain_link(rt.alloc())?)?;
-    let mut link = link_down(rt.alloc())?;
-    refuses_on(&rt, &mut layer, &mut *link, &DOWN);
-    refuses_calls(&rt, &mut layer, &mut *link, &CALLS_DOWN);
-    assert_eq!(rt; restart(&mut layer, &mut *link), Err(LayerError::NotUp));
-    Ok(())
-}
-
-static NO_SUCH_CHANNEL: [OfChannel; 3] = [(0, [42; 7]), (2, [42; 7]), (257, [42; 7])];
-
-static CALLS_WITHOUT_A_CHANNEL: [OfCall; 1] = [("1", "2", &[], 41)];
-
-/// The only channel has a call.
-#[test]
-fn a_channel_that_is_not_there_goes_before_a_full_queue(rt: HostRuntime) -> Result<(), Fail> {
-    let mut layer = layer(rt.alloc(), Role::Dte, 1)?;
-    let mut link = plain_link(rt.alloc())?;
-    refuses_calls(&rt, &mut layer, &mut *link, &[("", "", &[], 0)]);
-    fill(rt.alloc(), &mut link, 255)?;
-    refuses_on(&rt, &mut layer, &mut *link, &NO_SUCH_CHANNEL);
-    refuses_calls(&rt, &mut layer, &mut *link, &CALLS_WITHOUT_A_CHANNEL);
-    stays_full(&rt, &link);
-    Ok(())
-}
-
-// A message puts no packet at once.
-static FULL_QUEUE: [OfChannel; 1] = [(1, [10, 10, 30, 10, 10, 10, 10])];
-
-static CALLS_FULL_QUEUE: [OfCall; 2] = [("1", "2", &[], 10), ("x", "", &[], 10)];
-
-#[test]
-fn a_full_queue_goes_before_the_circuit(rt: HostRuntime) -> Result<(), Fail> {
-    let mut layer = layer(rt.alloc(), Role::Dte, 3)?;
-    let mut link = plain_link(rt.alloc())?;
-    fill(rt.alloc(), &mut link, 256)?;
-    refuses_on(&rt, &mut layer, &mut *link, &FULL_QUEUE);
-    refuses_calls(&rt, &mut layer, &mut *link, &CALLS_FULL_QUEUE);
-    assert_eq!(rt; restart(&mut layer, &mut *link), Err(LayerError::QueueFull));
-    stays_full(&rt, &link);
-    Ok(())
-}
-
-static NOT_ALLOWED: [OfChannel; 1] = [(1, [30; 7])];
-
-static BAD_CALLS: [OfCall; 3] = [
-    ("x", "", &[], 34),
-    ("", "1234567890123456", &[], 34),
-    ("", "", &[0; 17], 34),
+static RESTARTING: [Act; 5] = [
+    Act::Restart(0),
+    Act::Fill(255),
+    Act::Ask(4, [40; 7]),
+    Act::Call("1", "2", &[], 40),
+    Act::Waits(256),
 ];
 
 #[test]
-fn the_circuit_refuses_what_its_state_does_not_allow(rt: HostRuntime) -> Result<(), Fail> {
-    let mut layer = layer(rt.alloc(), Role::Dte, 3)?;
-    let mut link = plain_link(rt.alloc())?;
-    refuses_on(&rt, &mut layer, &mut *link, &NOT_ALLOWED);
-    refuses_calls(&rt, &mut layer, &mut *link, &BAD_CALLS);
-    Ok(())
+fn a_restart_refuses_all(rt: HostRuntime) {
+    assert_eq!(rt;
+        odd_act_of(rt.alloc(), 3, RESTARTING.as_slice()),
+        Some(None)
+    );
+}
+
+static DOWN: [Act; 3] = [
+    Act::Ask(4, [9; 7]),
+    Act::Call("1", "2", &[], 9),
+    Act::Restart(9),
+];
+
+// The layer awaits a confirmation of its RESTART.
+fn odd_act_of_down(alloc: Global) -> Option<Option<usize>> {
+    let mut layer = layer(alloc, Role::Dte, 3).ok()?;
+    restart(&mut layer, &mut *plain_link(alloc)?).ok()?;
+    let mut link = link_down(alloc)?;
+    Some(odd_act(alloc, &mut layer, &mut *link, DOWN.as_slice()))
 }
 
 #[test]
-fn a_layer_has_1_to_16_channels(rt: HostRuntime) -> Result<(), Fail> {
+fn a_link_that_is_down_refuses_all(rt: HostRuntime) {
+    assert_eq!(rt; odd_act_of_down(rt.alloc()), Some(None));
+}
+
+// The only channel has a call.
+static NO_SUCH_CHANNEL: [Act; 7] = [
+    Act::Call("", "", &[], 0),
+    Act::Fill(255),
+    Act::Ask(0, [42; 7]),
+    Act::Ask(2, [42; 7]),
+    Act::Ask(257, [42; 7]),
+    Act::Call("1", "2", &[], 41),
+    Act::Waits(256),
+];
+
+#[test]
+fn a_channel_that_is_not_there_goes_before_a_full_queue(rt: HostRuntime) {
+    assert_eq!(rt;
+        odd_act_of(rt.alloc(), 1, NO_SUCH_CHANNEL.as_slice()),
+        Some(None)
+    );
+}
+
+// A message puts no packet at once.
+static FULL_QUEUE: [Act; 6] = [
+    Act::Fill(256),
+    Act::Ask(1, [10, 10, 30, 10, 10, 10, 10]),
+    Act::Call("1", "2", &[], 10),
+    Act::Call("x", "", &[], 10),
+    Act::Restart(10),
+    Act::Waits(256),
+];
+
+#[test]
+fn a_full_queue_goes_before_the_circuit(rt: HostRuntime) {
+    assert_eq!(rt;
+        odd_act_of(rt.alloc(), 3, FULL_QUEUE.as_slice()),
+        Some(None)
+    );
+}
+
+static NOT_ALLOWED: [Act; 4] = [
+    Act::Ask(1, [30; 7]),
+    Act::Call("x", "", &[], 34),
+    Act::Call("", "1234567890123456", &[], 34),
+    Act::Call("", "", &[0; 17], 34),
+];
+
+#[test]
+fn the_circuit_refuses_what_its_state_does_not_allow(rt: HostRuntime) {
+    assert_eq!(rt;
+        odd_act_of(rt.alloc(), 3, NOT_ALLOWED.as_slice()),
+        Some(None)
+    );
+}
+
+fn refusal(alloc: Global, channels: usize) -> Option<LayerError> {
+    layer(alloc, Role::Dte, channels).err()
+}
+
+#[test]
+fn a_layer_has_1_to_16_channels(rt: HostRuntime) {
     for channels in [0, 17] {
-        let refused = layer(rt.alloc(), Role::Dte, channels).err();
-        assert_eq!(rt; refused, Some(LayerError::BadConfig), "{channels}");
+        assert_eq!(rt;
+            refusal(rt.alloc(), channels),
+            Some(LayerError::BadConfig),
+            "{channels}"
+        );
     }
-    Ok(())
 }

@@ -2,9 +2,7 @@
 
 use crate::calls::{ask, fill, hear, layer, plain_link, pull, restart, transfer, up};
 use crate::refusals::request;
-use std::alloc::{AllocError, Global};
-use std::process::Abort;
-use std::test::Fail;
+use std::alloc::Global;
 use x25_circuit::{Notice, Request};
 use x25_layer::{Delivery, Layer, LayerError, Params, Report, Role, Stretch};
 use x25_link::{OrderedLink, PlainLink};
@@ -50,6 +48,8 @@ type Row = (Act, Answer, Puts, Says);
 const OK: Answer = (0, None);
 
 const NOT_TAKEN: Answer = (255, None);
+
+const NO_MEMORY: Answer = (70, None);
 
 const NO_PACKETS: Puts = Some(&[]);
 
@@ -339,15 +339,25 @@ fn head(packet: &[u8]) -> (u8, u8, usize) {
     }
 }
 
-// The packets that wait are taken out of the link.
-fn put(alloc: Global, link: &mut PlainLink) -> Result<Vec<(u8, u8, usize)>, AllocError> {
-    let mut heads = Vec::new(alloc);
-    for _ in 0..link.waiting() {
-        if let Some(packet) = link.out() {
-            heads.push(head(packet.as_slice()))?;
+// That of the next packet that waits, which is taken out of the link.
+fn next_head(link: &mut PlainLink) -> Option<(u8, u8, usize)> {
+    match link.out() {
+        Some(packet) => Some(head(packet.as_slice())),
+        None => None,
+    }
+}
+
+// Whether these packets wait and no others, where they are taken out.
+fn has_put(link: &mut PlainLink, puts: Puts) -> bool {
+    let Some(heads) = puts else {
+        return true;
+    };
+    for wanted in heads {
+        if next_head(link) != Some(*wanted) {
+            return false;
         }
     }
-    Ok(heads)
+    link.waiting() == 0
 }
 
 fn answered(answer: Result<(), LayerError>) -> Answer {
@@ -389,55 +399,47 @@ fn sends(
     link: &mut PlainLink,
     channel: u16,
     count: usize,
-) -> Result<Answer, Fail> {
-    let user = vec![in alloc; 0u8; count]?;
+) -> Answer {
+    let Ok(user) = vec![in alloc; 0u8; count] else {
+        return NO_MEMORY;
+    };
     let request = Request::Send {
         q: false,
         user: user.as_slice(),
     };
-    Ok(answered(ask(layer, link, channel, request)))
+    answered(ask(layer, link, channel, request))
 }
 
-fn hears(
-    layer: &mut Layer,
-    link: &mut PlainLink,
-    octets: &[u8],
-    is_wide: bool,
-) -> Result<Answer, Fail> {
+fn hears(layer: &mut Layer, link: &mut PlainLink, octets: &[u8], is_wide: bool) -> Answer {
     let mut field = NarrowField::none();
     let field = if is_wide { Some(&mut field) } else { None };
-    let report = hear(layer, link, octets, field)?;
-    Ok(told(&report))
+    match hear(layer, link, octets, field) {
+        Ok(report) => told(&report),
+        Err(error) => (error.number(), None),
+    }
 }
 
-fn transfers(layer: &mut Layer, link: &mut PlainLink, octets: &[u8]) -> Result<Answer, Fail> {
-    let delivery = transfer(layer, link, octets)?;
-    Ok(taken(&delivery))
-}
-
-fn happens(
-    alloc: Global,
-    layer: &mut Layer,
-    link: &mut PlainLink,
-    act: Act,
-) -> Result<Answer, Fail> {
+fn happens(alloc: Global, layer: &mut Layer, link: &mut PlainLink, act: Act) -> Answer {
     match act {
-        Act::Up => Ok(answered(up(layer, link))),
+        Act::Up => answered(up(layer, link)),
         Act::Down => {
             layer.down();
-            Ok(OK)
+            OK
         }
-        Act::Restart => Ok(answered(restart(layer, link))),
-        Act::Pull => Ok(answered(pull(layer, link))),
-        Act::Ask(channel, index) => Ok(answered(ask(layer, link, channel, request(index)))),
+        Act::Restart => answered(restart(layer, link)),
+        Act::Pull => answered(pull(layer, link)),
+        Act::Ask(channel, index) => answered(ask(layer, link, channel, request(index))),
         Act::Send(channel, count) => sends(alloc, layer, link, channel, count),
         Act::Take(octets) => hears(layer, link, octets, false),
         Act::TakeWide(octets) => hears(layer, link, octets, true),
-        Act::Transfer(octets) => transfers(layer, link, octets),
-        Act::Reserve => Ok(answered(layer.reserve(link, 4096))),
+        Act::Transfer(octets) => taken(&transfer(layer, link, octets)),
+        Act::Reserve => answered(layer.reserve(link, 4096)),
         Act::Fill(count) => {
-            fill(alloc, link, count)?;
-            Ok(OK)
+            if fill(alloc, link, count) {
+                OK
+            } else {
+                NO_MEMORY
+            }
         }
     }
 }
@@ -451,85 +453,88 @@ fn says(layer: &Layer) -> Says {
     )
 }
 
-fn plays_row(
-    rt: &impl Abort,
-    alloc: Global,
-    layer: &mut Layer,
-    link: &mut PlainLink,
-    row: usize,
-    &(act, answer, puts, wanted): &Row,
-) -> Result<(), Fail> {
-    let found = happens(alloc, layer, link, act)?;
-    assert_eq!(rt; (found, says(layer)), (answer, wanted), "row {row}");
-    if let Some(puts) = puts {
-        assert_eq!(rt; put(alloc, link)?.as_slice(), puts, "row {row}");
+// The first row in which something else happens.
+fn odd_row(alloc: Global, layer: &mut Layer, link: &mut PlainLink, rows: &[Row]) -> Option<usize> {
+    for (row, &(act, answer, puts, wanted)) in rows.iter().enumerate() {
+        let found = happens(alloc, layer, link, act);
+        if (found, says(layer)) != (answer, wanted) || !has_put(link, puts) {
+            return Some(row);
+        }
     }
-    Ok(())
+    None
 }
 
-fn plays(
-    rt: &impl Abort,
+// The first table of these, and its row.
+fn odd_table(
     alloc: Global,
     layer: &mut Layer,
     link: &mut PlainLink,
-    rows: &[Row],
-) -> Result<(), Fail> {
-    for (index, row) in rows.iter().enumerate() {
-        plays_row(rt, alloc, layer, link, index, row)?;
+    tables: &[&[Row]],
+) -> Option<(usize, usize)> {
+    for (table, rows) in tables.iter().enumerate() {
+        if let Some(row) = odd_row(alloc, layer, link, rows) {
+            return Some((table, row));
+        }
     }
-    Ok(())
+    None
 }
 
 // At a DTE with two channels these tables happen in order.
-fn play(rt: &impl Abort, alloc: Global, tables: &[&[Row]]) -> Result<(), Fail> {
-    let mut layer = layer(alloc, Role::Dte, 2)?;
+fn odd_row_of(alloc: Global, tables: &[&[Row]]) -> Option<Option<(usize, usize)>> {
+    let mut layer = layer(alloc, Role::Dte, 2).ok()?;
     let mut link = plain_link(alloc)?;
-    for rows in tables {
-        plays(rt, alloc, &mut layer, &mut link, rows)?;
-    }
-    Ok(())
+    Some(odd_table(alloc, &mut layer, &mut link, tables))
 }
 
 #[test]
-fn link_down_leaves_the_counts(rt: HostRuntime) -> Result<(), Fail> {
-    play(&rt, rt.alloc(), &[&COUNTS_STAND])
+fn link_down_leaves_the_counts(rt: HostRuntime) {
+    assert_eq!(rt; odd_row_of(rt.alloc(), &[&COUNTS_STAND]), Some(None));
 }
 
 #[test]
-fn rounds_alternate_channels(rt: HostRuntime) -> Result<(), Fail> {
-    play(&rt, rt.alloc(), &[&TWO_OPEN, &ALTERNATING])
+fn rounds_alternate_channels(rt: HostRuntime) {
+    assert_eq!(rt;
+        odd_row_of(rt.alloc(), &[&TWO_OPEN, &ALTERNATING]),
+        Some(None)
+    );
 }
 
 #[test]
-fn pulls_end_where_eight_packets_wait(rt: HostRuntime) -> Result<(), Fail> {
-    play(&rt, rt.alloc(), &[&TWO_OPEN, &UP_TO_EIGHT])?;
-    play(&rt, rt.alloc(), &[&TWO_OPEN, &PULLED])
+fn pulls_end_where_eight_packets_wait(rt: HostRuntime) {
+    assert_eq!(rt;
+        odd_row_of(rt.alloc(), &[&TWO_OPEN, &UP_TO_EIGHT]),
+        Some(None)
+    );
+    assert_eq!(rt; odd_row_of(rt.alloc(), &[&TWO_OPEN, &PULLED]), Some(None));
 }
 
 #[test]
-fn packets_of_data_transfer_are_taken_by_themselves(rt: HostRuntime) -> Result<(), Fail> {
-    play(&rt, rt.alloc(), &[&TRANSFERS])
+fn packets_of_data_transfer_are_taken_by_themselves(rt: HostRuntime) {
+    assert_eq!(rt; odd_row_of(rt.alloc(), &[&TRANSFERS]), Some(None));
 }
 
 #[test]
-fn packets_are_read_in_all_forms(rt: HostRuntime) -> Result<(), Fail> {
-    play(&rt, rt.alloc(), &[&IN_ALL_FORMS])
+fn packets_are_read_in_all_forms(rt: HostRuntime) {
+    assert_eq!(rt; odd_row_of(rt.alloc(), &[&IN_ALL_FORMS]), Some(None));
 }
 
-fn is_new(rt: &impl Abort, layer: &Layer) {
+fn is_new(layer: &Layer) -> bool {
     let names = (layer.name(1), layer.name(16), layer.name(0), layer.name(17));
-    assert_eq!(rt; names, (FIRST, FIRST, None, None));
     let said = (
         layer.params(16),
         layer.params(17),
         layer.octets_joined(17),
         layer.full(),
     );
-    assert_eq!(rt; said, (Some(Params::default()), None, 0, false));
+    names == (FIRST, FIRST, None, None) && said == (Some(Params::default()), None, 0, false)
+}
+
+fn is_made_new(alloc: Global) -> Option<bool> {
+    let layer = layer(alloc, Role::Dte, 16).ok()?;
+    Some(is_new(&layer))
 }
 
 #[test]
-fn a_layer_has_the_channels_it_was_made_with(rt: HostRuntime) -> Result<(), Fail> {
-    is_new(&rt, &*layer(rt.alloc(), Role::Dte, 16)?);
-    Ok(())
+fn a_layer_has_the_channels_it_was_made_with(rt: HostRuntime) {
+    assert_eq!(rt; is_made_new(rt.alloc()), Some(true));
 }

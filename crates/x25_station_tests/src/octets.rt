@@ -3,8 +3,6 @@
 use crate::calls::{ask, receive, station};
 use crate::steps::SETTINGS;
 use std::alloc::Global;
-use std::process::Abort;
-use std::test::Fail;
 use x25_bits::{Seq, seal};
 use x25_frame::{Frame, decode, encode};
 use x25_station::{Cmd, Role, Station, StationError, Step};
@@ -99,7 +97,7 @@ impl Seen {
 }
 
 // The octets of an I frame with this packet.
-fn information(alloc: Global, ns: Seq, nr: Seq, info: &[u8]) -> Result<Vec<u8>, Fail> {
+fn information(alloc: Global, ns: Seq, nr: Seq, info: &[u8]) -> Option<Vec<u8>> {
     let frame = Frame::I {
         ns,
         nr,
@@ -107,18 +105,18 @@ fn information(alloc: Global, ns: Seq, nr: Seq, info: &[u8]) -> Result<Vec<u8>, 
         info,
     };
     let mut octets = Vec::new(alloc);
-    encode(Role::Dte, &frame, &mut octets)?;
-    Ok(octets)
+    encode(Role::Dte, &frame, &mut octets).ok()?;
+    Some(octets)
 }
 
 // A few octets, with a frame check sequence behind them that is right but for one string of eight.
-fn few_octets(alloc: Global, number: u64) -> Result<Vec<u8>, Fail> {
+fn few_octets(alloc: Global, number: u64) -> Option<Vec<u8>> {
     let bytes = number.to_le_bytes();
-    let mut octets = Vec::from_slice(alloc, &bytes[..(number % 9) as usize])?;
+    let mut octets = Vec::from_slice(alloc, &bytes[..(number % 9) as usize]).ok()?;
     if number % 8 > 0 {
-        seal(&mut octets)?;
+        seal(&mut octets).ok()?;
     }
-    Ok(octets)
+    Some(octets)
 }
 
 /// A DCE, and what the other end of its link goes by.
@@ -156,34 +154,34 @@ impl Peer {
         }
     }
 
-    fn sends(&mut self, octets: &[u8]) -> Result<(), Fail> {
-        receive(&mut self.station, octets, &mut self.out)?;
+    fn sends(&mut self, octets: &[u8]) -> Option<()> {
+        receive(&mut self.station, octets, &mut self.out).ok()?;
         self.seen.step(&self.out);
         self.accepts();
-        Ok(())
+        Some(())
     }
 
     /// The next I frame, with this packet.
-    fn hands(&mut self, packet: &[u8]) -> Result<(), Fail> {
+    fn hands(&mut self, packet: &[u8]) -> Option<()> {
         let octets = information(self.alloc, self.seen.ns, self.seen.nr, packet)?;
         self.sends(octets.as_slice())
     }
 
     /// A packet that begins as one does.
-    fn packet(&mut self, number: u64) -> Result<(), Fail> {
+    fn packet(&mut self, number: u64) -> Option<()> {
         let [a, b, c] = BEGINNINGS[(number % 20) as usize];
         let [d, e, f, _, _, _, _, g] = number.to_le_bytes();
         let packet = [a, b, c, d & 0x11, e & 1, f];
         self.hands(&packet[..3 + (g % 4) as usize])
     }
 
-    fn frame(&mut self, number: u64) -> Result<(), Fail> {
+    fn frame(&mut self, number: u64) -> Option<()> {
         let octets = few_octets(self.alloc, number)?;
         self.sends(octets.as_slice())
     }
 
     // What comes as this string, made from this number.
-    fn string(&mut self, string: u16, number: u64) -> Result<(), Fail> {
+    fn string(&mut self, string: u16, number: u64) -> Option<()> {
         match string % 32 {
             0 => self.sends(&SABM),
             1 => self.hands(&RESTART),
@@ -193,24 +191,24 @@ impl Peer {
         }
     }
 
-    fn strings(&mut self) -> Result<(), Fail> {
+    /// How many entries the DCE makes of all strings.
+    fn strings(&mut self) -> Option<usize> {
         let mut number = 88_172_645_463_325_252;
         for string in 0..10_000u16 {
             number = following(number);
             self.string(string, number)?;
         }
-        Ok(())
+        Some(self.seen.told)
     }
 }
 
-fn takes_all(rt: &impl Abort, peer: &mut Peer) -> Result<(), Fail> {
-    peer.strings()?;
-    assert!(rt; peer.seen.told > 2_000, "{}", peer.seen.told);
-    Ok(())
+fn told_of_strings(alloc: Global) -> Option<usize> {
+    let mut peer = Peer::new(alloc).ok()?;
+    peer.strings()
 }
 
 #[test]
-fn all_octets_are_taken(rt: HostRuntime) -> Result<(), Fail> {
-    let mut peer = Peer::new(rt.alloc())?;
-    takes_all(&rt, &mut peer)
+fn all_octets_are_taken(rt: HostRuntime) {
+    let told = told_of_strings(rt.alloc());
+    assert!(rt; told > Some(2_000), "{told:?}");
 }

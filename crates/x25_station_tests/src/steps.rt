@@ -1,8 +1,7 @@
 //! What a step brings, and what a station says of itself behind it; `tests/golden` has the lines of whole sessions.
 
 use crate::calls::{ask, connect, fire, pull, receive, station};
-use std::process::Abort;
-use std::test::Fail;
+use std::alloc::Global;
 use x25_layer::Stretch;
 use x25_station::{Cfg, Cmd, Role, Station, StationError, Step, Timer};
 
@@ -221,34 +220,29 @@ fn says(station: &Station) -> Says {
     )
 }
 
-fn plays(rt: &impl Abort, station: &mut Station, out: &mut Step, rows: &[Row]) {
+// The first row that brings something else, or behind which the station says something else.
+fn odd_row(station: &mut Station, out: &mut Step, rows: &[Row]) -> Option<usize> {
     for (row, &(count, act, brings, wanted)) in rows.iter().enumerate() {
         let number = refusal(station, (count, act), out);
         let brought = (number, out.frames.len(), out.entries.len(), out.timer);
-        assert_eq!(rt; (brought, says(station)), (brings, wanted), "row {row}");
+        if (brought, says(station)) != (brings, wanted) {
+            return Some(row);
+        }
     }
+    None
+}
+
+fn odd_row_of(alloc: Global, role: Role, rows: &[Row]) -> Result<Option<usize>, StationError> {
+    let mut station = station(alloc, role, SETTINGS)?;
+    Ok(odd_row(&mut station, &mut Step::new(alloc), rows))
 }
 
 #[test]
-fn steps_of_a_dte(rt: HostRuntime) -> Result<(), Fail> {
-    let mut station = station(rt.alloc(), Role::Dte, SETTINGS)?;
-    plays(
-        &rt,
-        &mut station,
-        &mut Step::new(rt.alloc()),
-        DTE.as_slice(),
-    );
-    Ok(())
+fn steps_of_a_dte(rt: HostRuntime) {
+    assert_eq!(rt; odd_row_of(rt.alloc(), Role::Dte, DTE.as_slice()), Ok(None));
 }
 
 #[test]
-fn steps_of_a_dce(rt: HostRuntime) -> Result<(), Fail> {
-    let mut station = station(rt.alloc(), Role::Dce, SETTINGS)?;
-    plays(
-        &rt,
-        &mut station,
-        &mut Step::new(rt.alloc()),
-        DCE.as_slice(),
-    );
-    Ok(())
+fn steps_of_a_dce(rt: HostRuntime) {
+    assert_eq!(rt; odd_row_of(rt.alloc(), Role::Dce, DCE.as_slice()), Ok(None));
 }
