@@ -8,6 +8,8 @@ pub mod Stretches
 pub mod Callings
 pub mod Closings
 pub mod Restartings
+pub mod OwnEnd
+pub mod OtherEnd
 pub mod Innocents
 pub mod Silences
 pub mod Beginnings
@@ -16,5 +18,7 @@ pub mod Parts
 pub mod Reaching
 pub mod Noting
 pub mod Ways
+pub mod KnownRestarts
+pub mod Awaiting
 pub mod Tapes
 pub mod Clearings

@@ -19,7 +19,8 @@ use Rattle.x25_packet_judge.specs.laws.Clearing.{IsInCall, Answers, Clears, Asks
 use Rattle.x25_packet_judge.specs.laws.Keeping.{Given, Come, Phase, Idles, Calls, WasCalled, Talks, Resets, WasReset, Clears as Waiting, WasCleared, HasRestarted, WasRestarted, turned}
 use Rattle.x25_packet_judge.specs.laws.VerdictClaims.{NoNextCallIsTold}
 use Rattle.x25_packet_judge.proofs.verdicts.Standing.{ends, tail_of, none_left, not_true, MayGo, Due, closing_due, Behind, Away, Gone}
-use Rattle.x25_packet_judge.proofs.verdicts.Innocents.{Standing, sound}
+use Rattle.x25_packet_judge.proofs.verdicts.OwnEnd.{Standing}
+use Rattle.x25_packet_judge.proofs.verdicts.Innocents.{sound}
 use Rattle.x25_packet_judge.proofs.verdicts.Stretches.{knows_if}
 use Rattle.x25_packet_judge.proofs.verdicts.Saying.{awaits_none, owes_none, knows}
 

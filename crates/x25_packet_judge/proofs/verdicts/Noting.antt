@@ -17,7 +17,7 @@ use Rattle.x25_packet_judge.proofs.verdicts.Standing.{ahead, tail_of, Behind, Be
 use Rattle.x25_packet_judge.proofs.verdicts.Callings.{Even, Far, WasAsked, HasNone, Asks, HasCalled}
 use Rattle.x25_packet_judge.proofs.verdicts.Closings.{HasCleared}
 use Rattle.x25_packet_judge.proofs.verdicts.Stretches.{Talking, Asking as Asked, Waiting}
-use Rattle.x25_packet_judge.proofs.verdicts.Innocents.{Standing}
+use Rattle.x25_packet_judge.proofs.verdicts.OwnEnd.{Standing}
 
 -- ---- what is noted changes nothing
 

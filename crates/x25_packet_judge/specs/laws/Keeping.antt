@@ -156,8 +156,7 @@ takes packet c = c
 
 -- Where it stands behind a packet that comes. Where the calls of both ends collide, the DCE gives its own up (section
 -- 4.1.6). While its RESET waits all is dropped but RESET and its confirmation, either of which ends that (section
--- 4.4.3.3), and what ends the call; and so with its CLEAR and its
--- RESTART (sections 3.3 and 4.1.9).
+-- 4.4.3.3), and what ends the call; and so with its CLEAR and its RESTART (sections 3.3 and 4.1.9).
 abbrev pub comes : Role → Phase → PlainPacket → Phase
 comes from Idles (call channel called calling facilities user) = WasCalled (said facilities usual)
 comes from Idles (clear channel cause diagnostic) = WasCleared
