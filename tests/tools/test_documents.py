@@ -216,6 +216,18 @@ class Claims(unittest.TestCase):
                         count += 1
         self.assertGreater(count, 200)
 
+    def test_each_clause_that_excludes_a_bug_is_of_its_function(self):
+        """docs/BUGS.md cites functions of all crates, and their clauses."""
+        count = 0
+        for line in re.findall(r"^  - (.*)$", re.sub(r"\n +(?=[^ -])", " ", text_of("docs", "BUGS.md")), re.MULTILINE):
+            for heads, tail in re.findall(r"((?:`[\w:]+`(?:, | and )?)+): ((?:`\w+`(?:, of it |, and |, | and |))+)", line):
+                names = [head.split("::")[-1] for head in re.findall("`([^`]+)`", heads)]
+                known = set().union(*(self.clauses(crate, name) for name in names for crate in self.below if self.contracts[crate, name]))
+                with self.subTest(f"{heads}: {tail}"):
+                    self.assertEqual(set(re.findall(r"`(\w+)`", tail)) - known, set())
+                    count += 1
+        self.assertGreater(count, 15)
+
     def test_each_law_is_claimed(self):
         """A law is a public function that takes nothing and answers nothing, by a contract."""
         for crate in self.below:
