@@ -12,17 +12,22 @@
 # make wrong-bodies  minutes a crate  rt                  tries wrong bodies that the gate leaves out; CRATE="NAME .." of these crates
 # make interop       20 minutes       build/x25, a guest  plays a station against Linux's X.25; interop/README.md says more
 # make install       a second         build/x25           installs the program, the scripts, the manual page, the documents and what make lib left
-# make uninstall     a second                             removes what that installed
+# make install-lib   a second         build/libx25.so     installs what make lib left alone, and the bindings for Python and Rust
+# make uninstall     a second                             removes what these installed
 # make dist          a second         git                 leaves the sources of HEAD at build/x25-VERSION.tar.gz
 # make clean         a second                             removes what the others made here
 #
-# PREFIX is /usr/local where it isn't given, DESTDIR stands before it, and PROGRAM is what is installed in place of build/x25.
+# PREFIX is /usr/local where it isn't given, DESTDIR stands before it, and PROGRAM is what is installed in place of build/x25. LIBDIR is
+# where the library goes, PREFIX/lib, and PYTHONDIR where Python finds its package, the folder under PREFIX/lib in which python3 looks.
 # The times are those of four processors with nothing beside. rt, the command of the Rattle kit, wants up to 4 GB of memory for each
 # processor; cc is a C compiler. All need Python 3.9 or later. What needs build/x25 has it proved first, where it isn't there.
 
-.PHONY: help look x25 lib check-c demo test golden judge-runs check-tools refused wrong-bodies interop install uninstall dist clean kit
+.PHONY: help look x25 lib check-c demo test golden judge-runs check-tools refused wrong-bodies interop install install-lib uninstall dist clean kit
 
 x25: build/x25
+
+# The shared library, by the number of what programs that link it rely on: it goes up where one of them has to be compiled again.
+SHARED = libx25.so.1
 
 help:
 	@sed -n '/^$$/q; s/^# \{0,1\}//p' Makefile
@@ -50,9 +55,11 @@ build/libx25.a: build/libx25_c.a
 	ar rcs $@ build/objects/*.o
 	rm -r build/objects
 
-build/libx25.so: build/libx25.a share/x25.map
-	$(CC) -shared -o $@.$(VERSION) -Wl,-soname,libx25.so.$(VERSION),--version-script=share/x25.map -Wl,--whole-archive build/libx25.a -Wl,--no-whole-archive
-	ln -sf libx25.so.$(VERSION) $@
+build/$(SHARED): build/libx25.a share/x25.map
+	$(CC) -shared -o $@ -Wl,-soname,$(SHARED),--version-script=share/x25.map -Wl,--whole-archive build/libx25.a -Wl,--no-whole-archive
+
+build/libx25.so: build/$(SHARED)
+	ln -sf $(SHARED) $@
 
 lib: build/libx25.a build/libx25.so
 	cp include/x25.h build
@@ -106,7 +113,12 @@ INSTALLED = $(DESTDIR)$(PREFIX)
 DOCUMENTS = $(INSTALLED)/share/doc/x25
 # Where the library for C is installed from, if it is there.
 LIBRARY = build
-SET_PC = s|@PREFIX@|$(PREFIX)|; s|@VERSION@|$(VERSION)|
+LIBDIR = $(PREFIX)/lib
+PYTHONDIR = $(shell python3 -c 'import site, sys; places = [place for place in site.getsitepackages() if place.startswith("$(PREFIX)/lib/")]; \
+    print(*places[:1] or ["$(PREFIX)/lib/python%d.%d/site-packages" % sys.version_info[:2]])')
+PACKAGE = $(INSTALLED)/lib/x25/x25
+CRATE_OF_RUST = $(INSTALLED)/share/x25/rust
+SET_PC = s|@PREFIX@|$(PREFIX)|; s|@LIBDIR@|$(LIBDIR)|; s|@VERSION@|$(VERSION)|
 # The scripts by their names in bin, of which each is a link to its script in lib/x25.
 SCRIPTS = x25dump:x25dump pcap2x25:pcap2x25 x25pcap:x25pcap x25bridge:bridge x25chart:chart
 
@@ -128,22 +140,31 @@ install:
 	install -m 644 README.md CHANGELOG.md docs/*.md docs/*.svg $(DOCUMENTS)
 	install -m 644 $(wildcard examples/*.*) $(DOCUMENTS)/examples
 	for folder in embed c python; do install -m 644 examples/$$folder/*.* $(DOCUMENTS)/examples/$$folder || exit $$?; done
-	if [ -e $(LIBRARY)/libx25.so ]; then \
-	    install -d $(INSTALLED)/include $(INSTALLED)/lib/pkgconfig && \
-	    install -m 644 include/x25.h $(INSTALLED)/include && \
-	    install -m 644 $(LIBRARY)/libx25.a $(INSTALLED)/lib && \
-	    install -m 755 $(LIBRARY)/libx25.so.$(VERSION) $(INSTALLED)/lib && \
-	    ln -sf libx25.so.$(VERSION) $(INSTALLED)/lib/libx25.so && \
-	    install -m 644 bindings/python/x25.py $(INSTALLED)/lib/x25 && \
-	    sed '$(SET_PC)' share/x25.pc.in > $(INSTALLED)/lib/pkgconfig/x25.pc || exit $$?; \
-	fi
 	if [ -e $(dir $(PROGRAM))commit ]; then install -m 644 $(dir $(PROGRAM))commit $(DOCUMENTS)/COMMIT; fi
+	if [ -e $(LIBRARY)/libx25.so ]; then $(MAKE) --no-print-directory install-lib; fi
+
+# The package of Python has a link to the library beside it, by which it finds that, and stands with the scripts, which use it.
+install-lib:
+	@test -e $(LIBRARY)/libx25.so || { echo "There is no $(LIBRARY)/libx25.so: make lib leaves it there." >&2; exit 1; }
+	install -d $(INSTALLED)/include $(DESTDIR)$(LIBDIR)/pkgconfig $(PACKAGE) $(DESTDIR)$(PYTHONDIR) $(CRATE_OF_RUST)/src
+	install -m 644 include/x25.h $(INSTALLED)/include
+	install -m 644 $(LIBRARY)/libx25.a $(DESTDIR)$(LIBDIR)
+	install -m 755 $(LIBRARY)/$(SHARED) $(DESTDIR)$(LIBDIR)
+	ln -sf $(SHARED) $(DESTDIR)$(LIBDIR)/libx25.so
+	sed '$(SET_PC)' share/x25.pc.in > $(DESTDIR)$(LIBDIR)/pkgconfig/x25.pc
+	chmod 644 $(DESTDIR)$(LIBDIR)/pkgconfig/x25.pc
+	install -m 644 $(wildcard bindings/python/x25/*.py) bindings/python/x25/py.typed $(PACKAGE)
+	ln -srf $(DESTDIR)$(LIBDIR)/$(SHARED) $(PACKAGE)/libx25.so
+	ln -srfn $(PACKAGE) $(DESTDIR)$(PYTHONDIR)/x25
+	install -m 644 bindings/rust/Cargo.toml bindings/rust/build.rs $(CRATE_OF_RUST)
+	install -m 644 bindings/rust/src/lib.rs $(CRATE_OF_RUST)/src
+	@test -n "$(DESTDIR)" || echo "Now run ldconfig, as root: it lets programs find $(LIBDIR)/$(SHARED)."
 
 uninstall:
 	for pair in x25:x25 $(SCRIPTS); do rm -f $(INSTALLED)/bin/$${pair%:*} $(INSTALLED)/share/man/man1/$${pair%:*}.1; done
 	rm -f $(INSTALLED)/share/bash-completion/completions/x25
-	rm -f $(INSTALLED)/include/x25.h $(INSTALLED)/lib/libx25.* $(INSTALLED)/lib/pkgconfig/x25.pc
-	rm -rf $(INSTALLED)/lib/x25 $(DOCUMENTS)
+	rm -f $(INSTALLED)/include/x25.h $(DESTDIR)$(LIBDIR)/libx25.* $(DESTDIR)$(LIBDIR)/pkgconfig/x25.pc $(DESTDIR)$(PYTHONDIR)/x25
+	rm -rf $(INSTALLED)/lib/x25 $(INSTALLED)/share/x25 $(DOCUMENTS)
 
 dist:
 	mkdir -p build

@@ -1,5 +1,6 @@
 """Tests of `make install`: into an empty folder, run from there by another user, and taken away again."""
 
+import importlib.util
 import os
 import pwd
 import re
@@ -114,10 +115,68 @@ class Installed(ToolCase):
 class Version(unittest.TestCase):
     def test_it_is_the_same_everywhere(self):
         version = re.search(r'\.version\("(.*)"\)', support.read("crates/x25_settings/src/parser.rt").decode())[1]
-        places = ("CHANGELOG.md", r"^## (\S+?),?( |$)"), ("debian/changelog", r"^x25 \((.*)-1\)"), ("bindings/rust/Cargo.toml", r'^version = "(.*)"')
+        projects = ((f"bindings/{path}", r'^version = "(.*)"') for path in ("rust/Cargo.toml", "python/pyproject.toml"))
+        places = ("CHANGELOG.md", r"^## (\S+?),?( |$)"), ("debian/changelog", r"^x25 \((.*)-1\)"), *projects
         for path, pattern in places:
             with self.subTest(path):
                 self.assertEqual(re.search(pattern, support.read(path).decode(), re.MULTILINE)[1], version)
+
+
+class InstalledLibrary(ToolCase):
+    """What `make install-lib` installs of a library, without the program; this one is empty."""
+
+    def setUp(self):
+        super().setUp()
+        os.chmod(self.folder, 0o755)
+        for name in "libx25.a", "libx25.so.1", "libx25.so":
+            self.file(name, b"")
+        self.there = self.folder + PREFIX
+        self.words = f"DESTDIR={self.folder}", f"PREFIX={PREFIX}", f"LIBDIR={PREFIX}/lib64", f"LIBRARY={self.folder}"
+        self.done = make("install-lib", *self.words)
+
+    def test_what_a_compiler_and_a_linker_look_for(self):
+        self.assertEqual((self.done.returncode, self.done.stdout, self.done.stderr), (0, "", ""))
+        self.assertEqual(support.read(f"{self.there}/include/x25.h"), support.read("include/x25.h"))
+        self.assertEqual(os.readlink(f"{self.there}/lib64/libx25.so"), "libx25.so.1")
+        self.assertTrue(os.path.exists(f"{self.there}/lib64/libx25.a"))
+        told = support.read(f"{self.there}/lib64/pkgconfig/x25.pc").decode()
+        self.assertIn(f"prefix={PREFIX}\nlibdir={PREFIX}/lib64\n", told)
+        self.assertTrue(os.path.exists(f"{self.there}/share/x25/rust/src/lib.rs"))
+
+    def test_the_package_of_python_finds_the_library(self):
+        place = self.packages()
+        command = [sys.executable, "-c", "import x25; print(x25.library_path())"]
+        environment = {"PATH": "/usr/bin:/bin", "PYTHONPATH": place, "HOME": "/"}
+        done = subprocess.run(command, cwd="/", env=environment, capture_output=True, text=True, timeout=60)
+        self.assertEqual(os.path.realpath(done.stdout.strip()), os.path.realpath(f"{self.there}/lib64/libx25.so.1"), done.stderr)
+        self.assertTrue(os.path.exists(f"{place}/x25/py.typed"))
+
+    @unittest.skipUnless(importlib.util.find_spec("pip"), "there is no pip")
+    def test_pip_makes_a_wheel_with_the_library_in_it(self):
+        command = [sys.executable, "-m", "pip", "install", "-q", "--no-index", "--target", f"{self.folder}/site", "."]
+        environment = {**os.environ, "X25_LIBRARY": self.folder, "PIP_ROOT_USER_ACTION": "ignore", "PIP_DISABLE_PIP_VERSION_CHECK": "1"}
+        done = subprocess.run(command, cwd=f"{support.ROOT}/bindings/python", env=environment, capture_output=True, text=True, timeout=120)
+        self.assertEqual((done.returncode, done.stderr), (0, ""))
+        self.assertEqual({"__init__.py", "py.typed", "libx25.so"} - set(os.listdir(f"{self.folder}/site/x25")), set())
+        environment["X25_LIBRARY"] = f"{self.folder}/none"
+        done = subprocess.run(command, cwd=f"{support.ROOT}/bindings/python", env=environment, capture_output=True, text=True, timeout=120)
+        self.assertIn("none/libx25.so: make lib leaves it there.", done.stdout + done.stderr)
+
+    def packages(self):
+        """The folder in which Python finds the package."""
+        found = [folder for folder, names, _ in os.walk(f"{self.there}/lib") if folder.endswith("-packages") and "x25" in names]
+        self.assertEqual(len(found), 1)
+        return found[0]
+
+    def test_it_says_what_is_left_to_do_on_the_system_itself(self):
+        done = make("install-lib", f"PREFIX={self.folder}/here", f"LIBRARY={self.folder}")
+        self.assertEqual(done.stdout, f"Now run ldconfig, as root: it lets programs find {self.folder}/here/lib/libx25.so.1.\n")
+        done = make("install-lib", "LIBRARY=none", "DESTDIR=/nowhere")
+        self.assertIn("There is no none/libx25.so: make lib leaves it there.", done.stderr)
+
+    def test_uninstall_leaves_nothing(self):
+        self.assertEqual(make("uninstall", *self.words).returncode, 0)
+        self.assertEqual([name for _, _, names in os.walk(self.there) for name in names], [])
 
 
 class NotBuilt(unittest.TestCase):

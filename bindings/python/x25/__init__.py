@@ -25,7 +25,6 @@ A station may be used by any thread. It is let go of by `close`, at the end of a
 from __future__ import annotations
 
 import ctypes
-import ctypes.util
 import enum
 import os
 from typing import Iterable, NamedTuple
@@ -132,10 +131,13 @@ _loaded: dict[str, ctypes.PyDLL] = {}
 
 
 def library_path() -> str:
-    """Where the library is: in the folder that the variable X25_LIBRARY names, where `make lib` leaves it, or installed."""
-    built = os.path.join(os.path.dirname(os.path.abspath(__file__)), "..", "..", "build")
-    path = os.path.join(os.environ.get("X25_LIBRARY", built), "libx25.so")
-    return path if os.path.exists(path) else ctypes.util.find_library("x25") or "libx25.so"
+    """Where the library is: in the folder that the variable X25_LIBRARY names, beside this file, where `make lib` leaves it, or among
+    those that the system knows."""
+    here = os.path.dirname(os.path.abspath(__file__))
+    named = os.environ.get("X25_LIBRARY")
+    folders = [named] if named else [here, os.path.join(here, "..", "..", "..", "build")]
+    places = [os.path.join(folder, "libx25.so") for folder in folders]
+    return next((path for path in places if os.path.exists(path)), places[0] if named else "libx25.so")
 
 
 def load(path: str | None = None) -> ctypes.PyDLL:
