@@ -2,15 +2,19 @@
 
 import doctest
 import os
+import pickle
 import re
 import shutil
 import subprocess
 import sys
+import threading
 import unittest
+from unittest import mock
 
 import support
 from support import ToolCase
 from program import find_library
+from fake_library import Library
 from test_c import PROTOTYPE
 
 import linked
@@ -34,6 +38,69 @@ class Declared(unittest.TestCase):
         rust = support.read("bindings/rust/src/lib.rs").decode()
         self.assertEqual(list(x25._FUNCTIONS), declared())
         self.assertEqual(re.findall(r"^    fn x25_(\w+)\(", rust, re.MULTILINE), declared())
+
+
+class Answers(unittest.TestCase):
+    """What the binding of Python makes of the answers of a library, whose calls a test says."""
+
+    def station(self, *plays, unread=0):
+        patch = mock.patch.dict(x25._loaded, fake=Library(plays, unread))
+        patch.start()
+        self.addCleanup(patch.stop)
+        return x25.Station(x25.DTE, library="fake")
+
+    def test_threads_get_each_the_answer_to_its_own_calls(self):
+        station, wrong = self.station(), []
+
+        def ask(octets):
+            for _ in range(2000):
+                frames = station.receive(octets).frames
+                if frames != [octets]:
+                    wrong.append(frames)
+
+        threads = [threading.Thread(target=ask, args=(bytes([octet]) * 40,)) for octet in range(4)]
+        interval = sys.getswitchinterval()
+        sys.setswitchinterval(1e-6)
+        try:
+            for thread in threads:
+                thread.start()
+            for thread in threads:
+                thread.join()
+        finally:
+            sys.setswitchinterval(interval)
+        self.assertEqual(wrong, [])
+
+    def test_a_timer_that_begins_stays_where_the_next_frames_leave_it(self):
+        off, begins, goes_on = x25.Timer
+        for timers, expected in ([begins, goes_on], begins), ([begins, off, goes_on], off), ([goes_on], goes_on), ([], goes_on), ([off, begins], begins):
+            with self.subTest(timers=timers):
+                answer = self.station(*((0, [], [], timer) for timer in timers)).receive_all([b""] * len(timers))
+                self.assertIs(answer.timer, expected)
+
+    def test_a_refusal_among_frames_has_what_was_answered_before(self):
+        station = self.station((0, [b"one"], [b"dte linkup\n"], 1), (70, [], [], 0))
+        with self.assertRaises(x25.Refused) as caught:
+            station.receive_all([b"", b"", b""])
+        self.assertEqual((caught.exception.number, caught.exception.taken), (70, 1))
+        self.assertEqual((caught.exception.answer.frames, caught.exception.answer.timer), ([b"one"], x25.Timer.BEGINS))
+
+    def test_entries_that_cannot_be_read_take_no_frame_along(self):
+        station = self.station((0, [b"one"], [b"dte linkup\n"], 1), unread=1)
+        with self.assertRaises(x25.Unread) as caught:
+            station.connect()
+        self.assertEqual(caught.exception.answer, x25.Answer([b"one"], [], x25.Timer.BEGINS))
+        self.assertEqual([entry.what for entry in station.entries()], ["linkup"])
+        station = self.station((0, [b"one"], [], 1), (0, [b"two"], [b"dte linkup\n"], 2), unread=1)
+        with self.assertRaises(x25.Unread) as caught:
+            station.receive_all([b"", b"", b""])
+        self.assertEqual((caught.exception.taken, caught.exception.answer), (2, x25.Answer([b"one", b"two"], [], x25.Timer.BEGINS)))
+
+    def test_errors_are_pickled_whole(self):
+        answer = x25.Answer([b"one"], [x25.read_entry("dte linkup")], x25.Timer.BEGINS)
+        for error in x25.Refused(9, "the link isn't up"), x25.Refused(70, "no memory", 2, answer), x25.Unread(answer, 3):
+            with self.subTest(error):
+                again = pickle.loads(pickle.dumps(error))
+                self.assertEqual((str(again), vars(again)), (str(error), vars(error)))
 
 
 @needs_library

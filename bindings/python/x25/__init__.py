@@ -19,7 +19,8 @@
 Traceback (most recent call last):
 x25.Refused: 15: the link is up
 
-A station may be used by any thread. It is let go of by `close`, at the end of a `with` block, or with its last name.
+A station may be used by any thread: one call, with all of its answer, is done behind another. It is let go of by `close`, at the end
+of a `with` block, or with its last name.
 """
 
 from __future__ import annotations
@@ -27,7 +28,8 @@ from __future__ import annotations
 import ctypes
 import enum
 import os
-from typing import Iterable, NamedTuple
+import threading
+from typing import Any, Iterable, NamedTuple
 
 DTE, DCE = 0, 1
 
@@ -41,11 +43,28 @@ class Timer(enum.IntEnum):
 
 
 class Refused(Exception):
-    """A call was refused, and the station is as before; `number` and `text` say why."""
+    """A call was refused, and the station is as before; `number` and `text` say why. Of `receive_all`, `taken` counts the frames before,
+    and `answer` is what was answered to these."""
 
-    def __init__(self, number: int, text: str) -> None:
-        super().__init__(f"{number}: {text}")
-        self.number, self.text = number, text
+    def __init__(self, number: int, text: str, taken: int = 0, answer: Answer | None = None) -> None:
+        super().__init__(number, text, taken, answer)
+        self.number, self.text, self.taken = number, text, taken
+        self.answer = answer or Answer([], [], Timer.GOES_ON)
+
+    def __str__(self) -> str:
+        return f"{self.number}: {self.text}"
+
+
+class Unread(Exception):
+    """A call was done, and memory was refused for one of its entries: `answer` has its frames, its timer and the entries before that one,
+    and `Station.entries` reads all of them again. Of `receive_all`, `taken` counts the frames that were taken."""
+
+    def __init__(self, answer: Answer, taken: int = 1) -> None:
+        super().__init__(answer, taken)
+        self.answer, self.taken = answer, taken
+
+    def __str__(self) -> str:
+        return f"70: no memory for entry {len(self.answer.entries)} of what was done"
 
 
 class Entry(NamedTuple):
@@ -74,11 +93,19 @@ class Answer(NamedTuple):
     entries: list[Entry]
     timer: Timer
 
+    def then(self, later: Answer) -> Answer:
+        """This answer and one behind it, as one: a timer that the later one leaves as it is becomes what this one says."""
+        timer = self.timer if later.timer == Timer.GOES_ON else later.timer
+        return Answer(self.frames + later.frames, self.entries + later.entries, timer)
+
 
 def read_entry(line: str) -> Entry:
     """The entry that a line of the transcript spells."""
     end, what, *words = line.split()
-    channel, stretch, user, values = None, None, None, {}
+    channel: int | None = None
+    stretch: tuple[int, ...] | None = None
+    user: bytes | None = None
+    values: dict[str, str] = {}
     while words:
         name, equals, value = words.pop(0).partition("=")
         if name == "at":
@@ -108,7 +135,7 @@ class _StretchName(ctypes.Structure):
 
 _STATION = ctypes.POINTER(_Slot)
 # The functions of x25.h: parameters and result.
-_FUNCTIONS = {
+_FUNCTIONS: dict[str, tuple[list[Any], Any]] = {
     "new": ([_STATION, ctypes.c_uint8, _Settings], ctypes.c_uint32),
     "free": ([_STATION], None),
     "connect": ([_STATION], ctypes.c_uint32),
@@ -144,7 +171,6 @@ def load(path: str | None = None) -> ctypes.PyDLL:
     """The library at a path, or where `library_path` says."""
     path = path or library_path()
     if path not in _loaded:
-        # Python's lock is held in each call, so that no two threads are in one.
         library = ctypes.PyDLL(path)
         for name, (parameters, result) in _FUNCTIONS.items():
             function = getattr(library, f"x25_{name}")
@@ -170,7 +196,8 @@ class Station:
         library: str | None = None,
     ) -> None:
         self._library, self._slot = load(library), _Slot()
-        self._room = ctypes.create_string_buffer(1 << 18)
+        # It is held from a call to the end of its answer.
+        self._lock, self._room = threading.RLock(), ctypes.create_string_buffer(1 << 18)
         self._check(0 if all(0 <= setting < 256 for setting in (end, k, n2, channels)) else 14)
         self._check(self._library.x25_new(self._slot, end, _Settings(k, n2, channels, long_data, say_sizes, wide)))
 
@@ -186,68 +213,94 @@ class Station:
 
     def close(self) -> None:
         """Lets the station go; each call is refused with 16 from then on."""
-        self._library.x25_free(self._slot)
+        with self._lock:
+            self._library.x25_free(self._slot)
 
     def connect(self) -> Answer:
         """Begins to set the link up."""
-        return self._answer(self._library.x25_connect(self._slot))
+        return self._call(self._library.x25_connect)
 
     def t1(self) -> Answer:
         """Timer T1 fired."""
-        return self._answer(self._library.x25_t1(self._slot))
+        return self._call(self._library.x25_t1)
 
     def receive(self, octets: bytes) -> Answer:
         """The octets of a frame came, frame check sequence included."""
-        return self._answer(self._library.x25_receive(self._slot, octets, len(octets)))
+        return self._call(self._library.x25_receive, octets, len(octets))
 
     def receive_all(self, frames: Iterable[bytes]) -> Answer:
-        """Several frames came, one behind another; what is answered to all of them."""
-        answers = [self.receive(octets) for octets in frames]
-        sent = [octets for answer in answers for octets in answer.frames]
-        return Answer(sent, [entry for answer in answers for entry in answer.entries], self.timer)
+        """Several frames came, one behind another; what is answered to all of them. It ends at one that is refused, or whose entries
+        can't be read, and that error has what was answered up to there."""
+        whole = Answer([], [], Timer.GOES_ON)
+        with self._lock:
+            for taken, octets in enumerate(frames):
+                try:
+                    whole = whole.then(self.receive(octets))
+                except Refused as refusal:
+                    raise Refused(refusal.number, refusal.text, taken, whole) from None
+                except Unread as unread:
+                    raise Unread(whole.then(unread.answer), taken + 1) from None
+        return whole
 
     def send(self, channel: int, user: bytes, q: bool = False) -> Answer:
         """Sends a message on a channel."""
         self._check(0 if 0 <= channel < 65536 else 42)
-        return self._answer(self._library.x25_send(self._slot, channel, q, user, len(user)))
+        return self._call(self._library.x25_send, channel, q, user, len(user))
 
     def command(self, text: str) -> Answer:
         """Does what a text asks, as a line of a script without the name of its end: `call 123 4567 41`, `accept 1`."""
         octets = text.encode()
-        return self._answer(self._library.x25_command(self._slot, octets, len(octets)))
+        return self._call(self._library.x25_command, octets, len(octets))
+
+    def entries(self) -> list[Entry]:
+        """The entries of the last call that was done, read again. Refused with 70 where memory is refused, and may be asked again."""
+        with self._lock:
+            return [self._entry(i) for i in range(self._library.x25_entries(self._slot))]
 
     @property
     def timer(self) -> Timer:
         """What became of timer T1 at the last call."""
-        return Timer(self._library.x25_timer(self._slot))
+        with self._lock:
+            return Timer(self._library.x25_timer(self._slot))
 
     @property
     def waits(self) -> bool:
         """Whether memory was refused for messages that wait, behind the last call."""
-        return self._library.x25_waits(self._slot)
+        with self._lock:
+            return bool(self._library.x25_waits(self._slot))
 
     @property
     def is_idle(self) -> bool:
         """Whether the link is up, and all that was asked was sent and acknowledged."""
-        return self._library.x25_idle(self._slot)
+        with self._lock:
+            return bool(self._library.x25_idle(self._slot))
 
     def stretch(self, channel: int) -> tuple[int, int, int] | None:
         """The stretch that is open on a channel, as `Entry.stretch` has it; None where none is."""
         name = _StretchName()
-        if not (0 <= channel < 65536 and self._library.x25_stretch(self._slot, channel, name)):
-            return None
+        with self._lock:
+            if not (0 <= channel < 65536 and self._library.x25_stretch(self._slot, channel, name)):
+                return None
         return name.restarts, name.clears, name.resets
 
     def _check(self, number: int) -> None:
         if number:
-            count = self._library.x25_refusal_text(number, self._room, len(self._room))
-            raise Refused(number, ctypes.string_at(self._room, count).decode())
+            with self._lock:
+                count = self._library.x25_refusal_text(number, self._room, len(self._room))
+                raise Refused(number, ctypes.string_at(self._room, count).decode())
 
-    def _answer(self, number: int) -> Answer:
-        self._check(number)
-        frames = [self._frame(i) for i in range(self._library.x25_frames(self._slot))]
-        entries = [self._entry(i) for i in range(self._library.x25_entries(self._slot))]
-        return Answer(frames, entries, self.timer)
+    def _call(self, function: Any, *words: Any) -> Answer:
+        """Makes a call and reads its answer, while no other thread is in one."""
+        with self._lock:
+            self._check(function(self._slot, *words))
+            frames = [self._frame(i) for i in range(self._library.x25_frames(self._slot))]
+            answer = Answer(frames, [], self.timer)
+            try:
+                for i in range(self._library.x25_entries(self._slot)):
+                    answer.entries.append(self._entry(i))
+            except Refused:
+                raise Unread(answer) from None
+            return answer
 
     def _frame(self, i: int) -> bytes:
         count = self._library.x25_frame(self._slot, i, self._room, len(self._room))
