@@ -9,14 +9,20 @@ fn main() {
         Err(_) if built.join("libx25.a").exists() => built,
         Err(_) => installed().expect("libx25 isn't there: X25_LIBRARY names its folder, and pkg-config knows an installed one"),
     };
-    println!("cargo:rerun-if-changed={}", folder.join("libx25.a").display());
+    println!(
+        "cargo:rerun-if-changed={}",
+        folder.join("libx25.a").display()
+    );
     println!("cargo:rustc-link-search=native={}", folder.display());
     println!("cargo:rustc-link-lib=static=x25");
 }
 
 /// The folder of the library that is installed, if `pkg-config` knows one.
 fn installed() -> Option<PathBuf> {
-    let done = Command::new("pkg-config").args(["--variable=libdir", "x25"]).output().ok()?;
+    let done = Command::new("pkg-config")
+        .args(["--variable=libdir", "x25"])
+        .output()
+        .ok()?;
     let folder = String::from_utf8(done.stdout).ok()?;
     done.status.success().then(|| PathBuf::from(folder.trim()))
 }

@@ -119,14 +119,43 @@ class Python(unittest.TestCase):
                 x25.Station(x25.DTE, library=LIBRARY, **settings)
 
 
-@needs_library
+UNREAD = """
+use x25_station::{End, Error, Settings, Station, Timer};
+
+#[test]
+fn entries_that_cannot_be_read_take_no_frame_along() {
+    let mut station = Station::new(End::Dte, Settings::default()).unwrap();
+    let Err(Error::Unread(answer)) = station.connect() else { panic!("an entry was read") };
+    assert_eq!((answer.frames, answer.entries, answer.timer), (vec![b"frame".to_vec()], vec![], Timer::Begins));
+    assert_eq!(station.entries().unwrap(), ["dte connect\\n"]);
+}
+"""
+
+
 @unittest.skipUnless(shutil.which("cargo"), "there is no cargo")
 class Rust(ToolCase):
-    def test_its_tests(self):
-        shutil.copytree(RUST, f"{self.folder}/rust", ignore=shutil.ignore_patterns("target"))
-        environment = {**os.environ, "X25_LIBRARY": os.path.dirname(ARCHIVE)}
-        done = subprocess.run(["cargo", "test", "--offline", "-q"], cwd=f"{self.folder}/rust", env=environment, capture_output=True, text=True)
+    def cargo(self, library, *words):
+        """Runs cargo over a copy of the crate and a library in a folder."""
+        environment = {**os.environ, "X25_LIBRARY": library}
+        done = subprocess.run(["cargo", *words, "--offline", "-q"], cwd=f"{self.folder}/rust", env=environment, capture_output=True, text=True)
         self.assertEqual(done.returncode, 0, done.stdout + done.stderr)
+
+    def setUp(self):
+        super().setUp()
+        shutil.copytree(RUST, f"{self.folder}/rust", ignore=shutil.ignore_patterns("target"))
+
+    @needs_library
+    def test_its_tests(self):
+        self.cargo(os.path.dirname(ARCHIVE), "test")
+
+    @unittest.skipUnless(shutil.which("cc"), "there is no C compiler")
+    def test_entries_that_cannot_be_read(self):
+        source, made = os.path.join(support.ROOT, "tests", "c", "unread.c"), f"{self.folder}/unread.o"
+        subprocess.run(["cc", "-Wall", "-Wextra", "-Werror", "-fPIC", f"-I{support.ROOT}/include", "-c", source, "-o", made], check=True)
+        subprocess.run(["ar", "rcs", f"{self.folder}/libx25.a", made], check=True)
+        os.mkdir(f"{self.folder}/rust/tests")
+        self.file("rust/tests/unread.rs", UNREAD.encode())
+        self.cargo(self.folder, "test", "--test", "unread")
 
 
 @needs_library

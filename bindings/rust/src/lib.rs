@@ -8,7 +8,7 @@
 //! assert_eq!(answer.frames, [[0x01, 0x3f, 0xeb, 0xdf]]);
 //! assert_eq!(answer.entries, ["dte connect\n"]);
 //! assert_eq!(answer.timer, Timer::Begins);
-//! # Ok::<(), x25_station::Refused>(())
+//! # Ok::<(), x25_station::Error>(())
 //! ```
 
 use std::{error, ffi::c_void, fmt, ptr};
@@ -120,6 +120,37 @@ impl fmt::Display for Refused {
 
 impl error::Error for Refused {}
 
+/// Why a call doesn't answer.
+#[derive(Clone, Debug, PartialEq, Eq)]
+pub enum Error {
+    /// It was refused, and the station is as before.
+    Refused(Refused),
+    /// It was done, and memory was refused for one of its entries. The answer has its frames, its timer and the entries before
+    /// that one; `Station::entries` reads all of them again.
+    Unread(Answer),
+}
+
+impl From<Refused> for Error {
+    fn from(refused: Refused) -> Error {
+        Error::Refused(refused)
+    }
+}
+
+impl fmt::Display for Error {
+    fn fmt(&self, out: &mut fmt::Formatter<'_>) -> fmt::Result {
+        match self {
+            Error::Refused(refused) => refused.fmt(out),
+            Error::Unread(answer) => write!(
+                out,
+                "70: no memory for entry {} of what was done",
+                answer.entries.len()
+            ),
+        }
+    }
+}
+
+impl error::Error for Error {}
+
 fn checked(number: u32) -> Result<(), Refused> {
     match number {
         0 => Ok(()),
@@ -163,33 +194,40 @@ impl Station {
     }
 
     /// Begins to set the link up.
-    pub fn connect(&mut self) -> Result<Answer, Refused> {
+    pub fn connect(&mut self) -> Result<Answer, Error> {
         let number = unsafe { x25_connect(&mut self.slot) };
         self.answer(number)
     }
 
     /// Timer T1 fired.
-    pub fn t1(&mut self) -> Result<Answer, Refused> {
+    pub fn t1(&mut self) -> Result<Answer, Error> {
         let number = unsafe { x25_t1(&mut self.slot) };
         self.answer(number)
     }
 
     /// The octets of a frame came, frame check sequence included.
-    pub fn receive(&mut self, octets: &[u8]) -> Result<Answer, Refused> {
+    pub fn receive(&mut self, octets: &[u8]) -> Result<Answer, Error> {
         let number = unsafe { x25_receive(&mut self.slot, octets.as_ptr(), octets.len()) };
         self.answer(number)
     }
 
     /// Sends a message on a channel.
-    pub fn send(&mut self, channel: u16, q: bool, user: &[u8]) -> Result<Answer, Refused> {
+    pub fn send(&mut self, channel: u16, q: bool, user: &[u8]) -> Result<Answer, Error> {
         let number = unsafe { x25_send(&mut self.slot, channel, q, user.as_ptr(), user.len()) };
         self.answer(number)
     }
 
     /// Does what a text asks, as a line of a script without the name of its end: `call 123 4567 41`, `accept 1`.
-    pub fn command(&mut self, text: &str) -> Result<Answer, Refused> {
+    pub fn command(&mut self, text: &str) -> Result<Answer, Error> {
         let number = unsafe { x25_command(&mut self.slot, text.as_ptr(), text.len()) };
         self.answer(number)
+    }
+
+    /// The entries of the last call that was done, read again; 70 where memory is refused, and it may be asked again.
+    pub fn entries(&mut self) -> Result<Vec<String>, Refused> {
+        (0..unsafe { x25_entries(&mut self.slot) })
+            .map(|i| self.entry(i))
+            .collect()
     }
 
     /// What became of timer T1 at the last call.
@@ -217,20 +255,23 @@ impl Station {
         unsafe { x25_stretch(&mut self.slot, channel, &mut name) }.then_some(name)
     }
 
-    fn answer(&mut self, number: u32) -> Result<Answer, Refused> {
+    fn answer(&mut self, number: u32) -> Result<Answer, Error> {
         checked(number)?;
         let frames = (0..unsafe { x25_frames(&mut self.slot) })
             .map(|i| self.frame(i))
             .collect();
-        let entries = (0..unsafe { x25_entries(&mut self.slot) })
-            .map(|i| self.entry(i))
-            .collect::<Result<_, _>>()?;
-        let timer = self.timer();
-        Ok(Answer {
+        let mut answer = Answer {
             frames,
-            entries,
-            timer,
-        })
+            entries: Vec::new(),
+            timer: self.timer(),
+        };
+        for i in 0..unsafe { x25_entries(&mut self.slot) } {
+            match self.entry(i) {
+                Ok(entry) => answer.entries.push(entry),
+                Err(_) => return Err(Error::Unread(answer)),
+            }
+        }
+        Ok(answer)
     }
 
     fn frame(&mut self, i: usize) -> Vec<u8> {
@@ -260,7 +301,11 @@ mod tests {
     use super::*;
 
     /// Delivers frames from one station to the other and back, until there is none.
-    fn talk<'a>(mut answer: Answer, mut near: &'a mut Station, mut far: &'a mut Station) -> Vec<String> {
+    fn talk<'a>(
+        mut answer: Answer,
+        mut near: &'a mut Station,
+        mut far: &'a mut Station,
+    ) -> Vec<String> {
         let mut told = answer.entries;
         while !answer.frames.is_empty() {
             let mut frames = Vec::new();
@@ -313,9 +358,9 @@ mod tests {
         };
         assert_eq!(Station::new(End::Dte, settings).err(), Some(Refused(14)));
         let mut dte = Station::new(End::Dte, Settings::default()).unwrap();
-        assert_eq!(dte.t1(), Err(Refused(11)));
-        assert_eq!(dte.command("sing"), Err(Refused(60)));
-        assert_eq!(dte.send(1, false, b""), Err(Refused(9)));
+        assert_eq!(dte.t1(), Err(Refused(11).into()));
+        assert_eq!(dte.command("sing"), Err(Refused(60).into()));
+        assert_eq!(dte.send(1, false, b""), Err(Refused(9).into()));
         assert_eq!(Refused(9).to_string(), "9: the link isn't up");
         assert_eq!(Refused(8).text(), "");
     }
@@ -330,6 +375,6 @@ mod tests {
         .join()
         .unwrap();
         assert_eq!(answer.unwrap().frames.len(), 1);
-        assert_eq!(dte.connect(), Err(Refused(12)));
+        assert_eq!(dte.connect(), Err(Refused(12).into()));
     }
 }
