@@ -13,13 +13,13 @@ from glob import glob
 import support
 
 WIDTH = 100
-LENGTHS = {"README.md": 100, "docs/ARCHITECTURE.md": 110, "docs/PROOFS.md": 165, "docs/DECISIONS.md": 200, "docs/PERFORMANCE.md": 92, "CONTRIBUTING.md": 126}
+LENGTHS = {"README.md": 100, "docs/ARCHITECTURE.md": 110, "docs/PROOFS.md": 165, "docs/DECISIONS.md": 200, "docs/PERFORMANCE.md": 92, "CONTRIBUTING.md": 142}
 CRATES = os.path.join(support.ROOT, "crates")
 # What is named and stands elsewhere: what commands leave behind, the sources of Linux, what whoever races decoders has.
 ELSEWHERE = ("build/*", "out/*", "/*", "../x25_*", "net/*", "AnswersOffered.antt")
-# What a name may be part of: FILE.FUNCTION.what.edit, crates/NAME/CLAIMS.md, NAME_tests.
-HOLDERS = re.compile(r"NAME|CRATE|FILE|FUNCTION|\bwhat\b")
-ENDINGS = ("rt", "antt", "md", "py", "sh", "c", "h", "txt", "svg", "edit", "script", "trace", "gz", "bash")
+# What a name may be part of: FILE.FUNCTION.what.edit, SUBJECT/NAME.case, crates/NAME/CLAIMS.md, NAME_tests.
+HOLDERS = re.compile(r"NAME|SUBJECT|CRATE|FILE|FUNCTION|\bwhat\b")
+ENDINGS = ("rt", "antt", "md", "py", "sh", "c", "h", "txt", "svg", "edit", "edits", "case", "script", "trace", "gz", "bash")
 OF_TESTS = ("x25_embed", "x25_refusals")
 
 
@@ -81,7 +81,7 @@ class Names(unittest.TestCase):
         sources = [path for path in self.files if path.rpartition(".")[2] in ("rt", "antt", "py", "c", "txt", "bash") or path == "Makefile"]
         self.words = {word for path in sources for word in re.findall(r"\w+", text_of(path))}
         self.words |= {os.path.splitext(os.path.basename(path))[0] for path in self.files}
-        self.words |= {name for path in self.files if path.endswith(".edit") for name in support.names_of_edit(path)}
+        self.words |= support.names_of_edits()
 
     def test_each_path_is_there(self):
         """At the root, or within a folder; of a source its crate may be told without `src`."""
