@@ -13,7 +13,7 @@ from glob import glob
 import support
 
 WIDTH = 100
-LENGTHS = {"README.md": 100, "docs/ARCHITECTURE.md": 110, "docs/PROOFS.md": 165, "docs/DECISIONS.md": 200, "docs/PERFORMANCE.md": 92, "CONTRIBUTING.md": 142}
+LENGTHS = {"README.md": 100, "docs/ARCHITECTURE.md": 110, "docs/PROOFS.md": 165, "docs/DECISIONS.md": 200, "docs/PERFORMANCE.md": 92, "CONTRIBUTING.md": 142, "docs/READING.md": 80}
 CRATES = os.path.join(support.ROOT, "crates")
 # What is named and stands elsewhere: what commands leave behind, the sources of Linux, what whoever races decoders has.
 ELSEWHERE = ("build/*", "out/*", "/*", "../x25_*", "net/*", "AnswersOffered.antt")
@@ -243,6 +243,19 @@ class Rest(unittest.TestCase):
         listed = {low for line in text_of("crates.txt").splitlines() if not line.startswith("#") for low in line.partition(":")[2].split()}
         named = re.search(r"the\s+kit's\s+crates\s\(([^)]*)\)", text_of("docs", "PROOFS.md"))[1]
         self.assertEqual(set(re.findall("`([^`]*)`", named)), {low for low in listed if not low.startswith("x25_")})
+
+
+class Shown(unittest.TestCase):
+    def test_what_a_reader_is_shown_stands_so(self):
+        """docs/READING.md shows parts of files of x25_frame, but for where their lines end; each path before a part, each clause within its file."""
+        text = text_of("docs", "READING.md")
+        shown = re.findall(r"`([\w/]+\.(?:rt|antt))`:\n\n```\n(.*?)^```$", text, re.MULTILINE | re.DOTALL)
+        self.assertEqual(len(shown), text.count("\n```\n") // 2)
+        shown += [("src/spelling.rt", clause) for clause in re.findall(r"`([^`]*\.new\.items ≡ [^`]*)`", text)]
+        for path, parts in shown:
+            for part in parts.split("\n\n"):
+                with self.subTest(part):
+                    self.assertIn(" ".join(part.split()), " ".join(text_of("crates", "x25_frame", path).split()))
 
 
 class Theorem(unittest.TestCase):
