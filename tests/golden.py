@@ -3,20 +3,25 @@
 
     golden.py [--program PROGRAM] [NAME ..]
 
-A case is four files: NAME.args has the words after the program's name, one a line; NAME.in is standard input; NAME.out is
-what standard output has to be; NAME.status is the exit status. With names, these cases alone. Exit status: 0 all agree,
-1 one differs, 2 there is no program or no such case. CONTRIBUTING.md says where the answers of a case come from.
+A case is a file SUBJECT/NAME.case: a command, its input, what standard output has to be, and the exit status. CONTRIBUTING.md says how one is
+written, and where its answer comes from. A NAME is SUBJECT/NAME, or SUBJECT for all of its cases; with none, all cases. Exit status: 0 all
+agree, 1 one differs, 2 there is no program or no such case.
 """
 
 import argparse
+import ast
 import os
+import re
+import shlex
 import subprocess
 import sys
+from glob import glob
 
 from program import find_program
 
 FOLDER = os.path.join(os.path.dirname(os.path.abspath(__file__)), "golden")
 SECONDS = 60
+FORM = re.compile(r"\$ x25(.*)\n== input(.*)\n((?:(?!== ).*\n)*)== answer(.*)\n((?:(?!== ).*\n)*)== status (\d)\n")
 
 
 class Case:
@@ -24,14 +29,14 @@ class Case:
 
     def __init__(self, name):
         self.name = name
-        self.words = self.read("args").decode().splitlines()
-        self.input = self.read("in")
-        self.output = self.read("out")
-        self.status = int(self.read("status"))
-
-    def read(self, kind):
-        with open(os.path.join(FOLDER, f"{self.name}.{kind}"), "rb") as file:
-            return file.read()
+        with open(os.path.join(FOLDER, f"{name}.case"), encoding="ascii", newline="") as file:
+            form = FORM.fullmatch(file.read())
+        if form is None:
+            raise ValueError(f"{name}.case has not the form of a case")
+        self.words = shlex.split(form[1])
+        self.input = octets(form[2], form[3])
+        self.output = octets(form[4], form[5])
+        self.status = int(form[6])
 
     def difference(self, program):
         """Runs the case; answers None where all agrees, else what differs first, in a line."""
@@ -55,9 +60,29 @@ def first_difference(wanted, given):
     return f"wanted {len(wanted) - 1} ended lines, got {len(given) - 1}"
 
 
+def octets(how, text):
+    """The octets of a section, by what its heading says and what stands below it."""
+    if how == "":
+        return text.encode()
+    if how == " without final LF":
+        return text[:-1].encode()
+    if how == " in hex":
+        return bytes.fromhex(text)
+    if how == " in Python":
+        values = [eval(compile(ast.Expression(it.value), "case", "eval")) for it in ast.parse(text).body]
+        return b"".join(it.encode("ascii") if isinstance(it, str) else it for it in values)
+    raise ValueError(f"'{how}' doesn't say how a section is written")
+
+
 def names():
     """The names of the stored cases, in order."""
-    return sorted(file[: -len(".args")] for file in os.listdir(FOLDER) if file.endswith(".args"))
+    return sorted(os.path.relpath(file, FOLDER).removesuffix(".case") for file in glob(os.path.join(FOLDER, "*", "*.case")))
+
+
+def chosen(words):
+    """The names of the cases that words name, each a case or a subject, in the order of the words; and the words that name none."""
+    found = [[name for name in names() if word in (name, name.partition("/")[0])] for word in words]
+    return [name for some in found for name in some], [word for word, some in zip(words, found) if not some]
 
 
 def run(program, cases):
@@ -74,14 +99,14 @@ def run(program, cases):
 def main():
     parser = argparse.ArgumentParser(description=__doc__, formatter_class=argparse.RawDescriptionHelpFormatter)
     parser.add_argument("--program", default=find_program(), help="the program to run; else the one that was built last")
-    parser.add_argument("name", nargs="*", help="a case to run; else all")
+    parser.add_argument("name", nargs="*", help="a case or a subject to run; else all")
     options = parser.parse_args()
-    unknown = sorted(set(options.name) - set(names()))
+    cases, unknown = chosen(options.name) if options.name else (names(), [])
     if options.program is None or not os.path.isfile(options.program):
         parser.error("the program x25 isn't built: `make x25` builds it")
     if unknown:
         parser.error(f"no such case: {' '.join(unknown)}")
-    agreeing, differing = run(options.program, options.name or names())
+    agreeing, differing = run(options.program, cases)
     print(f"golden cases: {agreeing} agree, {differing} differ")
     return 1 if differing else 0
 

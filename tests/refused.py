@@ -29,18 +29,18 @@ from program import find_player, find_program
 
 SOURCE = os.path.join(os.path.dirname(os.path.abspath(__file__)), "refuse_allocation.c")
 CASES = [
-    "deframe_other_spans",
-    "frame_trace",
-    "packets_of_each_kind",
-    "sim_clears_cross",
-    "sim_down_connect",
-    "sim_early_timer",
-    "sim_link_gives_up",
-    "sim_lost_message_comes_again",
-    "sim_messages_on_a_call",
-    "sim_negotiated_call",
-    "sim_reset",
-    "sim_restart",
+    "deframe/other_spans",
+    "frame/trace",
+    "decode/packets_of_each_kind",
+    "sim/clears_cross",
+    "sim/down_connect",
+    "sim/early_timer",
+    "sim/link_gives_up",
+    "sim/lost_message_comes_again",
+    "sim/messages_on_a_call",
+    "sim/negotiated_call",
+    "sim/reset",
+    "sim/restart",
 ]
 FIRST = 20
 NO_MEMORY, DONE_WITHOUT = "no memory", "done without"
@@ -157,10 +157,10 @@ def main():
     parser.add_argument("--program", default=find_program(), help="the program x25 to run; else the one that was built last")
     parser.add_argument("--player", default=find_player(), help="the player x25_refusals to run; else the one that was built last")
     parser.add_argument("--every", type=int, default=1, metavar="K", help="refuse each Kth allocation; else each")
-    parser.add_argument("name", nargs="*", help="a golden case to run; else twelve of them, and the player")
+    parser.add_argument("name", nargs="*", help="a golden case or a subject to run; else twelve cases, and the player")
     options = parser.parse_args()
     every = max(options.every, 1)
-    unknown = sorted(set(options.name) - set(golden.names()))
+    cases, unknown = golden.chosen(options.name or CASES)
     if options.program is None or not os.path.isfile(options.program):
         parser.error("the program x25 isn't built: `make x25` builds it")
     if not options.name and (options.player is None or not os.path.isfile(options.player)):
@@ -169,7 +169,7 @@ def main():
         parser.error("there is no C compiler `cc`")
     if unknown:
         parser.error(f"no such case: {' '.join(unknown)}")
-    differing = run(options.program, options.name or CASES, every)
+    differing = run(options.program, cases, every)
     if not options.name:
         differing += play(options.player, every)
     print(f"refused allocations: {differing} runs differ")

@@ -14,6 +14,7 @@ TOOLS = os.path.join(ROOT, "tools")
 GOLDEN = os.path.join(TESTS, "golden")
 sys.path[:0] = [TESTS, TOOLS]
 
+import edits  # noqa: E402
 from program import find_program  # noqa: E402
 
 PROGRAM = find_program()
@@ -80,10 +81,10 @@ def claims():
     return "\n".join(read(file).decode() for file in files)
 
 
-def names_of_edit(file):
-    """What a document may call a wrong body FILE.FUNCTION.WHAT.edit: WHAT, with FUNCTION or FILE or both before it, joined by lines below."""
-    source, function, what = os.path.basename(file).removesuffix(".edit").split(".")
-    return {what, f"{function}_{what}", f"{source}_{what}", f"{source}_{function}_{what}"}
+def names_of_edits(crate="*"):
+    """What documents may call the wrong bodies of a crate, or of all."""
+    folders = glob(os.path.join(ROOT, "crates", crate))
+    return {name for folder in folders for of in (edits.must_fail, edits.wrong_bodies) for edit in of(folder) for name in edits.names_of(edit)}
 
 
 class ToolCase(unittest.TestCase):

@@ -13,14 +13,16 @@ from support import ToolCase
 
 import ahead
 import captures
+import golden
 import pcap2x25
 import x25lines
 
 SABM, UA = bytes.fromhex("013f"), bytes.fromhex("0173")
 SET_UP = b"> 013febdf\n< 01738357\n"
 CALL, ACCEPT = bytes.fromhex("10010b43123456700041"), bytes.fromhex("10010f")
-TRACES = ["examples/exchange.trace", "examples/setup.trace"]
-TRACES += [f"tests/golden/{name}.in" for name in ("frames_of_each_kind", "packets_of_each_kind", "octets_that_spell_no_frame", "octets_that_spell_no_packet")]
+CASES = ["frames_of_each_kind", "packets_of_each_kind", "octets_that_spell_no_frame", "octets_that_spell_no_packet"]
+TRACES = {name: support.read("examples", f"{name}.trace") for name in ("exchange", "setup")}
+TRACES |= {name: golden.Case(f"decode/{name}").input for name in CASES}
 
 
 def words(**given):
@@ -53,9 +55,8 @@ class FrameCheckSequence(unittest.TestCase):
 
 class RoundTrip(ToolCase):
     def test_traces_come_back(self):
-        for trace in TRACES:
-            with self.subTest(trace):
-                given = support.read(trace)
+        for name, given in TRACES.items():
+            with self.subTest(name):
                 back = support.run("pcap2x25.py", given=support.run("x25pcap.py", given=given).stdout)
                 self.assertEqual((back.returncode, back.stdout, back.stderr), (0, given, b""))
 

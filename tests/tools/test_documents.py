@@ -13,13 +13,13 @@ from glob import glob
 import support
 
 WIDTH = 100
-LENGTHS = {"README.md": 100, "docs/ARCHITECTURE.md": 110, "docs/PROOFS.md": 165, "docs/DECISIONS.md": 200, "docs/PERFORMANCE.md": 92, "CONTRIBUTING.md": 126}
+LENGTHS = {"README.md": 100, "docs/ARCHITECTURE.md": 110, "docs/PROOFS.md": 165, "docs/DECISIONS.md": 200, "docs/PERFORMANCE.md": 92, "CONTRIBUTING.md": 142, "docs/READING.md": 80}
 CRATES = os.path.join(support.ROOT, "crates")
 # What is named and stands elsewhere: what commands leave behind, the sources of Linux, what whoever races decoders has.
 ELSEWHERE = ("build/*", "out/*", "/*", "../x25_*", "net/*", "AnswersOffered.antt")
-# What a name may be part of: FILE.FUNCTION.what.edit, crates/NAME/CLAIMS.md, NAME_tests.
-HOLDERS = re.compile(r"NAME|CRATE|FILE|FUNCTION|\bwhat\b")
-ENDINGS = ("rt", "antt", "md", "py", "sh", "c", "h", "txt", "svg", "edit", "script", "trace", "gz", "bash")
+# What a name may be part of: FILE.FUNCTION.what.edit, SUBJECT/NAME.case, crates/NAME/CLAIMS.md, NAME_tests.
+HOLDERS = re.compile(r"NAME|SUBJECT|CRATE|FILE|FUNCTION|\bwhat\b")
+ENDINGS = ("rt", "antt", "md", "py", "sh", "c", "h", "txt", "svg", "edit", "edits", "case", "script", "trace", "gz", "bash")
 OF_TESTS = ("x25_embed", "x25_refusals")
 
 
@@ -81,7 +81,7 @@ class Names(unittest.TestCase):
         sources = [path for path in self.files if path.rpartition(".")[2] in ("rt", "antt", "py", "c", "txt", "bash") or path == "Makefile"]
         self.words = {word for path in sources for word in re.findall(r"\w+", text_of(path))}
         self.words |= {os.path.splitext(os.path.basename(path))[0] for path in self.files}
-        self.words |= {name for path in self.files if path.endswith(".edit") for name in support.names_of_edit(path)}
+        self.words |= support.names_of_edits()
 
     def test_each_path_is_there(self):
         """At the root, or within a folder; of a source its crate may be told without `src`."""
@@ -243,6 +243,19 @@ class Rest(unittest.TestCase):
         listed = {low for line in text_of("crates.txt").splitlines() if not line.startswith("#") for low in line.partition(":")[2].split()}
         named = re.search(r"the\s+kit's\s+crates\s\(([^)]*)\)", text_of("docs", "PROOFS.md"))[1]
         self.assertEqual(set(re.findall("`([^`]*)`", named)), {low for low in listed if not low.startswith("x25_")})
+
+
+class Shown(unittest.TestCase):
+    def test_what_a_reader_is_shown_stands_so(self):
+        """docs/READING.md shows parts of files of x25_frame, but for where their lines end; each path before a part, each clause within its file."""
+        text = text_of("docs", "READING.md")
+        shown = re.findall(r"`([\w/]+\.(?:rt|antt))`:\n\n```\n(.*?)^```$", text, re.MULTILINE | re.DOTALL)
+        self.assertEqual(len(shown), text.count("\n```\n") // 2)
+        shown += [("src/spelling.rt", clause) for clause in re.findall(r"`([^`]*\.new\.items ≡ [^`]*)`", text)]
+        for path, parts in shown:
+            for part in parts.split("\n\n"):
+                with self.subTest(part):
+                    self.assertIn(" ".join(part.split()), " ".join(text_of("crates", "x25_frame", path).split()))
 
 
 class Theorem(unittest.TestCase):

@@ -12,6 +12,7 @@ import samples
 import support
 from support import ToolCase
 
+import golden
 import messages
 import x25names
 from x25lines import fcs
@@ -254,8 +255,9 @@ class Dump(ToolCase):
 
     @support.needs_program
     def test_a_broken_rule_stands_behind_its_frame(self):
-        for name, words, status in (("judge_repeats_with_other_octets", [], 1), ("judge_repeats", [], 0), ("judge_over_window", ["--k", "2"], 0)):
-            given, expected = (support.read(f"tests/golden/{name}.{kind}") for kind in ("in", "out"))
+        for name, words, status in (("repeats_with_other_octets", [], 1), ("repeats", [], 0), ("over_window", ["--k", "2"], 0)):
+            case = golden.Case(f"judge/{name}")
+            given, expected = case.input, case.output
             for more, answered in ([], status), (["--manners"], 1):
                 self.assertEqual(self.dump(given, "--judge", *words, *more, "--x25", support.PROGRAM, status=answered), expected.decode())
         judged = self.dump(given, "--judge", "--x25", support.PROGRAM)

@@ -2,6 +2,7 @@
 
 import os
 import unittest
+from unittest import mock
 
 import support
 from support import ToolCase
@@ -10,14 +11,59 @@ import golden
 
 
 class Files(unittest.TestCase):
-    def test_each_case_has_its_four_files(self):
-        files = {name for name in os.listdir(support.GOLDEN) if not name.startswith(".")}
-        self.assertEqual(files, {f"{name}.{kind}" for name in golden.names() for kind in ("args", "in", "out", "status")})
+    def test_each_file_is_a_case_of_its_subject(self):
+        """A subject is the word that the program is called by, or its usage."""
+        files = [os.path.relpath(os.path.join(folder, name), support.GOLDEN) for folder, _, names in os.walk(support.GOLDEN) for name in names if name != ".gitattributes"]
+        self.assertEqual(sorted(files), sorted(f"{name}.case" for name in golden.names()))
+        subjects = {name: (name.partition("/")[0], golden.Case(name).words) for name in golden.names()}
+        self.assertEqual([name for name, (subject, words) in subjects.items() if subject != "usage" and words[0] != subject], [])
 
     def test_usage_writes_nothing(self):
-        cases = [golden.Case(name) for name in golden.names() if name.startswith("usage_")]
+        cases = [golden.Case(name) for name in golden.names() if name.startswith("usage/")]
         self.assertTrue(cases)
         self.assertEqual({(case.output, case.status) for case in cases}, {(b"", 2)})
+
+
+class Form(ToolCase):
+    def case(self, text):
+        """A case with this text."""
+        os.makedirs(os.path.join(self.folder, "decode"), exist_ok=True)
+        self.file("decode/one.case", text)
+        with mock.patch.object(golden, "FOLDER", self.folder):
+            self.assertEqual(golden.names(), ["decode/one"])
+            return golden.Case("decode/one")
+
+    def sections(self, text):
+        case = self.case(b"$ x25 decode\n%s== status 1\n" % text)
+        return case.input, case.output
+
+    def test_words_input_answer_and_status(self):
+        case = self.case(b"$ x25 decode --wide 'two words' ''\n== input\n> 01\n== answer\n> fault 1\n\n== status 3\n")
+        self.assertEqual((case.words, case.input, case.output, case.status), (["decode", "--wide", "two words", ""], b"> 01\n", b"> fault 1\n\n", 3))
+
+    def test_empty(self):
+        self.assertEqual(self.sections(b"== input\n== answer\n"), (b"", b""))
+
+    def test_without_a_final_line_feed(self):
+        self.assertEqual(self.sections(b"== input without final LF\na\nb\n== answer without final LF\na\n\n"), (b"a\nb", b"a\n"))
+
+    def test_hex(self):
+        self.assertEqual(self.sections(b"== input in hex\n00 7eff\n80\n== answer in hex\n0a\n"), (b"\x00\x7e\xff\x80", b"\n"))
+
+    def test_python(self):
+        text = b'== input in Python\n"a" * 3\n(\n  b"\\xff" +\n  bytes(2)\n)\n"\\r\\n"\n== answer in Python\nbytes(range(3)).hex()\n'
+        self.assertEqual(self.sections(text), (b"aaa\xff\0\0\r\n", b"000102"))
+
+    def test_what_has_another_form(self):
+        for text in (b"== input\n", b"== input\na\n== answer\n== answer\n", b"== input\na\n== input\n== answer\n", b"== answer\n== input\n"):
+            with self.subTest(text), self.assertRaisesRegex(ValueError, "has not the form"):
+                self.sections(text)
+        with self.assertRaisesRegex(ValueError, "doesn't say how"):
+            self.sections(b"== input in base64\nAA==\n== answer\n")
+
+    def test_chosen(self):
+        self.assertEqual(golden.chosen(["decode/set_up", "frames"]), (["decode/set_up"], ["frames"]))
+        self.assertEqual(golden.chosen(["vectors"]), (["vectors/all", "vectors/read_nothing"], []))
 
 
 class Runner(ToolCase):
@@ -29,10 +75,10 @@ class Runner(ToolCase):
 
     def test_agreement(self):
         program = self.program(b'printf "> SABM cmd P=1\\n< UA rsp F=1\\n"')
-        self.assertEqual(golden.run(program, ["set_up"]), (1, 0))
+        self.assertEqual(golden.run(program, ["decode/set_up"]), (1, 0))
 
     def test_differences(self):
-        case = golden.Case("set_up")
+        case = golden.Case("decode/set_up")
         for text, difference in (
             (b'printf "> SABM cmd P=1\\n< UA rsp F=1\\n"; exit 1', "status 1, wanted 0"),
             (b'printf "> SABM cmd P=1\\n< UA rsp F=0\\n"', "line 2: wanted b'< UA rsp F=1', got b'< UA rsp F=0'"),
@@ -45,9 +91,9 @@ class Runner(ToolCase):
 
     def test_the_program_gets_words_and_input(self):
         program = self.program(b'[ "$*" = decode ] && [ "$(cat)" = "> 013febdf\n< 01738357" ] || exit 5')
-        self.assertNotIn("status 5", golden.Case("set_up").difference(program))
-        self.assertEqual(golden.Case("usage_empty_word").words, [""])
-        self.assertEqual(golden.Case("usage_no_words").words, [])
+        self.assertNotIn("status 5", golden.Case("decode/set_up").difference(program))
+        self.assertEqual(golden.Case("usage/empty_word").words, [""])
+        self.assertEqual(golden.Case("usage/no_words").words, [])
 
 
 if __name__ == "__main__":

@@ -65,7 +65,7 @@ class Cases(unittest.TestCase):
         section = support.read("docs", "FORMATS.md").decode().split("## What `judge` writes")[1].split("\n## ")[0]
         told = [re.findall(r"^[-|] `([^`]+)`", part, re.MULTILINE) for part in re.findall(r"(?:^[-|] `.*\n(?:  .*\n)*)+", section, re.MULTILINE)]
         self.rules, self.manners, self.notes = ([re.sub(r" \d+$", "", text) for text in texts] for texts in told)
-        self.cases = {name: golden.Case(name) for name in golden.names() if name.startswith("judge_")}
+        self.cases = {name: golden.Case(name) for name in golden.names() if name.startswith("judge/")}
 
     def broken(self, mark, rules):
         """What each case has behind a mark. Each of these rules stands alone there in one, and no other does."""

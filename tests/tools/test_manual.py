@@ -83,8 +83,7 @@ class Documents(unittest.TestCase):
         """Each function and clause that docs/BUGS.md names as excluding a bug stands among the claims, or is a wrong body."""
         section = re.sub(r"\n +(?=[^ -])", " ", support.read("docs/BUGS.md").decode().split("## Excluded by what is proved")[1].split("\n## ")[0])
         claimed = set(re.findall(r"\w+", " ".join(re.findall("`([^`]*)`", support.claims()))))
-        edits = [name for _, _, names in os.walk(os.path.join(support.ROOT, "crates")) for name in names if name.endswith(".edit")]
-        wrong_bodies = {name for edit in edits for name in support.names_of_edit(edit)}
+        wrong_bodies = support.names_of_edits()
         reasons = re.findall(r"^  - (.*)$", section, re.MULTILINE)
         self.assertEqual(len(reasons), len(re.findall(r"^- ", section, re.MULTILINE)))
         for reason in reasons:

@@ -50,7 +50,7 @@ def stands_for(crate, place, word):
     if word.endswith("/"):
         return glob(os.path.join(CRATES, crate, word))
     if place == WRONG_BODIES:
-        return [edit for edit in glob(os.path.join(CRATES, crate, "*", "*.edit")) if fnmatch.filter(support.names_of_edit(edit), word)]
+        return fnmatch.filter(support.names_of_edits(crate), word)
     if word.endswith(".rt"):
         return glob(os.path.join(CRATES, crate, "src", "**", word.rpartition("src/")[2]), recursive=True)
     if "/" in word:

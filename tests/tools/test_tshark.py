@@ -18,6 +18,7 @@ import test_wide
 from support import ToolCase
 
 import facilities
+import golden
 
 FIELDS = """frame.p2p_dir lapb.address lapb.control.ftype lapb.control.s_ftype lapb.control.u_modifier_cmd
 lapb.control.u_modifier_resp lapb.control.n_s lapb.control.n_r lapb.control.p lapb.control.f x25.lcn x25.type x25.p_s x25.p_r x25.m
@@ -190,7 +191,8 @@ class Tshark(ToolCase):
         self.assertGreaterEqual(compared, least)
 
     def golden(self, name, least):
-        self.check(support.read("tests/golden", f"{name}.in"), support.read("tests/golden", f"{name}.out").decode().splitlines(), least)
+        case = golden.Case(f"decode/{name}")
+        self.check(case.input, case.output.decode().splitlines(), least)
 
     def test_frames_of_each_kind(self):
         self.golden("frames_of_each_kind", 104)
