@@ -1,0 +1,60 @@
+#!/usr/bin/env python3
+"""Lists what README.md and docs/PROOFS.md say, sentence by sentence, and below each what carries it, by the pairs of tests/said.txt.
+
+Of README.md these are the sentences of 'Why trust it', and of the rest those that speak of proof; of docs/PROOFS.md all. A row of a table is one.
+tests/tools/test_said.py holds that each has its pair, and that what carries it is there.
+"""
+
+import argparse
+import os
+import re
+
+TESTS = os.path.dirname(os.path.abspath(__file__))
+
+
+def text_of(path):
+    with open(os.path.join(os.path.dirname(TESTS), path), encoding="utf-8") as file:
+        return file.read()
+
+
+def sentences_of(text):
+    """The sentences of a text, without headings, examples, heads of tables and lists of names."""
+    text = re.sub(r"^```\n(?:.*\n)*?```$|^(?:    |#).*$|^\|.*\n\|-.*$|^> ?", "", text, flags=re.MULTILINE)
+    for part in re.split(r"\n\s*\n|\n(?=- |\d+\. |\|)", text):
+        part = re.sub(r"\[([^]]*)\]\([^)]*\)|\*", r"\1", " ".join(re.sub(r"^\s*(?:- |\d+\. )", "", part).split()))
+        for sentence in re.split(r"(?<=\.) +(?=[A-Z`])", part):
+            if re.sub(r"`[^`]*`|[, ]", "", sentence):
+                yield sentence.replace("`", "")
+
+
+def sentences():
+    """What is to be carried: the document and the sentence."""
+    readme = text_of("README.md")
+    trust = re.search(r"^## Why trust it\n.*?(?=^## )", readme, re.MULTILINE | re.DOTALL)[0]
+    rest = [sentence for sentence in sentences_of(readme.replace(trust, "")) if re.search(r"\bproo[fv]|\bprove", sentence)]
+    of_documents = {"README.md": [*sentences_of(trust), *rest], "docs/PROOFS.md": sentences_of(text_of("docs/PROOFS.md"))}
+    return [(document, sentence) for document, found in of_documents.items() for sentence in found]
+
+
+def pairs():
+    """The document, the first words of a sentence, and what carries it, line by line."""
+    found = []
+    for line in text_of("tests/said.txt").splitlines():
+        if line.startswith("# "):
+            document = line[2:]
+        elif line.startswith("    "):
+            found[-1][2].append(line.strip())
+        elif line:
+            found.append((document, line, []))
+    return found
+
+
+def main():
+    argparse.ArgumentParser(description=__doc__, formatter_class=argparse.RawDescriptionHelpFormatter).parse_args()
+    for document, sentence in sentences():
+        carried = [line for of, words, lines in pairs() if of == document and sentence.startswith(words) for line in lines]
+        print(f"{document}: {sentence}", *carried or ["nothing"], sep="\n    ")
+
+
+if __name__ == "__main__":
+    main()
