@@ -23,9 +23,9 @@ The line is one of these:
 An address of IPv6 stands in brackets, [::1]:7000. With --library the station is that of `libx25.so` at a path, in this process.
 
 Commands are lines of a script of this end (`dte call 123 4567 41`), of standard input or --commands, and `wait TEXT`, which holds those
-behind it until a notice comes that begins so. Notices are the entries of the transcript; `! N` for a command that is refused, and `? 60`
-for one that is none; and lines that begin with `#`, the bridge's own words: why that was, and what becomes of the line. They go to
-standard output or to --notices. With --stdio commands have to come by --commands, and notices go to standard error. A command that is
+behind it until a notice comes that begins so; a carriage return at the end of a line is left out. Notices are the entries of the
+transcript; `! N` for a command that is refused, and `? 60` for one that is none; and lines that begin with `#`, the bridge's own words,
+in UTF-8: why that was, and what becomes of the line. They go to standard output or to --notices. With --stdio commands have to come by --commands, and notices go to standard error. A command that is
 refused because too much waits (10 and 31) is asked again behind the next frame, and those behind it wait; so do all while the line isn't
 there. `connect` behind `disconnect` begins a new station, once DISC is answered or T1 has passed.
 

@@ -89,7 +89,7 @@ class User:
         if not octets:
             self._is_ended = True
             whole = [self._open] if self._open else []
-        self._held.extend(whole)
+        self._held.extend(line.removesuffix(b"\r") for line in whole)
 
     def command(self):
         """The line that is next, or None where there is none or its time hasn't come."""

@@ -80,7 +80,7 @@ class Lines:
     def frames(self, octets):
         """Yields the frames of the lines that are whole now; what the other end says in a comment is told."""
         *whole, self._open = (self._open + octets).split(b"\n")
-        for line in whole:
+        for line in (line.removesuffix(b"\r") for line in whole):
             if line.startswith(b"#"):
                 self._note(f"the other end says {x25lines.shown(line[1:].strip())}")
             else:

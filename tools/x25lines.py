@@ -124,8 +124,12 @@ def lines_of(file):
 
 
 def shown(line):
-    """The beginning of a line, for a message."""
-    return repr(line[:60].decode("latin-1")) + (".." if len(line) > 60 else "")
+    """The beginning of a line, for a message: as UTF-8, or where it is none with what isn't ASCII as hexadecimal digits."""
+    try:
+        line = line.decode()
+    except UnicodeDecodeError:
+        pass
+    return repr(line[:60]).removeprefix("b") + (".." if len(line) > 60 else "")
 
 
 def opened(path):

@@ -230,8 +230,11 @@ class Xot(wires.Wire):
 
     def _end(self, it):
         """A circuit has come to its end: its connection closes once all is written."""
-        del self._circuits[it.channel]
-        self._ending.append(it)
+        if it.connection.waits:
+            del self._circuits[it.channel]
+            self._ending.append(it)
+        else:
+            self._drop(it)
 
     def _drop(self, it):
         """Closes a connection."""

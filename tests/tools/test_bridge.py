@@ -231,14 +231,22 @@ class Joined(ToolCase):
 
     def test_commands_of_another_kind(self):
         long = "dte send 1 0 " + "41" * 100_000
-        given = ["dce connect", "t1 dte", UA, "drain 9", "", "dte", "DTE connect", long]
-        self.begin(". off idle\n= dte connect\\r\n? 60\n. off idle\n= dte connect\ndte connect\n. off idle\n", user="\n".join([*given, "dte connect\r", "dte connect"]).encode())
+        given = ["dce connect", "t1 dte", UA, "drain 9", "", "dte", "DTE connect", "grüß", "\xff\xfe", long]
+        octets = [command.encode("latin-1" if command.startswith("\xff") else "utf-8") for command in given]
+        self.begin(". off idle\n= dte connect\ndte connect\n. off idle\n", user=b"\n".join([*octets, b"dte connect"]))
         status, notices, said = self.end()
         self.assertEqual((status, said), (1, ""))
-        self.assertEqual(notices[::2], ["? 60"] * 9 + ["dte connect"])
-        for command, words in zip(given, notices[1::2]):
-            self.assertRegex(words, "^# [?] 60, no command .*: " + re.escape(x25lines.shown(command.encode())))
-        self.assertEqual([event for _, event in self.asked()], ["dte connect\\r", "dte connect"])
+        self.assertEqual(notices[::2], ["? 60"] * 10 + ["dte connect"])
+        for command, words in zip([*given[:-2], r"\xff\xfe", given[-1][:60]], notices[1::2]):
+            self.assertRegex(words, f"^# [?] 60, no command .*: '{re.escape(command)}'")
+        self.assertEqual([event for _, event in self.asked()], ["dte connect"])
+
+    def test_lines_that_end_in_a_carriage_return(self):
+        """As telnet, PuTTY and files of Windows have them: commands and what the line brings."""
+        self.begin(f". off idle\n= {UA}\ndte linkup\n. off idle\n= dte call 1 2 -\n. off idle\n", user=b"wait dte linkup\r\ndte call 1 2 -\r\n")
+        self.sends(f"{UA}\r")
+        self.assertEqual(self.end(), (0, ["dte linkup"], ""))
+        self.assertEqual([event for _, event in self.asked()], [UA, "dte call 1 2 -"])
 
     def test_ten_million_octets_without_a_line_end(self):
         self.begin(". off idle\n= dte connect\n. off idle\n", user=b"a" * 10_000_000 + b"\ndte connect\n")
@@ -308,7 +316,7 @@ class Joined(ToolCase):
         self.child.terminate()
         notices = self.end()[1]
         self.assertEqual(len(notices), 4)
-        self.assertIn("'GET / HTTP/1.1\\r', which is no line of a trace", notices[0])
+        self.assertIn("'GET / HTTP/1.1', which is no line of a trace", notices[0])
         self.assertIn("more characters than a line of a trace may have", notices[2])
 
     def test_a_thousand_clients(self):

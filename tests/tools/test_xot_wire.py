@@ -3,6 +3,7 @@
 import contextlib
 import os
 import re
+import select
 import shutil
 import socket
 import subprocess
@@ -16,6 +17,7 @@ import support
 from support import ToolCase
 from program import find_library
 
+import x25lines
 import xot_wire
 
 CALL = bytes.fromhex("10010b431234567000c0ffee")
@@ -23,6 +25,58 @@ IN_FULL = bytes.fromhex("10010b431234567006420707430202c0ffee")
 ACCEPT = bytes.fromhex("10010f0006420707430202")
 SECONDS = 120
 LIBRARY = find_library("so")
+
+
+class Wire(unittest.TestCase):
+    """The wire alone: the test is its station and the other end."""
+
+    def setUp(self):
+        server = socket.create_server(("127.0.0.1", 0))
+        self.addCleanup(server.close)
+        self.notes = []
+        self.wire = xot_wire.Xot("dte", self.notes.append, server.getsockname(), None, 4, 0)
+        self.addCleanup(self.wire.close)
+        self.turn()
+        self.says("0173")
+        self.packet(0, "1000fb0000")
+        self.packet(1, "10010b0000")
+        self.line = server.accept()[0]
+        self.addCleanup(self.line.close)
+        self.line.settimeout(2)
+        self.turn()
+        self.assertEqual(Circuits.takes(self.line).hex(), "10010b0000")
+
+    def says(self, frame):
+        """The station sends a frame."""
+        octets = bytes.fromhex(frame)
+        self.wire.send(octets + x25lines.fcs(octets))
+
+    def packet(self, number, packet):
+        """The station sends a packet, in the I frame of a number."""
+        self.says(f"01{2 * number:02x}{packet}")
+
+    def turn(self):
+        """What the bridge does until nothing is ready any more; answers the frames for the station."""
+        frames = list(self.wire.frames(()))
+        while ready := {it for files in select.select(self.wire.readers(), self.wire.writers(), [], 0.2) for it in files}:
+            frames += self.wire.frames(ready)
+        return frames
+
+    def test_a_connection_closes_behind_the_confirmation_of_its_clear(self):
+        """At once, though nothing more comes or goes."""
+        self.packet(2, "1001130000")
+        self.turn()
+        self.assertEqual(Circuits.takes(self.line).hex(), "1001130000")
+        self.line.sendall(samples.xot(bytes.fromhex("100117")))
+        self.assertIn("100117", self.turn()[0].hex())
+        self.assertEqual(self.line.recv(100), b"")
+
+    def test_a_connection_closes_behind_its_own_confirmation(self):
+        self.line.sendall(samples.xot(bytes.fromhex("1001130000")))
+        self.turn()
+        self.packet(2, "100117")
+        self.turn()
+        self.assertEqual((Circuits.takes(self.line).hex(), self.line.recv(100)), ("100117", b""))
 
 
 @support.needs_station
