@@ -77,7 +77,7 @@ def read(*path):
 
 def claims():
     """The text of docs/PROOFS.md and of the claims of each crate."""
-    files = [os.path.join(ROOT, "docs", "PROOFS.md"), *sorted(glob(os.path.join(ROOT, "crates", "*", "CLAIMS.md")))]
+    files = [os.path.join(ROOT, "docs", "PROOFS.md"), *sorted(glob(os.path.join(ROOT, "crates", "*", "README.md")))]
     return "\n".join(read(file).decode() for file in files)
 
 

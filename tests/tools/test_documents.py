@@ -13,11 +13,11 @@ from glob import glob
 import support
 
 WIDTH = 100
-LENGTHS = {"README.md": 100, "docs/ARCHITECTURE.md": 110, "docs/PROOFS.md": 165, "docs/DECISIONS.md": 200, "docs/PERFORMANCE.md": 92, "CONTRIBUTING.md": 142, "docs/READING.md": 80}
+LENGTHS = {"README.md": 100, "docs/ARCHITECTURE.md": 110, "docs/PROOFS.md": 176, "docs/DECISIONS.md": 200, "docs/PERFORMANCE.md": 92, "CONTRIBUTING.md": 142, "docs/READING.md": 80}
 CRATES = os.path.join(support.ROOT, "crates")
 # What is named and stands elsewhere: what commands leave behind, the sources of Linux, what whoever races decoders has.
 ELSEWHERE = ("build/*", "out/*", "/*", "../x25_*", "net/*", "AnswersOffered.antt")
-# What a name may be part of: FILE.FUNCTION.what.edit, SUBJECT/NAME.case, crates/NAME/CLAIMS.md, NAME_tests.
+# What a name may be part of: FILE.FUNCTION.what.edit, SUBJECT/NAME.case, crates/NAME/README.md, NAME_tests.
 HOLDERS = re.compile(r"NAME|SUBJECT|CRATE|FILE|FUNCTION|\bwhat\b")
 ENDINGS = ("rt", "antt", "md", "py", "sh", "c", "h", "txt", "svg", "edit", "edits", "case", "script", "trace", "gz", "bash")
 OF_TESTS = ("x25_embed", "x25_refusals")
@@ -29,7 +29,7 @@ def text_of(*path):
 
 def documents():
     """The paths of all documents, from the root on."""
-    patterns = ("*.md", "docs/*.md", "crates/*/CLAIMS.md", "interop/*.md", "examples/*/*.md")
+    patterns = ("*.md", "docs/*.md", "crates/*/README.md", "interop/*.md", "examples/*/*.md")
     return sorted(os.path.relpath(path, support.ROOT) for pattern in patterns for path in glob(os.path.join(support.ROOT, pattern)))
 
 
@@ -141,8 +141,12 @@ class Commands(unittest.TestCase):
 
 def claims_of(crate):
     """What carries the claims of a crate: the lines below each claim."""
-    text = re.sub(r"\n +(?=[^ -])", " ", text_of("crates", crate, "CLAIMS.md"))
-    return re.findall(r"^  - (.*)$", text, re.MULTILINE)
+    return re.findall(r"^  - (.*)$", re.sub(r"\n +(?=[^ -])", " ", proved_of(crate)), re.MULTILINE)
+
+
+def proved_of(crate):
+    """What the README of a crate says of what is proved."""
+    return text_of("crates", crate, "README.md").partition("\n## What is proved\n")[2].partition("\n## Where\n")[0]
 
 
 class Claims(unittest.TestCase):
@@ -194,7 +198,7 @@ class Claims(unittest.TestCase):
         proofs = text_of("docs", "PROOFS.md")
         for crate in self.below:
             with self.subTest(crate):
-                self.assertIn(f"](../crates/{crate}/CLAIMS.md)", proofs)
+                self.assertIn(f"](../crates/{crate}/README.md)", proofs)
                 self.assertTrue(claims_of(crate))
                 self.assertEqual([line for line in claims_of(crate) if "`" not in line], [])
 
@@ -232,7 +236,7 @@ class Claims(unittest.TestCase):
         """A law is a public function that takes nothing and answers nothing, by a contract."""
         for crate in self.below:
             laws = {law for path in glob(os.path.join(CRATES, crate, "src", "*.rt")) for law in re.findall(r"^pub fn (\w+)\(\)\n    ensures", text_of(path), re.MULTILINE)}
-            claimed = set(re.findall(r"\w+", " ".join(code_of(text_of("crates", crate, "CLAIMS.md")))))
+            claimed = set(re.findall(r"\w+", " ".join(code_of(proved_of(crate)))))
             with self.subTest(crate):
                 self.assertEqual(laws - claimed, set())
 
