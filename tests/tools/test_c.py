@@ -8,6 +8,7 @@ import unittest
 
 import support
 import check_c
+import x25names
 from program import find_library
 
 LIBRARY = find_library("a")
@@ -74,13 +75,11 @@ class Header(unittest.TestCase):
         self.assertIn("#[repr(C)]\n#[derive(Clone, Copy)]\npub struct StretchName {\n" + "".join(f"    pub {count}: u64,\n" for count in COUNTS) + "}", name)
         self.assertIn("typedef struct {\n" + "".join(f"    uint64_t {count};\n" for count in COUNTS) + "} x25_stretch_name;", self.HEADER)
 
-    def test_its_numbers_and_their_texts_are_those_of_the_formats(self):
-        formats = support.read("docs/FORMATS.md").decode()
-        rows = re.findall(r"^\| ([\d, ]+) \| (.+) \|$", formats[formats.index("| 9 | the link isn't up |") :], re.MULTILINE)
-        known = {int(number): why for row, whys in rows for number, why in zip(row.split(", "), whys.split("; "))}
+    def test_its_numbers_and_their_texts_are_those_of_the_scripts(self):
         texts = re.findall(r"^        (\d+) => b\"(.*)\",$", support.read("crates/x25_c/src/refusal_text.rt").decode(), re.MULTILINE)
+        others = {14: "a setting is out of its range", 16: "no station is held", 17: "a station is held where one was to be made", 60: "no command"}
         for number, text in texts:
-            self.assertEqual(known.get(int(number), "no command"), text)
+            self.assertEqual((x25names.REFUSALS | others)[int(number)], text)
         numbers = {name: number for name, number in numbers_of(self.HEADER).items() if number > 2}
         self.assertEqual(sorted(numbers.values()), [int(number) for number, _ in texts])
         source = support.read("crates/x25_c/src/lib.rt").decode()

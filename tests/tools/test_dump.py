@@ -69,14 +69,6 @@ def shown(judged):
 
 
 class Names(unittest.TestCase):
-    def test_refusals_are_those_of_the_document(self):
-        table = support.read("docs/FORMATS.md").decode().split("| Number | Why |")[1].split("\n\n")[0]
-        said = {}
-        for numbers, why in re.findall(r"^\| ([0-9, ]+) \| (.*) \|$", table, re.MULTILINE):
-            said |= dict(zip(map(int, numbers.split(", ")), why.split("; ") if "," in numbers else [why]))
-        self.assertGreater(len(said), 15)
-        self.assertEqual({number: x25names.REFUSALS[number] for number in said}, said)
-
     def test_causes_and_diagnostics_are_those_of_the_document(self):
         table = support.read("docs/FORMATS.md").decode().split("| Diagnostic | Name |")[1].split("\n\n")[0]
         causes = {(sort, int(number)): name for sort, number, name in re.findall(r"\| (CLEAR|RESET|RESTART) (\d+) \| ([^|]+) \|", table)}
