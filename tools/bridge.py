@@ -9,7 +9,8 @@
 The line is one of these:
 
   --listen PORT        a connection over TCP that another makes, to this host alone, or to HOST:PORT; it has lines of a trace. While
-                       there is one, others are told that the line is taken. With --stay the next one is waited for where it ends
+                       there is one, others are told that the line is taken. With --stay the next one is waited for where it ends.
+                       One that brings something else, as XOT or the frames of an end of the same kind, is told so and closed
   --connect HOST:PORT  such a connection to one who listens; with --retry it is made again and again, with a growing pause
   --stdio              standard input and output, with lines of a trace
   --ethernet IFACE     an interface of Ethernet, with frames as Linux's lapbether has them (type 6000, two octets of length, the low
@@ -25,9 +26,10 @@ An address of IPv6 stands in brackets, [::1]:7000. With --library the station is
 Commands are lines of a script of this end (`dte call 123 4567 41`), of standard input or --commands, and `wait TEXT`, which holds those
 behind it until a notice comes that begins so; a carriage return at the end of a line is left out. Notices are the entries of the
 transcript; `! N` for a command that is refused, and `? 60` for one that is none; and lines that begin with `#`, the bridge's own words,
-in UTF-8: why that was, and what becomes of the line. They go to standard output or to --notices. With --stdio commands have to come by --commands, and notices go to standard error. A command that is
-refused because too much waits (10 and 31) is asked again behind the next frame, and those behind it wait; so do all while the line isn't
-there. `connect` behind `disconnect` begins a new station, once DISC is answered or T1 has passed.
+in UTF-8: why that was, and what becomes of the line. They go to standard output or to --notices. With --stdio commands have to come by
+--commands, and notices go to standard error. A command that is refused because too much waits (10 and 31) is asked again behind the next
+frame, and those behind it wait; so do all while the line isn't there. `connect` behind `disconnect` begins a new station, once DISC is
+answered or T1 has passed.
 
 T1 fires --t1 seconds after it began anew, where nothing that came is unread; let it be longer than the way to the other end and
 back. Where nothing came for --t3 seconds, the other end is asked whether it is there: by an RR of a circuit that is open, which it has to

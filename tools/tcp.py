@@ -114,6 +114,19 @@ class Connection:
             raise OSError(error, os.strerror(error))
         self.is_open = True
 
+    def other(self):
+        """The address of the other end, as it is written."""
+        try:
+            return written(self._socket.getpeername())
+        except OSError:
+            return "one who has gone"
+
+    def part(self, text):
+        """Tells the other end why it is closed, as a comment of a trace, where there is room."""
+        with contextlib.suppress(OSError):
+            self._socket.send(f"# {text}\n".encode())
+            self._socket.shutdown(socket.SHUT_WR)
+
     def close(self):
         """Closes it; what waits is lost."""
         self._socket.close()

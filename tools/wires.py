@@ -35,6 +35,8 @@ MOST_SIZE = 12
 PATIENCE, PAUSE, MOST_PAUSE = 10, 0.1, 30
 # How often an interface that is down is looked at, in seconds.
 LOOK = 1
+# What is told at both ends where one has --xot or --xot-listen, and the other lines of a trace.
+XOT_ALONE = "one end alone speaks X.25 over TCP (--xot, --xot-listen)"
 # Requests of Linux about an interface, and the flag that it is up.
 GET_FLAGS, GET_MTU, IS_UP = 0x8913, 0x8921, 1
 GONE = {errno.ENETDOWN, errno.ENODEV, errno.ENXIO}
@@ -70,6 +72,7 @@ class Lines:
 
     def __init__(self, end, note):
         self._own, self._other = ("> ", "<") if end == "dte" else ("< ", ">")
+        self._ends = ("DTE", "DCE") if end == "dte" else ("DCE", "DTE")
         self._note = note
         self._open = b""
 
@@ -79,7 +82,11 @@ class Lines:
 
     def frames(self, octets):
         """Yields the frames of the lines that are whole now; what the other end says in a comment is told."""
-        *whole, self._open = (self._open + octets).split(b"\n")
+        octets = self._open + octets
+        # A packet of XOT begins so, and may never bring a line feed.
+        if octets.startswith(b"\0"):
+            raise BadInput(XOT_ALONE)
+        *whole, self._open = octets.split(b"\n")
         for line in (line.removesuffix(b"\r") for line in whole):
             if line.startswith(b"#"):
                 self._note(f"the other end says {x25lines.shown(line[1:].strip())}")
@@ -93,7 +100,7 @@ class Lines:
         if frame is None:
             raise BadInput(f"the line brought {x25lines.shown(line)}, which is no line of a trace")
         if frame.direction != self._other:
-            raise BadInput(f"the line brought {x25lines.shown(line)}, which this end itself would send: are both ends of one kind?")
+            raise BadInput("both ends are the {}: one has to be the {}".format(*self._ends))
         return frame.octets
 
 
@@ -132,6 +139,9 @@ class Standard(Wire):
 class OverTcp(Wire):
     """Lines of a trace over a connection of TCP; where it ends and `comes_again`, over the next one."""
 
+    # What is told of a connection, before the other end's address.
+    _connected = "connected to"
+
     def __init__(self, end, note, t3, comes_again):
         self._end, self._note, self._t3, self._comes_again = end, note, t3, comes_again
         self._connection = self._lines = None
@@ -167,6 +177,7 @@ class OverTcp(Wire):
         try:
             yield from self._lines.frames(octets)
         except BadInput as error:
+            self._connection.part(error)
             if not self._comes_again:
                 raise
             self._lose(error)
@@ -175,14 +186,15 @@ class OverTcp(Wire):
         """The connection stands."""
         if not self.is_there:
             self._lines, self.has_begun = Lines(self._end, self._note), True
+            self._note(f"{self._connected} {self._connection.other()}")
 
     def _lose(self, why):
         """The connection has ended."""
         self._connection.close()
         self._connection = self._lines = None
+        self._note(f"the connection has ended: {why}")
         if not self._comes_again:
             raise Ended
-        self._note(f"the connection has ended: {why}")
 
     def close(self):
         if self._connection:
@@ -191,6 +203,8 @@ class OverTcp(Wire):
 
 class Listening(OverTcp):
     """Waits for a connection; while there is one, others are told so and closed. Where it `stays`, it waits for the next one."""
+
+    _connected = "a connection has come from"
 
     def __init__(self, end, note, place, t3, stays):
         super().__init__(end, note, t3, stays)
@@ -207,13 +221,14 @@ class Listening(OverTcp):
             self._take(came)
 
     def _take(self, came):
+        connection = tcp.Connection(came, self._t3)
         if self._connection is None:
-            self._connection = tcp.Connection(came, self._t3)
+            self._connection = connection
             self._be_there()
         else:
             self._note("another client came, and was told that the line is taken")
-            with came, contextlib.suppress(OSError):
-                came.send(b"# the line is taken\n")
+            connection.part("the line is taken")
+            connection.close()
 
     def close(self):
         super().close()

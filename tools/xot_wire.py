@@ -172,7 +172,10 @@ class Xot(wires.Wire):
 
     def _read(self, it, ready):
         connection = it.connection
+        was_open = connection.is_open
         octets = connection.turn(ready)
+        if connection.is_open and not was_open:
+            self._note(f"channel {it.channel} is connected to {connection.other()}")
         if octets is None or (not connection.is_open and time.monotonic() >= it.last):
             self._lose(it, connection.why or ("the other end has closed it" if connection.is_open else "it wasn't made in time"))
         elif it in self._ending:
@@ -187,7 +190,12 @@ class Xot(wires.Wire):
         """Takes a packet of a connection; answers False where that has to end."""
         kind = packet[2] if packet else None
         if packet is None or kind in FOREIGN or (not it.channel and kind != CALL):
-            self._lose(it, "it isn't X.25 over TCP" if packet is None else f"it brought {packet[:8].hex()}, which isn't of one circuit")
+            why = "it isn't X.25 over TCP" if packet is None else f"it brought {packet[:8].hex()}, which isn't of one circuit"
+            if packet is None:
+                it.connection.part(wires.XOT_ALONE)
+            if not it.channel:
+                self._note(f"a connection from {it.connection.other()} is closed: {why}")
+            self._lose(it, why)
             return False
         if not it.channel and not self._is_given_a_channel(it, packet):
             return False
@@ -209,6 +217,7 @@ class Xot(wires.Wire):
             return False
         it.channel = min(free)
         self._circuits[it.channel] = it
+        self._note(f"a connection has come from {it.connection.other()}, with a call on channel {it.channel}")
         return True
 
     def _hand_in(self, channel, packet):

@@ -127,6 +127,7 @@ class Joined(ToolCase):
         os.chmod(program, 0o755)
         self.child = self.started("--x25", program, "--listen", "0", "--quiet", "0.3", *words, end)
         self.addCleanup(self.child.kill)
+        self.come = []
         self.program, self.place = program, ("127.0.0.1", int(self.child.stderr.readline().rsplit(b":", 1)[1]))
         self.join()
         self.child.stdin.write(user)
@@ -138,6 +139,7 @@ class Joined(ToolCase):
         """Joins the bridge as a client."""
         self.line = socket.create_connection(self.place, timeout=10)
         self.addCleanup(self.line.close)
+        self.come.append("# a connection has come from {}:{}".format(*self.line.getsockname()))
         self.lines = self.line.makefile("r")
         self.addCleanup(self.lines.close)
 
@@ -153,11 +155,12 @@ class Joined(ToolCase):
         return self.lines.readline().rstrip("\n")
 
     def end(self):
-        """Waits for the end of the bridge; answers the status, the notices and what it said."""
+        """Waits for the end of the bridge; answers the status, the notices but for those that the test has come, and what it said."""
         with self.child.stdout as out, self.child.stderr as said:
             notices, text = out.read().decode().splitlines(), said.read().decode()
         self.child.stdin.close()
-        return self.child.wait(10), notices, text
+        self.assertEqual([it for it in notices if " has come from " in it], self.come)
+        return self.child.wait(10), [it for it in notices if " has come from " not in it], text
 
     def asked(self, count=0):
         """What the station was asked, once it was asked so often: when, and what."""
@@ -256,21 +259,38 @@ class Joined(ToolCase):
         self.assertEqual(len(self.asked()), 1)
 
     def test_other_lines_of_the_line(self):
-        for text, words in (("hello", "no line of a trace"), (SABM, "both ends of one kind"), ("< 0", "no line of a trace")):
+        packet = "\0\0\0\5\x10\1\x0b\0\0"
+        for text, words in (("hello", "no line of a trace"), (SABM, "both ends are the DTE"), ("< 0", "no line of a trace"), (packet, "X.25 over TCP (--xot")):
             with self.subTest(text):
                 self.begin(". off idle\n", is_left_open=True)
                 self.sends(text)
+                told = self.lines.read()
                 status, _, said = self.end()
                 self.assertEqual(status, 2)
                 self.assertIn(words, said)
+                # The other end is told the same.
+                self.assertEqual(told, "# " + said.removeprefix("bridge.py: "))
+
+    def test_what_does_not_fit_ends_a_connection_alone(self):
+        """With --stay: two of a kind, a packet of XOT that brings no line feed, a line of a trace to XOT."""
+        both, alone = "both ends are the DTE: one has to be the DCE", wires.XOT_ALONE
+        self.begin(f". off idle\n= {UA}\n. off idle\n", "--stay")
+        for octets, why in ((f"{SABM}\n".encode(), both), (b"\0\0\0\5\x10\1\x0b\0\0", alone)):
+            self.line.sendall(octets)
+            self.assertEqual(self.lines.read(), f"# {why}\n")
+            self.again()
+        self.sends(UA)
+        self.asked(1)
+        self.child.terminate()
+        self.assertEqual(self.end()[1], [f"# the connection has ended: {why}" for why in (both, alone)])
 
     def test_the_line_ends_while_something_is_left_to_do(self):
         self.begin(f". off busy\n= dte connect\n{SABM}\n. start busy\n", "--t1", "60", user=b"dte connect\nwait dte linkup\n")
         self.gets()
         self.lines.close()
         self.line.close()
-        status, _, said = self.end()
-        self.assertEqual(status, 1)
+        status, notices, said = self.end()
+        self.assertEqual((status, notices[-1]), (1, "# the connection has ended: the other end has closed it"))
         self.assertIn("the line has ended before all was done", said)
 
     def again(self):
@@ -290,6 +310,7 @@ class Joined(ToolCase):
         self.child.terminate()
         status, notices, said = self.end()
         self.assertEqual((status, notices[:2], said), (143, ["dte linkup", "# the connection has ended: the other end has closed it"], ""))
+        self.assertEqual(len(self.come), 2)
 
     def test_a_second_client_is_told_and_closed(self):
         self.begin(f". off idle\n= {UA}\n. off idle\n", "--stay")
@@ -301,6 +322,7 @@ class Joined(ToolCase):
         self.assertEqual(len(self.asked(1)), 1)
         self.child.terminate()
         self.assertEqual(self.end()[1], ["# another client came, and was told that the line is taken"])
+        self.assertEqual(len(self.come), 1)
 
     def test_clients_of_other_protocols(self):
         """They are closed, and the next one is served: octets of another protocol, ten million without a line end, a scan of ports."""
@@ -468,6 +490,7 @@ class Joined(ToolCase):
         # T1 fires in the midst of it.
         self.begin(answers + "= t1 dte\n. off busy\n= dte ready 2\ndte ready ch=2\n. off idle\n", "--t1", "4", "--stay", user=b"dte connect\n")
         fcntl.fcntl(self.child.stdout, 1031, 4096)  # F_SETPIPE_SZ of Linux
+        self.assertEqual(self.child.stdout.readline().decode(), f"{self.come.pop()}\n")
         self.asked(1)
         for frame in frames:
             self.sends(frame)
@@ -582,6 +605,7 @@ class Other(ToolCase):
             with socket.create_server(place) as server:
                 for frame in (UA, RESTART):
                     with server.accept()[0] as line:
+                        self.assertEqual(child.stdout.readline().decode(), f"# connected to 127.0.0.1:{place[1]}\n")
                         line.sendall(f"{frame}\n".encode())
                         line.shutdown(socket.SHUT_WR)
                         self.assertEqual(child.stdout.readline(), b"# the connection has ended: the other end has closed it\n")

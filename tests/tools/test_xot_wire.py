@@ -1,6 +1,7 @@
 """Tests of XOT in bridge.py: what a wire makes of packets without the program, and circuits of bridges with it."""
 
 import contextlib
+import io
 import os
 import re
 import select
@@ -17,6 +18,7 @@ import support
 from support import ToolCase
 from program import find_library
 
+import wires
 import x25lines
 import xot_wire
 
@@ -70,6 +72,28 @@ class Wire(unittest.TestCase):
         self.line.sendall(samples.xot(bytes.fromhex("100117")))
         self.assertIn("100117", self.turn()[0].hex())
         self.assertEqual(self.line.recv(100), b"")
+
+    def test_what_comes_and_goes_is_told(self):
+        """A connection that this end makes, one that another makes, and one that has lines of a trace, at both ends."""
+        self.assertEqual(self.notes, ["channel 1 is connected to {}:{}".format(*self.line.getsockname())])
+        self.notes.clear()
+        with contextlib.redirect_stderr(io.StringIO()) as said:
+            self.wire = xot_wire.Xot("dce", self.notes.append, None, ("127.0.0.1", 0), 4, 0)
+        self.addCleanup(self.wire.close)
+        self.turn()
+        self.wire.send(bytes.fromhex("0373") + x25lines.fcs(bytes.fromhex("0373")))
+        places = []
+        for octets in (samples.xot(CALL), b"> 013febdf\n"):
+            line = socket.create_connection(("127.0.0.1", int(said.getvalue().rpartition(":")[2])), timeout=2)
+            self.addCleanup(line.close)
+            places.append("{}:{}".format(*line.getsockname()))
+            line.sendall(octets)
+            self.turn()
+        self.assertEqual(self.notes, [
+            f"a connection has come from {places[0]}, with a call on channel 1",
+            f"a connection from {places[1]} is closed: it isn't X.25 over TCP",
+        ])
+        self.assertEqual(line.recv(100).decode(), f"# {wires.XOT_ALONE}\n")
 
     def test_a_connection_closes_behind_its_own_confirmation(self):
         self.line.sendall(samples.xot(bytes.fromhex("1001130000")))
