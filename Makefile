@@ -1,5 +1,5 @@
 # Command            Takes            Needs               Does
-# make look          2 minutes        rt                  builds the program unproved and has it decode a trace of examples/
+# make look          2 minutes once   rt                  leaves the program unproved at build/x25-unproved, and has it decode a trace of examples/
 # make x25           20 to 30 minutes rt                  proves the program, and leaves it at build/x25
 # make lib           30 minutes       rt, cc              proves the library for C, and leaves libx25.a, libx25.so and x25.pc in build/
 # make check-c       a minute         build/libx25.a, cc  runs tests/c over it, under ASan, UBSan and valgrind where these are
@@ -15,6 +15,7 @@
 # make install-lib   a second         build/libx25.so     installs what make lib left alone, and the bindings for Python and Rust
 # make uninstall     a second                             removes what these installed
 # make dist          a second         git                 leaves the sources of HEAD at build/x25-VERSION.tar.gz
+# make dist-binary   a second         build/x25           leaves the program, the scripts and what make lib left at build/x25-VERSION-linux-MACHINE.tar.gz
 # make clean         a second                             removes what the others made here
 #
 # PREFIX is /usr/local where it isn't given, DESTDIR stands before it, and PROGRAM is what is installed in place of build/x25. LIBDIR is
@@ -22,7 +23,9 @@
 # The times are those of four processors with nothing beside. rt, the command of the Rattle kit, wants up to 4 GB of memory for each
 # processor; cc is a C compiler. All need Python 3.9 or later. What needs build/x25 has it proved first, where it isn't there.
 
-.PHONY: help look x25 lib check-c demo test golden judge-runs check-tools refused wrong-bodies interop install install-lib uninstall dist clean kit
+.PHONY: help look x25 lib check-c demo test golden judge-runs check-tools refused wrong-bodies interop install install-lib uninstall dist dist-binary clean kit
+
+SOURCES := crates.txt $(shell find crates -path '*/out' -prune -o -type f ! -name '*.md' -print)
 
 x25: build/x25
 
@@ -32,19 +35,22 @@ SHARED = libx25.so.1
 help:
 	@sed -n '/^$$/q; s/^# \{0,1\}//p' Makefile
 
-look: kit
+look: build/x25-unproved
 	@.ci/look
 
-build/x25: crates.txt $(shell find crates -path '*/out' -prune -o -type f ! -name '*.md' -print) | kit
+build/x25-unproved: $(SOURCES) .ci/look | kit
+	@.ci/look --build
+
+build/x25: $(SOURCES) | kit
 	.ci/prove x25 x25_world
-	@git describe --always --dirty --abbrev=8 --exclude '*' > build/commit 2> /dev/null || rm -f build/commit
+	@{ git describe --always --dirty --abbrev=8 --exclude '*' && rt version; } > build/commit 2> /dev/null || rm -f build/commit
 
 # The player of scripts whose calls are refused memory.
-build/x25_refusals: crates.txt $(shell find crates -path '*/out' -prune -o -type f ! -name '*.md' -print) | kit
+build/x25_refusals: $(SOURCES) | kit
 	.ci/prove x25_refusals x25_world
 
 # The archive of the crate, and that of what it takes memory by.
-build/libx25_c.a: crates.txt $(shell find crates -path '*/out' -prune -o -type f ! -name '*.md' -print) | kit
+build/libx25_c.a: $(SOURCES) | kit
 	.ci/prove x25_c x25_station
 
 build/libx25.a: build/libx25_c.a
@@ -169,6 +175,19 @@ uninstall:
 dist:
 	mkdir -p build
 	git archive --prefix=x25-$(VERSION)/ -o build/x25-$(VERSION).tar.gz HEAD
+
+# For people without the kit. share/CHECK.txt says how to see what is in it.
+BINARY = x25-$(VERSION)-linux-$(shell uname -m)
+ARCHIVES = build
+
+dist-binary:
+	rm -rf $(ARCHIVES)/stage
+	@$(MAKE) -s install DESTDIR=$(ARCHIVES)/stage PREFIX=/usr/local
+	mv $(ARCHIVES)/stage/usr/local $(ARCHIVES)/stage/$(BINARY)
+	sed 's|@VERSION@|$(VERSION)|' share/CHECK.txt > $(ARCHIVES)/stage/$(BINARY)/CHECK.txt
+	cd $(ARCHIVES)/stage/$(BINARY) && find . -type f ! -name SHA256SUMS -print0 | sort -z | xargs -0 sha256sum > SHA256SUMS
+	tar -C $(ARCHIVES)/stage --owner=0 --group=0 --sort=name -czf $(ARCHIVES)/$(BINARY).tar.gz $(BINARY)
+	rm -rf $(ARCHIVES)/stage
 
 clean:
 	rm -rf build crates/*/out

@@ -6,12 +6,12 @@
     chart.py --script script
     chart.py --svg examples/exchange.trace > exchange.svg
 
-Reads the lines of `x25 decode`, the lines of a trace, also with a time and a tab before them, and the lines of
-`x25 sim --tap`. Frames in hexadecimal digits are given to `x25 decode --wide`. A run alone doesn't say which of its frames was lost:
+Reads the lines of `x25 decode`, the lines of a trace, also with a time and a tab before them, comments, which begin with `#`,
+and the lines of `x25 sim --tap`. Frames in hexadecimal digits are given to `x25 decode --wide`. A run alone doesn't say which of its frames was lost:
 with --script the run is made here from its script, by `x25 sim --tap`, and what the script loses or damages is marked.
 
 The program is the one that --x25 or the variable X25 names, or `x25` of the PATH, or else the one that was built or
-installed with this script.
+installed with this script, or that of `make look`, which is unproved.
 
 Exit status: 0, or 2 for bad words or bad input, where a chart as text has the rows before it.
 """
@@ -36,7 +36,10 @@ def rows(decoder, blocks):
         found = []
         try:
             for number, (line, answer) in enumerate(zip(lines, decoding.answers(decoder, lines)), first):
-                found.append(Frame(answer[1][0], answer[1][2:], None, x25lines.seconds(answer[0])) if answer else row(number, line))
+                if answer:
+                    found.append(Frame(answer[1][0], answer[1][2:], None, x25lines.seconds(answer[0])))
+                elif line:
+                    found.append(row(number, line))
         finally:
             yield found
 
@@ -48,8 +51,8 @@ def row(number, line):
         return Frame(text[0], text[2:], None, (found[1] or b"").decode())
     if found := x25lines.ENTRY_LINE.fullmatch(line):
         return Entry(found[1].decode(), found[2].decode())
-    if x25lines.REFUSAL_LINE.fullmatch(line):
-        return Note(line.decode())
+    if x25lines.REFUSAL_LINE.fullmatch(line) or x25lines.is_passed_over(line):
+        return Note(line.decode("utf-8", "replace"))
     raise BadInput(f"line {number} is no line of decode, of a trace or of a run: {x25lines.shown(line)}")
 
 
@@ -88,7 +91,7 @@ def words():
     if not LEAST_WIDTH <= options.width <= MOST_WIDTH:
         parser.error(f"the width is from {LEAST_WIDTH} to {MOST_WIDTH}")
     if options.script and options.x25 is None:
-        parser.error("a script needs the program x25: build it (make x25) or name it (--x25)")
+        parser.error("a script needs the program x25: build it (make look, make x25) or name it (--x25)")
     return options
 
 

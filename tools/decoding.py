@@ -1,5 +1,6 @@
 """The program's `decode` as a child process that answers what it is asked, and where the program is found."""
 
+import functools
 import os
 import re
 import select
@@ -9,11 +10,12 @@ import subprocess
 import x25lines
 from x25lines import BadInput, fcs
 
-# The program that was built or installed together with this file, which stands in tools/ or lib/x25/.
+# The program that was built or installed together with this file, which stands in tools/ or lib/x25/; then the one of `make look`.
 FOLDER = os.path.dirname(os.path.realpath(__file__))
-PLACES = [os.path.normpath(os.path.join(FOLDER, place)) for place in ("../build/x25", "../../bin/x25")]
-MISSING = "frames in hexadecimal digits need the program x25: build it (make x25) or name it (--x25)"
-MISSING_STATION = "a station needs the program x25: build it (make x25) or name it (--x25)"
+UNPROVED = "x25-unproved"
+PLACES = [os.path.normpath(os.path.join(FOLDER, place)) for place in ("../build/x25", "../../bin/x25", f"../build/{UNPROVED}")]
+MISSING = "frames in hexadecimal digits need the program x25: build it (make look, make x25) or name it (--x25)"
+MISSING_STATION = "a station needs the program x25: build it (make look, make x25) or name it (--x25)"
 # The kinds of frames, in the order of a statistic: those of LAPB modulo 8, and those that `decode --wide` names.
 FRAMES = ("I", "RR", "RNR", "REJ", "SABM", "DISC", "UA", "DM", "FRMR", "SREJ", "SABME", "SARM", "XID", "TEST", "UI", "fault")
 # A line of `decode`, with a time and a tab before it where there is one.
@@ -24,6 +26,13 @@ def find_program():
     """The program that the variable X25 names, or `x25` of the PATH, or else the one that was built or installed with this file; None where
     there is none."""
     return os.environ.get("X25") or shutil.which("x25") or next(filter(os.path.isfile, PLACES), None)
+
+
+@functools.lru_cache(maxsize=None)
+def say_if_unproved(program):
+    """Says once on standard error that a program is unproved, where it is the one of `make look`."""
+    if os.path.basename(program) == UNPROVED:
+        x25lines.warn(f"{program} is unproved (make x25 proves it)")
 
 
 def add_program(parser):
@@ -121,6 +130,7 @@ class Decoder:
     def _begun(self):
         if self._program is None:
             raise BadInput(MISSING)
+        say_if_unproved(self._program)
         try:
             child = subprocess.Popen([self._program, self._task, *self._words], stdin=subprocess.PIPE, stdout=subprocess.PIPE)
         except OSError as error:

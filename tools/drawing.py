@@ -142,7 +142,9 @@ class Svg:
         sort = {LOST: "lost", DAMAGED: "damaged", WAITING: "waiting"}.get(frame.fate, "frame")
         head = "" if frame.fate == LOST else ' marker-end="url(#head)"'
         line = f'<line class="{sort}" x1="{start}" y1="{self._y}" x2="{end}" y2="{self._y}"{head}/>'
-        return line + self._cross(end, frame.fate) + self._text("middle", (self._left + self._right) // 2, label(frame, self._most))
+        # The text of a lost frame ends before the cross.
+        most = self._most * 3 // 4 - 2 if frame.fate == LOST else self._most
+        return line + self._cross(end, frame.fate) + self._text("middle", (start + end) // 2, label(frame, most))
 
     def _cross(self, x, fate):
         """The cross where the arrow of a lost frame ends."""

@@ -6,7 +6,8 @@ from typing import NamedTuple, Optional
 OTHER = {">": "<", "<": ">"}
 # What `decode --wide` puts behind the text of a frame or a packet in another form than a station writes.
 WIDE = " ~ wide"
-I_FRAME = re.compile(rf"I cmd P=[01] S=([0-7]) R=([0-7]) \| (.*?)(?:{WIDE})?")
+# Of an I frame, what stands before its packet.
+I_FRAME = re.compile(r"I cmd P=[01] S=([0-7]) R=([0-7]) \| ")
 S_FRAME = re.compile(r"(?:RR|RNR|REJ) (?:cmd|rsp) [PF]=[01] R=([0-7])")
 DATA = re.compile(r"DATA ch=(\d+) S=[0-7] R=[0-7] M=([01]) Q=([01])(?: D=1)? data=(\S+)")
 INTERRUPT = re.compile(r"INT ch=(\d+) data=(\S+)")
@@ -44,48 +45,53 @@ class Way:
         self._held = {}
 
     def take(self, number, packet):
-        """Takes the I frame of a number; yields its packet where it is due."""
-        if self._due is None:
-            self._held[number] = packet
-            if len(self._held) == MODULUS - 1:
-                yield from self.end()
-        elif number == self._due:
+        """Takes the I frame of a number; returns its packet, in a list, where it is due."""
+        if number == self._due:
             self._held.pop(number, None)
             self._due = (number + 1) % MODULUS
-            yield packet
-        elif self._acknowledged is None or self._after(number) > self._after(self._due):
+            return [packet]
+        if self._due is None:
             self._held[number] = packet
+            return self.end() if len(self._held) == MODULUS - 1 else []
+        if self._acknowledged is None or self._after(number) > self._after(self._due):
+            self._held[number] = packet
+        return []
 
     def acknowledge(self, number):
-        """Takes an N(R); yields the packets that it shows were taken, and None for each of these that is missing."""
+        """Takes an N(R); returns the packets that it shows were taken, and None for each of these that is missing."""
+        taken = []
         if self._due is None:
-            yield from self._begin(number)
+            taken = self._begin(number)
         elif self._acknowledged is not None and self._after(number) > self._after(self._due):
             if (number - 1) % MODULUS not in self._held:
                 # What it acknowledges wasn't seen: it tells nothing, and may be wrong.
-                return
+                return taken
             while self._due != number:
-                yield self._held.get(self._due)
+                taken.append(self._held.get(self._due))
                 self._due = (self._due + 1) % MODULUS
             self._held.clear()
         self._acknowledged = number
+        return taken
 
     def end(self):
-        """Yields what is held of a way that nothing was heard of, in the order in which it came."""
-        if self._due is None and self._held:
-            self._due = (list(self._held)[-1] + 1) % MODULUS
-            yield from self._held.values()
-            self._held.clear()
+        """Returns what is held of a way that nothing was heard of, in the order in which it came."""
+        if self._due is not None or not self._held:
+            return []
+        self._due = (list(self._held)[-1] + 1) % MODULUS
+        taken = list(self._held.values())
+        self._held.clear()
+        return taken
 
     def _begin(self, number):
-        """Begins where the other end stands; yields what is held and lies just before that, or from there on without a gap."""
+        """Begins where the other end stands; returns what is held and lies just before that, or from there on without a gap."""
         first = number
         while (first - 1) % MODULUS in self._held:
             first = (first - 1) % MODULUS
-        self._due = first
+        self._due, taken = first, []
         while self._due in self._held:
-            yield self._held.pop(self._due)
+            taken.append(self._held.pop(self._due))
             self._due = (self._due + 1) % MODULUS
+        return taken
 
     def _after(self, number):
         return (number - self._acknowledged) % MODULUS
@@ -99,17 +105,18 @@ class Messages:
         self._begun = {}
 
     def take(self, direction, text):
-        """Yields what a frame completes."""
-        if found := I_FRAME.fullmatch(text):
-            yield from self._acknowledged(direction, int(found[2]))
-            for packet in self._ways[direction].take(int(found[1]), found[3]):
-                yield from self._packet(direction, packet)
-        elif found := S_FRAME.fullmatch(text):
-            yield from self._acknowledged(direction, int(found[1]))
-        elif text.startswith(("SABM ", "UA ")):
+        """Returns what a frame completes, in order."""
+        if found := I_FRAME.match(text):
+            completed = self._acknowledged(direction, int(found[2]))
+            for packet in self._ways[direction].take(int(found[1]), text[found.end() :].removesuffix(WIDE)):
+                completed += self._packet(direction, packet)
+            return completed
+        if found := S_FRAME.fullmatch(text):
+            return self._acknowledged(direction, int(found[1]))
+        if text.startswith(("SABM ", "UA ")):
             self._ways = {way: Way(0) for way in OTHER}
-            for way in OTHER:
-                yield from self._broken(way, None, "link set up")
+            return [message for way in OTHER for message in self._broken(way, None, "link set up")]
+        return []
 
     def end(self):
         """Yields what is known at the end alone."""
@@ -118,26 +125,28 @@ class Messages:
                 yield from self._packet(direction, packet)
 
     def _acknowledged(self, direction, number):
-        way = OTHER[direction]
+        """What an N(R) of an end completes of the other's messages."""
+        way, completed = OTHER[direction], []
         for packet in self._ways[way].acknowledge(number):
-            if packet is None:
-                yield Message(way, None, "packet not recorded")
-            else:
-                yield from self._packet(way, packet)
+            completed += [Message(way, None, "packet not recorded")] if packet is None else self._packet(way, packet)
+        return completed
 
     def _packet(self, direction, packet):
+        """What a packet that was taken completes."""
         if found := DATA.fullmatch(packet):
             key = direction, int(found[1])
             held = self._begun.setdefault(key, bytearray())
             held += octets_of(found[4])
-            if found[2] == "0" or len(held) >= MOST_MESSAGE:
-                yield Message(*key, "message" if found[2] == "0" else "message that goes on", bytes(self._begun.pop(key)), found[3])
-        elif found := INTERRUPT.fullmatch(packet):
-            yield Message(direction, int(found[1]), "interrupt", octets_of(found[2]))
-        elif found := ENDED.match(packet):
-            yield from self._broken(direction, int(found[2]) if found[2] else None, found[1])
+            if found[2] == "1" and len(held) < MOST_MESSAGE:
+                return []
+            return [Message(*key, "message" if found[2] == "0" else "message that goes on", bytes(self._begun.pop(key)), found[3])]
+        if found := INTERRUPT.fullmatch(packet):
+            return [Message(direction, int(found[1]), "interrupt", octets_of(found[2]))]
+        if found := ENDED.match(packet):
+            return self._broken(direction, int(found[2]) if found[2] else None, found[1])
+        return []
 
     def _broken(self, direction, channel, why):
         """Drops what an end had begun on a channel, or on all, and tells it."""
-        for key in [key for key in self._begun if key[0] == direction and channel in (None, key[1])]:
-            yield Message(*key, f"message broken off by {why}", bytes(self._begun.pop(key)))
+        keys = [key for key in self._begun if key[0] == direction and channel in (None, key[1])]
+        return [Message(*key, f"message broken off by {why}", bytes(self._begun.pop(key))) for key in keys]

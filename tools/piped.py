@@ -9,7 +9,7 @@ import subprocess
 from typing import List, NamedTuple, Optional
 
 import x25lines
-from decoding import MISSING_STATION, let_end
+from decoding import MISSING_STATION, let_end, say_if_unproved
 from x25lines import BadInput, FrameLine
 
 T1 = {b"off", b"on", b"start"}
@@ -32,6 +32,7 @@ class Station:
     def __init__(self, program, end, words=()):
         if program is None:
             raise BadInput(MISSING_STATION)
+        say_if_unproved(program)
         self._name = f"{program} station {end}"
         self._command = [program, "station", end, *words]
         self._child = self.first = None

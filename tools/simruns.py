@@ -7,6 +7,7 @@ script; the program answers it by `? 60` and does nothing, and that parts what t
 import subprocess
 from typing import NamedTuple
 
+import decoding
 import simscript
 import x25lines
 from drawing import DAMAGED, LOST, WAITING
@@ -28,6 +29,7 @@ class Run(NamedTuple):
 
 def answer(program, words, given):
     """What a program writes for some words and some input, as a text; bad input where it can't be run, or refuses."""
+    decoding.say_if_unproved(program)
     try:
         done = subprocess.run([program, *words], input=given, capture_output=True, timeout=SECONDS)
     except OSError as error:
@@ -44,6 +46,8 @@ def events_of(file):
     """The events of a script; `drain N` is N of `drain 1`, so that each delivery is seen by itself."""
     events = []
     for number, line in x25lines.lines_of(file):
+        if x25lines.is_passed_over(line):
+            continue
         event = line.decode("ascii", "replace")
         if not simscript.is_line(event):
             raise BadInput(f"line {number} of the script is no event: {x25lines.shown(line)}")

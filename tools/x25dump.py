@@ -7,8 +7,8 @@
     x25 sim --tap < script | x25dump.py --messages
 
 Reads captures, as pcap2x25.py does (its --help has the link types and the words --swap to --dte), the lines of a trace, also
-with a time and a tab before them, the lines of `x25 decode`, and those of `x25 sim --tap`; each also packed by gzip. A line
-that is none of these is answered by `? 60`, as `decode` does. Of a capture all connections are shown, each but the first with its
+with a time and a tab before them, the lines of `x25 decode`, and those of `x25 sim --tap`; each also packed by gzip. Empty lines and
+comments, which begin with `#`, are shown as they are; a line that is none of these is answered by `? 60`, as `decode` does. Of a capture all connections are shown, each but the first with its
 number before the direction, and named where it begins; --connection takes one of them. Frames that were made up around packets
 aren't shown, their packets are.
 
@@ -20,10 +20,12 @@ aren't shown, their packets are.
               end it says how many frames and packets there were, and how many of them were judged; with --strict the status is 1 too where
               one wasn't, and with --manners where manners were broken
   --channel   shows the packets of a channel alone; 0 is that of RESTART. With --stats it counts them
+  --epoch     shows times as they are in a capture, in seconds, and not as the time of the day, with the date where it changes
+  --fold      shows of data over 32 octets the first 24 and how many there are, as on a terminal; --whole shows all there too
   --no-wide   reads as `x25 decode` does, which has `fault` for packets in another form than a station writes
 
 The program is the one that --x25 or the variable X25 names, or `x25` of the PATH, or else the one that was built or
-installed with this script. Colours are for a terminal alone, and not where the variable NO_COLOR is set.
+installed with this script, or that of `make look`, which is unproved. Colours are for a terminal alone, and not where the variable NO_COLOR is set.
 
 Exit status: 0; 1 where a line was none, a rule was broken, nothing was found in a capture, or something was left out; 2 for bad
 words or bad input, behind what stands before it.
@@ -34,7 +36,7 @@ import itertools
 import os
 import re
 import sys
-from collections import Counter
+from collections import Counter, defaultdict
 
 import captures
 import decoding
@@ -52,6 +54,10 @@ COLOURS = {">": BLUE, "<": GREEN}
 CHANNEL = re.compile(r" ch=(\d+)")
 OF_NO_CHANNEL = re.compile(r"\| (?:RESTART|DIAG|REG)|^(?:dte|dce) restart")
 A_ROW = 16
+# Each octet as it is shown as text.
+SHOWN = bytes(octet if 0x20 <= octet < 0x7F else ord(".") for octet in range(256))
+# Data of more than 32 octets, and how many of its digits are shown where it is folded.
+LONG_DATA, FOLDED = re.compile("(?<==)[0-9a-f]{66,}"), 48
 # Where the packet begins in the text of a frame that was made up.
 PACKET_AT = len("> I cmd P=0 S=0 R=0 | ")
 # What stands before the end and the rule that it breaks, the same of manners, and before what is noted.
@@ -68,10 +74,9 @@ def channel_of(text):
 
 def dumped(octets):
     """The rows of some octets: where each stands, its octets in hexadecimal digits and as text."""
+    text = octets.translate(SHOWN).decode()
     for at in range(0, len(octets), A_ROW):
-        row = octets[at : at + A_ROW]
-        text = "".join(chr(octet) if 0x20 <= octet < 0x7F else "." for octet in row)
-        yield f"    {at:04x}  {row.hex(' '):{3 * A_ROW}} {text}"
+        yield f"    {at:04x}  {octets[at : at + A_ROW].hex(' '):{3 * A_ROW}} {text[at : at + A_ROW]}"
 
 
 class Reader:
@@ -83,6 +88,7 @@ class Reader:
     def __init__(self, decoder, options):
         self._decoder = decoder
         self._options = options
+        self._time = x25lines.seconds if options.epoch else x25lines.moment
         self.status = 0
 
     def shown(self, file):
@@ -98,7 +104,7 @@ class Reader:
                 self.status = max(self.status, found)
                 continue
             connections, times, asked = found
-            yield list(zip(map(x25lines.seconds, times), connections, self._decoder.texts(asked, connections)))
+            yield list(zip(map(self._time, times), connections, self._decoder.texts(asked, connections)))
 
     def _found(self, file):
         """Yields the connections, the times and the text of the lines of the frames of a capture, in blocks, and at the end the status."""
@@ -118,28 +124,49 @@ class Reader:
         trace = pcap2x25.Connection(1, None, False)
         for _, lines in x25lines.blocks_of_lines(file):
             answers = decoding.answers(self._decoder, lines, trace)
-            yield [(x25lines.seconds(answer[0]), trace, answer[1]) if answer else self._other(line, trace) for line, answer in zip(lines, answers)]
+            yield [(self._time(answer[0]), trace, answer[1]) if answer else self._other(line, trace) for line, answer in zip(lines, answers)]
 
     def _other(self, line, trace):
         """What there is to show of a line that holds no frame in digits."""
         if found := decoding.TEXT_LINE.fullmatch(line):
             return (found[1] or b"").decode(), trace, found[2].decode()
+        if x25lines.is_passed_over(line):
+            return "", trace, line.decode("utf-8", "replace")
         is_known = x25lines.ENTRY_LINE.fullmatch(line) or x25lines.REFUSAL_LINE.fullmatch(line)
         self.status = max(self.status, 0 if is_known else 1)
         return "", trace, line.decode() if is_known else "? 60"
 
 
-class Lines:
-    """Shows each frame and entry in a line."""
+class Days:
+    """Parts times into the date, which is shown in a line of its own where it changes, and the time of the day."""
 
     def __init__(self, paint):
         self._paint = paint
+        self._day = None
+
+    def part(self, time):
+        """The lines to show before a time, and what is left of it."""
+        if len(time) != x25lines.MOMENT:
+            return [], time
+        day, _, clock = time.partition(" ")
+        lines = [] if day == self._day else [self._paint(GREY, day)]
+        self._day = day
+        return lines, clock
+
+
+class Lines:
+    """Shows each frame and entry in a line; long data may be folded."""
+
+    def __init__(self, paint, is_folded):
+        self._paint = paint
+        self._is_folded = is_folded
+        self._days = Days(paint)
         self._named = set()
 
     def take(self, block):
         """Answers the lines of the things of a block."""
         texts = "".join([text for _, _, text in block])
-        has_plain_texts = self._paint is unpainted and not any(sign in texts for sign in SIGNS)
+        has_plain_texts = self._paint is unpainted and not self._is_folded and not any(sign in texts for sign in SIGNS)
         lines, last, front, is_made_up = [], None, "", False
         for time, connection, text in block:
             if connection is not last:
@@ -153,16 +180,20 @@ class Lines:
                 text = text[:2] + text[PACKET_AT:]
             if not has_plain_texts:
                 text = self._text(text)
+            day, time = self._days.part(time)
+            lines += day
             lines.append(f"{time}{front}{text}" if time else f"{front[1:]}{text}")
         return lines
 
     def _text(self, text):
-        if text[0] in "!?":
+        if text.startswith(("!", "?")):
             return self._paint(RED, f"{text} {x25names.refusal(text)}".rstrip())
+        if x25lines.is_passed_over(text.encode()):
+            return self._paint(GREY, text)
         mark = RULE if RULE in text else NOTE if NOTE in text else None
         whole, _, remark = text.partition(mark) if mark else (text, "", "")
         said = x25names.words(whole)
-        shown = self._paint(colour_of(whole), whole)
+        shown = self._paint(colour_of(whole), LONG_DATA.sub(folded, whole) if self._is_folded else whole)
         if said:
             shown += self._paint(GREY, f"  ({said})")
         return shown + self._paint(RED if mark == RULE else GREY, mark + remark) if mark else shown
@@ -170,6 +201,11 @@ class Lines:
     def end(self):
         """Nothing is left at the end."""
         return []
+
+
+def folded(found):
+    """The beginning of some digits, and how many octets they are."""
+    return f"{found[0][:FOLDED]}..({len(found[0]) // 2} octets)"
 
 
 def colour_of(text):
@@ -191,25 +227,29 @@ class Joined:
     def __init__(self, paint, channel):
         self._paint = paint
         self._channel = channel
+        self._days = Days(paint)
         self._lines = {}
         self._last = {}
 
     def take(self, block):
         """Answers the lines of the messages that the frames of a block complete."""
-        return [line for it in block for line in self._taken(*it)]
-
-    def _taken(self, time, connection, text):
-        if text[0] in pcap2x25.OTHER:
-            if connection not in self._lines:
-                # Frames that were made up count from 0.
-                self._lines[connection] = Messages(0 if connection.is_made_up else None)
-            self._last[connection] = time
-            yield from self._rows(time, connection, self._lines[connection].take(text[0], text[2:]))
+        lines = []
+        for time, connection, text in block:
+            if text[:1] in pcap2x25.OTHER:
+                if connection not in self._lines:
+                    # Frames that were made up count from 0.
+                    self._lines[connection] = Messages(0 if connection.is_made_up else None)
+                self._last[connection] = time
+                if completed := self._lines[connection].take(text[0], text[2:]):
+                    lines += self._rows(time, connection, completed)
+        return lines
 
     def _rows(self, time, connection, messages):
         for message in messages:
             if self._channel is None or message.channel in (None, self._channel):
-                yield from self._row(lead(time, connection), message)
+                day, clock = self._days.part(time)
+                yield from day
+                yield from self._row(lead(clock, connection), message)
 
     def _row(self, before, message):
         where = "" if message.channel is None else f" ch={message.channel}" + (f" Q={message.q}" if message.q else "")
@@ -224,11 +264,14 @@ class Joined:
             yield from self._rows(self._last[connection], connection, line.end())
 
 
+AGAIN, OCTETS = "I frames out of order, or again", "octets of data"
+
+
 class Statistic:
     """Counts frames, packets and octets of data each way, by connection."""
 
     def __init__(self):
-        self._counts = {}
+        self._counts = defaultdict(Counter)
         self._names = {}
         self._due = {}
         self._times = []
@@ -240,38 +283,40 @@ class Statistic:
         return []
 
     def _count(self, time, connection, text):
-        direction = text[0]
+        direction = text[:1]
         if direction in pcap2x25.OTHER:
             self._names[connection.number] = connection.name
             self._times = [*self._times[:1], time]
             frame, _, packet = text[2:].partition(" | ")
+            counts = self._counts[connection.number]
             for kind in self._kinds(connection, direction, frame, packet):
-                counts = self._counts.setdefault((connection.number, kind), Counter())
-                counts[direction] += len(octets_of(packet.removesuffix(WIDE).rpartition("data=")[2])) if kind == "octets of data" else 1
+                counts[kind, direction] += 1
+            if packet.startswith("DATA "):
+                data = packet.rpartition("data=")[2].removesuffix(WIDE)
+                counts[OCTETS, direction] += len(data) // 2
 
     def _kinds(self, connection, direction, frame, packet):
-        """The rows in which a frame counts."""
-        kinds = [] if connection.is_made_up else [frame.split(" ")[0]]
-        kinds += [f"| {packet.split(' ')[0]}"] if packet else []
-        found = I_FRAME.fullmatch(f"{frame} | {packet}")
-        way = connection.number, direction
-        if frame.startswith(("SABM ", "UA ")):
+        """The rows in which a frame counts once."""
+        kinds = [] if connection.is_made_up else [frame.partition(" ")[0]]
+        if packet:
+            kinds.append(f"| {packet.partition(' ')[0]}")
+            if found := I_FRAME.match(f"{frame} | "):
+                way, number = (connection.number, direction), int(found[1])
+                if self._due.get(way, number) == number or connection.is_made_up:
+                    self._due[way] = (number + 1) % 8
+                else:
+                    kinds.append(AGAIN)
+        elif frame.startswith(("SABM ", "UA ")):
             self._due = {key: due for key, due in self._due.items() if key[0] != connection.number}
-        if found:
-            number = int(found[1])
-            if self._due.get(way, number) != number and not connection.is_made_up:
-                kinds.append("I frames out of order, or again")
-            else:
-                self._due[way] = (number + 1) % 8
-        return kinds + (["octets of data"] if packet.startswith("DATA ") else [])
+        return kinds
 
     def end(self):
         """Yields the lines of the statistic."""
         for connection, name in self._names.items():
             yield (f"connection {connection}: {name}" if name else "the trace").ljust(34) + f"{'>':>10}{'<':>10}"
-            for kind in sorted((kind for of, kind in self._counts if of == connection), key=_place):
-                counts = self._counts[connection, kind]
-                yield f"  {kind:32}{counts['>']:10}{counts['<']:10}"
+            counts = self._counts[connection]
+            for kind in sorted({kind for kind, _ in counts}, key=_place):
+                yield f"  {kind:32}{counts[kind, '>']:10}{counts[kind, '<']:10}"
         if self._times and self._times[0]:
             yield f"from {self._times[0]} to {self._times[-1]}"
 
@@ -308,6 +353,9 @@ def words():
     parser.add_argument("--k", type=int, choices=range(1, 8), default=7, help="the window that --judge goes by (7)")
     parser.add_argument("--long", action="store_true", help="a CALL may have 128 octets of user data, as with `decode --long`")
     parser.add_argument("--no-wide", dest="wide", action="store_false", help="read as `decode` does without `--wide`")
+    parser.add_argument("--epoch", action="store_true", help="show times as seconds, not as the time of the day")
+    parser.add_argument("--fold", action="store_true", default=sys.stdout.isatty(), help="show the beginning of long data and its length, as on a terminal")
+    parser.add_argument("--whole", dest="fold", action="store_false", help="show all digits of long data, also on a terminal")
     pcap2x25.add_capture_words(parser)
     parser.add_argument("--manners", action="store_true", help="with --judge: status 1 too where manners were broken")
     parser.add_argument("--strict", action="store_true", help="with --judge: status 1 too where a frame or a packet wasn't judged")
@@ -337,7 +385,7 @@ def main():
     with x25lines.opened(options.file) as file, asked(options) as decoder:
         reader = Reader(decoder, options)
         blocks = reader.shown(file)
-        view = Joined(paint, options.channel) if options.messages else Statistic() if options.stats else Lines(paint)
+        view = Joined(paint, options.channel) if options.messages else Statistic() if options.stats else Lines(paint, options.fold)
         if options.channel is not None and not options.messages:
             blocks = ([it for it in block if channel_of(it[2]) == options.channel] for block in blocks)
         show(view, blocks, sys.stdout)

@@ -1,15 +1,18 @@
 """Lines of a trace, as `x25 decode` reads them, and what the scripts of this folder share.
 
 A line is `> HEX` (from the DTE to the DCE) or `< HEX` (from the DCE to the DTE), the octets of a frame with its frame check
-sequence. A timed line has the time in seconds and a tab before that. docs/FORMATS.md describes both.
+sequence, perhaps with the time in seconds and a tab before that; or it is empty, or a comment, which begins with `#`. It may end
+with a carriage return. docs/FORMATS.md describes all these.
 """
 
 import binascii
+import functools
 import gzip
 import os
 import re
 import sys
 import zlib
+from time import localtime, strftime
 from typing import NamedTuple, Optional
 
 # Of a frame: 4,099 octets of information between address and control and the frame check sequence.
@@ -20,8 +23,11 @@ MOST_LINE = 2 + 2 * MOST_OCTETS
 # A time, a tab, a direction, a blank and the digits; what is longer is no line of a trace or a run.
 MOST_CHARACTERS = 131_264
 NANOSECONDS = 10**9
-# The latest time that a line can have.
+# The latest time that a line can have, and the first one that is taken for a date: others count from some moment of their own.
 MOST_TIME = 10**10 * NANOSECONDS - 1
+FIRST_DATE = 10**8 * NANOSECONDS
+# The characters of a date and the time of the day, in milliseconds.
+MOMENT = len("2026-03-02 10:15:02.000")
 GZIP = b"\x1f"
 # What is read at once.
 PIECE = 65_536
@@ -76,6 +82,25 @@ def seconds(nanoseconds):
     return f"{digits[:-9]}.{digits[-9:]}"
 
 
+@functools.lru_cache(maxsize=1)
+def _second(seconds_of):
+    """The date and the time of the day of a second, as the time zone of this machine has it."""
+    return strftime("%Y-%m-%d %H:%M:%S", localtime(seconds_of))
+
+
+def moment(nanoseconds):
+    """A time as a date and the time of the day, in milliseconds; as seconds where it is no date; None is written as nothing."""
+    if nanoseconds is None or nanoseconds < FIRST_DATE:
+        return seconds(nanoseconds)
+    whole, part = divmod(nanoseconds, NANOSECONDS)
+    return f"{_second(whole)}.{part // 1_000_000:03}"
+
+
+def is_passed_over(line):
+    """True for an empty line and for a comment."""
+    return not line or line[:1] == b"#"
+
+
 def timed(line):
     """Reads a line of a trace, given as octets without its line feed; answers its time in nanoseconds, None where it has none, and the line
     without it; or None where it is none."""
@@ -102,19 +127,20 @@ def pieces(file):
 
 
 def blocks_of_lines(file):
-    """Yields the lines of a binary file, each its octets without the line feed, in blocks: the number of the first, and those that are there
-    at once."""
+    """Yields the lines of a binary file, each its octets without the line feed, and the carriage return before it, in blocks: the number of the
+    first, and those that are there at once."""
     number, rest = 1, b""
     for octets in pieces(file):
-        *lines, rest = (rest + octets).split(b"\n")
+        text = rest + octets
+        *lines, rest = text.split(b"\n")
         # The others lie within the piece.
         if len(lines[0] if lines else rest) > MOST_CHARACTERS:
             raise BadInput(f"line {number} is longer than {MOST_CHARACTERS:,} characters")
         if lines:
-            yield number, lines
+            yield number, [line.removesuffix(b"\r") for line in lines] if b"\r" in text else lines
             number += len(lines)
     if rest:
-        yield number, [rest]
+        yield number, [rest.removesuffix(b"\r")]
 
 
 def lines_of(file):

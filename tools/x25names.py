@@ -80,6 +80,18 @@ REFUSALS = {
     60: "no such line",
     70: "no memory",
 }
+# Why a packet doesn't decode, and where that may be our limit.
+FAULTS = {
+    20: "packet too short",
+    21: "invalid general format identifier: modulo 128, which isn't read here, or no X.25",
+    22: "unidentifiable packet: also what sets up a permanent circuit in XOT, which isn't read here",
+    23: "packet too long",
+    24: "a digit over 9, or a filler that isn't 0",
+    25: "facility code not allowed",
+    26: "facility parameter not allowed: cut off or out of range",
+}
+# Frames that set up a link that isn't read here.
+EXTENDED = "asks for a link modulo 128, whose frames aren't read here"
 # The grounds of a FRMR, from the lowest bit of its third octet.
 GROUNDS = ("undefined control", "information that mustn't be there", "information too long", "invalid N(R)")
 
@@ -88,7 +100,8 @@ NUMBER_TYPES = {0: "network-dependent number", 1: "international number", 2: "na
 PLANS = {1: "E.164", 3: "X.121"}
 
 CAUSED = re.compile(r"(CLEAR|RESET|RESTART|cleared|wasreset|restarted)\b.* cause=(\d+)(?: diag=(\d+))?(?: |$)")
-DIAGNOSED = re.compile(r"(?:fault \S+|DIAG) diag=(\d+)(?: |$)")
+FAULTY = re.compile(r"fault (2\d) diag=\d+$")
+DIAGNOSED = re.compile(r"DIAG diag=(\d+)(?: |$)")
 EQUIPPED = re.compile(r" fac=((?:[0-9a-f]{2})+)(?: |$)")
 TYPED = re.compile(r" (called|calling)=([0-9a-f])/([0-9a-f])/")
 FRAME_REFUSED = re.compile(r"(?:[<>] )?FRMR .*why=([0-9a-f]{6})$")
@@ -120,8 +133,12 @@ def words(text):
     if "cause=" in text and (found := CAUSED.search(text)):
         said.append(_cause(CAUSES[found[1]], int(found[2])))
         said += [_diagnostic(int(found[3]))] if int(found[3] or 0) else []
+    elif "diag=" in text and (found := FAULTY.search(text)):
+        said.append(FAULTS[int(found[1])])
     elif "diag=" in text and (found := DIAGNOSED.search(text)):
         said.append(_diagnostic(int(found[1])))
+    elif "SABME cmd" in text:
+        said.append(EXTENDED)
     elif "why=" in text and (found := FRAME_REFUSED.match(text)):
         said.append(_grounds(bytes.fromhex(found[1])))
     if " A=1 " in text:

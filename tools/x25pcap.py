@@ -5,7 +5,7 @@
     x25 sim --tap < script | x25pcap.py -o run.pcapng
 
 Reads `> HEX` and `< HEX` lines, also with a time in seconds and a tab before them. The other lines of a run of `x25 sim --tap`
-(entries, `! N`, `? 60`) are passed over. A line without a time gets its number as milliseconds, so that it is found again.
+(entries, `! N`, `? 60`), empty lines and comments are passed over. A line without a time gets its number as milliseconds, so that it is found again.
 
 The link type is SITA (196) and not LAPB_WITH_DIR (207), which Wireshark 4.0 doesn't open; the direction stands in the flags
 of each packet, outbound being from the DTE to the DCE. The frame check sequence is cut off, as the dissector expects. A line
@@ -49,7 +49,7 @@ def convert(file, out):
             if frame is not None:
                 octets, flags = packet(frame)
                 writer.packet(octets, number * MILLISECOND if frame.time is None else frame.time, flags)
-            elif not (x25lines.ENTRY_LINE.fullmatch(line) or x25lines.REFUSAL_LINE.fullmatch(line)):
+            elif not (x25lines.is_passed_over(line) or x25lines.ENTRY_LINE.fullmatch(line) or x25lines.REFUSAL_LINE.fullmatch(line)):
                 raise BadInput(f"line {number} is no line of a trace or a run: {x25lines.shown(line)}")
         out.flush()
 

@@ -400,7 +400,8 @@ class Pieces(unittest.TestCase):
     def test_lines(self):
         whole = b"> 013febdf\n\n< 01738357\nno line feed"
         for count in (1, 2, 5, 1000):
-            self.assertEqual(list(x25lines.lines_of(Dribble(whole, count))), list(enumerate(whole.split(b"\n"), 1)))
+            for file in (whole, whole.replace(b"\n", b"\r\n")):
+                self.assertEqual(list(x25lines.lines_of(Dribble(file, count))), list(enumerate(whole.split(b"\n"), 1)))
 
     def test_a_line_that_is_too_long_is_told_behind_those_before_it(self):
         read = []
@@ -508,7 +509,7 @@ class Hostile(ToolCase):
             self.assert_refused(support.run(script, self.folder), "Is a directory")
 
     def test_lines_that_are_none(self):
-        for line in (b"x", b"> 0", b"> 013febdf\r", b"", b">013febdf", b"> " + b"00" * 4104, b"1.5 > 013febdf", b"99999999999\t> 013febdf", b"\xff\xfe\x00"):
+        for line in (b"x", b"> 0", b"> 013febdf\r\r", b" ", b">013febdf", b"> " + b"00" * 4104, b"1.5 > 013febdf", b"99999999999\t> 013febdf", b"\xff\xfe\x00"):
             with self.subTest(line[:20]):
                 self.assert_refused(support.run("x25pcap.py", given=SET_UP + line + b"\n"), "line 3 is no line of a trace")
 

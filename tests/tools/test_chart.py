@@ -168,12 +168,12 @@ class Charts(ToolCase):
 
 class Refused(ToolCase):
     def test_lines_that_are_none(self):
-        for line in (b"", b"x", b"> 0", b"> what", b"dte", b"> SABM cmd P=1\r", b"\xff\xfe", b"! x", b"dte \x1b[2J"):
+        for line in (b"x", b"> 0", b"> what", b"dte", b"> SABM cmd P=1\r\r", b"\xff\xfe", b"! x", b"dte \x1b[2J"):
             with self.subTest(line):
                 self.assert_refused(support.run("chart.py", given=DECODED + line + b"\n"), "line 6 is no line of decode")
 
     def test_scripts_that_are_none(self):
-        for line in (b"", b"drain 0", b"deliver", b"# comment"):
+        for line in (b"drain 0", b"deliver", b" # comment"):
             with self.subTest(line):
                 self.assert_refused(support.run("chart.py", "--script", "--x25", FAKE, given=b"deliver >\n" + line + b"\n"), "line 2 of the script is no event")
         many = b"drain 65535\n" * 4

@@ -79,7 +79,10 @@ class Names(unittest.TestCase):
 
     def test_numbers_without_a_name_are_told(self):
         self.assertEqual(x25names.words("I cmd P=0 S=0 R=0 | RESET ch=1 cause=99 diag=250"), "cause 99; diagnostic 250")
-        self.assertEqual(x25names.words("I cmd P=0 S=0 R=0 | fault 21 diag=40"), "invalid general format identifier")
+        self.assertIn("modulo 128, which isn't read here", x25names.words("I cmd P=0 S=0 R=0 | fault 21 diag=40"))
+        self.assertIn("permanent circuit", x25names.words("I cmd P=0 S=0 R=0 | fault 22 diag=33"))
+        self.assertIn("a digit over 9", x25names.words("I cmd P=0 S=0 R=0 | fault 24 diag=0"))
+        self.assertIn("modulo 128", x25names.words("SABME cmd P=1"))
         self.assertEqual(x25names.words("SABM cmd P=1"), "")
 
     def test_numbers_in_other_forms(self):
@@ -169,6 +172,29 @@ class Dump(ToolCase):
     def test_decoded_lines_with_names(self):
         self.assertEqual(self.dump(DECODED, status=1), SHOWN)
         self.assertEqual(self.dump(gzip.compress(DECODED), status=1), SHOWN)
+
+    def test_comments_empty_lines_and_lines_of_another_system(self):
+        given = b"# made by hand\n\n> SABM cmd P=1\n# \xc3\xa4\n"
+        self.assertEqual(self.dump(given), given.decode())
+        self.assertEqual(self.dump(given.replace(b"\n", b"\r\n")), given.decode())
+        self.assertEqual(self.dump(given, "--messages"), "")
+
+    @support.needs_program
+    def test_times_of_the_day(self):
+        given = b"".join(b"%d.25\t> 013febdf\n" % (86_400 * day) for day in (20_000, 20_000, 20_001))
+        environment = {**os.environ, "TZ": "UTC"}
+        for words, shown in (
+            ([], "2024-10-04\n00:00:00.250 > SABM cmd P=1\n00:00:00.250 > SABM cmd P=1\n2024-10-05\n00:00:00.250 > SABM cmd P=1\n"),
+            (["--epoch"], "".join(f"{86_400 * day}.250000000 > SABM cmd P=1\n" for day in (20_000, 20_000, 20_001))),
+        ):
+            command = [sys.executable, os.path.join(support.TOOLS, "x25dump.py"), "--x25", support.PROGRAM, *words]
+            self.assertEqual(subprocess.run(command, input=given, capture_output=True, env=environment, timeout=60).stdout.decode(), shown)
+
+    def test_long_data_is_folded(self):
+        given = f"> {data(0, 'x' * 32)}\n> {data(1, 'x' * 33)}\n".encode()
+        self.assertEqual(self.dump(given), given.decode())
+        self.assertEqual(self.dump(given, "--fold"), given.decode().replace("78" * 33, "78" * 24 + "..(33 octets)"))
+        self.assertEqual(self.dump(given, "--fold", "--whole"), given.decode())
 
     def test_one_channel(self):
         self.assertEqual(self.dump(DECODED, "--channel", "7", status=1), "".join(SHOWN.splitlines(True)[2:4]))

@@ -60,6 +60,28 @@ class Scripts(unittest.TestCase):
                 self.assertEqual(done.returncode, 0)
 
 
+# What the DCE's user does in the capture, behind so many lines of it.
+OF_THE_USER = {8: "dce accept 1"}
+
+
+class Capture(support.ToolCase):
+    @support.needs_program
+    def test_a_station_is_the_network_of_the_capture(self):
+        """It answers the DTE's frames by those of the capture; that some come later there is what a line does."""
+        trace = support.run("pcap2x25.py", os.path.join(EXAMPLES, "line.pcapng")).stdout.decode().splitlines()
+        given = []
+        for number, line in enumerate(trace):
+            given += [OF_THE_USER[number]] if number in OF_THE_USER else []
+            given += [line] if line[0] == ">" else []
+        done = subprocess.run([support.PROGRAM, "station", "dce"], input="\n".join([*given, ""]), capture_output=True, text=True, timeout=60)
+        self.assertEqual([line for line in done.stdout.splitlines() if line[0] == "<"], [line for line in trace if line[0] == "<"])
+
+    def test_it_is_a_capture_of_its_lines(self):
+        path = os.path.join(EXAMPLES, "line.pcapng")
+        timed = support.run("pcap2x25.py", "--time", path).stdout
+        self.assertEqual(support.run("x25pcap.py", given=timed).stdout, support.read(path))
+
+
 class Traces(unittest.TestCase):
     @support.needs_program
     def test_each_went_over_the_line_without_fault(self):

@@ -8,6 +8,7 @@ import shutil
 import subprocess
 import sys
 import unittest
+from glob import glob
 
 import support
 from support import ToolCase
@@ -106,6 +107,24 @@ class Installed(ToolCase):
         self.assertEqual(make("uninstall", *self.words).returncode, 0)
         left = [name for _, _, names in os.walk(self.folder) for name in names]
         self.assertEqual(left, [])
+
+    def test_the_archive_for_people_without_the_kit(self):
+        self.assertEqual(make("dist-binary", f"PROGRAM={support.PROGRAM}", "LIBRARY=none", f"ARCHIVES={self.folder}").returncode, 0)
+        archive, = glob(f"{self.folder}/x25-*-linux-*.tar.gz")
+        subprocess.run(["tar", "-C", self.folder, "-xzf", archive], check=True)
+        there = archive.removesuffix(".tar.gz")
+        check = support.read(f"{there}/CHECK.txt").decode()
+        commands = re.findall("^  (sha256sum .*|bin/x25 vectors)$", check, re.MULTILINE)
+        self.assertEqual(len(commands), 2)
+        whole, vectors = (subprocess.run(["bash", "-c", command], cwd=there, capture_output=True, text=True, timeout=60) for command in commands)
+        self.assertEqual((whole.stdout, whole.stderr), ("whole\n", ""))
+        self.assertEqual(len(re.findall(r" ok$", vectors.stdout, re.MULTILINE)), 17)
+        self.assertIn("17 lines", check)
+        shown = subprocess.run([f"{there}/bin/x25dump", f"{there}/share/doc/x25/examples/line.pcapng"], env={"PATH": os.environ["PATH"]}, capture_output=True, text=True, timeout=60)
+        self.assertIn("RESET ch=1 cause=5 diag=1", shown.stdout)
+        with open(f"{there}/bin/x25", "ab") as program:
+            program.write(b"more")
+        self.assertNotEqual(subprocess.run(["bash", "-c", commands[0]], cwd=there, capture_output=True, timeout=60).returncode, 0)
 
     def test_the_sources_bear_the_version_of_the_program(self):
         said = subprocess.run([support.PROGRAM, "--version"], capture_output=True, text=True, timeout=60).stdout.strip()

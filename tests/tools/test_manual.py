@@ -5,6 +5,8 @@ A command goes on behind a line that ends with a bar or a backslash.
 
 import os
 import re
+import shutil
+import socket
 import subprocess
 import sys
 import unittest
@@ -32,15 +34,46 @@ class Examples(ToolCase):
         programs = os.path.join(self.folder, "build")
         os.mkdir(programs)
         os.symlink(support.PROGRAM, os.path.join(programs, "x25"))
-        self.environment = {**os.environ, "PATH": f"{programs}:{os.environ['PATH']}", "LC_ALL": "C", "PYTHONDONTWRITEBYTECODE": "1"}
+        self.environment = {**os.environ, "PATH": f"{programs}:{os.environ['PATH']}", "LC_ALL": "C", "TZ": "UTC", "PYTHONDONTWRITEBYTECODE": "1"}
 
     def test_each_example_writes_what_stands_below_it(self):
-        for document in DOCUMENTS:
-            for command, output in examples(document):
-                with self.subTest(document=document, command=command):
-                    done = subprocess.run(["bash", "-c", command], cwd=self.folder, env=self.environment, capture_output=True, text=True, timeout=60)
-                    self.assertEqual((done.stdout, done.stderr), (output, ""))
+        for command, output in examples("docs/MANUAL.md"):
+            with self.subTest(command):
+                done = subprocess.run(["bash", "-c", command], cwd=self.folder, env=self.environment, capture_output=True, text=True, timeout=60)
+                self.assertEqual((done.stdout, done.stderr), (output, ""))
         self.assertEqual(sorted(os.listdir(self.folder)), ["build", "examples", "tools"])
+
+    def test_the_commands_of_the_first_page_run_behind_make_look(self):
+        """With nothing but what that leaves: no x25 on the PATH, and scripts that say that theirs is unproved."""
+        os.unlink(f"{self.folder}/tools")
+        shutil.copytree(support.TOOLS, f"{self.folder}/tools", ignore=shutil.ignore_patterns("__pycache__"))
+        os.rename(f"{self.folder}/build/x25", f"{self.folder}/build/x25-unproved")
+        environment = {**self.environment, "PATH": os.environ["PATH"], "X25": ""}
+        commands = examples("README.md")
+        self.assertGreaterEqual(len(commands), 4)
+        for command, output in commands:
+            with self.subTest(command):
+                done = subprocess.run(["bash", "-c", command], cwd=self.folder, env=environment, capture_output=True, text=True, timeout=60)
+                self.assertEqual(done.stdout, output)
+                self.assertRegex(done.stderr, r"^(\w+\.py: \S+/build/x25-unproved is unproved .*\n)?$")
+
+    def test_two_stations_of_the_first_page_talk_to_each_other(self):
+        """The two commands for two shells, at another port."""
+        text = support.read("README.md").decode()
+        lines = re.search(r"^    printf 'wait dce incoming(?:.*\n    )*.*localhost:7000\n", text, re.MULTILINE)[0]
+        with socket.socket() as free:
+            free.bind(("127.0.0.1", 0))
+            port = free.getsockname()[1]
+        listens, calls = re.sub("^    ", "", lines, flags=re.MULTILINE).replace("7000", str(port)).split("\n", 1)
+        environment = {**self.environment, "X25": support.PROGRAM}
+        how = {"cwd": self.folder, "env": environment, "stdout": subprocess.PIPE, "stderr": subprocess.STDOUT, "text": True}
+        with subprocess.Popen(["bash", "-c", listens], **how) as called:
+            self.assertIn("listening", called.stdout.readline())
+            calling = subprocess.run(["bash", "-c", calls], timeout=60, **how)
+            told = called.communicate(timeout=60)[0]
+        self.assertEqual((called.returncode, calling.returncode), (0, 0))
+        self.assertIn("dce accept ch=1", told)
+        self.assertIn("dte connected ch=1", calling.stdout)
 
     def test_the_program_in_python(self):
         text = support.read("docs/MANUAL.md").decode()
