@@ -83,7 +83,7 @@ class English(unittest.TestCase):
     DOCUMENTS = ("ARCHITECTURE", "BUGS", "CIRCUIT", "DECISIONS", "FORMATS", "INTEROP", "LINK", "MANUAL", "PERFORMANCE", "PROVING", "READING", "WALK")
 
     def texts(self):
-        for document in ("CONTRIBUTING.md", "CHANGELOG.md", *(f"docs/{name}.md" for name in self.DOCUMENTS)):
+        for document in ("CONTRIBUTING.md", "CHANGELOG.md", "interop/README.md", *(f"docs/{name}.md" for name in self.DOCUMENTS)):
             yield document, re.sub(r"^## What `judge` writes\n(?:.*\n)*?(?=## )", "", text_of(document), flags=re.MULTILINE)
 
     def test_sentences_have_few_words(self):
