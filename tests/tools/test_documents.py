@@ -96,7 +96,7 @@ class English(unittest.TestCase):
     def test_what_comes_later_comes_after(self):
         for document, text in self.texts():
             with self.subTest(document):
-                self.assertEqual(re.findall(r"[^.\n]*(?<!')\bbehind\b(?! a pipe)[^.\n]*", re.sub("`[^`]*`", "", text)), [])
+                self.assertEqual(re.findall(r"[^.\n]*(?<!')\b[Bb]ehind\b(?! a pipe)[^.\n]*", re.sub("`[^`]*`", "", text)), [])
 
 
 class Names(unittest.TestCase):
