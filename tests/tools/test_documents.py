@@ -78,9 +78,9 @@ class Form(unittest.TestCase):
 
 
 class English(unittest.TestCase):
-    """Sentences are short, and 'behind' is no word of time. PEER, PROOFS, THEORY, README and the crates' own aren't measured, nor FORMATS on the judge."""
+    """Sentences are short, and 'behind' is no word of time. PEER, PROOFS, README and the crates' own aren't measured, nor FORMATS on the judge."""
 
-    DOCUMENTS = ("ARCHITECTURE", "BUGS", "CIRCUIT", "DECISIONS", "FORMATS", "INTEROP", "LINK", "MANUAL", "PERFORMANCE", "PROVING", "READING", "WALK")
+    DOCUMENTS = ("ARCHITECTURE", "BUGS", "CIRCUIT", "DECISIONS", "FORMATS", "INTEROP", "LINK", "MANUAL", "PERFORMANCE", "PROVING", "READING", "THEORY", "WALK")
 
     def texts(self):
         for document in ("CONTRIBUTING.md", "CHANGELOG.md", "interop/README.md", *(f"docs/{name}.md" for name in self.DOCUMENTS)):
