@@ -94,6 +94,7 @@ golden: build/x25
 
 judge-runs: build/x25
 	python3 tests/judge_runs.py --program build/x25
+	python3 tests/tap_runs.py --program build/x25
 	python3 tests/odd_runs.py --program build/x25
 	python3 tests/link_runs.py --program build/x25
 	python3 tests/order_runs.py --program build/x25
