@@ -70,8 +70,8 @@ pub fn any_peer_keeps_stations_over_sessions()
     notes_what_changes();
 }
 
-/// Worked rows of that: SABM is lost, and goes again at a firing of T1; UA is damaged, so that the peer's second session
-/// meets the station's first one; a peer leaves its session, and asks for the next one.
+/// Worked rows of that: SABM is lost, and goes again at a firing of T1; UA is damaged, so that the peer's second
+/// session meets the station's first one; a peer leaves its session, and asks for the next one.
 pub fn stations_move_beside_peers()
     ensures lost { LostSabmGoesAgain }
     ensures damaged { DamagedUaIsMissing }
