@@ -1,4 +1,3 @@
-pub mod LinkPart
 pub mod LayerPart
-pub mod BesideRuns
+pub mod ReadLemmas
 pub mod sessions

@@ -6,4 +6,4 @@
 
 mod law;
 
-pub use law::{any_peer_keeps_stations, any_peer_keeps_stations_over_sessions};
+pub use law::any_peer_keeps_stations_over_sessions;
