@@ -26,7 +26,6 @@ pub mod CallKindLemmas
 pub mod LawLemmas
 pub mod ArrivalLemmas
 pub mod DrainedLemmas
-mod CallRun
 pub mod PeerRelation
 pub mod PeerActs
 pub mod PeerDeeds

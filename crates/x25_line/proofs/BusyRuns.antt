@@ -12,18 +12,18 @@ use Rattle.x25_link.specs.laws.RestLaw.{IsAtRest}
 use Rattle.x25_link.specs.laws.AnswerLaw.{says}
 use Rattle.x25_link.specs.laws.BusyLaw.{BusyLaws}
 use Rattle.x25_link.proofs.EndLemmas.{busy_is}
-use Rattle.x25_line.specs.laws.Stations.{StationEnd, Stations, Act, T1, Event, Near, Far, acts, swapped, happens, run, start}
+use Rattle.x25_line.specs.laws.Stations.{StationEnd, Stations, Act, T1, Event, Near, Far, acts, swapped, run}
 use Rattle.x25_line.specs.laws.StationClaims.{AreJoined, IsSetUpOnce}
-use Rattle.x25_line.specs.Healing.{IsDrained, IsDeliver, AreDeliveries, IsHealed, HasTries, OneIsFree, OneBusyHeals, SomeBusyHeal, HealsUnlessBothBusy}
+use Rattle.x25_line.specs.Healing.{IsDeliver, AreDeliveries, OneIsFree}
 use Rattle.x25_line.specs.laws.LawsBelow.{HealingLaws}
+use Rattle.x25_line.proofs.HealingOnce.{IsDrained, IsHealed, HasTries}
 use Rattle.x25_line.proofs.StationSteps.{not_both}
 use Rattle.x25_line.proofs.StationRuns.{joined_swapped}
 use Rattle.x25_line.proofs.HealingLines.{Reads, reads_none, Reports, one_frame, not_behind}
 use Rattle.x25_line.proofs.HealingSteps.{Sound, sound_swapped, near_up, counted, deliver_is}
 use Rattle.x25_line.proofs.HealingResent.{resent_rests}
-use Rattle.x25_line.proofs.HealingRuns.{reached_sound, arrives, shows_at_rest, refused, SentPoll, sends_poll}
-use Rattle.x25_line.proofs.HealingEnds.{after_firings, quiet_ends}
-use Rattle.x25_line.proofs.DrainRuns.{some_drain}
+use Rattle.x25_line.proofs.HealingRuns.{arrives, shows_at_rest, refused, SentPoll, sends_poll}
+use Rattle.x25_line.proofs.HealingEnds.{after_firings}
 use Rattle.x25_line.proofs.BusyLines.{AtMostAsks, hears_busy, Told}
 use Rattle.x25_line.proofs.BusyPhases.{Pair, pair_swapped, Heals, near_heals, far_heals, ups}
 
@@ -267,32 +267,3 @@ module _ (reads : ReadsSpelled) (laws : HealingLaws) (busy_laws : BusyLaws) wher
         far = record { rest = rest.1; arrived = arrives d c twisted reads laws (swapped v) h.1.0.sound h.1.0.near_on rest.1 };
         once = record { near = h.0.0.sound.joint.near_notes.once; far = h.0.0.sound.joint.far_notes.once };
       }
-
-  pub one_busy_heals : OneBusyHeals
-  one_busy_heals c d joined events quiet near_may far_may free es are after =
-      let w : Stations = run c d events start in
-      let s = settled c d joined w (reached_sound laws reads c d joined events quiet.once) quiet.drained near_may far_may free es are after in
-      (s.near, s.far)
-
-  run_append : (c d : Settings) (es fs : List Event) (w : Stations) → run c d (es ++ fs) w ≡ run c d fs (run c d es w)
-  run_append c d [] fs w = refl
-  run_append c d (e ∷ es) fs w = run_append c d es fs (happens c d e w)
-
-  -- the line drains from there, as it does from every world
-  pub some_busy_heal : SomeBusyHeal
-  some_busy_heal c d joined events quiet near_may far_may free =
-      let w : Stations = run c d events start in
-      let some = some_drain reads laws c d joined (events ++ Near T1 ∷ Far T1 ∷ []) in
-      let v : Stations = after_firings c d w in
-      let same : run c d (events ++ Near T1 ∷ Far T1 ∷ []) start ≡ v = run_append c d events (Near T1 ∷ Far T1 ∷ []) start in
-      let after : IsDrained (run c d some.0 v) = subst (λ (z : Stations). IsDrained (run c d some.0 z)) same some.2 in
-      let healed = one_busy_heals c d joined events quiet near_may far_may free some.0 some.1 after in
-      (some.0, some.1, (after, healed.0, healed.1))
-
-  -- whatever the ends are
-  pub heals_unless_both_busy : HealsUnlessBothBusy
-  heals_unless_both_busy c d joined events quiet free es are after =
-      let w : Stations = run c d events start in
-      let heal = λ (near : HasTries c w.near). λ (far : HasTries d w.far). one_busy_heals c d joined events quiet near far free es are after in
-      let each = quiet_ends reads laws c d joined events quiet es are after (λ near far. (inl (heal near far).0.rest, inl (heal near far).1.rest)) in
-      record { near = each.0; far = each.1; healed = heal }

@@ -1,18 +1,24 @@
 -- One busy end, over set-up and re-set-up.
-use Rattle.std.proofs.Common.{◌≡◌, ◌<◌, inl, inr, true, sym, ap, ◌∙◌, subst}
+use Rattle.std.proofs.Common.{◌≡◌, ◌<◌, ◌⊎◌, List, [], ◌∷◌, inl, inr, true, sym, ap, ◌∙◌, subst}
 use Rattle.x25_frame.specs.laws.ReadingLaw.{ReadsSpelled}
-use Rattle.x25_link.specs.Station.{LinkStation, is_up, is_busy}
+use Rattle.x25_link.specs.Station.{Settings, LinkStation, is_up, is_busy}
 use Rattle.x25_link.specs.Link.{timer_runs}
 use Rattle.x25_link.specs.laws.BusyLaw.{BusyLaws}
-use Rattle.x25_line.specs.laws.Sessions.{Sessions, run}
-use Rattle.x25_line.specs.Healing.{HasTries, SessionHasTries, OneIsFree, SessionsHealBusy, SessionsHealUnlessBothBusy}
+use Rattle.x25_line.specs.laws.Stations.{T1, Event, Near, Far}
+use Rattle.x25_line.specs.laws.StationClaims.{AreJoined}
+use Rattle.x25_line.specs.laws.Sessions.{Sessions, from_nothing, from_set_up, AreTimely, run}
+use Rattle.x25_line.specs.Healing.{AreDeliveries, SessionHasTries, OneIsFree, SessionsAreHealed, SessionsHealUnlessBothBusy}
 use Rattle.x25_line.specs.laws.LawsBelow.{HealingLaws}
+use Rattle.x25_line.proofs.HealingOnce.{HasTries}
 use Rattle.x25_line.proofs.HealingStands.{sessions_rest}
 use Rattle.x25_line.proofs.HealingSessionEnds.{session_ends}
 use Rattle.x25_line.proofs.BusyRuns.{settled}
 
 module _ (reads : ReadsSpelled) (laws : HealingLaws) (busy_laws : BusyLaws) where
-  pub sessions_heal_busy : SessionsHealBusy
+  -- both have tries left
+  sessions_heal_busy : (c d : Settings) → AreJoined c d → (begin : Sessions) → (begin ≡ from_nothing) ⊎ (begin ≡ from_set_up) → (events : List Event) → AreTimely c d events begin
+      → (let w = run c d events begin in w.out ≡ [] → w.back ≡ [] → SessionHasTries c w.near → SessionHasTries d w.far → OneIsFree w.near.station w.far.station
+      → (deliveries : List Event) → AreDeliveries deliveries → (let v = run c d (Near T1 ∷ Far T1 ∷ deliveries) w in v.out ≡ [] → v.back ≡ [] → SessionsAreHealed w v))
   sessions_heal_busy c d joined begin is events timely no_out no_back near_may far_may free es are out_after back_after =
       sessions_rest reads laws c d joined begin is events timely no_out no_back near_may.up far_may.up es are out_after back_after (λ v sound drained alike after.
       let near_tries : HasTries c v.near = record {

@@ -17,14 +17,15 @@ use Rattle.x25_link.specs.Station.{Settings, LinkStation, Side, is_up, is_busy, 
 use Rattle.x25_link.specs.Hearing.{Step, quiet, leaves, other}
 use Rattle.x25_link.specs.Link.{alone, puts, fires, asks_again, connects, disconnects, take_step, put_step, timer_step, connect_step, disconnect_step, abandon_step, put_refusal, timer_refusal, connect_refusal, disconnect_refusal}
 use Rattle.x25_link.specs.laws.LinkLaws.{ended_lists}
-use Rattle.x25_line.specs.laws.Stations.{StationEnd, Stations, Act, Put, Deliver, T1, Connect, Disconnect, Abandon, Lose, Damage, Event, Near, Far, after_step, unless, delivered, is_visible, replaced, acts, swapped, happens, run, start}
+use Rattle.x25_line.specs.laws.Stations.{StationEnd, Stations, Act, Put, Deliver, T1, Connect, Disconnect, Abandon, Lose, Damage, Event, Near, Far, after_step, unless, delivered, is_visible, replaced, acts, swapped, happens, run}
 use Rattle.x25_line.specs.laws.StationClaims.{AreJoined}
-use Rattle.x25_line.specs.Healing.{IsDrained, IsDeliver, AreDeliveries, EachFinds, DrainsEnd, SomeDrain}
+use Rattle.x25_line.specs.Healing.{IsDeliver, AreDeliveries}
 use Rattle.x25_line.specs.laws.LawsBelow.{HealingLaws}
+use Rattle.x25_line.proofs.HealingOnce.{IsDrained, EachFinds}
 use Rattle.x25_line.proofs.StationSends.{AllWithin, within_push}
 use Rattle.x25_line.proofs.StationRuns.{joined_swapped}
 use Rattle.x25_line.proofs.StationEvents.{each_hands_one}
-use Rattle.x25_line.proofs.HealingRuns.{BothSaid, said_run, fresh_said}
+use Rattle.x25_line.proofs.HealingRuns.{BothSaid, said_run}
 use Rattle.x25_line.proofs.HealingSteps.{deliver_is}
 use Rattle.x25_line.proofs.DrainWeights.{more_if, times, times_more, seven_times, read_weight, weights, to_take, station_weight, AreSpelled}
 use Rattle.x25_line.proofs.DrainSteps.{changes, asks_in, read_weight_some, GoesOn, Changes, Took, took}
@@ -374,10 +375,6 @@ module _ (laws : HealingLaws) (c d : Settings) (joined : AreJoined c d) where
       let more = said_run laws c d joined (e ∷ []) w said in
       fit_run es (happens c d e w) more (fit_event e w fit more.0.low more.1.low)
 
-  pub reached_fit : (events : List Event) → Fit c d (run c d events start)
-  reached_fit events =
-      fit_run events start (fresh_said laws c.window, fresh_said laws d.window) (record { near_place = omega arith; far_place = omega arith; near_within = tt; far_within = tt })
-
 -- ---- the laws
 
 abbrev pub back_of : Stations → ℕ
@@ -385,14 +382,3 @@ back_of w = 4 * (length w.near.station.outgoing.given + length w.far.station.out
 
 pub enough_for : (w : Stations) → Enough (back_of w) w
 enough_for w = record { near = omega arith; far = omega arith }
-
-pub drains_end : ReadsSpelled → HealingLaws → DrainsEnd
-drains_end reads laws c d joined events =
-    let w : Stations = run c d events start in
-    (at_most (back_of w) c d w, λ es are finds. count reads c d joined (back_of w) es w are (reached_fit laws c d joined events) (enough_for w) finds)
-
-pub some_drain : ReadsSpelled → HealingLaws → SomeDrain
-some_drain reads laws c d joined events =
-    let w : Stations = run c d events start in
-    let r = drains reads c d joined (back_of w) (at_most (back_of w) c d w) w (reached_fit laws c d joined events) (enough_for w) (omega arith) in
-    (r.deliveries, r.are, r.drained)

@@ -7,8 +7,9 @@ use Rattle.x25_line.specs.laws.Stations as one
 use Rattle.x25_line.specs.laws.Sessions.{Entry, Sessions, from_nothing, from_set_up, acts, swapped, run}
 use Rattle.x25_line.specs.laws.StationClaims.{AreJoined}
 use Rattle.x25_line.specs.laws.SessionClaims.{octets_of, AreStationsOf}
-use Rattle.x25_line.specs.Healing.{EachFinds, EachFindsIn, SessionsDrainEnd, SomeSessionsDrain}
+use Rattle.x25_line.specs.Healing.{EachFindsIn, SessionsDrainEnd, SomeSessionsDrain}
 use Rattle.x25_line.specs.laws.LawsBelow.{HealingLaws}
+use Rattle.x25_line.proofs.HealingOnce.{EachFinds}
 use Rattle.x25_line.proofs.sessions.SessionsForgotten.{sessions_are_links, set_up_is_the_start}
 use Rattle.x25_line.proofs.HealingRuns.{BothSaid, fresh_said}
 use Rattle.x25_line.proofs.HealingSessions.{both_down, nothing_alike, down_said}

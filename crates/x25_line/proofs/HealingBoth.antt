@@ -6,15 +6,15 @@ use Rattle.x25_link.specs.Station.{Settings, is_up, is_busy}
 use Rattle.x25_link.specs.Hearing.{other}
 use Rattle.x25_link.specs.Link.{timer_runs}
 use Rattle.x25_link.specs.laws.RestLaw.{IsAtRest}
-use Rattle.x25_line.specs.laws.Stations.{StationEnd, Stations, Act, T1, Event, Near, Far, acts, swapped, run, start}
+use Rattle.x25_line.specs.laws.Stations.{StationEnd, Stations, Act, T1, acts, swapped}
 use Rattle.x25_line.specs.laws.StationClaims.{AreJoined}
-use Rattle.x25_line.specs.Healing.{IsDrained, IsDeliver, AreDeliveries, RestShows, MayHeal, IsHealed, OneHeals, OneFiringHeals, FarFiringHeals, OneFiringEnds, TwoFiringsHeal, BothFiringsHeal}
+use Rattle.x25_line.specs.Healing.{IsDeliver}
 use Rattle.x25_line.specs.laws.LawsBelow.{HealingLaws}
-use Rattle.x25_line.proofs.StationSteps.{not_both}
+use Rattle.x25_line.proofs.HealingOnce.{IsDrained, MayHeal, IsHealed}
 use Rattle.x25_line.proofs.StationRuns.{joined_swapped}
 use Rattle.x25_line.proofs.HealingLines.{Reads, Reports}
 use Rattle.x25_line.proofs.HealingSteps.{Sound, sound_swapped, near_up, counted}
-use Rattle.x25_line.proofs.HealingRuns.{reached_sound, arrives, shows_at_rest, refused, Fired, fires, near_event, far_event, settles, Round, one_round, ends, flip, flip_all, flip_run}
+use Rattle.x25_line.proofs.HealingRuns.{arrives, shows_at_rest, refused, Fired, fires, near_event, far_event, settles}
 use Rattle.x25_line.proofs.HealingPhases.{Heals}
 
 -- ---- both ends fire before anything comes
@@ -28,11 +28,6 @@ module _ (c d : Settings) (joined : AreJoined c d) (reads : ReadsSpelled) (laws 
 
   pub both_far : (m n : ℕ) (a : Act) (w : Stations) → IsDeliver a → HealsBoth m n w → HealsBoth m n (swapped (acts d a (swapped w)))
   both_far m n a w is h = (far_event c d joined reads laws m ⊥ a w is h.0, near_event d c (joined_swapped c d joined) reads laws n ⊥ a (swapped w) is h.1)
-
-  pub both_run : (m n : ℕ) (es : List Event) (w : Stations) → AreDeliveries es → HealsBoth m n w → HealsBoth m n (run c d es w)
-  both_run m n [] w are h = h
-  both_run m n (Near a ∷ es) w are h = both_run m n es (acts c a w) are.1 (both_near m n a w are.0 h)
-  both_run m n (Far a ∷ es) w are h = both_run m n es (swapped (acts d a (swapped w))) are.1 (both_far m n a w are.0 h)
 
   -- what the two polls leave, seen from the near end
   asked_at : (v : Stations) → Sound c d v → is_up v.near.station.phase ≡ true → is_busy v.near.station ≡ false → is_up v.far.station.phase ≡ true → is_busy v.far.station ≡ false → v.near.station.recovery ≡ true
@@ -130,60 +125,6 @@ module _ (c d : Settings) (joined : AreJoined c d) (reads : ReadsSpelled) (laws 
 -- ---- the laws
 
 module _ (reads : ReadsSpelled) (laws : HealingLaws) where
-  pub rest_shows : RestShows
-  rest_shows c d joined events once =
-      let w : Stations = run c d events start in
-      let sound = reached_sound laws reads c d joined events once in
-      (shows_at_rest c d joined reads laws w sound, shows_at_rest d c (joined_swapped c d joined) reads laws (swapped w) (sound_swapped c d joined w sound))
-
-  pub one_firing_heals : OneFiringHeals
-  one_firing_heals c d joined events quiet may far_on far_free es are after =
-      let w : Stations = run c d events start in
-      (one_round c d joined reads laws w (reached_sound laws reads c d joined events quiet.once) quiet.drained may far_on far_free es are after).heals
-
-  pub one_firing_ends : OneFiringEnds
-  one_firing_ends c d joined events quiet up running none es are =
-      let w : Stations = run c d events start in
-      ends c d joined reads laws w (reached_sound laws reads c d joined events quiet.once) quiet.drained up running none es are
-
-  -- a round of the far end
-  far_round : (c d : Settings) (joined : AreJoined c d) (w : Stations) → Sound c d w → IsDrained w → MayHeal d w.far → is_up w.near.station.phase ≡ true → is_busy w.near.station ≡ false
-      → (es : List Event) → AreDeliveries es → IsDrained (run c d es (swapped (acts d T1 (swapped w))))
-      → Round d c (joined_swapped c d joined) reads laws (swapped w) (swapped (run c d es (swapped (acts d T1 (swapped w)))))
-  far_round c d joined w h drained may near_on near_free es are after =
-      let v : Stations = swapped (acts d T1 (swapped w)) in
-      let same : swapped (run c d es v) ≡ run d c (map flip es) (acts d T1 (swapped w)) = flip_run c d es v in
-      let now : IsDrained (swapped (run c d es v)) = record { out = after.back; back = after.out } in
-      subst (λ (z : Stations). Round d c (joined_swapped c d joined) reads laws (swapped w) z) (sym same)
-      (one_round d c (joined_swapped c d joined) reads laws (swapped w) (sound_swapped c d joined w h) (record { out = drained.back; back = drained.out }) may near_on near_free (map flip es) (flip_all es are)
-      (subst IsDrained same now))
-
-  pub far_firing_heals : FarFiringHeals
-  far_firing_heals c d joined events quiet may near_on near_free es are after =
-      let w : Stations = run c d events start in
-      (far_round c d joined w (reached_sound laws reads c d joined events quiet.once) quiet.drained may near_on near_free es are after).heals
-
-  -- where T1 runs at the far end after the round of the near end, it ran before
-  still_may : (c d : Settings) → AreJoined c d → (w v : Stations) → Sound c d w → MayHeal d w.far → OneHeals w v → timer_runs v.far.station.phase v.far.station ≡ true → v.far.station.tries < d.retries
-  still_may c d joined w v h may heals running = by (timer_runs w.far.station.phase w.far.station) refl
-    where
-      by : (b : Bool) → timer_runs w.far.station.phase w.far.station ≡ b → v.far.station.tries < d.retries
-      by true ran = omega (arith, heals.far_tries, may.tries ran)
-      by false stopped =
-          let shown = shows_at_rest d c (joined_swapped c d joined) reads laws (swapped w) (sound_swapped c d joined w h) may.up stopped in
-          not_both (timer_runs v.far.station.phase v.far.station) running (heals.far_rest shown.0).no_timer
-
-  pub two_firings_heal : TwoFiringsHeal
-  two_firings_heal c d joined events quiet near_may far_may first first_are drained second second_are after =
-      let w : Stations = run c d events start in
-      let one = one_round c d joined reads laws w (reached_sound laws reads c d joined events quiet.once) quiet.drained near_may far_may.up far_may.free first first_are drained in
-      let v : Stations = run c d first (acts c T1 w) in
-      let u : Stations = run c d second (swapped (acts d T1 (swapped v))) in
-      let may : MayHeal d v.far = record { up = one.heals.far_up; free = one.heals.far_free; tries = still_may c d joined w v (reached_sound laws reads c d joined events quiet.once) far_may one.heals } in
-      let two = far_round c d joined v one.sound drained may one.near_on one.near_free second second_are after in
-      let rest = two.heals.far_rest one.heals.near.rest in
-      (record { rest = rest; arrived = arrives c d joined reads laws u (sound_swapped d c (joined_swapped c d joined) (swapped u) two.sound) two.heals.far_up rest }, two.heals.near)
-
   -- one has fired, and the other is at rest
   one_fired : (c d : Settings) (joined : AreJoined c d) (w x : Stations) → Fired c d joined reads laws w x → IsDrained w → MayHeal d w.far → timer_runs x.far.station.phase x.far.station ≡ false → Begun c d joined reads laws x
   one_fired c d joined w x f drained far_may stops =
@@ -233,10 +174,3 @@ module _ (reads : ReadsSpelled) (laws : HealingLaws) where
           let far_heals_too = at_rest_heals d c twisted reads laws (swapped w) (sound_swapped c d joined w sound) far_may.up far_may.free near_may.up near_may.free far drained.back []
           (subst (λ (os : List (List ℕ)). Reads (other d.role) d.longest os []) (sym drained.out) tt) tt in
           subst (λ (z : Stations). Begun c d joined reads laws z) (sym same) (record { most = _; least = _; heals = (heals, far_heals_too) })
-
-  pub both_firings_heal : BothFiringsHeal
-  both_firings_heal c d joined events quiet near_may far_may es are after =
-      let w : Stations = run c d events start in
-      let begun = fired_both c d joined w (reached_sound laws reads c d joined events quiet.once) quiet.drained near_may far_may in
-      let v : Stations = swapped (acts d T1 (swapped (acts c T1 w))) in
-      both_settle c d joined reads laws begun.most begun.least (run c d es v) (both_run c d joined reads laws begun.most begun.least es v are begun.heals) after

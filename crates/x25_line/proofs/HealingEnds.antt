@@ -17,16 +17,16 @@ use Rattle.x25_link.specs.laws.WindowMachine.{nothing}
 use Rattle.x25_link.specs.laws.WindowLaw.{IsSound, Follows, IsOut}
 use Rattle.x25_link.specs.laws.RestLaw.{HasSaidAll, IsAtRest}
 use Rattle.x25_link.specs.laws.AnswerLaw.{says}
-use Rattle.x25_line.specs.laws.Stations.{StationEnd, Stations, T1, Event, after_step, acts, swapped, run, start}
+use Rattle.x25_line.specs.laws.Stations.{StationEnd, Stations, T1, Event, after_step, acts, swapped, run}
 use Rattle.x25_line.specs.laws.StationClaims.{AreJoined, IsWhole}
-use Rattle.x25_line.specs.Healing.{IsDrained, AreDeliveries, IsQuietMoment, MayHeal, HasTries, IsAtRestOrOut, EachRestsOrIsOut, Heals}
+use Rattle.x25_line.specs.Healing.{AreDeliveries}
 use Rattle.x25_line.specs.laws.LawsBelow.{HealingLaws}
+use Rattle.x25_line.proofs.HealingOnce.{IsDrained, HasTries, IsAtRestOrOut}
 use Rattle.x25_line.proofs.StationSteps.{not_both}
 use Rattle.x25_line.proofs.StationRuns.{joined_swapped}
 use Rattle.x25_line.proofs.HealingLines.{Reads, reads_more}
-use Rattle.x25_line.proofs.HealingSteps.{near_up, far_up, up_is}
-use Rattle.x25_line.proofs.HealingRuns.{reached_sound, refused, fires_is, idle_run, flip, flip_all, flip_run}
-use Rattle.x25_line.proofs.HealingBoth.{both_firings_heal}
+use Rattle.x25_line.proofs.HealingSteps.{up_is}
+use Rattle.x25_line.proofs.HealingRuns.{refused, fires_is, idle_run, flip, flip_all, flip_run}
 use Rattle.x25_line.proofs.HealingGone.{Polls, Leaves, all_go, is_gone, has_left}
 use Rattle.x25_line.proofs.HealingSetUp.{reads_more_set_up, SetsUp, calm_sets_up, set_up_settles, set_up_run}
 
@@ -370,27 +370,3 @@ module _ (reads : ReadsSpelled) (laws : HealingLaws) where
       by (inr (inl k)) = rested k.0 k.1 k.2 (far_kind k.2.back k.2.far)
       by (inr (inr (inl k))) = gone k.0 k.1 (far_kind k.1.back k.1.far)
       by (inr (inr (inr k))) = asking k (far_kind k.back k.far)
-
-  -- the same of each world to which events lead
-  pub quiet_ends : (c d : Settings) → AreJoined c d → (events : List Event) → IsQuietMoment c d events → (es : List Event) → AreDeliveries es
-      → (let w = run c d events start in IsDrained (run c d es (after_firings c d w)) → (HasTries c w.near → HasTries d w.far → RestOrOut c d es (after_firings c d w)) → RestOrOut c d es (after_firings c d w))
-  quiet_ends c d joined events quiet es are after heals =
-      let w : Stations = run c d events start in
-      let sound = reached_sound laws reads c d joined events quiet.once in
-      let near_in : IsInOrderIfUp c w.near = record { sound = λ up. (near_up c d w sound up).sound; said = λ _. sound.near_said } in
-      let far_in : IsInOrderIfUp d w.far = record { sound = λ up. (far_up c d w sound up).sound; said = λ _. sound.far_said } in
-      rest_or_out c d joined w near_in far_in quiet.drained es are after heals
-
-  pub each_rests_or_is_out : EachRestsOrIsOut
-  each_rests_or_is_out c d joined events quiet near_free far_free es are after =
-      quiet_ends c d joined events quiet es are after (λ near far.
-      let w : Stations = run c d events start in
-      let near_may : MayHeal c w.near = record { up = near.up; free = near_free near.up; tries = near.tries } in
-      let far_may : MayHeal d w.far = record { up = far.up; free = far_free far.up; tries = far.tries } in
-      let both = both_firings_heal reads laws c d joined events quiet near_may far_may es are after in
-      (inl both.0.rest, inl both.1.rest))
-
-  pub heals : Heals
-  heals c d joined events quiet near_free far_free es are after =
-      let each = each_rests_or_is_out c d joined events quiet near_free far_free es are after in
-      record { near = each.0; far = each.1; healed = λ near_may far_may. both_firings_heal reads laws c d joined events quiet near_may far_may es are after }

@@ -9,13 +9,13 @@ use Rattle.x25_link.specs.Hearing.{Step, other}
 use Rattle.x25_link.specs.Link.{take_step}
 use Rattle.x25_link.specs.laws.WindowLaw.{IsOut}
 use Rattle.x25_link.specs.laws.AnswerLaw.{says, asks}
-use Rattle.x25_line.specs.laws.Stations.{StationEnd, Stations, Act, Deliver, T1, Event, Near, Far, after_step, delivered, acts, swapped, run, start}
+use Rattle.x25_line.specs.laws.Stations.{Stations, Act, Deliver, Event, Near, Far, after_step, delivered, acts, swapped, run}
 use Rattle.x25_line.specs.laws.StationClaims.{AreJoined}
-use Rattle.x25_line.specs.Healing.{IsDrained, IsDeliver, AreDeliveries, GoneEnds}
+use Rattle.x25_line.specs.Healing.{IsDeliver, AreDeliveries}
 use Rattle.x25_line.specs.laws.LawsBelow.{HealingLaws}
+use Rattle.x25_line.proofs.HealingOnce.{IsDrained}
 use Rattle.x25_line.proofs.HealingLines.{Reads, front_reads, none_reads, reads_none, reads_more, one_frame}
 use Rattle.x25_line.proofs.HealingSteps.{up_is, deliver_is}
-use Rattle.x25_line.proofs.HealingRuns.{reached_sound, fires}
 
 -- the poll is on the line to an end that is out; or DM is on the line back; or the near end has left
 pub record Polls (c d : Settings) (w : Stations) : Type 0 where
@@ -116,12 +116,3 @@ module _ (c d : Settings) (joined : AreJoined c d) (reads : ReadsSpelled) (laws 
   has_left v drained (inl h) = one_frame _ [] (reads_none (other d.role) d.longest v.out (says h.busy true h.number true ∷ []) h.out drained.out)
   has_left v drained (inr (inl h)) = one_frame _ [] (reads_none (other c.role) c.longest v.back (dm true ∷ []) h.back drained.back)
   has_left v drained (inr (inr h)) = h.off
-
-pub gone_ends : ReadsSpelled → HealingLaws → GoneEnds
-gone_ends reads laws c d joined events quiet may running gone es are after =
-    let w : Stations = run c d events start in
-    let v : Stations = acts c T1 w in
-    let drained = quiet.drained in
-    let f = fires c d joined reads laws w (reached_sound laws reads c d joined events quiet.once) drained.out may.up may.free running (may.tries running) in
-    let begun : Leaves c d v = inl (record { busy = false; number = f.number; up = f.up; gone = subst (λ (e : StationEnd). IsOut e.station.phase) (sym f.far) gone; out = f.out; back = f.back ∙ drained.back }) in
-    has_left c d joined reads laws (run c d es v) after (all_go c d joined reads laws es v are begun)

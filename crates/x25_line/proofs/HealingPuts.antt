@@ -14,19 +14,20 @@ use Rattle.x25_link.specs.Link.{put_step, put_refusal}
 use Rattle.x25_link.specs.laws.RestLaw.{HasSaidAll}
 use Rattle.x25_link.specs.laws.AnswerLaw.{AreNext}
 use Rattle.x25_link.proofs.EndLemmas.{open_is, closed_is, with_packet, put_once}
-use Rattle.x25_line.specs.laws.Stations.{StationEnd, Stations, Put, Deliver, T1, Connect, Disconnect, Abandon, Lose, Damage, Event, Near, Far, after_step, acts, swapped, run, start}
+use Rattle.x25_line.specs.laws.Stations.{StationEnd, Stations, Put, Deliver, T1, Connect, Disconnect, Abandon, Lose, Damage, Event, Near, Far, after_step, acts, swapped, run}
 use Rattle.x25_line.specs.laws.StationClaims.{AreJoined, AreWhole}
 use Rattle.x25_line.specs.laws.WholeNumbers.{machine_acts}
-use Rattle.x25_line.specs.laws.HealingPuts.{AreDeliveriesAndPuts, AreFree, FreeThroughout, PutsHeal}
+use Rattle.x25_line.specs.laws.HealingPuts.{AreDeliveriesAndPuts, AreFree}
 use Rattle.x25_line.specs.laws.LawsBelow.{HealingLaws}
+use Rattle.x25_line.proofs.HealingOnce.{FreeThroughout}
 use Rattle.x25_line.proofs.StationSteps.{not_both}
 use Rattle.x25_line.proofs.StationRuns.{machine_joint, joined_swapped}
 use Rattle.x25_line.proofs.StationEvents.{each_hands_one}
 use Rattle.x25_line.proofs.HealingLines.{Reads, reads_more, whole_behind, Ahead, ahead_more, next_ahead, Mild, mild_more, held_mild, no_final_more, next_no_final, LastTells, next_tells, tells_behind, Reports, reports_more}
 use Rattle.x25_line.proofs.HealingSteps.{Sound, sound_swapped, near_up}
 use Rattle.x25_line.proofs.HealingPhases.{Both, Heals}
-use Rattle.x25_line.proofs.HealingRuns.{reached_sound, said_act}
-use Rattle.x25_line.proofs.HealingBoth.{HealsBoth, both_near, both_far, both_settle, fired_both}
+use Rattle.x25_line.proofs.HealingRuns.{said_act}
+use Rattle.x25_line.proofs.HealingBoth.{HealsBoth, both_near, both_far}
 
 -- ---- a station to which a packet is put
 
@@ -406,10 +407,3 @@ module _ (c d : Settings) (joined : AreJoined c d) (reads : ReadsSpelled) (laws 
   puts_run m n (Far Abandon ∷ es) w are h free = absurd are.0
   puts_run m n (Far (Lose i) ∷ es) w are h free = absurd are.0
   puts_run m n (Far (Damage i octets) ∷ es) w are h free = absurd are.0
-
-pub puts_heal : ReadsSpelled → HealingLaws → PutsHeal
-puts_heal reads laws c d joined events quiet near_may far_may es are free after =
-    let w : Stations = run c d events start in
-    let begun = fired_both reads laws c d joined w (reached_sound laws reads c d joined events quiet.once) quiet.drained near_may far_may in
-    let v : Stations = swapped (acts d T1 (swapped (acts c T1 w))) in
-    both_settle c d joined reads laws begun.most begun.least (run c d es v) (puts_run c d joined reads laws begun.most begun.least es v are begun.heals free) after

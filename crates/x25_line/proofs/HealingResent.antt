@@ -10,8 +10,8 @@ use Rattle.x25_link.specs.laws.AnswerLaw.{says, AreNext, Outcome, heard, heard_t
 use Rattle.x25_link.specs.laws.RestLaw.{IsAtRest}
 use Rattle.x25_line.specs.laws.Stations.{StationEnd, Stations, Deliver, delivered, acts, swapped}
 use Rattle.x25_line.specs.laws.StationClaims.{AreJoined}
-use Rattle.x25_line.specs.Healing.{IsDrained}
 use Rattle.x25_line.specs.laws.LawsBelow.{HealingLaws}
+use Rattle.x25_line.proofs.HealingOnce.{IsDrained}
 use Rattle.x25_line.proofs.StationSteps.{not_both}
 use Rattle.x25_line.proofs.StationRuns.{joined_swapped}
 use Rattle.x25_line.proofs.HealingLines.{Reads, none_reads, reads_none, Ahead, ahead_low, ahead_more, next_ahead, Mild, mild_ahead, LastTells, Reports, reports_more, reports_new, reports_heard}

@@ -8,20 +8,19 @@ use Rattle.x25_frame.specs.Spelling.{spelling_of}
 use Rattle.x25_frame.specs.laws.ReadingLaw.{ReadsSpelled}
 use Rattle.x25_link.specs.declared.error.LinkError.{LinkError}
 use Rattle.x25_link.specs.declared.phase.Notes.{Notes}
-use Rattle.x25_link.specs.declared.phase.Reason.TheVariants.{Retries}
 use Rattle.x25_link.specs.Station.{Settings, LinkStation, is_up, is_busy, wanted, fresh}
 use Rattle.x25_link.specs.Hearing.{Step, other}
 use Rattle.x25_link.specs.Link.{timer_step, timer_runs, timer_refusal, put_refusal, connect_refusal, disconnect_refusal, put_step, connect_step, disconnect_step, abandon_step}
 use Rattle.x25_link.specs.laws.WindowMachine.{nothing}
-use Rattle.x25_link.specs.laws.WindowLaw.{Follows}
 use Rattle.x25_link.specs.laws.RestLaw.{HasSaidAll, IsAtRest}
 use Rattle.x25_link.specs.laws.AnswerLaw.{says, Asks}
-use Rattle.x25_line.specs.laws.Stations.{StationEnd, Stations, Act, Put, Deliver, T1, Connect, Disconnect, Abandon, Lose, Damage, Event, Near, Far, after_step, unless, delivered, is_visible, acts, swapped, happens, run, start}
-use Rattle.x25_line.specs.laws.StationClaims.{AreJoined, IsSetUpOnce, AreWhole}
-use Rattle.x25_line.specs.laws.WholeNumbers.{machine_acts, machine_run, machine_at_start}
-use Rattle.x25_line.specs.Healing.{IsDrained, IsDeliver, IsDelivery, AreDeliveries, HasArrived, ShowsAtRest, MayHeal, OneHeals}
+use Rattle.x25_line.specs.laws.Stations.{StationEnd, Stations, Act, Put, Deliver, T1, Connect, Disconnect, Abandon, Lose, Damage, Event, Near, Far, after_step, unless, delivered, is_visible, acts, swapped, happens, run}
+use Rattle.x25_line.specs.laws.StationClaims.{AreJoined, AreWhole}
+use Rattle.x25_line.specs.laws.WholeNumbers.{machine_acts}
+use Rattle.x25_line.specs.Healing.{IsDeliver, IsDelivery, AreDeliveries}
 use Rattle.x25_line.specs.laws.LawsBelow.{HealingLaws}
-use Rattle.x25_line.proofs.StationRuns.{machine_joint, run_once, start_machine}
+use Rattle.x25_line.proofs.HealingOnce.{IsDrained, HasArrived, ShowsAtRest}
+use Rattle.x25_line.proofs.StationRuns.{machine_joint}
 use Rattle.x25_line.proofs.StationClaimLemmas.{holds_order, holds_lists}
 use Rattle.x25_line.proofs.StationEvents.{each_hands_one}
 use Rattle.x25_line.proofs.HealingLines.{Reads, reads_more, whole_behind, reads_none, one_frame, not_behind}
@@ -82,17 +81,6 @@ module _ (laws : HealingLaws) where
   pub fresh_said : (k : ℕ) → HasSaidAll k fresh
   fresh_said k = record { low = omega arith; settled = and_right (nat_lt 0 (0 + k)) _ refl; calm = refl }
 
-  -- where events lead
-  pub reached_sound : ReadsSpelled → (c d : Settings) → AreJoined c d → (events : List Event) → IsSetUpOnce (run c d events start) → Sound c d (run c d events start)
-  reached_sound reads c d joined events once =
-      let said = said_run c d joined events start (fresh_said c.window, fresh_said d.window) in
-      record {
-        line = machine_run c d events start (machine_at_start c d);
-        joint = run_once c d joined reads laws.sessions.laws events start (machine_at_start c d) (start_machine (Unit {0}) c d joined) once;
-        near_said = said.0;
-        far_said = said.1;
-      }
-
 -- ---- what rest shows
 
 module _ (c d : Settings) (joined : AreJoined c d) (reads : ReadsSpelled) (laws : HealingLaws) where
@@ -111,11 +99,6 @@ module _ (c d : Settings) (joined : AreJoined c d) (reads : ReadsSpelled) (laws 
       record { idle = laws.rest.no_timer c.window w.near.station joined.near_low (near_up c d w h up).sound h.near_said up stopped; no_timer = stopped } in
       (rest, arrives w h up rest)
 
-  -- ---- nothing comes where nothing is on the line
-
-  pub idle_near : (w : Stations) → w.back ≡ [] → acts c Deliver w ≡ w
-  idle_near w none = ap (λ (os : List (List ℕ)). delivered c os w) none
-
   -- ---- a firing
 
   -- T1 doesn't run: nothing changes
@@ -127,17 +110,6 @@ module _ (c d : Settings) (joined : AreJoined c d) (reads : ReadsSpelled) (laws 
 
   pub not_noted : (w : Stations) (v : Stations) → acts c T1 w ≡ v → v.near.came_up ≡ false → (acts c T1 w).near.came_up ≡ false
   not_noted w v is h = ap (λ (z : Stations). z.near.came_up) is ∙ h
-
-  -- a firing notes no LinkUp
-  pub fire_sound : (w : Stations) → Sound c d w → Sound c d (acts c T1 w)
-  fire_sound w h =
-      let one = each_hands_one c d (Near T1) w in
-      record {
-        line = machine_acts c T1 w h.line;
-        joint = machine_joint (Unit {0}) c d joined reads laws.sessions.laws T1 w h.line (λ _. one.came_up ∙ h.joint.near_notes.once) (λ _. tt) h.joint;
-        near_said = said_act laws c joined.near_high T1 w h.near_said;
-        far_said = subst (λ (e : StationEnd). HasSaidAll d.window e.station) (sym one.far) h.far_said;
-      }
 
   -- a poll goes on the empty line to the other end, as RNR where the end is busy, and recovery begins
   pub record SentPoll (w v : Stations) : Type 0 where
@@ -226,32 +198,6 @@ module _ (c d : Settings) (joined : AreJoined c d) (reads : ReadsSpelled) (laws 
         far = p.far;
       }
 
-  pub fired : (w : Stations) → Sound c d w → IsDrained w → is_up w.near.station.phase ≡ true → is_busy w.near.station ≡ false → is_up w.far.station.phase ≡ true → is_busy w.far.station ≡ false
-      → timer_runs w.near.station.phase w.near.station ≡ true → w.near.station.tries < c.retries → Heals c d w.far.station.tries (IsAtRest w.far.station) (acts c T1 w)
-  fired w h drained up free far_on far_free running few =
-      let f = fires w h drained.out up free running few in
-      let v : Stations = acts c T1 w in (
-        record {
-          sound = f.sound;
-          near_on = f.up;
-          far_on = subst (λ (e : StationEnd). is_up e.station.phase ≡ true) (sym f.far) far_on;
-          near_free = f.free;
-          far_free = subst (λ (e : StationEnd). is_busy e.station ≡ false) (sym f.far) far_free;
-          far_tries = subst (λ (e : StationEnd). e.station.tries ≤ w.far.station.tries) (sym f.far) (omega arith);
-          far_rest = λ was. subst (λ (e : StationEnd). IsAtRest e.station) (sym f.far) was;
-        },
-        inl (record {
-          number = f.number;
-          rest = [];
-          before = [];
-          recovery = f.recovery;
-          out = f.out;
-          mild = tt;
-          back = subst (λ (os : List (List ℕ)). Reads (other c.role) c.longest os []) (sym (f.back ∙ drained.back)) tt;
-          heard = tt;
-        }),
-      )
-
   -- ---- deliveries
 
   pub near_event : (most : ℕ) (Was : Type 0) (a : Act) (w : Stations) → IsDeliver a → Heals c d most Was w → Heals c d most Was (acts c a w)
@@ -259,11 +205,6 @@ module _ (c d : Settings) (joined : AreJoined c d) (reads : ReadsSpelled) (laws 
 
   pub far_event : (most : ℕ) (Was : Type 0) (a : Act) (w : Stations) → IsDeliver a → Heals c d most Was w → Heals c d most Was (swapped (acts d a (swapped w)))
   far_event most Was a w is h = subst (λ (act : Act). Heals c d most Was (swapped (acts d act (swapped w)))) (deliver_is a is) (far_heals c d joined reads laws most Was w h)
-
-  heals_run : (most : ℕ) (Was : Type 0) (es : List Event) (w : Stations) → AreDeliveries es → Heals c d most Was w → Heals c d most Was (run c d es w)
-  heals_run most Was [] w are h = h
-  heals_run most Was (Near a ∷ es) w are h = heals_run most Was es (acts c a w) are.1 (near_event most Was a w are.0 h)
-  heals_run most Was (Far a ∷ es) w are h = heals_run most Was es (swapped (acts d a (swapped w))) are.1 (far_event most Was a w are.0 h)
 
   idle_act : (a : Act) (w : Stations) → IsDeliver a → w.back ≡ [] → acts c a w ≡ w
   idle_act a w is none = subst (λ (act : Act). acts c act w ≡ w) (deliver_is a is) (ap (λ (os : List (List ℕ)). delivered c os w) none)
@@ -283,67 +224,7 @@ module _ (c d : Settings) (joined : AreJoined c d) (reads : ReadsSpelled) (laws 
   settles most Was v (b, inl h) drained = one_frame _ _ (reads_none (other d.role) d.longest v.out (rr true h.number true ∷ h.rest) h.out drained.out)
   settles most Was v (b, inr (inl h)) drained = not_behind h.before (rr false h.number true) h.behind (reads_none (other c.role) c.longest v.back (h.before ++ rr false h.number true ∷ h.behind) h.back drained.back)
   settles most Was v (b, inr (inr h)) drained = resent_rests ⊥ c d joined reads laws v (ups v b) h drained
-
-  healed : (w v : Stations) → Heals c d w.far.station.tries (IsAtRest w.far.station) v → IsDrained v → OneHeals w v
-  healed w v h drained =
-      let b = h.0 in
-      let rest = settles w.far.station.tries (IsAtRest w.far.station) v h drained in
-      record {
-        near = record { rest = rest; arrived = arrives v b.sound b.near_on rest };
-        far_up = b.far_on;
-        far_free = b.far_free;
-        far_tries = b.far_tries;
-        far_rest = b.far_rest;
-        once = record { near = b.sound.joint.near_notes.once; far = b.sound.joint.far_notes.once };
-      }
-
-  -- the world after it is sound too, for what comes next
-  pub record Round (w v : Stations) : Type 0 where
-    pub heals : OneHeals w v
-    pub sound : Sound c d v
-    pub near_on : is_up v.near.station.phase ≡ true
-    pub near_free : is_busy v.near.station ≡ false
-
-  pub one_round : (w : Stations) → Sound c d w → IsDrained w → MayHeal c w.near → is_up w.far.station.phase ≡ true → is_busy w.far.station ≡ false
-      → (es : List Event) → AreDeliveries es → IsDrained (run c d es (acts c T1 w)) → Round w (run c d es (acts c T1 w))
-  one_round w h drained may far_on far_free es are after = by (timer_runs w.near.station.phase w.near.station) refl
-    where
-      by : (b : Bool) → timer_runs w.near.station.phase w.near.station ≡ b → Round w (run c d es (acts c T1 w))
-      by true running =
-          let k = heals_run w.far.station.tries (IsAtRest w.far.station) es (acts c T1 w) are (fired w h drained may.up may.free far_on far_free running (may.tries running)) in
-          record { heals = healed w (run c d es (acts c T1 w)) k after; sound = k.0.sound; near_on = k.0.near_on; near_free = k.0.near_free }
-      by false stopped =
-          let same : run c d es (acts c T1 w) ≡ w = ap (run c d es) (refused w stopped) ∙ idle_run es w are drained in
-          let shown = shows_at_rest w h may.up stopped in
-          subst (λ (v : Stations). Round w v) (sym same) (record {
-            heals = record {
-              near = record { rest = shown.0; arrived = shown.1 };
-              far_up = far_on;
-              far_free = far_free;
-              far_tries = omega arith;
-              far_rest = λ was. was;
-              once = record { near = h.joint.near_notes.once; far = h.joint.far_notes.once };
-            };
-            sound = h;
-            near_on = may.up;
-            near_free = may.free;
-          })
-
   -- ---- no tries are left
-
-  pub ends : (w : Stations) → Sound c d w → IsDrained w → is_up w.near.station.phase ≡ true → timer_runs w.near.station.phase w.near.station ≡ true → c.retries ≤ w.near.station.tries
-      → (es : List Event) → AreDeliveries es → is_up (run c d es (acts c T1 w)).near.station.phase ≡ false
-  ends w h drained up running none es are =
-      let s = w.near.station in
-      let step : Step = timer_step c s in
-      let u = near_up c d w h up in
-      let over : nat_lt s.tries c.retries ≡ false = le-ltb _ _ none in
-      let follows = subst (λ (b : Bool). Follows (if b then None else Some Retries) c.window nothing s step) over (laws.sessions.laws.window.timer c s (record { up = up; sound = u.sound })) in
-      let v : Stations = after_step c w w.back [] step in
-      let is : acts c T1 w ≡ v = fires_is w running in
-      let out : v.out ≡ [] = ap (λ (fs : List PlainFrame). w.out ++ map (spelling_of c.role) fs) follows.frames ∙ ap (λ (os : List (List ℕ)). os ++ []) drained.out in
-      let same : run c d es (acts c T1 w) ≡ v = ap (run c d es) is ∙ idle_run es v are (record { out = out; back = drained.back }) in
-      ap (λ (z : Stations). is_up z.near.station.phase) same ∙ ap is_up follows.phase
 
 -- ---- the same with the ends swapped
 

@@ -9,13 +9,14 @@ use Rattle.x25_line.specs.laws.Sessions.{SessionEnd, Sessions, from_nothing, fro
 use Rattle.x25_line.specs.laws.StationClaims.{AreJoined}
 use Rattle.x25_line.specs.laws.SessionNumbers.{Standing}
 use Rattle.x25_line.specs.laws.SessionClaims.{octets_of}
-use Rattle.x25_line.specs.Healing.{IsDrained, AreDeliveries, HasTries, SessionMayHeal, SessionHasTries, SessionsAreHealed, IsSessionAtRestOrOut, EachSessionRestsOrIsOut}
+use Rattle.x25_line.specs.Healing.{AreDeliveries, SessionHasTries, SessionsAreHealed, IsSessionAtRestOrOut}
 use Rattle.x25_line.specs.laws.LawsBelow.{HealingLaws}
+use Rattle.x25_line.proofs.HealingOnce.{IsDrained, HasTries}
 use Rattle.x25_line.proofs.sessions.SessionActs.{in_session}
 use Rattle.x25_line.proofs.sessions.SessionHeld.{Held}
 use Rattle.x25_line.proofs.sessions.SessionRuns.{throughout, held_swapped}
 use Rattle.x25_line.proofs.HealingSessions.{said_from}
-use Rattle.x25_line.proofs.HealingStands.{Alike, fired_alike, events_alike, deliveries_alone, sessions_heal}
+use Rattle.x25_line.proofs.HealingStands.{Alike, fired_alike, events_alike, deliveries_alone}
 use Rattle.x25_line.proofs.HealingEnds.{IsInOrderIfUp, after_firings, RestOrOut, rest_or_out}
 
 -- an end as it stands, with no history
@@ -77,11 +78,3 @@ module _ (reads : ReadsSpelled) (laws : HealingLaws) where
           rest_or_out reads laws c d joined v0 (in_order c d w held said.0) far_in (record { out = refl; back = refl }) es are drained (λ near_has far_has.
           let healed = heals (has_tries c w.near near_has) (has_tries d w.far far_has) in
           (inl (subst IsAtRest (sym alike.near) healed.near_rest), inl (subst IsAtRest (sym alike.far) healed.far_rest)))
-
-  pub each_session_rests_or_is_out : EachSessionRestsOrIsOut
-  each_session_rests_or_is_out c d joined begin is events timely no_out no_back near_free far_free es are out_after back_after =
-      let w : Sessions = run c d events begin in
-      let heal = λ (near_may : SessionMayHeal c w.near). λ (far_may : SessionMayHeal d w.far). sessions_heal reads laws c d joined begin is events timely no_out no_back near_may far_may es are out_after back_after in
-      let each = session_ends c d joined begin is events timely no_out no_back es are out_after back_after (λ near far.
-      heal (record { up = near.up; free = near_free near.up; tries = near.tries }) (record { up = far.up; free = far_free far.up; tries = far.tries })) in
-      record { near = each.0; far = each.1; healed = heal }

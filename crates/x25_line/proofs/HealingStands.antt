@@ -22,9 +22,10 @@ use Rattle.x25_line.specs.laws.Sessions.{Entry, SessionEnd, Sessions, extended, 
 use Rattle.x25_line.specs.laws.Sessions.{Meeting}
 use Rattle.x25_line.specs.laws.SessionNumbers.{Standing}
 use Rattle.x25_line.specs.laws.SessionClaims.{octets_of, IdleHasArrived}
-use Rattle.x25_line.specs.Healing.{IsDrained, IsDeliver, AreDeliveries, MayHeal, SessionMayHeal, SessionsAreHealed, SessionsHeal}
-use Rattle.x25_line.specs.laws.HealingPuts.{IsDeliverOrPut, IsDeliveryOrPut, AreDeliveriesAndPuts, FreeAt, FreeThroughout, SessionsFreeThroughout, SessionsHaveArrived}
+use Rattle.x25_line.specs.Healing.{IsDeliver, AreDeliveries, SessionsAreHealed}
+use Rattle.x25_line.specs.laws.HealingPuts.{SessionMayHeal, IsDeliverOrPut, IsDeliveryOrPut, AreDeliveriesAndPuts, FreeAt, SessionsFreeThroughout, SessionsHaveArrived}
 use Rattle.x25_line.specs.laws.LawsBelow.{HealingLaws}
+use Rattle.x25_line.proofs.HealingOnce.{IsDrained, MayHeal, FreeThroughout}
 use Rattle.x25_line.proofs.StationSteps.{FitsEnd, MayBeAway, NotesOnce, Joint, not_both}
 use Rattle.x25_line.proofs.StationAway.{first_false, second_false}
 use Rattle.x25_line.proofs.sessions.SessionLines.{octets_append, octets_sent}
@@ -32,7 +33,7 @@ use Rattle.x25_line.proofs.sessions.SessionHeld.{View, Live, Soon, Gone, IsView,
 use Rattle.x25_line.proofs.sessions.SessionRuns.{throughout}
 use Rattle.x25_line.proofs.sessions.SessionLatest.{idle_has_arrived}
 use Rattle.x25_line.proofs.HealingSteps.{Sound, deliver_is}
-use Rattle.x25_line.proofs.HealingBoth.{HealsBoth, both_run, both_settle, fired_both}
+use Rattle.x25_line.proofs.HealingBoth.{HealsBoth, both_settle}
 use Rattle.x25_line.proofs.HealingEnds.{after_firings}
 use Rattle.x25_line.proofs.HealingSessions.{said_from}
 
@@ -403,10 +404,3 @@ module _ (reads : ReadsSpelled) (laws : HealingLaws) where
   come_to_rest c d joined m n v heals drained =
       let rest = both_settle c d joined reads laws m n v heals drained in
       record { near = rest.0.rest; far = rest.1.rest; once = record { near = heals.0.0.sound.joint.near_notes.once; far = heals.0.0.sound.joint.far_notes.once } }
-
-  pub sessions_heal : SessionsHeal
-  sessions_heal c d joined begin is events timely no_out no_back near_may far_may es are out_after back_after =
-      let w : Sessions = run c d events begin in
-      sessions_rest c d joined begin is events timely no_out no_back near_may.up far_may.up es are out_after back_after (λ v sound drained alike after.
-      let begun = fired_both reads laws c d joined v sound drained (may_heal c w.near v.near alike.near near_may) (may_heal d w.far v.far alike.far far_may) in
-      come_to_rest c d joined begun.most begun.least (one.run c d es (after_firings c d v)) (both_run c d joined reads laws begun.most begun.least es (after_firings c d v) are begun.heals) after)

@@ -7,7 +7,7 @@ use Rattle.std.proofs.lemmas.Option.{slice_get_within, get_or_from_slice_get}
 use Rattle.x25_window.specs.code.Modulo.{resolved}
 use Rattle.x25_window.specs.laws.Window.{End, Frame, Numbered, Allows, after, frames_of, numbered}
 use Rattle.x25_window.specs.laws.Window.Step.{HandDown, Send, Tell, Hear, Take}
-use Rattle.x25_line.specs.laws.Line.{Line, Move, MayTake, FrontMayBeTaken, AllowsMove, AllowsAll, fresh_line, swapped, takes_item, front_arrived, moved, all_moved}
+use Rattle.x25_line.specs.laws.Line.{Line, Move, MayTake, FrontMayBeTaken, AllowsMove, swapped, takes_item, front_arrived, moved}
 use Rattle.x25_line.specs.laws.Line.Move.{HandsDown, Sends, Tells, Arrives, Loses}
 use Rattle.x25_line.specs.laws.InWindow.{IsSentInWindow, IsNear, AllInWindow, Rising, WayInWindow, InWindow}
 use Rattle.x25_line.proofs.Frames.{Carries, Tops, Acks, slice_get-is, Tops-le, Tops-weaken, Tops-higher, Tops-grow, Tops-push, Tops-remove, Acks-le, Acks-higher, Acks-push, Acks-remove}
@@ -40,13 +40,6 @@ module _ {T : Type 0} where
   -- each end acknowledges all that it took
   abbrev pub Kept : Line T → Type 0
   Kept w = BothWays w.near w.far (length w.near.taken) (length w.far.taken) w.out w.back
-
-  pub Kept-start : (k : ℕ) → k ≤ 7 → Kept (fresh_line k)
-  Kept-start k high =
-      record {
-        from_near = record { high = high; room = omega arith; held = omega arith; acks = omega arith; late = omega arith; tops = omega arith; begins = refl };
-        from_far = record { high = high; room = omega arith; held = omega arith; acks = omega arith; late = omega arith; tops = omega arith; begins = refl };
-      }
 
   pub Kept-swapped : (w : Line T) → Kept w → Kept (swapped w)
   Kept-swapped w h = record { from_near = h.from_far; from_far = h.from_near }
@@ -242,10 +235,6 @@ module _ {T : Type 0} where
         from_near = Way-unheard w.near w.far.taken (length w.far.taken) w.out w.back i h.from_near;
         from_far = Way-passed w.far w.near.taken (length w.near.taken) w.back w.out i h.from_far;
       }
-
-  pub Kept-all_moved : (ms : List (Move T)) (w : Line T) → AllowsAll w ms → Kept w → Kept (all_moved ms w)
-  Kept-all_moved [] w ok h = h
-  Kept-all_moved (m ∷ ms) w ok h = Kept-all_moved ms (moved m w) ok.1 (Kept-moved m w ok.0 h)
 
   -- ---- what is kept says that the window holds
 

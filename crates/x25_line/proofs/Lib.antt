@@ -1,9 +1,5 @@
 pub mod Frames
 pub mod Kept
-pub mod RawKept
-pub mod FitLemmas
-pub mod RawActs
-pub mod RawWorlds
 pub mod StationLines
 pub mod StationSends
 pub mod StationSteps
@@ -22,6 +18,7 @@ pub mod TapeLemmas
 pub mod StationSays
 pub mod StationPeers
 pub mod rows
+pub mod HealingOnce
 pub mod HealingLines
 pub mod HealingSteps
 pub mod HealingResent
@@ -29,7 +26,6 @@ pub mod HealingPhases
 pub mod HealingRuns
 pub mod HealingBoth
 pub mod HealingPuts
-pub mod HealingLoad
 pub mod HealingGone
 pub mod HealingSetUp
 pub mod HealingEnds
@@ -45,5 +41,4 @@ pub mod BusyLines
 pub mod BusyPhases
 pub mod BusyRuns
 pub mod BusySessions
-pub mod BusyBoth
 pub mod sessions

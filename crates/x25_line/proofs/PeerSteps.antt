@@ -26,7 +26,7 @@ use Rattle.x25_line.proofs.StationSends.{AllWithin}
 use Rattle.x25_line.proofs.StationSteps.{MayBeAway, AsUp, IsAway, FitsEnd, no_packet_of, Leaves, empty_lists}
 use Rattle.x25_line.specs.laws.Peer.{Peer}
 use Rattle.x25_line.specs.laws.PeerClaims.{NoneIsFrmr}
-use Rattle.x25_line.proofs.Kept.{Way, hears_valid, Way-hears, Way-takes, Way-raise, Way-giver, Way-unheard, Way-passed}
+use Rattle.x25_line.proofs.Kept.{Way, hears_valid, Way-hears, Way-takes, Way-raise, Way-giver, Way-passed}
 use Rattle.x25_line.proofs.PeerLines.{BearAll, bear_all_shown, bears_append, Front, front_of}
 use Rattle.x25_line.proofs.StationActs.{MayAsk, NoSabm, NotesNoFrmr, Parts, ends_parts}
 use Rattle.x25_line.proofs.PeerSends.{PeerKept, runs_sent}
@@ -158,11 +158,6 @@ module _ (Odd : Type 0) (c : Settings) (p : Peer) (reads : ReadsSpelled) where
       → BearAll (numbered_on (other c.role) c.longest os) ks → AreLapb Odd (other c.role) c.longest os → Stage w os [] None e gs ks
   left w e gs hs ks os h kept shows lapb =
       record { kept = kept; out_shows = h.out_shows; back_shows = shows; lapb = lapb; down_is = append-nil w.near.down ∙ h.down; up_is = append-nil w.near.up ∙ h.up; within = h.within; blameless = h.blameless }
-
-  -- a frame at the front that is passed over
-  pub front_lost : (e : End (List ℕ)) (gs : List (Frame (List ℕ))) (f : Frame (List ℕ)) (fs : List (Frame (List ℕ))) → PeerKept e (end_of p) p.told gs (f ∷ fs) → PeerKept e (end_of p) p.told gs fs
-  front_lost e gs f fs h =
-      record { from_near = Way-unheard e p.taken p.told gs (f ∷ fs) 0 h.from_near; from_far = Way-passed (end_of p) e.taken (length e.taken) (f ∷ fs) gs 0 h.from_far }
 
   -- its N(R) is heard
   front_heard : (e : End (List ℕ)) (gs : List (Frame (List ℕ))) (f : Frame (List ℕ)) (fs : List (Frame (List ℕ))) → PeerKept e (end_of p) p.told gs (f ∷ fs) → PeerKept (after e (Hear (f.ack % 8))) (end_of p) p.told gs fs

@@ -28,7 +28,7 @@ use Rattle.x25_line.specs.laws.StationClaims.{AreJoined, IsSetUpOnce, AcceptsNoC
 use Rattle.x25_line.proofs.Kept.{Kept, Kept-moved, Kept-swapped}
 use Rattle.x25_line.proofs.StationLines.{IsOrderly, orderly_where, AreOrderly, AreParting, shows_lost, shows_damaged, orderly_lost, orderly_damaged, visible_reads, whole_more, either_way}
 use Rattle.x25_line.proofs.StationSends.{AllWithin, within_push}
-use Rattle.x25_line.proofs.StationSteps.{MayBeAway, away_is_not_up, out_is_away, AsUp, IsAway, FitsEnd, NotesOnce, Joint, Holds, Leads, goes_is, left_alone, stands_still, J-stays, not_both, quiet_notes, vain_notes, quiet_joint, parts_joint, ends_joint, read_joint, away_joint, declining_parting}
+use Rattle.x25_line.proofs.StationSteps.{MayBeAway, away_is_not_up, out_is_away, AsUp, IsAway, FitsEnd, NotesOnce, Joint, Leads, goes_is, left_alone, stands_still, J-stays, not_both, quiet_notes, vain_notes, quiet_joint, parts_joint, ends_joint, read_joint, away_joint, declining_parting}
 use Rattle.x25_line.proofs.StationAway.{closed_takes, waits_on, waiting_parting, quiet_by, up_takes_part, connects_from, first_false, second_false}
 use Rattle.x25_line.proofs.StationEvents.{each_hands_one}
 
@@ -349,9 +349,6 @@ joint_swapped MayAsk c d same w l h =
       whole = whole_more c.longest (w.near.down ++ w.far.down) (w.far.down ++ w.near.down) (either_way w.near.down w.far.down) w.sent (subst (λ (n : ℕ). AreWhole n (w.near.down ++ w.far.down) w.sent) (sym same) h.whole);
     }
 
-pub holds_swapped : (MayAsk : Type 0) (c d : Settings) → c.longest ≡ d.longest → (w : Stations) → Holds MayAsk c d w → Holds MayAsk d c (swapped w)
-holds_swapped MayAsk c d same w holds = (line_swapped holds.0, joint_swapped MayAsk c d same w holds.0 holds.1)
-
 event_joint : (MayAsk : Type 0) (c d : Settings) → AreJoined c d → ReadsSpelled → Laws → (e : Event) (w : Stations) (l : Line (List ℕ)) → (MayAsk → IsSetUpOnce (happens c d e w)) → (ConnectsAt e w → MayAsk)
     → Joint MayAsk c d w l → Joint MayAsk c d (happens c d e w) (machine_happens c d e w l)
 event_joint MayAsk c d joined reads laws (Near act) w l once may h = machine_joint MayAsk c d joined reads laws act w l (λ ask. (once ask).near) may h
@@ -447,6 +444,3 @@ start_machine MayAsk c d joined =
       no_frmr = tt;
       whole = tt;
     }
-
-pub start_joint : (MayAsk : Type 0) (c d : Settings) → AreJoined c d → Holds MayAsk c d start
-start_joint MayAsk c d joined = (machine_at_start c d, start_machine MayAsk c d joined)

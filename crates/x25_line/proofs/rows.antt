@@ -1,5 +1,4 @@
 -- Worked rows, by computing.
 pub mod StationRowLemmas
-pub mod HealingRowLemmas
 pub mod SessionRowLemmas
 pub mod PeerRowLemmas

@@ -1,5 +1,4 @@
 -- Worked rows.
 pub mod StationRows
 pub mod SessionRows
-pub mod HealingRows
 pub mod PeerRows

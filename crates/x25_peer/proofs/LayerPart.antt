@@ -4,9 +4,8 @@ use Rattle.x25_bits.specs.declared.role.Role.{Role}
 use Rattle.x25_packet.specs.Packet.{PlainPacket}
 use Rattle.x25_handshakes.specs.laws.Handshake.{At}
 use Rattle.x25_handshakes.specs.laws.PeerLayer.{PeerChannels}
-use Rattle.x25_layer.specs.Layer.{LayerSettings, Layer, LayerNotice, is_channel}
+use Rattle.x25_layer.specs.Layer.{LayerSettings, is_channel}
 use Rattle.x25_layer.specs.Calls.{LayerRequest, LayerOutcome, Accepted, Declined, layer_outcome, layer_pulled}
-use Rattle.x25_layer.specs.laws.Transcript.{Entry}
 use Rattle.x25_layer.specs.laws.TwoLayers.{End, TwoLayers, Move, Requests, Pulls, HandsUp, GoesDown, requested, pulled_in, handed_up, moves_in, moves, settings_of}
 use Rattle.x25_layer.specs.laws.RoundLaw.{moves_all, pulls_of}
 use Rattle.x25_layer.specs.laws.PeerJoined.{Joined, our_end, with_peer, StaysUp, Ours}
@@ -52,23 +51,3 @@ moves_reached r long_data n y v (m ∷ ms) stay h =
     let one : IsReachedByOctets r long_data n (with_peer y (moves c (our_end w) m)) = goes_on w (with_peer y (moves c (our_end w) m)) h (Ours m stay.0) stay.1 in
     moves_reached r long_data n y (moves c v m) ms stay.2
     (subst (λ (x : TwoLayers). IsReachedByOctets r long_data n (with_peer y x)) (moves_far c v.near v v.near.is_out m) one)
-
-pub record LayerReached (r : Role) (long_data : Bool) (n : ℕ) (l : Layer) (given : List PlainPacket) (entries : List Entry) (told : List LayerNotice) (y : At PeerChannels) (out back : List PlainPacket) : Type 0 where
-  pub taken : List PlainPacket
-  pub reached : IsReachedByOctets r long_data n (record { near = record { layer = l; is_out = false; given = given; taken = taken; told = told; entries = entries }; peer = y; out = out; back = back })
-
--- by other names
-pub as_reached : (r : Role) (long_data : Bool) (n : ℕ) (y : At PeerChannels) (e : End) (u b : List PlainPacket) (l : Layer) (given : List PlainPacket) (entries : List Entry) (told : List LayerNotice) (u₂ b₂ : List PlainPacket)
-    → e.layer ≡ l → e.is_out ≡ false → e.given ≡ given → e.entries ≡ entries → e.told ≡ told → u ≡ u₂ → b ≡ b₂ → IsReachedByOctets r long_data n (record { near = e; peer = y; out = u; back = b })
-    → LayerReached r long_data n l given entries told y u₂ b₂
-as_reached r long_data n y e u b l given entries told u₂ b₂ is_l is_out is_given is_entries is_told is_u is_b h = record {
-  taken = e.taken;
-  reached =
-      subst (λ (x : Layer). IsReachedByOctets r long_data n (record { near = record { layer = x; is_out = false; given = given; taken = e.taken; told = told; entries = entries }; peer = y; out = u₂; back = b₂ })) is_l
-      (subst (λ (x : Bool). IsReachedByOctets r long_data n (record { near = record { layer = e.layer; is_out = x; given = given; taken = e.taken; told = told; entries = entries }; peer = y; out = u₂; back = b₂ })) is_out
-      (subst (λ (x : List PlainPacket). IsReachedByOctets r long_data n (record { near = record { layer = e.layer; is_out = e.is_out; given = x; taken = e.taken; told = told; entries = entries }; peer = y; out = u₂; back = b₂ })) is_given
-      (subst (λ (x : List Entry). IsReachedByOctets r long_data n (record { near = record { layer = e.layer; is_out = e.is_out; given = e.given; taken = e.taken; told = told; entries = x }; peer = y; out = u₂; back = b₂ })) is_entries
-      (subst (λ (x : List LayerNotice). IsReachedByOctets r long_data n (record { near = record { layer = e.layer; is_out = e.is_out; given = e.given; taken = e.taken; told = x; entries = e.entries }; peer = y; out = u₂; back = b₂ })) is_told
-      (subst (λ (x : List PlainPacket). IsReachedByOctets r long_data n (record { near = e; peer = y; out = x; back = b₂ })) is_u
-      (subst (λ (x : List PlainPacket). IsReachedByOctets r long_data n (record { near = e; peer = y; out = u; back = x })) is_b h))))));
-}

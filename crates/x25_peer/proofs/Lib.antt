@@ -1,5 +1,4 @@
-pub mod LinkPart
 pub mod LayerPart
-pub mod BesideRuns
+pub mod ReadLemmas
 pub mod sessions
 pub mod rows

@@ -1,5 +1,3 @@
 -- What the law of this crate says (src/law.rt), and the world that it is about.
-pub mod Beside
-pub mod BesideClaims
 pub mod BesideSessions
 pub mod BesideSessionClaims

@@ -6,6 +6,4 @@
 
 mod law;
 
-pub use law::{
-    any_peer_keeps_stations, any_peer_keeps_stations_over_sessions, stations_move_beside_peers,
-};
+pub use law::{any_peer_keeps_stations_over_sessions, stations_move_beside_peers};

@@ -76,10 +76,6 @@ module _ (from : Role) (n1 : ℕ) where
       let here : ua_in (frame_of from n1 e.octets) ≡ 0 = omega (arith, none) in
       subst (λ (n : ℕ). choose n (After P es) (P es)) (sym here) (after_none P es (omega (arith, none)))
 
-  pub after_map : (P Q : List Entry → Type 0) → ((es : List Entry) → P es → Q es) → (es : List Entry) → After P es → After Q es
-  after_map P Q f [] h = tt
-  after_map P Q f (e ∷ es) h = choose_map (ua_in (frame_of from n1 e.octets)) (After P es) (P es) (After Q es) (Q es) (λ k. after_map P Q f es k) (f es) h
-
   pub after_more : (P Q : List Entry → Type 0) (more : List Entry) → ((es : List Entry) → P es → Q (es ++ more)) → how_many ua_in from n1 more ≡ 0 → (es : List Entry) → After P es → After Q (es ++ more)
   after_more P Q more f none [] h = after_none Q more none
   after_more P Q more f none (e ∷ es) h =

@@ -18,13 +18,13 @@ use Rattle.x25_line.specs.laws.Sessions.{Entry, SessionEnd, Meeting, turned, sab
 use Rattle.x25_line.specs.laws.LawsBelow.{SessionLaws}
 use Rattle.x25_line.specs.laws.Peer.{Peer, fresh_peer}
 use Rattle.x25_line.specs.laws.Peer as once
-use Rattle.x25_line.specs.laws.PeerJoined.{Joined, IsReached}
+use Rattle.x25_line.specs.laws.PeerJoined.{IsReached}
 use Rattle.x25_line.specs.laws.PeerJoined as joined
 use Rattle.x25_line.proofs.StationSteps.{not_both}
 use Rattle.x25_line.proofs.sessions.SessionLines.{Read, begun_append, begun_more, numbers, quiet_tail, many_append}
 use Rattle.x25_line.proofs.sessions.SessionHeld.{View, Live, Soon, Gone, Owes, owes_less, HasLists, SameLists, Meetings, meetings_same, meetings_anew, choose, choose_map}
 use Rattle.x25_line.proofs.sessions.SessionSteps.{asked_by, waiting_is_closed}
-use Rattle.x25_sessions.specs.laws.PeerSessions.{Stand, Out, Asking, In, PeerEnd, PeerSessions, as_end, both_ends, is_in, now, put_for, with_now, begins, stands, entry, heard_by, IsPatient, IsFree}
+use Rattle.x25_sessions.specs.laws.PeerSessions.{Stand, Out, Asking, In, PeerEnd, PeerSessions, as_end, is_in, now, put_for, begins, stands, entry, heard_by, IsPatient, IsFree}
 use Rattle.x25_sessions.specs.laws.PeerSessions as sessions
 use Rattle.x25_sessions.specs.laws.PeerSessionClaims.{frmr_in}
 use Rattle.x25_sessions.proofs.PeerLines.{Less, gone, less_removes, less_replaces, After, after_last, after_front, Thin, thin_quiet, AllAsked, asked_none, asked_quiet, asked_out, asked_begins, asked_map, Comes}
@@ -50,9 +50,6 @@ out_asks e = absurd (never e)
 
 asking_in : Asking ≡ In → ⊥
 asking_in k = cc
-
-not_in : (s : Stand) → s ≡ Asking → is_in s ≡ false
-not_in s e = ap is_in e
 
 free_number : (Odd : Type 0) (r : Read) → IsFree Odd r → (number_in r ≡ None) × (sabm_in r ≡ 0) × (ua_in r ≡ 0) × (disc_in r ≡ 0) × IsSendable Odd r
 free_number Odd (Ok (info ns nr p x)) h = absurd h

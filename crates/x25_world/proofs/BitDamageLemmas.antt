@@ -2,8 +2,6 @@
 use Rattle.std.proofs.Common.{◌≡◌, ◌∙◌, ℕ, ◌<◌, nat_lt, lt-ltb, Bool, true, false, not, List, length, None, Result, Ok, Err, IfErr, refl, ap, sym}
 use Rattle.std.specs.Prelude.{◌||◌}
 use Rattle.x25_bits.specs.FrameCheck.Sealed.{is_sealed}
-use Rattle.x25_bits.specs.Found.{found_of}
-use Rattle.x25_bits.specs.HarmlessBits.{between_flags, first_content}
 use Rattle.x25_line.specs.laws.Stations.{is_visible}
 use Rattle.x25_bits.specs.Role.{end_of}
 use Rattle.x25_bits.specs.declared.direction.Direction.{Direction}
@@ -12,14 +10,10 @@ use Rattle.x25_station.specs.declared.config.Cfg.{Cfg}
 use Rattle.x25_world.specs.declared.error.WorldError.{WorldError}
 use Rattle.x25_world.specs.declared.error.WorldError.TheVariants as error
 use Rattle.x25_world.specs.World.{World, Damages, happens, refusal_of, damaged}
-use Rattle.x25_world.specs.BitDamage.{bit_damage, RefusesBits}
+use Rattle.x25_world.specs.BitDamage.{RefusesBits}
 use Rattle.x25_world.specs.code.ShownWorld.{ShownWorld, line_of}
 use Rattle.x25_world.specs.code.FitsWorld.{FitsWorld, IsRefusal}
 use Rattle.x25_world.proofs.WorldLemmas.{only_memory}
-
-pub damage_is : (direction : Direction) (place : ℕ) (bits : List Bool) (octets : List ℕ) → octets ≡ first_content (found_of (between_flags bits))
-    → bit_damage direction place bits ≡ record { at = end_of direction; act = Damages place octets }
-damage_is direction place bits octets e = ap (λ o. record { at = end_of direction; act = Damages place o }) (sym e)
 
 or_true : (b : Bool) → (b || true) ≡ true
 or_true true = refl

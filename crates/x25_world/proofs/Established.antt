@@ -136,9 +136,6 @@ module _ (laws : Laws) (cfg : Cfg) where
       let ua_comes : refusal_of (happens cfg (at_dce cfg) (comes_to Dte)) ≡ None = ap (λ (l : List (List ℕ)). refusal_of (delivered (settings_from Dte cfg) (at_dce cfg) l)) back_is in
       subst (λ (w : World). AreAccepted cfg (comes_to Dce ∷ comes_to Dte ∷ []) w) (sym (connected_is cfg)) (refl, (ua_comes, tt))
 
-  abbrev started : World
-  started = at_dte cfg (map (spelling_of Dce) (restarted cfg Dce).side.out)
-
   pub just_set_up : IsJustSetUp cfg (established cfg)
   just_set_up = subst (λ (x : World). IsJustSetUp cfg x) (sym established_is) (record {
     near = sym dte_up.link;

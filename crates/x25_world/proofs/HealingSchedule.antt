@@ -67,9 +67,6 @@ pub count_append : (xs ys : List Event) → received_in (xs ++ ys) ≡ received_
 count_append [] ys = omega arith
 count_append (x ∷ xs) ys = let rest = count_append xs ys in omega (arith, rest)
 
-pub begun : (cfg : Cfg) (rest : World → List Event) (w : World) (v : TellingWorld) (before : List AtEnd) → Tells cfg v w before → Begun cfg (rest w) w v before rest 0
-begun cfg rest w v before fits = record { done = []; goes = record { accepted = tt; fits = fits }; counted = refl; all = refl }
-
 module _ (cfg : Cfg) (events : List Event) (w : World) (u v : TellingWorld) (before : List AtEnd) (first rest : World → List Event) (count : ℕ) (h : Begun cfg events w u before (behind cfg first rest) count) where
   pub goes_on : (more : ℕ) → (let x = run cfg h.done w in GoesBy cfg (first x) x v before → more ≡ received_in (first x) → Begun cfg events w v before rest (count + more))
   goes_on more goes counted =
@@ -180,9 +177,6 @@ pub record Delivered (cfg : Cfg) (most : ℕ) (w : World) (v : TellingWorld) (be
   pub goes : GoesBy cfg (all_received done) w v before
   pub counted : length done ≡ count
   pub all : arrivals cfg most w ≡ done ++ arrivals cfg (most - count) (run cfg (all_received done) w)
-
-pub none_delivered : (cfg : Cfg) (most : ℕ) (w : World) (v : TellingWorld) (before : List AtEnd) → Tells cfg v w before → Delivered cfg most w v before 0
-none_delivered cfg most w v before fits = record { done = []; goes = record { accepted = tt; fits = fits }; counted = refl; all = ap (λ (n : ℕ). arrivals cfg n w) (omega arith) }
 
 pub one_delivered : (cfg : Cfg) (most : ℕ) (w : World) (u v : TellingWorld) (before : List AtEnd) (count : ℕ) (at : Role) → count < most → (h : Delivered cfg most w u before count) → next_end u.world.to_dce u.world.to_dte ≡ Some at
     → (let x = run cfg (all_received h.done) w in Tells cfg v (after x (happens cfg x (receipt at))) before) → Delivered cfg most w v before (count + 1)

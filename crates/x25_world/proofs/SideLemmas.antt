@@ -61,9 +61,6 @@ module _ (count : ℕ) (old mid : ShownLine) (at : Role) where
       by Dte = record { to_dce = few.to_dce; to_dte = few.to_dte }
       by Dce = record { to_dce = few.to_dce; to_dte = few.to_dte }
 
-pub few_same : (count : ℕ) (line : ShownLine) → TakesFew count line line
-few_same count line = record { to_dce = omega arith; to_dte = omega arith }
-
 -- memory that serves again shows nowhere
 pub reused : (cfg : Cfg) (at : Role) (near new : code.Station) (line : ShownLine) (w : World) → FitsSide cfg at near line w → FitsStation (settings_from at cfg) new w.near → FitsSide cfg at new line w
 reused cfg at near new line w side fits = record { near = fits; out = side.out; back = side.back }

@@ -1,7 +1,6 @@
 ghost use Rattle.std.specs.Prelude.{◌≡◌, false, IsTrue};
 
-use x25_bits::Role;
-use x25_line::Direction;
+use x25_bits::{Direction, Role};
 use x25_station::Cmd;
 
 /// What happens next (profile): at one end, or on the line. Places on the line are counted from 0, at the front.

@@ -19,8 +19,8 @@ use crate::event::Event;
 use crate::law::{laws_below, messages_wait_for_users, stations_meet_in_sessions};
 use crate::told::Entered;
 use crate::world::World;
-use x25_bits::Role;
-use x25_line::{Direction, drains_end, one_busy_heals, puts_heal, rest_shows};
+use x25_bits::{Direction, Role};
+use x25_line::{drains_end, one_busy_heals, puts_heal, rest_shows};
 use x25_station::Cmd;
 
 /// How many deliveries follow one another at most, and how many rounds of deliveries and pulls.

@@ -21,5 +21,4 @@ pub use law::{
 };
 pub use told::Entered;
 pub use world::World;
-pub use x25_bits::{Bits, Role};
-pub use x25_line::Direction;
+pub use x25_bits::{Bits, Direction, Role};

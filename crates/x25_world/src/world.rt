@@ -28,8 +28,7 @@ use crate::line::Line;
 use crate::told::Entered;
 use std::alloc::Global;
 use std::marker::Model;
-use x25_bits::{Bits, Role};
-use x25_line::Direction;
+use x25_bits::{Bits, Direction, Role};
 use x25_station::{Cfg, Station, StationError, Step};
 
 /// Two stations, and the line between them.

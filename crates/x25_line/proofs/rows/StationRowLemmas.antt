@@ -66,9 +66,6 @@ module _ (reads : ReadsSpelled) where
   crossing_reads : frame_of Dce 128 (spelling_of Dce crossing_frame) ≡ Ok crossing_frame
   crossing_reads = reads Dce 128 crossing_frame _ (record { in_range = (omega arith, omega arith); carries = tt; within = omega arith; spelling = refl })
 
-  pub packet_comes : (w : Stations) → w.out ≡ spelling_of Dte packet_frame ∷ [] → happens dte dce (Far Deliver) w ≡ swapped (told dce packet_frame (swapped w))
-  packet_comes w is = ap swapped (comes dce (Ok packet_frame) (spelling_of Dte packet_frame) [] (swapped w) packet_reads is)
-
   disc_reads : frame_of Dte 128 (spelling_of Dte (disc true)) ≡ Ok (disc true)
   disc_reads = reads Dte 128 (disc true) _ (record { in_range = tt; carries = refl; within = tt; spelling = refl })
 

@@ -67,12 +67,6 @@ closed_is_waiting p e f = absurd (never (sym e ∙ f))
     never : Closed ≡ Waiting → ⊥
     never k = cc
 
-down_is_waiting : {A : Type 0} (p : Phase) → p ≡ Down → p ≡ Waiting → A
-down_is_waiting p e f = absurd (never (sym e ∙ f))
-  where
-    never : Down ≡ Waiting → ⊥
-    never k = cc
-
 retries_answer : (b : Bool) (far : Phase) (reason : Reason) → (let o : Option Reason = if b then None else Some Retries in o) ≡ Some reason → MayAnswer reason far
 retries_answer true far reason e = none_reason reason e
 retries_answer false far reason e = by_reason far Retries reason tt e

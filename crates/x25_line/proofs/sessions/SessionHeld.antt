@@ -421,16 +421,6 @@ module _ (from : Role) (n1 : ℕ) where
   pub front_passes : (e : Entry) (es : List Entry) (os : List (List ℕ)) (s : ℕ) → ua_in (frame_of from n1 e.octets) ≡ 0 → AfterUa from n1 (e ∷ es) os s → AfterUa from n1 es os s
   front_passes e es os s none h = subst (λ (n : ℕ). choose n (AfterUa from n1 es os s) (Comes from n1 es os s)) none h
 
-  -- there is one
-  pub after_some : (es : List Entry) (os : List (List ℕ)) (s : ℕ) → AfterUa from n1 es os s → 1 ≤ how_many ua_in from n1 es
-  after_some [] os s h = absurd h
-  after_some (e ∷ es) os s h = go (λ k. after_some es os s k) (ua_in (frame_of from n1 e.octets)) refl h
-    where
-      go : (AfterUa from n1 es os s → 1 ≤ how_many ua_in from n1 es) → (n : ℕ) → ua_in (frame_of from n1 e.octets) ≡ n → choose n (AfterUa from n1 es os s) (Comes from n1 es os s)
-          → 1 ≤ how_many ua_in from n1 (e ∷ es)
-      go behind zero is k = (let there = behind k in omega (arith, is, there))
-      go behind (suc n) is k = omega (arith, is)
-
   -- where no number is on the line, it is one of a session that begins
   pub after_quiet : (es : List Entry) (os : List (List ℕ)) (s t : ℕ) → numbers from n1 es ≡ [] → AfterUa from n1 es os s → AfterUa from n1 es [] t
   after_quiet [] os s t none h = absurd h

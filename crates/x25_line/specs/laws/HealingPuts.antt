@@ -1,14 +1,12 @@
 -- Healing while packets are handed down: both ends fire, and then what is on the line comes and packets are put, in any
 -- order, while nothing is lost.
-use Rattle.std.specs.Prelude.{◌≡◌, ◌⊎◌, false, List, [], ◌∷◌}
-use Rattle.x25_link.specs.Station.{Settings, LinkStation, is_busy}
+use Rattle.std.specs.Prelude.{◌≡◌, ◌<◌, ◌⊎◌, true, false, List, [], ◌∷◌}
+use Rattle.x25_link.specs.Station.{Settings, LinkStation, is_up, is_busy}
+use Rattle.x25_link.specs.Link.{timer_runs}
 use Rattle.x25_link.specs.laws.RestLaw.{IsAtRest}
-use Rattle.x25_line.specs.laws.Stations.{Stations, Act, Put, Deliver, T1, Lose, Event, Near, Far, happens, run, start}
+use Rattle.x25_line.specs.laws.Stations.{Act, Put, Deliver, T1, Event, Near, Far}
 use Rattle.x25_line.specs.laws.StationClaims.{AreJoined}
-use Rattle.x25_line.specs.laws.Sessions.{Sessions, from_nothing, from_set_up, AreTimely, happens as happens_in_sessions}
-use Rattle.x25_line.specs.laws.Sessions.{run as run_sessions}
-use Rattle.x25_line.specs.Healing.{IsDrained, IsQuietMoment, MayHeal, IsHealed, SessionMayHeal}
-use Rattle.x25_line.specs.rows.StationRows.{dte, dce}
+use Rattle.x25_line.specs.laws.Sessions.{SessionEnd, Sessions, from_nothing, from_set_up, AreTimely, happens, run}
 
 -- ---- deliveries and puts
 
@@ -40,30 +38,18 @@ abbrev pub FreeAt : Event → LinkStation → LinkStation → Type 0
 FreeAt (Near act) s t = FreeAsItComes act s t
 FreeAt (Far act) s t = FreeAsItComes act s t
 
--- at each delivery of a run, and at its end
-abbrev pub FreeThroughout : Settings → Settings → List Event → Stations → Type 0
-FreeThroughout c d [] w = AreFree w.near.station w.far.station
-FreeThroughout c d (e ∷ es) w = FreeAt e w.near.station w.far.station × FreeThroughout c d es (happens c d e w)
-
 abbrev pub SessionsFreeThroughout : Settings → Settings → List Event → Sessions → Type 0
 SessionsFreeThroughout c d [] w = AreFree w.near.station w.far.station
 SessionsFreeThroughout c d (e ∷ es) w = FreeAt e w.near.station w.far.station
-    × SessionsFreeThroughout c d es (happens_in_sessions c d e w)
+    × SessionsFreeThroughout c d es (happens c d e w)
 
 -- ---- healing
 
--- From a quiet moment with both ends Up, neither busy, and tries left where T1 runs: both fire, and then all that is on
--- the line comes, while packets are put at either end, until nothing is on the line. Both ends are at rest, and all
--- that was ever handed down at either, these packets too, has been handed up at the other.
-abbrev pub PutsHeal : Type 0
-PutsHeal =
-    (c d : Settings) → AreJoined c d → (events : List Event) → IsQuietMoment c d events
-    → (let w = run c d events start in MayHeal c w.near → MayHeal d w.far
-    → (more : List Event) → AreDeliveriesAndPuts more
-    → (let fired = run c d (Near T1 ∷ Far T1 ∷ []) w in FreeThroughout c d more fired
-    → (let v = run c d more fired in IsDrained v → IsHealed v.near v.far × IsHealed v.far v.near)))
-
--- ---- over set-up and re-set-up
+-- An end is Up, and isn't busy. Where its timer T1 runs, it has tries left.
+pub record SessionMayHeal (c : Settings) (e : SessionEnd) : Type 0 where
+  pub up : is_up e.station.phase ≡ true
+  pub free : is_busy e.station ≡ false
+  pub tries : timer_runs e.station.phase e.station ≡ true → e.station.tries < c.retries
 
 -- Both ends are at rest, in the same sessions as before, and all that was handed down in these, then and since, has
 -- been handed up at the other end.
@@ -75,31 +61,14 @@ pub record SessionsHaveArrived (w v : Sessions) : Type 0 where
   pub there : v.far.up w.far.begun ≡ v.near.down w.near.begun
   pub back : v.near.up w.near.begun ≡ v.far.down w.far.begun
 
+-- Both ends are Up and neither is busy, with tries left where T1 runs, and nothing is on the line. Both fire, and then
+-- all that is on the line comes, while packets are put at either end, until nothing is on the line.
 abbrev pub PutsHealSessions : Type 0
 PutsHealSessions =
     (c d : Settings) → AreJoined c d → (begin : Sessions) → (begin ≡ from_nothing) ⊎ (begin ≡ from_set_up)
     → (events : List Event) → AreTimely c d events begin
-    → (let w = run_sessions c d events begin in w.out ≡ [] → w.back ≡ [] → SessionMayHeal c w.near
+    → (let w = run c d events begin in w.out ≡ [] → w.back ≡ [] → SessionMayHeal c w.near
     → SessionMayHeal d w.far
     → (more : List Event) → AreDeliveriesAndPuts more
-    → (let fired = run_sessions c d (Near T1 ∷ Far T1 ∷ []) w in SessionsFreeThroughout c d more fired
-    → (let v = run_sessions c d more fired in v.out ≡ [] → v.back ≡ [] → SessionsHaveArrived w v)))
-
--- ---- a worked moment
-
--- the near end's packet was lost
-abbrev pub near_lost : List Event
-near_lost = Near (Put (5 ∷ [])) ∷ Far (Lose 0) ∷ []
-
--- one more is put, and waits; then the poll comes, its answer, both packets, and what acknowledges each
-abbrev pub one_put : List Event
-one_put = Near (Put (6 ∷ [])) ∷ Far Deliver ∷ Near Deliver ∷ Far Deliver ∷ Far Deliver ∷ Near Deliver ∷ Near Deliver
-    ∷ []
-
--- it is a quiet moment in which both may heal; no end is busy behind the firings, and both packets have arrived
-abbrev pub OnePutArrives : Type 0
-OnePutArrives =
-    IsQuietMoment dte dce near_lost
-    × (let w = run dte dce near_lost start in MayHeal dte w.near × MayHeal dce w.far × AreDeliveriesAndPuts one_put
-    × (let fired = run dte dce (Near T1 ∷ Far T1 ∷ []) w in FreeThroughout dte dce one_put fired
-    × (let v = run dte dce one_put fired in IsDrained v × (v.far.up ≡ (5 ∷ []) ∷ (6 ∷ []) ∷ []))))
+    → (let fired = run c d (Near T1 ∷ Far T1 ∷ []) w in SessionsFreeThroughout c d more fired
+    → (let v = run c d more fired in v.out ≡ [] → v.back ≡ [] → SessionsHaveArrived w v)))

@@ -1,7 +1,7 @@
 -- Two ends over a line that keeps order and may lose any frame, as moves of the window machine (profile: the line).
 -- Each move is of the near end, or of the line to it. The far end's moves are those of the two ends swapped.
 use Rattle.std.specs.Prelude.{ℕ, ◌≡◌, ◌%◌, List, [], ◌∷◌, ◌++◌, length, remove, Option, Some, None, Bool, true, false}
-use Rattle.x25_window.specs.laws.Window.{End, Step, Numbered, Frame, Allows, after, frames_of, fresh_end}
+use Rattle.x25_window.specs.laws.Window.{End, Step, Numbered, Frame, Allows, after, frames_of}
 use Rattle.x25_window.specs.laws.Window.Step.{HandDown, Send, Tell, Hear, Take}
 
 -- the frames on the line from the near end, and on the line to it, front first
@@ -10,9 +10,6 @@ pub record Line (T : Type 0) : Type 0 where
   pub far : End T
   pub out : List (Frame T)
   pub back : List (Frame T)
-
-abbrev pub fresh_line : {T : Type 0} → ℕ → Line T
-fresh_line k = record { near = fresh_end k; far = fresh_end k; out = []; back = [] }
 
 abbrev pub swapped : {T : Type 0} → Line T → Line T
 swapped w = record { near = w.far; far = w.near; out = w.back; back = w.out }
@@ -70,12 +67,3 @@ moved (Sends n) w = steps w (Send n)
 moved Tells w = steps w Tell
 moved (Arrives takes) w = front_arrived takes w.back w
 moved (Loses place) w = record { near = w.near; far = w.far; out = w.out; back = remove w.back place }
-
-abbrev pub all_moved : {T : Type 0} → List (Move T) → Line T → Line T
-all_moved [] w = w
-all_moved (m ∷ ms) w = all_moved ms (moved m w)
-
--- each move is allowed where it comes
-abbrev pub AllowsAll : {T : Type 0} → Line T → List (Move T) → Type 0
-AllowsAll w [] = Unit {0}
-AllowsAll w (m ∷ ms) = AllowsMove w m × AllowsAll (moved m w) ms

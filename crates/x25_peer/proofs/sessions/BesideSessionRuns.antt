@@ -22,8 +22,7 @@ use Rattle.x25_station.specs.laws.ReadLaw as reached
 use Rattle.x25_peer.specs.laws.BesideSessions.{Own, Theirs, BesideSessions, their_now, their_layer, start, Happens, Asks, Connects, Disconnects, Fires, Receives, Abandons, Loses, Damages, LosesThere, DamagesThere, Leaves, Sends, Hears, AnswersByUa, LayerDoes, LayerHears, LayerHearsChannel, IsReached}
 use Rattle.x25_peer.specs.laws.BesideSessions as beside
 use Rattle.x25_peer.specs.laws.BesideSessionClaims.{WithAnyPeer, MeetInStep, IsInOrder, MetAreInOrder, UnmetAreToldNothing, EachMeetsLatest, UpIsLatest, IdleHasArrived, FindsNoError}
-use Rattle.x25_peer.proofs.LinkPart.{spelled}
-use Rattle.x25_peer.proofs.BesideRuns.{none_left}
+use Rattle.x25_peer.proofs.ReadLemmas.{spelled, none_left}
 use Rattle.x25_peer.proofs.sessions.Meetings.{CanMeet, all_map, all_some, all_both, met_can_meet, could_meet_some}
 use Rattle.x25_peer.proofs.sessions.SessionLinks.{links_with}
 use Rattle.x25_peer.proofs.sessions.Standing.{Below, Known, Stands}

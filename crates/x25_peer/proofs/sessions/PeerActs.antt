@@ -16,7 +16,7 @@ use Rattle.x25_line.specs.laws.Stations.{is_visible}
 use Rattle.x25_line.specs.laws.StationClaims.{number_in}
 use Rattle.x25_line.specs.laws.Sessions.{Entry, Meeting, Sessions, acts, replaced}
 use Rattle.x25_line.specs.laws.Peer.{Peer, fresh_peer}
-use Rattle.x25_sessions.specs.laws.PeerSessions.{PeerEnd, PeerSessions, Out, Asking, In, is_in, now, with_now, put_for, begins, stands, entry, heard_by, MaySend, numbered, asks, closes, free, MayHear, passes_over, hears, takes_ua, MayAnswer, takes_sabm, waits_on, takes_disc, IsPatient, IsReached, goes_on, Ours, HandsDown, both_ends, with_peer}
+use Rattle.x25_sessions.specs.laws.PeerSessions.{PeerEnd, PeerSessions, Out, In, is_in, now, with_now, begins, stands, entry, heard_by, MaySend, numbered, asks, closes, free, MayHear, passes_over, hears, takes_ua, MayAnswer, takes_sabm, waits_on, takes_disc, IsReached, goes_on, Ours, HandsDown, both_ends, with_peer}
 use Rattle.x25_sessions.specs.laws.PeerSessions as peers
 use Rattle.x25_handshakes.specs.laws.Handshake.{Live}
 use Rattle.x25_handshakes.specs.laws.Layers.{On}
@@ -28,10 +28,9 @@ use Rattle.x25_layer.specs.laws.PeerJoined.{Joined, IsConfigured, Answers}
 use Rattle.x25_station.specs.Config.{Settings, link_settings, longest_packet}
 use Rattle.x25_station.specs.laws.ReadLaw.{AreReadable, IsReachedByOctets}
 use Rattle.x25_station.specs.laws.ReadLaw as reached
-use Rattle.x25_peer.specs.laws.Beside.{read_by, ReadAs}
+use Rattle.x25_peer.specs.laws.BesideSessions.{read_by, ReadAs}
 use Rattle.x25_peer.specs.laws.BesideSessions.{Theirs, BesideSessions, in_session, links_of, handed_down, their_now, their_layer, coming, layer_went, layer_heard}
-use Rattle.x25_peer.proofs.LinkPart.{spelled}
-use Rattle.x25_peer.proofs.BesideRuns.{read_append, ok_same, sent_same, heard_same}
+use Rattle.x25_peer.proofs.ReadLemmas.{spelled, read_append, ok_same, sent_same, heard_same}
 use Rattle.x25_peer.proofs.sessions.Meetings.{CanMeet, could_meet}
 use Rattle.x25_peer.proofs.sessions.SessionLinks.{links_with, LinkReached}
 use Rattle.x25_peer.proofs.sessions.Standing.{Below, in_other, both_cases, PairReached, IsRead, AreAnew, downs_of, ups_of, Stands, way, taken_begins, up_few}
@@ -142,9 +141,6 @@ read_front c (g ∷ given) (t ∷ taken) rest (suc n) read readable is few reads
     fewer low = omega (arith, low)
 
 -- ---- packets go down to it
-
-step_down : PeerEnd → List ℕ → PeerEnd
-step_down p o = with_now (record (now p) { given = (now p).given ++ o ∷ [] }) p
 
 handed_given : (all : List (List ℕ)) (p : PeerEnd) (m : ℕ) → ((handed_down all p).of_session m).given ≡ (if m == p.begun then (p.of_session m).given ++ all else (p.of_session m).given)
 handed_given [] p m = by (m == p.begun)

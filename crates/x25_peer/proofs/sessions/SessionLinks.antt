@@ -16,7 +16,7 @@ use Rattle.x25_sessions.specs.laws.PeerSessions.{PeerEnd, PeerSessions, IsReache
 use Rattle.x25_station.specs.Station.{put_on, all_put}
 use Rattle.x25_station.specs.laws.JoinLaw.{AreAccepted}
 use Rattle.x25_station.specs.laws.ReadLaw.{AreReadable}
-use Rattle.x25_peer.proofs.LinkPart.{spelled}
+use Rattle.x25_peer.proofs.ReadLemmas.{spelled}
 
 abbrev pub links_with : LinkStation → ℕ → (ℕ → List (List ℕ)) → (ℕ → List (List ℕ)) → PeerEnd → List Entry → List Entry → List Meeting → PeerSessions
 links_with link begun down up peer out back met =

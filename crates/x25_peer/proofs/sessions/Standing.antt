@@ -20,10 +20,9 @@ use Rattle.x25_station.specs.Entry.{layer_entries, layer_notices}
 use Rattle.x25_station.specs.laws.JoinLaw.{RequestIsJoined, ReceiveIsJoined, QuietIsJoined, DownIsJoined, UpIsJoined}
 use Rattle.x25_station.specs.laws.KeepLaw.{IsKept, CommandKeeps, TimerKeeps, RequestKeeps, ReceiveKeeps}
 use Rattle.x25_station.specs.laws.ReadLaw.{IsReachedByOctets, PutsBesidePeersAreReadable}
-use Rattle.x25_peer.specs.laws.Beside.{ReadAs}
+use Rattle.x25_peer.specs.laws.BesideSessions.{ReadAs}
 use Rattle.x25_peer.specs.laws.BesideSessions.{Own, Theirs, BesideSessions, in_session}
-use Rattle.x25_peer.proofs.LinkPart.{spelled}
-use Rattle.x25_peer.proofs.BesideRuns.{read_length}
+use Rattle.x25_peer.proofs.ReadLemmas.{spelled, read_length}
 use Rattle.x25_peer.proofs.sessions.Meetings.{CanMeet, true_false, all_some, all_both}
 use Rattle.x25_peer.proofs.sessions.SessionLinks.{links_with, LinkReached}
 

@@ -36,10 +36,10 @@ use Rattle.x25_station.specs.Step.{Step, Outcome, Did, Refused, unless, led_by, 
 use Rattle.x25_station.specs.laws.JoinLaw.{station_with, IsJoined}
 use Rattle.x25_station.specs.laws.KeepLaw.{IsKept, KeptBy}
 use Rattle.x25_station.specs.laws.ReadLaw.{AreReadable, RequestsOctets, IsReachedByOctets}
-use Rattle.x25_peer.specs.laws.Beside.{ReadAs}
+use Rattle.x25_peer.specs.laws.BesideSessions.{ReadAs}
 use Rattle.x25_peer.specs.laws.BesideSessions.{Theirs, BesideSessions, stepped, followed, heard_here, links_of}
 use Rattle.x25_peer.proofs.LayerPart.{AllStay, pulls_stay, moves_reached}
-use Rattle.x25_peer.proofs.BesideRuns.{Next, next_read, timer_packet}
+use Rattle.x25_peer.proofs.ReadLemmas.{Next, next_read, timer_packet}
 use Rattle.x25_peer.proofs.sessions.Meetings.{CanMeet, could_meet, all_some, all_both, met_can_meet, could_meet_some}
 use Rattle.x25_peer.proofs.sessions.SessionLinks.{links_with, LinkReached, extended_none, by_lists, link_steps}
 use Rattle.x25_peer.proofs.sessions.SessionLayers.{alone_at, AreAsked, pulls_asked, asked_reached, asked_tells}

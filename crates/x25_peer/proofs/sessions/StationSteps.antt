@@ -22,8 +22,7 @@ use Rattle.x25_station.specs.laws.JoinLaw.{station_with, IsJoined}
 use Rattle.x25_station.specs.laws.KeepLaw.{IsKept}
 use Rattle.x25_station.specs.laws.ReadLaw.{AreReadable, at_start}
 use Rattle.x25_peer.specs.laws.BesideSessions.{Own, BesideSessions, in_session, stepped, followed}
-use Rattle.x25_peer.proofs.LinkPart.{spelled}
-use Rattle.x25_peer.proofs.BesideRuns.{layer_append, notices_append, readable_behind}
+use Rattle.x25_peer.proofs.ReadLemmas.{spelled, layer_append, notices_append, readable_behind}
 use Rattle.x25_peer.proofs.sessions.Meetings.{CanMeet, true_false}
 use Rattle.x25_peer.proofs.sessions.SessionLinks.{LinkReached, extended_none, by_lists, all_puts, puts_up}
 use Rattle.x25_peer.proofs.sessions.Standing.{Below, in_here, in_other, in_cases, both_cases, Known, IsStanding, IsKnown, IsNotBegun, PairReached, downs_of, ups_of, Stands, into_down, into_up}

@@ -3,11 +3,13 @@
 -- as it notes LinkUp, one of the peer by its rules of set-up, and each lasts until the next begins; with each its
 -- packet layer begins anew. docs/PEER.md has the peer's rules.
 use Rattle.std.specs.Prelude.{◌≡◌, ℕ, ◌==◌, true, false, if◌then◌else◌, List, [], ◌∷◌, ◌++◌, length, drop, remove}
-use Rattle.std.specs.Prelude.{Bool, None, Ok}
+use Rattle.std.specs.Prelude.{Bool, None, Result, Ok}
 use Rattle.x25_frame.specs.Frame.{ua}
 use Rattle.x25_frame.specs.Reading.{frame_of}
 use Rattle.x25_packet.specs.Packet.{PlainPacket}
-use Rattle.x25_packet.specs.Spelling.{channel_of, HasChannel}
+use Rattle.x25_packet.specs.Spelling.{channel_of, HasChannel, longest_user}
+use Rattle.x25_packet.specs.declared.error.PacketError.{PacketError}
+use Rattle.x25_wide.specs.Taking.{read_in}
 use Rattle.x25_link.specs.declared.phase.Phase.TheVariants.{Waiting}
 use Rattle.x25_link.specs.Station.{is_up}
 use Rattle.x25_link.specs.Hearing.{Step as LinkStep, other}
@@ -33,7 +35,6 @@ use Rattle.x25_station.specs.Entry.{StationEntry, connect_asked, disconnect_aske
 use Rattle.x25_station.specs.Station.{Station, new_station}
 use Rattle.x25_station.specs.Step.{Step, Did, follows, led_by, abandons, requests}
 use Rattle.x25_station.specs.laws.ReadLaw.{RequestsOctets}
-use Rattle.x25_peer.specs.laws.Beside.{read_by, ReadAs}
 
 -- of a session of the station: its packet layer, as it is or was last while the link is or was up in it, and the
 -- transcript
@@ -83,6 +84,16 @@ start c = record {
 
 abbrev pub in_session : {A : Type 0} → ℕ → A → (ℕ → A) → ℕ → A
 in_session session x all n = if n == session then x else all n
+
+-- what a station of these settings reads octets as: in the form that it writes alone, or in any
+abbrev pub read_by : Settings → List ℕ → Result PlainPacket PacketError
+read_by c octets = read_in c.wide (longest_user c.long_data) octets
+
+-- the octets of these packets, as they are read
+abbrev pub ReadAs : Settings → List (List ℕ) → List PlainPacket → Type 0
+ReadAs c [] [] = Unit {0}
+ReadAs c (o ∷ os) (p ∷ ps) = (read_by c o ≡ Ok p) × ReadAs c os ps
+ReadAs c os ps = ⊥
 
 -- ---- the station
 

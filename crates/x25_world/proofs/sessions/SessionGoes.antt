@@ -57,9 +57,6 @@ not_in n p differs = ap (λ (b : Bool). p.stands && b) (other_number n p.begun d
     by true = refl
     by false = refl
 
-is_here : (n : ℕ) → is_in n (record { begun = n; stands = true }) ≡ true
-is_here n = same_number n
-
 no_faults_append : (xs ys : List LayerNotice) → AreNoFaults xs → AreNoFaults ys → AreNoFaults (xs ++ ys)
 no_faults_append [] ys f g = g
 no_faults_append (x ∷ xs) ys f g = (f.0, no_faults_append xs ys f.1 g)

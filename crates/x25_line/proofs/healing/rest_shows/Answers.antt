@@ -1,8 +1,7 @@
-use Rattle.x25_line.proofs.HealingBoth.{rest_shows}
 use Rattle.x25_line.proofs.HealingSessions.{each_rest_shows}
 use Rattle.x25_line.proofs.healing.rest_shows.Goals as goal
 
 pub returns : goal.returns
 returns c =
     let below = c.laws_below.ensures in
-    record { once = rest_shows below.reads below.healing; sessions = each_rest_shows below.reads below.healing }
+    record { sessions = each_rest_shows below.reads below.healing }

@@ -91,9 +91,6 @@ none_of frame count none from (x ∷ es) e =
     let rest = none_of frame count none from es (second_false (reads_as frame from x.octets) (list_any (reads_as frame from) (octets_of es)) e) in
     omega (arith, here, rest)
 
-waits_for_ua : (p : Phase) → p ≡ Waiting → awaits_ua p ≡ true
-waits_for_ua p is = ap awaits_ua is
-
 only_second : (a b : Bool) → (a && b) ≡ false → a ≡ true → b ≡ false
 only_second true b e is = e
 only_second false b e is = true_false (sym is)

@@ -1,5 +1,5 @@
-//! Tests of `x25_bits`, `x25_frame`, `x25_window` and `x25_line`: vectors from outside, worked runs, and each of their
-//! public functions with ample memory. `tests/golden` has octets of synchronous lines.
+//! Tests of `x25_bits`, `x25_frame` and `x25_window`: vectors from outside, worked runs, and each of their public
+//! functions with ample memory. `tests/golden` has octets of synchronous lines.
 #![tactic(auto)]
 
 #[cfg(test)]

@@ -1,0 +1,56 @@
+-- What the lemmas of healing say of two stations by themselves; the laws say it of sessions.
+use Rattle.std.proofs.Common.{◌≡◌, ◌<◌, ◌⊎◌, List, [], ◌∷◌, length, true, false}
+use Rattle.x25_link.specs.Station.{Settings, is_up, is_busy}
+use Rattle.x25_link.specs.Link.{timer_runs}
+use Rattle.x25_link.specs.laws.RestLaw.{IsAtRest}
+use Rattle.x25_line.specs.laws.Stations.{StationEnd, Stations, Event, Near, Far, happens}
+use Rattle.x25_line.specs.laws.HealingPuts.{AreFree, FreeAt}
+
+-- nothing is on the line
+pub record IsDrained (w : Stations) : Type 0 where
+  pub out : w.out ≡ []
+  pub back : w.back ≡ []
+
+-- from one end to the other: all that was handed down was handed up, and both count alike
+pub record HasArrived (giver taker : StationEnd) : Type 0 where
+  pub handed_up : taker.up ≡ giver.down
+  pub acked : giver.station.outgoing.acked ≡ length giver.down
+  pub sent : giver.station.outgoing.sent ≡ length giver.down
+
+-- an end that is Up and whose timer T1 doesn't run is at rest, and everything of it has arrived
+abbrev pub ShowsAtRest : StationEnd → StationEnd → Type 0
+ShowsAtRest giver taker = is_up giver.station.phase ≡ true → timer_runs giver.station.phase giver.station ≡ false
+    → IsAtRest giver.station × HasArrived giver taker
+
+-- An end is Up, and isn't busy. Where its timer T1 runs, it has tries left.
+pub record MayHeal (c : Settings) (e : StationEnd) : Type 0 where
+  pub up : is_up e.station.phase ≡ true
+  pub free : is_busy e.station ≡ false
+  pub tries : timer_runs e.station.phase e.station ≡ true → e.station.tries < c.retries
+
+-- An end is at rest, and all that it was handed down has been handed up at the other end.
+pub record IsHealed (e other : StationEnd) : Type 0 where
+  pub rest : IsAtRest e.station
+  pub arrived : HasArrived e other
+
+-- octets are there for each delivery
+abbrev pub Finds : Event → Stations → Type 0
+Finds (Near act) w = w.back ≡ [] → ⊥
+Finds (Far act) w = w.out ≡ [] → ⊥
+
+abbrev pub EachFinds : Settings → Settings → List Event → Stations → Type 0
+EachFinds c d [] w = Unit {0}
+EachFinds c d (e ∷ es) w = Finds e w × EachFinds c d es (happens c d e w)
+
+abbrev pub IsAtRestOrOut : StationEnd → Type 0
+IsAtRestOrOut e = IsAtRest e.station ⊎ (is_up e.station.phase ≡ false)
+
+-- an end is Up; where its timer T1 runs, it has tries left
+pub record HasTries (c : Settings) (e : StationEnd) : Type 0 where
+  pub up : is_up e.station.phase ≡ true
+  pub tries : timer_runs e.station.phase e.station ≡ true → e.station.tries < c.retries
+
+-- at each delivery of a run, and at its end
+abbrev pub FreeThroughout : Settings → Settings → List Event → Stations → Type 0
+FreeThroughout c d [] w = AreFree w.near.station w.far.station
+FreeThroughout c d (e ∷ es) w = FreeAt e w.near.station w.far.station × FreeThroughout c d es (happens c d e w)

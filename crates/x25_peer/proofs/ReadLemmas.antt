@@ -1,0 +1,125 @@
+-- What packets are read as, and what a link's peer sends and hears.
+use Rattle.std.proofs.Common.{◌≡◌, ℕ, zero, suc, ◌+◌, ◌≤◌, ◌==◌, nat_lt, List, [], ◌∷◌, ◌++◌, length, drop, map, Bool, true, false, if◌then◌else◌, Option, Some, None, Result, Ok, Err, option_to_list, refl, sym, ap, subst, ◌∙◌, append_assoc, append-nil, arith}
+use Rattle.std.proofs.lemmas.List.{map-append, drop-append-le, length-append, length-map, drop_all}
+use Rattle.std.specs.Prelude.{remove, slice_get}
+use Rattle.x25_frame.specs.Frame.{PlainFrame, info, rr, rnr, rej}
+use Rattle.x25_frame.specs.Spelling.{spelling_of}
+use Rattle.x25_frame.specs.declared.error.FrameError.{FrameError}
+use Rattle.x25_frame.specs.declared.error.FrameError.TheVariants.{Short, BadFcs, BadAddress, Undefined, NoInfoAllowed, TooLong}
+use Rattle.x25_packet.specs.Packet.{PlainPacket}
+use Rattle.x25_packet.specs.Spelling as packet
+use Rattle.x25_link.specs.Station.{Settings as LinkSettings, LinkStation, with_near}
+use Rattle.x25_link.specs.Hearing.{quiet, leaves}
+use Rattle.x25_link.specs.Link.{alone, closed_by, asks_again, timer_step}
+use Rattle.x25_link.specs.declared.phase.Reason.TheVariants.{Retries}
+use Rattle.x25_line.specs.laws.Peer.{Peer, MaySend, MayHear, hearing, taking}
+use Rattle.x25_layer.specs.Layer.{LayerNotice}
+use Rattle.x25_layer.specs.laws.Transcript.{Entry}
+use Rattle.x25_station.specs.Config.{Settings}
+use Rattle.x25_station.specs.Entry.{StationEntry, in_layer, notice_in, layer_entries, layer_notices}
+use Rattle.x25_station.specs.laws.ReadLaw.{AreReadable}
+use Rattle.x25_peer.specs.laws.BesideSessions.{read_by, ReadAs}
+
+-- ---- lists
+
+abbrev pub spelled : List PlainPacket → List (List ℕ)
+spelled packets = map packet.spelling_of packets
+
+pub layer_append : (xs ys : List StationEntry) → layer_entries (xs ++ ys) ≡ layer_entries xs ++ layer_entries ys
+layer_append [] ys = refl
+layer_append (x ∷ xs) ys = ap (λ (es : List Entry). in_layer x ++ es) (layer_append xs ys) ∙ sym (append_assoc (in_layer x) (layer_entries xs) (layer_entries ys))
+
+pub notices_append : (xs ys : List StationEntry) → layer_notices (xs ++ ys) ≡ layer_notices xs ++ layer_notices ys
+notices_append [] ys = refl
+notices_append (x ∷ xs) ys = ap (λ (ns : List LayerNotice). notice_in x ++ ns) (notices_append xs ys) ∙ sym (append_assoc (notice_in x) (layer_notices xs) (layer_notices ys))
+
+-- of those that our layer put none is left
+pub none_left : (n : ℕ) (taken : List (List ℕ)) (given : List PlainPacket) → n ≡ length taken → taken ≡ spelled given → drop n given ≡ []
+none_left n taken given all same =
+    let long : length taken ≡ length given = ap length same ∙ length-map given packet.spelling_of in
+    drop_all n given (omega (arith, all, long))
+
+pub readable_behind : (b : Bool) (xs ys : List PlainPacket) → AreReadable b (xs ++ ys) → AreReadable b ys
+readable_behind b [] ys h = h
+readable_behind b (x ∷ xs) ys h = readable_behind b xs ys h.1
+
+pub read_append : (c : Settings) (os qs : List (List ℕ)) (ps rs : List PlainPacket) → ReadAs c os ps → ReadAs c qs rs → ReadAs c (os ++ qs) (ps ++ rs)
+read_append c [] qs [] rs h g = g
+read_append c [] qs (p ∷ ps) rs h g = absurd h
+read_append c (o ∷ os) qs [] rs h g = absurd h
+read_append c (o ∷ os) qs (p ∷ ps) rs h g = (h.0, read_append c os qs ps rs h.1 g)
+
+-- of what is read, this much came up
+pub read_length : (c : Settings) (up rest : List (List ℕ)) (ps : List PlainPacket) → ReadAs c (up ++ rest) ps → length up ≤ length ps
+read_length c [] rest ps h = omega (arith)
+read_length c (u ∷ up) rest [] h = absurd h
+read_length c (u ∷ up) rest (p ∷ ps) h = let low : length up ≤ length ps = read_length c up rest ps h.1 in omega (arith, low)
+
+-- the next of what is read
+pub record Next (c : Settings) (o : List ℕ) (ahead behind : List PlainPacket) : Type 0 where
+  pub packet : PlainPacket
+  pub front : ahead ≡ packet ∷ behind
+  pub reads : read_by c o ≡ Ok packet
+
+pub next_read : (c : Settings) (up : List (List ℕ)) (o : List ℕ) (rest : List (List ℕ)) (ps : List PlainPacket) → ReadAs c ((up ++ o ∷ []) ++ rest) ps → Next c o (drop (length up) ps) (drop (length (up ++ o ∷ [])) ps)
+next_read c [] o rest [] h = absurd h
+next_read c [] o rest (p ∷ ps) h = record { packet = p; front = refl; reads = h.0 }
+next_read c (u ∷ up) o rest [] h = absurd h
+next_read c (u ∷ up) o rest (p ∷ ps) h = next_read c up o rest ps h.1
+
+pub ok_same : {E : Type 0} (p q : PlainPacket) (x : Result PlainPacket E) → x ≡ Ok p → x ≡ Ok q → p ≡ q
+ok_same p q x e f = cc
+
+-- ---- the peer's link sends and hears what it was handed down
+
+pub sent_same : (p q : Peer) (r : Result PlainFrame FrameError) → MaySend (Unit {0}) p r q → (q.given ≡ p.given) × (q.taken ≡ p.taken)
+sent_same p q r may = by r may
+  where
+    is : (x : Peer) → x.given ≡ p.given → x.taken ≡ p.taken → q ≡ x → (q.given ≡ p.given) × (q.taken ≡ p.taken)
+    is x given taken e = (ap (λ (y : Peer). y.given) e ∙ given, ap (λ (y : Peer). y.taken) e ∙ taken)
+
+    by : (r : Result PlainFrame FrameError) → MaySend (Unit {0}) p r q → (q.given ≡ p.given) × (q.taken ≡ p.taken)
+    by (Ok (info ns nr pf packet)) m = is _ refl refl m.4
+    by (Ok (rr command nr pf)) m = is _ refl refl m.2
+    by (Ok (rnr command nr pf)) m = is _ refl refl m.2
+    by (Ok (rej command nr pf)) m = is _ refl refl m.2
+    by (Ok frame) m = is _ refl refl m
+    by (Err Short) m = is _ refl refl m
+    by (Err BadFcs) m = is _ refl refl m
+    by (Err BadAddress) m = is _ refl refl m
+    by (Err (Undefined control)) m = is _ refl refl m.1
+    by (Err (NoInfoAllowed control)) m = is _ refl refl m.1
+    by (Err TooLong) m = is _ refl refl m.1
+
+-- it takes no fewer
+pub record HearsMore (p q : Peer) : Type 0 where
+  pub given : q.given ≡ p.given
+  pub taken : length p.taken ≤ length q.taken
+
+hears_more : (p : Peer) (hears takes : Bool) (nr : ℕ) (packet : List ℕ) → HearsMore p (taking takes packet (hearing hears nr p))
+hears_more p true true nr packet = (let longer = length-append p.taken (packet ∷ []) in record { given = refl; taken = omega (arith, longer) })
+hears_more p true false nr packet = record { given = refl; taken = omega (arith) }
+hears_more p false true nr packet = (let longer = length-append p.taken (packet ∷ []) in record { given = refl; taken = omega (arith, longer) })
+hears_more p false false nr packet = record { given = refl; taken = omega (arith) }
+
+pub heard_same : (p q : Peer) (r : Result PlainFrame FrameError) → MayHear p r q → HearsMore p q
+heard_same p q r m = by r m
+  where
+    is : (x : Peer) → HearsMore p x → q ≡ x → HearsMore p q
+    is x more e = subst (HearsMore p) (sym e) more
+
+    by : (r : Result PlainFrame FrameError) → MayHear p r q → HearsMore p q
+    by (Ok (info ns nr pf packet)) m = is _ (hears_more p m.0 m.1 nr packet) m.3
+    by (Ok (rr command nr pf)) m = is _ (hears_more p m.0 false nr []) m.1
+    by (Ok (rnr command nr pf)) m = is _ (hears_more p m.0 false nr []) m.1
+    by (Ok (rej command nr pf)) m = is _ (hears_more p m.0 false nr []) m.1
+    by (Ok frame) m = is p (hears_more p false false 0 []) m
+    by (Err e) m = is p (hears_more p false false 0 []) m
+
+pub timer_packet : (c : LinkSettings) (s : LinkStation) → (timer_step c s).packet ≡ None
+timer_packet c s = by (nat_lt s.tries c.retries)
+  where
+    by : (b : Bool)
+        → (closed_by c.window (if b then quiet (asks_again s.phase (with_near (alone s) (record s { tries = s.tries + 1 }))) else leaves Retries (alone s))).packet ≡ None
+    by true = refl
+    by false = refl
