@@ -109,8 +109,10 @@ wrong-bodies: kit
 	.ci/wrong_bodies $(CRATE)
 
 # A program that stands there is taken as it is, without the kit.
-interop: $(if $(wildcard build/x25),,build/x25)
+# The guest comes first: it asks for packages before anything is proved.
+interop:
 	interop/build.sh build/interop
+	$(if $(wildcard build/x25),,$(MAKE) build/x25)
 	python3 interop/play.py build/interop
 
 PREFIX = /usr/local

@@ -34,8 +34,8 @@ RULE = re.compile(r"\|[-| :]+\|")
 # The scripts that have names of their own where they are installed.
 NAMES = {"bridge": "x25bridge", "chart": "x25chart", "pcap2x25": "pcap2x25", "x25dump": "x25dump", "x25pcap": "x25pcap"}
 SCRIPT = re.compile(rf"(?:(?:python3 )?tools/|\b)({'|'.join(NAMES)})\.py\b")
-# Paragraphs that tell of the repository alone.
-OF_THE_REPOSITORY = re.compile("`make |`source share/")
+# Paragraphs that tell of the repository alone, and lists that are made of the manual.
+OF_THE_REPOSITORY = re.compile("`make |`source share/|<!--")
 
 
 def escaped(text):
