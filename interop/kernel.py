@@ -105,8 +105,8 @@ class Missing(Exception):
 def boot(folder, local, remote):
     """The command that boots the guest of the folder that build.sh made; its network is the port `local` of this host, and sends to `remote`.
 
-    What its kernel says of errors stands on the console, too.
+    What its kernel says of errors, and where these came from, stands on the console, too.
     """
     command = ["qemu-system-x86_64", "-M", "q35", "-accel", "tcg", "-m", "256", "-nographic", "-no-reboot"]
-    command += ["-kernel", f"{folder}/vmlinuz", "-initrd", f"{folder}/initrd.gz", "-append", "console=ttyS0 loglevel=4 panic=-1 no_timer_check"]
+    command += ["-kernel", f"{folder}/vmlinuz", "-initrd", f"{folder}/initrd.gz", "-append", "console=ttyS0 loglevel=5 panic=-1 no_timer_check"]
     return command + ["-netdev", NETWORK.format(local, remote), "-device", "e1000,netdev=n0", "-serial", "mon:stdio"]
