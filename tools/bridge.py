@@ -239,7 +239,7 @@ class Bridge:
 
     def _is_cut_off(self):
         """The other end has gone: it is told where something was left to do."""
-        if not (self._user.has_done() and (self._is_idle or not self._circuits.is_up)):
+        if not (self._user.has_asked() and (self._is_idle or not self._circuits.is_up)):
             x25lines.warn("the line has ended before all was done")
             self.status = 1
         return False
@@ -549,7 +549,7 @@ def main():
             from console import Console, Screen
 
             console = Console(options, signals.leave)
-            user = User(console.commands, Screen(), quiet(options))
+            user = User(console.commands, Screen(), quiet(options), is_at_terminal=True)
         else:
             user = user_of(options, files)
         trace = Outlet(files.enter_context(opened(options.trace, "wb"))) if options.trace else None

@@ -87,7 +87,7 @@ def spelled(typed, end):
     """The line that something typed stands for."""
     if typed.count('"') % 2:
         raise Unknown("a quote isn't closed")
-    words = TEXT.sub(lambda found: found[1].encode().hex() or "-", typed).split()
+    words = TEXT.sub(lambda found: found[1].encode(errors="surrogateescape").hex() or "-", typed).split()
     if words[0] == end and len(words) > 1:
         del words[0]
     name = words[0]
@@ -197,11 +197,18 @@ class Console:
         threading.Thread(target=self._read, daemon=True).start()
 
     def _read(self):
-        with contextlib.suppress(EOFError):
-            while (typed := input(f"{self._end}> ").strip()) not in ("quit", "exit"):
+        with contextlib.suppress(EOFError, OSError):
+            while (typed := self._typed()) not in ("quit", "exit"):
                 if typed:
                     self._take(typed)
         self._leave()
+
+    def _typed(self):
+        try:
+            return input(f"{self._end}> ").strip()
+        except UnicodeDecodeError:
+            print("that isn't UTF-8")
+            return ""
 
     def _take(self, typed):
         """Takes a line that was typed."""
@@ -210,7 +217,7 @@ class Console:
             if name in ("help", "?"):
                 print(helped(rest.strip()))
             else:
-                os.write(self._writer, f"{spelled(typed, self._end)}\n".encode())
+                os.write(self._writer, f"{spelled(typed, self._end)}\n".encode(errors="surrogateescape"))
         except Unknown as error:
             print(error)
 

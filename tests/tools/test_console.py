@@ -179,7 +179,7 @@ class Live(ToolCase):
 
     def test_other_ends(self):
         """The terminal is left as it was, behind CTRL-D, CTRL-C, and the end of the line."""
-        for typed, status in (("\x04", 0), ("\x03", 130), (None, 1)):
+        for typed, status in (("\x04", 0), ("\x03", 130), (None, 0)):
             with self.subTest(typed):
                 self.begin(f". off idle\n= {UA}\ndte linkup\n. off idle\n= dte disconnect\ndte linkdown local\n. off idle\n")
                 self.sends(UA)
@@ -189,6 +189,11 @@ class Live(ToolCase):
                 else:
                     self.terminal.types(typed)
                 self.assertEqual((self.terminal.end()[0], self.terminal.echoes()), (status, True))
+
+    def test_octets_that_are_no_text(self):
+        self.begin(". off idle\n= dte send 1 0 fffe\ndte send ch=1 at 1.0.0 q=0 data=fffe\n. off idle\n")
+        os.write(self.terminal.file, b'send 1 0 "\xff\xfe"\r')
+        self.terminal.shows("\nsend ch=1 at 1.0.0 q=0 data=fffe\ndte>")
 
     def test_a_wait_does_not_hold_the_end(self):
         self.begin(". off idle\n")
