@@ -1,8 +1,8 @@
 #!/usr/bin/env python3
 """Runs a station, `x25 station`, with a clock for timer T1, and joins it to a line; its user writes commands and reads notices.
 
-    bridge.py dce --listen 7000 --stay
-    printf 'dte connect\\nwait dte restarted\\ndte call 123 4567 41\\n' | bridge.py dte --connect localhost:7000
+    printf 'wait dce incoming\\ndce accept 1\\n' | bridge.py dce --listen 7000
+    printf 'dte connect\\nwait dte restarted\\ndte call 123 4567 41\\nwait dte connected\\n' | bridge.py dte --connect localhost:7000
     bridge.py dce --udp 5601:5600 --trace frames
     bridge.py dce --xot-listen --channels 8 --stay
 
