@@ -7,10 +7,10 @@
     x25 sim --tap < script | x25dump.py --messages
 
 Reads captures, as pcap2x25.py does (its --help has the link types and the words --swap to --dte), the lines of a trace, also
-with a time and a tab before them, the lines of `x25 decode`, and those of `x25 sim --tap`; each also packed by gzip. Empty lines and
-comments, which begin with `#`, are shown as they are; a line that is none of these is answered by `? 60`, as `decode` does. Of a capture all connections are shown, each but the first with its
-number before the direction, and named where it begins; --connection takes one of them. Frames that were made up around packets
-aren't shown, their packets are.
+with a time and a tab before them, the lines of `x25 decode`, and those of `x25 sim --tap`; each also packed by gzip. Empty lines
+and comments, which begin with `#`, are shown as they are; a line that is none of these is answered by `? 60`, as `decode` does.
+Of a capture all connections are shown, each but the first with its number before the direction, and named where it begins;
+--connection takes one of them. Frames that were made up around packets aren't shown, their packets are.
 
   --messages  shows what the ends' users sent: data packets joined by M, and interrupts, as hexadecimal digits and text. Each comes
               once, though its frame be repeated

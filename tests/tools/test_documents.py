@@ -15,7 +15,7 @@ import support
 import english
 
 WIDTH = 100
-LENGTHS = {"README.md": 100, "docs/ARCHITECTURE.md": 110, "docs/PROOFS.md": 176, "docs/DECISIONS.md": 200, "docs/PERFORMANCE.md": 98, "CONTRIBUTING.md": 149, "docs/READING.md": 80}
+LENGTHS = {"README.md": 104, "docs/ARCHITECTURE.md": 110, "docs/PROOFS.md": 181, "docs/DECISIONS.md": 200, "docs/PERFORMANCE.md": 98, "CONTRIBUTING.md": 149, "docs/READING.md": 80}
 CRATES = os.path.join(support.ROOT, "crates")
 # What is named and stands elsewhere: what commands leave behind, the sources of Linux, what whoever races decoders has.
 ELSEWHERE = ("build/*", "out/*", "/*", "../x25_*", "net/*", "AnswersOffered.antt")
@@ -78,13 +78,12 @@ class Form(unittest.TestCase):
 
 
 class English(unittest.TestCase):
-    """Sentences are short, and 'behind' is no word of time. PEER, PROOFS, README and the crates' own aren't measured, nor FORMATS on the judge."""
-
-    DOCUMENTS = ("ARCHITECTURE", "BUGS", "CIRCUIT", "DECISIONS", "FORMATS", "INTEROP", "LINK", "MANUAL", "PERFORMANCE", "PROVING", "READING", "THEORY", "WALK")
+    """Sentences are short, and 'behind' is no word of time. Those of crates aren't measured."""
 
     def texts(self):
-        for document in ("CONTRIBUTING.md", "CHANGELOG.md", "interop/README.md", *(f"docs/{name}.md" for name in self.DOCUMENTS)):
-            yield document, re.sub(r"^## What `judge` writes\n(?:.*\n)*?(?=## )", "", text_of(document), flags=re.MULTILINE)
+        for document in documents():
+            if not document.startswith("crates/"):
+                yield document, text_of(document)
 
     def test_sentences_have_few_words(self):
         for document, text in self.texts():
