@@ -166,7 +166,7 @@ class Bridge:
 
     def _patience(self):
         """How long nothing may happen before the bridge itself has to act, in seconds; None where it has nothing to do."""
-        if self._command() is not None or self._has_caught_up() or self._in_vain():
+        if self._leaves is None and (self._command() is not None or self._has_caught_up() or self._in_vain()):
             return 0
         now = time.monotonic()
         own = [self._leaves] if self._leaves is not None else [self._deadline, self._probing(), *self._waits()]
@@ -202,7 +202,7 @@ class Bridge:
 
     def _is_held_up(self):
         """Whether no command may be asked now."""
-        waits = self._is_full or self._leaves is not None or self._user.notices.is_slow() or self._is_settling()
+        waits = self._is_full or self._user.notices.is_slow() or self._is_settling()
         return waits or not self._wire.is_there or self._wire.waits > MOST_UNSENT
 
     def _in_vain(self):

@@ -43,6 +43,7 @@ COMMANDS = {
 NOTES = """DATA is hexadecimal digits, text in quotes, both, as "ab"0d0a, or - for none. S S W W are packet
 sizes, 8 for 2 to the power of 8, and windows: of the called end's data, and of the calling end's."""
 TEXT = re.compile(r'"([^"]*)"')
+DATA = re.compile(r"-|(?:[0-9a-fA-F]{2})+")
 OCTETS = re.compile(r"data=((?:[0-9a-f]{2})+)$")
 CHANNEL = re.compile(r" ch=(\d+)")
 RUNS = re.compile(rb"([ !#-~]{3,})")
@@ -103,6 +104,9 @@ def spelled(typed, end):
         raise Unknown(f"it is `{name} {fields}`" if fields else f"`{name}` stands alone")
     if name == "call" and len(words) == least + 1:
         words.append("-")
+    at = fields.replace("[", "").replace("]", "").split().index("DATA") + 1 if "DATA" in fields else None
+    if at and not DATA.fullmatch(words[at]):
+        raise Unknown(f'{words[at]!r} is no octets: these are hexadecimal digits in pairs, or "text"')
     return " ".join([end, *words])
 
 

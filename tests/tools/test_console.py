@@ -33,7 +33,7 @@ class Typed(unittest.TestCase):
             ('send 1 0 "ab"0D0a"c"', "dte send 1 0 61620D0a63"),
             ('send 1 1 ""', "dte send 1 1 -"),
             ("accept 1", "dte accept 1"),
-            ("send 1 0 4", "dte send 1 0 4"),
+            ("int 1 07", "dte int 1 07"),
             ("wait incoming", "wait dte incoming"),
             ('wait message ch=1 at 1.0.0 q=0 data="', None),
             ("wait dte incoming ch=1", "wait dte incoming ch=1"),
@@ -57,6 +57,9 @@ class Typed(unittest.TestCase):
             ("restart now", "`restart` stands alone"),
             ("wait", "it is `wait TEXT`"),
             ('send 1 0 "hello', "a quote isn't closed"),
+            ("send 1 0 hello", """'hello' is no octets: these are hexadecimal digits in pairs, or "text\""""),
+            ("call 1 2 4", "'4' is no octets"),
+            ("int 1 x", "'x' is no octets"),
         ):
             with self.subTest(typed), self.assertRaises(console.Unknown) as raised:
                 console.spelled(typed, "dte")
