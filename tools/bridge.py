@@ -558,7 +558,7 @@ def main():
         files.callback(wire.close)
         bridge = Bridge(station, wire, user, options, trace, signals)
         if console:
-            console.begin()
+            console.begin(wire)
         try:
             bridge.run()
         finally:

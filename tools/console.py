@@ -189,8 +189,9 @@ class Console:
         self.commands, self._writer = os.pipe()
         self._terminal = termios.tcgetattr(0)
 
-    def begin(self):
-        """Greets the user, and has him type."""
+    def begin(self, wire):
+        """Greets the user, and has him type; of the wire it is told where a command waits for it."""
+        self._wire = wire
         print(greeting(self._options))
         if "readline" in sys.modules:
             # Readline is to know of one row alone, above which notices come.
@@ -222,6 +223,8 @@ class Console:
                 print(helped(rest.strip()))
             else:
                 os.write(self._writer, f"{spelled(typed, self._end)}\n".encode(errors="surrogateescape"))
+                if not self._wire.is_there:
+                    print("that waits: the line isn't there yet")
         except Unknown as error:
             print(error)
 
