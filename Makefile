@@ -94,6 +94,7 @@ golden: build/x25
 
 judge-runs: build/x25
 	python3 tests/judge_runs.py --program build/x25
+	python3 tests/tap_runs.py --program build/x25
 	python3 tests/odd_runs.py --program build/x25
 	python3 tests/link_runs.py --program build/x25
 	python3 tests/order_runs.py --program build/x25
@@ -108,8 +109,10 @@ wrong-bodies: kit
 	.ci/wrong_bodies $(CRATE)
 
 # A program that stands there is taken as it is, without the kit.
-interop: $(if $(wildcard build/x25),,build/x25)
+# The guest comes first: it asks for packages before anything is proved.
+interop:
 	interop/build.sh build/interop
+	$(if $(wildcard build/x25),,$(MAKE) build/x25)
 	python3 interop/play.py build/interop
 
 PREFIX = /usr/local

@@ -1,7 +1,7 @@
 #!/usr/bin/env python3
 """The whole gate: `rt ci`, then the library for C, then the golden cases on the programs that it left, then the tests of the tools.
 
-The tests of the tools that need no program run before, too: they take seconds, and where one fails nothing else is begun. The
+The tests of the tools that need no program run before, too: they take a minute, and the first that fails ends the gate. The
 line 'N passed, M failed' of `rt ci` is held back, and the last line is one such line that counts all three: proofs and must-fail
 edits, the library for C, a golden case for each build of the program, a test of the tools. The line before it has the time that the whole run took, of the
 processors and on the clock. Exit status: 0 nothing failed, 1 something did.
@@ -27,7 +27,7 @@ PLAYER = "crates/x25_refusals/out/x25_refusals"
 
 def quick():
     """Runs the tests of the tools that need no program, before all else; answers whether they pass."""
-    command = [sys.executable, os.path.join(ROOT, "tests", "check_tools.py")]
+    command = [sys.executable, os.path.join(ROOT, "tests", "check_tools.py"), "--first-failure"]
     return subprocess.run(command, cwd=ROOT, env={**os.environ, "X25": "", "X25_REFUSALS": "", "X25_LIBRARY": ""}).returncode == 0
 
 

@@ -27,9 +27,17 @@ Commands are lines of a script of this end (`dte call 123 4567 41`), of standard
 behind it until a notice comes that begins so; a carriage return at the end of a line is left out. Notices are the entries of the
 transcript; `! N` for a command that is refused, and `? 60` for one that is none; and lines that begin with `#`, the bridge's own words,
 in UTF-8: why that was, and what becomes of the line. They go to standard output or to --notices. With --stdio commands have to come by
---commands, and notices go to standard error. A command that is refused because too much waits (10 and 31) is asked again behind the next
-frame, and those behind it wait; so do all while the line isn't there. `connect` behind `disconnect` begins a new station, once DISC is
-answered or T1 has passed.
+--commands, and notices go to standard error. A `wait` for what can't come any more, as the answer to a call that was cleared, and one
+that has lasted --wait seconds, is refused (61), and those behind it go on; one that holds some for 10 seconds says so.
+
+At a terminal the bridge is a console: `help` shows what can be typed there, without this end and with octets as text in quotes, too, and
+`quit`, as the end of the input, ends the bridge as SIGTERM does, but with status 0, or 1.
+
+A message that is refused because 8 of its circuit wait (31) stands aside, with those behind it for that circuit, and is asked again
+behind the next frame; all else goes on, but for `clear` and `reset` of the circuit, `restart` and `disconnect`, which let the messages go
+first as long as one is taken every --quiet seconds. A command that is refused because 256 packets wait (10) is asked again behind the
+next frame, and those behind it wait; so do all while the line isn't there. `connect` behind `disconnect` begins a new station, once DISC
+is answered or T1 has passed.
 
 T1 fires --t1 seconds after it began anew, where nothing that came is unread; let it be longer than the way to the other end and
 back. Where nothing came for --t3 seconds, the other end is asked whether it is there: by an RR of a circuit that is open, which it has to
@@ -53,8 +61,6 @@ import argparse
 import contextlib
 import re
 import select
-import signal
-import socket
 import sys
 import time
 from collections import Counter
@@ -65,27 +71,31 @@ import wires
 import x25lines
 import x25names
 import xot_wire
+from circuits import Circuits
 from losses import within
 from mishaps import Mishaps
-from users import SLOW, Outlet, User
+from places import host_and_port, ports, xot_host
+from users import SLOW, Outlet, Signals, User, kind
 from x25lines import BadInput, FrameLine
 from xot import XOT_PORT
 
 # What a station answers where there is room again once something is acknowledged, where the link was ended for good, for a parameter
 # out of range, and for a line that asks for nothing.
-FULL, DEAD, OUT_OF_RANGE, NOTHING = ("! 10", "! 31"), "! 13", "! 34", "? 60"
+FULL, CIRCUIT_FULL, DEAD, OUT_OF_RANGE, NOTHING = "! 10", "! 31", "! 13", "! 34", "? 60"
+# What the bridge answers a `wait` for what doesn't come.
+IN_VAIN = "! 61"
 # Commands wait while the line has so many octets unsent.
 MOST_UNSENT = 1 << 20
 # The bridge ends after a time without a frame, this many times T1.
 QUIET_T1S = 5
 MOST_CHANNELS = 16
 OTHER = {">": "<", "<": ">"}
+OTHER_END = {"dte": "dce ", "dce": "dte "}
 CALL, UA, DM = 0x0B, 0x63, 0x0F
 # A call, and an acceptance, with the two packet sizes that they may say.
 SIZED = re.compile(r"(?:call \S+ \S+ \S+|accept (?P<channel>\d+))(?: (?P<called>\d{1,3}) (?P<calling>\d{1,3}) \d+ \d+)?")
+SENDS = re.compile(r"\w+ send ")
 READY = re.compile(r"\w+ (?:not)?ready (\d+)")
-CHANNEL = re.compile(r" ch=(\d+)")
-PROPOSED = re.compile(r" size=(\d+),(\d+) ")
 
 
 def called_channel(octets):
@@ -99,62 +109,6 @@ def is_answer(octets):
     return x25lines.is_sealed(octets) and octets[1] & 0xEF in (UA, DM)
 
 
-class Signals:
-    """CTRL-C and SIGTERM as something to read. The first that came is `number`; a second one ends the script at once."""
-
-    def __init__(self):
-        self.number = None
-        self._reader, self._writer = socket.socketpair()
-
-    def __enter__(self):
-        self._writer.setblocking(False)
-        signal.set_wakeup_fd(self._writer.fileno())
-        for number in (signal.SIGINT, signal.SIGTERM):
-            signal.signal(number, self._come)
-        return self
-
-    def __exit__(self, *_):
-        signal.set_wakeup_fd(-1)
-
-    def _come(self, number, _):
-        self.number = number
-        for each in (signal.SIGINT, signal.SIGTERM):
-            signal.signal(each, signal.SIG_DFL)
-
-    def readers(self):
-        """The file that has something to read once one came, and None did before."""
-        return [self._reader] if self.number is None else []
-
-
-class Channels:
-    """What the entries of a station tell of its channels: which have a circuit open, of which the user isn't ready, what calls propose."""
-
-    def __init__(self):
-        self.open, self.not_ready, self.proposed = set(), set(), {}
-
-    def heed(self, notice):
-        """Takes an entry; answers its event and its channel, or None."""
-        event = notice.split(" ")[1]
-        found = CHANNEL.search(notice)
-        channel = int(found[1]) if found else None
-        if event in ("accept", "connected"):
-            self.open.add(channel)
-        elif event == "incoming":
-            said = PROPOSED.search(notice)
-            self.proposed[channel] = max(int(said[1]), int(said[2])) if said else 0
-        elif event in ("ready", "notready"):
-            (self.not_ready.add if event == "notready" else self.not_ready.discard)(channel)
-        elif event in ("clear", "cleared", "cleardone", "reset", "wasreset", "resetdone"):
-            # Both ends are ready behind a reset.
-            self.not_ready.discard(channel)
-            if event.startswith("clear"):
-                self.open.discard(channel)
-        elif event.startswith(("restart", "link")):
-            self.open.clear()
-            self.not_ready.clear()
-        return event, channel
-
-
 class Bridge:
     """A station, its line and its user, and the deadline of T1. `status` is what the script ends with."""
 
@@ -163,10 +117,10 @@ class Bridge:
         self._end = options.end
         self._direction = ">" if options.end == "dte" else "<"
         self._going, self._coming = (Mishaps(options.lose, options.damage, 2 * options.seed + way) for way in (0, 1))
-        self._quiet = options.quiet if options.quiet is not None else QUIET_T1S * options.t1
+        self._quiet = quiet(options)
         self._outlets = [it for it in (user.notices, trace) if it is not None]
-        self._channels = Channels()
-        self._deadline, self._is_idle, self._is_up = None, False, False
+        self._circuits = Circuits()
+        self._deadline, self._is_idle = None, False
         self._is_full, self._held, self._unknown = False, set(), set()
         self._last_frame = self._last_came = time.monotonic()
         # Whether the link was ended here, and until when an answer to that, or to what T1 sent again, may come.
@@ -212,10 +166,10 @@ class Bridge:
 
     def _patience(self):
         """How long nothing may happen before the bridge itself has to act, in seconds; None where it has nothing to do."""
-        if self._command() is not None or self._has_caught_up():
+        if self._command() is not None or self._has_caught_up() or self._in_vain():
             return 0
         now = time.monotonic()
-        own = [self._leaves] if self._leaves is not None else [self._deadline, self._probing()]
+        own = [self._leaves] if self._leaves is not None else [self._deadline, self._probing(), *self._waits()]
         times = [at for at in (self._wire.due, *own) if at is not None]
         if self._is_settling():
             times.append(max(self._answers))
@@ -234,11 +188,39 @@ class Bridge:
             self._release()
         elif (command := self._command()) is not None:
             self._ask(command)
+        elif why := self._in_vain():
+            command = f"wait {self._user.awaits()[0]}"
+            why += f"; {self._user.held()}"
+            self._user.end_wait()
+            self._refuse(IN_VAIN, why, command)
+        elif (silence := self._user.silence()) is not None and now >= silence:
+            self._user.tell_silence()
 
     def _command(self):
         """The command that may be asked now."""
+        return None if self._is_held_up() else self._user.command()
+
+    def _is_held_up(self):
+        """Whether no command may be asked now."""
         waits = self._is_full or self._leaves is not None or self._user.notices.is_slow() or self._is_settling()
-        return None if waits or not self._wire.is_there or self._wire.waits > MOST_UNSENT else self._user.command()
+        return waits or not self._wire.is_there or self._wire.waits > MOST_UNSENT
+
+    def _in_vain(self):
+        """Why a `wait` is given up; nothing where none is."""
+        text, since = self._user.awaits() or ("", 0)
+        if not text:
+            return ""
+        if text.startswith(OTHER_END[self._end]):
+            return f"notices of this end begin with `{self._end} `"
+        is_over = self._options.wait is not None and time.monotonic() >= since + self._options.wait
+        return self._circuits.cannot_come(text) or (f"it hasn't come in {self._options.wait:g} seconds" if is_over else "")
+
+    def _waits(self):
+        """When a `wait` is given up, when it is told that it holds commands, and when a command goes before messages that stand aside."""
+        awaited = self._user.awaits()
+        is_limited = awaited is not None and self._options.wait is not None
+        passes = None if self._is_held_up() else self._user.commands.due()
+        return [awaited[1] + self._options.wait if is_limited else None, self._user.silence(), passes]
 
     def _is_settling(self):
         """Whether an answer may still come though the link was ended: a new station would take it for one to its SABM."""
@@ -246,7 +228,7 @@ class Bridge:
 
     def _is_at_rest(self):
         """Whether nothing is left to do here, if nothing comes any more."""
-        is_still = (self._is_idle or not self._is_up) and self._deadline is None and not self._wire.waits and not self._user.notices
+        is_still = (self._is_idle or not self._circuits.is_up) and self._deadline is None and not self._wire.waits and not self._user.notices
         return not self._options.stay and self._wire.has_begun and self._user.has_done() and is_still
 
     def _has_ended(self):
@@ -257,7 +239,7 @@ class Bridge:
 
     def _is_cut_off(self):
         """The other end has gone: it is told where something was left to do."""
-        if not (self._user.has_done() and (self._is_idle or not self._is_up)):
+        if not (self._user.has_done() and (self._is_idle or not self._circuits.is_up)):
             x25lines.warn("the line has ended before all was done")
             self.status = 1
         return False
@@ -265,8 +247,8 @@ class Bridge:
     def _leave(self):
         """Ends the link, and the bridge once that is answered, or T1 later."""
         self._leaves = time.monotonic() + self._options.t1
-        self.status = 128 + self._signals.number
-        if self._is_up or self._deadline is not None:
+        self.status = 128 + self._signals.number if self._signals.number else self.status
+        if self._circuits.is_up or self._deadline is not None:
             self._heed(self._station.ask(f"{self._end} disconnect"))
 
     def _receive(self, octets):
@@ -277,7 +259,7 @@ class Bridge:
         octets = self._befallen(octets, self._coming)
         if octets is None:
             return
-        self._is_full = False
+        self._make_room()
         answer = self._station.ask(FrameLine(OTHER[self._direction], octets).text())
         if answer.refusal is not None:
             self._user.note(f"the station takes no frame of {len(octets):,} octets: it is lost")
@@ -294,10 +276,15 @@ class Bridge:
             hint = f"--channels {channel} would have it" if channel <= MOST_CHANNELS else f"a station has at most {MOST_CHANNELS}"
             self._user.note(f"a call came on channel {channel}, and there are {self._options.channels}: nothing answers it; {hint}")
 
+    def _make_room(self):
+        """What was refused as too much waits is asked again: a frame came, or the user did something else than send."""
+        self._is_full = False
+        self._user.commands.make_room()
+
     def _fire(self):
         """T1 runs out. Where the link goes down by it, no frame comes, so what waited for one is asked again."""
         self._deadline = None
-        self._is_full = False
+        self._make_room()
         self._answers[1] = time.monotonic() + self._options.t1
         self.counts["fired"] += 1
         answer = self._station.ask(f"t1 {self._end}")
@@ -307,14 +294,14 @@ class Bridge:
 
     def _probing(self):
         """When the other end is asked whether it is there; None where there is no circuit to ask by, or T1 asks already."""
-        is_needed = self._options.t3 and self._channels.open and self._deadline is None and self._leaves is None and not self._is_at_rest()
+        is_needed = self._options.t3 and self._circuits.open() and self._deadline is None and self._leaves is None and not self._is_at_rest()
         return self._last_came + self._options.t3 if is_needed else None
 
     def _probe(self):
         """Says once more on a circuit whether the user is ready: the other end has to acknowledge that."""
         self._last_came = time.monotonic()
-        channel = min(self._channels.open)
-        word = "notready" if channel in self._channels.not_ready else "ready"
+        channel = self._circuits.open()[0]
+        word = "notready" if channel in self._circuits.not_ready else "ready"
         self._heed(self._station.ask(f"{self._end} {word} {channel}")._replace(notices=[]))
 
     def _has_caught_up(self):
@@ -323,7 +310,7 @@ class Bridge:
 
     def _release(self):
         """What was held for the reader of notices comes again."""
-        held, self._held = sorted(self._held & self._channels.not_ready), set()
+        held, self._held = sorted(self._held & self._circuits.not_ready), set()
         for channel in held:
             self._heed(self._station.ask(f"{self._end} ready {channel}"))
 
@@ -332,16 +319,20 @@ class Bridge:
         why = self._objection(command)
         if why:
             refusal = NOTHING if why.startswith("no command") else OUT_OF_RANGE
-            self._user.is_taken()
+            self._user.commands.take()
             self._refuse(refusal, why, command)
             return
         answer = self._station.ask(command)
         if answer.refusal == DEAD:
             self._begin_anew()
             answer = self._station.ask(command)
-        self._is_full = answer.refusal in FULL
-        if not self._is_full:
-            self._user.is_taken()
+        self._is_full = answer.refusal == FULL
+        if answer.refusal == CIRCUIT_FULL:
+            self._user.commands.have_no_room()
+        elif not self._is_full:
+            self._user.commands.take()
+            if not SENDS.match(command):
+                self._make_room()
             if answer.refusal is not None:
                 self._refuse(answer.refusal, x25names.refusal(answer.refusal), command)
             elif found := READY.fullmatch(command):
@@ -358,7 +349,7 @@ class Bridge:
         found = SIZED.fullmatch(command.partition(" ")[2])
         if found and self._wire.most_size < wires.MOST_SIZE:
             said = max(int(found["called"] or 0), int(found["calling"] or 0))
-            if said > self._wire.most_size or not said and self._channels.proposed.get(int(found["channel"] or 0), 0) > self._wire.most_size:
+            if said > self._wire.most_size or not said and self._circuits.proposed.get(int(found["channel"] or 0), 0) > self._wire.most_size:
                 return f"packet sizes over {self._wire.most_size} ({1 << self._wire.most_size} octets) don't fit the line"
         return ""
 
@@ -371,17 +362,15 @@ class Bridge:
     def _begin_anew(self):
         """A station that has ended its link is so for good: another one begins."""
         self._station.begin()
-        self._channels, self._held = Channels(), set()
-        self._deadline, self._is_up, self._is_dead = None, False, False
+        self._circuits, self._held = Circuits(), set()
+        self._deadline, self._is_dead = None, False
         self._heed(self._station.first)
 
     def _heed(self, answer):
         """Tells and sends what the station answers, and sets the deadline as its mark says."""
         slow = set()
         for notice in answer.notices:
-            event, channel = self._channels.heed(notice)
-            if event in ("linkup", "linkdown"):
-                self._is_up = event == "linkup"
+            event, channel = self._circuits.heed(notice)
             if event == "disconnect":
                 self._is_dead, self._answers[0] = True, time.monotonic() + self._options.t1
             self._user.tell(notice)
@@ -396,7 +385,7 @@ class Bridge:
         elif self._deadline is None:
             raise BadInput("the station left T1 running, which wasn't")
         self._is_idle = answer.is_idle
-        for channel in slow - self._channels.not_ready:
+        for channel in slow - self._circuits.not_ready:
             self._hold(channel)
 
     def _hold(self, channel):
@@ -426,39 +415,6 @@ class Bridge:
         """Says on standard error what went and came."""
         lost, damaged = (f"{getattr(self._going, kind)} + {getattr(self._coming, kind)} {kind}" for kind in ("lost", "damaged"))
         x25lines.warn(f"frames: {self.counts['sent']} sent, {self.counts['came']} came; {lost}, {damaged}; T1 fired {self.counts['fired']} times")
-
-
-def port(text):
-    """A word that is the number of a port; 0 lets the system choose one."""
-    if not re.fullmatch("[0-9]{1,5}", text) or int(text) > 65_535:
-        raise argparse.ArgumentTypeError(f"{text!r} is no port")
-    return int(text)
-
-
-def host(text):
-    """A word that is a name or an address; one of IPv6 stands in brackets."""
-    found = re.fullmatch(r"\[([0-9a-fA-F:.%\w]+)\]|([^:\[\]]+)", text)
-    if not found:
-        raise argparse.ArgumentTypeError(f"{text!r} is no name of a host and no address; one of IPv6 stands in brackets")
-    return found[1] or found[2]
-
-
-def host_and_port(text):
-    """A word HOST:PORT, or PORT of this host."""
-    name, _, number = text.rpartition(":")
-    return host(name) if name else "127.0.0.1", port(number)
-
-
-def ports(text):
-    """A word LOCAL:REMOTE, two ports of this host, or LOCAL:HOST:REMOTE."""
-    local, _, remote = text.partition(":")
-    return (port(local), *host_and_port(remote))
-
-
-def xot_host(text):
-    """A word HOST or HOST:PORT of XOT."""
-    has_port = re.fullmatch(r".*:[0-9]*", text) and not text.endswith("]")
-    return host_and_port(text) if has_port else (host(text), XOT_PORT)
 
 
 def is_xot(options):
@@ -520,6 +476,7 @@ def words():
     parser.add_argument("--t1", type=within(float, 0.001, 86_400), default=1, metavar="SECONDS", help="how long T1 is (1)")
     parser.add_argument("--t3", type=within(float, 0, 86_400), default=60, metavar="SECONDS", help="how long nothing comes before the other end is asked; 0 for never (60)")
     parser.add_argument("--quiet", type=within(float, 0, 86_400), metavar="SECONDS", help=f"how long nothing comes at the end ({QUIET_T1S} times T1)")
+    parser.add_argument("--wait", type=within(float, 0, 86_400), metavar="SECONDS", help="how long a `wait` waits (as long as it may come)")
     parser.add_argument("--stay", action="store_true", help="end only when the line does")
     parser.add_argument("--commands", metavar="FILE", help="where commands come from (standard input)")
     parser.add_argument("--notices", metavar="FILE", help="where notices go to (standard output)")
@@ -554,6 +511,11 @@ def joined(options, note):
     return xot_wire.Xot(end, note, options.xot, options.xot_listen, options.channels, t3)
 
 
+def quiet(options):
+    """How long nothing may come or go at the end, in seconds."""
+    return options.quiet if options.quiet is not None else QUIET_T1S * options.t1
+
+
 def opened(path, mode):
     """Opens a file that the words name, without a buffer."""
     try:
@@ -570,24 +532,40 @@ def user_of(options, files):
         commands = files.enter_context(opened(options.commands, "rb")).fileno()
     if options.notices:
         notices = files.enter_context(opened(options.notices, "wb"))
-    return User(commands, notices)
+    return User(commands, Outlet(notices, kind), quiet(options))
+
+
+def has_console(options):
+    """Whether the user sits at a terminal."""
+    return not (options.stdio or options.commands or options.notices) and sys.stdin.isatty() and sys.stdout.isatty()
 
 
 def main():
     options = words()
     with contextlib.ExitStack() as files:
         signals = files.enter_context(Signals())
-        user = user_of(options, files)
+        console = None
+        if has_console(options):
+            from console import Console, Screen
+
+            console = Console(options, signals.leave)
+            user = User(console.commands, Screen(), quiet(options))
+        else:
+            user = user_of(options, files)
         trace = Outlet(files.enter_context(opened(options.trace, "wb"))) if options.trace else None
         station = files.enter_context(station_of(options))
         wire = joined(options, user.note)
         files.callback(wire.close)
         bridge = Bridge(station, wire, user, options, trace, signals)
+        if console:
+            console.begin()
         try:
             bridge.run()
         finally:
             for outlet in filter(None, (user.notices, trace)):
                 outlet.end()
+            if console:
+                console.close()
             if options.stats:
                 bridge.stats()
         return bridge.status

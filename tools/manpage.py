@@ -40,8 +40,8 @@ NAMES = {"bridge": "x25bridge", "chart": "x25chart", "pcap2x25": "pcap2x25", "x2
 SCRIPT = re.compile(rf"(?:(?:python3 )?tools/|\b)({'|'.join(NAMES)})\.py\b")
 # What stands for the program in the repository.
 PROGRAM = re.compile(r"\bbuild/x25(?:-unproved)?(?![\w.])")
-# Paragraphs that tell of the repository alone.
-OF_THE_REPOSITORY = re.compile("`make |`source share/")
+# Paragraphs that tell of the repository alone, and lists that are made of the manual.
+OF_THE_REPOSITORY = re.compile("`make |`source share/|<!--")
 
 
 def escaped(text):

@@ -1,8 +1,12 @@
-"""The user of a bridge: commands that come and are held, notices that are told; and files whose readers may be slow."""
+"""The user of a bridge: commands that come and are held, notices that are told, signals; and files whose readers may be slow."""
 
 import contextlib
 import os
+import re
 import select
+import signal
+import socket
+import time
 from collections import Counter, deque
 
 import x25lines
@@ -12,8 +16,12 @@ from wires import MOST_READ, ROOM
 MOST_NOTICES, MOST_OF_A_NOTICE = 10_000, 200
 # A reader is slow while so many octets wait for it, and those behind so many more are left out.
 SLOW, FULL = 1 << 18, 1 << 25
-# How long a reader is waited for at the end, in seconds.
-PATIENCE = 2
+# How long a reader is waited for at the end, and how long a `wait` holds commands before that is told, in seconds.
+PATIENCE, SILENCE = 2, 10
+# A message of a channel; what waits while messages of a channel, or of any, stand aside. So many octets may stand aside.
+MESSAGE = re.compile(rb"d(?:te|ce) send (\d+) ")
+LATER = re.compile(rb"d(?:te|ce) (?:(?:clear|reset) (\d+)$|restart$|disconnect$)")
+MOST_ASIDE = 1 << 22
 
 
 class Outlet:
@@ -43,9 +51,13 @@ class Outlet:
             return
         if self._left_out:
             kinds = ", ".join(f"{count:,} {kind}" for kind, count in sorted(self._left_out.items()))
-            self._left += f"# left out, while nobody read: {kinds}\n".encode()
+            self._left += self.spelled(f"# left out, while nobody read: {kinds}").encode()
             self._left_out.clear()
-        self._left += f"{line}\n".encode()
+        self._left += self.spelled(line).encode()
+
+    def spelled(self, line):
+        """What is written for a line."""
+        return f"{line}\n"
 
     def flush(self):
         """Writes what there is room for, without waiting."""
@@ -65,39 +77,170 @@ def kind(notice):
     return rest.split(" ")[0] if first in ("dte", "dce") else first
 
 
-class User:
-    """The user of an end. `commands` is the number of the file that they come by, or None."""
+class Signals:
+    """CTRL-C and SIGTERM as something to read. The first that came is `number`; a second one ends the script at once. 0 is for `leave`."""
 
-    def __init__(self, commands, notices):
-        self._commands = commands
-        self.notices = Outlet(notices, kind)
-        self._open, self._held = b"", deque()
-        self._heard = deque(maxlen=MOST_NOTICES)
-        self._is_ended = commands is None
+    def __init__(self):
+        self.number = None
+        self._reader, self._writer = socket.socketpair()
+
+    def __enter__(self):
+        self._writer.setblocking(False)
+        signal.set_wakeup_fd(self._writer.fileno())
+        for number in (signal.SIGINT, signal.SIGTERM):
+            signal.signal(number, self._come)
+        return self
+
+    def __exit__(self, *_):
+        signal.set_wakeup_fd(-1)
+
+    def _come(self, number, _):
+        self.number = number
+        for each in (signal.SIGINT, signal.SIGTERM):
+            signal.signal(each, signal.SIG_DFL)
+
+    def leave(self):
+        """The user wants to end."""
+        self.number = 0
+        self._writer.send(b"\0")
 
     def readers(self):
-        """The file to read from, where more commands may come and none is held."""
-        return [] if self._is_ended or self._held else [self._commands]
+        """The file that has something to read once one came, and None did before."""
+        return [self._reader] if self.number is None else []
+
+
+class Commands:
+    """Lines that wait to be asked, in the order in which they came.
+
+    A message for which its circuit has no room stands aside, and behind it those of the same channel, so that it holds nothing else; but
+    `clear`, `reset`, `restart` and `disconnect` let the messages go first, as long as one of the circuit is taken within `patience` seconds.
+    """
+
+    def __init__(self, patience):
+        self._patience = patience
+        # Those that wait in order, and how many octets these are.
+        self._lines, self.octets = deque(), 0
+        # By channels: the messages that stand aside, and when one was taken last; the channels whose circuit has no room. The octets of these.
+        self._aside, self._last, self._full, self._beside = {}, {}, set(), 0
+        # The channel whose message `next` answered.
+        self._at = None
+
+    def __len__(self):
+        """How many lines wait in order."""
+        return len(self._lines)
+
+    def add(self, lines):
+        """Lines came."""
+        for line in lines:
+            self._lines.append(line)
+            self.octets += len(line) + 1
+
+    def are_done(self):
+        """Whether none waits."""
+        return not self._lines and not self._aside
+
+    def first(self):
+        """The first of those that wait in order, or nothing."""
+        return self._lines[0] if self._lines else b""
+
+    def drop_first(self):
+        """The first of those that wait in order is done with; answers it."""
+        line = self._lines.popleft()
+        self.octets -= len(line) + 1
+        return line
+
+    def next(self):
+        """The command whose time has come, or None; a `wait` holds those behind it."""
+        self._at = next((channel for channel in self._aside if channel not in self._full), None)
+        if self._at is not None:
+            return self._aside[self._at][0]
+        while self._lines and not self._lines[0].startswith(b"wait "):
+            found = MESSAGE.match(self._lines[0])
+            if found and found[1] in self._aside:
+                if self._beside >= MOST_ASIDE:
+                    return None
+                self._put_aside(found[1])
+            else:
+                due = self.due()
+                return self._lines[0] if due is None or time.monotonic() >= due else None
+        return None
+
+    def due(self):
+        """When the first line goes before messages that stand aside; None where it lets none go first."""
+        found = LATER.match(self.first())
+        return max((last + self._patience for at, last in self._last.items() if found[1] in (at, None)), default=None) if found else None
+
+    def take(self):
+        """The line that `next` answered was asked."""
+        if self._at is None:
+            self.drop_first()
+            return
+        self._beside -= len(self._aside[self._at].popleft())
+        self._last[self._at] = time.monotonic()
+        if not self._aside[self._at]:
+            del self._aside[self._at], self._last[self._at]
+
+    def have_no_room(self):
+        """The message that `next` answered was refused, as its circuit has no room before `make_room`."""
+        channel = self._at
+        if channel is None:
+            channel = MESSAGE.match(self._lines[0])[1]
+            self._last[channel] = time.monotonic()
+            self._put_aside(channel)
+        self._full.add(channel)
+
+    def _put_aside(self, channel):
+        line = self.drop_first()
+        self._beside += len(line)
+        self._aside.setdefault(channel, deque()).append(line)
+
+    def make_room(self):
+        """Something happened by which there may be room in any circuit."""
+        self._full.clear()
+
+
+class User:
+    """The user of an end. `commands` is the number of the file that they come by, or None; `notices` is an outlet; `patience` is theirs."""
+
+    def __init__(self, commands, notices, patience):
+        self._file, self.notices = commands, notices
+        self.commands = Commands(patience)
+        self._open, self._heard = b"", deque(maxlen=MOST_NOTICES)
+        self._is_ended = commands is None
+        # Since when the `wait` waits that is first, and whether that was told.
+        self._since, self._is_told = None, False
+
+    def readers(self):
+        """The file to read from, where more commands may come and few wait in order."""
+        return [] if self._is_ended or self.commands.octets >= MOST_READ else [self._file]
 
     def read(self, ready):
         """Reads what has come. Of a line that is far too long a beginning is kept, which is too long for a command, too."""
-        if self._is_ended or self._commands not in ready:
+        if self._is_ended or self._file not in ready:
             return
-        octets = os.read(self._commands, MOST_READ)
+        octets = os.read(self._file, MOST_READ)
         *whole, rest = (self._open + octets).split(b"\n")
         self._open = rest[: x25lines.MOST_CHARACTERS + 1]
         if not octets:
             self._is_ended = True
             whole = [self._open] if self._open else []
-        self._held.extend(line.removesuffix(b"\r") for line in whole)
+        self.commands.add(line.removesuffix(b"\r") for line in whole)
 
     def command(self):
-        """The line that is next, or None where there is none or its time hasn't come."""
-        while self._held and self._held[0].startswith(b"wait "):
-            if not self._has_come(self._held[0][5:].decode("latin-1")):
-                return None
-            self._held.popleft()
-        return self._held[0].decode("latin-1") if self._held else None
+        """The command that is next, or None where there is none or its time hasn't come."""
+        self.awaits()
+        line = self.commands.next()
+        return None if line is None else line.decode("latin-1")
+
+    def awaits(self):
+        """What the first line waits for by `wait`, and since when; None where that has come, or it waits for nothing."""
+        while (line := self.commands.first()).startswith(b"wait "):
+            self._since = self._since or time.monotonic()
+            text = line[5:].decode(errors="replace")
+            if not self._has_come(text):
+                return text, self._since
+            self.end_wait()
+        return None
 
     def _has_come(self, text):
         """Whether a notice that begins so has come, behind the one that was waited for before; those up to it are forgotten."""
@@ -106,9 +249,24 @@ class User:
                 return True
         return False
 
-    def is_taken(self):
-        """The next command was asked for."""
-        self._held.popleft()
+    def end_wait(self):
+        """The `wait` is over."""
+        self.commands.drop_first()
+        self._since, self._is_told = None, False
+
+    def silence(self):
+        """When it is told that a `wait` holds commands; None where that was told, or none are held."""
+        return self._since + SILENCE if self._since is not None and not self._is_told and len(self.commands) > 1 else None
+
+    def tell_silence(self):
+        """Tells that a `wait` holds commands."""
+        self.note(f"{x25lines.shown(self.commands.first())} holds {self.held()}")
+        self._is_told = True
+
+    def held(self):
+        """How many commands stand behind the first one, in words."""
+        count = len(self.commands) - 1
+        return f"{count:,} command{'s' * (count != 1)} behind it"
 
     def tell(self, notice):
         """Tells a notice."""
@@ -121,4 +279,4 @@ class User:
 
     def has_done(self):
         """Whether no command is left, and none will come."""
-        return self._is_ended and not self._held
+        return self._is_ended and self.commands.are_done()

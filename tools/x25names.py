@@ -101,7 +101,7 @@ PLANS = {1: "E.164", 3: "X.121"}
 
 CAUSED = re.compile(r"(CLEAR|RESET|RESTART|cleared|wasreset|restarted)\b.* cause=(\d+)(?: diag=(\d+))?(?: |$)")
 FAULTY = re.compile(r"fault (2\d) diag=\d+$")
-DIAGNOSED = re.compile(r"DIAG diag=(\d+)(?: |$)")
+DIAGNOSED = re.compile(r"(?:DIAG|diagnostic|fault ch=\d+) diag=(\d+)(?: |$)")
 EQUIPPED = re.compile(r" fac=((?:[0-9a-f]{2})+)(?: |$)")
 TYPED = re.compile(r" (called|calling)=([0-9a-f])/([0-9a-f])/")
 FRAME_REFUSED = re.compile(r"(?:[<>] )?FRMR .*why=([0-9a-f]{6})$")

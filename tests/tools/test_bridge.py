@@ -17,10 +17,12 @@ import support
 from support import ToolCase
 
 import bridge
+import places
 import tcp
 import users
 import wires
 import x25lines
+from circuits import Circuits
 from mishaps import Mishaps
 
 FAKE = os.path.join(os.path.dirname(os.path.abspath(__file__)), "fake_station.py")
@@ -89,16 +91,16 @@ class Forms(unittest.TestCase):
             self.assertIsNone(wires.carried_frame(other))
 
     def test_words(self):
-        self.assertEqual(bridge.host_and_port("7000"), ("127.0.0.1", 7000))
-        self.assertEqual(bridge.host_and_port("there:7"), ("there", 7))
-        self.assertEqual(bridge.ports("1:2"), (1, "127.0.0.1", 2))
-        self.assertEqual(bridge.ports("1:there:2"), (1, "there", 2))
-        self.assertEqual(bridge.host_and_port("[::1]:7000"), ("::1", 7000))
-        self.assertEqual(bridge.ports("1:[fe80::1]:2"), (1, "fe80::1", 2))
-        self.assertEqual([bridge.xot_host(text) for text in ("there", "there:7", "[::1]", "[::1]:7")], [("there", 1998), ("there", 7), ("::1", 1998), ("::1", 7)])
+        self.assertEqual(places.host_and_port("7000"), ("127.0.0.1", 7000))
+        self.assertEqual(places.host_and_port("there:7"), ("there", 7))
+        self.assertEqual(places.ports("1:2"), (1, "127.0.0.1", 2))
+        self.assertEqual(places.ports("1:there:2"), (1, "there", 2))
+        self.assertEqual(places.host_and_port("[::1]:7000"), ("::1", 7000))
+        self.assertEqual(places.ports("1:[fe80::1]:2"), (1, "fe80::1", 2))
+        self.assertEqual([places.xot_host(text) for text in ("there", "there:7", "[::1]", "[::1]:7")], [("there", 1998), ("there", 7), ("::1", 1998), ("::1", 7)])
         for text in ("::1:7000", "[::1:7000", "1:2:3", ":x", "there:"):
             with self.assertRaises(argparse.ArgumentTypeError, msg=text):
-                bridge.host_and_port(text)
+                places.host_and_port(text)
         for words in (["dte"], ["--udp", "1:2"], ["dte", "--udp", "1"], ["dte", "--udp", "1:x"], ["dte", "--listen", "70000"], ["dte", "--stdio", "--udp", "1:2"]):
             self.assertEqual(support.run("bridge.py", *words).returncode, 2, words)
         self.assert_says("come to more than 1", "dte", "--stdio", "--lose", "0.6", "--damage", "0.6")
@@ -114,6 +116,70 @@ class Forms(unittest.TestCase):
         done = support.run("bridge.py", *words)
         self.assertEqual(done.returncode, 2)
         self.assertIn(text, done.stderr.decode())
+
+
+class Prospects(unittest.TestCase):
+    """What can't be told any more, by what was told."""
+
+    UP = ("dte linkup", "dte restarted cause=7 diag=0")
+    CALL, CALLED = "dte call ch=1 at 1.0.0 called=1 calling=2 data=-", "dte incoming ch=1 at 1.0.0 called=1 calling=2 data=-"
+    VAIN = (
+        ("the link didn't come up", "dte linkup", ["dte connect", "dte linkdown retries"]),
+        ("the link didn't come up", "dte restarted", ["dte connect", "dte linkdown dm"]),
+        ("the link didn't come up", "dte incoming", ["dte connect", "dte linkup", "dte linkdown frmr-got"]),
+        ("the link was ended here", "dte incoming", [*UP, "dte disconnect", "dte linkdown local"]),
+        ("the link was ended here", "dte cleared ch=1", ["dte disconnect"]),
+        ("the link isn't up", "dte connected", []),
+        ("the link isn't up", "dte message ch=1", [*UP, "dte connected ch=1", "dte linkdown disc"]),
+        ("no circuit", "dte connected", [*UP]),
+        ("no circuit", "dte connected", [*UP, CALL, "dte cleared ch=1 cause=0 diag=0"]),
+        ("no circuit", "dte connected", [*UP, CALL, "dte collided ch=1", CALLED]),
+        ("no circuit", "dte connected", [*UP, CALL, "dte restarted cause=7 diag=0"]),
+        ("no circuit", "dte message", [*UP, CALLED]),
+        ("no circuit", "dte message ch=1 ", [*UP, "dte connected ch=12"]),
+        ("no circuit", "dte interrupt ch=12", [*UP, "dte connected ch=1"]),
+        ("no circuit", "dte wasreset", [*UP, "dte accept ch=1", "dte clear ch=1"]),
+        ("no circuit", "dte cleardone", [*UP, "dte accept ch=1", "dte clear ch=1", "dte cleardone ch=1"]),
+        ("no circuit", "dte resetdone", [*UP, "dte accept ch=1", "dte reset ch=1", "dte resetdone ch=1"]),
+        ("no restart", "dte restartdone", [*UP]),
+        ("no restart", "dte restartdone", [*UP, "dte restart", "dte restartdone"]),
+    )
+    MAY = (
+        ("dte incoming", [*UP, "dte linkdown disc"]),
+        ("dte restarted", ["dte connect"]),
+        ("dte restarted", ["dte connect", "dte linkup", "dte linkdown reset", "dte linkup"]),
+        ("dte restarted", ["dte connect", "dte linkdown retries", "dte connect"]),
+        ("dte linkup", ["dte disconnect", "dte connect"]),
+        ("dte restartdone", [*UP, "dte restart"]),
+        ("dte connected", [*UP, CALL]),
+        ("dte connected ch=1", [*UP, CALL.replace("=1 at", "=12 at")]),
+        ("dte message ch=1 at 1.0.0", [*UP, CALL]),
+        ("dte message", [*UP, "dte accept ch=1", "dte reset ch=1"]),
+        ("dte cleardone", [*UP, "dte accept ch=1", "dte clear ch=1"]),
+        ("dte resetdone ch=1", [*UP, "dte accept ch=1", "dte fault ch=1 diag=27"]),
+        ("dte cleardone ch=1", [*UP, CALLED, "dte fault ch=1 diag=27"]),
+        ("dte cleared", [*UP]),
+        ("dte conn", []),
+        ("dte linkdown", []),
+        ("# the connection", ["dte disconnect"]),
+        ("! 9", ["dte disconnect"]),
+    )
+
+    def told(self, notices):
+        circuits = Circuits()
+        for notice in notices:
+            circuits.heed(notice)
+        return circuits
+
+    def test_what_does_not_come_any_more(self):
+        for why, text, notices in self.VAIN:
+            with self.subTest(f"{text}: {notices}"):
+                self.assertRegex(self.told(notices).cannot_come(text), f"^{why}")
+
+    def test_what_may_come(self):
+        for text, notices in self.MAY:
+            with self.subTest(f"{text}: {notices}"):
+                self.assertEqual(self.told(notices).cannot_come(text), "")
 
 
 class Joined(ToolCase):
@@ -205,18 +271,52 @@ class Joined(ToolCase):
         self.assertEqual([event for _, event in self.asked()], ["dte connect", UA])
 
     def test_what_has_no_room_is_asked_again_behind_the_next_frame(self):
-        for number in (10, 31):
-            with self.subTest(number):
-                send = "dte send 1 0 41"
-                self.begin(f". off idle\n= {send}\n! {number}\n. off busy\n= {UA}\n. off busy\n= {send}\ndte send ch=1 at 1.0.0 q=0 data=41\n. off busy\n= dte ready 1\n! 30\n. off idle\n", user=f"{send}\ndte ready 1\n".encode())
-                self.asked(1)
-                time.sleep(0.3)
-                self.assertEqual(len(self.asked()), 1)
+        """Where too much waits in the link, all commands wait."""
+        send = "dte send 1 0 41"
+        self.begin(f". off idle\n= {send}\n! 10\n. off busy\n= {UA}\n. off busy\n= {send}\ndte send ch=1 at 1.0.0 q=0 data=41\n. off busy\n= dte ready 1\n! 30\n. off idle\n", user=f"{send}\ndte ready 1\n".encode())
+        self.asked(1)
+        time.sleep(0.3)
+        self.assertEqual(len(self.asked()), 1)
+        self.sends(UA)
+        status, notices, said = self.end()
+        words = "# ! 30, not in this state of the channel: 'dte ready 1'"
+        self.assertEqual((status, notices, said), (1, ["dte send ch=1 at 1.0.0 q=0 data=41", "! 30", words], ""))
+        self.assertEqual([event for _, event in self.asked()], [send, UA, send, "dte ready 1"])
+
+    def play(self, *turns, words=(), user=b""):
+        """Begins a bridge whose station is asked these things in turn, each with what it answers."""
+        rows = "".join(f"= {event}\n{answer}\n. off idle\n" if answer else f"= {event}\n. off idle\n" for event, answer in turns)
+        self.begin(". off idle\n" + rows, *words, user=user)
+
+    def test_a_slow_circuit_holds_no_other(self):
+        """Its messages stand aside in their order; what else is asked goes on, and a frame has them asked again."""
+        first, second, other = "dte send 1 0 41", "dte send 1 0 42", "dte send 2 0 43"
+        commands = [first, second, other, "dte ready 1", "dte int 1 07", "dte clear 2"]
+        turns = [(first, "! 31"), (other, "dte send ch=2 at 1.0.0 q=0 data=43"), ("dte ready 1", ""), (first, "! 31"), ("dte int 1 07", ""), (first, "! 31")]
+        turns += [("dte clear 2", "dte clear ch=2"), (first, "! 31"), (UA, ""), (first, ""), (second, "! 31"), (RESTART, ""), (second, "")]
+        self.play(*turns, words=["--quiet", "1"], user="\n".join(commands).encode())
+        self.asked(8)
+        self.sends(UA)
+        self.asked(11)
+        self.sends(RESTART)
+        self.assertEqual(self.end(), (0, ["dte send ch=2 at 1.0.0 q=0 data=43", "dte clear ch=2"], ""))
+        self.assertEqual([event for _, event in self.asked()], [event for event, _ in turns])
+
+    def test_a_circuit_that_takes_nothing_is_cleared(self):
+        """Its messages go first for as long as one is taken now and then; then they are refused, before anything else is asked."""
+        sends = [f"dte send 1 0 {number:02x}" for number in range(60)]
+        for last in ("dte clear 1", "dte reset 1", "dte restart", "dte disconnect"):
+            with self.subTest(last):
+                turns = [(sends[0], ""), (sends[1], "! 31"), (UA, ""), (sends[1], ""), (sends[2], "! 31"), (last, ""), *((it, "! 30") for it in sends[2:]), ("dte call 1 2 -", "")]
+                self.play(*turns, words=["--quiet", "0.7"], user="\n".join([*sends, last, "dte call 1 2 -"]).encode())
+                self.asked(2)
+                time.sleep(0.4)
                 self.sends(UA)
                 status, notices, said = self.end()
-                words = "# ! 30, not in this state of the channel: 'dte ready 1'"
-                self.assertEqual((status, notices, said), (1, ["dte send ch=1 at 1.0.0 q=0 data=41", "! 30", words], ""))
-                self.assertEqual([event for _, event in self.asked()], [send, UA, send, "dte ready 1"])
+                asked = self.asked()
+                self.assertEqual((status, notices.count("! 30"), said), (1, 58, ""))
+                self.assertEqual([event for _, event in asked], [event for event, _ in turns])
+                self.assertGreaterEqual(asked[5][0] - asked[3][0], 0.7)
 
     def test_wait_holds_commands_until_a_notice_comes(self):
         self.begin(f". off idle\n= {UA}\ndte linkup\n. off idle\n= {RESTART}\ndte restarted cause=7 diag=0\n. off idle\n= dte call 1 2 -\n. off idle\n", user=b"wait dte restarted\ndte call 1 2 -\n")
@@ -227,6 +327,40 @@ class Joined(ToolCase):
         self.sends(RESTART)
         self.assertEqual(self.end()[0], 0)
         self.assertEqual([event for _, event in self.asked()], [UA, RESTART, "dte call 1 2 -"])
+
+    def test_wait_for_what_does_not_come_any_more(self):
+        """Because the call was cleared, the link didn't come up, or the other end alone tells it."""
+        cleared, failed = "dte connected ch=1\ndte cleared ch=1 cause=0 diag=0", "dte connect\ndte linkdown dm"
+        for why, text, told in (
+            ("no circuit is in a state for it", "dte message", cleared),
+            ("the link didn't come up", "dte restarted", failed),
+            ("notices of this end begin with `dte `", "dce incoming", cleared),
+        ):
+            with self.subTest(text):
+                self.play((UA, f"dte linkup\n{told}"), ("dte ready 1", "dte ready ch=1"), user=f"wait dte linkup\nwait {text}\ndte ready 1\n".encode())
+                self.sends(UA)
+                status, notices, said = self.end()
+                self.assertEqual((status, said), (1, ""))
+                self.assertEqual(notices[-3:], ["! 61", f"# ! 61, {why}; 1 command behind it: 'wait {text}'", "dte ready ch=1"])
+
+    def test_wait_ends_in_its_time(self):
+        self.play(("dte ready 1", "dte ready ch=1"), words=["--wait", "0.5"], user=b"wait dte incoming\ndte ready 1\n")
+        begun = time.monotonic()
+        self.assertEqual(self.end(), (1, ["! 61", "# ! 61, it hasn't come in 0.5 seconds; 1 command behind it: 'wait dte incoming'", "dte ready ch=1"], ""))
+        self.assertGreaterEqual(self.asked()[0][0] - begun, 0.4)
+
+    def test_a_wait_that_holds_commands_is_told(self):
+        (reader, writer), clock = os.pipe(), [1.0]
+        self.addCleanup(os.close, reader)
+        user = users.User(reader, users.Outlet(sys.stderr), 1)
+        told = []
+        with mock.patch.object(user, "tell", told.append), mock.patch.object(time, "monotonic", lambda: clock[0]):
+            os.write(writer, b"wait dte incoming\ndte accept 1\ndte ready 1\n")
+            os.close(writer)
+            user.read([reader])
+            self.assertEqual((user.command(), user.silence()), (None, 1 + users.SILENCE))
+            user.tell_silence()
+            self.assertEqual((told, user.silence()), (["# 'wait dte incoming' holds 2 commands behind it"], None))
 
     def test_a_line_that_asks_for_nothing(self):
         self.begin(". off idle\n= dte dance\n? 60\n. off idle\n= dte connect\ndte connect\n. off idle\n", user=b"dte dance\ndte connect\n")

@@ -4,6 +4,7 @@ import contextlib
 import io
 import re
 import shutil
+import subprocess
 import unittest
 
 import support
@@ -11,7 +12,13 @@ import check_c
 import x25names
 from program import find_library
 
-LIBRARY = find_library("a")
+LIBRARY, SHARED = find_library("a"), find_library("so")
+# What plain x86-64 doesn't have: SSE3, SSSE3, SSE4, POPCNT and all of AVX.
+LATER = re.compile(
+    r"v[a-z]+|popcnt|crc32|lddqu|mov(?:d|sh|sl)dup|(?:hadd|hsub|addsub)p[sd]|p(?:shufb|h(?:add|sub)s?[wd]|maddubsw|mulhrsw|sign[bwd]|abs[bwd]|alignr"
+    r"|test|mul(?:ld|dq)|m(?:ax|in)(?:sb|uw|ud|sd)|(?:ins|ext)r[bdq]|mov[sz]x\w+|ackusdw|cmp(?:eqq|gtq|[ei]str[im])|blend(?:w|vb))|blendv?p[sd]|round[ps][sd]"
+    r"|dpp[sd]|mpsadbw|phminposuw|insertps|extractps|movntdqa"
+)
 NUMBERS = {"u8": "uint8_t", "u16": "uint16_t", "u32": "uint32_t", "usize": "size_t", "bool": "bool"}
 COUNTS = ("restarts", "clears", "resets")
 EXPORT = re.compile(r'pub extern "C" fn (\w+)\(([^)]*)\)(?: -> (\w+))?')
@@ -85,6 +92,20 @@ class Header(unittest.TestCase):
         source = support.read("crates/x25_c/src/lib.rt").decode()
         for name, number in re.findall(r"^const (\w+): u32 = (\d+);", source, re.MULTILINE):
             self.assertEqual(numbers[name], int(number))
+
+
+@unittest.skipUnless(SHARED, "the library for C isn't built")
+@unittest.skipUnless(shutil.which("objdump"), "there is no objdump")
+class Code(unittest.TestCase):
+    def test_it_runs_on_each_x86_64(self):
+        lines = subprocess.run(["objdump", "-d", "--no-show-raw-insn", SHARED], capture_output=True, text=True, check=True).stdout.splitlines()
+        names = {fields[1].split()[0] for fields in (line.split("\t") for line in lines) if len(fields) > 1}
+        self.assertIn("call", names)
+        self.assertEqual([name for name in sorted(names) if LATER.fullmatch(name)], [])
+
+    def test_the_name_by_which_programs_link_it(self):
+        told = subprocess.run(["objdump", "-p", SHARED], capture_output=True, text=True, check=True).stdout
+        self.assertRegex(told, r"SONAME +libx25\.so\.1\n")
 
 
 @unittest.skipUnless(shutil.which("cc"), "there is no C compiler")

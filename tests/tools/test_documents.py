@@ -12,8 +12,10 @@ from glob import glob
 
 import support
 
+import english
+
 WIDTH = 100
-LENGTHS = {"README.md": 100, "docs/ARCHITECTURE.md": 110, "docs/PROOFS.md": 176, "docs/DECISIONS.md": 200, "docs/PERFORMANCE.md": 92, "CONTRIBUTING.md": 142, "docs/READING.md": 80}
+LENGTHS = {"README.md": 100, "docs/ARCHITECTURE.md": 110, "docs/PROOFS.md": 176, "docs/DECISIONS.md": 200, "docs/PERFORMANCE.md": 98, "CONTRIBUTING.md": 149, "docs/READING.md": 80}
 CRATES = os.path.join(support.ROOT, "crates")
 # What is named and stands elsewhere: what commands leave behind, the sources of Linux, what whoever races decoders has.
 ELSEWHERE = ("build/*", "out/*", "/*", "../x25_*", "net/*", "AnswersOffered.antt")
@@ -73,6 +75,28 @@ class Form(unittest.TestCase):
             for link in re.findall(r"\]\(([^)#:]+)\)", text_of(document)):
                 with self.subTest(f"{document}: {link}"):
                     self.assertTrue(os.path.exists(os.path.join(support.ROOT, os.path.dirname(document), link)))
+
+
+class English(unittest.TestCase):
+    """Sentences are short, and 'behind' is no word of time. PEER, PROOFS, README and the crates' own aren't measured, nor FORMATS on the judge."""
+
+    DOCUMENTS = ("ARCHITECTURE", "BUGS", "CIRCUIT", "DECISIONS", "FORMATS", "INTEROP", "LINK", "MANUAL", "PERFORMANCE", "PROVING", "READING", "THEORY", "WALK")
+
+    def texts(self):
+        for document in ("CONTRIBUTING.md", "CHANGELOG.md", "interop/README.md", *(f"docs/{name}.md" for name in self.DOCUMENTS)):
+            yield document, re.sub(r"^## What `judge` writes\n(?:.*\n)*?(?=## )", "", text_of(document), flags=re.MULTILINE)
+
+    def test_sentences_have_few_words(self):
+        for document, text in self.texts():
+            _, mean, (most, line, worst) = english.measure(text)
+            with self.subTest(document):
+                self.assertLessEqual(mean, 25)
+                self.assertLessEqual(most, 45, f"line {line}: {worst}")
+
+    def test_what_comes_later_comes_after(self):
+        for document, text in self.texts():
+            with self.subTest(document):
+                self.assertEqual(re.findall(r"[^.\n]*(?<!')\b[Bb]ehind\b(?! a pipe)[^.\n]*", re.sub("`[^`]*`", "", text)), [])
 
 
 class Names(unittest.TestCase):
