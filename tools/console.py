@@ -43,6 +43,7 @@ COMMANDS = {
 NOTES = """DATA is hexadecimal digits, text in quotes, both, as "ab"0d0a, or - for none. S S W W are packet
 sizes, 8 for 2 to the power of 8, and windows: of the called end's data, and of the calling end's."""
 TEXT = re.compile(r'"([^"]*)"')
+DATA = re.compile(r"-|(?:[0-9a-fA-F]{2})+")
 OCTETS = re.compile(r"data=((?:[0-9a-f]{2})+)$")
 CHANNEL = re.compile(r" ch=(\d+)")
 RUNS = re.compile(rb"([ !#-~]{3,})")
@@ -87,7 +88,7 @@ def spelled(typed, end):
     """The line that something typed stands for."""
     if typed.count('"') % 2:
         raise Unknown("a quote isn't closed")
-    words = TEXT.sub(lambda found: found[1].encode().hex() or "-", typed).split()
+    words = TEXT.sub(lambda found: found[1].encode(errors="surrogateescape").hex() or "-", typed).split()
     if words[0] == end and len(words) > 1:
         del words[0]
     name = words[0]
@@ -103,6 +104,9 @@ def spelled(typed, end):
         raise Unknown(f"it is `{name} {fields}`" if fields else f"`{name}` stands alone")
     if name == "call" and len(words) == least + 1:
         words.append("-")
+    at = fields.replace("[", "").replace("]", "").split().index("DATA") + 1 if "DATA" in fields else None
+    if at and not DATA.fullmatch(words[at]):
+        raise Unknown(f'{words[at]!r} is no octets: these are hexadecimal digits in pairs, or "text"')
     return " ".join([end, *words])
 
 
@@ -185,8 +189,9 @@ class Console:
         self.commands, self._writer = os.pipe()
         self._terminal = termios.tcgetattr(0)
 
-    def begin(self):
-        """Greets the user, and has him type."""
+    def begin(self, wire):
+        """Greets the user, and has him type; of the wire it is told where a command waits for it."""
+        self._wire = wire
         print(greeting(self._options))
         if "readline" in sys.modules:
             # Readline is to know of one row alone, above which notices come.
@@ -197,11 +202,18 @@ class Console:
         threading.Thread(target=self._read, daemon=True).start()
 
     def _read(self):
-        with contextlib.suppress(EOFError):
-            while (typed := input(f"{self._end}> ").strip()) not in ("quit", "exit"):
+        with contextlib.suppress(EOFError, OSError):
+            while (typed := self._typed()) not in ("quit", "exit"):
                 if typed:
                     self._take(typed)
         self._leave()
+
+    def _typed(self):
+        try:
+            return input(f"{self._end}> ").strip()
+        except UnicodeDecodeError:
+            print("that isn't UTF-8")
+            return ""
 
     def _take(self, typed):
         """Takes a line that was typed."""
@@ -210,7 +222,9 @@ class Console:
             if name in ("help", "?"):
                 print(helped(rest.strip()))
             else:
-                os.write(self._writer, f"{spelled(typed, self._end)}\n".encode())
+                os.write(self._writer, f"{spelled(typed, self._end)}\n".encode(errors="surrogateescape"))
+                if not self._wire.is_there:
+                    print("that waits: the line isn't there yet")
         except Unknown as error:
             print(error)
 

@@ -202,8 +202,8 @@ class Commands:
 class User:
     """The user of an end. `commands` is the number of the file that they come by, or None; `notices` is an outlet; `patience` is theirs."""
 
-    def __init__(self, commands, notices, patience):
-        self._file, self.notices = commands, notices
+    def __init__(self, commands, notices, patience, is_at_terminal=False):
+        self._file, self.notices, self._is_at_terminal = commands, notices, is_at_terminal
         self.commands = Commands(patience)
         self._open, self._heard = b"", deque(maxlen=MOST_NOTICES)
         self._is_ended = commands is None
@@ -280,3 +280,7 @@ class User:
     def has_done(self):
         """Whether no command is left, and none will come."""
         return self._is_ended and self.commands.are_done()
+
+    def has_asked(self):
+        """Whether no command is left, and none will come but for those that a user at a terminal may think of."""
+        return self.commands.are_done() and (self._is_ended or self._is_at_terminal)

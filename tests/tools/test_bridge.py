@@ -545,6 +545,24 @@ class Joined(ToolCase):
         self.assertEqual(self.gets(), DISC)
         self.assertEqual(self.end()[0], 143)
 
+    def test_a_bridge_that_leaves_sleeps(self):
+        """Also where a `wait` that comes to nothing is first among the commands, and nobody answers DISC."""
+        self.begin(f". off busy\n= {UA}\ndte linkup\n. off idle\n= dte disconnect\ndte disconnect\n{DISC}\n. off busy\n", "--t1", "2", "--stay", user=b"wait dte linkup\nwait dte cleared\n", is_left_open=True)
+        self.sends(UA)
+        self.asked(1)
+        time.sleep(0.3)
+        self.child.terminate()
+        self.gets()
+        begin = self.processor_time()
+        time.sleep(1)
+        self.assertLess(self.processor_time() - begin, 0.3)
+        self.assertEqual(self.end()[0], 143)
+
+    def processor_time(self):
+        """How long the bridge has had a processor, in seconds."""
+        fields = support.read(f"/proc/{self.child.pid}/stat").decode().rpartition(")")[2].split()
+        return (int(fields[11]) + int(fields[12])) / os.sysconf("SC_CLK_TCK")
+
     def test_a_second_signal_ends_it_at_once(self):
         self.begin(f". off busy\n= {UA}\ndte linkup\n. off idle\n= dte disconnect\ndte disconnect\n{DISC}\n. off busy\n", "--t1", "60", "--stay")
         self.sends(UA)

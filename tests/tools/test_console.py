@@ -33,7 +33,7 @@ class Typed(unittest.TestCase):
             ('send 1 0 "ab"0D0a"c"', "dte send 1 0 61620D0a63"),
             ('send 1 1 ""', "dte send 1 1 -"),
             ("accept 1", "dte accept 1"),
-            ("send 1 0 4", "dte send 1 0 4"),
+            ("int 1 07", "dte int 1 07"),
             ("wait incoming", "wait dte incoming"),
             ('wait message ch=1 at 1.0.0 q=0 data="', None),
             ("wait dte incoming ch=1", "wait dte incoming ch=1"),
@@ -57,6 +57,9 @@ class Typed(unittest.TestCase):
             ("restart now", "`restart` stands alone"),
             ("wait", "it is `wait TEXT`"),
             ('send 1 0 "hello', "a quote isn't closed"),
+            ("send 1 0 hello", """'hello' is no octets: these are hexadecimal digits in pairs, or "text\""""),
+            ("call 1 2 4", "'4' is no octets"),
+            ("int 1 x", "'x' is no octets"),
         ):
             with self.subTest(typed), self.assertRaises(console.Unknown) as raised:
                 console.spelled(typed, "dte")
@@ -115,7 +118,11 @@ class Live(ToolCase):
         os.chmod(program, 0o755)
         self.terminal = Terminal("bridge.py", "dte", "--listen", "0", "--x25", program, "--t1", "0.5", *words)
         self.addCleanup(self.terminal.close)
-        port = re.search(r"listening on 127.0.0.1:(\d+)", self.terminal.shows("dte>"))[1]
+        self.terminal.shows("dte>")
+
+    def join(self):
+        """The other end comes."""
+        port = re.search(r"listening on 127.0.0.1:(\d+)", self.terminal.display.text())[1]
         self.line = socket.create_connection(("127.0.0.1", int(port)), timeout=10)
         self.addCleanup(self.line.close)
         self.terminal.shows("# a connection has come from")
@@ -135,6 +142,7 @@ class Live(ToolCase):
 
     def test_a_greeting_a_command_and_the_end(self):
         self.begin(f". off busy\n= dte connect\ndte connect\n{SABM}\n. start busy\n= {UA}\ndte linkup\n. off idle\n= dte disconnect\ndte disconnect\ndte linkdown local\n. off busy\n")
+        self.join()
         self.assertIn("This is the DTE, waiting for a connection, with 1 channel.\n`help` shows", self.terminal.shows("dte>"))
         self.terminal.types("connect\r")
         self.terminal.shows("dte> connect\nconnect  (the link is to be set up)\ndte>")
@@ -149,6 +157,7 @@ class Live(ToolCase):
         """Also where the cursor is within the line, which goes on to be edited, and where the screen is full."""
         rows = "".join(f"= {UA}\n{MESSAGE}{number:04x}\n. off idle\n" for number in range(40))
         self.begin(". off idle\n" + rows + "= dte ready 12\ndte ready ch=12\n. off idle\n")
+        self.join()
         self.terminal.types("redy 12" + "\x1b[D" * 5)
         self.terminal.shows("dte> redy 12")
         for number in range(40):
@@ -164,6 +173,7 @@ class Live(ToolCase):
     def test_editing(self):
         """A line of before comes again, and a word is completed."""
         self.begin(". off idle\n= dte notready 1\n. off idle\n= dte notready 1\n. off idle\n= dte notready 2\n. off idle\n")
+        self.join()
         self.terminal.types("notready 1\r")
         self.asked(1)
         self.terminal.types("\x1b[A\r")
@@ -179,9 +189,10 @@ class Live(ToolCase):
 
     def test_other_ends(self):
         """The terminal is left as it was, behind CTRL-D, CTRL-C, and the end of the line."""
-        for typed, status in (("\x04", 0), ("\x03", 130), (None, 1)):
+        for typed, status in (("\x04", 0), ("\x03", 130), (None, 0)):
             with self.subTest(typed):
                 self.begin(f". off idle\n= {UA}\ndte linkup\n. off idle\n= dte disconnect\ndte linkdown local\n. off idle\n")
+                self.join()
                 self.sends(UA)
                 self.terminal.shows("linkup")
                 if typed is None:
@@ -190,13 +201,28 @@ class Live(ToolCase):
                     self.terminal.types(typed)
                 self.assertEqual((self.terminal.end()[0], self.terminal.echoes()), (status, True))
 
+    def test_a_command_before_anybody_is_there(self):
+        self.begin(". off idle\n= dte ready 1\ndte ready ch=1\n. off idle\n")
+        self.terminal.types("ready 1\r")
+        self.terminal.shows("dte> ready 1\nthat waits: the line isn't there yet\ndte>")
+        self.join()
+        self.terminal.shows("\nready ch=1\ndte>")
+
+    def test_octets_that_are_no_text(self):
+        self.begin(". off idle\n= dte send 1 0 fffe\ndte send ch=1 at 1.0.0 q=0 data=fffe\n. off idle\n")
+        self.join()
+        os.write(self.terminal.file, b'send 1 0 "\xff\xfe"\r')
+        self.terminal.shows("\nsend ch=1 at 1.0.0 q=0 data=fffe\ndte>")
+
     def test_a_wait_does_not_hold_the_end(self):
         self.begin(". off idle\n")
+        self.join()
         self.terminal.types("wait incoming\raccept 1\rquit\r")
         self.assertEqual(self.terminal.end()[0], 0)
 
     def test_a_refusal_is_told_once_in_words(self):
         self.begin(". off idle\n= dte accept 1\n! 30\n. off idle\n")
+        self.join()
         self.terminal.types("accept 1\r")
         self.terminal.shows("dte> accept 1\n# ! 30, not in this state of the channel: 'dte accept 1'\ndte>")
 
