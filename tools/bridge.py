@@ -189,10 +189,9 @@ class Bridge:
         elif (command := self._command()) is not None:
             self._ask(command)
         elif why := self._in_vain():
-            command = f"wait {self._user.awaits()[0]}"
-            why += f"; {self._user.held()}"
+            command, held = f"wait {self._user.awaits()[0]}", self._user.held()
             self._user.end_wait()
-            self._refuse(IN_VAIN, why, command)
+            self._refuse(IN_VAIN, "; ".join(filter(None, [why, held])), command)
         elif (silence := self._user.silence()) is not None and now >= silence:
             self._user.tell_silence()
 

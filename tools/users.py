@@ -266,7 +266,7 @@ class User:
     def held(self):
         """How many commands stand behind the first one, in words."""
         count = len(self.commands) - 1
-        return f"{count:,} command{'s' * (count != 1)} behind it"
+        return f"{count:,} command{'s' * (count != 1)} behind it" if count else ""
 
     def tell(self, notice):
         """Tells a notice."""
