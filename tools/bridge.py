@@ -59,6 +59,7 @@ bad words, or anything else that stops the bridge, which standard error names; 1
 
 import argparse
 import contextlib
+import os
 import re
 import select
 import sys
@@ -535,8 +536,9 @@ def user_of(options, files):
 
 
 def has_console(options):
-    """Whether the user sits at a terminal."""
-    return not (options.stdio or options.commands or options.notices) and sys.stdin.isatty() and sys.stdout.isatty()
+    """Whether the user sits at a terminal, and the bridge isn't one of its jobs in the background."""
+    is_told_otherwise = options.stdio or options.commands or options.notices
+    return not is_told_otherwise and sys.stdin.isatty() and sys.stdout.isatty() and os.tcgetpgrp(0) == os.getpgrp()
 
 
 def main():

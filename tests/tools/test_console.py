@@ -11,7 +11,7 @@ import unittest
 
 import support
 from support import ToolCase
-from terminal import Terminal
+from terminal import Terminal, script
 
 import console
 from test_bridge import FAKE, RESTART, SABM, UA
@@ -112,11 +112,15 @@ class Shown(unittest.TestCase):
 class Live(ToolCase):
     """A bridge at a terminal; the test is its station, by answers written by hand, and the other end."""
 
-    def begin(self, answers, *words):
+    def program(self, answers):
         self.answers = self.file("answers", answers.encode())
         program = self.file("x25", f'#!/bin/sh\nexec "{sys.executable}" "{FAKE}" "{self.answers}" "$@"\n'.encode())
         os.chmod(program, 0o755)
-        self.terminal = Terminal("bridge.py", "dte", "--listen", "0", "--x25", program, "--t1", "0.5", *words)
+        return program
+
+    def begin(self, answers, *words):
+        program = self.program(answers)
+        self.terminal = Terminal(script("bridge.py", "dte", "--listen", "0", "--x25", program, "--t1", "0.5", *words))
         self.addCleanup(self.terminal.close)
         self.terminal.shows("dte>")
 
@@ -208,6 +212,15 @@ class Live(ToolCase):
         self.join()
         self.terminal.shows("\nready ch=1\ndte>")
 
+    def test_a_job_in_the_background_is_no_console(self):
+        """It would be stopped by its terminal."""
+        command = " ".join(script("bridge.py", "dte", "--listen", "0", "--x25", self.program(". off idle\n= dte disconnect\n. off idle\n")))
+        self.terminal = Terminal(["bash", "-m", "-c", f"{command} & sleep 2; jobs; kill %1; wait"])
+        self.addCleanup(self.terminal.close)
+        text = self.terminal.end()[1]
+        self.assertIn("Running", text)
+        self.assertNotIn("This is the DTE", text)
+
     def test_octets_that_are_no_text(self):
         self.begin(". off idle\n= dte send 1 0 fffe\ndte send ch=1 at 1.0.0 q=0 data=fffe\n. off idle\n")
         self.join()
@@ -241,7 +254,7 @@ class Manual(ToolCase):
         other = other.replace("7000", port).replace("bridge.py", f'"{sys.executable}" "{support.TOOLS}/bridge.py" --x25 "{support.PROGRAM}"')
         with subprocess.Popen(["bash", "-c", other], cwd=self.folder, stdout=subprocess.DEVNULL, stderr=subprocess.PIPE) as far:
             far.stderr.readline()
-            terminal = Terminal(*command.split(), "--x25", support.PROGRAM)
+            terminal = Terminal(script(*command.split(), "--x25", support.PROGRAM))
             self.addCleanup(terminal.close)
             shown = ""
             for line in lines:
