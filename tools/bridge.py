@@ -550,6 +550,7 @@ def main():
             from console import Console, Screen
 
             console = Console(options, signals.leave)
+            signals.at_first = console.close
             user = User(console.commands, Screen(), quiet(options), is_at_terminal=True)
         else:
             user = user_of(options, files)

@@ -205,6 +205,17 @@ class Live(ToolCase):
                     self.terminal.types(typed)
                 self.assertEqual((self.terminal.end()[0], self.terminal.echoes()), (status, True))
 
+    def test_ctrl_c_twice(self):
+        """The second one ends it at once; the terminal is as it was."""
+        self.begin(f". off idle\n= {UA}\ndte linkup\n. off idle\n= dte disconnect\ndte disconnect\n. off idle\n", "--t1", "60")
+        self.join()
+        self.sends(UA)
+        self.terminal.shows("linkup")
+        self.terminal.types("\x03")
+        self.terminal.shows("disconnect")
+        self.terminal.types("\x03")
+        self.assertEqual((self.terminal.end()[0], self.terminal.echoes()), (-signal.SIGINT, True))
+
     def test_a_command_before_anybody_is_there(self):
         self.begin(". off idle\n= dte ready 1\ndte ready ch=1\n. off idle\n")
         self.terminal.types("ready 1\r")
