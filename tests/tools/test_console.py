@@ -92,6 +92,7 @@ class Shown(unittest.TestCase):
             (MESSAGE + "41" * 17, ["message ch=1 at 1.0.0 q=0 data: 17 octets", f"    0000  {'41 ' * 16} {'A' * 16}", f"    0010  41{' ' * 46} A"]),
             ("dte cleared ch=1 cause=13 diag=67", ["cleared ch=1 cause=13 diag=67  (not obtainable; invalid called address; the call is refused, or has ended)"]),
             ("dte incoming ch=2 at 1.0.0 called=1 calling=- data=-", ["incoming ch=2 at 1.0.0 called=1 calling=- data=-  (`accept 2` takes the call, `clear 2` refuses it)"]),
+            ("dte call ch=1 at 1.0.0 called=1 calling=2 data=6869 size=8,8 win=3,3", ['call ch=1 at 1.0.0 called=1 calling=2 data=6869 size=8,8 win=3,3  ("hi"; no answer yet)']),
             ("dte linkdown retries", ["linkdown retries  (nobody answers)"]),
             ("dte fault ch=1 diag=27", ["fault ch=1 diag=27  (packet type invalid for state d1; the other end broke a rule)"]),
             ("dte diagnostic diag=33", ["diagnostic diag=33  (unidentifiable packet)"]),
@@ -101,6 +102,8 @@ class Shown(unittest.TestCase):
                 self.assertEqual(console.shown(notice), rows)
 
     def test_what_is_too_long_is_said(self):
+        rows = console.shown("dte call ch=1 at 1.0.0 called=1 calling=2 data=" + "41" * 17 + " size=8,8 win=3,3")
+        self.assertEqual((len(rows), rows[0]), (3, "call ch=1 at 1.0.0 called=1 calling=2 data: 17 octets size=8,8 win=3,3  (no answer yet)"))
         rows = console.shown(MESSAGE + "00" * 60_000)
         self.assertEqual((len(rows), rows[0], rows[-1]), (66, "message ch=1 at 1.0.0 q=0 data: 60,000 octets", "    and 58,976 more"))
 
