@@ -59,6 +59,7 @@ bad words, or anything else that stops the bridge, which standard error names; 1
 
 import argparse
 import contextlib
+import os
 import re
 import select
 import sys
@@ -189,10 +190,9 @@ class Bridge:
         elif (command := self._command()) is not None:
             self._ask(command)
         elif why := self._in_vain():
-            command = f"wait {self._user.awaits()[0]}"
-            why += f"; {self._user.held()}"
+            command, held = f"wait {self._user.awaits()[0]}", self._user.held()
             self._user.end_wait()
-            self._refuse(IN_VAIN, why, command)
+            self._refuse(IN_VAIN, "; ".join(filter(None, [why, held])), command)
         elif (silence := self._user.silence()) is not None and now >= silence:
             self._user.tell_silence()
 
@@ -536,8 +536,9 @@ def user_of(options, files):
 
 
 def has_console(options):
-    """Whether the user sits at a terminal."""
-    return not (options.stdio or options.commands or options.notices) and sys.stdin.isatty() and sys.stdout.isatty()
+    """Whether the user sits at a terminal, and the bridge isn't one of its jobs in the background."""
+    is_told_otherwise = options.stdio or options.commands or options.notices
+    return not is_told_otherwise and sys.stdin.isatty() and sys.stdout.isatty() and os.tcgetpgrp(0) == os.getpgrp()
 
 
 def main():
@@ -549,6 +550,7 @@ def main():
             from console import Console, Screen
 
             console = Console(options, signals.leave)
+            signals.at_first = console.close
             user = User(console.commands, Screen(), quiet(options), is_at_terminal=True)
         else:
             user = user_of(options, files)

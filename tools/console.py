@@ -8,7 +8,6 @@ import contextlib
 import difflib
 import os
 import re
-import shutil
 import sys
 import termios
 import textwrap
@@ -44,12 +43,14 @@ NOTES = """DATA is hexadecimal digits, text in quotes, both, as "ab"0d0a, or - f
 sizes, 8 for 2 to the power of 8, and windows: of the called end's data, and of the calling end's."""
 TEXT = re.compile(r'"([^"]*)"')
 DATA = re.compile(r"-|(?:[0-9a-fA-F]{2})+")
-OCTETS = re.compile(r"data=((?:[0-9a-f]{2})+)$")
+OCTETS = re.compile(r"data=((?:[0-9a-f]{2})+)(?: |$)")
 CHANNEL = re.compile(r" ch=(\d+)")
 RUNS = re.compile(rb"([ !#-~]{3,})")
 ENDS = ("dte", "dce")
 # A message of more octets is shown row by row, and of more than these so many.
 A_ROW, MOST_SHOWN = 16, 1024
+# The width of a terminal that doesn't say its own.
+WIDTH = 80
 # What the events of entries mean.
 MEANS = {
     "connect": "the link is to be set up",
@@ -137,7 +138,7 @@ def shown(notice):
     means = REASONS.get(entry.split(" ")[-1], "") if event == "linkdown" else MEANS.get(event, "").format(channel and channel[1])
     rows = []
     if len(octets) > A_ROW:
-        entry = f"{entry[: data.start()]}data: {len(octets):,} octets"
+        entry = f"{entry[: data.start()]}data: {len(octets):,} octets{entry[data.end(1) :]}"
         rows = [*dumped(octets[:MOST_SHOWN]), *([f"    and {len(octets) - MOST_SHOWN:,} more"] if len(octets) > MOST_SHOWN else [])]
     words = "; ".join(filter(None, [x25names.words(notice), "" if rows else text_of(octets), means]))
     return [f"{entry}  ({words})" if words else entry, *rows]
@@ -166,8 +167,12 @@ class Screen(Outlet):
     """The terminal: lines come above the one that is typed."""
 
     def __init__(self):
-        # A description of its own, so that it doesn't block, and what readline writes does.
-        self._number = os.open(os.ttyname(1), os.O_WRONLY | os.O_NONBLOCK | os.O_NOCTTY)
+        try:
+            # A description of its own, so that it doesn't block, and what readline writes does.
+            self._number = os.open(os.ttyname(1), os.O_WRONLY | os.O_NONBLOCK | os.O_NOCTTY)
+        except OSError:
+            # A terminal that has no name here, as that of a container.
+            self._number = os.dup(1)
         super().__init__(None, kind)
 
     @property
@@ -176,7 +181,7 @@ class Screen(Outlet):
 
     def spelled(self, line):
         """What shows a line: makes room for each row above that of the cursor, writes it there, and goes back to the place where it was."""
-        width = shutil.get_terminal_size().columns
+        width = os.get_terminal_size(1).columns or WIDTH
         rows = [part for row in shown(line) for part in textwrap.wrap(row, width, subsequent_indent="    ")]
         return "".join(f"\x1bD\x1b[A\x1b7\r\x1b[L{row}\x1b8\x1b[B" for row in rows)
 

@@ -78,10 +78,13 @@ def kind(notice):
 
 
 class Signals:
-    """CTRL-C and SIGTERM as something to read. The first that came is `number`; a second one ends the script at once. 0 is for `leave`."""
+    """CTRL-C and SIGTERM as something to read. The first that came is `number`; a second one ends the script at once. 0 is for `leave`.
+
+    `at_first` is called at the first one, before a second one can come.
+    """
 
     def __init__(self):
-        self.number = None
+        self.number, self.at_first = None, None
         self._reader, self._writer = socket.socketpair()
 
     def __enter__(self):
@@ -96,6 +99,8 @@ class Signals:
 
     def _come(self, number, _):
         self.number = number
+        if self.at_first:
+            self.at_first()
         for each in (signal.SIGINT, signal.SIGTERM):
             signal.signal(each, signal.SIG_DFL)
 
@@ -266,7 +271,7 @@ class User:
     def held(self):
         """How many commands stand behind the first one, in words."""
         count = len(self.commands) - 1
-        return f"{count:,} command{'s' * (count != 1)} behind it"
+        return f"{count:,} command{'s' * (count != 1)} behind it" if count else ""
 
     def tell(self, notice):
         """Tells a notice."""

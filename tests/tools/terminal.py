@@ -92,15 +92,19 @@ class Display:
             row[self._column : self._column] = " " * count
 
 
-class Terminal:
-    """A script of tools/ at a pseudo terminal."""
+def script(name, *words):
+    """The command of a script of tools/."""
+    return [sys.executable, os.path.join(support.TOOLS, name), *words]
 
-    def __init__(self, script, *words):
-        command = [sys.executable, os.path.join(support.TOOLS, script), *words]
+
+class Terminal:
+    """A command at a pseudo terminal."""
+
+    def __init__(self, command):
         self.child, self.file = pty.fork()
         if self.child == 0:
             os.environ.update(TERM="xterm", INPUTRC="/dev/null", LC_ALL="C.UTF-8")
-            os.execv(command[0], command)
+            os.execvp(command[0], command)
         fcntl.ioctl(self.file, termios.TIOCSWINSZ, struct.pack("4H", HEIGHT, WIDTH, 0, 0))
         self.display, self.status = Display(), None
 
