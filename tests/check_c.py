@@ -4,8 +4,8 @@
     check_c.py [--library FOLDER] [--calls N]
 
 `main` has to print what `crates/x25_embed` does; `refused` refuses each allocation of a call in turn, and makes the calls again;
-`random` makes calls of all kinds in any order, N of them, 1,000,000 where N isn't given; `threads` has stations go from thread to thread.
-Each is compiled as C11 with all warnings, and run as it is, under the address and the undefined-behaviour sanitizer and under that of
+`random` makes calls of all kinds in any order, N of them, 1,000,000 where N isn't given; `threads` has stations go from thread to thread;
+`memory` says how much a station takes. Each is compiled as C11 with all warnings, and run as it is, under the address and the undefined-behaviour sanitizer and under that of
 threads, where the compiler has these, and under valgrind where that is there. The header has to be one of C from C99 on and of C++
 from C++11 on, as far as the compilers know these.
 
@@ -30,15 +30,13 @@ OF_THREADS = ["-fsanitize=thread"]
 PEDANTIC = ["-Wall", "-Wextra", "-pedantic", "-Werror"]
 STANDARDS = {"cc": ("c", "c99", "c11", "c17", "c2x"), "c++": ("c++", "c++11", "c++14", "c++17", "c++20")}
 VALGRIND = ["valgrind", "-q", "--error-exitcode=9", "--leak-check=full", "--show-leak-kinds=all"]
-# How many times fewer random calls are made under valgrind.
-SLOWNESS = 50
 CALLS = 1_000_000
 
 
 def compiled(name, library, folder, *flags):
     """The path of a program of tests/c, compiled over the library in a folder."""
     path = os.path.join(folder, name)
-    wrapped = ["-Wl,--wrap=malloc,--wrap=realloc"] if name == "refused" else []
+    wrapped = {"refused": ["-Wl,--wrap=malloc,--wrap=realloc"], "memory": ["-Wl,--wrap=malloc,--wrap=realloc,--wrap=free"]}.get(name, [])
     source = os.path.join(SOURCES, f"{name}.c")
     subprocess.run(["cc", *STRICT, *flags, f"-I{INCLUDE}", source, library, "-pthread", *wrapped, "-o", path], check=True)
     return path
@@ -54,14 +52,15 @@ def has_sanitizers(folder, flags):
 
 
 def ways(folder):
-    """The ways in which the programs are run here: a name, flags of the compiler, and what stands before the program."""
-    found = [("as it is", [], [])]
+    """The ways in which the programs are run here: a name, flags of the compiler, what stands before the program, and how many times
+    fewer random calls are made."""
+    found = [("as it is", [], [], 1)]
     if has_sanitizers(folder, SANITIZERS):
-        found.append(("under the sanitizers", SANITIZERS, []))
+        found.append(("under the sanitizers", SANITIZERS, [], 10))
     if has_sanitizers(folder, OF_THREADS):
-        found.append(("under that of threads", OF_THREADS, []))
+        found.append(("under that of threads", OF_THREADS, [], 10))
     if shutil.which("valgrind"):
-        found.append(("under valgrind", [], VALGRIND))
+        found.append(("under valgrind", [], VALGRIND, 200))
     return found
 
 
@@ -70,7 +69,7 @@ def runs_of(calls):
     with open(os.path.join(ROOT, "crates", "x25_embed", "stdout")) as file:
         told = file.read()
     randoms = (("random", [str(seed), str(calls // 4)], None) for seed in range(1, 5))
-    return [("main", [], told), ("refused", [], None), ("threads", [], None), *randoms]
+    return [("main", [], told), ("refused", [], None), ("threads", [], None), ("memory", [], None), *randoms]
 
 
 def headers():
@@ -90,9 +89,9 @@ def run(library, calls=CALLS):
     """Compiles and runs all, and says what each printed; answers how many runs went wrong."""
     wrong = 0
     with tempfile.TemporaryDirectory() as folder:
-        for way, flags, before in ways(folder):
-            programs = {name: compiled(name, library, folder, *flags) for name in ("main", "refused", "threads", "random")}
-            for name, words, wanted in runs_of(calls // SLOWNESS if before else calls):
+        for way, flags, before, fewer in ways(folder):
+            programs = {name: compiled(name, library, folder, *flags) for name in ("main", "refused", "threads", "memory", "random")}
+            for name, words, wanted in runs_of(calls // fewer):
                 done = subprocess.run([*before, programs[name], *words], capture_output=True, text=True)
                 good = done.returncode == 0 and not done.stderr and wanted in (None, done.stdout)
                 wrong += not good
