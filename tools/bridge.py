@@ -1,8 +1,8 @@
 #!/usr/bin/env python3
 """Runs a station, `x25 station`, with a clock for timer T1, and joins it to a line; its user writes commands and reads notices.
 
-    bridge.py dce --listen 7000 --stay
-    printf 'dte connect\\nwait dte restarted\\ndte call 123 4567 41\\n' | bridge.py dte --connect localhost:7000
+    printf 'wait dce incoming\\ndce accept 1\\n' | bridge.py dce --listen 7000
+    printf 'dte connect\\nwait dte restarted\\ndte call 123 4567 41\\nwait dte connected\\n' | bridge.py dte --connect localhost:7000
     bridge.py dce --udp 5601:5600 --trace frames
     bridge.py dce --xot-listen --channels 8 --stay
 
@@ -59,6 +59,7 @@ bad words, or anything else that stops the bridge, which standard error names; 1
 
 import argparse
 import contextlib
+import os
 import re
 import select
 import sys
@@ -166,7 +167,7 @@ class Bridge:
 
     def _patience(self):
         """How long nothing may happen before the bridge itself has to act, in seconds; None where it has nothing to do."""
-        if self._command() is not None or self._has_caught_up() or self._in_vain():
+        if self._leaves is None and (self._command() is not None or self._has_caught_up() or self._in_vain()):
             return 0
         now = time.monotonic()
         own = [self._leaves] if self._leaves is not None else [self._deadline, self._probing(), *self._waits()]
@@ -189,10 +190,9 @@ class Bridge:
         elif (command := self._command()) is not None:
             self._ask(command)
         elif why := self._in_vain():
-            command = f"wait {self._user.awaits()[0]}"
-            why += f"; {self._user.held()}"
+            command, held = f"wait {self._user.awaits()[0]}", self._user.held()
             self._user.end_wait()
-            self._refuse(IN_VAIN, why, command)
+            self._refuse(IN_VAIN, "; ".join(filter(None, [why, held])), command)
         elif (silence := self._user.silence()) is not None and now >= silence:
             self._user.tell_silence()
 
@@ -202,7 +202,7 @@ class Bridge:
 
     def _is_held_up(self):
         """Whether no command may be asked now."""
-        waits = self._is_full or self._leaves is not None or self._user.notices.is_slow() or self._is_settling()
+        waits = self._is_full or self._user.notices.is_slow() or self._is_settling()
         return waits or not self._wire.is_there or self._wire.waits > MOST_UNSENT
 
     def _in_vain(self):
@@ -239,7 +239,7 @@ class Bridge:
 
     def _is_cut_off(self):
         """The other end has gone: it is told where something was left to do."""
-        if not (self._user.has_done() and (self._is_idle or not self._circuits.is_up)):
+        if not (self._user.has_asked() and (self._is_idle or not self._circuits.is_up)):
             x25lines.warn("the line has ended before all was done")
             self.status = 1
         return False
@@ -536,8 +536,9 @@ def user_of(options, files):
 
 
 def has_console(options):
-    """Whether the user sits at a terminal."""
-    return not (options.stdio or options.commands or options.notices) and sys.stdin.isatty() and sys.stdout.isatty()
+    """Whether the user sits at a terminal, and the bridge isn't one of its jobs in the background."""
+    is_told_otherwise = options.stdio or options.commands or options.notices
+    return not is_told_otherwise and sys.stdin.isatty() and sys.stdout.isatty() and os.tcgetpgrp(0) == os.getpgrp()
 
 
 def main():
@@ -549,7 +550,8 @@ def main():
             from console import Console, Screen
 
             console = Console(options, signals.leave)
-            user = User(console.commands, Screen(), quiet(options))
+            signals.at_first = console.close
+            user = User(console.commands, Screen(), quiet(options), is_at_terminal=True)
         else:
             user = user_of(options, files)
         trace = Outlet(files.enter_context(opened(options.trace, "wb"))) if options.trace else None
@@ -558,7 +560,7 @@ def main():
         files.callback(wire.close)
         bridge = Bridge(station, wire, user, options, trace, signals)
         if console:
-            console.begin()
+            console.begin(wire)
         try:
             bridge.run()
         finally:

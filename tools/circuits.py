@@ -10,15 +10,12 @@ BECOMES = {"call": "calling", "incoming": "called", "accept": "open", "connected
 BECOMES |= {"resetdone": "open", "wasreset": "open", "fault": "fault"}
 ENDS = ("cleared", "cleardone", "collided")
 OPEN = ("open", "resetting", "fault")
-# In which states of a circuit an event may come next, or behind what the other end does first.
+# In which states of a circuit an event may come next, or behind what the other end does first; and what is said where none is in such a one.
 COMES_IN = {
-    "connected": ("calling",),
-    "cleardone": ("clearing", "fault"),
-    "resetdone": ("resetting", "fault"),
-    "intdone": ("open",),
-    "message": ("calling", *OPEN),
-    "interrupt": ("calling", *OPEN),
-    "wasreset": ("calling", *OPEN),
+    "connected": (("calling",), "no call waits for an answer"),
+    "cleardone": (("clearing", "fault"), "nothing is being cleared"),
+    "resetdone": (("resetting", "fault"), "nothing is being reset"),
+    **dict.fromkeys(("message", "interrupt", "intdone", "wasreset"), (("calling", *OPEN), "no call is up")),
 }
 # What comes of the link that this end sets up.
 OF_THE_LINK = ("linkup", "restarted", "incoming")
@@ -84,8 +81,9 @@ class Circuits:
         end, event = found.groups()
         if self._has_ended:
             return "the link was ended here"
-        if event in COMES_IN and not any(_may_begin(f"{end} {event} ch={it}", text) for it, state in self._states.items() if state in COMES_IN[event]):
-            return "no circuit is in a state for it" if self.is_up else "the link isn't up"
+        states, why = COMES_IN.get(event, ((), ""))
+        if why and not any(_may_begin(f"{end} {event} ch={it}", text) for it, state in self._states.items() if state in states):
+            return why if self.is_up else "the link isn't up"
         if event == "restartdone" and not self._restarts:
             return "no restart is under way"
         return "the link didn't come up" if event in OF_THE_LINK and self._has_failed else ""

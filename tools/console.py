@@ -8,7 +8,6 @@ import contextlib
 import difflib
 import os
 import re
-import shutil
 import sys
 import termios
 import textwrap
@@ -43,12 +42,15 @@ COMMANDS = {
 NOTES = """DATA is hexadecimal digits, text in quotes, both, as "ab"0d0a, or - for none. S S W W are packet
 sizes, 8 for 2 to the power of 8, and windows: of the called end's data, and of the calling end's."""
 TEXT = re.compile(r'"([^"]*)"')
-OCTETS = re.compile(r"data=((?:[0-9a-f]{2})+)$")
+DATA = re.compile(r"-|(?:[0-9a-fA-F]{2})+")
+OCTETS = re.compile(r"data=((?:[0-9a-f]{2})+)(?: |$)")
 CHANNEL = re.compile(r" ch=(\d+)")
 RUNS = re.compile(rb"([ !#-~]{3,})")
 ENDS = ("dte", "dce")
 # A message of more octets is shown row by row, and of more than these so many.
 A_ROW, MOST_SHOWN = 16, 1024
+# The width of a terminal that doesn't say its own.
+WIDTH = 80
 # What the events of entries mean.
 MEANS = {
     "connect": "the link is to be set up",
@@ -87,7 +89,7 @@ def spelled(typed, end):
     """The line that something typed stands for."""
     if typed.count('"') % 2:
         raise Unknown("a quote isn't closed")
-    words = TEXT.sub(lambda found: found[1].encode().hex() or "-", typed).split()
+    words = TEXT.sub(lambda found: found[1].encode(errors="surrogateescape").hex() or "-", typed).split()
     if words[0] == end and len(words) > 1:
         del words[0]
     name = words[0]
@@ -103,6 +105,9 @@ def spelled(typed, end):
         raise Unknown(f"it is `{name} {fields}`" if fields else f"`{name}` stands alone")
     if name == "call" and len(words) == least + 1:
         words.append("-")
+    at = fields.replace("[", "").replace("]", "").split().index("DATA") + 1 if "DATA" in fields else None
+    if at and not DATA.fullmatch(words[at]):
+        raise Unknown(f'{words[at]!r} is no octets: these are hexadecimal digits in pairs, or "text"')
     return " ".join([end, *words])
 
 
@@ -133,7 +138,7 @@ def shown(notice):
     means = REASONS.get(entry.split(" ")[-1], "") if event == "linkdown" else MEANS.get(event, "").format(channel and channel[1])
     rows = []
     if len(octets) > A_ROW:
-        entry = f"{entry[: data.start()]}data: {len(octets):,} octets"
+        entry = f"{entry[: data.start()]}data: {len(octets):,} octets{entry[data.end(1) :]}"
         rows = [*dumped(octets[:MOST_SHOWN]), *([f"    and {len(octets) - MOST_SHOWN:,} more"] if len(octets) > MOST_SHOWN else [])]
     words = "; ".join(filter(None, [x25names.words(notice), "" if rows else text_of(octets), means]))
     return [f"{entry}  ({words})" if words else entry, *rows]
@@ -162,8 +167,12 @@ class Screen(Outlet):
     """The terminal: lines come above the one that is typed."""
 
     def __init__(self):
-        # A description of its own, so that it doesn't block, and what readline writes does.
-        self._number = os.open(os.ttyname(1), os.O_WRONLY | os.O_NONBLOCK | os.O_NOCTTY)
+        try:
+            # A description of its own, so that it doesn't block, and what readline writes does.
+            self._number = os.open(os.ttyname(1), os.O_WRONLY | os.O_NONBLOCK | os.O_NOCTTY)
+        except OSError:
+            # A terminal that has no name here, as that of a container.
+            self._number = os.dup(1)
         super().__init__(None, kind)
 
     @property
@@ -172,7 +181,7 @@ class Screen(Outlet):
 
     def spelled(self, line):
         """What shows a line: makes room for each row above that of the cursor, writes it there, and goes back to the place where it was."""
-        width = shutil.get_terminal_size().columns
+        width = os.get_terminal_size(1).columns or WIDTH
         rows = [part for row in shown(line) for part in textwrap.wrap(row, width, subsequent_indent="    ")]
         return "".join(f"\x1bD\x1b[A\x1b7\r\x1b[L{row}\x1b8\x1b[B" for row in rows)
 
@@ -185,8 +194,9 @@ class Console:
         self.commands, self._writer = os.pipe()
         self._terminal = termios.tcgetattr(0)
 
-    def begin(self):
-        """Greets the user, and has him type."""
+    def begin(self, wire):
+        """Greets the user, and has him type; of the wire it is told where a command waits for it."""
+        self._wire = wire
         print(greeting(self._options))
         if "readline" in sys.modules:
             # Readline is to know of one row alone, above which notices come.
@@ -197,11 +207,18 @@ class Console:
         threading.Thread(target=self._read, daemon=True).start()
 
     def _read(self):
-        with contextlib.suppress(EOFError):
-            while (typed := input(f"{self._end}> ").strip()) not in ("quit", "exit"):
+        with contextlib.suppress(EOFError, OSError):
+            while (typed := self._typed()) not in ("quit", "exit"):
                 if typed:
                     self._take(typed)
         self._leave()
+
+    def _typed(self):
+        try:
+            return input(f"{self._end}> ").strip()
+        except UnicodeDecodeError:
+            print("that isn't UTF-8")
+            return ""
 
     def _take(self, typed):
         """Takes a line that was typed."""
@@ -210,7 +227,9 @@ class Console:
             if name in ("help", "?"):
                 print(helped(rest.strip()))
             else:
-                os.write(self._writer, f"{spelled(typed, self._end)}\n".encode())
+                os.write(self._writer, f"{spelled(typed, self._end)}\n".encode(errors="surrogateescape"))
+                if not self._wire.is_there:
+                    print("that waits: the line isn't there yet")
         except Unknown as error:
             print(error)
 

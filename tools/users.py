@@ -78,10 +78,13 @@ def kind(notice):
 
 
 class Signals:
-    """CTRL-C and SIGTERM as something to read. The first that came is `number`; a second one ends the script at once. 0 is for `leave`."""
+    """CTRL-C and SIGTERM as something to read. The first that came is `number`; a second one ends the script at once. 0 is for `leave`.
+
+    `at_first` is called at the first one, before a second one can come.
+    """
 
     def __init__(self):
-        self.number = None
+        self.number, self.at_first = None, None
         self._reader, self._writer = socket.socketpair()
 
     def __enter__(self):
@@ -96,6 +99,8 @@ class Signals:
 
     def _come(self, number, _):
         self.number = number
+        if self.at_first:
+            self.at_first()
         for each in (signal.SIGINT, signal.SIGTERM):
             signal.signal(each, signal.SIG_DFL)
 
@@ -202,8 +207,8 @@ class Commands:
 class User:
     """The user of an end. `commands` is the number of the file that they come by, or None; `notices` is an outlet; `patience` is theirs."""
 
-    def __init__(self, commands, notices, patience):
-        self._file, self.notices = commands, notices
+    def __init__(self, commands, notices, patience, is_at_terminal=False):
+        self._file, self.notices, self._is_at_terminal = commands, notices, is_at_terminal
         self.commands = Commands(patience)
         self._open, self._heard = b"", deque(maxlen=MOST_NOTICES)
         self._is_ended = commands is None
@@ -266,7 +271,7 @@ class User:
     def held(self):
         """How many commands stand behind the first one, in words."""
         count = len(self.commands) - 1
-        return f"{count:,} command{'s' * (count != 1)} behind it"
+        return f"{count:,} command{'s' * (count != 1)} behind it" if count else ""
 
     def tell(self, notice):
         """Tells a notice."""
@@ -280,3 +285,7 @@ class User:
     def has_done(self):
         """Whether no command is left, and none will come."""
         return self._is_ended and self.commands.are_done()
+
+    def has_asked(self):
+        """Whether no command is left, and none will come but for those that a user at a terminal may think of."""
+        return self.commands.are_done() and (self._is_ended or self._is_at_terminal)

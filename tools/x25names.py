@@ -78,6 +78,7 @@ REFUSALS = {
     52: "the damage can't be seen: the octets pass the frame check sequence",
     54: "timer T1, while the SABM of the end or a UA to it is on the line",
     60: "no such line",
+    61: "what a `wait` waits for doesn't come",
     70: "no memory",
 }
 # Why a packet doesn't decode, and where that may be our limit.

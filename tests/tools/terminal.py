@@ -92,25 +92,29 @@ class Display:
             row[self._column : self._column] = " " * count
 
 
-class Terminal:
-    """A script of tools/ at a pseudo terminal."""
+def script(name, *words):
+    """The command of a script of tools/."""
+    return [sys.executable, os.path.join(support.TOOLS, name), *words]
 
-    def __init__(self, script, *words):
-        command = [sys.executable, os.path.join(support.TOOLS, script), *words]
-        self.child, self._file = pty.fork()
+
+class Terminal:
+    """A command at a pseudo terminal."""
+
+    def __init__(self, command):
+        self.child, self.file = pty.fork()
         if self.child == 0:
             os.environ.update(TERM="xterm", INPUTRC="/dev/null", LC_ALL="C.UTF-8")
-            os.execv(command[0], command)
-        fcntl.ioctl(self._file, termios.TIOCSWINSZ, struct.pack("4H", HEIGHT, WIDTH, 0, 0))
+            os.execvp(command[0], command)
+        fcntl.ioctl(self.file, termios.TIOCSWINSZ, struct.pack("4H", HEIGHT, WIDTH, 0, 0))
         self.display, self.status = Display(), None
 
     def types(self, text):
         """Types something."""
-        os.write(self._file, text.encode())
+        os.write(self.file, text.encode())
 
     def echoes(self):
         """Whether the terminal itself writes what is typed, as it does but for a program that edits lines."""
-        return bool(termios.tcgetattr(self._file)[3] & termios.ECHO)
+        return bool(termios.tcgetattr(self.file)[3] & termios.ECHO)
 
     def shows(self, text):
         """What the screen shows, once it has a text; an error where that doesn't come."""
@@ -122,9 +126,9 @@ class Terminal:
 
     def _read(self, last):
         """Reads what comes; answers False at the end."""
-        if select.select([self._file], [], [], max(0, last - time.monotonic()))[0]:
+        if select.select([self.file], [], [], max(0, last - time.monotonic()))[0]:
             try:
-                self.display.write(os.read(self._file, 1 << 16).decode(errors="replace"))
+                self.display.write(os.read(self.file, 1 << 16).decode(errors="replace"))
             except OSError:
                 return False
         return True
@@ -143,4 +147,4 @@ class Terminal:
         if self.status is None:
             os.kill(self.child, 9)
             os.waitpid(self.child, 0)
-        os.close(self._file)
+        os.close(self.file)

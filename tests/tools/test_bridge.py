@@ -131,16 +131,16 @@ class Prospects(unittest.TestCase):
         ("the link was ended here", "dte cleared ch=1", ["dte disconnect"]),
         ("the link isn't up", "dte connected", []),
         ("the link isn't up", "dte message ch=1", [*UP, "dte connected ch=1", "dte linkdown disc"]),
-        ("no circuit", "dte connected", [*UP]),
-        ("no circuit", "dte connected", [*UP, CALL, "dte cleared ch=1 cause=0 diag=0"]),
-        ("no circuit", "dte connected", [*UP, CALL, "dte collided ch=1", CALLED]),
-        ("no circuit", "dte connected", [*UP, CALL, "dte restarted cause=7 diag=0"]),
-        ("no circuit", "dte message", [*UP, CALLED]),
-        ("no circuit", "dte message ch=1 ", [*UP, "dte connected ch=12"]),
-        ("no circuit", "dte interrupt ch=12", [*UP, "dte connected ch=1"]),
-        ("no circuit", "dte wasreset", [*UP, "dte accept ch=1", "dte clear ch=1"]),
-        ("no circuit", "dte cleardone", [*UP, "dte accept ch=1", "dte clear ch=1", "dte cleardone ch=1"]),
-        ("no circuit", "dte resetdone", [*UP, "dte accept ch=1", "dte reset ch=1", "dte resetdone ch=1"]),
+        ("no call waits", "dte connected", [*UP]),
+        ("no call waits", "dte connected", [*UP, CALL, "dte cleared ch=1 cause=0 diag=0"]),
+        ("no call waits", "dte connected", [*UP, CALL, "dte collided ch=1", CALLED]),
+        ("no call waits", "dte connected", [*UP, CALL, "dte restarted cause=7 diag=0"]),
+        ("no call is up", "dte message", [*UP, CALLED]),
+        ("no call is up", "dte message ch=1 ", [*UP, "dte connected ch=12"]),
+        ("no call is up", "dte interrupt ch=12", [*UP, "dte connected ch=1"]),
+        ("no call is up", "dte wasreset", [*UP, "dte accept ch=1", "dte clear ch=1"]),
+        ("nothing is being cleared", "dte cleardone", [*UP, "dte accept ch=1", "dte clear ch=1", "dte cleardone ch=1"]),
+        ("nothing is being reset", "dte resetdone", [*UP, "dte accept ch=1", "dte reset ch=1", "dte resetdone ch=1"]),
         ("no restart", "dte restartdone", [*UP]),
         ("no restart", "dte restartdone", [*UP, "dte restart", "dte restartdone"]),
     )
@@ -332,7 +332,7 @@ class Joined(ToolCase):
         """Because the call was cleared, the link didn't come up, or the other end alone tells it."""
         cleared, failed = "dte connected ch=1\ndte cleared ch=1 cause=0 diag=0", "dte connect\ndte linkdown dm"
         for why, text, told in (
-            ("no circuit is in a state for it", "dte message", cleared),
+            ("no call is up", "dte message", cleared),
             ("the link didn't come up", "dte restarted", failed),
             ("notices of this end begin with `dte `", "dce incoming", cleared),
         ):
@@ -342,6 +342,11 @@ class Joined(ToolCase):
                 status, notices, said = self.end()
                 self.assertEqual((status, said), (1, ""))
                 self.assertEqual(notices[-3:], ["! 61", f"# ! 61, {why}; 1 command behind it: 'wait {text}'", "dte ready ch=1"])
+
+    def test_a_wait_that_nothing_stands_behind(self):
+        self.play((UA, "dte linkup"), user=b"wait dte linkup\nwait dte connected\n")
+        self.sends(UA)
+        self.assertEqual(self.end(), (1, ["dte linkup", "! 61", "# ! 61, no call waits for an answer: 'wait dte connected'"], ""))
 
     def test_wait_ends_in_its_time(self):
         self.play(("dte ready 1", "dte ready ch=1"), words=["--wait", "0.5"], user=b"wait dte incoming\ndte ready 1\n")
@@ -544,6 +549,24 @@ class Joined(ToolCase):
         self.child.terminate()
         self.assertEqual(self.gets(), DISC)
         self.assertEqual(self.end()[0], 143)
+
+    def test_a_bridge_that_leaves_sleeps(self):
+        """Also where a `wait` that comes to nothing is first among the commands, and nobody answers DISC."""
+        self.begin(f". off busy\n= {UA}\ndte linkup\n. off idle\n= dte disconnect\ndte disconnect\n{DISC}\n. off busy\n", "--t1", "2", "--stay", user=b"wait dte linkup\nwait dte cleared\n", is_left_open=True)
+        self.sends(UA)
+        self.asked(1)
+        time.sleep(0.3)
+        self.child.terminate()
+        self.gets()
+        begin = self.processor_time()
+        time.sleep(1)
+        self.assertLess(self.processor_time() - begin, 0.3)
+        self.assertEqual(self.end()[0], 143)
+
+    def processor_time(self):
+        """How long the bridge has had a processor, in seconds."""
+        fields = support.read(f"/proc/{self.child.pid}/stat").decode().rpartition(")")[2].split()
+        return (int(fields[11]) + int(fields[12])) / os.sysconf("SC_CLK_TCK")
 
     def test_a_second_signal_ends_it_at_once(self):
         self.begin(f". off busy\n= {UA}\ndte linkup\n. off idle\n= dte disconnect\ndte disconnect\n{DISC}\n. off busy\n", "--t1", "60", "--stay")

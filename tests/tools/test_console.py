@@ -11,7 +11,7 @@ import unittest
 
 import support
 from support import ToolCase
-from terminal import Terminal
+from terminal import Terminal, script
 
 import console
 from test_bridge import FAKE, RESTART, SABM, UA
@@ -33,7 +33,7 @@ class Typed(unittest.TestCase):
             ('send 1 0 "ab"0D0a"c"', "dte send 1 0 61620D0a63"),
             ('send 1 1 ""', "dte send 1 1 -"),
             ("accept 1", "dte accept 1"),
-            ("send 1 0 4", "dte send 1 0 4"),
+            ("int 1 07", "dte int 1 07"),
             ("wait incoming", "wait dte incoming"),
             ('wait message ch=1 at 1.0.0 q=0 data="', None),
             ("wait dte incoming ch=1", "wait dte incoming ch=1"),
@@ -57,6 +57,9 @@ class Typed(unittest.TestCase):
             ("restart now", "`restart` stands alone"),
             ("wait", "it is `wait TEXT`"),
             ('send 1 0 "hello', "a quote isn't closed"),
+            ("send 1 0 hello", """'hello' is no octets: these are hexadecimal digits in pairs, or "text\""""),
+            ("call 1 2 4", "'4' is no octets"),
+            ("int 1 x", "'x' is no octets"),
         ):
             with self.subTest(typed), self.assertRaises(console.Unknown) as raised:
                 console.spelled(typed, "dte")
@@ -89,6 +92,7 @@ class Shown(unittest.TestCase):
             (MESSAGE + "41" * 17, ["message ch=1 at 1.0.0 q=0 data: 17 octets", f"    0000  {'41 ' * 16} {'A' * 16}", f"    0010  41{' ' * 46} A"]),
             ("dte cleared ch=1 cause=13 diag=67", ["cleared ch=1 cause=13 diag=67  (not obtainable; invalid called address; the call is refused, or has ended)"]),
             ("dte incoming ch=2 at 1.0.0 called=1 calling=- data=-", ["incoming ch=2 at 1.0.0 called=1 calling=- data=-  (`accept 2` takes the call, `clear 2` refuses it)"]),
+            ("dte call ch=1 at 1.0.0 called=1 calling=2 data=6869 size=8,8 win=3,3", ['call ch=1 at 1.0.0 called=1 calling=2 data=6869 size=8,8 win=3,3  ("hi"; no answer yet)']),
             ("dte linkdown retries", ["linkdown retries  (nobody answers)"]),
             ("dte fault ch=1 diag=27", ["fault ch=1 diag=27  (packet type invalid for state d1; the other end broke a rule)"]),
             ("dte diagnostic diag=33", ["diagnostic diag=33  (unidentifiable packet)"]),
@@ -98,6 +102,8 @@ class Shown(unittest.TestCase):
                 self.assertEqual(console.shown(notice), rows)
 
     def test_what_is_too_long_is_said(self):
+        rows = console.shown("dte call ch=1 at 1.0.0 called=1 calling=2 data=" + "41" * 17 + " size=8,8 win=3,3")
+        self.assertEqual((len(rows), rows[0]), (3, "call ch=1 at 1.0.0 called=1 calling=2 data: 17 octets size=8,8 win=3,3  (no answer yet)"))
         rows = console.shown(MESSAGE + "00" * 60_000)
         self.assertEqual((len(rows), rows[0], rows[-1]), (66, "message ch=1 at 1.0.0 q=0 data: 60,000 octets", "    and 58,976 more"))
 
@@ -109,13 +115,21 @@ class Shown(unittest.TestCase):
 class Live(ToolCase):
     """A bridge at a terminal; the test is its station, by answers written by hand, and the other end."""
 
-    def begin(self, answers, *words):
+    def program(self, answers):
         self.answers = self.file("answers", answers.encode())
         program = self.file("x25", f'#!/bin/sh\nexec "{sys.executable}" "{FAKE}" "{self.answers}" "$@"\n'.encode())
         os.chmod(program, 0o755)
-        self.terminal = Terminal("bridge.py", "dte", "--listen", "0", "--x25", program, "--t1", "0.5", *words)
+        return program
+
+    def begin(self, answers, *words):
+        program = self.program(answers)
+        self.terminal = Terminal(script("bridge.py", "dte", "--listen", "0", "--x25", program, "--t1", "0.5", *words))
         self.addCleanup(self.terminal.close)
-        port = re.search(r"listening on 127.0.0.1:(\d+)", self.terminal.shows("dte>"))[1]
+        self.terminal.shows("dte>")
+
+    def join(self):
+        """The other end comes."""
+        port = re.search(r"listening on 127.0.0.1:(\d+)", self.terminal.display.text())[1]
         self.line = socket.create_connection(("127.0.0.1", int(port)), timeout=10)
         self.addCleanup(self.line.close)
         self.terminal.shows("# a connection has come from")
@@ -135,6 +149,7 @@ class Live(ToolCase):
 
     def test_a_greeting_a_command_and_the_end(self):
         self.begin(f". off busy\n= dte connect\ndte connect\n{SABM}\n. start busy\n= {UA}\ndte linkup\n. off idle\n= dte disconnect\ndte disconnect\ndte linkdown local\n. off busy\n")
+        self.join()
         self.assertIn("This is the DTE, waiting for a connection, with 1 channel.\n`help` shows", self.terminal.shows("dte>"))
         self.terminal.types("connect\r")
         self.terminal.shows("dte> connect\nconnect  (the link is to be set up)\ndte>")
@@ -149,6 +164,7 @@ class Live(ToolCase):
         """Also where the cursor is within the line, which goes on to be edited, and where the screen is full."""
         rows = "".join(f"= {UA}\n{MESSAGE}{number:04x}\n. off idle\n" for number in range(40))
         self.begin(". off idle\n" + rows + "= dte ready 12\ndte ready ch=12\n. off idle\n")
+        self.join()
         self.terminal.types("redy 12" + "\x1b[D" * 5)
         self.terminal.shows("dte> redy 12")
         for number in range(40):
@@ -164,6 +180,7 @@ class Live(ToolCase):
     def test_editing(self):
         """A line of before comes again, and a word is completed."""
         self.begin(". off idle\n= dte notready 1\n. off idle\n= dte notready 1\n. off idle\n= dte notready 2\n. off idle\n")
+        self.join()
         self.terminal.types("notready 1\r")
         self.asked(1)
         self.terminal.types("\x1b[A\r")
@@ -179,9 +196,10 @@ class Live(ToolCase):
 
     def test_other_ends(self):
         """The terminal is left as it was, behind CTRL-D, CTRL-C, and the end of the line."""
-        for typed, status in (("\x04", 0), ("\x03", 130), (None, 1)):
+        for typed, status in (("\x04", 0), ("\x03", 130), (None, 0)):
             with self.subTest(typed):
                 self.begin(f". off idle\n= {UA}\ndte linkup\n. off idle\n= dte disconnect\ndte linkdown local\n. off idle\n")
+                self.join()
                 self.sends(UA)
                 self.terminal.shows("linkup")
                 if typed is None:
@@ -190,13 +208,48 @@ class Live(ToolCase):
                     self.terminal.types(typed)
                 self.assertEqual((self.terminal.end()[0], self.terminal.echoes()), (status, True))
 
+    def test_ctrl_c_twice(self):
+        """The second one ends it at once; the terminal is as it was."""
+        self.begin(f". off idle\n= {UA}\ndte linkup\n. off idle\n= dte disconnect\ndte disconnect\n. off idle\n", "--t1", "60")
+        self.join()
+        self.sends(UA)
+        self.terminal.shows("linkup")
+        self.terminal.types("\x03")
+        self.terminal.shows("disconnect")
+        self.terminal.types("\x03")
+        self.assertEqual((self.terminal.end()[0], self.terminal.echoes()), (-signal.SIGINT, True))
+
+    def test_a_command_before_anybody_is_there(self):
+        self.begin(". off idle\n= dte ready 1\ndte ready ch=1\n. off idle\n")
+        self.terminal.types("ready 1\r")
+        self.terminal.shows("dte> ready 1\nthat waits: the line isn't there yet\ndte>")
+        self.join()
+        self.terminal.shows("\nready ch=1\ndte>")
+
+    def test_a_job_in_the_background_is_no_console(self):
+        """It would be stopped by its terminal."""
+        command = " ".join(script("bridge.py", "dte", "--listen", "0", "--x25", self.program(". off idle\n= dte disconnect\n. off idle\n")))
+        self.terminal = Terminal(["bash", "-m", "-c", f"{command} & sleep 2; jobs; kill %1; wait"])
+        self.addCleanup(self.terminal.close)
+        text = self.terminal.end()[1]
+        self.assertIn("Running", text)
+        self.assertNotIn("This is the DTE", text)
+
+    def test_octets_that_are_no_text(self):
+        self.begin(". off idle\n= dte send 1 0 fffe\ndte send ch=1 at 1.0.0 q=0 data=fffe\n. off idle\n")
+        self.join()
+        os.write(self.terminal.file, b'send 1 0 "\xff\xfe"\r')
+        self.terminal.shows("\nsend ch=1 at 1.0.0 q=0 data=fffe\ndte>")
+
     def test_a_wait_does_not_hold_the_end(self):
         self.begin(". off idle\n")
+        self.join()
         self.terminal.types("wait incoming\raccept 1\rquit\r")
         self.assertEqual(self.terminal.end()[0], 0)
 
     def test_a_refusal_is_told_once_in_words(self):
         self.begin(". off idle\n= dte accept 1\n! 30\n. off idle\n")
+        self.join()
         self.terminal.types("accept 1\r")
         self.terminal.shows("dte> accept 1\n# ! 30, not in this state of the channel: 'dte accept 1'\ndte>")
 
@@ -215,7 +268,7 @@ class Manual(ToolCase):
         other = other.replace("7000", port).replace("bridge.py", f'"{sys.executable}" "{support.TOOLS}/bridge.py" --x25 "{support.PROGRAM}"')
         with subprocess.Popen(["bash", "-c", other], cwd=self.folder, stdout=subprocess.DEVNULL, stderr=subprocess.PIPE) as far:
             far.stderr.readline()
-            terminal = Terminal(*command.split(), "--x25", support.PROGRAM)
+            terminal = Terminal(script(*command.split(), "--x25", support.PROGRAM))
             self.addCleanup(terminal.close)
             shown = ""
             for line in lines:
