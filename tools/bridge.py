@@ -536,9 +536,10 @@ def user_of(options, files):
 
 
 def has_console(options):
-    """Whether the user sits at a terminal, and the bridge isn't one of its jobs in the background."""
-    is_told_otherwise = options.stdio or options.commands or options.notices
-    return not is_told_otherwise and sys.stdin.isatty() and sys.stdout.isatty() and os.tcgetpgrp(0) == os.getpgrp()
+    """Whether the user sits at a terminal that can make room for a line, and the bridge isn't one of its jobs in the background."""
+    if options.stdio or options.commands or options.notices or os.environ.get("TERM", "dumb") == "dumb":
+        return False
+    return sys.stdin.isatty() and sys.stdout.isatty() and os.tcgetpgrp(0) == os.getpgrp()
 
 
 def main():

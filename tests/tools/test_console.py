@@ -235,6 +235,15 @@ class Live(ToolCase):
         self.assertIn("Running", text)
         self.assertNotIn("This is the DTE", text)
 
+    def test_a_dumb_terminal_is_no_console(self):
+        program = self.program(". off idle\n= dte ready 1\ndte ready ch=1\n. off idle\n= dte disconnect\n. off idle\n")
+        self.terminal = Terminal(["env", "TERM=dumb", *script("bridge.py", "dte", "--listen", "0", "--x25", program, "--t1", "0.5")])
+        self.addCleanup(self.terminal.close)
+        self.terminal.shows("listening on")
+        self.join()
+        self.terminal.types("dte ready 1\n")
+        self.assertNotIn("This is the DTE", self.terminal.shows("dte ready ch=1"))
+
     def test_octets_that_are_no_text(self):
         self.begin(". off idle\n= dte send 1 0 fffe\ndte send ch=1 at 1.0.0 q=0 data=fffe\n. off idle\n")
         self.join()

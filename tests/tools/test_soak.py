@@ -93,6 +93,8 @@ class Judged(ToolCase):
         self.assertEqual(([coverage, *lines], is_right), it.row(None)[1:])
         row, lines, is_right = it.row("Wrong: lost")
         self.assertEqual((dict(zip(soak.COLUMNS, row))["wrong"], lines[0], is_right), (1, "  wrong: Wrong: lost", False))
+        it.judged = lambda: ([], soak.Counter())
+        self.assertEqual(it.row(None)[1][0], "  wrong: x25 judge doesn't say how much it judged")
         it.counts = soak.Counter()
         row, lines, is_right = it.row(None)
         self.assertEqual((dict(zip(soak.COLUMNS, row))["wrong"], lines[0], is_right), (1, "  wrong: no call was made", False))
