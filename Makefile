@@ -94,6 +94,7 @@ golden: build/x25
 
 judge-runs: build/x25
 	python3 tests/judge_runs.py --program build/x25
+	python3 tests/tap_runs.py --program build/x25
 	python3 tests/odd_runs.py --program build/x25
 	python3 tests/link_runs.py --program build/x25
 	python3 tests/order_runs.py --program build/x25
@@ -108,8 +109,10 @@ wrong-bodies: kit
 	.ci/wrong_bodies $(CRATE)
 
 # A program that stands there is taken as it is, without the kit.
-interop: $(if $(wildcard build/x25),,build/x25)
+# The guest comes first: it asks for packages before anything is proved.
+interop:
 	interop/build.sh build/interop
+	$(if $(wildcard build/x25),,$(MAKE) build/x25)
 	python3 interop/play.py build/interop
 
 PREFIX = /usr/local
@@ -138,12 +141,17 @@ install:
 	for pair in $(SCRIPTS); do \
 	    chmod 755 $(INSTALLED)/lib/x25/$${pair#*:}.py && \
 	    ln -sf ../lib/x25/$${pair#*:}.py $(INSTALLED)/bin/$${pair%:*} && \
-	    ln -sf x25.1 $(INSTALLED)/share/man/man1/$${pair%:*}.1 || exit $$?; \
+	    python3 tools/manpage.py --script $${pair%:*} > $(INSTALLED)/share/man/man1/$${pair%:*}.1 && \
+	    chmod 644 $(INSTALLED)/share/man/man1/$${pair%:*}.1 && \
+	    ln -sf x25 $(INSTALLED)/share/bash-completion/completions/$${pair%:*} || exit $$?; \
 	done
 	python3 tools/manpage.py --prefix $(PREFIX) > $(INSTALLED)/share/man/man1/x25.1
 	chmod 644 $(INSTALLED)/share/man/man1/x25.1
 	install -m 644 share/x25.bash $(INSTALLED)/share/bash-completion/completions/x25
-	install -m 644 README.md CHANGELOG.md docs/*.md docs/*.svg $(DOCUMENTS)
+	install -m 644 CHANGELOG.md docs/*.md docs/*.svg $(DOCUMENTS)
+	for document in README.md docs/MANUAL.md docs/FORMATS.md; do \
+	    python3 tools/manpage.py --text --prefix $(PREFIX) $$document > $(DOCUMENTS)/$${document#docs/} && chmod 644 $(DOCUMENTS)/$${document#docs/} || exit $$?; \
+	done
 	install -m 644 $(wildcard examples/*.*) $(DOCUMENTS)/examples
 	for folder in embed c python; do install -m 644 examples/$$folder/*.* $(DOCUMENTS)/examples/$$folder || exit $$?; done
 	if [ -e $(dir $(PROGRAM))commit ]; then install -m 644 $(dir $(PROGRAM))commit $(DOCUMENTS)/COMMIT; fi
@@ -167,8 +175,9 @@ install-lib:
 	@test -n "$(DESTDIR)" || echo "Now run ldconfig, as root: it lets programs find $(LIBDIR)/$(SHARED)."
 
 uninstall:
-	for pair in x25:x25 $(SCRIPTS); do rm -f $(INSTALLED)/bin/$${pair%:*} $(INSTALLED)/share/man/man1/$${pair%:*}.1; done
-	rm -f $(INSTALLED)/share/bash-completion/completions/x25
+	for pair in x25:x25 $(SCRIPTS); do \
+	    rm -f $(INSTALLED)/bin/$${pair%:*} $(INSTALLED)/share/man/man1/$${pair%:*}.1 $(INSTALLED)/share/bash-completion/completions/$${pair%:*}; \
+	done
 	rm -f $(INSTALLED)/include/x25.h $(DESTDIR)$(LIBDIR)/libx25.* $(DESTDIR)$(LIBDIR)/pkgconfig/x25.pc $(DESTDIR)$(PYTHONDIR)/x25
 	rm -rf $(INSTALLED)/lib/x25 $(INSTALLED)/share/x25 $(DOCUMENTS)
 

@@ -1,18 +1,38 @@
 #!/bin/sh
 # build.sh FOLDER: makes in FOLDER the guest that play.py boots: Debian's kernel, its net/x25, lapb and lapbether as modules, and an
 # initramfs with guest.c as its only program. It installs nothing, and fetches one package, the kernel's image, which it unpacks in
-# FOLDER; README.md says which packages it needs. What stands there of the same kernel is taken as it is.
+# FOLDER; where others are missing it says which, with status 2. What stands there of the same kernel is taken as it is.
 set -eu
 here=$(cd "$(dirname "$0")" && pwd)
+version=$(apt-cache depends linux-image-amd64 2>/dev/null | sed -n 's/.*Depends: linux-image-//p' | head -1)
+[ "$version" ] || { echo "the kernel's package isn't known yet: apt-get update (Debian 12 on x86-64)" >&2; exit 2; }
+name=linux-source-$(echo "$version" | cut -d. -f1-2)
+headers=/usr/src/linux-headers-$version
+
+# What is needed, each by a file of it, and the package that has it.
+missing=
+while read -r file package; do
+    [ -e "$file" ] || missing="$missing $package"
+done <<END
+/usr/src/$name.tar.xz $name
+$headers/Makefile linux-headers-$version
+/usr/bin/qemu-system-x86_64 qemu-system-x86
+/sbin/modinfo kmod
+/usr/bin/cpio cpio
+/usr/bin/xz xz-utils
+/usr/bin/make make
+/usr/bin/gcc gcc
+/usr/bin/bc bc
+/usr/include/libelf.h libelf-dev
+/usr/include/stdio.h libc6-dev
+END
+if [ "$missing" ]; then
+    echo "packages are missing: apt-get update && apt-get install --no-install-recommends$missing" >&2
+    exit 2
+fi
 mkdir -p "$1"
 cd "$1"
 dir=$(pwd)
-version=$(apt-cache depends linux-image-amd64 | sed -n 's/.*Depends: linux-image-//p' | head -1)
-name=linux-source-$(echo "$version" | cut -d. -f1-2)
-headers=/usr/src/linux-headers-$version
-for it in "/usr/src/$name.tar.xz" "$headers/Makefile" /usr/bin/qemu-system-x86_64 /usr/bin/cpio; do
-    [ -e "$it" ] || { echo "$it is missing: interop/README.md names the packages" >&2; exit 2; }
-done
 
 # The kernel and its modules, left in modules/ and vmlinuz.
 if [ ! -e modules/tun.ko ] || [ ! -e version ] || [ "$(cat version)" != "$version" ]; then

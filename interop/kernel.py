@@ -12,6 +12,15 @@ NETWORK = "dgram,id=n0,local.type=inet,local.host=127.0.0.1,local.port={},remote
 ESCAPES = re.compile(r"\x1b(?:c|\[[?0-9;]*[A-Za-z])")
 
 
+# What the kernel says where it has gone wrong; some of it it survives, but nothing that it does later tells much.
+TROUBLE = re.compile(r"\bBUG: |\bOops\b|Kernel panic|self-detected stall|soft lockup|blocked for more than")
+
+
+def is_trouble(line):
+    """Whether a line of the console tells that the kernel has gone wrong."""
+    return bool(TROUBLE.search(line))
+
+
 class Talker:
     """A program that is told lines and says lines."""
 
@@ -94,7 +103,10 @@ class Missing(Exception):
 
 
 def boot(folder, local, remote):
-    """The command that boots the guest of the folder that build.sh made; its network is the port `local` of this host, and sends to `remote`."""
+    """The command that boots the guest of the folder that build.sh made; its network is the port `local` of this host, and sends to `remote`.
+
+    What its kernel says of errors, and where these came from, stands on the console, too.
+    """
     command = ["qemu-system-x86_64", "-M", "q35", "-accel", "tcg", "-m", "256", "-nographic", "-no-reboot"]
-    command += ["-kernel", f"{folder}/vmlinuz", "-initrd", f"{folder}/initrd.gz", "-append", "console=ttyS0 quiet loglevel=1 panic=-1 no_timer_check"]
+    command += ["-kernel", f"{folder}/vmlinuz", "-initrd", f"{folder}/initrd.gz", "-append", "console=ttyS0 loglevel=5 panic=-1 no_timer_check"]
     return command + ["-netdev", NETWORK.format(local, remote), "-device", "e1000,netdev=n0", "-serial", "mon:stdio"]

@@ -1,4 +1,5 @@
-# Completion of the words of `x25` for bash: `source share/x25.bash`, or put this into /usr/share/bash-completion/completions/x25.
+# Completion of the words of `x25` and of the scripts for bash: `source share/x25.bash`, or put this into
+# /usr/share/bash-completion/completions/x25, with links to it by the names of the scripts.
 
 _x25() {
     local word=${COMP_WORDS[COMP_CWORD]} before=${COMP_WORDS[COMP_CWORD - 1]} words=
@@ -24,4 +25,14 @@ _x25() {
     mapfile -t COMPREPLY < <(compgen -W "$words" -- "$word")
 }
 
+# The words that a script itself says it has; else files.
+_x25_script() {
+    local word=${COMP_WORDS[COMP_CWORD]}
+    COMPREPLY=()
+    if [[ $word == -* ]]; then
+        mapfile -t COMPREPLY < <(compgen -W "$("${COMP_WORDS[0]}" --help 2> /dev/null | grep -oE -- '--[a-z][a-z0-9-]*' | sort -u)" -- "$word")
+    fi
+}
+
 complete -F _x25 -o default x25
+complete -F _x25_script -o default x25dump pcap2x25 x25pcap x25bridge x25chart

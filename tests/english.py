@@ -3,7 +3,7 @@
 
     english.py [--over N] [DOCUMENT ..]
 
-Headings, examples, tables and lists of names aren't sentences. A word of code counts as one word. With --over, each sentence of more than N
+Headings, examples, tables, quotations and lists of names aren't sentences. A word of code counts as one word. With --over, each sentence of more than N
 words is shown, with its line; without, the longest of each document.
 """
 
@@ -19,14 +19,14 @@ def parts_of(text):
     lines, part, begun, fenced = text.splitlines() + [""], [], 0, False
     for number, line in enumerate(lines, 1):
         fenced ^= line.startswith("```")
-        is_none = fenced or not line.strip() or line.startswith(("    ", "#", "|", "```", "<!--")) and not (line.startswith("    ") and part)
+        is_none = fenced or not line.strip() or line.startswith(("    ", "#", "|", ">", "```", "<!--")) and not (line.startswith("    ") and part)
         if is_none or re.match(r" *(?:[-*]|\d+\.) ", line):
             if part:
                 yield begun, " ".join(part)
             part = []
         if not is_none:
             begun = begun if part else number
-            part.append(re.sub(r"^ *(?:[-*]|\d+\.) |^> ?", "", line).strip())
+            part.append(re.sub(r"^ *(?:[-*]|\d+\.) ", "", line).strip())
 
 
 def sentences_of(text):

@@ -19,6 +19,7 @@ from runs import ACCEPTED, CALL, CLEAR, CLEAR_CONFIRMATION, INTERRUPT, INTERRUPT
 from runs import RESET, RESET_CONFIRMATION, RESTART, RESTART_CONFIRMATION, RNR, RR
 
 import losses  # where runs finds it
+from piped import Station
 from x25lines import fcs
 
 STEPS, MOST_OUT = 80, 6
@@ -27,34 +28,6 @@ OTHERS = {"dte": "dce", "dce": "dte"}
 SABM = 0x3F
 # What a request is answered by.
 ANSWERS = {CALL: ACCEPTED, CLEAR: CLEAR_CONFIRMATION, RESET: RESET_CONFIRMATION, INTERRUPT: INTERRUPT_CONFIRMATION, RESTART: RESTART_CONFIRMATION}
-
-
-class Station:
-    """The program, asked a line at a time."""
-
-    def __init__(self, program, end, channels):
-        words = [program, "station", end, "--channels", str(channels), "--n2", "255"]
-        self.run = subprocess.Popen(words, stdin=subprocess.PIPE, stdout=subprocess.PIPE, text=True)
-        self.answer()
-
-    def answer(self):
-        """What it writes up to its mark."""
-        lines = []
-        for line in self.run.stdout:
-            if line.startswith(". "):
-                return lines
-            lines.append(line)
-        raise RuntimeError("the station ended")
-
-    def ask(self, line):
-        self.run.stdin.write(line)
-        self.run.stdin.flush()
-        return self.answer()
-
-    def end(self):
-        self.run.stdin.close()
-        self.run.stdout.close()
-        self.run.wait()
 
 
 class Channel:
@@ -163,7 +136,7 @@ class Run:
         self.other = OTHERS[self.end]
         channels = self.dice.one_of((1, 2, 3))
         self.numbers = range(1, channels + 1)
-        self.station = Station(program, self.end, channels)
+        self.station = Station(program, self.end, ["--channels", str(channels), "--n2", "255"])
         self.packets = Packets(self.dice, channels)
         self.command, self.response = (1, 3) if self.other == "dte" else (3, 1)
         self.trace, self.there, self.back = [], [], []
@@ -180,13 +153,13 @@ class Run:
 
     def says(self, line):
         """The station is asked something, and sends frames."""
-        frames = [line for line in self.station.ask(line) if line[0] == MARKS[self.end]]
+        frames = [f"{frame.direction} {frame.octets.hex()}\n" for frame in self.station.ask(line).frames]
         self.trace += frames
         self.back += frames
 
     def deliver(self):
         if self.there:
-            self.says(self.there.pop(0))
+            self.says(self.there.pop(0).rstrip())
 
     def take(self):
         """The next frame comes to the odd end."""
@@ -204,7 +177,7 @@ class Run:
         channel = 1 + self.dice.below(len(self.numbers))
         kinds = ("call 1 2 -", f"accept {channel}", f"accept {channel}", f"clear {channel}", f"send {channel} 0 {'ab' * self.dice.one_of((1, 5, 200))}")
         more = (f"send {channel} 0 aa", f"int {channel} 01", f"reset {channel}", "restart" if self.dice.chance(0.2) else "pull")
-        return f"{self.end} {self.dice.one_of(kinds + more)}\n"
+        return f"{self.end} {self.dice.one_of(kinds + more)}"
 
     def step(self):
         chance = self.dice.fraction()
@@ -220,13 +193,13 @@ class Run:
             self.says(self.asks())
 
     def play(self):
-        self.put([self.command, SABM])
-        self.deliver()
-        self.take()
-        self.put_packet([0x10, 0, RESTART, 0, 0])
-        for _ in range(STEPS):
-            self.step()
-        self.station.end()
+        with self.station:
+            self.put([self.command, SABM])
+            self.deliver()
+            self.take()
+            self.put_packet([0x10, 0, RESTART, 0, 0])
+            for _ in range(STEPS):
+                self.step()
 
 
 def told(program, frames, end):

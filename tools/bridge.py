@@ -1,8 +1,8 @@
 #!/usr/bin/env python3
 """Runs a station, `x25 station`, with a clock for timer T1, and joins it to a line; its user writes commands and reads notices.
 
-    bridge.py dce --listen 7000 --stay
-    printf 'dte connect\\nwait dte restarted\\ndte call 123 4567 41\\n' | bridge.py dte --connect localhost:7000
+    printf 'wait dce incoming\\ndce accept 1\\n' | bridge.py dce --listen 7000
+    printf 'dte connect\\nwait dte restarted\\ndte call 123 4567 41\\nwait dte connected\\n' | bridge.py dte --connect localhost:7000
     bridge.py dce --udp 5601:5600 --trace frames
     bridge.py dce --xot-listen --channels 8 --stay
 
@@ -29,6 +29,9 @@ transcript; `! N` for a command that is refused, and `? 60` for one that is none
 in UTF-8: why that was, and what becomes of the line. They go to standard output or to --notices. With --stdio commands have to come by
 --commands, and notices go to standard error. A `wait` for what can't come any more, as the answer to a call that was cleared, and one
 that has lasted --wait seconds, is refused (61), and those behind it go on; one that holds some for 10 seconds says so.
+
+At a terminal the bridge is a console: `help` shows what can be typed there, without this end and with octets as text in quotes, too, and
+`quit`, as the end of the input, ends the bridge as SIGTERM does, but with status 0, or 1.
 
 A message that is refused because 8 of its circuit wait (31) stands aside, with those behind it for that circuit, and is asked again
 behind the next frame; all else goes on, but for `clear` and `reset` of the circuit, `restart` and `disconnect`, which let the messages go
@@ -58,8 +61,6 @@ import argparse
 import contextlib
 import re
 import select
-import signal
-import socket
 import sys
 import time
 from collections import Counter
@@ -73,7 +74,8 @@ import xot_wire
 from circuits import Circuits
 from losses import within
 from mishaps import Mishaps
-from users import SLOW, Outlet, User
+from places import host_and_port, ports, xot_host
+from users import SLOW, Outlet, Signals, User, kind
 from x25lines import BadInput, FrameLine
 from xot import XOT_PORT
 
@@ -105,33 +107,6 @@ def called_channel(octets):
 def is_answer(octets):
     """Whether a frame is UA or DM, the answers to DISC."""
     return x25lines.is_sealed(octets) and octets[1] & 0xEF in (UA, DM)
-
-
-class Signals:
-    """CTRL-C and SIGTERM as something to read. The first that came is `number`; a second one ends the script at once."""
-
-    def __init__(self):
-        self.number = None
-        self._reader, self._writer = socket.socketpair()
-
-    def __enter__(self):
-        self._writer.setblocking(False)
-        signal.set_wakeup_fd(self._writer.fileno())
-        for number in (signal.SIGINT, signal.SIGTERM):
-            signal.signal(number, self._come)
-        return self
-
-    def __exit__(self, *_):
-        signal.set_wakeup_fd(-1)
-
-    def _come(self, number, _):
-        self.number = number
-        for each in (signal.SIGINT, signal.SIGTERM):
-            signal.signal(each, signal.SIG_DFL)
-
-    def readers(self):
-        """The file that has something to read once one came, and None did before."""
-        return [self._reader] if self.number is None else []
 
 
 class Bridge:
@@ -191,7 +166,7 @@ class Bridge:
 
     def _patience(self):
         """How long nothing may happen before the bridge itself has to act, in seconds; None where it has nothing to do."""
-        if self._command() is not None or self._has_caught_up() or self._in_vain():
+        if self._leaves is None and (self._command() is not None or self._has_caught_up() or self._in_vain()):
             return 0
         now = time.monotonic()
         own = [self._leaves] if self._leaves is not None else [self._deadline, self._probing(), *self._waits()]
@@ -227,7 +202,7 @@ class Bridge:
 
     def _is_held_up(self):
         """Whether no command may be asked now."""
-        waits = self._is_full or self._leaves is not None or self._user.notices.is_slow() or self._is_settling()
+        waits = self._is_full or self._user.notices.is_slow() or self._is_settling()
         return waits or not self._wire.is_there or self._wire.waits > MOST_UNSENT
 
     def _in_vain(self):
@@ -264,7 +239,7 @@ class Bridge:
 
     def _is_cut_off(self):
         """The other end has gone: it is told where something was left to do."""
-        if not (self._user.has_done() and (self._is_idle or not self._circuits.is_up)):
+        if not (self._user.has_asked() and (self._is_idle or not self._circuits.is_up)):
             x25lines.warn("the line has ended before all was done")
             self.status = 1
         return False
@@ -272,7 +247,7 @@ class Bridge:
     def _leave(self):
         """Ends the link, and the bridge once that is answered, or T1 later."""
         self._leaves = time.monotonic() + self._options.t1
-        self.status = 128 + self._signals.number
+        self.status = 128 + self._signals.number if self._signals.number else self.status
         if self._circuits.is_up or self._deadline is not None:
             self._heed(self._station.ask(f"{self._end} disconnect"))
 
@@ -442,39 +417,6 @@ class Bridge:
         x25lines.warn(f"frames: {self.counts['sent']} sent, {self.counts['came']} came; {lost}, {damaged}; T1 fired {self.counts['fired']} times")
 
 
-def port(text):
-    """A word that is the number of a port; 0 lets the system choose one."""
-    if not re.fullmatch("[0-9]{1,5}", text) or int(text) > 65_535:
-        raise argparse.ArgumentTypeError(f"{text!r} is no port")
-    return int(text)
-
-
-def host(text):
-    """A word that is a name or an address; one of IPv6 stands in brackets."""
-    found = re.fullmatch(r"\[([0-9a-fA-F:.%\w]+)\]|([^:\[\]]+)", text)
-    if not found:
-        raise argparse.ArgumentTypeError(f"{text!r} is no name of a host and no address; one of IPv6 stands in brackets")
-    return found[1] or found[2]
-
-
-def host_and_port(text):
-    """A word HOST:PORT, or PORT of this host."""
-    name, _, number = text.rpartition(":")
-    return host(name) if name else "127.0.0.1", port(number)
-
-
-def ports(text):
-    """A word LOCAL:REMOTE, two ports of this host, or LOCAL:HOST:REMOTE."""
-    local, _, remote = text.partition(":")
-    return (port(local), *host_and_port(remote))
-
-
-def xot_host(text):
-    """A word HOST or HOST:PORT of XOT."""
-    has_port = re.fullmatch(r".*:[0-9]*", text) and not text.endswith("]")
-    return host_and_port(text) if has_port else (host(text), XOT_PORT)
-
-
 def is_xot(options):
     """Whether the line is X.25 over TCP."""
     return bool(options.xot or options.xot_listen)
@@ -590,24 +532,40 @@ def user_of(options, files):
         commands = files.enter_context(opened(options.commands, "rb")).fileno()
     if options.notices:
         notices = files.enter_context(opened(options.notices, "wb"))
-    return User(commands, notices, quiet(options))
+    return User(commands, Outlet(notices, kind), quiet(options))
+
+
+def has_console(options):
+    """Whether the user sits at a terminal."""
+    return not (options.stdio or options.commands or options.notices) and sys.stdin.isatty() and sys.stdout.isatty()
 
 
 def main():
     options = words()
     with contextlib.ExitStack() as files:
         signals = files.enter_context(Signals())
-        user = user_of(options, files)
+        console = None
+        if has_console(options):
+            from console import Console, Screen
+
+            console = Console(options, signals.leave)
+            user = User(console.commands, Screen(), quiet(options), is_at_terminal=True)
+        else:
+            user = user_of(options, files)
         trace = Outlet(files.enter_context(opened(options.trace, "wb"))) if options.trace else None
         station = files.enter_context(station_of(options))
         wire = joined(options, user.note)
         files.callback(wire.close)
         bridge = Bridge(station, wire, user, options, trace, signals)
+        if console:
+            console.begin(wire)
         try:
             bridge.run()
         finally:
             for outlet in filter(None, (user.notices, trace)):
                 outlet.end()
+            if console:
+                console.close()
             if options.stats:
                 bridge.stats()
         return bridge.status

@@ -3,8 +3,8 @@
 The formats are those of the IETF drafts draft-ietf-opsawg-pcap and draft-ietf-opsawg-pcapng.
 
 A record is one captured packet, a tuple: its number from 1, the link type, its octets, whether they are a part of it alone, its time in
-nanoseconds, whether the host that captured sent it, how many of its octets are a frame check sequence, its flags. None is what the capture
-doesn't say.
+nanoseconds, whether the host that captured sent it, how many of its octets are a frame check sequence, its flags, how many packets the program
+that captured dropped just before it. None is what the capture doesn't say.
 """
 
 import functools
@@ -21,7 +21,7 @@ PCAP_MAGIC = {
     b"\xa1\xb2\x3c\x4d": (">", 1),
     b"\x4d\x3c\xb2\xa1": ("<", 1),
 }
-SECTION, INTERFACE, OLD_PACKET, SIMPLE_PACKET, PACKET = 0x0A0D0D0A, 1, 2, 3, 6
+SECTION, INTERFACE, OLD_PACKET, SIMPLE_PACKET, STATISTICS, PACKET = 0x0A0D0D0A, 1, 2, 3, 5, 6
 # What the blocks of packets begin with: the interface, the time, how many octets were captured and how many there were; of a simple one, that alone.
 FIELDS = {PACKET: "IIIII", OLD_PACKET: "HxxIIII", SIMPLE_PACKET: "I"}
 LENGTHS = {kind: struct.calcsize("<" + form) for kind, form in FIELDS.items()}
@@ -29,7 +29,11 @@ SECTION_TYPE = struct.pack("<I", SECTION)
 BYTE_ORDER = 0x1A2B3C4D
 BYTE_ORDERS = {struct.pack(order + "I", BYTE_ORDER): order for order in "<>"}
 
-END_OF_OPTIONS, FLAGS, RESOLUTION, CLOCK_OFFSET, FCS_LENGTH = 0, 2, 9, 14, 13
+END_OF_OPTIONS, FLAGS, DROP_COUNT, RESOLUTION, CLOCK_OFFSET, FCS_LENGTH = 0, 2, 4, 9, 14, 13
+# Of the statistics of an interface: what it dropped, and what the system did.
+DROPS = 5, 7
+# What is left out of a capture where it says so.
+DROPPED = "frame that the program which captured dropped, the capture doesn't say where"
 # Of the flags of a packet: the direction, and why it was received with an error.
 INBOUND, OUTBOUND, DIRECTION = 1, 2, 3
 IS_OUTBOUND = {INBOUND: False, OUTBOUND: True, 0: None, 3: None}
@@ -52,10 +56,11 @@ class Interface(NamedTuple):
     fcs_octets: Optional[int]
 
 
-def blocks(file):
+def blocks(file, notes=None):
     """Yields the records of a capture, of whichever format, in lists, each of those that are there at once.
 
-    A file that isn't one, or breaks off, is bad input, told behind the records before that.
+    A file that isn't one, or breaks off, is bad input, told behind the records before that. `notes` counts what the capture says was dropped, of
+    which no record says where.
     """
     reader, rest = None, b""
     for octets in x25lines.pieces(file):
@@ -67,6 +72,8 @@ def blocks(file):
             rest = rest[reader.read(rest, records) :] if reader else rest
         finally:
             yield records
+        if notes is not None and reader is not None and reader.dropped:
+            notes[DROPPED] = sum(reader.dropped.values())
     if reader is None:
         raise BadInput(NO_CAPTURE)
     if rest:
@@ -84,6 +91,8 @@ def _reader(magic):
 
 class _Pcap:
     """Reads a pcap file; `tick` is the nanoseconds of its unit of time."""
+
+    dropped = None
 
     def __init__(self, order, tick):
         self._file_header, self._header = struct.Struct(order + "IHHiIII"), struct.Struct(order + "IIII")
@@ -111,7 +120,7 @@ class _Pcap:
                 break
             self._number += 1
             time = whole * NANOSECONDS + part * self._tick
-            records.append((self._number, self._link_type, octets[at + 16 : end], captured < length, time, None, self._fcs_octets, 0))
+            records.append((self._number, self._link_type, octets[at + 16 : end], captured < length, time, None, self._fcs_octets, 0, 0))
             at = end
         return at
 
@@ -132,9 +141,11 @@ class _Pcapng:
     """Reads a pcapng file, block by block."""
 
     def __init__(self):
-        self._number = 0
+        self._number = self._sections = 0
         self._order = None
         self._head = struct.Struct("<II").unpack_from
+        # Of each section and interface what the last of its statistics says was dropped.
+        self.dropped = {}
 
     def next(self):
         """What is read next."""
@@ -163,13 +174,23 @@ class _Pcapng:
                 records.append(self._packet(kind, octets, at + 8, end - 4))
             elif kind == INTERFACE:
                 self._interfaces.append(_interface(octets[at + 8 : end - 4], self._order))
+            elif kind == STATISTICS:
+                self._count(octets[at + 8 : end - 4])
             at = end
         return at
+
+    def _count(self, body):
+        """Reads the statistics of an interface."""
+        options = _options(body[12:], self._order) or {}
+        counts = [struct.unpack(self._order + "Q", options[code])[0] for code in DROPS if len(options.get(code, b"")) == 8]
+        if sum(counts):
+            self.dropped[self._sections, body[:4]] = sum(counts)
 
     def _begin(self, magic):
         """Begins a section, whose header shows the order of its octets."""
         if magic not in BYTE_ORDERS:
             raise BadInput("a section header has no byte order")
+        self._sections += 1
         order = self._order = BYTE_ORDERS[magic]
         self._head, self._word = struct.Struct(order + "II").unpack_from, struct.Struct(order + "I").unpack_from
         self._fields = {kind: struct.Struct(order + form).unpack_from for kind, form in FIELDS.items()}
@@ -194,13 +215,14 @@ class _Pcapng:
         link_type, tick, ticks, offset, fcs_octets = self._interfaces[index]
         packet = octets[start : start + captured]
         if kind == SIMPLE_PACKET:
-            return number, link_type, packet, captured < length, None, None, fcs_octets, 0
-        flags = _flags(octets[start + (captured + 3 & ~3) : end], self._order)
-        if flags is None:
+            return number, link_type, packet, captured < length, None, None, fcs_octets, 0, 0
+        read = _flags(octets[start + (captured + 3 & ~3) : end], self._order)
+        if read is None:
             raise BadInput(f"an option of record {number} has a wrong length")
+        flags, dropped = read
         time = (high << 32 | low) * tick // ticks + offset
         is_outbound, fcs_octets = IS_OUTBOUND[flags & DIRECTION], flags >> 5 & 0xF or fcs_octets
-        return number, link_type, packet, captured < length, time if time > 0 else 0, is_outbound, fcs_octets, flags
+        return number, link_type, packet, captured < length, time if time > 0 else 0, is_outbound, fcs_octets, flags, dropped
 
 
 def _interface(body, order):
@@ -221,12 +243,13 @@ def _interface(body, order):
 # The options of most packets of a file are the same.
 @functools.lru_cache(maxsize=256)
 def _flags(octets, order):
-    """The flags of a packet with these options, 0 where none of these has them; None where the options can't be read."""
+    """The flags of a packet with these options, and how many packets were dropped before it, 0 where none of these has them; None where the
+    options can't be read."""
     options = _options(octets, order)
     if options is None:
         return None
-    flags = options.get(FLAGS, b"")
-    return struct.unpack(order + "I", flags)[0] if len(flags) == 4 else 0
+    flags, dropped = options.get(FLAGS, b""), options.get(DROP_COUNT, b"")
+    return struct.unpack(order + "I", flags)[0] if len(flags) == 4 else 0, struct.unpack(order + "Q", dropped)[0] if len(dropped) == 8 else 0
 
 
 def _options(octets, order):

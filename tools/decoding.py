@@ -8,7 +8,7 @@ import shutil
 import subprocess
 
 import x25lines
-from x25lines import BadInput, fcs
+from x25lines import BadInput
 
 # The program that was built or installed together with this file, which stands in tools/ or lib/x25/; then the one of `make look`.
 FOLDER = os.path.dirname(os.path.realpath(__file__))
@@ -55,17 +55,6 @@ def let_end(child):
     except BrokenPipeError:
         pass
     child.wait()
-
-
-# SABM of the DTE, and the UA of the DCE.
-SET_UP = "> 013febdf\n< 01738357\n"
-
-
-def _taken(line):
-    """The line of the RR by which the other end says that it took the I frame of a line."""
-    direction, control = line[0], int(line[4:6], 16)
-    octets = bytes([1 if direction == ">" else 3, ((control >> 1) + 1 & 7) << 5 | 1])
-    return f"{'<' if direction == '>' else '>'} {(octets + fcs(octets)).hex()}"
 
 
 def answers(decoder, lines, connection=None):
@@ -138,50 +127,3 @@ class Decoder:
         # So that a write takes what there is room for.
         os.set_blocking(child.stdin.fileno(), False)
         return child
-
-
-class Judge:
-    """Has the program judge the frames of each connection by themselves.
-
-    Around packets that came without frames it hears a link that is set up and takes each of them at once, so that only they are judged.
-    """
-
-    def __init__(self, program, window, words=()):
-        self._program = program
-        self._words = ["--k", str(window), *words]
-        self._judges = {}
-
-    def __enter__(self):
-        return self
-
-    def __exit__(self, *_):
-        for judge in self._judges.values():
-            judge.__exit__()
-
-    def texts(self, asked, connections):
-        """The answers to the lines of a trace in a text, each of a connection, and behind ` ! ` the end and the rule that it breaks, or behind ` ~ `
-        the same of manners, or what is noted."""
-        lines, groups = asked.splitlines(), {}
-        for place, connection in enumerate(connections):
-            groups.setdefault(None if connection is None else (connection.number, connection.is_made_up), []).append(place)
-        texts = [None] * len(lines)
-        for group, places in groups.items():
-            for place, text in zip(places, self._group_texts(group, [lines[place] for place in places])):
-                texts[place] = text
-        return texts
-
-    def counts(self):
-        """Yields the number of each connection, and a line of how much was judged, of its frames and of the packets of each channel, or of what was told."""
-        for group, judge in self._judges.items():
-            number, is_made_up = group or (1, False)
-            yield from ((number, line) for line in judge.last_lines() if not (is_made_up and " frames, " in line))
-
-    def _group_texts(self, group, lines):
-        """The answers to lines of one connection. Of one whose frames are made up the link is set up first, and each I frame taken at once."""
-        _, is_made_up = group or (None, False)
-        if group not in self._judges:
-            self._judges[group] = Decoder(self._program, self._words, "judge")
-            self._judges[group].texts(SET_UP if is_made_up else "")
-        if is_made_up:
-            return self._judges[group].texts("".join([f"{line}\n{_taken(line)}\n" for line in lines]))[::2]
-        return self._judges[group].texts("".join([f"{line}\n" for line in lines]))

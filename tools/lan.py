@@ -4,7 +4,7 @@ lapbether (Linux) sends a frame of LAPB, without its frame check sequence, behin
 by Ethernet type 6000 and to all stations. LLC (ISO 8802-2) carries the packets of ISO 8208 by the service access point 7e.
 """
 
-from x25lines import MOST_OCTETS
+from x25lines import MOST_OCTETS, fcs
 
 ETHERNET, LINUX_COOKED, LINUX_COOKED_2 = 1, 113, 276
 VLAN_TAGS = (0x8100, 0x88A8, 0x9100)
@@ -69,24 +69,25 @@ class Lapbether:
         self._notes = notes
 
     def take(self, source, octets, is_cut):
-        """Yields whether a frame is the DTE's, and its octets without the frame check sequence."""
+        """Yields whether a frame is the DTE's, and its octets with their frame check sequence: none where they aren't there."""
         length = int.from_bytes(octets[:2], "little")
-        frame = octets[2 : 2 + length]
-        if len(octets) < 2 or len(frame) < length:
-            self._notes["frame that was captured in part" if is_cut else "frame of lapbether that is shorter than it says"] += 1
-            return
+        frame, is_there = octets[2 : 2 + length], len(octets) >= 2 + length >= 2
         if source not in self._stations:
             self._stations.append(source)
-        if self._known is None and (told := is_of_dte(frame)) is not None:
+        if self._known is None and is_there and (told := is_of_dte(frame)) is not None:
             self._known = source, told
-        if source not in self._stations[:2]:
+        if not is_there:
+            self._notes["frame that was captured in part" if is_cut else "frame of lapbether that is shorter than it says"] += 1
+        elif source not in self._stations[:2]:
             self._notes["frame of a third station of lapbether"] += 1
+            return
         elif length + 2 > MOST_OCTETS:
             self._notes["frame that is longer than a line may be"] += 1
+            is_there = False
         elif self._known is None:
             self._notes["frame of lapbether before one that tells which end is the DTE (--dte says it)"] += 1
-        else:
-            yield (source == self._known[0]) == self._known[1], frame
+        if self._known is not None:
+            yield (source == self._known[0]) == self._known[1], frame + fcs(frame) if is_there else b""
 
     def name(self):
         """The line, with its stations."""
@@ -103,23 +104,27 @@ class Llc:
         self._notes = notes
 
     def take(self, source, target, llc, is_cut):
-        """Yields the connection's name, whether the DTE sent it, and the packet, of a frame of LLC that brings one."""
+        """Yields the connection's name, whether the DTE sent it, and the packet, of a frame of LLC that brings one; None in its place is a gap."""
         if len(llc) < 3 or llc[0] != X25_ACCESS_POINT or llc[1] & 0xFE != X25_ACCESS_POINT:
             return
         # Cooked captures don't tell who receives: all of LLC is one connection there.
         pair = frozenset((source, target) if target else (b"",))
         said = self._dte if self._dte in pair or not target else None
         dte = self._dtes.setdefault(pair, said or source)
+        packets = []
         if llc[2] & 3 == 3:
             self._begin(pair, llc[2])
-            packet = llc[3:] if llc[2] & 0xEF == 0x03 else b""
-        else:
-            packet = llc[4:] if not llc[2] & 1 and self._is_new(pair, source, llc[2] >> 1) else b""
-        if packet and is_cut:
-            self._notes["packet that was captured in part"] += 1
-        elif packet:
-            names = [address(dte), *(address(other) for other in pair - {dte} if other)]
-            yield "LLC " + " > ".join(names), source == dte, packet
+            packets = [llc[3:]] if llc[2] & 0xEF == 0x03 else []
+        elif not llc[2] & 1:
+            ahead = self._ahead(pair, source, llc[2] >> 1)
+            packets = ([None] if ahead else []) + [llc[4:]] if ahead is not None else []
+        names = [address(dte), *(address(other) for other in pair - {dte} if other)]
+        for packet in packets:
+            if packet and is_cut:
+                self._notes["packet that was captured in part"] += 1
+                packet = None
+            if packet != b"":
+                yield "LLC " + " > ".join(names), source == dte, packet
 
     def _begin(self, pair, control):
         """Forgets the numbers of a connection that begins anew, by SABME."""
@@ -127,12 +132,12 @@ class Llc:
             for ends in [ends for ends in self._next if ends[0] == pair]:
                 del self._next[ends]
 
-    def _is_new(self, pair, source, number):
-        """False where an I frame of LLC came before; half of the numbers are behind the next one."""
+    def _ahead(self, pair, source, number):
+        """How many I frames of LLC are missing before this one; None where it came before, since half of the numbers are behind the next one."""
         ahead = (number - self._next.get((pair, source), number)) % NUMBERS
         if ahead >= NUMBERS // 2:
-            return False
+            return None
         if ahead:
             self._notes["gap in a connection of LLC"] += 1
         self._next[pair, source] = (number + 1) % NUMBERS
-        return True
+        return ahead

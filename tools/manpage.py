@@ -1,12 +1,15 @@
 #!/usr/bin/env python3
-"""Makes the manual page x25(1) of docs/MANUAL.md.
+"""Makes the manual page x25(1) of docs/MANUAL.md, pages of the scripts, and documents as they are true of what is installed.
 
     manpage.py > x25.1; man ./x25.1
     manpage.py --prefix /usr/local > /usr/local/share/man/man1/x25.1
+    manpage.py --script x25dump > /usr/local/share/man/man1/x25dump.1
+    manpage.py --text --prefix /usr/local README.md > /usr/local/share/doc/x25/README.md
 
 Reads what the manual is written in, and no more of Markdown: headings, paragraphs, list items, tables, indented examples, `code`
 and **bold**. With --prefix the page is that of what `make install` has put there: the scripts have the names that they have there,
-documents and examples stand where they are there, and what tells of the repository alone is left out.
+documents and examples stand where they are there, and what tells of the repository alone is left out. The page of a script is what
+its --help says; a text is a document as it is true of that. The documents stand beside one another there.
 
 Exit status: 0, or 2 for bad words or bad input.
 """
@@ -14,6 +17,7 @@ Exit status: 0, or 2 for bad words or bad input.
 import argparse
 import os
 import re
+import subprocess
 import sys
 
 import x25lines
@@ -34,8 +38,10 @@ RULE = re.compile(r"\|[-| :]+\|")
 # The scripts that have names of their own where they are installed.
 NAMES = {"bridge": "x25bridge", "chart": "x25chart", "pcap2x25": "pcap2x25", "x25dump": "x25dump", "x25pcap": "x25pcap"}
 SCRIPT = re.compile(rf"(?:(?:python3 )?tools/|\b)({'|'.join(NAMES)})\.py\b")
-# Paragraphs that tell of the repository alone.
-OF_THE_REPOSITORY = re.compile("`make |`source share/")
+# What stands for the program in the repository.
+PROGRAM = re.compile(r"\bbuild/x25(?:-unproved)?(?![\w.])")
+# Paragraphs that tell of the repository alone, and lists that are made of the manual.
+OF_THE_REPOSITORY = re.compile("`make |`source share/|<!--")
 
 
 def escaped(text):
@@ -100,13 +106,42 @@ def installed(lines, prefix):
             yield from [*text.split("\n"), ""]
 
 
+def installed_text(lines, prefix):
+    """A document as it is true of what is installed below a prefix."""
+    text = "\n".join(installed(lines, prefix)).rstrip("\n") + "\n"
+    return PROGRAM.sub("x25", text).replace(f"{prefix}/share/doc/x25/", "")
+
+
+def script_page(name):
+    """The lines of the page of a script, by the name that it has where it is installed."""
+    script, = (script for script, known in NAMES.items() if known == name)
+    command = [sys.executable, os.path.join(os.path.dirname(os.path.abspath(__file__)), f"{script}.py"), "--help"]
+    said = subprocess.run(command, env={**os.environ, "COLUMNS": "100"}, capture_output=True, text=True, check=True).stdout
+    said = SCRIPT.sub(lambda found: NAMES[found[1]], said)
+    usage, what, rest = re.sub("^usage: ", "", said).split("\n\n", 2)
+    yield f".TH {name.upper()} 1\n.SH NAME\n{name} \\- {escaped(' '.join(what.split()))}"
+    for heading, text in ("SYNOPSIS", usage), ("DESCRIPTION", rest):
+        yield f".SH {heading}\n.nf"
+        yield from (escaped(line) or "\\&" for line in text.splitlines())
+        yield ".fi"
+    yield ".SH SEE ALSO\n\\fBx25\\fR(1)"
+
+
 def main():
     parser = argparse.ArgumentParser(description=__doc__, formatter_class=argparse.RawDescriptionHelpFormatter)
     parser.add_argument("file", nargs="?", default=MANUAL, metavar="FILE", help="the manual; docs/MANUAL.md where it is missing")
     parser.add_argument("--prefix", metavar="FOLDER", help="the folder in which the program is installed")
+    parser.add_argument("--script", choices=sorted(NAMES.values()), help="make the page of this script")
+    parser.add_argument("--text", action="store_true", help="write the document as it is installed, and no page")
     options = parser.parse_args()
+    if options.script:
+        sys.stdout.write("".join(f"{line}\n" for line in script_page(options.script)))
+        return 0
     with x25lines.opened(options.file) as file:
         lines = [line.decode("utf-8", "replace") for _, line in x25lines.lines_of(file)]
+    if options.text:
+        sys.stdout.write(installed_text(lines, options.prefix or "/usr/local"))
+        return 0
     page = "".join(f"{line}\n" for line in roff(installed(lines, options.prefix) if options.prefix else lines))
     sys.stdout.write(page.replace("docs/", f"{options.prefix}/share/doc/x25/") if options.prefix else page)
     return 0

@@ -25,6 +25,8 @@ the DTE, and of LLC the one that is seen first. --dte names the DTE of lapbether
 One connection is written: the first, or the one that --connection names by its number in --list. All frames of LAPB are one
 connection, those of lapbether another; each two ends (addresses and ports) of XOT are one, each two stations of LLC.
 
+Of a frame of LAPB that was captured in part nothing is known: its line has no octets.
+
 Exit status: 0; 1 where nothing was found or something was left out, which standard error names; 2 for bad words or bad
 input. Traffic that is no X.25 is passed over, and told where nothing was found. Before bad input is told, the lines of all
 records before it are written.
@@ -47,6 +49,9 @@ SITA_HEADER, SITA_RECEIVED, SITA_NO_PROTOCOL, SITA_LAPB = 5, 1, 0, 1
 # Commands of the DTE and responses of the DCE have the address B.
 ADDRESS = {">": 0x01, "<": 0x03}
 OTHER = {">": "<", "<": ">"}
+# A line between those of a connection says that frames of it aren't there, any number of either end's; and these are the octets of a frame of
+# which nothing is known.
+GAP, UNREAD = "\n", b""
 # A list of connections isn't kept without bound.
 MOST_CONNECTIONS = 65_536
 
@@ -71,6 +76,35 @@ class Connection:
         return f"{self.number}\t{self.name}\t> {self.sent['>']}\t< {self.sent['<']}"
 
 
+class Doubts:
+    """Whether the frames of a capture are what its reader takes them for: by which end sent each, and by its frame check sequence.
+
+    What the first frames show is enough.
+    """
+
+    MOST = 1_000
+
+    def __init__(self):
+        self._frames = Counter()
+
+    def see(self, is_of_dte, octets, has_fcs):
+        """Takes a frame that is read as the DTE's or not, with or without its frame check sequence."""
+        if self._frames.total() >= 2 * self.MOST:
+            return
+        by_address = lan.is_of_dte(octets)
+        self._frames["silent" if by_address is None else "own" if by_address == is_of_dte else "other"] += 1
+        self._frames["sealed" if x25lines.is_sealed(octets) else "unsealed", has_fcs] += 1
+
+    def said(self):
+        """Yields what is said of them at the end."""
+        if self._frames["other"] and not self._frames["own"]:
+            yield "no frame has its sender's address: --swap exchanges the directions"
+        if self._frames["sealed", False] and not self._frames["unsealed", False]:
+            yield "each frame ends in its frame check sequence already: --fcs adds none"
+        if self._frames["unsealed", True] and not self._frames["sealed", True]:
+            yield "no frame ends in its frame check sequence: without --fcs each gets one"
+
+
 class Converter:
     """Turns records into frames. `notes` counts what was left out, by why, and `passed` what was no X.25.
 
@@ -86,7 +120,7 @@ class Converter:
         if options.lapb is not None:
             self._readers[options.lapb] = self._bare
         self._connections = {}
-        self.notes, self.passed = Counter(), Counter()
+        self.notes, self.passed, self._doubts = Counter(), Counter(), Doubts()
         self._xot = xot.Xot(options.port, self.notes, self.passed)
         self._lapbether = lan.Lapbether(options.dte, self.notes)
         self._llc = lan.Llc(options.dte, self.notes)
@@ -101,8 +135,10 @@ class Converter:
         for records in blocks:
             self._found = [], [], []
             try:
-                for self._number, link_type, octets, is_cut, time, is_outbound, fcs_octets, flags in records:
+                for self._number, link_type, octets, is_cut, time, is_outbound, fcs_octets, flags, dropped in records:
                     self._now = time or 0
+                    if dropped:
+                        self._add_gaps(dropped)
                     if self._now > x25lines.MOST_TIME:
                         self.notes["time that no line can have: 0 stands for it"] += 1
                         self._now = 0
@@ -133,7 +169,7 @@ class Converter:
             self._add_streams(self._xot.take(octets))
         elif kind == lan.LAPBETHER:
             for is_of_dte, frame in self._lapbether.take(source, octets, is_cut):
-                self._add("lapbether", self._lapbether.name(), is_of_dte, frame + x25lines.fcs(frame))
+                self._add("lapbether", self._lapbether.name(), is_of_dte, frame)
         elif kind == lan.COOKED_LLC and octets[:1] == bytes([lan.X25_ACCESS_POINT]):
             for name, is_of_dte, packet in self._llc.take(source, target, octets, is_cut):
                 self._add_packet(name, is_of_dte, packet)
@@ -155,7 +191,7 @@ class Converter:
             self._add_frame(is_sent, octets[SITA_HEADER:], is_cut, has_fcs)
         elif protocol == SITA_NO_PROTOCOL and flags & (captures.CRC_ERROR | captures.TOO_SHORT):
             # What came with an error was captured as it stood on the line.
-            self._add_frame(is_sent, octets[SITA_HEADER:], is_cut, True)
+            self._add_frame(is_sent, octets[SITA_HEADER:], is_cut, True, True)
         else:
             self.notes[f"SITA record of protocol {protocol}"] += 1
 
@@ -167,16 +203,20 @@ class Converter:
             is_sent = self._options.sent_by == "dte"
         self._add_frame(is_sent, octets, is_cut, has_fcs)
 
-    def _add_frame(self, is_of_dte, octets, is_cut, has_fcs):
+    def _add_frame(self, is_of_dte, octets, is_cut, has_fcs, has_error=False):
         """Adds a frame of LAPB, with a frame check sequence where the capture lacks it."""
-        if not (has_fcs or self._options.fcs):
-            octets += x25lines.fcs(octets)
+        has_fcs = has_fcs or self._options.fcs
         if is_cut:
             self.notes["frame that was captured in part"] += 1
-        elif len(octets) > x25lines.MOST_OCTETS:
-            self.notes["frame that is longer than a line may be"] += 1
+            octets = UNREAD
         else:
-            self._add("LAPB", "LAPB", is_of_dte, octets)
+            if not has_error:
+                self._doubts.see(is_of_dte != self._options.swap, octets, has_fcs)
+            octets += b"" if has_fcs else x25lines.fcs(octets)
+        if len(octets) > x25lines.MOST_OCTETS:
+            self.notes["frame that is longer than a line may be"] += 1
+            octets = UNREAD
+        self._add("LAPB", "LAPB", is_of_dte, octets)
 
     def _add_streams(self, streams):
         """Adds the packets that came by streams of XOT."""
@@ -184,27 +224,41 @@ class Converter:
             for packet in packets:
                 self._add_packet(stream.name, stream.is_of_dte, packet)
 
+    def _add_gaps(self, dropped):
+        """Frames aren't there that the program which captured has dropped, of whichever connections."""
+        self.notes["frame that the program which captured dropped"] += dropped
+        for key, connection in self._connections.items():
+            self._add(key, connection.name, True, None)
+
     def _add_packet(self, name, is_of_dte, packet):
-        """Adds the packet of a connection without frames of LAPB."""
-        if len(packet) > x25lines.MOST_INFORMATION:
+        """Adds the packet of a connection without frames of LAPB; None is a gap."""
+        if packet is not None and len(packet) > x25lines.MOST_INFORMATION:
             self.notes["packet that is longer than a frame may be"] += 1
-        else:
-            self._add(name, name, is_of_dte, packet, True)
+            packet = None
+        self._add(name, name, is_of_dte, packet, True)
 
     def _add(self, key, name, is_of_dte, octets, is_made_up=False):
-        """Adds a frame of the connection with a key, or a packet, which is put into the next I frame of its direction."""
+        """Adds a frame of the connection with a key, or a packet, which is put into the next I frame of its direction; None is a gap, where there
+        is such a connection."""
         direction = "<>"[is_of_dte != self._options.swap]
-        connection = self._connections.get(key) or self._begun(key, name, is_made_up)
+        connection = self._connections.get(key)
+        if octets is None:
+            self._add_line(connection, GAP)
+            return
+        connection = connection or self._begun(key, name, is_made_up)
         if connection is not None:
             connection.name, sent = name, connection.sent
             if is_made_up:
                 octets = bytes((ADDRESS[direction], (sent[OTHER[direction]] << 5 | sent[direction] << 1 & 0x0E) & 0xFF)) + octets
                 octets += x25lines.fcs(octets)
             sent[direction] += 1
-            connections, times, lines = self._found
-            connections.append(connection)
-            times.append(self._now)
-            lines.append(f"{direction} {octets.hex()}\n")
+            self._add_line(connection, f"{direction} {octets.hex()}\n")
+
+    def _add_line(self, connection, line):
+        """Adds a line of a connection."""
+        if connection is not None:
+            for column, it in zip(self._found, (connection, self._now, line)):
+                column.append(it)
 
     def _begun(self, key, name, is_made_up):
         """A new connection, or None where there are too many."""
@@ -218,6 +272,8 @@ class Converter:
         """Says on standard error what was left out and why; answers the status."""
         for note, count in self.notes.items():
             x25lines.warn(f"left out: {note} ({count})")
+        for doubt in self._doubts.said():
+            x25lines.warn(doubt)
         if not self._connections:
             x25lines.warn("nothing was found" + ("" if self.notes or self.passed else ": the capture has no records"))
             for note, count in self.passed.items():
@@ -260,6 +316,14 @@ def words():
     return parser.parse_args()
 
 
+def without_gaps(connections, times, lines):
+    """The connections, the times and the lines of a block, without those that say that frames aren't there."""
+    if GAP not in lines:
+        return connections, times, lines
+    are_frames = [line != GAP for line in lines]
+    return [list(itertools.compress(column, are_frames)) for column in (connections, times, lines)]
+
+
 def write_list(converter, blocks):
     """Writes the connections of a capture."""
     for _ in converter.blocks(blocks):
@@ -272,7 +336,8 @@ def write_list(converter, blocks):
 def write_lines(converter, blocks, options):
     """Writes the lines of a connection, those of each block at once."""
     wanted = options.connection or 1
-    for connections, times, lines in converter.blocks(blocks):
+    for block in converter.blocks(blocks):
+        connections, times, lines = without_gaps(*block)
         are_wanted = [connection.number == wanted for connection in connections]
         if options.time:
             lines = [f"{x25lines.seconds(time)}\t{line}" for time, line in zip(times, lines)]
@@ -291,7 +356,7 @@ def main():
     options = words()
     converter = Converter(options)
     with x25lines.opened(options.file) as file:
-        blocks = captures.blocks(file)
+        blocks = captures.blocks(file, converter.notes)
         return write_list(converter, blocks) if options.list else write_lines(converter, blocks, options)
 
 

@@ -60,27 +60,36 @@ def events_of(file):
 
 def run(program, file, words):
     """Runs a script."""
+    line = Line()
+    follow(line, *parts(program, file, words))
+    return line.run()
+
+
+def parts(program, file, words):
+    """The lines that the set-up of a script made, and its events, each with the lines that it made."""
     events = events_of(file)
     given = f"{MARK}\n" + "".join(f"{event}\n{MARK}\n" for event in events)
     text = answer(program, ["sim", "--tap", *words], given.encode())
-    parts = [[]]
+    made = [[]]
     for line in text.splitlines():
         if line == ANSWERED:
-            parts.append([])
+            made.append([])
         else:
-            parts[-1].append(line)
-    if len(parts) != len(events) + 2 or parts[-1]:
+            made[-1].append(line)
+    if len(made) != len(events) + 2 or made[-1]:
         raise BadInput(f"{program} sim didn't answer event by event")
-    return _follow(parts[0], zip(events, parts[1:]))
+    return made[0], zip(events, made[1:])
 
 
-def _follow(begun, steps):
-    """The run whose set-up made some lines, and whose events each made some."""
-    line = Line()
-    line.put(begun)
-    for direction in DIRECTIONS:
-        # The set-up has delivered SABM and the answer to it.
-        line.deliver(direction)
+def follow(line, begun, steps):
+    """Follows a line over a run whose set-up made some lines, and whose events each made some."""
+    # The set-up has delivered SABM and the answer to it, the first frames.
+    waiting = list(DIRECTIONS)
+    for text in begun:
+        line.put([text])
+        if text[:1] in waiting:
+            waiting.remove(text[0])
+            line.deliver(text[0])
     for event, made in steps:
         line.step(event, made)
         if event.startswith("t1 ") and not is_refused(made):
@@ -88,7 +97,6 @@ def _follow(begun, steps):
         line.put(made)
         if event == "heal":
             line.deliver_all()
-    return line.run()
 
 
 def is_refused(made):

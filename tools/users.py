@@ -1,9 +1,11 @@
-"""The user of a bridge: commands that come and are held, notices that are told; and files whose readers may be slow."""
+"""The user of a bridge: commands that come and are held, notices that are told, signals; and files whose readers may be slow."""
 
 import contextlib
 import os
 import re
 import select
+import signal
+import socket
 import time
 from collections import Counter, deque
 
@@ -49,9 +51,13 @@ class Outlet:
             return
         if self._left_out:
             kinds = ", ".join(f"{count:,} {kind}" for kind, count in sorted(self._left_out.items()))
-            self._left += f"# left out, while nobody read: {kinds}\n".encode()
+            self._left += self.spelled(f"# left out, while nobody read: {kinds}").encode()
             self._left_out.clear()
-        self._left += f"{line}\n".encode()
+        self._left += self.spelled(line).encode()
+
+    def spelled(self, line):
+        """What is written for a line."""
+        return f"{line}\n"
 
     def flush(self):
         """Writes what there is room for, without waiting."""
@@ -69,6 +75,38 @@ def kind(notice):
     """What a notice is about: the word behind the end; of others the sign that they begin with."""
     first, _, rest = notice.partition(" ")
     return rest.split(" ")[0] if first in ("dte", "dce") else first
+
+
+class Signals:
+    """CTRL-C and SIGTERM as something to read. The first that came is `number`; a second one ends the script at once. 0 is for `leave`."""
+
+    def __init__(self):
+        self.number = None
+        self._reader, self._writer = socket.socketpair()
+
+    def __enter__(self):
+        self._writer.setblocking(False)
+        signal.set_wakeup_fd(self._writer.fileno())
+        for number in (signal.SIGINT, signal.SIGTERM):
+            signal.signal(number, self._come)
+        return self
+
+    def __exit__(self, *_):
+        signal.set_wakeup_fd(-1)
+
+    def _come(self, number, _):
+        self.number = number
+        for each in (signal.SIGINT, signal.SIGTERM):
+            signal.signal(each, signal.SIG_DFL)
+
+    def leave(self):
+        """The user wants to end."""
+        self.number = 0
+        self._writer.send(b"\0")
+
+    def readers(self):
+        """The file that has something to read once one came, and None did before."""
+        return [self._reader] if self.number is None else []
 
 
 class Commands:
@@ -162,11 +200,10 @@ class Commands:
 
 
 class User:
-    """The user of an end. `commands` is the number of the file that they come by, or None; `patience` is theirs."""
+    """The user of an end. `commands` is the number of the file that they come by, or None; `notices` is an outlet; `patience` is theirs."""
 
-    def __init__(self, commands, notices, patience):
-        self._file = commands
-        self.notices = Outlet(notices, kind)
+    def __init__(self, commands, notices, patience, is_at_terminal=False):
+        self._file, self.notices, self._is_at_terminal = commands, notices, is_at_terminal
         self.commands = Commands(patience)
         self._open, self._heard = b"", deque(maxlen=MOST_NOTICES)
         self._is_ended = commands is None
@@ -243,3 +280,7 @@ class User:
     def has_done(self):
         """Whether no command is left, and none will come."""
         return self._is_ended and self.commands.are_done()
+
+    def has_asked(self):
+        """Whether no command is left, and none will come but for those that a user at a terminal may think of."""
+        return self.commands.are_done() and (self._is_ended or self._is_at_terminal)

@@ -7,18 +7,23 @@
     x25 sim --tap < script | x25dump.py --messages
 
 Reads captures, as pcap2x25.py does (its --help has the link types and the words --swap to --dte), the lines of a trace, also
-with a time and a tab before them, the lines of `x25 decode`, and those of `x25 sim --tap`; each also packed by gzip. Empty lines and
-comments, which begin with `#`, are shown as they are; a line that is none of these is answered by `? 60`, as `decode` does. Of a capture all connections are shown, each but the first with its
-number before the direction, and named where it begins; --connection takes one of them. Frames that were made up around packets
-aren't shown, their packets are.
+with a time and a tab before them, the lines of `x25 decode`, and those of `x25 sim --tap`; each also packed by gzip. Empty lines
+and comments, which begin with `#`, are shown as they are; a line that is none of these is answered by `? 60`, as `decode` does.
+Of a capture all connections are shown, each but the first with its number before the direction, and named where it begins;
+--connection takes one of them. Frames that were made up around packets aren't shown, their packets are.
 
   --messages  shows what the ends' users sent: data packets joined by M, and interrupts, as hexadecimal digits and text. Each comes
               once, though its frame be repeated
   --stats     writes at the end how many frames, packets and octets of data went each way, and how many I frames came out of order or again
   --judge     says behind a frame which end broke which rule or which manners of the link or the packet layer with it, and what may be noted (`x25 judge`), of each
               connection by itself; --k is the window. Of packets without frames (XOT, LLC) the rules of the packet layer alone; not of lines of `x25 decode`. At the
-              end it says how many frames and packets there were, and how many of them were judged; with --strict the status is 1 too where
-              one wasn't, and with --manners where manners were broken
+              end it says how many frames and packets there were, and how many of them were judged
+  --at        says where a capture was made: `dte` or `dce`, in front of that end, so that of the other one's frames those are missing that the line lost; or on the
+              `line`, and it has all frames. Where nothing is said a capture may lack any frame. What such frames would explain stands behind ` !? ` and ` ~? manners: `,
+              and makes the status 1 with --strict alone. Behind frames that the capture says are missing an end is judged anew; nothing is judged of a link modulo 128.
+              Lines of a trace are all that was on the line, where nothing is said
+  --strict, --manners
+              make the status 1 too where a frame or a packet wasn't judged, or where manners were broken
   --channel   shows the packets of a channel alone; 0 is that of RESTART. With --stats it counts them
   --epoch     shows times as they are in a capture, in seconds, and not as the time of the day, with the date where it changes
   --fold      shows of data over 32 octets the first 24 and how many there are, as on a terminal; --whole shows all there too
@@ -40,6 +45,7 @@ from collections import Counter, defaultdict
 
 import captures
 import decoding
+import judging
 import pcap2x25
 import x25lines
 import x25names
@@ -60,8 +66,8 @@ SHOWN = bytes(octet if 0x20 <= octet < 0x7F else ord(".") for octet in range(256
 LONG_DATA, FOLDED = re.compile("(?<==)[0-9a-f]{66,}"), 48
 # Where the packet begins in the text of a frame that was made up.
 PACKET_AT = len("> I cmd P=0 S=0 R=0 | ")
-# What stands before the end and the rule that it breaks, the same of manners, and before what is noted.
-RULE, MANNERS, NOTE = " ! ", " ~ manners: ", " ~ "
+# What stands before what is told of a frame, or noted.
+RULES, NOTES = (judging.RULE, judging.IN_DOUBT[judging.RULE]), (judging.IN_DOUBT[judging.MANNERS], " ~ ")
 # Texts without any of these letters are shown as they are. Others may be refusals, or have rules, notes, or numbers that x25names has words for: `diag=`,
 # `why=`, and `fac=`, which stands behind `calling=` or in an ACCEPT.
 SIGNS = "!?~gyE"
@@ -93,8 +99,8 @@ class Reader:
 
     def shown(self, file):
         """Whatever the file holds."""
-        for block in self._captured(file) if file.peek(1)[:1] in CAPTURE else self._lines(file):
-            if self._options.judge and any(RULE in text or (self._options.manners and MANNERS in text) for _, _, text in block):
+        for block in self._captured(file) if is_capture(file) else self._lines(file):
+            if self._options.judge and any(judging.is_faulty(text, self._options) for _, _, text in block):
                 self.status = 1
             yield block
 
@@ -104,17 +110,18 @@ class Reader:
                 self.status = max(self.status, found)
                 continue
             connections, times, asked = found
-            yield list(zip(map(self._time, times), connections, self._decoder.texts(asked, connections)))
+            shown = zip(map(self._time, times), connections, self._decoder.texts(asked, connections))
+            yield [it for it in shown if it[2] is not None]
 
     def _found(self, file):
         """Yields the connections, the times and the text of the lines of the frames of a capture, in blocks, and at the end the status."""
         converter = pcap2x25.Converter(self._options)
         wanted = self._options.connection
-        for found in converter.blocks(captures.blocks(file)):
+        for found in converter.blocks(captures.blocks(file, converter.notes)):
             if wanted is not None:
                 are_wanted = [connection.number == wanted for connection in found[0]]
                 found = (list(itertools.compress(column, are_wanted)) for column in found)
-            connections, times, lines = found
+            connections, times, lines = found if self._options.judge else pcap2x25.without_gaps(*found)
             yield connections, times, "".join(lines)
         if 0 < len(converter.connections()) < (wanted or 1):
             raise BadInput(f"there are {len(converter.connections())} connections, and no number {wanted}")
@@ -122,6 +129,9 @@ class Reader:
 
     def _lines(self, file):
         trace = pcap2x25.Connection(1, None, False)
+        if not file.peek(1):
+            x25lines.warn("nothing was found: the input is empty")
+            self.status = 1
         for _, lines in x25lines.blocks_of_lines(file):
             answers = decoding.answers(self._decoder, lines, trace)
             yield [(self._time(answer[0]), trace, answer[1]) if answer else self._other(line, trace) for line, answer in zip(lines, answers)]
@@ -190,13 +200,13 @@ class Lines:
             return self._paint(RED, f"{text} {x25names.refusal(text)}".rstrip())
         if x25lines.is_passed_over(text.encode()):
             return self._paint(GREY, text)
-        mark = RULE if RULE in text else NOTE if NOTE in text else None
+        mark = next((mark for mark in (*RULES, *NOTES) if mark in text), None)
         whole, _, remark = text.partition(mark) if mark else (text, "", "")
         said = x25names.words(whole)
         shown = self._paint(colour_of(whole), LONG_DATA.sub(folded, whole) if self._is_folded else whole)
         if said:
             shown += self._paint(GREY, f"  ({said})")
-        return shown + self._paint(RED if mark == RULE else GREY, mark + remark) if mark else shown
+        return shown + self._paint(RED if mark in RULES else GREY, mark + remark) if mark else shown
 
     def end(self):
         """Nothing is left at the end."""
@@ -350,24 +360,29 @@ def words():
     which.add_argument("--messages", action="store_true", help="show messages, not frames")
     which.add_argument("--stats", action="store_true", help="show numbers at the end, not frames")
     which.add_argument("--judge", action="store_true", help="say which end broke which rule of the link or the packet layer")
-    parser.add_argument("--k", type=int, choices=range(1, 8), default=7, help="the window that --judge goes by (7)")
     parser.add_argument("--long", action="store_true", help="a CALL may have 128 octets of user data, as with `decode --long`")
     parser.add_argument("--no-wide", dest="wide", action="store_false", help="read as `decode` does without `--wide`")
     parser.add_argument("--epoch", action="store_true", help="show times as seconds, not as the time of the day")
     parser.add_argument("--fold", action="store_true", default=sys.stdout.isatty(), help="show the beginning of long data and its length, as on a terminal")
     parser.add_argument("--whole", dest="fold", action="store_false", help="show all digits of long data, also on a terminal")
     pcap2x25.add_capture_words(parser)
-    parser.add_argument("--manners", action="store_true", help="with --judge: status 1 too where manners were broken")
-    parser.add_argument("--strict", action="store_true", help="with --judge: status 1 too where a frame or a packet wasn't judged")
+    judging.add_words(parser)
     decoding.add_program(parser)
     return parser.parse_args()
 
 
-def asked(options):
-    """What is asked for the text of a frame."""
+def is_capture(file):
+    """Whether a file is a capture."""
+    return file.peek(1)[:1] in CAPTURE
+
+
+def asked(options, file):
+    """What is asked for the text of a frame. Lines of a trace are all that was on the line, where nothing else is said."""
     long, wide = ["--long"] if options.long else [], ["--wide"] if options.wide else []
     reading = [*long, *wide]
-    return decoding.Judge(options.x25, options.k, reading) if options.judge else decoding.Decoder(options.x25, reading)
+    if not options.judge:
+        return decoding.Decoder(options.x25, reading)
+    return judging.Judge(options.x25, ["--k", str(options.k)], reading, options.at or (None if is_capture(file) else "line"))
 
 
 def show(view, blocks, out):
@@ -382,7 +397,7 @@ def show(view, blocks, out):
 def main():
     options = words()
     paint = painter()
-    with x25lines.opened(options.file) as file, asked(options) as decoder:
+    with x25lines.opened(options.file) as file, asked(options, file) as decoder:
         reader = Reader(decoder, options)
         blocks = reader.shown(file)
         view = Joined(paint, options.channel) if options.messages else Statistic() if options.stats else Lines(paint, options.fold)

@@ -78,6 +78,7 @@ REFUSALS = {
     52: "the damage can't be seen: the octets pass the frame check sequence",
     54: "timer T1, while the SABM of the end or a UA to it is on the line",
     60: "no such line",
+    61: "what a `wait` waits for doesn't come",
     70: "no memory",
 }
 # Why a packet doesn't decode, and where that may be our limit.
@@ -101,7 +102,7 @@ PLANS = {1: "E.164", 3: "X.121"}
 
 CAUSED = re.compile(r"(CLEAR|RESET|RESTART|cleared|wasreset|restarted)\b.* cause=(\d+)(?: diag=(\d+))?(?: |$)")
 FAULTY = re.compile(r"fault (2\d) diag=\d+$")
-DIAGNOSED = re.compile(r"DIAG diag=(\d+)(?: |$)")
+DIAGNOSED = re.compile(r"(?:DIAG|diagnostic|fault ch=\d+) diag=(\d+)(?: |$)")
 EQUIPPED = re.compile(r" fac=((?:[0-9a-f]{2})+)(?: |$)")
 TYPED = re.compile(r" (called|calling)=([0-9a-f])/([0-9a-f])/")
 FRAME_REFUSED = re.compile(r"(?:[<>] )?FRMR .*why=([0-9a-f]{6})$")

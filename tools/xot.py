@@ -15,7 +15,7 @@ TCP = 6
 EXTENSIONS = (0, 43, 60)
 MOST_EXTENSIONS = 8
 
-SYN = 2
+SYN, ACK = 2, 16
 # How much is held of a connection while a segment is missing, and of how many connections.
 MOST_SEGMENTS, MOST_STREAMS = 256, 4096
 SEQUENCES = 1 << 32
@@ -25,7 +25,7 @@ SEQUENCES = 1 << 32
 IP_AT = {NULL: 4, LOOP: 4, **dict.fromkeys((RAW_IP, OLD_RAW_IP, OTHER_RAW_IP, IPV4, IPV6), 0)}
 
 
-_IPV4, _TCP, _HEADER = (struct.Struct(form).unpack_from for form in (">BxHxxHxB2x4s4s", ">HHI4xBB", ">HH"))
+_IPV4, _TCP, _HEADER = (struct.Struct(form).unpack_from for form in (">BxHxxHxB2x4s4s", ">HHIIBB", ">HH"))
 
 
 def _of_ipv4(octets):
@@ -58,19 +58,19 @@ _READERS = {4: _of_ipv4, 6: _of_ipv6}
 
 
 def segment(octets):
-    """The segment of TCP in a packet of IP: its ends (addresses and ports, source and target), where its octets stand in the stream, its flags,
-    its octets, and how many of these weren't captured; None where it holds none."""
+    """The segment of TCP in a packet of IP: its ends (addresses and ports, source and target), where its octets stand in the stream, where those
+    stand that its sender wants next, its flags, its octets, and how many of these weren't captured; None where it holds none."""
     read = _READERS.get(octets[0] >> 4 if octets else None)
     payload = read(octets) if read else None
     if payload is None or payload[0] != TCP or len(payload[3]) < 20:
         return None
     _, source, target, tcp, length = payload
-    source_port, target_port, sequence, words, flags = _TCP(tcp)
+    source_port, target_port, sequence, wanted, words, flags = _TCP(tcp)
     header = words >> 4 << 2
     if not 20 <= header <= length:
         return None
     missing = length - len(tcp) if len(tcp) > header else length - header
-    return (source, target, source_port, target_port), sequence, flags, tcp[header:], missing
+    return (source, target, source_port, target_port), sequence, wanted, flags, tcp[header:], missing
 
 
 class Stream:
@@ -93,11 +93,12 @@ class Stream:
         self._is_lost = False
 
     def take(self, sequence, flags, octets):
-        """Takes the octets of a segment, which stand there in the stream; answers the X.25 packets that are whole now."""
+        """Takes the octets of a segment, which stand there in the stream; answers the X.25 packets that are whole now, and None where some are
+        missing, or a connection begins anew."""
         packets = []
         if flags & SYN:
             if sequence != self._start:
-                packets += self.end()
+                packets += [*self.end(), None]
                 self._begin(sequence)
             sequence = (sequence + 1) % SEQUENCES
         if octets:
@@ -110,15 +111,28 @@ class Stream:
                 self._in_order()
                 if len(self._ahead) > MOST_SEGMENTS:
                     self._pass_gap()
+                    packets.append(None)
             packets += self._packets()
         return packets
 
+    def taken(self, wanted):
+        """Takes the place up to which the other end has all; answers the packets that are whole now, with None where some weren't captured."""
+        packets = []
+        # An end of the stream counts as an octet.
+        while self._next is not None and self._distance(wanted) > (0 if self._ahead else 1):
+            if self._ahead:
+                self._pass_gap()
+            else:
+                self._skip(wanted)
+            packets += [None, *self._packets()]
+        return packets
+
     def end(self):
-        """Gives up what is missing; answers the packets behind it, and notes what was left within one."""
+        """Gives up what is missing; answers the packets behind it, each behind None, and notes what was left within one."""
         packets = []
         while self._ahead:
             self._pass_gap()
-            packets += self._packets()
+            packets += [None, *self._packets()]
         if self._held:
             self._notes["packet broken off at the end of its connection"] += 1
             self._held = b""
@@ -147,12 +161,16 @@ class Stream:
         self._next = (self._next + len(octets)) % SEQUENCES
 
     def _pass_gap(self):
-        """Goes on at the nearest segment; what was held ends within a packet, and so is dropped."""
+        """Goes on at the nearest segment."""
+        self._skip(min(self._ahead, key=self._distance))
+        self._in_order()
+
+    def _skip(self, sequence):
+        """Goes on there; what was held ends within a packet, and so is dropped."""
         self._notes["gap in a connection, octets that weren't captured"] += 1
         self._held = b""
         self._is_lost = False
-        self._next = min(self._ahead, key=self._distance)
-        self._in_order()
+        self._next = sequence
 
     def _packets(self):
         """Cuts the packets that are whole off what is held."""
@@ -162,6 +180,7 @@ class Stream:
             if version != 0 or length == 0:
                 self._notes["connection that isn't XOT, or was read out of step"] += 1
                 self._is_lost = True
+                packets.append(None)
             elif len(held) - at < 4 + length:
                 break
             else:
@@ -200,7 +219,7 @@ class Xot:
         if found is None:
             self._passed["packet of IP without a whole segment of TCP"] += 1
             return []
-        ends, sequence, flags, octets, missing = found
+        ends, sequence, wanted, flags, octets, missing = found
         if self._port not in ends[2:]:
             port = min(ends[2:])
             self._passed[f"segment of TCP like XOT, to or from port {port} (--port)" if is_like_xot(octets) else f"segment of TCP of other ports than {self._port}"] += 1
@@ -212,7 +231,10 @@ class Xot:
             stream = self._streams[ends] = Stream(ends, self._port, self._notes)
             if len(self._streams) > MOST_STREAMS:
                 closed = self._close(next(iter(self._streams)))
-        return [(stream, stream.take(sequence, flags, octets)), *closed]
+        # What its sender took of the other way came before this.
+        back = self._streams.get((ends[1], ends[0], ends[3], ends[2])) if flags & ACK else None
+        taken = [(back, back.taken(wanted))] if back else []
+        return [*taken, (stream, stream.take(sequence, flags, octets)), *closed]
 
     def end(self):
         """Ends all connections; answers what they still hold."""

@@ -55,10 +55,10 @@ def old_packet(octets, ticks=0):
     return block(2, struct.pack("<HHIIII", 0, 0, ticks >> 32, ticks & 0xFFFFFFFF, len(octets), len(octets)) + octets)
 
 
-def tcp(to_server, sequence, octets, flags=0x10, port=1998, total=None):
-    """A segment of TCP between port 40000 of a client and a server's port."""
+def tcp(to_server, sequence, octets, flags=0x10, port=1998, wanted=0):
+    """A segment of TCP between port 40000 of a client and a server's port, whose sender wants the other way from there on."""
     ends = (40000, port) if to_server else (port, 40000)
-    return struct.pack(">HHIIBBHHH", *ends, sequence % (1 << 32), 0, 5 << 4, flags, 1000, 0, 0) + octets
+    return struct.pack(">HHIIBBHHH", *ends, sequence % (1 << 32), wanted, 5 << 4, flags, 1000, 0, 0) + octets
 
 
 def ipv4(to_server, segment, fragment=0, client=1):

@@ -17,6 +17,7 @@ import support
 from support import ToolCase
 
 import bridge
+import places
 import tcp
 import users
 import wires
@@ -90,16 +91,16 @@ class Forms(unittest.TestCase):
             self.assertIsNone(wires.carried_frame(other))
 
     def test_words(self):
-        self.assertEqual(bridge.host_and_port("7000"), ("127.0.0.1", 7000))
-        self.assertEqual(bridge.host_and_port("there:7"), ("there", 7))
-        self.assertEqual(bridge.ports("1:2"), (1, "127.0.0.1", 2))
-        self.assertEqual(bridge.ports("1:there:2"), (1, "there", 2))
-        self.assertEqual(bridge.host_and_port("[::1]:7000"), ("::1", 7000))
-        self.assertEqual(bridge.ports("1:[fe80::1]:2"), (1, "fe80::1", 2))
-        self.assertEqual([bridge.xot_host(text) for text in ("there", "there:7", "[::1]", "[::1]:7")], [("there", 1998), ("there", 7), ("::1", 1998), ("::1", 7)])
+        self.assertEqual(places.host_and_port("7000"), ("127.0.0.1", 7000))
+        self.assertEqual(places.host_and_port("there:7"), ("there", 7))
+        self.assertEqual(places.ports("1:2"), (1, "127.0.0.1", 2))
+        self.assertEqual(places.ports("1:there:2"), (1, "there", 2))
+        self.assertEqual(places.host_and_port("[::1]:7000"), ("::1", 7000))
+        self.assertEqual(places.ports("1:[fe80::1]:2"), (1, "fe80::1", 2))
+        self.assertEqual([places.xot_host(text) for text in ("there", "there:7", "[::1]", "[::1]:7")], [("there", 1998), ("there", 7), ("::1", 1998), ("::1", 7)])
         for text in ("::1:7000", "[::1:7000", "1:2:3", ":x", "there:"):
             with self.assertRaises(argparse.ArgumentTypeError, msg=text):
-                bridge.host_and_port(text)
+                places.host_and_port(text)
         for words in (["dte"], ["--udp", "1:2"], ["dte", "--udp", "1"], ["dte", "--udp", "1:x"], ["dte", "--listen", "70000"], ["dte", "--stdio", "--udp", "1:2"]):
             self.assertEqual(support.run("bridge.py", *words).returncode, 2, words)
         self.assert_says("come to more than 1", "dte", "--stdio", "--lose", "0.6", "--damage", "0.6")
@@ -351,7 +352,7 @@ class Joined(ToolCase):
     def test_a_wait_that_holds_commands_is_told(self):
         (reader, writer), clock = os.pipe(), [1.0]
         self.addCleanup(os.close, reader)
-        user = users.User(reader, sys.stderr, 1)
+        user = users.User(reader, users.Outlet(sys.stderr), 1)
         told = []
         with mock.patch.object(user, "tell", told.append), mock.patch.object(time, "monotonic", lambda: clock[0]):
             os.write(writer, b"wait dte incoming\ndte accept 1\ndte ready 1\n")
@@ -543,6 +544,24 @@ class Joined(ToolCase):
         self.child.terminate()
         self.assertEqual(self.gets(), DISC)
         self.assertEqual(self.end()[0], 143)
+
+    def test_a_bridge_that_leaves_sleeps(self):
+        """Also where a `wait` that comes to nothing is first among the commands, and nobody answers DISC."""
+        self.begin(f". off busy\n= {UA}\ndte linkup\n. off idle\n= dte disconnect\ndte disconnect\n{DISC}\n. off busy\n", "--t1", "2", "--stay", user=b"wait dte linkup\nwait dte cleared\n", is_left_open=True)
+        self.sends(UA)
+        self.asked(1)
+        time.sleep(0.3)
+        self.child.terminate()
+        self.gets()
+        begin = self.processor_time()
+        time.sleep(1)
+        self.assertLess(self.processor_time() - begin, 0.3)
+        self.assertEqual(self.end()[0], 143)
+
+    def processor_time(self):
+        """How long the bridge has had a processor, in seconds."""
+        fields = support.read(f"/proc/{self.child.pid}/stat").decode().rpartition(")")[2].split()
+        return (int(fields[11]) + int(fields[12])) / os.sysconf("SC_CLK_TCK")
 
     def test_a_second_signal_ends_it_at_once(self):
         self.begin(f". off busy\n= {UA}\ndte linkup\n. off idle\n= dte disconnect\ndte disconnect\n{DISC}\n. off busy\n", "--t1", "60", "--stay")

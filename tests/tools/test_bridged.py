@@ -80,6 +80,7 @@ class Two(ToolCase):
 
     def assert_call(self, told_dte, told_dce):
         """The call of the README was made and a message went."""
+        told_dte, told_dce = ([it for it in told if not it.startswith("#")] for told in (told_dte, told_dce))
         self.assertEqual(told_dte[-3:], ["dte call ch=1 at 1.0.0 called=123 calling=4567 data=41", "dte connected ch=1", "dte send ch=1 at 1.0.0 q=0 data=6869"])
         self.assertEqual(told_dce[-3:], ["dce incoming ch=1 at 1.0.0 called=123 calling=4567 data=41", "dce accept ch=1", "dce message ch=1 at 1.0.0 q=0 data=6869"])
 
@@ -181,6 +182,31 @@ class Two(ToolCase):
         for child in children:
             child.kill()
             child.communicate(timeout=SECONDS)
+
+    def test_a_user_who_is_not_ready_holds_no_other_circuit(self):
+        """60 messages to him wait; what is sent on another circuit comes at once, and a clear of his own comes too."""
+        same = ["--stay", "--channels", "2", "--quiet", "1"]
+        dce, line = self.listening(*same)
+        dte = self.begin("dte", *line, *same)
+        self.asks(dte, "dte connect", "wait dte restarted", CALL, CALL)
+        for channel in (2, 1):
+            self.hears(dce, f"dce incoming ch={channel}")
+        self.asks(dce, "dce accept 1", "dce accept 2", "dce notready 2")
+        self.hears(dce, "dce notready ch=2")
+        self.hears(dte, "dte connected ch=2")
+        time.sleep(0.5)
+        sends = [f"dte send 2 0 {message('dte', number)}" for number in range(60)]
+        self.asks(dte, *sends, "dte send 1 0 41", "dte clear 2", "wait dte cleardone", CALL, "dte send 1 0 42")
+        self.assertEqual(self.hears(dce, "dce message"), "dce message ch=1 at 1.0.0 q=0 data=41")
+        self.hears(dce, "dce cleared ch=2")
+        self.assertTrue(self.hears(dce, "dce incoming").startswith("dce incoming ch=2 at 1.1.0"))
+        self.assertEqual(self.hears(dce, "dce message"), "dce message ch=1 at 1.0.0 q=0 data=42")
+        # None of the 60 is sent in the next call.
+        self.asks(dce, "dce accept 2")
+        self.hears(dte, "dte connected ch=2")
+        self.asks(dte, "dte send 2 0 43")
+        self.assertEqual(self.hears(dce, "dce message"), "dce message ch=2 at 1.1.0 q=0 data=43")
+        self.finish(dte, dce)
 
     def test_connect_behind_disconnect(self):
         dte, dce, _ = self.joined()

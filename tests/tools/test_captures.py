@@ -33,7 +33,7 @@ def words(**given):
 def lines(capture, **given):
     """The lines that a capture becomes, as a text, and the notes on what was left out."""
     converter = pcap2x25.Converter(words(**given))
-    found = [it for block in converter.blocks(captures.blocks(io.BytesIO(capture))) for it in zip(*block)]
+    found = [it for block in converter.blocks(captures.blocks(io.BytesIO(capture), converter.notes)) for it in zip(*pcap2x25.without_gaps(*block))]
     text = "".join(line for connection, _, line in found if connection.number == (given.get("connection") or 1))
     return text, dict(converter.notes)
 
@@ -140,9 +140,9 @@ class Formats(unittest.TestCase):
         file = samples.pcap([(0, 0, b"\x00" + SABM), (0, 0, b"\x01" + UA)])
         self.assertEqual(lines(file, swap=True), (SET_UP.decode(), {}))
 
-    def test_a_frame_captured_in_part_is_left_out(self):
+    def test_of_a_frame_captured_in_part_nothing_is_known(self):
         file = samples.pcap([(0, 0, b"\x01" + SABM, 40), (0, 0, b"\x00" + UA)])
-        self.assertEqual(lines(file), ("< 01738357\n", {"frame that was captured in part": 1}))
+        self.assertEqual(lines(file), ("> \n< 01738357\n", {"frame that was captured in part": 1}))
 
 
 class XotStreams(unittest.TestCase):
@@ -515,7 +515,7 @@ class Hostile(ToolCase):
 
     def test_what_was_left_out_makes_status_1(self):
         done = support.run("pcap2x25.py", given=samples.pcap([(0, 0, b"\x01" + SABM, 40)]))
-        self.assertEqual((done.returncode, done.stderr), (1, b"pcap2x25.py: left out: frame that was captured in part (1)\npcap2x25.py: nothing was found\n"))
+        self.assertEqual((done.returncode, done.stdout, done.stderr), (1, b"> \n", b"pcap2x25.py: left out: frame that was captured in part (1)\n"))
 
     def test_help_and_bad_words(self):
         for script in ("pcap2x25.py", "x25pcap.py"):

@@ -15,7 +15,7 @@ import support
 import english
 
 WIDTH = 100
-LENGTHS = {"README.md": 100, "docs/ARCHITECTURE.md": 110, "docs/PROOFS.md": 176, "docs/DECISIONS.md": 200, "docs/PERFORMANCE.md": 98, "CONTRIBUTING.md": 147, "docs/READING.md": 80}
+LENGTHS = {"README.md": 104, "docs/ARCHITECTURE.md": 110, "docs/PROOFS.md": 181, "docs/DECISIONS.md": 200, "docs/PERFORMANCE.md": 98, "CONTRIBUTING.md": 149, "docs/READING.md": 80}
 CRATES = os.path.join(support.ROOT, "crates")
 # What is named and stands elsewhere: what commands leave behind, the sources of Linux, what whoever races decoders has.
 ELSEWHERE = ("build/*", "out/*", "/*", "../x25_*", "net/*", "AnswersOffered.antt")
@@ -78,22 +78,24 @@ class Form(unittest.TestCase):
 
 
 class English(unittest.TestCase):
-    """Sentences are short, and 'behind' is no word of time. Those of FORMATS, MANUAL, PEER, PROOFS, THEORY, README and the crates aren't measured."""
+    """Sentences are short, and 'behind' is no word of time. Those of crates aren't measured."""
 
-    DOCUMENTS = [f"docs/{name}.md" for name in ("ARCHITECTURE", "BUGS", "CIRCUIT", "DECISIONS", "INTEROP", "LINK", "PERFORMANCE", "PROVING", "READING", "WALK")]
-    DOCUMENTS += ["CONTRIBUTING.md", "CHANGELOG.md"]
+    def texts(self):
+        for document in documents():
+            if not document.startswith("crates/"):
+                yield document, text_of(document)
 
     def test_sentences_have_few_words(self):
-        for document in self.DOCUMENTS:
-            _, mean, (most, line, worst) = english.measure(text_of(document))
+        for document, text in self.texts():
+            _, mean, (most, line, worst) = english.measure(text)
             with self.subTest(document):
                 self.assertLessEqual(mean, 25)
                 self.assertLessEqual(most, 45, f"line {line}: {worst}")
 
     def test_what_comes_later_comes_after(self):
-        for document in self.DOCUMENTS:
+        for document, text in self.texts():
             with self.subTest(document):
-                self.assertEqual(re.findall(r"[^.\n]*(?<!')\bbehind\b(?! a pipe)[^.\n]*", re.sub("`[^`]*`", "", text_of(document))), [])
+                self.assertEqual(re.findall(r"[^.\n]*(?<!')\b[Bb]ehind\b(?! a pipe)[^.\n]*", re.sub("`[^`]*`", "", text)), [])
 
 
 class Names(unittest.TestCase):

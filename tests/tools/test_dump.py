@@ -286,7 +286,7 @@ class Dump(ToolCase):
     @support.needs_program
     def test_connections_are_judged_apart(self):
         frames = [b"\x01\x01\x3f", b"\x00\x01\x73", b"\x01\x01\x00\x10\x01\x01", b"\x01\x01\x00\x10\x01\x01"]
-        rows = self.dump(samples.pcap([(at, 0, frame) for at, frame in enumerate(frames)]), "--judge", "--manners", "--x25", support.PROGRAM, status=1).splitlines()
+        rows = self.dump(samples.pcap([(at, 0, frame) for at, frame in enumerate(frames)]), "--judge", "--at", "line", "--manners", "--x25", support.PROGRAM, status=1).splitlines()
         self.assertEqual([" ~ manners: " in row for row in rows], [False] * 4 + [True] + [False] * 4)
         judged, note = self.dump(self.capture(), "--judge", "--x25", support.PROGRAM), " ~ note: not judged before a RESTART, a CLEAR or a CALL is answered (4.1): channel 1"
         self.assertEqual(judged.count(note), 2)

@@ -42,7 +42,7 @@ class Installed(ToolCase):
     def run_there(self, command, has_path=True):
         """What a command for bash writes, run by another user among the documents; with the folder of the programs on the PATH, or not."""
         places = [f"{self.there}/bin"] * has_path + [os.path.dirname(os.path.realpath(sys.executable)), "/usr/bin", "/bin"]
-        environment = {"PATH": ":".join(places), "LC_ALL": "C", "HOME": "/"}
+        environment = {"PATH": ":".join(places), "LC_ALL": "C", "TZ": "UTC", "HOME": "/"}
         done = subprocess.run(["bash", "-c", command], cwd=self.documents, env=environment, capture_output=True, text=True, timeout=60, **OTHER)
         return done.stdout + done.stderr
 
@@ -80,9 +80,25 @@ class Installed(ToolCase):
         completion = f"{self.there}/share/bash-completion/completions/x25"
         self.assertEqual(self.run_there(f"source {completion}; complete -p x25"), "complete -o default -F _x25 x25\n")
         for name in SCRIPTS:
-            self.assertTrue(os.path.samefile(f"{self.there}/share/man/man1/{name}.1", f"{self.there}/share/man/man1/x25.1"))
+            self.assertTrue(os.path.samefile(f"{os.path.dirname(completion)}/{name}", completion))
+            page = support.read(f"{self.there}/share/man/man1/{name}.1").decode()
+            self.assertIn(f".SH NAME\n{name} \\- ", page)
+            self.assertNotRegex(page, r"tools/|\b(x25dump|pcap2x25|x25pcap|bridge|chart)\.py")
+            offered = f"source {completion}; COMP_WORDS=({name} --h); COMP_CWORD=1; _x25_script; echo ${{COMPREPLY[*]}}"
+            self.assertIn("--help", self.run_there(offered).split())
         if shutil.which("man"):
-            self.assertIn("X.25 in a page".upper(), self.run_there(f"man -P cat {self.there}/share/man/man1/x25dump.1").upper())
+            self.assertIn("X.25 in a page".upper(), self.run_there(f"man -P cat {self.there}/share/man/man1/x25.1").upper())
+
+    def test_the_first_page_has_the_commands_that_were_installed(self):
+        with open(f"{self.documents}/README.md") as file:
+            text = file.read()
+        for name in ("README", "MANUAL", "FORMATS"):
+            self.assertNotRegex(support.read(f"{self.documents}/{name}.md").decode(), r"\btools/\w+\.py|build/x25|make look")
+        commands = EXAMPLE.findall(text)
+        self.assertGreaterEqual(len(commands), 4)
+        for command, output in commands:
+            with self.subTest(command):
+                self.assertEqual(self.run_there(command), re.sub("^    ", "", output, flags=re.MULTILINE))
 
     def test_the_commit_of_a_program_that_was_built_here(self):
         self.file("x25", support.read(support.PROGRAM))

@@ -1,5 +1,7 @@
 """Tests of interop/soak.py: it sees messages that are lost, doubled, out of order or changed, and two stations pass it for some seconds."""
 
+import contextlib
+import io
 import os
 import queue
 import re
@@ -8,6 +10,7 @@ import sys
 import time
 import types
 import unittest
+from unittest import mock
 
 import support
 from support import ToolCase
@@ -76,19 +79,23 @@ class Judged(ToolCase):
 
     def test_the_rule_on_its_channel(self):
         it = soak.Round.__new__(soak.Round)
-        it.channels, it.lose, it.stats, it.counts, it._ways, it._guest = 4, 0, "", soak.Counter(), soak.Ways(), "the kernel"
+        it.channels, it.lose, it.stats, it.counts, it._ways, it._guest = 4, 0, "", soak.Counter(calls=1), soak.Ways(), "the kernel"
         it.unasked = [(1100.0, "dce fault ch=2 diag=27"), (1100.0, "dce fault ch=3 diag=27"), (1100.0, "dce linkdown frmr-sent"), (1200.0, "dce fault ch=2 diag=27")]
-        it.judged = lambda: [(1095.0, "2", "dte: one"), (1096.0, "4", "dte: other")]
-        row, lines, is_right = it.row(None)
+        it.judged = lambda: ([(1095.0, "2", "dte: one"), (1096.0, "4", "dte: other")], soak.Counter({("dte", "frames", "all"): 1234}))
+        row, (coverage, *lines), is_right = it.row(None)
+        self.assertEqual(coverage, "  judged: of the near end 0 of 0 frames and 0 of 0 packets; of the far end 0 of 1,234 frames and 0 of 0 packets")
         self.assertRegex(lines[0], "fault ch=2 .*by judge dte: one$")
         self.assertRegex(lines[1], "fault ch=3 .*no rule is broken there before it$")
         self.assertRegex(lines[2], "linkdown .*by judge dte: other$")
         self.assertRegex(lines[3], "fault ch=2 .*no rule is broken there before it$")
         self.assertTrue(is_right)
         self.assertEqual(dict(zip(soak.COLUMNS, row))["unasked"], 4)
-        self.assertEqual((lines, is_right), it.row(None)[1:])
+        self.assertEqual(([coverage, *lines], is_right), it.row(None)[1:])
         row, lines, is_right = it.row("Wrong: lost")
         self.assertEqual((dict(zip(soak.COLUMNS, row))["wrong"], lines[0], is_right), (1, "  wrong: Wrong: lost", False))
+        it.counts = soak.Counter()
+        row, lines, is_right = it.row(None)
+        self.assertEqual((dict(zip(soak.COLUMNS, row))["wrong"], lines[0], is_right), (1, "  wrong: no call was made", False))
 
 
 class OverXot(unittest.TestCase):
@@ -165,6 +172,70 @@ class Told(unittest.TestCase):
         self.assertEqual(self.unasked(*links, asked=999), links[2:])
 
 
+class Guest(unittest.TestCase):
+    """What stands on the console of a guest, and whether it goes on."""
+
+    def test_lines_of_the_console(self):
+        guest = soak.Guest(None, None)
+        for line in ("", "accepted 3 from=1", "[   12.345678] lapb: link lost", "connected 4 from=1", "accepted", "linked", "closed 3 remote cause=0 diag=0"):
+            guest.heed(line)
+        self.assertEqual((guest.slots, guest.is_down), ({4}, False))
+
+    def test_a_kernel_that_has_gone_wrong(self):
+        wrong = ("[   61.1] BUG: scheduling while atomic: init/1/0x00000102", "watchdog: BUG: soft lockup - CPU#0 stuck for 26s!", "rcu: INFO: rcu_sched self-detected stall on CPU")
+        wrong += ("[    9.9] Kernel panic - not syncing: Fatal exception", "[    9.9] Oops: 0000 [#1] PREEMPT SMP", "INFO: task init:1 blocked for more than 120 seconds.")
+        for line in wrong:
+            it = soak.Round.__new__(soak.Round)
+            it.far = soak.Guest(None, None)
+            with self.subTest(line), self.assertRaisesRegex(soak.Missing, "the kernel says"):
+                it._heed("kernel", line)
+        self.assertFalse(any(map(soak.is_trouble, ("message 3 len=2", "closed 3 remote cause=0 diag=0", "[    1.0] lapb: debug"))))
+
+    def guest(self, script):
+        """A guest that is a script of the shell."""
+        guest = soak.Voice("kernel", ["sh", "-c", script], queue.Queue())
+        self.addCleanup(guest.end, 0)
+        return guest
+
+    def test_whether_it_goes_on(self):
+        with mock.patch.object(soak, "ANSWERING", 1):
+            self.assertEqual(soak.why_stopped(self.guest("echo message 1; while read line; do echo set; done"), 1), "")
+            self.assertEqual(soak.why_stopped(self.guest("while read line; do echo set; done"), 0), "made no call")
+            self.assertEqual(soak.why_stopped(self.guest("while read line; do :; done"), 1), "doesn't answer")
+            for script, why in (("echo panic", "has ended"), ("echo '[ 6.1] BUG: scheduling while atomic'; read line", "has a kernel in trouble")):
+                guest, last = self.guest(script), time.monotonic() + 10
+                while not (guest.has_ended or guest.troubles) and time.monotonic() < last:
+                    time.sleep(0.02)
+                self.assertEqual(soak.why_stopped(guest, 1), why)
+
+    def test_one_that_has_stopped_is_booted_anew(self):
+        """Whatever has become of it, the next round meets another one."""
+        booted, rounds = [], []
+
+        def prepared(_):
+            booted.append(self.guest("while read line; do :; done"))
+            return booted[-1]
+
+        class Dead:
+            counts, covered = soak.Counter(calls=1), soak.Counter()
+
+            def __init__(self, options, number, guest):
+                rounds.append(guest)
+
+            def run(self):
+                pass
+
+            def row(self, wrong):
+                return [0] * len(soak.COLUMNS), [], True
+
+        words = ["soak.py", "--minutes", "0.03", "--guest", "folder"]
+        with mock.patch.object(soak, "ANSWERING", 0.5), mock.patch.object(soak, "prepared", prepared), mock.patch.object(soak, "Round", Dead), mock.patch.object(sys, "argv", words), contextlib.redirect_stdout(io.StringIO()) as said:
+            self.assertEqual(soak.main(), 1)
+        self.assertGreater(len(rounds), 1)
+        self.assertEqual(booted, rounds)
+        self.assertIn("  the guest doesn't answer, and is booted anew\n", said.getvalue())
+
+
 class Ended(unittest.TestCase):
     def test_a_guest_that_ends(self):
         lines = queue.Queue()
@@ -181,6 +252,33 @@ class Ended(unittest.TestCase):
         guest.end(10)
 
 
+class Packages(ToolCase):
+    """What is missing is asked for before anything is built or proved."""
+
+    def asked(self, depends):
+        """What build.sh does where apt-cache answers so, and nothing stands at /usr/src."""
+        self.file("apt-cache", f"#!/bin/sh\nprintf '{depends}'\n".encode())
+        os.chmod(f"{self.folder}/apt-cache", 0o755)
+        environment = {**os.environ, "PATH": f"{self.folder}:{os.environ['PATH']}"}
+        command = [os.path.join(support.ROOT, "interop", "build.sh"), f"{self.folder}/guest"]
+        done = subprocess.run(command, env=environment, capture_output=True, text=True, timeout=60)
+        self.assertEqual((done.returncode, done.stdout, os.path.exists(f"{self.folder}/guest")), (2, "", False))
+        return done.stderr
+
+    def test_packages_that_are_missing(self):
+        said = self.asked("linux-image-amd64\\n  Depends: linux-image-9.9.0-1-amd64\\n")
+        self.assertRegex(said, "^packages are missing: apt-get update && apt-get install --no-install-recommends linux-source-9.9 linux-headers-9.9.0-1-amd64")
+
+    def test_lists_of_packages_that_are_missing(self):
+        self.assertIn("apt-get update", self.asked(""))
+
+    def test_the_page_names_them(self):
+        page, script = (support.read("interop", name).decode() for name in ("README.md", "build.sh"))
+        named = set(re.search(r"install --no-install-recommends (.*?)\n\n", page, re.DOTALL)[1].replace("\\", "").split())
+        listed = {line.split()[1] for line in re.search(r"<<END\n(.*?)^END", script, re.DOTALL | re.MULTILINE)[1].splitlines()}
+        self.assertEqual(named, {it.replace("$version", "VERSION").replace("$name", "linux-source-6.1") for it in listed})
+
+
 class Make(ToolCase):
     def test_a_program_that_stands_there_needs_no_kit(self):
         for name in ("Makefile", "crates.txt"):
@@ -191,6 +289,16 @@ class Make(ToolCase):
         environment = {**os.environ, "MAKEFLAGS": "", "PATH": "/usr/bin:/bin"}
         done = subprocess.run(["make", "-n", "--no-print-directory", "interop"], cwd=self.folder, env=environment, capture_output=True, text=True, timeout=60)
         self.assertEqual((done.returncode, done.stdout), (0, "interop/build.sh build/interop\npython3 interop/play.py build/interop\n"), done.stderr)
+
+    def test_the_guest_comes_before_the_program(self):
+        for name in ("Makefile", "crates.txt"):
+            self.file(name, support.read(name))
+        os.mkdir(f"{self.folder}/interop")
+        self.file("interop/build.sh", b"#!/bin/sh\necho packages are missing >&2\nexit 2\n")
+        os.chmod(f"{self.folder}/interop/build.sh", 0o755)
+        done = subprocess.run(["make", "--no-print-directory", "interop"], cwd=self.folder, env={**os.environ, "MAKEFLAGS": ""}, capture_output=True, text=True, timeout=60)
+        self.assertEqual((done.returncode, done.stdout), (2, "interop/build.sh build/interop\n"))
+        self.assertIn("packages are missing", done.stderr)
 
 
 @support.needs_station
@@ -205,10 +313,14 @@ class Run(ToolCase):
         """How many messages come in rounds of so many seconds, of which nothing is wrong."""
         command = [sys.executable, os.path.join(support.ROOT, "interop", "soak.py"), "--minutes", "0.1", "--round", str(seconds), "--seed", "3", *words]
         done = subprocess.run([*command, "--x25", support.PROGRAM, "--traces", self.folder], capture_output=True, text=True, timeout=600)
-        self.assertEqual((done.returncode, done.stderr), (0, ""), done.stdout)
-        rounds, sums = (table.splitlines() for table in done.stdout.split("\n\n"))
+        rounds, sums = ([line for line in table.splitlines() if line.startswith("|")] for table in done.stdout.split("\n\n"))
         self.assertEqual((sums[:2], len(sums)), (rounds[:2], len(rounds)))
         rows = [dict(zip(soak.COLUMNS, re.split(r" \| ", row.strip("| ")))) for row in rounds[2:]]
+        if any(row["calls"] == "0" for row in rows):
+            self.assertEqual((done.returncode, done.stderr), (1, ""), done.stdout)
+            return 0
+        self.assertEqual((done.returncode, done.stderr), (0, ""), done.stdout)
+        self.assertRegex(done.stdout.splitlines()[-1], r"^judged: of the near end [1-9][\d,]* of [\d,]+ frames and [1-9][\d,]* of [\d,]+ packets; of the far end [1-9]")
         for row in rows:
             self.assertEqual([row[name] for name in ("wrong", "broken by the near end", "by the far end")], ["0"] * 3, row)
         return sum(int(row["messages"].replace(",", "")) for row in rows)

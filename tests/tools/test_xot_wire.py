@@ -206,13 +206,14 @@ class Circuits(ToolCase):
         self.hears(child, "# a call came, and no channel is free")
 
     def test_what_is_no_circuit(self):
-        """Other versions, lengths and packets end a connection, and that alone."""
+        """Other versions, lengths and packets end a connection, and that alone; whoever doesn't speak XOT is told so."""
         child, port = self.listening()
-        for octets in (b"GET / HTTP/1.1\r\n\r\n", b"\0\1\0\3" + CALL[:3], b"\0\0\0\2\x10\1", b"\0\0\xff\xff", samples.xot(b"\x10\0\xfb\0\0"), samples.xot(b"\x10\1\0A"), b""):
+        others = (b"GET / HTTP/1.1\r\n\r\n", b"\0\1\0\3" + CALL[:3], b"\0\0\0\2\x10\1", b"\0\0\xff\xff")
+        for octets in (*others, samples.xot(b"\x10\0\xfb\0\0"), samples.xot(b"\x10\1\0A"), b""):
             line = self.client(port)
             line.sendall(octets)
             line.shutdown(socket.SHUT_WR)
-            self.assertEqual(line.recv(100), b"", octets)
+            self.assertEqual(line.makefile().read(), f"# {wires.XOT_ALONE}\n" * (octets in others), octets)
             line.close()
         line = self.client(port)
         line.sendall(samples.xot(CALL))

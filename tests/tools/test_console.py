@@ -1,0 +1,257 @@
+"""Tests of the console of bridge.py: what is typed and shown, at a pseudo terminal."""
+
+import os
+import re
+import signal
+import socket
+import subprocess
+import sys
+import time
+import unittest
+
+import support
+from support import ToolCase
+from terminal import Terminal
+
+import console
+from test_bridge import FAKE, RESTART, SABM, UA
+
+MESSAGE = "dte message ch=1 at 1.0.0 q=0 data="
+
+
+class Typed(unittest.TestCase):
+    """What is typed, and the line that it stands for."""
+
+    def test_lines(self):
+        for typed, line in (
+            ("connect", "dte connect"),
+            ("dte connect", "dte connect"),
+            ('call 123 4567 "hello"', "dte call 123 4567 68656c6c6f"),
+            ("call 123 -", "dte call 123 - -"),
+            ('  call  1   2 "a b"  8 8 3 3 ', "dte call 1 2 612062 8 8 3 3"),
+            ('send 1 0 "grüß"', "dte send 1 0 6772c3bcc39f"),
+            ('send 1 0 "ab"0D0a"c"', "dte send 1 0 61620D0a63"),
+            ('send 1 1 ""', "dte send 1 1 -"),
+            ("accept 1", "dte accept 1"),
+            ("int 1 07", "dte int 1 07"),
+            ("wait incoming", "wait dte incoming"),
+            ('wait message ch=1 at 1.0.0 q=0 data="', None),
+            ("wait dte incoming ch=1", "wait dte incoming ch=1"),
+            ("wait # the connection", "wait # the connection"),
+        ):
+            with self.subTest(typed):
+                if line is None:
+                    self.assertRaises(console.Unknown, console.spelled, typed, "dte")
+                else:
+                    self.assertEqual(console.spelled(typed, "dte"), line)
+
+    def test_what_is_no_line(self):
+        for typed, words in (
+            ("conect", "no command 'conect': did you mean `connect`?"),
+            ("42", "no command '42': `help` names all"),
+            ("dce connect", "no command 'dce': "),
+            ("dte", "no command 'dte': "),
+            ("accept", "it is `accept CHANNEL [S S W W]`"),
+            ("send 1 0", "it is `send CHANNEL Q DATA`"),
+            ("send 1 0 41 42", "it is `send CHANNEL Q DATA`"),
+            ("restart now", "`restart` stands alone"),
+            ("wait", "it is `wait TEXT`"),
+            ('send 1 0 "hello', "a quote isn't closed"),
+            ("send 1 0 hello", """'hello' is no octets: these are hexadecimal digits in pairs, or "text\""""),
+            ("call 1 2 4", "'4' is no octets"),
+            ("int 1 x", "'x' is no octets"),
+        ):
+            with self.subTest(typed), self.assertRaises(console.Unknown) as raised:
+                console.spelled(typed, "dte")
+            self.assertIn(words, str(raised.exception))
+
+    def test_help_has_each_command(self):
+        script = set(re.findall(r"^\| `END (\w+)|, `END (\w+)", support.read("docs/FORMATS.md").decode().split("## Lines of a script")[1].split("## ")[0], re.MULTILINE))
+        commands = {name for pair in script for name in pair if name}
+        self.assertEqual(set(console.COMMANDS), commands | {"wait", "help", "quit"})
+        for name in console.COMMANDS:
+            self.assertIn(f"\n  {name} ", "\n" + console.helped())
+            self.assertEqual(console.helped(name).count("\n"), 2)
+        self.assertLessEqual(max(map(len, console.helped().splitlines())), 100)
+
+
+class Shown(unittest.TestCase):
+    """Notices in words."""
+
+    def test_notices(self):
+        for notice, rows in (
+            ("! 30", []),
+            ("? 60", []),
+            ("# ! 30, not in this state of the channel: 'dte send 1 0 41'", ["# ! 30, not in this state of the channel: 'dte send 1 0 41'"]),
+            ("dte accept ch=1", ["accept ch=1"]),
+            (MESSAGE + "-", ["message ch=1 at 1.0.0 q=0 data=-"]),
+            (MESSAGE + "68656c6c6f", ['message ch=1 at 1.0.0 q=0 data=68656c6c6f  ("hello")']),
+            (MESSAGE + "68656c6c6f0d0a", ['message ch=1 at 1.0.0 q=0 data=68656c6c6f0d0a  ("hello"0d0a)']),
+            (MESSAGE + "6772c3bcc39f", ['message ch=1 at 1.0.0 q=0 data=6772c3bcc39f  ("grüß")']),
+            (MESSAGE + "00ff4142", ["message ch=1 at 1.0.0 q=0 data=00ff4142"]),
+            (MESSAGE + "41" * 17, ["message ch=1 at 1.0.0 q=0 data: 17 octets", f"    0000  {'41 ' * 16} {'A' * 16}", f"    0010  41{' ' * 46} A"]),
+            ("dte cleared ch=1 cause=13 diag=67", ["cleared ch=1 cause=13 diag=67  (not obtainable; invalid called address; the call is refused, or has ended)"]),
+            ("dte incoming ch=2 at 1.0.0 called=1 calling=- data=-", ["incoming ch=2 at 1.0.0 called=1 calling=- data=-  (`accept 2` takes the call, `clear 2` refuses it)"]),
+            ("dte linkdown retries", ["linkdown retries  (nobody answers)"]),
+            ("dte fault ch=1 diag=27", ["fault ch=1 diag=27  (packet type invalid for state d1; the other end broke a rule)"]),
+            ("dte diagnostic diag=33", ["diagnostic diag=33  (unidentifiable packet)"]),
+            ("dte beside ch=1 fac=0101 data=41", ['beside ch=1 fac=0101 data=41  (reverse charging; "A")']),
+        ):
+            with self.subTest(notice):
+                self.assertEqual(console.shown(notice), rows)
+
+    def test_what_is_too_long_is_said(self):
+        rows = console.shown(MESSAGE + "00" * 60_000)
+        self.assertEqual((len(rows), rows[0], rows[-1]), (66, "message ch=1 at 1.0.0 q=0 data: 60,000 octets", "    and 58,976 more"))
+
+    def test_each_reason_has_words(self):
+        reasons = re.search(r"REASON is (.*?)\.", support.read("docs/FORMATS.md").decode(), re.DOTALL)[1]
+        self.assertEqual(set(re.findall("`(.*?)`", reasons)), set(console.REASONS))
+
+
+class Live(ToolCase):
+    """A bridge at a terminal; the test is its station, by answers written by hand, and the other end."""
+
+    def begin(self, answers, *words):
+        self.answers = self.file("answers", answers.encode())
+        program = self.file("x25", f'#!/bin/sh\nexec "{sys.executable}" "{FAKE}" "{self.answers}" "$@"\n'.encode())
+        os.chmod(program, 0o755)
+        self.terminal = Terminal("bridge.py", "dte", "--listen", "0", "--x25", program, "--t1", "0.5", *words)
+        self.addCleanup(self.terminal.close)
+        self.terminal.shows("dte>")
+
+    def join(self):
+        """The other end comes."""
+        port = re.search(r"listening on 127.0.0.1:(\d+)", self.terminal.display.text())[1]
+        self.line = socket.create_connection(("127.0.0.1", int(port)), timeout=10)
+        self.addCleanup(self.line.close)
+        self.terminal.shows("# a connection has come from")
+
+    def asked(self, count):
+        """What the station was asked, once that is so much."""
+        last = time.monotonic() + 10
+        while time.monotonic() < last:
+            rows = support.read(self.answers + ".asked").decode().splitlines()
+            if len(rows) >= count:
+                break
+            time.sleep(0.02)
+        return [row.partition(" ")[2] for row in rows]
+
+    def sends(self, text):
+        self.line.sendall(f"{text}\n".encode())
+
+    def test_a_greeting_a_command_and_the_end(self):
+        self.begin(f". off busy\n= dte connect\ndte connect\n{SABM}\n. start busy\n= {UA}\ndte linkup\n. off idle\n= dte disconnect\ndte disconnect\ndte linkdown local\n. off busy\n")
+        self.join()
+        self.assertIn("This is the DTE, waiting for a connection, with 1 channel.\n`help` shows", self.terminal.shows("dte>"))
+        self.terminal.types("connect\r")
+        self.terminal.shows("dte> connect\nconnect  (the link is to be set up)\ndte>")
+        self.sends(UA)
+        self.terminal.shows("linkup  (the link is up)\ndte>")
+        self.assertFalse(self.terminal.echoes())
+        self.terminal.types("quit\r")
+        status, text = self.terminal.end()
+        self.assertEqual((status, text.splitlines()[-3:]), (0, ["dte> quit", "disconnect", "linkdown local  (it was ended here)"]))
+
+    def test_what_comes_stands_above_what_is_typed(self):
+        """Also where the cursor is within the line, which goes on to be edited, and where the screen is full."""
+        rows = "".join(f"= {UA}\n{MESSAGE}{number:04x}\n. off idle\n" for number in range(40))
+        self.begin(". off idle\n" + rows + "= dte ready 12\ndte ready ch=12\n. off idle\n")
+        self.join()
+        self.terminal.types("redy 12" + "\x1b[D" * 5)
+        self.terminal.shows("dte> redy 12")
+        for number in range(40):
+            self.sends(UA)
+            self.terminal.shows(f"data={number:04x}")
+        text = self.terminal.shows("\ndte> redy 12")
+        self.assertEqual([it[-4:] for it in text.splitlines() if it.startswith("message")], [f"{number:04x}" for number in range(40)])
+        self.terminal.types("a")
+        self.terminal.shows("\ndte> ready 12")
+        self.terminal.types("\r")
+        self.terminal.shows("dte> ready 12\nready ch=12\ndte>")
+
+    def test_editing(self):
+        """A line of before comes again, and a word is completed."""
+        self.begin(". off idle\n= dte notready 1\n. off idle\n= dte notready 1\n. off idle\n= dte notready 2\n. off idle\n")
+        self.join()
+        self.terminal.types("notready 1\r")
+        self.asked(1)
+        self.terminal.types("\x1b[A\r")
+        self.asked(2)
+        self.terminal.types("not\t2\r")
+        self.assertEqual(self.asked(3), ["dte notready 1", "dte notready 1", "dte notready 2"])
+        self.terminal.types("help not\t\r")
+        self.terminal.shows("dte> help notready\n  notready CHANNEL")
+        self.terminal.types("?\r")
+        self.terminal.shows("  quit  ")
+        self.terminal.types("dance\r")
+        self.terminal.shows("no command 'dance'")
+
+    def test_other_ends(self):
+        """The terminal is left as it was, behind CTRL-D, CTRL-C, and the end of the line."""
+        for typed, status in (("\x04", 0), ("\x03", 130), (None, 0)):
+            with self.subTest(typed):
+                self.begin(f". off idle\n= {UA}\ndte linkup\n. off idle\n= dte disconnect\ndte linkdown local\n. off idle\n")
+                self.join()
+                self.sends(UA)
+                self.terminal.shows("linkup")
+                if typed is None:
+                    self.line.close()
+                else:
+                    self.terminal.types(typed)
+                self.assertEqual((self.terminal.end()[0], self.terminal.echoes()), (status, True))
+
+    def test_a_command_before_anybody_is_there(self):
+        self.begin(". off idle\n= dte ready 1\ndte ready ch=1\n. off idle\n")
+        self.terminal.types("ready 1\r")
+        self.terminal.shows("dte> ready 1\nthat waits: the line isn't there yet\ndte>")
+        self.join()
+        self.terminal.shows("\nready ch=1\ndte>")
+
+    def test_octets_that_are_no_text(self):
+        self.begin(". off idle\n= dte send 1 0 fffe\ndte send ch=1 at 1.0.0 q=0 data=fffe\n. off idle\n")
+        self.join()
+        os.write(self.terminal.file, b'send 1 0 "\xff\xfe"\r')
+        self.terminal.shows("\nsend ch=1 at 1.0.0 q=0 data=fffe\ndte>")
+
+    def test_a_wait_does_not_hold_the_end(self):
+        self.begin(". off idle\n")
+        self.join()
+        self.terminal.types("wait incoming\raccept 1\rquit\r")
+        self.assertEqual(self.terminal.end()[0], 0)
+
+    def test_a_refusal_is_told_once_in_words(self):
+        self.begin(". off idle\n= dte accept 1\n! 30\n. off idle\n")
+        self.join()
+        self.terminal.types("accept 1\r")
+        self.terminal.shows("dte> accept 1\n# ! 30, not in this state of the channel: 'dte accept 1'\ndte>")
+
+
+@support.needs_station
+class Manual(ToolCase):
+    """The session of docs/MANUAL.md, against the other end that stands above it."""
+
+    def test_it_goes_as_it_stands_there(self):
+        text = re.sub("^    ", "", support.read("docs/MANUAL.md").decode(), flags=re.MULTILINE)
+        with socket.create_server(("127.0.0.1", 0)) as free:
+            port = str(free.getsockname()[1])
+        other = re.search(r"^printf .*\\\n.* \| bridge.py dce --listen 7000 .*$", text, re.MULTILINE)[0]
+        session = re.search(r"^bridge.py dte --connect localhost:7000\nThis is(?:.+\n)*", text, re.MULTILINE)[0].replace("7000", port)
+        command, *lines = session.splitlines()
+        other = other.replace("7000", port).replace("bridge.py", f'"{sys.executable}" "{support.TOOLS}/bridge.py" --x25 "{support.PROGRAM}"')
+        with subprocess.Popen(["bash", "-c", other], cwd=self.folder, stdout=subprocess.DEVNULL, stderr=subprocess.PIPE) as far:
+            far.stderr.readline()
+            terminal = Terminal(*command.split(), "--x25", support.PROGRAM)
+            self.addCleanup(terminal.close)
+            shown = ""
+            for line in lines:
+                if line.startswith("dte> "):
+                    terminal.shows(f"{shown}dte>")
+                    terminal.types(line[5:] + "\r")
+                shown += f"{line}\n"
+            self.assertEqual(terminal.end(), (1, shown.rstrip("\n")))
+            self.assertEqual((far.stderr.read(), far.wait(60)), (b"", 0))
+
+
+if __name__ == "__main__":
+    unittest.main()

@@ -1,0 +1,187 @@
+"""Tests of `x25dump.py --judge` on what a capture lacks: frames that are missing, cut or dropped, and links and circuits that it doesn't judge alike."""
+
+import struct
+import unittest
+
+import samples
+import support
+from support import PROGRAM, ToolCase
+
+import tap_runs
+from x25lines import fcs
+
+# In the gate; `make judge-runs` plays 2,000.
+RUNS = 20
+SABM, UA, DISC, SABME = 0x3F, 0x73, 0x53, 0x7F
+LACKING = ", or the capture lacks frames"
+UNSENT = "N(R) acknowledges what was never sent (2.3.4.9): at most 1"
+
+
+def command(direction, control, packet=b""):
+    """A direction, and the octets of a command."""
+    return direction, bytes([1 if direction == ">" else 3, control]) + packet
+
+
+def response(direction, control):
+    """A direction, and the octets of a response."""
+    return direction, bytes([3 if direction == ">" else 1, control])
+
+
+def data(direction, number, acknowledged, octets=b"\x10\x01\x01"):
+    """An I frame."""
+    return command(direction, acknowledged << 5 | number << 1, octets)
+
+
+def ready(direction, acknowledged):
+    """RR."""
+    return response(direction, acknowledged << 5 | 1)
+
+
+def capture(frames):
+    """A capture of frames with their directions; (direction, octets, length on the line) was cut."""
+    return samples.pcap([(at, 0, bytes([direction == ">"]) + octets, *length) for at, (direction, octets, *length) in enumerate(frames)])
+
+
+def trace(frames):
+    """The lines of frames with their directions."""
+    return "".join(f"{direction} {(octets + fcs(octets)).hex()}\n" for direction, octets in frames).encode()
+
+
+SET_UP = [command(">", SABM), response("<", UA)]
+# An I frame that isn't there is acknowledged.
+MISSING = [*SET_UP, data(">", 0, 0), ready("<", 1), ready("<", 2)]
+# The DCE's UA to the second SABM isn't there, and it is up.
+UNANSWERED = [*SET_UP, command("<", DISC), response(">", UA), command(">", SABM), ready("<", 0), command(">", SABM), response("<", UA), ready("<", 0)]
+
+
+@support.needs_program
+class Lacking(ToolCase):
+    def judged(self, given, *words, status=0):
+        """What is told of each frame, and the last line."""
+        done = support.run("x25dump.py", "--judge", "--x25", PROGRAM, *words, given=given)
+        self.assertEqual(done.returncode, status, done)
+        *lines, last = done.stdout.decode().splitlines()
+        self.said = done.stderr.decode()
+        self.counts = [line for line in lines if line.startswith("# ")]
+        return [line[line.index(mark) :] for line in lines for mark in (" ! ", " !? ", " ~ manners: ", " ~? manners: ") if mark in line], last
+
+    def test_what_missing_frames_explain_is_marked(self):
+        told, last = self.judged(capture(MISSING))
+        self.assertEqual(told, [f" !? dce: {UNSENT}{LACKING}"])
+        self.assertEqual(last, "# told: 0 rules, 0 manners, 1 that frames which the capture lacks would explain")
+        self.assertEqual(self.judged(capture(MISSING), "--strict", status=1), (told, last))
+
+    def test_a_capture_that_has_all_frames(self):
+        for at in "line", "dte", "dce":
+            told, last = self.judged(capture(MISSING), "--at", at, status=1)
+            self.assertEqual((told, last), ([f" ! dce: {UNSENT}"], "# told: 1 rules, 0 manners"))
+        self.assertEqual(self.judged(trace(MISSING), status=1), ([f" ! dce: {UNSENT}"], "# told: 1 rules, 0 manners"))
+
+    def test_what_no_missing_frame_explains_is_not(self):
+        self.assertEqual(self.judged(capture([*SET_UP, command(">", 0x0D)]), status=1)[0], [" ! dte: no frame of LAPB has these octets (2.3.5.4)"])
+
+    def test_the_far_ends_ua_may_have_been_lost(self):
+        told, _ = self.judged(capture(UNANSWERED), "--at", "line", status=1)
+        self.assertEqual(told, [" ! dce: no I frame, RR, RNR or REJ while the link isn't up (2.4.4.2)"])
+        for at in ["--at", "dte"], []:
+            self.assertEqual(self.judged(capture(UNANSWERED), *at), ([], "# told: 0 rules, 0 manners"))
+            self.assertEqual([line.partition(" frames")[0] for line in self.counts], ["# dte: 4", "# dce: 5"])
+        self.assertEqual(len(self.judged(capture(UNANSWERED), "--at", "dce", status=1)[0]), 1)
+
+    def test_manners_of_the_far_end(self):
+        frames = [*SET_UP, data(">", 0, 0), data(">", 2, 0), data("<", 0, 0), data("<", 2, 0)]
+        skips = "N(S) skips (2.4.5.1): it should be 1"
+        told, last = self.judged(capture(frames), "--at", "dte", "--manners", status=1)
+        self.assertEqual(told, [f" ~ manners: dte: {skips}", f" ~? manners: dce: {skips}{LACKING}"])
+        self.assertEqual(last, "# told: 0 rules, 1 manners, 1 that frames which the capture lacks would explain")
+
+    def test_a_frame_captured_in_part_may_have_been_any(self):
+        whole, (direction, octets) = [*SET_UP, data(">", 0, 0)], data(">", 1, 0)
+        frames = [*whole, (direction, octets[:3], len(octets) + 9), ready("<", 2)]
+        self.assertEqual(self.judged(capture(frames), "--at", "line", status=1)[0], [])
+        self.assertIn("left out: frame that was captured in part (1)", self.said)
+        self.assertEqual(self.counts[0], "# dte: 3 frames, 2 judged, 1 not judged")
+
+    def test_frames_that_the_program_dropped(self):
+        def file(dropped, statistics=0):
+            packets = b""
+            for at, (direction, octets) in enumerate(MISSING):
+                octets = bytes([0 if direction == ">" else 1, 0, 0, 0, 1]) + octets
+                body = struct.pack("<IIIII", 0, 0, at, len(octets), len(octets)) + octets + bytes(-len(octets) % 4)
+                body += samples.option(2, struct.pack("<I", 2 if direction == ">" else 1))
+                packets += samples.block(6, body + samples.option(4, struct.pack("<Q", dropped if at == 4 else 0)) + samples.option(0, b""))
+            counts = samples.block(5, struct.pack("<III", 0, 0, 0) + samples.option(5, struct.pack("<Q", statistics)) + samples.option(0, b""))
+            return samples.section() + samples.interface(196) + packets + counts
+
+        self.assertEqual(len(self.judged(file(0), "--at", "line", status=1)[0]), 1)
+        self.assertEqual(self.judged(file(3), "--at", "line", status=1), ([], "# told: 0 rules, 0 manners"))
+        self.assertIn("left out: frame that the program which captured dropped (3)", self.said)
+        self.judged(file(0, 7), status=1)
+        self.assertIn("left out: frame that the program which captured dropped, the capture doesn't say where (7)", self.said)
+
+    def test_numbers_modulo_128_are_not_judged(self):
+        frames = [command(">", SABME), response("<", UA), command(">", 0, b"\x00\x10\x01\x01"), response("<", 1), command(">", 2, b"\x00\x10\x01\x01"), *SET_UP, data(">", 0, 0)]
+        self.assertEqual(self.judged(capture(frames), "--at", "line"), ([], "# told: 0 rules, 0 manners"))
+        shown = support.run("x25dump.py", "--judge", "--x25", PROGRAM, given=capture(frames)).stdout.decode()
+        self.assertEqual(shown.count(" ~ note: not judged from here on: SABME and UA, so numbers are modulo 128\n"), 1)
+        self.assertEqual([line.partition(", ")[0] for line in shown.splitlines() if " frames, " in line], ["# dte: 5 frames", "# dce: 3 frames"])
+
+    def test_an_empty_input(self):
+        done = support.run("x25dump.py", "--judge", "--x25", PROGRAM)
+        self.assertEqual((done.returncode, done.stdout, done.stderr), (1, b"", b"x25dump.py: nothing was found: the input is empty\n"))
+
+    def test_how_a_capture_may_be_misread_is_said(self):
+        other = [({">": "<", "<": ">"}[direction], octets) for direction, octets in MISSING]
+        sealed = [(direction, octets + fcs(octets)) for direction, octets in MISSING]
+        for frames, words, said in (
+            (MISSING, [], ""),
+            (other, [], "x25dump.py: no frame has its sender's address: --swap exchanges the directions\n"),
+            (other, ["--swap"], ""),
+            (sealed, [], "x25dump.py: each frame ends in its frame check sequence already: --fcs adds none\n"),
+            (sealed, ["--fcs"], ""),
+            (MISSING, ["--fcs"], "x25dump.py: no frame ends in its frame check sequence: without --fcs each gets one\n"),
+        ):
+            done = support.run("x25dump.py", "--judge", "--x25", PROGRAM, *words, given=capture(frames))
+            self.assertEqual(done.stderr.decode(), said)
+
+
+@support.needs_program
+class Circuits(ToolCase):
+    """Packets over TCP."""
+
+    CALL, ACCEPTED, DATA = bytes.fromhex("10010b43123456700041"), bytes.fromhex("10010f"), bytes.fromhex("1001006869")
+
+    def judged(self, ways, status, lost=()):
+        """The lines of a connection whose packets go these ways; those of `lost` weren't captured."""
+        records, sequences = [], {True: 1, False: 1}
+        for at, (is_of_client, packet) in enumerate(ways):
+            stream = samples.xot(packet)
+            if at not in lost:
+                segment = samples.tcp(is_of_client, sequences[is_of_client], stream, wanted=sequences[not is_of_client])
+                records.append((at, 0, samples.ethernet(samples.ipv4(is_of_client, segment))))
+            sequences[is_of_client] += len(stream)
+        done = support.run("x25dump.py", "--judge", "--x25", PROGRAM, given=samples.pcap(records, link_type=1))
+        self.assertEqual(done.returncode, status, done)
+        return done.stdout.decode().splitlines()[1:]
+
+    def test_each_end_may_have_a_number_of_its_own(self):
+        ways = [(True, self.CALL), (False, bytes.fromhex("10090f")), (True, self.DATA), (False, bytes.fromhex("100961"))]
+        lines = self.judged(ways, 1)
+        self.assertTrue(lines[-4].endswith("< RR ch=9 R=3 ! dce: P(R) acknowledges what was never sent (4.4.1.3): at most 1"), lines)
+        self.assertEqual(lines[-3:-1], ["# dte channel 1: 2 packets, 1 judged, 1 not judged", "# dce channel 9: 2 packets, 2 judged, 0 not judged"])
+
+    def test_behind_a_gap_the_channel_is_not_known(self):
+        ways = [(True, self.CALL), (False, self.ACCEPTED), *[(True, bytes([0x10, 1, number << 1, 0x41])) for number in (0, 1, 2)], (False, bytes([0x10, 1, 0x61]))]
+        self.assertEqual([line for line in self.judged(ways, 0) if "!" in line], [])
+        self.assertEqual([line for line in self.judged(ways, 1, lost=[3]) if "!" in line], [])
+
+
+@support.needs_program
+class Runs(ToolCase):
+    def test_nothing_is_told_without_doubt(self):
+        for seed in range(RUNS):
+            self.assertEqual(tap_runs.play(PROGRAM, seed)[0], [], f"seed {seed}")
+
+
+if __name__ == "__main__":
+    unittest.main()
