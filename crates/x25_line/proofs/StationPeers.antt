@@ -7,7 +7,7 @@ use Rattle.x25_frame.specs.Frame.{PlainFrame, info, rr, rnr, rej, sabm, disc, ua
 use Rattle.x25_frame.specs.Reading.{frame_of}
 use Rattle.x25_frame.specs.laws.ReadingLaw.{ReadsSpelled}
 use Rattle.x25_frame.specs.declared.error.FrameError.{FrameError}
-use Rattle.x25_frame.specs.declared.error.FrameError.TheVariants.{Short, BadFcs, BadAddress, Undefined, NoInfoAllowed, TooLong}
+use Rattle.x25_frame.specs.declared.error.FrameError.TheVariants.{Undefined, NoInfoAllowed, TooLong}
 use Rattle.x25_window.specs.code.Modulo.{resolved}
 use Rattle.x25_window.specs.laws.Window.{after}
 use Rattle.x25_window.specs.laws.Window.Step.{HandDown, Hear, Take}
@@ -52,14 +52,9 @@ passes p (Ok (info ns nr pf x)) = (false, false, tt, refl)
 passes p (Ok (rr command nr pf)) = (false, refl)
 passes p (Ok (rnr command nr pf)) = (false, refl)
 passes p (Ok (rej command nr pf)) = (false, refl)
-passes p (Ok (sabm pf)) = refl
-passes p (Ok (disc pf)) = refl
-passes p (Ok (ua pf)) = refl
-passes p (Ok (dm pf)) = refl
-passes p (Ok (frmr pf why)) = refl
-passes p (Err e) = refl
+passes p r = refl
 
-low_resolved : (a x : ℕ) → a ≤ resolved a x
+pub low_resolved : (a x : ℕ) → a ≤ resolved a x
 low_resolved a x = omega arith
 
 module _ (c d : Settings) (joined : AreJoined c d) (reads : ReadsSpelled) (laws : Laws) where
@@ -270,12 +265,10 @@ module _ (c d : Settings) (joined : AreJoined c d) (reads : ReadsSpelled) (laws 
       read_seen (Ok (ua p)) read no_sabm follows = quiet_seen (receives (ua p)) refl (λ y never. never) follows
       read_seen (Ok (dm p)) read no_sabm follows = ends_seen w os step (machine_of k h.peer) Dm tt passed follows
       read_seen (Ok (frmr p why)) read no_sabm follows = ends_seen w os step (machine_of k h.peer) FrmrGot tt passed follows
-      read_seen (Err Short) read no_sabm follows = quiet_seen nothing refl (λ y never. never) follows
-      read_seen (Err BadFcs) read no_sabm follows = quiet_seen nothing refl (λ y never. never) follows
-      read_seen (Err BadAddress) read no_sabm follows = quiet_seen nothing refl (λ y never. never) follows
       read_seen (Err (Undefined control)) read no_sabm follows = frmr_seen w os step (machine_of k h.peer) passed (three (Err (Undefined control)) read refl) follows
       read_seen (Err (NoInfoAllowed control)) read no_sabm follows = frmr_seen w os step (machine_of k h.peer) passed (three (Err (NoInfoAllowed control)) read refl) follows
       read_seen (Err TooLong) read no_sabm follows = frmr_seen w os step (machine_of k h.peer) passed (three (Err TooLong) read refl) follows
+      read_seen (Err error) read no_sabm follows = quiet_seen nothing refl (λ y never. never) follows
 
   -- ---- each act
 

@@ -13,6 +13,7 @@ use Rattle.x25_window.specs.code.Modulo.{resolved}
 use Rattle.x25_link.specs.Station.{Settings}
 use Rattle.x25_link.specs.Hearing.{other}
 use Rattle.x25_line.specs.laws.LawsBelow.{Laws}
+use Rattle.x25_line.proofs.StationPeers.{low_resolved}
 use Rattle.x25_line.proofs.Frames.{slice_get-last}
 use Rattle.x25_line.specs.laws.Peer.{Peer, MayNumber, MayAcknowledge, numbered_to, told_to, MaySend, hearing, IsWanted, taking, MayHear}
 use Rattle.x25_line.specs.laws.PeerJoined.{Joined, Ours, HandsDown, Sends, Hears, IsReached, at_start, goes_on}
@@ -27,8 +28,7 @@ octets_same [] [] h = refl
 octets_same (x ∷ xs) (y ∷ ys) h =
     let parts = and_parts (x == y) (same_octets xs ys) h in
     ap (λ (z : ℕ). z ∷ xs) (eqb-true x y parts.0) ∙ ap (λ (zs : List ℕ). y ∷ zs) (octets_same xs ys parts.1)
-octets_same [] (y ∷ ys) h = cc
-octets_same (x ∷ xs) [] h = cc
+octets_same xs ys h = cc
 
 item_same : (o : Option (List ℕ)) (packet : List ℕ) → is_item o packet ≡ true → o ≡ Some packet
 item_same None packet h = cc
@@ -44,9 +44,6 @@ none_some q h = absurd (never h)
 
 some_same : {A : Type 0} (x y : A) → Some x ≡ Some y → x ≡ y
 some_same x y e = cc
-
-low_resolved : (a x : ℕ) → a ≤ resolved a x
-low_resolved a x = omega arith
 
 not_below : (a b : ℕ) → a - 7 ≤ b → a ≤ b + 7
 not_below a b h = omega arith
@@ -200,12 +197,7 @@ noted (Ok (info ns nr pf packet)) p = (true, ns == length p.taken % 8, may_take_
 noted (Ok (rr command nr pf)) p = (true, refl)
 noted (Ok (rnr command nr pf)) p = (true, refl)
 noted (Ok (rej command nr pf)) p = (true, refl)
-noted (Ok (sabm pf)) p = refl
-noted (Ok (disc pf)) p = refl
-noted (Ok (ua f)) p = refl
-noted (Ok (dm f)) p = refl
-noted (Ok (frmr f why)) p = refl
-noted (Err e) p = refl
+noted r p = refl
 
 taking_held : (b : Bool) (x : List ℕ) (p : Peer) → length p.given ≡ p.sent → length (taking b x p).given ≡ (taking b x p).sent
 taking_held true x p h = h
@@ -213,15 +205,7 @@ taking_held false x p h = h
 
 noted_held : (r : Result PlainFrame FrameError) (p : Peer) → length p.given ≡ p.sent → length (notes r p).given ≡ (notes r p).sent
 noted_held (Ok (info ns nr pf packet)) p h = taking_held (ns == length p.taken % 8) packet (hearing true nr p) h
-noted_held (Ok (rr command nr pf)) p h = h
-noted_held (Ok (rnr command nr pf)) p h = h
-noted_held (Ok (rej command nr pf)) p h = h
-noted_held (Ok (sabm pf)) p h = h
-noted_held (Ok (disc pf)) p h = h
-noted_held (Ok (ua f)) p h = h
-noted_held (Ok (dm f)) p h = h
-noted_held (Ok (frmr f why)) p h = h
-noted_held (Err e) p h = h
+noted_held r p h = h
 
 -- ---- tapes
 

@@ -59,8 +59,7 @@ peer_in Odd c w h is = go h.peer_view h.peer h.out
   where
     go : (v : View) → PeerIs v w.peer h.q → OutIs c v w.peer.stand w.out h.alone.out h.p → PeerIn Odd c w h
     go Live k out = record { begun = k.1; thin = out; now_is = ap w.peer.of_session k.1 ∙ h.peer_lists.at }
-    go Soon k out = absurd (k.0 is)
-    go Gone k out = absurd (k.0 is)
+    go v k out = absurd (k.0 is)
 
 -- ---- meetings
 
@@ -101,9 +100,8 @@ module _ (Odd : Type 0) (c : Settings) (keeps : KeepsAll Odd c) where
   moved a r out back = record { near = a.near; peer = r; out = out; back = back }
 
   near_still : (v : View) (w : PeerSessions) (h : Held Odd c w) (os : List (List ℕ)) → (h.alone.out ≡ [] → os ≡ []) → NearIs v w.near h.alone.near h.p h.alone.out → NearIs v w.near h.alone.near h.p os
-  near_still Live w h os none k = k
   near_still Soon w h os none k = (k.0, k.1, k.2, none k.3)
-  near_still Gone w h os none k = k
+  near_still v w h os none k = k
 
   in_moves : (w : PeerSessions) (h : Held Odd c w) (i : PeerIn Odd c w h) → w.peer.stand ≡ In → (all : ℕ → Peer) (r : Peer) (out back : List Entry) (os bs : List (List ℕ)) (met : List Meeting) → Knows w.peer h.q all r
       → IsReached Odd c (moved h.alone r os bs) → Thin c.role c.longest h.p os out → (h.alone.out ≡ [] → os ≡ []) → BackIs c h.near_view w.near.station.phase w.peer.begun w.peer.stand back bs h.q
@@ -163,17 +161,10 @@ module _ (Odd : Type 0) (c : Settings) (keeps : KeepsAll Odd c) where
   sends_taken p q (Ok (rr command nr pf)) h = ap (λ (z : Peer). z.taken) h.2
   sends_taken p q (Ok (rnr command nr pf)) h = ap (λ (z : Peer). z.taken) h.2
   sends_taken p q (Ok (rej command nr pf)) h = ap (λ (z : Peer). z.taken) h.2
-  sends_taken p q (Ok (sabm pf)) h = ap (λ (z : Peer). z.taken) h
-  sends_taken p q (Ok (disc pf)) h = ap (λ (z : Peer). z.taken) h
-  sends_taken p q (Ok (ua f)) h = ap (λ (z : Peer). z.taken) h
-  sends_taken p q (Ok (dm f)) h = ap (λ (z : Peer). z.taken) h
-  sends_taken p q (Ok (frmr f why)) h = ap (λ (z : Peer). z.taken) h
-  sends_taken p q (Err Short) h = ap (λ (z : Peer). z.taken) h
-  sends_taken p q (Err BadFcs) h = ap (λ (z : Peer). z.taken) h
-  sends_taken p q (Err BadAddress) h = ap (λ (z : Peer). z.taken) h
   sends_taken p q (Err (Undefined control)) h = ap (λ (z : Peer). z.taken) h.1
   sends_taken p q (Err (NoInfoAllowed control)) h = ap (λ (z : Peer). z.taken) h.1
   sends_taken p q (Err TooLong) h = ap (λ (z : Peer). z.taken) h.1
+  sends_taken p q r h = ap (λ (z : Peer). z.taken) h
 
   -- the line to the station, with more of this session, that holds no UA
   back_more : (v : View) (phase : Phase) (begun q : ℕ) (stand other_stand : Stand) (es more : List Entry) (os : List (List ℕ)) → how_many ua_in (other c.role) c.longest more ≡ 0 → AllOf (other c.role) c.longest q more
@@ -239,12 +230,7 @@ module _ (Odd : Type 0) (c : Settings) (keeps : KeepsAll Odd c) where
   hears_nothing p q (Ok (rr command nr pf)) none h = none_is_some (rr command nr pf) (sym none)
   hears_nothing p q (Ok (rnr command nr pf)) none h = none_is_some (rnr command nr pf) (sym none)
   hears_nothing p q (Ok (rej command nr pf)) none h = none_is_some (rej command nr pf) (sym none)
-  hears_nothing p q (Ok (sabm pf)) none h = h
-  hears_nothing p q (Ok (disc pf)) none h = h
-  hears_nothing p q (Ok (ua f)) none h = h
-  hears_nothing p q (Ok (dm f)) none h = h
-  hears_nothing p q (Ok (frmr f why)) none h = h
-  hears_nothing p q (Err e) none h = h
+  hears_nothing p q r none h = h
 
   -- it may pass over anything
   pub hears_none : (p : Peer) (r : Read) → once.MayHear p r p
@@ -252,12 +238,7 @@ module _ (Odd : Type 0) (c : Settings) (keeps : KeepsAll Odd c) where
   hears_none p (Ok (rr command nr pf)) = (false, refl)
   hears_none p (Ok (rnr command nr pf)) = (false, refl)
   hears_none p (Ok (rej command nr pf)) = (false, refl)
-  hears_none p (Ok (sabm pf)) = refl
-  hears_none p (Ok (disc pf)) = refl
-  hears_none p (Ok (ua f)) = refl
-  hears_none p (Ok (dm f)) = refl
-  hears_none p (Ok (frmr f why)) = refl
-  hears_none p (Err e) = refl
+  hears_none p r = refl
 
   -- a frame with a number that it hears was sent in a session that the station began
   near_began : (v : View) (w : PeerSessions) (h : Held Odd c w) → NearIs v w.near h.alone.near h.p h.alone.out → (o : List ℕ) (os : List (List ℕ)) → h.alone.out ≡ o ∷ os → h.p ≤ w.near.begun

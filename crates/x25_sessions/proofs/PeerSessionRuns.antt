@@ -103,21 +103,10 @@ all_meet P p q near far f (m ∷ ms) begun paired = (f m begun.0 paired.0, all_m
 
 -- what a peer may send, one may send that may send more
 sends_with : (Odd More : Type 0) → (Odd → More) → (p q : Peer) (r : Read) → rules.MaySend Odd p r q → rules.MaySend More p r q
-sends_with Odd More f p q (Ok (info ns nr pf x)) h = h
-sends_with Odd More f p q (Ok (rr command nr pf)) h = h
-sends_with Odd More f p q (Ok (rnr command nr pf)) h = h
-sends_with Odd More f p q (Ok (rej command nr pf)) h = h
-sends_with Odd More f p q (Ok (sabm pf)) h = h
-sends_with Odd More f p q (Ok (disc pf)) h = h
-sends_with Odd More f p q (Ok (ua x)) h = h
-sends_with Odd More f p q (Ok (dm x)) h = h
-sends_with Odd More f p q (Ok (frmr x why)) h = h
-sends_with Odd More f p q (Err Short) h = h
-sends_with Odd More f p q (Err BadFcs) h = h
-sends_with Odd More f p q (Err BadAddress) h = h
 sends_with Odd More f p q (Err (Undefined control)) h = (f h.0, h.1)
 sends_with Odd More f p q (Err (NoInfoAllowed control)) h = (f h.0, h.1)
 sends_with Odd More f p q (Err TooLong) h = (f h.0, h.1)
+sends_with Odd More f p q r h = h
 
 happens_with : (Odd More : Type 0) → (Odd → More) → (c : Settings) (w v : Joined) → joined.Happens Odd c w v → joined.Happens More c w v
 happens_with Odd More f c w v (joined.Ours act) = joined.Ours act
