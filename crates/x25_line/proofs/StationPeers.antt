@@ -23,7 +23,8 @@ use Rattle.x25_line.specs.laws.InWindow.{IsPrefix}
 use Rattle.x25_line.specs.laws.Stations.{StationEnd, Stations, Act, Put, Deliver, T1, Connect, Disconnect, Abandon, Lose, Damage, Event, Near, Far, after_step, unless, delivered, replaced, is_visible, acts, swapped, happens, run, start}
 use Rattle.x25_line.specs.laws.StationClaims.{AreJoined, IsSetUpOnce, Always, BothInOrder, InOrder, HandsOne}
 use Rattle.x25_line.specs.laws.LawsBelow.{Laws}
-use Rattle.x25_line.specs.laws.Peer.{Peer, fresh_peer, hearing, IsWanted, taking, MayHear}
+use Rattle.x25_line.specs.laws.Said.{Said, Tells, said}
+use Rattle.x25_line.specs.laws.Peer.{Peer, fresh_peer, hearing, IsWanted, taking, MayMake, MayHear}
 use Rattle.x25_line.specs.laws.PeerJoined.{our_end, with_peer, Ours, HandsDown, Hears, Loses, Damages, IsReached, at_start, goes_on}
 use Rattle.x25_line.specs.laws.StationPeers.{seen, IsPeer, AreBothPeers}
 use Rattle.x25_line.proofs.StationSends.{AllWithin, within_push}
@@ -47,12 +48,10 @@ pub record Seen (c d : Settings) (w : Stations) : Type 0 where
   pub up : peer.taken ≡ w.near.up
 
 -- anything may be passed over
-passes : (p : Peer) (r : Result PlainFrame FrameError) → MayHear p r p
-passes p (Ok (info ns nr pf x)) = (false, false, tt, refl)
-passes p (Ok (rr command nr pf)) = (false, refl)
-passes p (Ok (rnr command nr pf)) = (false, refl)
-passes p (Ok (rej command nr pf)) = (false, refl)
-passes p r = refl
+pub passes : (p : Peer) (s : Said) → MayMake p s p
+passes p (Tells None nr) = (false, refl)
+passes p (Tells (Some c) nr) = (false, false, tt, refl)
+passes p s = refl
 
 pub low_resolved : (a x : ℕ) → a ≤ resolved a x
 low_resolved a x = omega arith
@@ -150,7 +149,7 @@ module _ (c d : Settings) (joined : AreJoined c d) (reads : ReadsSpelled) (laws 
     passed =
         record {
           peer = h.peer;
-          reached = comes h.peer (passes h.peer (frame_of (other d.role) d.longest o));
+          reached = comes h.peer (passes h.peer (said (frame_of (other d.role) d.longest o)));
           is = refl;
           room = h.room;
           told = h.told;

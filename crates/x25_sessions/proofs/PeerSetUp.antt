@@ -19,6 +19,8 @@ use Rattle.x25_line.specs.laws.Peer.{Peer, fresh_peer}
 use Rattle.x25_line.specs.laws.Peer as once
 use Rattle.x25_line.specs.laws.PeerJoined.{IsReached}
 use Rattle.x25_line.specs.laws.PeerJoined as joined
+use Rattle.x25_line.specs.laws.Said.{said}
+use Rattle.x25_line.proofs.StationPeers.{passes}
 use Rattle.x25_line.proofs.sessions.SessionTakes.{closed_by}
 use Rattle.x25_line.proofs.StationSteps.{not_both}
 use Rattle.x25_line.proofs.sessions.SessionLines.{Read, begun_append, begun_more, numbers, quiet_tail, many_append}
@@ -32,7 +34,7 @@ use Rattle.x25_sessions.proofs.PeerLines.{Less, gone, less_removes, less_replace
 use Rattle.x25_sessions.proofs.PeerHeld.{IsSendable, sendable_append, MayBeOlder, NearIs, PeerIs, BackIs, OutIs, OnLines, lines_out, Held, joined_with, out_lost, sends_free, waiting_few, meetings_turned, meetings_back}
 use Rattle.x25_sessions.proofs.PeerNear.{KeepsAll}
 use Rattle.x25_sessions.proofs.PeerActs.{acts_held}
-use Rattle.x25_sessions.proofs.PeerMoves.{put_same, put_other, Knows, knowing, handed_held, numbered_held, heard_held, hears_none, free_held}
+use Rattle.x25_sessions.proofs.PeerMoves.{put_same, put_other, Knows, knowing, handed_held, numbered_held, heard_held, free_held}
 
 asks_in : {A : Type 0} → In ≡ Asking → A
 asks_in e = absurd (never e)
@@ -451,7 +453,7 @@ module _ (Odd : Type 0) (c : Settings) (keeps : KeepsAll Odd c) where
 
       go : (q : PeerEnd) → sessions.MayHear w.peer read q → Held Odd c (record w { peer = q; out = rest; met = heard_by w.peer read e w.met })
       go q sessions.passes_over = elim (in_or_not w.peer.stand) [
-        | inl is ↦ in_held is w.peer.of_session (now w.peer) (λ n same. record { at = ap w.peer.of_session (sym same); others = λ k never. refl }) (hears_none Odd c keeps (now w.peer) read)
+        | inl is ↦ in_held is w.peer.of_session (now w.peer) (λ n same. record { at = ap w.peer.of_session (sym same); others = λ k never. refl }) (passes (now w.peer) (said read))
         | inr off ↦ subst (λ (met : List Meeting). Held Odd c (record w { out = rest; met = met })) (sym (unheard (is_in w.peer.stand) (number_in read) pair w.met off)) (out_lost Odd c w h rest (subst (λ (xs : List Entry). Less xs rest) (sym front) (gone e rest)))
       ]
       go q (sessions.hears r is hears) =
