@@ -51,10 +51,7 @@ record InPhase (a : Phase) (x : Stretch) : Type 0 where
 
 in_phase : (a : Phase) (x : Stretch) → open_phase a ≡ Some x → InPhase a x
 in_phase (Talking t b at) x is = record { resets = at.epoch; sends = t; takes = b; phase = ap (λ (z : At Stretch). Talking t b z) (in_transfer at x is) }
-in_phase Unused x is = absurd (none-some x is)
-in_phase (Waiting p) x is = absurd (none-some x is)
-in_phase (Offered p) x is = absurd (none-some x is)
-in_phase (Crossed p) x is = absurd (none-some x is)
+in_phase a x is = absurd (none-some x is)
 
 pub opened : (s : Side (At Channels)) (k : ℕ) (x : Stretch) → open_at s k ≡ Some x → Opened s k x
 opened (Left z) k x is = absurd (none-some x is)

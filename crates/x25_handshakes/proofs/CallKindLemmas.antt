@@ -27,25 +27,21 @@ same_begins i m is = ([], append-nil i ∙ is)
 joint_begins : (a b : Phase) (ma ia mb ib : List CallRequest) (u v : List Packet) → Joint a b ma ia mb ib u v → IsPrefix ia mb × IsPrefix ib ma
 joint_begins Unused Unused ma ia mb ib u v h = (empty_begins ia mb h.3, empty_begins ib ma h.5)
 joint_begins Unused (Waiting q) ma ia mb ib u v h = (empty_begins ia mb h.3, empty_begins ib ma h.4)
-joint_begins Unused other ma ia mb ib u v h = absurd h
 joint_begins (Waiting p) Unused ma ia mb ib u v h = (empty_begins ia mb h.2, empty_begins ib ma h.4)
 joint_begins (Waiting p) (Waiting q) ma ia mb ib u v h = (empty_begins ia mb h.2, empty_begins ib ma h.3)
 joint_begins (Waiting p) (Offered q) ma ia mb ib u v h = (empty_begins ia mb h.2, same_begins ib ma h.3)
 joint_begins (Waiting p) (Talking t₂ b₂ y) ma ia mb ib u v h = (empty_begins ia mb h.2, same_begins ib ma h.3)
-joint_begins (Waiting p) (Crossed q) ma ia mb ib u v h = absurd h
 joint_begins (Crossed p) (Waiting q) ma ia mb ib u v h = (empty_begins ia mb h.2, empty_begins ib ma h.3)
 joint_begins (Crossed p) (Offered q) ma ia mb ib u v h = (empty_begins ia mb h.2, same_begins ib ma h.3)
 joint_begins (Crossed p) (Talking t₂ b₂ y) ma ia mb ib u v h = (empty_begins ia mb h.2, same_begins ib ma h.3)
-joint_begins (Crossed p) other ma ia mb ib u v h = absurd h
 joint_begins (Offered p) (Waiting q) ma ia mb ib u v h = (same_begins ia mb h.2, empty_begins ib ma h.3)
-joint_begins (Offered p) other ma ia mb ib u v h = absurd h
 joint_begins (Talking t b x) (Waiting q) ma ia mb ib u v h = (same_begins ia mb h.2, empty_begins ib ma h.3)
 joint_begins (Talking t b x) (Talking t₂ b₂ y) ma ia mb ib u v h = whose h.1
   where
     whose : (((ia ≡ []) × (ib ≡ ma)) ⊎ ((ia ≡ mb) × (ib ≡ []))) → IsPrefix ia mb × IsPrefix ib ma
     whose (inl g) = (empty_begins ia mb g.0, same_begins ib ma g.1)
     whose (inr g) = (same_begins ia mb g.0, empty_begins ib ma g.1)
-joint_begins (Talking t b x) other ma ia mb ib u v h = absurd h
+joint_begins a b ma ia mb ib u v h = absurd h
 
 calls_begin : (a : Connection) (u v : List Packet) (b : Connection) → ConnectionsRelated a u v b → IsPrefix a.indicated b.made × IsPrefix b.indicated a.made
 calls_begin a u v b h = joint_begins a.phase b.phase a.made a.indicated b.made b.indicated u v h.joint

@@ -57,12 +57,11 @@ acts_inner t x (Send q xs) =
     if_inner (nat_le (length xs) 65535) (if nat_lt (wholes x.rest) 8 then sent else stretch_does x []) (stretch_does x [])
     (if_inner (nat_lt (wholes x.rest) 8) sent (stretch_does x []) tt tt) tt
 acts_inner t x Pull = pulls_inner t x x.rest
-acts_inner t x Ready = (refl, tt)
-acts_inner t x NotReady = (refl, tt)
 acts_inner t x (Interrupt xs) =
     let next : StretchStep = stretch_does (record x { int_out = true; int_down = x.int_down ++ xs ∷ [] }) (Int xs ∷ []) in
     if_inner (nat_le 1 (length xs)) (if nat_le (length xs) 32 then (if x.int_out then stretch_does x [] else next) else stretch_does x []) (stretch_does x [])
     (if_inner (nat_le (length xs) 32) (if x.int_out then stretch_does x [] else next) (stretch_does x []) (if_inner x.int_out (stretch_does x []) next tt (refl, tt)) tt) tt
+acts_inner t x a = (refl, tt)
 
 lifted_inner : (e : ℕ) (s : StretchStep) (n : Option ℕ) → Quiet s.out → Quiet (lifted e s n).out
 lifted_inner e s None h = h
@@ -115,13 +114,9 @@ accepts_inner theirs m i (Some q) =
 acts_phase_inner : (p : Phase) (m i : List CallRequest) (a : CallAct) → Quiet (phase_acts p m i a).out
 acts_phase_inner Unused m i (PlacesCall n) =
     cond_both (may_propose n.params) (goes (Waiting n.params) (m ++ n ∷ []) i (Call n ∷ [])) (goes Unused m i []) (λ (s : CallStep). Quiet s.out) (λ _. (refl, tt)) (λ _. tt)
-acts_phase_inner Unused m i other = tt
-acts_phase_inner (Waiting mine) m i a = tt
 acts_phase_inner (Offered theirs) m i (AcceptsCall answer) = accepts_inner theirs m i answer
-acts_phase_inner (Offered theirs) m i other = tt
-acts_phase_inner (Crossed mine) m i a = tt
 acts_phase_inner (Talking t b x) m i (Talks a) = acts_side_inner t x.epoch x.side a
-acts_phase_inner (Talking t b x) m i other = tt
+acts_phase_inner p m i a_2 = tt
 
 pub acts_call_inner : (x : Connection) (a : CallAct) → Quiet (call_acts x a).out
 acts_call_inner x a = acts_phase_inner x.phase x.made x.indicated a

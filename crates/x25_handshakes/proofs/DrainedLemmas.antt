@@ -52,10 +52,9 @@ rest_a t b x other ma ia mb ib h = absurd h
 
 rest_b : (t b : Terms) (a : Phase) (y : At Stretch) (ma ia mb ib : List CallRequest) → Joint a (Talking t b y) ma ia mb ib [] [] → BothTalk t b y [] [] a
 rest_b t b (Talking t₂ b₂ x) y ma ia mb ib h = record { sends = t₂; takes = b₂; other = x; phase = refl; talks = TalksRelated-flip t₂ b₂ x [] [] t b y h.0 }
-rest_b t b Unused y ma ia mb ib h = absurd h
 rest_b t b (Waiting q) y ma ia mb ib h = absurd h.1
 rest_b t b (Crossed q) y ma ia mb ib h = absurd h.1
-rest_b t b (Offered q) y ma ia mb ib h = absurd h
+rest_b t b a y ma ia mb ib h = absurd h
 
 rest_seen : (r : Role) (t b : Terms) (m i : List CallRequest) (x : At Stretch) (y : Connection) → Seen r (record { phase = Talking t b x; made = m; indicated = i }) [] [] y → BothTalk t b x [] [] y.phase
 rest_seen Dte t b m i x y h = rest_a t b x y.phase m i y.made y.indicated h.joint

@@ -27,8 +27,7 @@ ends_leave mark q is (p ∷ L) ends = ends_step (mark p) L (L ++ q ∷ []) (Ends
 -- what stands before the first marker is as it was, where more goes behind
 before_step : {P : Type 0} (m : Mark) (p : P) (rest : List P) (a : Type 0) (later later₂ : List P) → ends_at m false rest a → (a → later ≡ later₂) → kept_before m p later ≡ kept_before m p later₂
 before_step Inner p rest a later later₂ ends go = ap (λ l. p ∷ l) (go ends)
-before_step Request p rest a later later₂ ends go = refl
-before_step Confirm p rest a later later₂ ends go = refl
+before_step m p rest a later later₂ ends go = refl
 
 before_leave : {P : Type 0} (mark : P → Mark) (q : P) → mark q ≡ Request → (L : List P) → Ends mark false L → before mark (L ++ q ∷ []) ≡ before mark L
 before_leave {P} mark q is [] ends = subst (λ (m : Mark). kept_before {P = P} m q [] ≡ []) (sym is) refl
@@ -89,8 +88,7 @@ confirm_never l p is ex ey x y L K (inr (inr later)) = true≢false (sym later.w
 -- the same behind the first marker
 behind_map : (m : Mark) (here here₂ later later₂ : Type 0) → behind_at m here later → (here → here₂) → (later → later₂) → behind_at m here₂ later₂
 behind_map Inner here here₂ later later₂ b f g = g b
-behind_map Request here here₂ later later₂ b f g = f b
-behind_map Confirm here here₂ later later₂ b f g = f b
+behind_map m here here₂ later later₂ b f g = f b
 
 behind_leave : {P : Type 0} (mark : P → Mark) (q : P) → mark q ≡ Request → (L : List P) → Behind mark false L → Behind mark true (L ++ q ∷ [])
 behind_leave mark q is [] b = absurd b
@@ -101,8 +99,7 @@ behind_leave {P} mark q is (p ∷ L) b = behind_map (mark p) (Ends mark false L)
 past_map : {P Q : Type 0} (f g : List P → Q) (m : Mark) (rest rest₂ past_rest past_rest₂ : List P) (here later : Type 0) → behind_at m here later →
     (here → f rest ≡ g rest₂) → (later → f past_rest ≡ g past_rest₂) → f (kept_past m rest past_rest) ≡ g (kept_past m rest₂ past_rest₂)
 past_map f g Inner rest rest₂ p p₂ here later b h k = k b
-past_map f g Request rest rest₂ p p₂ here later b h k = h b
-past_map f g Confirm rest rest₂ p p₂ here later b h k = h b
+past_map f g m rest rest₂ p p₂ here later b h k = h b
 
 past_leave : {P : Type 0} (mark : P → Mark) (q : P) → mark q ≡ Request → (L : List P) → Behind mark false L → before mark (past mark (L ++ q ∷ [])) ≡ before mark (past mark L)
 past_leave mark q is [] b = absurd b
@@ -319,13 +316,11 @@ marker_same Confirm rest left a never e = absurd e
 
 marker_behind : (m : Mark) (here later : Type 0) → (m ≡ Inner → ⊥) → behind_at m here later → here
 marker_behind Inner here later never b = absurd (never refl)
-marker_behind Request here later never b = b
-marker_behind Confirm here later never b = b
+marker_behind m here later never b = b
 
 marker_past : {P : Type 0} (m : Mark) (rest later : List P) → (m ≡ Inner → ⊥) → kept_past m rest later ≡ rest
 marker_past Inner rest later never = absurd (never refl)
-marker_past Request rest later never = refl
-marker_past Confirm rest later never = refl
+marker_past m rest later never = refl
 
 -- An end that has left takes a request or a confirmation: it is in its next epoch, and sends nothing.
 pub marker_left : {S T P : Type 0} (l : Level S T P) (empty : l.related l.fresh [] [] l.fresh_there) (p : P) → (l.mark p ≡ Inner → ⊥) →

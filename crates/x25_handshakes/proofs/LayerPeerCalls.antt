@@ -55,20 +55,13 @@ accepts_did laws theirs proposed m i (Some q) =
 
 pub call_did : Laws → (a : Phase) → IsKnown a → (m i : List CallRequest) (act : CallAct) → (phase_acts a m i act).error ≡ None → Did_to a m i (phase_acts a m i act)
 call_did laws Unused known m i (PlacesCall n) quiet = places_did m i n
-call_did laws Unused known m i (AcceptsCall answer) quiet = Nothing refl refl
-call_did laws Unused known m i (Talks act) quiet = Nothing refl refl
-call_did laws (Waiting mine) known m i act quiet = Nothing refl refl
 call_did laws (Offered theirs) known m i (AcceptsCall answer) quiet = accepts_did laws theirs known m i answer
-call_did laws (Offered theirs) known m i (PlacesCall n) quiet = Nothing refl refl
-call_did laws (Offered theirs) known m i (Talks act) quiet = Nothing refl refl
-call_did laws (Crossed mine) known m i act quiet = Nothing refl refl
 call_did laws (Talking t b at) known m i (Talks act) quiet =
     did_above (λ y d. MayDoTransfer t.size y.side d) (λ y d. does_transfer y.epoch y.side d) (λ y d. transfer_packet_of y.side d)
     (λ y d. MayDoCall y.stage d) (λ y d. does_call y.stage y.made y.indicated d) (λ y d. call_packet_of y.stage d) (λ y. stands (InData t b y) m i) (λ d. InTransfer d)
     (as_at as_peer_stretch at) (as_at as_peer_stretch (transfer_side_acts t at.epoch at.side act).next) (transfer_side_acts t at.epoch at.side act).out (λ d may. may) (λ d. refl) (λ d. refl)
     (transfer_did t known.0 at.epoch at.side known.1 act quiet)
-call_did laws (Talking t b at) known m i (PlacesCall n) quiet = Nothing refl refl
-call_did laws (Talking t b at) known m i (AcceptsCall answer) quiet = Nothing refl refl
+call_did laws a known m i act_2 quiet = Nothing refl refl
 
 at_once : (s : PeerCallStep) (y : PeerCall) (o : List Packet) → s.next ≡ y → s.out ≡ o → CallHeard s y o
 at_once s y o next out = record { rest = []; split = append-nil s.out ∙ out; did = Nothing next refl }
@@ -86,14 +79,10 @@ answered_heard a mine q m i quiet = by (may_answer mine q) quiet
 pub call_heard : (r : Role) (a : Phase) (m i : List CallRequest) (p : Packet) → (phase_takes r a m i p).error ≡ None
     → CallHeard (call_taking r (as_stage a) m i p) (as_peer_call (phase_takes r a m i p).next) (phase_takes r a m i p).out
 call_heard r Unused m i (Call n) quiet = at_once _ _ _ refl refl
-call_heard r Unused m i other quiet = absurd (cc)
 call_heard Dte (Waiting mine) m i (Call n) quiet = at_once _ _ _ refl refl
 call_heard Dce (Waiting mine) m i (Call n) quiet = at_once _ _ _ refl refl
 call_heard r (Waiting mine) m i (Accept field) quiet = answered_heard (Waiting mine) mine (said_in mine field) m i quiet
-call_heard r (Waiting mine) m i other quiet = absurd (cc)
-call_heard r (Offered theirs) m i p quiet = absurd (cc)
 call_heard r (Crossed mine) m i (Accept field) quiet = answered_heard (Crossed mine) mine (said_in mine field) m i quiet
-call_heard r (Crossed mine) m i other quiet = absurd (cc)
 call_heard r (Talking t b at) m i p quiet =
     let h : TransferHeard t.size (transfer_taking at.epoch (as_side as_peer_stretch at.side) p) (as_at as_peer_stretch (transfer_side_takes b.size at.epoch at.side p).next) (transfer_side_takes b.size at.epoch at.side p).out =
     transfer_heard t.size b.size at.epoch at.side p quiet in
@@ -104,6 +93,7 @@ call_heard r (Talking t b at) m i p quiet =
           (λ y d. MayDoCall y.stage d) (λ y d. does_call y.stage y.made y.indicated d) (λ y d. call_packet_of y.stage d) (λ y. stands (InData t b y) m i) (λ d. InTransfer d)
           (transfer_taking at.epoch (as_side as_peer_stretch at.side) p).next (as_at as_peer_stretch (transfer_side_takes b.size at.epoch at.side p).next) h.rest (λ d may. may) (λ d. refl) (λ d. refl) h.did;
     }
+call_heard r a m i p_2 quiet = absurd (cc)
 
 -- ---- a channel
 

@@ -42,9 +42,6 @@ talk_known : (t b : Terms) (x : At Stretch) (u v : List Packet) (t₂ b₂ : Ter
 talk_known t b x u v t₂ b₂ y h = (h.sound.window, fit t b x.epoch y.epoch x.side y.side u v h.related.hand)
 
 dte_known : (a b : Phase) (ma ia mb ib : List CallRequest) (u v : List Packet) → Joint a b ma ia mb ib u v → IsKnown a
-dte_known Unused b ma ia mb ib u v h = tt
-dte_known (Waiting p) b ma ia mb ib u v h = tt
-dte_known (Crossed p) b ma ia mb ib u v h = tt
 dte_known (Offered p) (Waiting q) ma ia mb ib u v h = ap may_propose h.4.same ∙ h.4.allowed
 dte_known (Offered p) other ma ia mb ib u v h = absurd h
 dte_known (Talking t b x) (Waiting q) ma ia mb ib u v h =
@@ -52,11 +49,9 @@ dte_known (Talking t b x) (Waiting q) ma ia mb ib u v h =
     talk_known t b x some.0 [] b t fresh_transfer some.1
 dte_known (Talking t b x) (Talking t₂ b₂ y) ma ia mb ib u v h = talk_known t b x u v t₂ b₂ y h.0
 dte_known (Talking t b x) other ma ia mb ib u v h = absurd h
+dte_known a b ma ia mb ib u v h = tt
 
 dce_known : (a b : Phase) (ma ia mb ib : List CallRequest) (u v : List Packet) → Joint a b ma ia mb ib u v → IsKnown b
-dce_known a Unused ma ia mb ib u v h = tt
-dce_known a (Waiting q) ma ia mb ib u v h = tt
-dce_known a (Crossed q) ma ia mb ib u v h = tt
 dce_known (Waiting p) (Offered q) ma ia mb ib u v h = ap may_propose h.4.same ∙ h.4.allowed
 dce_known (Crossed p) (Offered q) ma ia mb ib u v h = ap may_propose h.4.same ∙ h.4.allowed
 dce_known other (Offered q) ma ia mb ib u v h = absurd h
@@ -68,6 +63,7 @@ dce_known (Crossed p) (Talking t b y) ma ia mb ib u v h =
     talk_known t b y some.0 [] b t fresh_transfer (TalksRelated-flip b t fresh_transfer [] some.0 t b y some.1)
 dce_known (Talking t b x) (Talking t₂ b₂ y) ma ia mb ib u v h = talk_known t₂ b₂ y v u t b x (TalksRelated-flip t b x u v t₂ b₂ y h.0)
 dce_known other (Talking t b y) ma ia mb ib u v h = absurd h
+dce_known a b ma ia mb ib u v h = tt
 
 seen_known : (r : Role) (x : Connection) (u v : List Packet) (y : Connection) → Seen r x u v y → IsKnown x.phase
 seen_known Dte x u v y h = dte_known x.phase y.phase x.made x.indicated y.made y.indicated u v h.joint
@@ -196,8 +192,7 @@ found_none p e none = ap (λ f. layer_found p f) none ∙ at p
 
     at : (p : LayerPacket) → layer_found p None ≡ None
     at (On h p) = on_none p
-    at Restart = refl
-    at RestartConf = refl
+    at p = refl
 
 -- both directions: the first end has this role
 record Both (r : Role) (near far : Side (At Channels)) (out back : List LayerPacket) : Type 0 where

@@ -104,12 +104,7 @@ stretch_heard size b x (Rr r) quiet = by_none size x (Rr r) (ack_ground x r) (ta
 stretch_heard size b x (Rnr r) quiet = by_none size x (Rnr r) (ack_ground x r) (takes_status x false r) quiet (Nothing refl refl)
 stretch_heard size b x (Int xs) quiet = Something Confirms (omega arith) refl refl
 stretch_heard size b x IntConf quiet = hears_confirmed size x x.int_out quiet
-stretch_heard size b x Reset quiet = absurd (cc)
-stretch_heard size b x ResetConf quiet = absurd (cc)
-stretch_heard size b x (Call i) quiet = absurd (cc)
-stretch_heard size b x (Accept field) quiet = absurd (cc)
-stretch_heard size b x Clear quiet = absurd (cc)
-stretch_heard size b x ClearConf quiet = absurd (cc)
+stretch_heard size b x p quiet = absurd (cc)
 
 -- ---- p4
 
@@ -160,11 +155,6 @@ done_at_once size s y o next out = record { rest = []; split = append-nil s.out 
 pub transfer_heard : (size b e : ℕ) (x : Side Stretch) (p : Packet) → (transfer_side_takes b e x p).error ≡ None
     → TransferHeard size (transfer_taking e (as_side as_peer_stretch x) p) (as_at as_peer_stretch (transfer_side_takes b e x p).next) (transfer_side_takes b e x p).out
 transfer_heard size b e (Live x) Reset quiet = done_at_once size (live_taking e (as_peer_stretch x) Reset) _ _ refl refl
-transfer_heard size b e (Live x) ResetConf quiet = absurd (cc)
-transfer_heard size b e (Live x) (Call i) quiet = absurd (cc)
-transfer_heard size b e (Live x) (Accept field) quiet = absurd (cc)
-transfer_heard size b e (Live x) Clear quiet = absurd (cc)
-transfer_heard size b e (Live x) ClearConf quiet = absurd (cc)
 transfer_heard size b e (Live x) (Data s r p) quiet = lifted_heard size b e x (Data s r p) quiet
 transfer_heard size b e (Live x) (Rr r) quiet = lifted_heard size b e x (Rr r) quiet
 transfer_heard size b e (Live x) (Rnr r) quiet = lifted_heard size b e x (Rnr r) quiet
@@ -172,12 +162,9 @@ transfer_heard size b e (Live x) (Int xs) quiet = lifted_heard size b e x (Int x
 transfer_heard size b e (Live x) IntConf quiet = lifted_heard size b e x IntConf quiet
 transfer_heard size b e (Left x) Reset quiet = done_at_once size (left_taking e (as_peer_stretch x) Reset) _ _ refl refl
 transfer_heard size b e (Left x) ResetConf quiet = done_at_once size (left_taking e (as_peer_stretch x) ResetConf) _ _ refl refl
-transfer_heard size b e (Left x) (Call i) quiet = absurd (cc)
-transfer_heard size b e (Left x) (Accept field) quiet = absurd (cc)
-transfer_heard size b e (Left x) Clear quiet = absurd (cc)
-transfer_heard size b e (Left x) ClearConf quiet = absurd (cc)
 transfer_heard size b e (Left x) (Data s r p) quiet = done_at_once size (left_taking e (as_peer_stretch x) (Data s r p)) _ _ refl refl
 transfer_heard size b e (Left x) (Rr r) quiet = done_at_once size (left_taking e (as_peer_stretch x) (Rr r)) _ _ refl refl
 transfer_heard size b e (Left x) (Rnr r) quiet = done_at_once size (left_taking e (as_peer_stretch x) (Rnr r)) _ _ refl refl
 transfer_heard size b e (Left x) (Int xs) quiet = done_at_once size (left_taking e (as_peer_stretch x) (Int xs)) _ _ refl refl
 transfer_heard size b e (Left x) IntConf quiet = done_at_once size (left_taking e (as_peer_stretch x) IntConf) _ _ refl refl
+transfer_heard size b e x p quiet = absurd (cc)

@@ -69,28 +69,24 @@ accept_behind m mine t b R field (Call n ∷ v) h answer r = (h.0, accept_first 
 accept_behind m mine t b R field (other ∷ v) h answer r = absurd h
 
 pub Accepted-map : (mine : Params) (t b : Terms) (R Q : List Packet → Type 0) (o : List Packet) → ((w : List Packet) → R w → Q (w ++ o)) → (u : List Packet) → Accepted mine t b R u → Accepted mine t b Q (u ++ o)
-Accepted-map mine t b R Q o f [] h = absurd h
 Accepted-map mine t b R Q o f (Accept field ∷ u) h = (h.0, f u h.1)
-Accepted-map mine t b R Q o f (other ∷ u) h = absurd h
+Accepted-map mine t b R Q o f u h = absurd h
 
 pub CallAccepted-map : (mine : Params) (t b : Terms) (R Q : List Packet → Type 0) (o : List Packet) → ((w : List Packet) → R w → Q (w ++ o)) → (m : List CallRequest) (u : List Packet)
     → CallAccepted m mine t b R u → CallAccepted m mine t b Q (u ++ o)
-CallAccepted-map mine t b R Q o f m [] h = absurd h
 CallAccepted-map mine t b R Q o f m (Call n ∷ u) h = (h.0, Accepted-map mine t b R Q o f u h.1)
 CallAccepted-map mine t b R Q o f m (Accept field ∷ u) h = (h.0, h.1, f u h.2)
-CallAccepted-map mine t b R Q o f m (other ∷ u) h = absurd h
+CallAccepted-map mine t b R Q o f m u h = absurd h
 
 -- what R says holds of some line
 pub Accepted-some : (mine : Params) (t b : Terms) (R : List Packet → Type 0) (u : List Packet) → Accepted mine t b R u → (w : List Packet) × R w
-Accepted-some mine t b R [] h = absurd h
 Accepted-some mine t b R (Accept field ∷ u) h = (u, h.1)
-Accepted-some mine t b R (other ∷ u) h = absurd h
+Accepted-some mine t b R u h = absurd h
 
 pub CallAccepted-some : (mine : Params) (t b : Terms) (R : List Packet → Type 0) (m : List CallRequest) (u : List Packet) → CallAccepted m mine t b R u → (w : List Packet) × R w
-CallAccepted-some mine t b R m [] h = absurd h
 CallAccepted-some mine t b R m (Call n ∷ u) h = Accepted-some mine t b R u h.1
 CallAccepted-some mine t b R m (Accept field ∷ u) h = (u, h.2)
-CallAccepted-some mine t b R m (other ∷ u) h = absurd h
+CallAccepted-some mine t b R m u h = absurd h
 
 -- ---- our own end is the DTE
 

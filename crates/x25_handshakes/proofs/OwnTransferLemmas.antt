@@ -16,12 +16,7 @@ inner_mark (Rr r) is = refl
 inner_mark (Rnr r) is = refl
 inner_mark (Int xs) is = refl
 inner_mark IntConf is = refl
-inner_mark Reset is = absurd is
-inner_mark ResetConf is = absurd is
-inner_mark (Call i) is = absurd is
-inner_mark (Accept field) is = absurd is
-inner_mark Clear is = absurd is
-inner_mark ClearConf is = absurd is
+inner_mark p is = absurd is
 
 pub in_transfer : (p : Packet) → InFlowControl p → InTransfer p
 in_transfer (Data s r p) is = tt
@@ -29,12 +24,7 @@ in_transfer (Rr r) is = tt
 in_transfer (Rnr r) is = tt
 in_transfer (Int xs) is = tt
 in_transfer IntConf is = tt
-in_transfer Reset is = absurd is
-in_transfer ResetConf is = absurd is
-in_transfer (Call i) is = absurd is
-in_transfer (Accept field) is = absurd is
-in_transfer Clear is = absurd is
-in_transfer ClearConf is = absurd is
+in_transfer p is = absurd is
 
 pub AllInFlowControl-back : (u o : List Packet) → AllInFlowControl (u ++ o) → AllInFlowControl o
 AllInFlowControl-back [] o h = h
@@ -115,10 +105,7 @@ module _ {T : Type 0} (R : Stretch → List Packet → List Packet → T → Typ
     };
   }
   own_d1 e x L ResetConf K y h = absurd (confirm_never (own_level R y₀) ResetConf refl e y.epoch x y.side L K h.hand)
-  own_d1 e x L (Call i) K y h = absurd h.back.0
-  own_d1 e x L (Accept field) K y h = absurd h.back.0
-  own_d1 e x L Clear K y h = absurd h.back.0
-  own_d1 e x L ClearConf K y h = absurd h.back.0
+  own_d1 e x L p K y h = absurd h.back.0
 
   own_drops : (e : ℕ) (x : Stretch) (L : List Packet) (p : Packet) (K : List Packet) (y : At T) → reset_mark p ≡ Inner → OwnTransfer R y₀ (rst e x) L (p ∷ K) y
       → GoodOwnTransfer R y₀ (record { next = rst e x; out = []; error = None }) L K y
@@ -138,10 +125,7 @@ module _ {T : Type 0} (R : Stretch → List Packet → List Packet → T → Typ
   own_rst e x L IntConf K y h = own_drops e x L IntConf K y refl h
   own_rst e x L Reset K y h = own_mark e x L Reset K y (λ q. cc) h
   own_rst e x L ResetConf K y h = own_mark e x L ResetConf K y (λ q. cc) h
-  own_rst e x L (Call i) K y h = absurd h.back.0
-  own_rst e x L (Accept field) K y h = absurd h.back.0
-  own_rst e x L Clear K y h = absurd h.back.0
-  own_rst e x L ClearConf K y h = absurd h.back.0
+  own_rst e x L p K y h = absurd h.back.0
 
   own_side : (e : ℕ) (x : Side Stretch) (L : List Packet) (p : Packet) (K : List Packet) (y : At T) → OwnTransfer R y₀ (record { epoch = e; side = x }) L (p ∷ K) y
       → GoodOwnTransfer R y₀ (transfer_side_takes size e x p) L K y

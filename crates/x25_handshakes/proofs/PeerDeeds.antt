@@ -185,9 +185,4 @@ taking_kept t size x IntConf u v y h =
         kinds = h.back.kinds;
       };
     }
-taking_kept t size x Reset u v y h = absurd h.there.kinds.0
-taking_kept t size x ResetConf u v y h = absurd h.there.kinds.0
-taking_kept t size x (Call i) u v y h = absurd h.there.kinds.0
-taking_kept t size x (Accept field) u v y h = absurd h.there.kinds.0
-taking_kept t size x Clear u v y h = absurd h.there.kinds.0
-taking_kept t size x ClearConf u v y h = absurd h.there.kinds.0
+taking_kept t size x other u v y h = absurd h.there.kinds.0

@@ -131,57 +131,47 @@ dte_order : (a : Phase) (b : Stage (At PeerStretch)) (ma ia mb ib : List CallReq
     → IsPrefix ia mb × IsPrefix ib ma × StretchesAreInOrder (transfer_of a) (peer_transfer_of b)
 dte_order Unused Free ma ia mb ib u v h = (none_begins ia mb h.3, none_begins ib ma h.5, fresh_order)
 dte_order Unused (Calling q) ma ia mb ib u v h = (none_begins ia mb h.3, none_begins ib ma h.4, fresh_order)
-dte_order Unused other ma ia mb ib u v h = absurd h
 dte_order (Waiting p) Free ma ia mb ib u v h = (none_begins ia mb h.2, none_begins ib ma h.4, fresh_order)
 dte_order (Waiting p) (Calling q) ma ia mb ib u v h = (none_begins ia mb h.2, none_begins ib ma h.3, fresh_order)
 dte_order (Waiting p) (Called q) ma ia mb ib u v h = (none_begins ia mb h.2, all_begins ib ma h.3, fresh_order)
-dte_order (Waiting p) (Collided q) ma ia mb ib u v h = absurd h
 dte_order (Waiting p) (InData t k y) ma ia mb ib u v h =
     let some = CallAccepted-some p t k (λ w. PeerTalks k t fresh_transfer [] w t k y) mb v h.1 in
     (none_begins ia mb h.2, all_begins ib ma h.3, talks_order k t fresh_transfer [] some.0 t k y some.1)
-dte_order (Crossed p) Free ma ia mb ib u v h = absurd h
 dte_order (Crossed p) (Calling q) ma ia mb ib u v h = (none_begins ia mb h.2, none_begins ib ma h.3, fresh_order)
 dte_order (Crossed p) (Called q) ma ia mb ib u v h = (none_begins ia mb h.2, all_begins ib ma h.3, fresh_order)
-dte_order (Crossed p) (Collided q) ma ia mb ib u v h = absurd h
 dte_order (Crossed p) (InData t k y) ma ia mb ib u v h =
     let some = Accepted-some p t k (λ w. PeerTalks k t fresh_transfer [] w t k y) v h.1 in
     (none_begins ia mb h.2, all_begins ib ma h.3, talks_order k t fresh_transfer [] some.0 t k y some.1)
 dte_order (Offered p) (Calling q) ma ia mb ib u v h = (all_begins ia mb h.2, none_begins ib ma h.3, fresh_order)
-dte_order (Offered p) other ma ia mb ib u v h = absurd h
 dte_order (Talking t k x) (Calling q) ma ia mb ib u v h =
     let some = Accepted-some q t k (λ w. PeerTalks t k x w [] k t fresh_peer_transfer) u h.0 in
     (all_begins ia mb h.2, none_begins ib ma h.3, talks_order t k x some.0 [] k t fresh_peer_transfer some.1)
 dte_order (Talking t k x) (InData t₂ k₂ y) ma ia mb ib u v (talk, inl e) = (none_begins ia mb e.0, all_begins ib ma e.1, talks_order t k x u v t₂ k₂ y talk)
 dte_order (Talking t k x) (InData t₂ k₂ y) ma ia mb ib u v (talk, inr e) = (all_begins ia mb e.0, none_begins ib ma e.1, talks_order t k x u v t₂ k₂ y talk)
-dte_order (Talking t k x) other ma ia mb ib u v h = absurd h
+dte_order a b ma ia mb ib u v h = absurd h
 
 dce_order : (a : Stage (At PeerStretch)) (b : Phase) (ma ia mb ib : List CallRequest) (u v : List Packet) → JointOf TalksPeer fresh_peer_transfer fresh_transfer a (stage_of b) ma ia mb ib u v
     → IsPrefix ib ma × IsPrefix ia mb × StretchesAreInOrder (transfer_of b) (peer_transfer_of a)
 dce_order Free Unused ma ia mb ib u v h = (none_begins ib ma h.5, none_begins ia mb h.3, fresh_order)
 dce_order Free (Waiting q) ma ia mb ib u v h = (none_begins ib ma h.4, none_begins ia mb h.3, fresh_order)
-dce_order Free other ma ia mb ib u v h = absurd h
 dce_order (Calling p) Unused ma ia mb ib u v h = (none_begins ib ma h.4, none_begins ia mb h.2, fresh_order)
 dce_order (Calling p) (Waiting q) ma ia mb ib u v h = (none_begins ib ma h.3, none_begins ia mb h.2, fresh_order)
 dce_order (Calling p) (Offered q) ma ia mb ib u v h = (all_begins ib ma h.3, none_begins ia mb h.2, fresh_order)
-dce_order (Calling p) (Crossed q) ma ia mb ib u v h = absurd h
 dce_order (Calling p) (Talking t k x) ma ia mb ib u v h =
     let some = CallAccepted-some p t k (λ w. TalksPeer k t fresh_peer_transfer [] w t k x) mb v h.1 in
     (all_begins ib ma h.3, none_begins ia mb h.2, talks_order t k x some.0 [] k t fresh_peer_transfer some.1)
-dce_order (Collided p) Unused ma ia mb ib u v h = absurd h
 dce_order (Collided p) (Waiting q) ma ia mb ib u v h = (none_begins ib ma h.3, none_begins ia mb h.2, fresh_order)
 dce_order (Collided p) (Offered q) ma ia mb ib u v h = (all_begins ib ma h.3, none_begins ia mb h.2, fresh_order)
-dce_order (Collided p) (Crossed q) ma ia mb ib u v h = absurd h
 dce_order (Collided p) (Talking t k x) ma ia mb ib u v h =
     let some = Accepted-some p t k (λ w. TalksPeer k t fresh_peer_transfer [] w t k x) v h.1 in
     (all_begins ib ma h.3, none_begins ia mb h.2, talks_order t k x some.0 [] k t fresh_peer_transfer some.1)
 dce_order (Called p) (Waiting q) ma ia mb ib u v h = (none_begins ib ma h.3, all_begins ia mb h.2, fresh_order)
-dce_order (Called p) other ma ia mb ib u v h = absurd h
 dce_order (InData t k y) (Waiting q) ma ia mb ib u v h =
     let some = Accepted-some q t k (λ w. TalksPeer t k y w [] k t fresh_transfer) u h.0 in
     (none_begins ib ma h.3, all_begins ia mb h.2, talks_order k t fresh_transfer [] some.0 t k y some.1)
 dce_order (InData t k y) (Talking t₂ k₂ x) ma ia mb ib u v (talk, inl e) = (all_begins ib ma e.1, none_begins ia mb e.0, talks_order t₂ k₂ x v u t k y talk)
 dce_order (InData t k y) (Talking t₂ k₂ x) ma ia mb ib u v (talk, inr e) = (none_begins ib ma e.1, all_begins ia mb e.0, talks_order t₂ k₂ x v u t k y talk)
-dce_order (InData t k y) other ma ia mb ib u v h = absurd h
+dce_order a b ma ia mb ib u v h = absurd h
 
 call_order : (r : Role) (x : Connection) (u v : List Packet) (y : PeerCall) → PeerSeen r x u v y → CallIsInOrder x y
 call_order Dte x u v y h = let o = dte_order x.phase y.stage x.made x.indicated y.made y.indicated u v h in record { up = o.0; there = o.1; stretches = o.2 }

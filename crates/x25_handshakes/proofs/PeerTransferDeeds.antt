@@ -23,17 +23,9 @@ open_deed y (Interrupts xs) = tt
 open_deed y Confirms = tt
 
 no_reset_mark : (p : Packet) → IsNoReset p → reset_mark p ≡ Inner
-no_reset_mark (Data s r p) is = refl
-no_reset_mark (Rr r) is = refl
-no_reset_mark (Rnr r) is = refl
-no_reset_mark (Int xs) is = refl
-no_reset_mark IntConf is = refl
 no_reset_mark Reset is = absurd is
 no_reset_mark ResetConf is = absurd is
-no_reset_mark (Call i) is = refl
-no_reset_mark (Accept field) is = refl
-no_reset_mark Clear is = refl
-no_reset_mark ClearConf is = refl
+no_reset_mark p is = refl
 
 no_resets_inner : (ps : List Packet) → AreNoResets ps → AllInner reset_mark ps
 no_resets_inner [] h = tt
@@ -118,10 +110,7 @@ module _ (t : Terms) (size : ℕ) where
     back = AllInTransfer-append K (ResetConf ∷ []) h.back (tt, tt);
   }
   live_kept x ResetConf L K e y h = absurd (confirm_never (flip (peer_level t size)) ResetConf refl e x.epoch y x.side K L (seen x (ResetConf ∷ L) K (peer_d1 e y) h.hand))
-  live_kept x (Call i) L K e y h = absurd h.there.0
-  live_kept x (Accept field) L K e y h = absurd h.there.0
-  live_kept x Clear L K e y h = absurd h.there.0
-  live_kept x ClearConf L K e y h = absurd h.there.0
+  live_kept x p L K e y h = absurd h.there.0
 
   left_kept : (x : At Stretch) (p : Packet) (L K : List Packet) (e : ℕ) (y : PeerStretch) → KeptTransfer t size x (p ∷ L) K (peer_rst e y) → StepKept x L K (left_taking e y p)
   left_kept x (Data s r p) L K e y h = dropped_kept x (Data s r p) L K e y refl h
@@ -131,10 +120,7 @@ module _ (t : Terms) (size : ℕ) where
   left_kept x IntConf L K e y h = dropped_kept x IntConf L K e y refl h
   left_kept x Reset L K e y h = ended_kept x Reset L K e y (λ q. cc) h
   left_kept x ResetConf L K e y h = ended_kept x ResetConf L K e y (λ q. cc) h
-  left_kept x (Call i) L K e y h = absurd h.there.0
-  left_kept x (Accept field) L K e y h = absurd h.there.0
-  left_kept x Clear L K e y h = absurd h.there.0
-  left_kept x ClearConf L K e y h = absurd h.there.0
+  left_kept x p L K e y h = absurd h.there.0
 
   pub takes_kept : (x : At Stretch) (p : Packet) (L K : List Packet) (e : ℕ) (y : Side PeerStretch) → KeptTransfer t size x (p ∷ L) K (record { epoch = e; side = y }) → StepKept x L K (transfer_taking e y p)
   takes_kept x p L K e (Live y) h = live_kept x p L K e y h

@@ -176,25 +176,23 @@ messages_taken : (size : ℕ) (x : Stretch) (p : Packet) → (stretch_takes size
 messages_taken size x (Data s r p) = same_by (λ y. y.down) x (data_ground size x s r p) (takes_data x r p) refl
 messages_taken size x (Rr r) = same_by (λ y. y.down) x (ack_ground x r) (takes_status x true r) refl
 messages_taken size x (Rnr r) = same_by (λ y. y.down) x (ack_ground x r) (takes_status x false r) refl
-messages_taken size x (Int xs) = refl
 messages_taken size x IntConf = test x.int_out
   where
     test : (b : Bool) → (if b then stretch_does (record x { int_out = false }) [] else stretch_fails x 43).next.down ≡ x.down
     test true = refl
     test false = refl
-messages_taken size x other = refl
+messages_taken size x p = refl
 
 interrupts_taken : (size : ℕ) (x : Stretch) (p : Packet) → (stretch_takes size x p).next.int_down ≡ x.int_down
 interrupts_taken size x (Data s r p) = same_by (λ y. y.int_down) x (data_ground size x s r p) (takes_data x r p) refl
 interrupts_taken size x (Rr r) = same_by (λ y. y.int_down) x (ack_ground x r) (takes_status x true r) refl
 interrupts_taken size x (Rnr r) = same_by (λ y. y.int_down) x (ack_ground x r) (takes_status x false r) refl
-interrupts_taken size x (Int xs) = refl
 interrupts_taken size x IntConf = test x.int_out
   where
     test : (b : Bool) → (if b then stretch_does (record x { int_out = false }) [] else stretch_fails x 43).next.int_down ≡ x.int_down
     test true = refl
     test false = refl
-interrupts_taken size x other = refl
+interrupts_taken size x p = refl
 
 abbrev Quiet : {M : Type 0} → (Stretch → List M) → (Stretch → List M) → Stretch → StretchStep → Type 0
 Quiet down up x s = IsPrefix (down x) (down s.next) × (up s.next ≡ up x)
@@ -213,11 +211,10 @@ messages_acted t x (Send q xs) =
     if_quiet (λ y. y.down) (λ y. y.up) x (nat_le (length xs) 65535) _ _
     (if_quiet (λ y. y.down) (λ y. y.up) x (nat_lt (wholes x.rest) 8) _ _ ((record { q = q; user = xs } ∷ [], refl), refl) (alike x.down, refl)) (alike x.down, refl)
 messages_acted t x Pull = messages_pulled t x x.rest
-messages_acted t x Ready = (alike x.down, refl)
-messages_acted t x NotReady = (alike x.down, refl)
 messages_acted t x (Interrupt xs) =
     if_quiet (λ y. y.down) (λ y. y.up) x (nat_le 1 (length xs)) _ _
     (if_quiet (λ y. y.down) (λ y. y.up) x (nat_le (length xs) 32) _ _ (if_quiet (λ y. y.down) (λ y. y.up) x x.int_out _ _ (alike x.down, refl) (alike x.down, refl)) (alike x.down, refl)) (alike x.down, refl)
+messages_acted t x a = (alike x.down, refl)
 
 interrupts_pulled : (t : Terms) (x : Stretch) (ps : List Piece) → Quiet (λ y. y.int_down) (λ y. y.int_up) x (pulls t x ps)
 interrupts_pulled t x [] = (alike x.int_down, refl)
@@ -230,12 +227,11 @@ interrupts_acted t x (Send q xs) =
     if_quiet (λ y. y.int_down) (λ y. y.int_up) x (nat_le (length xs) 65535) _ _
     (if_quiet (λ y. y.int_down) (λ y. y.int_up) x (nat_lt (wholes x.rest) 8) _ _ (alike x.int_down, refl) (alike x.int_down, refl)) (alike x.int_down, refl)
 interrupts_acted t x Pull = interrupts_pulled t x x.rest
-interrupts_acted t x Ready = (alike x.int_down, refl)
-interrupts_acted t x NotReady = (alike x.int_down, refl)
 interrupts_acted t x (Interrupt xs) =
     if_quiet (λ y. y.int_down) (λ y. y.int_up) x (nat_le 1 (length xs)) _ _
     (if_quiet (λ y. y.int_down) (λ y. y.int_up) x (nat_le (length xs) 32) _ _ (if_quiet (λ y. y.int_down) (λ y. y.int_up) x x.int_out _ _ (alike x.int_down, refl) ((xs ∷ [], refl), refl)) (alike x.int_down, refl))
     (alike x.int_down, refl)
+interrupts_acted t x a = (alike x.int_down, refl)
 
 pub messages_handled : IsHandled messages
 messages_handled = handled (λ x. x.down) (λ x. x.up) (record { down_fresh = refl; up_fresh = refl; takes = messages_taken; acts = messages_acted; begins = λ giver u taker h. h.begins })

@@ -273,12 +273,7 @@ GoodDirections-takes t b sound x u IntConf v y h =
     let is : x.int_out ≡ true = Ints-out x.int_out x.int_down y.int_up u v h.there.ints in
     subst (λ (o : Bool). GoodDirections t b (if o then stretch_does (record x { int_out = false }) [] else stretch_fails x 43) u v y) (sym is)
     (GoodDirections-still t b (record x { int_out = false }) u v y (DirectionsRelated-take-conf t b x u v y is h))
-GoodDirections-takes t b sound x u Reset v y h = absurd h.back.kinds.0
-GoodDirections-takes t b sound x u ResetConf v y h = absurd h.back.kinds.0
-GoodDirections-takes t b sound x u (Call i) v y h = absurd h.back.kinds.0
-GoodDirections-takes t b sound x u (Accept field) v y h = absurd h.back.kinds.0
-GoodDirections-takes t b sound x u Clear v y h = absurd h.back.kinds.0
-GoodDirections-takes t b sound x u ClearConf v y h = absurd h.back.kinds.0
+GoodDirections-takes t b sound x u p v y h = absurd h.back.kinds.0
 
 -- ---- both, with what each end tells the other
 

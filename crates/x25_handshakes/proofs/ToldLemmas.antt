@@ -124,9 +124,4 @@ tells_take size x u (Int xs) v y quiet told told_back = (
   told_pass (record x { int_up = x.int_up ++ xs ∷ [] }) u y IntConf refl (λ b. refl) (record { acks = told_back.acks; ready = told_back.ready }),
 )
 tells_take size x u IntConf v y quiet told told_back = told_take_conf x u v y x.int_out quiet (record { acks = told.acks; ready = told.ready }) told_back
-tells_take size x u Reset v y quiet told told_back = absurd (none-some 0 (sym quiet))
-tells_take size x u ResetConf v y quiet told told_back = absurd (none-some 0 (sym quiet))
-tells_take size x u (Call i) v y quiet told told_back = absurd (none-some 0 (sym quiet))
-tells_take size x u (Accept field) v y quiet told told_back = absurd (none-some 0 (sym quiet))
-tells_take size x u Clear v y quiet told told_back = absurd (none-some 0 (sym quiet))
-tells_take size x u ClearConf v y quiet told told_back = absurd (none-some 0 (sym quiet))
+tells_take size x u p v y quiet told told_back = absurd (none-some 0 (sym quiet))

@@ -87,11 +87,9 @@ turn_taken kind handled A k r e (Live x) (On h q) f =
     (λ is. channel_taken kind handled A r (x h).epoch (x h).side q
     (λ c side mark. subst (λ (j : ℕ). WithinCall kind A (x j).epoch c (call_takes r c q).next) is
     (f x q c refl (ap (λ j. On j q) (sym is)) (ap (λ j. (x j).side) is ∙ side) mark))))
-turn_taken kind handled A k r e (Live x) Restart f = Restarted (omega arith) handled.fresh
 turn_taken kind handled A k r e (Live x) RestartConf f = Remained refl (still kind A (x k))
 turn_taken kind handled A k r e (Left x) (On h q) f = Remained refl (still kind A (x k))
-turn_taken kind handled A k r e (Left x) Restart f = Restarted (omega arith) handled.fresh
-turn_taken kind handled A k r e (Left x) RestartConf f = Restarted (omega arith) handled.fresh
+turn_taken kind handled A k r e x p f = Restarted (omega arith) handled.fresh
 
 pub turn_acted : {M : Type 0} (kind : Kind M) → IsHandled kind → (A : List M → Type 0) (k : ℕ) (e : ℕ) (x : Side Channels) (a : LayerAct)
     → Turn kind A k (record { epoch = e; side = x }) (layer_side_acts e x a).next

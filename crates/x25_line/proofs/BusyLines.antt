@@ -12,25 +12,12 @@ pub silent_stays : (r n : ℕ) (fs : List PlainFrame) (m : ℕ) → AreNext r n 
 silent_stays r n [] m h none = sym h
 silent_stays r n (rr command nr pf ∷ fs) m h none = silent_stays r n fs m h.3 none
 silent_stays r n (info ns nr p x ∷ fs) m h none = absurd none
-silent_stays r n (rej command nr pf ∷ fs) m h none = absurd h
-silent_stays r n (rnr command nr pf ∷ fs) m h none = absurd h
-silent_stays r n (sabm p ∷ fs) m h none = absurd h
-silent_stays r n (disc p ∷ fs) m h none = absurd h
-silent_stays r n (ua p ∷ fs) m h none = absurd h
-silent_stays r n (dm p ∷ fs) m h none = absurd h
-silent_stays r n (frmr p why ∷ fs) m h none = absurd h
+silent_stays r n (frame ∷ fs) m h none = absurd h
 
 pub none_behind : (fs es : List PlainFrame) → NoInfo (fs ++ es) → NoInfo es
 none_behind [] es h = h
 none_behind (info ns nr p x ∷ fs) es h = absurd h
-none_behind (rr command nr pf ∷ fs) es h = none_behind fs es h
-none_behind (rnr command nr pf ∷ fs) es h = none_behind fs es h
-none_behind (rej command nr pf ∷ fs) es h = none_behind fs es h
-none_behind (sabm p ∷ fs) es h = none_behind fs es h
-none_behind (disc p ∷ fs) es h = none_behind fs es h
-none_behind (ua p ∷ fs) es h = none_behind fs es h
-none_behind (dm p ∷ fs) es h = none_behind fs es h
-none_behind (frmr p why ∷ fs) es h = none_behind fs es h
+none_behind (frame ∷ fs) es h = none_behind fs es h
 
 -- nothing, or one poll
 abbrev pub AtMostAsks : List PlainFrame → Type 0
@@ -43,19 +30,7 @@ pub asks_or_not : (fs : List PlainFrame) → AtMostAsks fs → (fs ≡ []) ⊎ (
 asks_or_not [] asks = inl refl
 asks_or_not (rr true nr true ∷ []) asks = inr (false, nr, refl)
 asks_or_not (rnr true nr true ∷ []) asks = inr (true, nr, refl)
-asks_or_not (rr true nr true ∷ f ∷ fs) asks = absurd asks
-asks_or_not (rr true nr false ∷ fs) asks = absurd asks
-asks_or_not (rr false nr pf ∷ fs) asks = absurd asks
-asks_or_not (rnr true nr true ∷ f ∷ fs) asks = absurd asks
-asks_or_not (rnr true nr false ∷ fs) asks = absurd asks
-asks_or_not (rnr false nr pf ∷ fs) asks = absurd asks
-asks_or_not (info ns nr p x ∷ fs) asks = absurd asks
-asks_or_not (rej command nr pf ∷ fs) asks = absurd asks
-asks_or_not (sabm p ∷ fs) asks = absurd asks
-asks_or_not (disc p ∷ fs) asks = absurd asks
-asks_or_not (ua p ∷ fs) asks = absurd asks
-asks_or_not (dm p ∷ fs) asks = absurd asks
-asks_or_not (frmr p why ∷ fs) asks = absurd asks
+asks_or_not fs asks = absurd asks
 
 -- ---- what an end will hear of whether the other is busy
 
@@ -68,54 +43,32 @@ hears_busy b (f ∷ fs) = hears_busy b fs
 
 pub hears_more : (b : Bool) (fs es : List PlainFrame) → hears_busy b (fs ++ es) ≡ hears_busy (hears_busy b fs) es
 hears_more b [] es = refl
-hears_more b (info ns nr p x ∷ fs) es = hears_more b fs es
 hears_more b (rr command nr pf ∷ fs) es = hears_more false fs es
 hears_more b (rnr command nr pf ∷ fs) es = hears_more true fs es
 hears_more b (rej command nr pf ∷ fs) es = hears_more false fs es
-hears_more b (sabm p ∷ fs) es = hears_more b fs es
-hears_more b (disc p ∷ fs) es = hears_more b fs es
-hears_more b (ua p ∷ fs) es = hears_more b fs es
-hears_more b (dm p ∷ fs) es = hears_more b fs es
-hears_more b (frmr p why ∷ fs) es = hears_more b fs es
+hears_more b (frame ∷ fs) es = hears_more b fs es
 
 -- what is heard as busy was said so last
 busy_said : (b x : Bool) (fs : List PlainFrame) → (b ≡ true → x ≡ true) → hears_busy b fs ≡ true → said_last x fs ≡ true
 busy_said b x [] h e = h e
-busy_said b x (info ns nr p y ∷ fs) h e = busy_said b x fs h e
 busy_said b x (rr command nr pf ∷ fs) h e = busy_said false false fs (λ g. g) e
 busy_said b x (rnr command nr pf ∷ fs) h e = busy_said true true fs (λ g. g) e
 busy_said b x (rej command nr pf ∷ fs) h e = busy_said false x fs (λ g. not_both true refl (sym g)) e
-busy_said b x (sabm p ∷ fs) h e = busy_said b x fs h e
-busy_said b x (disc p ∷ fs) h e = busy_said b x fs h e
-busy_said b x (ua p ∷ fs) h e = busy_said b x fs h e
-busy_said b x (dm p ∷ fs) h e = busy_said b x fs h e
-busy_said b x (frmr p why ∷ fs) h e = busy_said b x fs h e
+busy_said b x (frame ∷ fs) h e = busy_said b x fs h e
 
 -- it is heard to be free again by an RR or REJ alone
 free_said : (fs : List PlainFrame) → hears_busy true fs ≡ false → says_free fs ≡ true
 free_said [] e = not_both true refl e
-free_said (info ns nr p y ∷ fs) e = free_said fs e
 free_said (rr command nr pf ∷ fs) e = refl
-free_said (rnr command nr pf ∷ fs) e = free_said fs e
 free_said (rej command nr pf ∷ fs) e = refl
-free_said (sabm p ∷ fs) e = free_said fs e
-free_said (disc p ∷ fs) e = free_said fs e
-free_said (ua p ∷ fs) e = free_said fs e
-free_said (dm p ∷ fs) e = free_said fs e
-free_said (frmr p why ∷ fs) e = free_said fs e
+free_said (frame ∷ fs) e = free_said fs e
 
 -- no RNR is among frames of this kind
 pub tells_free : (r nr : ℕ) (gs : List PlainFrame) → LastTells r nr gs → hears_busy false gs ≡ false
 tells_free r nr [] h = refl
 tells_free r nr (info ns k p x ∷ gs) h = tells_free r k gs h.1
 tells_free r nr (rr command k pf ∷ gs) h = tells_free r k gs h.1
-tells_free r nr (rej command k pf ∷ gs) h = absurd h
-tells_free r nr (rnr command k pf ∷ gs) h = absurd h
-tells_free r nr (sabm p ∷ gs) h = absurd h
-tells_free r nr (disc p ∷ gs) h = absurd h
-tells_free r nr (ua p ∷ gs) h = absurd h
-tells_free r nr (dm p ∷ gs) h = absurd h
-tells_free r nr (frmr p why ∷ gs) h = absurd h
+tells_free r nr (frame ∷ gs) h = absurd h
 
 -- who is heard to be busy in the end said so last, and who is heard to be free is
 abbrev pub Told : Bool → LinkStation → Type 0

@@ -191,13 +191,7 @@ module _ (c d : Settings) (joined : AreJoined c d) (reads : ReadsSpelled) (laws 
   near_withheld w b h number (rr false nr true ∷ gs) back tells told = not_both true refl tells.0
   near_withheld w b h number (rr command nr false ∷ gs) back tells told =
       near_goes_on w b (free_again w nr gs tells.1 told) (near_ready (Unit {0}) c d joined reads laws w (ups w b) (ready_again w h) command nr gs back tells.1)
-  near_withheld w b h number (rnr command nr pf ∷ gs) back tells told = absurd tells
-  near_withheld w b h number (rej command nr pf ∷ gs) back tells told = absurd tells
-  near_withheld w b h number (sabm p ∷ gs) back tells told = absurd tells
-  near_withheld w b h number (disc p ∷ gs) back tells told = absurd tells
-  near_withheld w b h number (ua p ∷ gs) back tells told = absurd tells
-  near_withheld w b h number (dm p ∷ gs) back tells told = absurd tells
-  near_withheld w b h number (frmr p why ∷ gs) back tells told = absurd tells
+  near_withheld w b h number (frame ∷ gs) back tells told = absurd tells
 
   -- the poll of the busy far end, which has all that there is
   near_rested : (w : Stations) → Pair c d w → Polled c d w → Heals c d (acts c Deliver w)

@@ -65,15 +65,7 @@ more_high m false = omega arith
 
 read_other : (back low now : ℕ) (r : Result PlainFrame FrameError) → read_weight back now r ≤ read_weight back low r + 8 * back
 read_other back low now (Ok (info ns nr p x)) = omega (arith, more_high (8 * back) (ns == (now + 7) % 8))
-read_other back low now (Ok (rr command nr pf)) = omega arith
-read_other back low now (Ok (rnr command nr pf)) = omega arith
-read_other back low now (Ok (rej command nr pf)) = omega arith
-read_other back low now (Ok (sabm p)) = omega arith
-read_other back low now (Ok (disc p)) = omega arith
-read_other back low now (Ok (ua f)) = omega arith
-read_other back low now (Ok (dm f)) = omega arith
-read_other back low now (Ok (frmr f why)) = omega arith
-read_other back low now (Err e) = omega arith
+read_other back low now r = omega arith
 
 line_other : (back low now : ℕ) → 2 ≤ back → (from : Role) (n1 : ℕ) (os : List (List ℕ)) → line_weight back now from n1 os ≤ line_weight back low from n1 os + times (8 * back) (line_weight back low from n1 os)
 line_other back low now some from n1 [] = omega arith
@@ -313,10 +305,8 @@ ended_within : (n1 k : ℕ) (t : Side) → AllWithin n1 t.near.outgoing.given �
 ended_within n1 k t h = subst (AllWithin n1) (sym (ap (λ (l : Lists). l.given) (ended_lists k t))) h
 
 asks_within : (n1 : ℕ) (p : Phase) (t : Side) → AllWithin n1 t.near.outgoing.given → AllWithin n1 (asks_again p t).near.outgoing.given
-asks_within n1 Down t h = h
-asks_within n1 Waiting t h = h
 asks_within n1 Up t h = side_if n1 (is_busy t.near) _ _ h h
-asks_within n1 Closed t h = h
+asks_within n1 p t h = h
 
 fires_within : (n1 : ℕ) (b : Bool) (s : LinkStation) → AllWithin n1 s.outgoing.given
     → (let z : Step = if b then quiet (asks_again s.phase (with_near (alone s) (record s { tries = s.tries + 1 }))) else leaves Retries (alone s) in AllWithin n1 z.side.near.outgoing.given)

@@ -21,10 +21,9 @@ use Rattle.x25_line.proofs.DrainWeights.{more_if, times_more, seven_times, ready
 -- ---- how many changes may come yet
 
 abbrev pub phase_weight : Phase → ℕ
-phase_weight Down = 0
 phase_weight Waiting = 2
 phase_weight Up = 1
-phase_weight Closed = 0
+phase_weight phase = 0
 
 abbrev top_of : LinkStation → ℕ
 top_of s = max s.outgoing.sent (length s.outgoing.given)
@@ -70,11 +69,7 @@ weight_some back low some (rej true nr true) = omega (arith, some)
 weight_some back low some (rej false nr true) = omega (arith, some)
 weight_some back low some (rej true nr false) = omega (arith, some)
 weight_some back low some (rej false nr false) = omega (arith, some)
-weight_some back low some (sabm p) = omega arith
-weight_some back low some (disc p) = omega arith
-weight_some back low some (ua f) = omega arith
-weight_some back low some (dm f) = omega arith
-weight_some back low some (frmr f why) = omega arith
+weight_some back low some f = omega arith
 
 pub read_weight_some : (back low : ℕ) → 2 ≤ back → (r : Result PlainFrame FrameError) → 1 ≤ read_weight back low r
 read_weight_some back low some (Ok f) = weight_some back low some f
@@ -83,19 +78,11 @@ read_weight_some back low some (Err e) = omega arith
 asking_weight : (back low : ℕ) → 2 ≤ back → (f : PlainFrame) → (is_command f && poll_or_final f) ≡ true → 2 ≤ weight back low f
 asking_weight back low some (info ns nr p x) e = omega arith
 asking_weight back low some (rr true nr true) e = omega arith
-asking_weight back low some (rr true nr false) e = true_false (sym e)
-asking_weight back low some (rr false nr pf) e = true_false (sym e)
 asking_weight back low some (rnr true nr true) e = omega arith
-asking_weight back low some (rnr true nr false) e = true_false (sym e)
-asking_weight back low some (rnr false nr pf) e = true_false (sym e)
 asking_weight back low some (rej true nr true) e = omega (arith, some)
-asking_weight back low some (rej true nr false) e = true_false (sym e)
-asking_weight back low some (rej false nr pf) e = true_false (sym e)
 asking_weight back low some (sabm p) e = omega arith
 asking_weight back low some (disc p) e = omega arith
-asking_weight back low some (ua f) e = true_false (sym e)
-asking_weight back low some (dm f) e = true_false (sym e)
-asking_weight back low some (frmr f why) e = true_false (sym e)
+asking_weight back low some f e = true_false (sym e)
 
 ready_some : (back : ℕ) → 2 ≤ back → (command pf : Bool) → 1 ≤ ready_weight back command pf
 ready_some back some true true = omega arith
@@ -259,17 +246,14 @@ module _ (c : Settings) (n1 back low : ℕ) (s : LinkStation) (small : c.window 
       said = record { in_range = tt; carries = refl; within = tt; asks_not = refl }
   frame_took octets (disc p) up = anew 2 0 s.tries Down (ua p ∷ []) (omega arith) (record { in_range = tt; carries = refl; within = tt; asks_not = refl }, tt) (omega (arith, ap phase_weight up))
   frame_took octets (ua f) up = goes_on 1 0 before (alone s) (omega arith) begins
-  frame_took octets (dm f) up = anew 1 0 s.tries Down [] (omega arith) tt (omega (arith, ap phase_weight up))
-  frame_took octets (frmr f why) up = anew 1 0 s.tries Down [] (omega arith) tt (omega (arith, ap phase_weight up))
+  frame_took octets f up = anew 1 0 s.tries Down [] (omega arith) tt (omega (arith, ap phase_weight up))
 
   read_took : (octets : List ℕ) (r : Result PlainFrame FrameError) → s.phase ≡ Up → T (read_weight back low r) (asks_in r) (row_of c octets r (alone s)).side
   read_took octets (Ok f) up = frame_took octets f up
-  read_took octets (Err Short) up = goes_on 1 0 before (alone s) (omega arith) begins
-  read_took octets (Err BadFcs) up = goes_on 1 0 before (alone s) (omega arith) begins
-  read_took octets (Err BadAddress) up = goes_on 1 0 before (alone s) (omega arith) begins
   read_took octets (Err (Undefined control)) up = left_with octets 1 1 (omega arith) up
   read_took octets (Err (NoInfoAllowed control)) up = left_with octets 3 1 (omega arith) up
   read_took octets (Err TooLong) up = left_with octets 4 1 (omega arith) up
+  read_took octets (Err error) up = goes_on 1 0 before (alone s) (omega arith) begins
 
   -- ---- outside of Up
 
@@ -318,11 +302,9 @@ module _ (c : Settings) (n1 back low : ℕ) (s : LinkStation) (small : c.window 
   hears_took : (octets : List ℕ) (r : Result PlainFrame FrameError) (p : Phase) → s.phase ≡ p → T (read_weight back low r) (asks_in r) (hears c octets r p (alone s)).side
   hears_took octets r Up is = read_took octets r is
   hears_took octets (Ok f) Down is = down_took f is
-  hears_took octets (Err e) Down is = not_read 0
   hears_took octets (Ok f) Waiting is = waiting_took f is
-  hears_took octets (Err e) Waiting is = not_read 0
   hears_took octets (Ok f) Closed is = declined f
-  hears_took octets (Err e) Closed is = not_read 0
+  hears_took octets (Err e) p is = not_read 0
 
   pub took : (octets : List ℕ) (r : Result PlainFrame FrameError) → frame_of (other c.role) c.longest octets ≡ r → Took n1 back low (read_weight back low r) (asks_in r) s (take_step c octets s).side
   took octets r is =

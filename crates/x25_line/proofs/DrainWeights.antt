@@ -2,7 +2,7 @@
 use Rattle.std.proofs.Common.{◌≡◌, ℕ, suc, zero, ◌+◌, ◌-◌, ◌*◌, ◌%◌, ◌<◌, ◌≤◌, List, [], ◌∷◌, ◌++◌, length, Bool, true, false, not, if◌then◌else◌, Result, Ok, Err, refl, sym, ap, subst, arith, length-append}
 use Rattle.std.specs.Prelude.{◌==◌, slice_index_or}
 use Rattle.std.proofs.lemmas.Bool.{eqb-true, eqb-false, and_parts, not-true}
-use Rattle.x25_frame.specs.Frame.{PlainFrame, info, rr, rnr, rej, sabm, disc, ua, dm, frmr}
+use Rattle.x25_frame.specs.Frame.{PlainFrame, info, rr, rnr, rej, sabm, disc}
 use Rattle.x25_frame.specs.Spelling.{information_of, IsInRange, MayCarry, IsWithin}
 use Rattle.x25_frame.specs.declared.error.FrameError.{FrameError}
 use Rattle.x25_link.specs.declared.phase.Phase.{Phase}
@@ -34,14 +34,11 @@ seven_times m = omega arith
 abbrev pub ready_weight : ℕ → Bool → Bool → ℕ
 ready_weight back true true = back + 2
 ready_weight back false true = back
-ready_weight back true false = 1
-ready_weight back false false = 1
+ready_weight back b false = 1
 
 abbrev pub rej_weight : ℕ → Bool → Bool → ℕ
-rej_weight back true true = 2 * back
-rej_weight back false true = 2 * back
-rej_weight back true false = back
-rej_weight back false false = back
+rej_weight back b true = 2 * back
+rej_weight back b false = back
 
 -- Where `low` is acknowledged, I frames go with the seven numbers from there on. One with the eighth, which is left from before, may let seven more be taken.
 abbrev pub weight : ℕ → ℕ → PlainFrame → ℕ
@@ -51,9 +48,7 @@ weight back low (rnr command nr pf) = ready_weight back command pf
 weight back low (rej command nr pf) = rej_weight back command pf
 weight back low (sabm p) = 2
 weight back low (disc p) = 2
-weight back low (ua f) = 1
-weight back low (dm f) = 1
-weight back low (frmr f why) = 1
+weight back low frame = 1
 
 abbrev pub read_weight : ℕ → ℕ → Result PlainFrame FrameError → ℕ
 read_weight back low (Ok frame) = weight back low frame
@@ -101,7 +96,7 @@ packet_within n1 [] n h = omega arith
 packet_within n1 (x ∷ xs) zero h = h.0
 packet_within n1 (x ∷ xs) (suc n) h = packet_within n1 xs n h.1
 
-below_eight : (n : ℕ) → n % 8 < 8
+pub below_eight : (n : ℕ) → n % 8 < 8
 below_eight n = omega arith
 
 pub rr_spelled : (n1 n : ℕ) (command pf : Bool) → IsSpelled n1 (rr command (n % 8) pf)

@@ -7,7 +7,7 @@ use Rattle.x25_frame.specs.Frame.{PlainFrame, sabm}
 use Rattle.x25_frame.specs.Spelling.{spelling_of}
 use Rattle.x25_frame.specs.laws.ReadingLaw.{ReadsSpelled}
 use Rattle.x25_link.specs.declared.phase.Phase.{Phase}
-use Rattle.x25_link.specs.declared.phase.Phase.TheVariants.{Down, Waiting, Up, Closed}
+use Rattle.x25_link.specs.declared.phase.Phase.TheVariants.{Down, Waiting, Up}
 use Rattle.x25_link.specs.declared.phase.Reason.TheVariants.{Retries}
 use Rattle.x25_link.specs.Station.{Settings, LinkStation, is_up, is_busy, awaits_ua, wanted, with_nothing}
 use Rattle.x25_link.specs.Hearing.{Step, other}
@@ -37,31 +37,26 @@ pub record Silent (w x : Stations) : Type 0 where
   pub far : x.far ≡ w.far
 
 waiting_is : (p : Phase) → awaits_ua p ≡ true → p ≡ Waiting
-waiting_is Down e = not_both false e refl
 waiting_is Waiting e = refl
-waiting_is Up e = not_both false e refl
-waiting_is Closed e = not_both false e refl
+waiting_is p e = not_both false e refl
 
 below_eight : (a n : ℕ) → a ≡ n % 8 → a < 8
 below_eight a n e = omega arith
 
 out_is : (p : Phase) → awaits_ua p ≡ false → is_up p ≡ false → IsOut p
-out_is Down e f = tt
 out_is Waiting e f = not_both true refl e
 out_is Up e f = not_both true refl f
-out_is Closed e f = tt
+out_is p e f = tt
 
 no_timer : (p : Phase) (s : LinkStation) → IsOut p → timer_runs p s ≡ false
-no_timer Down s h = refl
 no_timer Waiting s h = absurd h
 no_timer Up s h = absurd h
-no_timer Closed s h = refl
+no_timer p s h = refl
 
-out_not_up : (p : Phase) → IsOut p → is_up p ≡ false
-out_not_up Down h = refl
+pub out_not_up : (p : Phase) → IsOut p → is_up p ≡ false
 out_not_up Waiting h = absurd h
 out_not_up Up h = absurd h
-out_not_up Closed h = refl
+out_not_up p h = refl
 
 poll_whole : (n1 : ℕ) (busy : Bool) (n : ℕ) → n < 8 → IsWhole n1 [] (says busy true n true)
 poll_whole n1 true n small = record { in_range = small; carries = refl; within = tt; packet = tt }

@@ -27,9 +27,8 @@ reads_more reads from n1 given [] [] es h whole = spelled es whole
     spelled (f ∷ es) whole =
         let w = whole.0 in
         (reads from n1 f (spelling_of from f) (record { in_range = w.in_range; carries = w.carries; within = w.within; spelling = refl }), spelled es whole.1)
-reads_more reads from n1 given [] (f ∷ fs) es h whole = absurd h
-reads_more reads from n1 given (o ∷ os) [] es h whole = absurd h
 reads_more reads from n1 given (o ∷ os) (f ∷ fs) es h whole = (h.0, reads_more reads from n1 given os fs es h.1 whole)
+reads_more reads from n1 given os fs es h whole = absurd h
 
 pub whole_behind : (n1 : ℕ) (given : List (List ℕ)) (fs es : List PlainFrame) → AreWhole n1 given (fs ++ es) → AreWhole n1 given es
 whole_behind n1 given [] es h = h
@@ -53,12 +52,11 @@ none_reads from n1 (o ∷ os) h = absurd h
 
 pub reads_none : (from : Role) (n1 : ℕ) (os : List (List ℕ)) (fs : List PlainFrame) → Reads from n1 os fs → os ≡ [] → fs ≡ []
 reads_none from n1 [] [] h e = refl
-reads_none from n1 [] (f ∷ fs) h e = absurd h
-reads_none from n1 (o ∷ os) [] h e = absurd h
 reads_none from n1 (o ∷ os) (f ∷ fs) h e = absurd (not_nil e)
   where
     not_nil : o ∷ os ≡ [] → ⊥
     not_nil e = cc
+reads_none from n1 os fs h e = absurd h
 
 -- a frame is there
 pub one_frame : (f : PlainFrame) (fs : List PlainFrame) {A : Type 0} → f ∷ fs ≡ [] → A
@@ -84,11 +82,7 @@ ahead_low Rnr n (info ns nr p x ∷ fs) m h = omega (arith, ahead_low Rnr (n + 1
 ahead_low Rnr n (rr command nr pf ∷ fs) m h = ahead_low Rnr n fs m h.1
 ahead_low Rnr n (rej command nr pf ∷ fs) m h = ahead_low Rnr n fs m h.1
 ahead_low Rnr n (rnr command nr pf ∷ fs) m h = ahead_low Rnr n fs m h.1
-ahead_low Rnr n (sabm p ∷ fs) m h = absurd h
-ahead_low Rnr n (disc p ∷ fs) m h = absurd h
-ahead_low Rnr n (ua p ∷ fs) m h = absurd h
-ahead_low Rnr n (dm p ∷ fs) m h = absurd h
-ahead_low Rnr n (frmr p why ∷ fs) m h = absurd h
+ahead_low Rnr n (frame ∷ fs) m h = absurd h
 
 pub ahead_more : (Rnr : Type 0) (n m k : ℕ) (fs es : List PlainFrame) → Ahead Rnr n fs m → Ahead Rnr m es k → Ahead Rnr n (fs ++ es) k
 ahead_more Rnr n m k [] es h g = subst (λ (z : ℕ). Ahead Rnr z es k) (sym h) g
@@ -96,24 +90,14 @@ ahead_more Rnr n m k (info ns nr p x ∷ fs) es h g = (h.0, h.1, ahead_more Rnr 
 ahead_more Rnr n m k (rr command nr pf ∷ fs) es h g = (h.0, ahead_more Rnr n m k fs es h.1 g)
 ahead_more Rnr n m k (rej command nr pf ∷ fs) es h g = (h.0, ahead_more Rnr n m k fs es h.1 g)
 ahead_more Rnr n m k (rnr command nr pf ∷ fs) es h g = (h.0, ahead_more Rnr n m k fs es h.1 g, h.2)
-ahead_more Rnr n m k (sabm p ∷ fs) es h g = absurd h
-ahead_more Rnr n m k (disc p ∷ fs) es h g = absurd h
-ahead_more Rnr n m k (ua p ∷ fs) es h g = absurd h
-ahead_more Rnr n m k (dm p ∷ fs) es h g = absurd h
-ahead_more Rnr n m k (frmr p why ∷ fs) es h g = absurd h
+ahead_more Rnr n m k (frame ∷ fs) es h g = absurd h
 
 -- what the sending rule sends is of this kind
 pub next_ahead : (Rnr : Type 0) (r n : ℕ) (fs : List PlainFrame) (m : ℕ) → AreNext r n fs m → Ahead Rnr n fs m
 next_ahead Rnr r n [] m h = h
 next_ahead Rnr r n (info ns nr p x ∷ fs) m h = (h.0, h.2, next_ahead Rnr r (n + 1) fs m h.3)
 next_ahead Rnr r n (rr command nr pf ∷ fs) m h = (and_left command pf h.0, next_ahead Rnr r n fs m h.3)
-next_ahead Rnr r n (rej command nr pf ∷ fs) m h = absurd h
-next_ahead Rnr r n (rnr command nr pf ∷ fs) m h = absurd h
-next_ahead Rnr r n (sabm p ∷ fs) m h = absurd h
-next_ahead Rnr r n (disc p ∷ fs) m h = absurd h
-next_ahead Rnr r n (ua p ∷ fs) m h = absurd h
-next_ahead Rnr r n (dm p ∷ fs) m h = absurd h
-next_ahead Rnr r n (frmr p why ∷ fs) m h = absurd h
+next_ahead Rnr r n (frame ∷ fs) m h = absurd h
 
 -- ---- the same without I frames, as in recovery, or while the peer is busy
 
@@ -128,38 +112,22 @@ pub mild_ahead : (Rnr : Type 0) (n : ℕ) (fs : List PlainFrame) → Mild Rnr fs
 mild_ahead Rnr n [] h = refl
 mild_ahead Rnr n (rr command nr pf ∷ fs) h = (h.0, mild_ahead Rnr n fs h.1)
 mild_ahead Rnr n (rej command nr pf ∷ fs) h = (h.0, mild_ahead Rnr n fs h.1)
-mild_ahead Rnr n (info ns nr p x ∷ fs) h = absurd h
 mild_ahead Rnr n (rnr command nr pf ∷ fs) h = (h.0, mild_ahead Rnr n fs h.1, h.2)
-mild_ahead Rnr n (sabm p ∷ fs) h = absurd h
-mild_ahead Rnr n (disc p ∷ fs) h = absurd h
-mild_ahead Rnr n (ua p ∷ fs) h = absurd h
-mild_ahead Rnr n (dm p ∷ fs) h = absurd h
-mild_ahead Rnr n (frmr p why ∷ fs) h = absurd h
+mild_ahead Rnr n (frame ∷ fs) h = absurd h
 
 pub mild_more : (Rnr : Type 0) (fs es : List PlainFrame) → Mild Rnr fs → Mild Rnr es → Mild Rnr (fs ++ es)
 mild_more Rnr [] es h g = g
 mild_more Rnr (rr command nr pf ∷ fs) es h g = (h.0, mild_more Rnr fs es h.1 g)
 mild_more Rnr (rej command nr pf ∷ fs) es h g = (h.0, mild_more Rnr fs es h.1 g)
-mild_more Rnr (info ns nr p x ∷ fs) es h g = absurd h
 mild_more Rnr (rnr command nr pf ∷ fs) es h g = (h.0, mild_more Rnr fs es h.1 g, h.2)
-mild_more Rnr (sabm p ∷ fs) es h g = absurd h
-mild_more Rnr (disc p ∷ fs) es h g = absurd h
-mild_more Rnr (ua p ∷ fs) es h g = absurd h
-mild_more Rnr (dm p ∷ fs) es h g = absurd h
-mild_more Rnr (frmr p why ∷ fs) es h g = absurd h
+mild_more Rnr (frame ∷ fs) es h g = absurd h
 
 -- where V(S) stays, no I frame went
 pub held_mild : (Rnr : Type 0) (r n : ℕ) (fs : List PlainFrame) (m : ℕ) → AreNext r n fs m → m ≤ n → Mild Rnr fs
 held_mild Rnr r n [] m h le = tt
 held_mild Rnr r n (rr command nr pf ∷ fs) m h le = (and_left command pf h.0, held_mild Rnr r n fs m h.3 le)
 held_mild Rnr r n (info ns nr p x ∷ fs) m h le = absurd (omega (arith, le, ahead_low Rnr (n + 1) fs m (next_ahead Rnr r (n + 1) fs m h.3)))
-held_mild Rnr r n (rej command nr pf ∷ fs) m h le = absurd h
-held_mild Rnr r n (rnr command nr pf ∷ fs) m h le = absurd h
-held_mild Rnr r n (sabm p ∷ fs) m h le = absurd h
-held_mild Rnr r n (disc p ∷ fs) m h le = absurd h
-held_mild Rnr r n (ua p ∷ fs) m h le = absurd h
-held_mild Rnr r n (dm p ∷ fs) m h le = absurd h
-held_mild Rnr r n (frmr p why ∷ fs) m h le = absurd h
+held_mild Rnr r n (frame ∷ fs) m h le = absurd h
 
 -- I frames and RR, none with F=1
 abbrev pub IsNoFinal : PlainFrame → Type 0
@@ -180,13 +148,7 @@ pub next_no_final : (r n : ℕ) (fs : List PlainFrame) (m : ℕ) → AreNext r n
 next_no_final r n [] m h = tt
 next_no_final r n (info ns nr p x ∷ fs) m h = (h.2, next_no_final r (n + 1) fs m h.3)
 next_no_final r n (rr command nr pf ∷ fs) m h = (and_right (not command) pf h.2, next_no_final r n fs m h.3)
-next_no_final r n (rej command nr pf ∷ fs) m h = absurd h
-next_no_final r n (rnr command nr pf ∷ fs) m h = absurd h
-next_no_final r n (sabm p ∷ fs) m h = absurd h
-next_no_final r n (disc p ∷ fs) m h = absurd h
-next_no_final r n (ua p ∷ fs) m h = absurd h
-next_no_final r n (dm p ∷ fs) m h = absurd h
-next_no_final r n (frmr p why ∷ fs) m h = absurd h
+next_no_final r n (frame ∷ fs) m h = absurd h
 
 -- ---- frames back: I frames and RR, none with F=1, the last of which has the number r, where `nr` came before them
 
@@ -208,64 +170,34 @@ pub next_tells : (r nr n m : ℕ) (es : List PlainFrame) → nr ≡ r % 8 → Ar
 next_tells r nr n m [] e h = e
 next_tells r nr n m (info ns k p x ∷ es) e h = (h.2, next_tells r k (n + 1) m es h.1 h.3)
 next_tells r nr n m (rr command k pf ∷ es) e h = (and_right (not command) pf h.2, next_tells r k n m es h.1 h.3)
-next_tells r nr n m (rej command k pf ∷ es) e h = absurd h
-next_tells r nr n m (rnr command k pf ∷ es) e h = absurd h
-next_tells r nr n m (sabm p ∷ es) e h = absurd h
-next_tells r nr n m (disc p ∷ es) e h = absurd h
-next_tells r nr n m (ua p ∷ es) e h = absurd h
-next_tells r nr n m (dm p ∷ es) e h = absurd h
-next_tells r nr n m (frmr p why ∷ es) e h = absurd h
+next_tells r nr n m (frame ∷ es) e h = absurd h
 
 -- at least one frame with the number r goes behind them, whatever number they had
 some_tells : (r nr n m : ℕ) (es : List PlainFrame) → (es ≡ [] → ⊥) → AreNext r n es m → LastTells r nr es
 some_tells r nr n m [] some h = absurd (some refl)
 some_tells r nr n m (info ns k p x ∷ es) some h = (h.2, next_tells r k (n + 1) m es h.1 h.3)
 some_tells r nr n m (rr command k pf ∷ es) some h = (and_right (not command) pf h.2, next_tells r k n m es h.1 h.3)
-some_tells r nr n m (rej command k pf ∷ es) some h = absurd h
-some_tells r nr n m (rnr command k pf ∷ es) some h = absurd h
-some_tells r nr n m (sabm p ∷ es) some h = absurd h
-some_tells r nr n m (disc p ∷ es) some h = absurd h
-some_tells r nr n m (ua p ∷ es) some h = absurd h
-some_tells r nr n m (dm p ∷ es) some h = absurd h
-some_tells r nr n m (frmr p why ∷ es) some h = absurd h
+some_tells r nr n m (frame ∷ es) some h = absurd h
 
 -- more frames go behind: what they tell is told last
 pub tells_behind : (s r nr : ℕ) (gs es : List PlainFrame) → LastTells s nr gs → ((k : ℕ) → (k ≡ s % 8) → LastTells r k es) → LastTells r nr (gs ++ es)
 tells_behind s r nr [] es h more = more nr h
 tells_behind s r nr (info ns k p x ∷ gs) es h more = (h.0, tells_behind s r k gs es h.1 more)
 tells_behind s r nr (rr command k pf ∷ gs) es h more = (h.0, tells_behind s r k gs es h.1 more)
-tells_behind s r nr (rej command k pf ∷ gs) es h more = absurd h
-tells_behind s r nr (rnr command k pf ∷ gs) es h more = absurd h
-tells_behind s r nr (sabm p ∷ gs) es h more = absurd h
-tells_behind s r nr (disc p ∷ gs) es h more = absurd h
-tells_behind s r nr (ua p ∷ gs) es h more = absurd h
-tells_behind s r nr (dm p ∷ gs) es h more = absurd h
-tells_behind s r nr (frmr p why ∷ gs) es h more = absurd h
+tells_behind s r nr (frame ∷ gs) es h more = absurd h
 
 -- the first of frames that tell a number in the end
 first_reports : (r a : ℕ) (es : List PlainFrame) → (es ≡ [] → a ≡ r) → LastTells r (r % 8) es → Reports r a es
 first_reports r a [] none h = none refl
 first_reports r a (info ns k p x ∷ es) none h = h
 first_reports r a (rr command k pf ∷ es) none h = h
-first_reports r a (rej command k pf ∷ es) none h = absurd h
-first_reports r a (rnr command k pf ∷ es) none h = absurd h
-first_reports r a (sabm p ∷ es) none h = absurd h
-first_reports r a (disc p ∷ es) none h = absurd h
-first_reports r a (ua p ∷ es) none h = absurd h
-first_reports r a (dm p ∷ es) none h = absurd h
-first_reports r a (frmr p why ∷ es) none h = absurd h
+first_reports r a (frame ∷ es) none h = absurd h
 
 reports_behind : (s r a : ℕ) (gs es : List PlainFrame) → Reports s a gs → ((k : ℕ) → (k ≡ s % 8) → LastTells r k es) → (a ≡ s → Reports r a es) → Reports r a (gs ++ es)
 reports_behind s r a [] es h more alone = alone h
 reports_behind s r a (info ns k p x ∷ gs) es h more alone = (h.0, tells_behind s r k gs es h.1 more)
 reports_behind s r a (rr command k pf ∷ gs) es h more alone = (h.0, tells_behind s r k gs es h.1 more)
-reports_behind s r a (rej command k pf ∷ gs) es h more alone = absurd h
-reports_behind s r a (rnr command k pf ∷ gs) es h more alone = absurd h
-reports_behind s r a (sabm p ∷ gs) es h more alone = absurd h
-reports_behind s r a (disc p ∷ gs) es h more alone = absurd h
-reports_behind s r a (ua p ∷ gs) es h more alone = absurd h
-reports_behind s r a (dm p ∷ gs) es h more alone = absurd h
-reports_behind s r a (frmr p why ∷ gs) es h more alone = absurd h
+reports_behind s r a (frame ∷ gs) es h more alone = absurd h
 
 -- the number stays: what goes has it
 pub reports_more : (r a n m : ℕ) (gs es : List PlainFrame) → Reports r a gs → AreNext r n es m → Reports r a (gs ++ es)
@@ -282,10 +214,4 @@ pub reports_heard : (r a nr : ℕ) (gs : List PlainFrame) → LastTells r nr gs 
 reports_heard r a nr [] h all = all h
 reports_heard r a nr (info ns k p x ∷ gs) h all = h
 reports_heard r a nr (rr command k pf ∷ gs) h all = h
-reports_heard r a nr (rej command k pf ∷ gs) h all = absurd h
-reports_heard r a nr (rnr command k pf ∷ gs) h all = absurd h
-reports_heard r a nr (sabm p ∷ gs) h all = absurd h
-reports_heard r a nr (disc p ∷ gs) h all = absurd h
-reports_heard r a nr (ua p ∷ gs) h all = absurd h
-reports_heard r a nr (dm p ∷ gs) h all = absurd h
-reports_heard r a nr (frmr p why ∷ gs) h all = absurd h
+reports_heard r a nr (frame ∷ gs) h all = absurd h

@@ -192,24 +192,22 @@ module _ (c d : Settings) (joined : AreJoined c d) (reads : ReadsSpelled) (laws 
 
   -- ---- the near end of the two puts
 
-  near_puts_both : (most : ℕ) (w v : Stations) → Both c d most ⊥ w → WasPut w v → is_busy v.near.station ≡ false → Both c d most ⊥ v
-  near_puts_both most w v b p free = record {
+  near_puts_both : (w v : Stations) → Both c d w → WasPut w v → is_busy v.near.station ≡ false → Both c d v
+  near_puts_both w v b p free = record {
     sound = p.sound;
     near_on = p.up;
     far_on = subst (λ (e : StationEnd). is_up e.station.phase ≡ true) (sym p.far) b.far_on;
     near_free = free;
     far_free = subst (λ (e : StationEnd). is_busy e.station ≡ false) (sym p.far) b.far_free;
-    far_tries = subst (λ (e : StationEnd). e.station.tries ≤ most) (sym p.far) b.far_tries;
-    far_rest = λ never. absurd never;
   }
 
   -- in recovery no I frame goes
   held_back : (w v : Stations) → w.near.station.recovery ≡ true → (p : WasPut w v) → Mild ⊥ p.next
   held_back w v recovers p = held_mild ⊥ (length w.near.station.taken) w.near.station.outgoing.place p.next v.near.station.outgoing.place p.sends (omega (arith, p.held recovers))
 
-  near_puts : (most : ℕ) (w v : Stations) → Heals c d most ⊥ w → WasPut w v → is_busy v.near.station ≡ false → Heals c d most ⊥ v
-  near_puts most w v (b, inl h) p free = (
-    near_puts_both most w v b p free,
+  near_puts : (w v : Stations) → Heals c d w → WasPut w v → is_busy v.near.station ≡ false → Heals c d v
+  near_puts w v (b, inl h) p free = (
+    near_puts_both w v b p free,
     inl (record {
       number = h.number;
       rest = h.rest ++ p.next;
@@ -221,9 +219,9 @@ module _ (c d : Settings) (joined : AreJoined c d) (reads : ReadsSpelled) (laws 
       heard = h.heard;
     }),
   )
-  near_puts most w v (b, inr (inl h)) p free =
+  near_puts w v (b, inr (inl h)) p free =
       let same = ap (λ (e : StationEnd). length e.station.taken) (sym p.far) in (
-        near_puts_both most w v b p free,
+        near_puts_both w v b p free,
         inr (inl (record {
           number = h.number;
           there = h.there ++ p.next;
@@ -238,11 +236,11 @@ module _ (c d : Settings) (joined : AreJoined c d) (reads : ReadsSpelled) (laws 
           tells = subst (λ (n : ℕ). LastTells n h.number h.behind) same h.tells;
         })),
       )
-  near_puts most w v (b, inr (inr h)) p free =
+  near_puts w v (b, inr (inr h)) p free =
       let r = length w.far.station.taken in
       let same = ap (λ (e : StationEnd). length e.station.taken) (sym p.far) in
       let s = w.near.station in (
-        near_puts_both most w v b p free,
+        near_puts_both w v b p free,
         inr (inr (record {
           there = h.there ++ p.next;
           behind = h.behind;
@@ -256,8 +254,8 @@ module _ (c d : Settings) (joined : AreJoined c d) (reads : ReadsSpelled) (laws 
         })),
       )
 
-  pub near_put : (most : ℕ) (packet : List ℕ) (w : Stations) → Heals c d most ⊥ w → is_busy (acts c (Put packet) w).near.station ≡ false → Heals c d most ⊥ (acts c (Put packet) w)
-  near_put most packet w h free = near_puts most w (acts c (Put packet) w) h (puts packet w h.0.sound h.0.near_on) free
+  pub near_put : (packet : List ℕ) (w : Stations) → Heals c d w → is_busy (acts c (Put packet) w).near.station ≡ false → Heals c d (acts c (Put packet) w)
+  near_put packet w h free = near_puts w (acts c (Put packet) w) h (puts packet w h.0.sound h.0.near_on) free
 
 module _ (c d : Settings) (joined : AreJoined c d) (reads : ReadsSpelled) (laws : HealingLaws) where
   twisted : AreJoined d c
@@ -265,20 +263,18 @@ module _ (c d : Settings) (joined : AreJoined c d) (reads : ReadsSpelled) (laws 
 
   -- ---- the far end puts
 
-  far_puts_both : (most : ℕ) (w u : Stations) → Both c d most ⊥ w → WasPut d c twisted reads laws (swapped w) u → is_busy u.near.station ≡ false → Both c d most ⊥ (swapped u)
-  far_puts_both most w u b p free = record {
+  far_puts_both : (w u : Stations) → Both c d w → WasPut d c twisted reads laws (swapped w) u → is_busy u.near.station ≡ false → Both c d (swapped u)
+  far_puts_both w u b p free = record {
     sound = sound_swapped d c twisted u p.sound;
     near_on = subst (λ (e : StationEnd). is_up e.station.phase ≡ true) (sym p.far) b.near_on;
     far_on = p.up;
     near_free = subst (λ (e : StationEnd). is_busy e.station ≡ false) (sym p.far) b.near_free;
     far_free = free;
-    far_tries = omega (arith, p.tries, b.far_tries);
-    far_rest = λ never. absurd never;
   }
 
-  far_puts : (most : ℕ) (w u : Stations) → Heals c d most ⊥ w → WasPut d c twisted reads laws (swapped w) u → is_busy u.near.station ≡ false → Heals c d most ⊥ (swapped u)
-  far_puts most w u (b, inl h) p free = (
-    far_puts_both most w u b p free,
+  far_puts : (w u : Stations) → Heals c d w → WasPut d c twisted reads laws (swapped w) u → is_busy u.near.station ≡ false → Heals c d (swapped u)
+  far_puts w u (b, inl h) p free = (
+    far_puts_both w u b p free,
     inl (record {
       number = h.number;
       rest = h.rest;
@@ -290,11 +286,11 @@ module _ (c d : Settings) (joined : AreJoined c d) (reads : ReadsSpelled) (laws 
       heard = no_final_more h.before p.next h.heard (next_no_final (length w.far.station.taken) w.far.station.outgoing.place p.next u.near.station.outgoing.place p.sends);
     }),
   )
-  far_puts most w u (b, inr (inl h)) p free =
+  far_puts w u (b, inr (inl h)) p free =
       let r = length w.far.station.taken in
       let same : length u.near.station.taken ≡ r = ap length p.taken in
       let frame = rr false h.number true in (
-        far_puts_both most w u b p free,
+        far_puts_both w u b p free,
         inr (inl (record {
           number = h.number;
           there = h.there;
@@ -310,10 +306,10 @@ module _ (c d : Settings) (joined : AreJoined c d) (reads : ReadsSpelled) (laws 
               (tells_behind r r h.number h.behind p.next h.tells (λ k is. next_tells r k w.far.station.outgoing.place u.near.station.outgoing.place p.next is p.sends));
         })),
       )
-  far_puts most w u (b, inr (inr h)) p free =
+  far_puts w u (b, inr (inr h)) p free =
       let r = length w.far.station.taken in
       let same : length u.near.station.taken ≡ r = ap length p.taken in (
-        far_puts_both most w u b p free,
+        far_puts_both w u b p free,
         inr (inr (record {
           there = h.there;
           behind = h.behind ++ p.next;
@@ -329,9 +325,9 @@ module _ (c d : Settings) (joined : AreJoined c d) (reads : ReadsSpelled) (laws 
         })),
       )
 
-  pub far_put : (most : ℕ) (packet : List ℕ) (w : Stations) → Heals c d most ⊥ w → is_busy (acts d (Put packet) (swapped w)).near.station ≡ false → Heals c d most ⊥ (swapped (acts d (Put packet) (swapped w)))
-  far_put most packet w h free =
-      far_puts most w (acts d (Put packet) (swapped w)) h (puts d c twisted reads laws packet (swapped w) (sound_swapped c d joined w h.0.sound) h.0.far_on) free
+  pub far_put : (packet : List ℕ) (w : Stations) → Heals c d w → is_busy (acts d (Put packet) (swapped w)).near.station ≡ false → Heals c d (swapped (acts d (Put packet) (swapped w)))
+  far_put packet w h free =
+      far_puts w (acts d (Put packet) (swapped w)) h (puts d c twisted reads laws packet (swapped w) (sound_swapped c d joined w h.0.sound) h.0.far_on) free
 
 -- ---- both ends, packet by packet
 
@@ -358,52 +354,30 @@ module _ (c d : Settings) (joined : AreJoined c d) (reads : ReadsSpelled) (laws 
       (subst (λ (e : StationEnd). is_busy e.station ≡ false) p.far later.0, free_before w.far.station v.near.station p.grows later.1)
   free_now (Near Deliver ∷ es) w are h up far_up free = free.0
   free_now (Far Deliver ∷ es) w are h up far_up free = free.0
-  free_now (Near T1 ∷ es) w are h up far_up free = absurd are.0
-  free_now (Near Connect ∷ es) w are h up far_up free = absurd are.0
-  free_now (Near Disconnect ∷ es) w are h up far_up free = absurd are.0
-  free_now (Near Abandon ∷ es) w are h up far_up free = absurd are.0
-  free_now (Near (Lose i) ∷ es) w are h up far_up free = absurd are.0
-  free_now (Near (Damage i octets) ∷ es) w are h up far_up free = absurd are.0
-  free_now (Far T1 ∷ es) w are h up far_up free = absurd are.0
-  free_now (Far Connect ∷ es) w are h up far_up free = absurd are.0
-  free_now (Far Disconnect ∷ es) w are h up far_up free = absurd are.0
-  free_now (Far Abandon ∷ es) w are h up far_up free = absurd are.0
-  free_now (Far (Lose i) ∷ es) w are h up far_up free = absurd are.0
-  free_now (Far (Damage i octets) ∷ es) w are h up far_up free = absurd are.0
+  free_now (event ∷ es) w are h up far_up free = absurd are.0
 
-  abbrev BothHeal : ℕ → ℕ → Stations → Type 0
-  BothHeal m n w = HealsBoth c d joined reads laws m n w
+  abbrev BothHeal : Stations → Type 0
+  BothHeal w = HealsBoth c d joined reads laws w
 
-  near_packet : (m n : ℕ) (packet : List ℕ) (es : List Event) (w : Stations) → AreDeliveriesAndPuts es → BothHeal m n w → FreeThroughout c d es (acts c (Put packet) w) → BothHeal m n (acts c (Put packet) w)
-  near_packet m n packet es w are h free =
+  near_packet : (packet : List ℕ) (es : List Event) (w : Stations) → AreDeliveriesAndPuts es → BothHeal w → FreeThroughout c d es (acts c (Put packet) w) → BothHeal (acts c (Put packet) w)
+  near_packet packet es w are h free =
       let v : Stations = acts c (Put packet) w in
       let p = puts c d joined reads laws packet w h.0.0.sound h.0.0.near_on in
       let now = free_now es v are p.sound p.up (subst (λ (e : StationEnd). is_up e.station.phase ≡ true) (sym p.far) h.0.0.far_on) free in
-      (near_put c d joined reads laws m packet w h.0 now.0, far_put d c turned reads laws n packet (swapped w) h.1 now.0)
+      (near_put c d joined reads laws packet w h.0 now.0, far_put d c turned reads laws packet (swapped w) h.1 now.0)
 
-  far_packet : (m n : ℕ) (packet : List ℕ) (es : List Event) (w : Stations) → AreDeliveriesAndPuts es → BothHeal m n w → FreeThroughout c d es (swapped (acts d (Put packet) (swapped w)))
-      → BothHeal m n (swapped (acts d (Put packet) (swapped w)))
-  far_packet m n packet es w are h free =
+  far_packet : (packet : List ℕ) (es : List Event) (w : Stations) → AreDeliveriesAndPuts es → BothHeal w → FreeThroughout c d es (swapped (acts d (Put packet) (swapped w)))
+      → BothHeal (swapped (acts d (Put packet) (swapped w)))
+  far_packet packet es w are h free =
       let v : Stations = acts d (Put packet) (swapped w) in
       let p = puts d c turned reads laws packet (swapped w) h.1.0.sound h.1.0.near_on in
       let now = free_now es (swapped v) are (sound_swapped d c turned v p.sound) (subst (λ (e : StationEnd). is_up e.station.phase ≡ true) (sym p.far) h.0.0.near_on) p.up free in
-      (far_put c d joined reads laws m packet w h.0 now.1, near_put d c turned reads laws n packet (swapped w) h.1 now.1)
+      (far_put c d joined reads laws packet w h.0 now.1, near_put d c turned reads laws packet (swapped w) h.1 now.1)
 
-  pub puts_run : (m n : ℕ) (es : List Event) (w : Stations) → AreDeliveriesAndPuts es → BothHeal m n w → FreeThroughout c d es w → BothHeal m n (run c d es w)
-  puts_run m n [] w are h free = h
-  puts_run m n (Near (Put packet) ∷ es) w are h free = puts_run m n es (acts c (Put packet) w) are.1 (near_packet m n packet es w are.1 h free.1) free.1
-  puts_run m n (Far (Put packet) ∷ es) w are h free = puts_run m n es (swapped (acts d (Put packet) (swapped w))) are.1 (far_packet m n packet es w are.1 h free.1) free.1
-  puts_run m n (Near Deliver ∷ es) w are h free = puts_run m n es (acts c Deliver w) are.1 (both_near c d joined reads laws m n Deliver w tt h) free.1
-  puts_run m n (Far Deliver ∷ es) w are h free = puts_run m n es (swapped (acts d Deliver (swapped w))) are.1 (both_far c d joined reads laws m n Deliver w tt h) free.1
-  puts_run m n (Near T1 ∷ es) w are h free = absurd are.0
-  puts_run m n (Near Connect ∷ es) w are h free = absurd are.0
-  puts_run m n (Near Disconnect ∷ es) w are h free = absurd are.0
-  puts_run m n (Near Abandon ∷ es) w are h free = absurd are.0
-  puts_run m n (Near (Lose i) ∷ es) w are h free = absurd are.0
-  puts_run m n (Near (Damage i octets) ∷ es) w are h free = absurd are.0
-  puts_run m n (Far T1 ∷ es) w are h free = absurd are.0
-  puts_run m n (Far Connect ∷ es) w are h free = absurd are.0
-  puts_run m n (Far Disconnect ∷ es) w are h free = absurd are.0
-  puts_run m n (Far Abandon ∷ es) w are h free = absurd are.0
-  puts_run m n (Far (Lose i) ∷ es) w are h free = absurd are.0
-  puts_run m n (Far (Damage i octets) ∷ es) w are h free = absurd are.0
+  pub puts_run : (es : List Event) (w : Stations) → AreDeliveriesAndPuts es → BothHeal w → FreeThroughout c d es w → BothHeal (run c d es w)
+  puts_run [] w are h free = h
+  puts_run (Near (Put packet) ∷ es) w are h free = puts_run es (acts c (Put packet) w) are.1 (near_packet packet es w are.1 h free.1) free.1
+  puts_run (Far (Put packet) ∷ es) w are h free = puts_run es (swapped (acts d (Put packet) (swapped w))) are.1 (far_packet packet es w are.1 h free.1) free.1
+  puts_run (Near Deliver ∷ es) w are h free = puts_run es (acts c Deliver w) are.1 (both_near c d joined reads laws Deliver w tt h) free.1
+  puts_run (Far Deliver ∷ es) w are h free = puts_run es (swapped (acts d Deliver (swapped w))) are.1 (both_far c d joined reads laws Deliver w tt h) free.1
+  puts_run (event ∷ es) w are h free = absurd are.0

@@ -18,4 +18,4 @@ module _ (reads : ReadsSpelled) (laws : HealingLaws) where
       let begun = fired_both reads laws c d joined v sound drained (may_heal c w.near v.near alike.near near_may) (may_heal d w.far v.far alike.far far_may) in
       let v1 : Stations = after_firings c d v in
       let stays = free_alike c d w.near.begun w.far.begun es (fired c d w) v1 are (fired_alike c d w.near.begun w.far.begun w v alike) free in
-      come_to_rest reads laws c d joined begun.most begun.least (one.run c d es v1) (puts_run c d joined reads laws begun.most begun.least es v1 are begun.heals stays) after)
+      come_to_rest reads laws c d joined (one.run c d es v1) (puts_run c d joined reads laws es v1 are begun stays) after)

@@ -2,11 +2,11 @@
 use Rattle.std.proofs.Common.{◌≡◌, ℕ, ◌+◌, ◌%◌, ◌≤◌, List, [], ◌∷◌, ◌++◌, ◌⊎◌, inl, inr, length, max, Bool, true, false, refl, sym, ap, ◌∙◌, subst, arith, length-append}
 use Rattle.std.specs.Prelude.{◌==◌, ◌&&◌, not, if◌then◌else◌}
 use Rattle.std.proofs.lemmas.Bool.{eq-eqb}
-use Rattle.x25_frame.specs.Frame.{PlainFrame, info, rr, rnr, rej, sabm, disc, ua, dm, frmr}
+use Rattle.x25_frame.specs.Frame.{PlainFrame, info, rr, rnr, rej}
 use Rattle.x25_frame.specs.laws.ReadingLaw.{ReadsSpelled}
 use Rattle.x25_link.specs.Station.{Settings, LinkStation, is_busy, wanted}
 use Rattle.x25_link.specs.Hearing.{other, is_taken}
-use Rattle.x25_link.specs.laws.AnswerLaw.{says, AreNext, Outcome, heard, heard_tries, confirms, once_taken, passed_over}
+use Rattle.x25_link.specs.laws.AnswerLaw.{says, AreNext, Outcome, heard, confirms, once_taken, passed_over}
 use Rattle.x25_link.specs.laws.RestLaw.{IsAtRest}
 use Rattle.x25_line.specs.laws.Stations.{StationEnd, Stations, Deliver, delivered, acts, swapped}
 use Rattle.x25_line.specs.laws.StationClaims.{AreJoined}
@@ -52,20 +52,6 @@ answer_mild Rnr false nr may = (refl, tt)
 confirms_next : (r n m : ℕ) (goes : Bool) (next : List PlainFrame) → AreNext r n next m → AreNext r n (confirms goes false r ++ next) m
 confirms_next r n m true next h = h
 confirms_next r n m false next h = (refl, refl, refl, h)
-
-pub tries_low : (nr : ℕ) (s : LinkStation) → heard_tries nr s ≤ s.tries
-tries_low nr s = by (heard nr s == s.outgoing.acked)
-  where
-    by : (b : Bool) → (if b then s.tries else 0) ≤ s.tries
-    by true = omega arith
-    by false = omega arith
-
--- what comes makes nothing worse at an end, but that its peer may be heard to be busy by RNR
-pub record Calm (Rnr : Type 0) (s : LinkStation) (nr : ℕ) (o : Outcome) : Type 0 where
-  pub acked : o.acked ≡ heard nr s
-  pub recovery : s.recovery ≡ false → o.recovery ≡ false
-  pub peer_busy : s.peer_busy ≡ false → (o.peer_busy ≡ false) ⊎ Rnr
-  pub tries : o.tries ≤ s.tries
 
 -- ---- the near end hears
 
@@ -157,13 +143,7 @@ module _ (Rnr : Type 0) (c d : Settings) (joined : AreJoined c d) (reads : Reads
   near_front w b may h (rr true nr true ∷ gs) back reports = inl (near_poll w b may (ready_of w h) nr gs back reports.1)
   near_front w b may h (rr false nr true ∷ gs) back reports = not_both true refl reports.0
   near_front w b may h (rr command nr false ∷ gs) back reports = inl (near_ready w b (ready_of w h) command nr gs back reports.1)
-  near_front w b may h (rnr command nr pf ∷ gs) back reports = absurd reports
-  near_front w b may h (rej command nr pf ∷ gs) back reports = absurd reports
-  near_front w b may h (sabm p ∷ gs) back reports = absurd reports
-  near_front w b may h (disc p ∷ gs) back reports = absurd reports
-  near_front w b may h (ua p ∷ gs) back reports = absurd reports
-  near_front w b may h (dm p ∷ gs) back reports = absurd reports
-  near_front w b may h (frmr p why ∷ gs) back reports = absurd reports
+  near_front w b may h (frame ∷ gs) back reports = absurd reports
 
   -- or nothing comes
   pub near_resent : (w : Stations) → BothUp c d w → (is_busy w.near.station ≡ true → Rnr) → Resent Rnr c d w → NearResends Rnr c d w ⊎ (acts c Deliver w ≡ w)
@@ -182,11 +162,6 @@ module _ (Rnr : Type 0) (c d : Settings) (joined : AreJoined c d) (reads : Reads
 
 -- ---- the far end hears
 
--- RR or RNR is heard
-free_or : {Rnr : Type 0} (busy : Bool) → (busy ≡ true → Rnr) → (busy ≡ false) ⊎ Rnr
-free_or true may = inr (may refl)
-free_or false may = inl refl
-
 abbrev pub far_delivers : Settings → Stations → Stations
 far_delivers d w = swapped (acts d Deliver (swapped w))
 
@@ -195,7 +170,6 @@ pub record Plain (Rnr : Type 0) (c d : Settings) (w : Stations) (gs fs : List Pl
   pub nr : ℕ
   pub o : Outcome
   pub hears : Heard d c (swapped w) gs fs nr o
-  pub calm : Calm Rnr w.far.station nr o
   pub first : o.first ≡ []
   pub taken : o.taken ≡ w.far.station.taken
 
@@ -206,7 +180,6 @@ pub record FarResends (Rnr : Type 0) (c d : Settings) (w : Stations) : Type 0 wh
   pub nr : ℕ
   pub o : Outcome
   pub hears : Heard d c (swapped w) gs fs nr o
-  pub calm : Calm Rnr w.far.station nr o
   pub resent : Resent Rnr c d (far_delivers d w)
 
 module _ (Rnr : Type 0) (c d : Settings) (joined : AreJoined c d) (reads : ReadsSpelled) (laws : HealingLaws) where
@@ -220,21 +193,21 @@ module _ (Rnr : Type 0) (c d : Settings) (joined : AreJoined c d) (reads : Reads
   plain_ready w b gs fs back busy command nr may out =
       let s = w.far.station in
       let k = hears_ready d c (joined_swapped c d joined) reads laws (swapped w) (both_up_swapped c d joined w b) gs fs busy command nr back out in
-      record { nr = nr; o = readied busy nr s; hears = k; calm = record { acked = refl; recovery = λ e. e; peer_busy = λ _. free_or busy may; tries = tries_low nr s }; first = refl; taken = refl }
+      record { nr = nr; o = readied busy nr s; hears = k; first = refl; taken = refl }
 
   plain_final : (w : Stations) → BothUp c d w → (gs fs : List PlainFrame) → Reads (other c.role) c.longest w.back gs → (busy : Bool) (nr : ℕ) → (busy ≡ true → Rnr)
       → Reads (other d.role) d.longest w.out (says busy false nr true ∷ fs) → Plain Rnr c d w gs fs
   plain_final w b gs fs back busy nr may out =
       let s = w.far.station in
       let k = hears_final d c (joined_swapped c d joined) reads laws (swapped w) (both_up_swapped c d joined w b) gs fs busy nr back out in
-      record { nr = nr; o = finished busy nr s; hears = k; calm = record { acked = refl; recovery = λ _. refl; peer_busy = λ _. free_or busy may; tries = omega arith }; first = refl; taken = refl }
+      record { nr = nr; o = finished busy nr s; hears = k; first = refl; taken = refl }
 
   plain_rej : (w : Stations) → BothUp c d w → (gs fs : List PlainFrame) → Reads (other c.role) c.longest w.back gs → (command : Bool) (nr : ℕ)
       → Reads (other d.role) d.longest w.out (rej command nr false ∷ fs) → Plain Rnr c d w gs fs
   plain_rej w b gs fs back command nr out =
       let s = w.far.station in
       let k = hears_rej d c (joined_swapped c d joined) reads laws (swapped w) (both_up_swapped c d joined w b) gs fs command nr back out in
-      record { nr = nr; o = rejected nr s; hears = k; calm = record { acked = refl; recovery = λ e. e; peer_busy = λ _. inl refl; tries = tries_low nr s }; first = refl; taken = refl }
+      record { nr = nr; o = rejected nr s; hears = k; first = refl; taken = refl }
 
   -- RR or RNR that isn't a poll
   plain_says : (w : Stations) → BothUp c d w → (gs fs : List PlainFrame) → Reads (other c.role) c.longest w.back gs → (busy command pf : Bool) (nr : ℕ) → (busy ≡ true → Rnr) → (command && pf) ≡ false
@@ -251,12 +224,7 @@ module _ (Rnr : Type 0) (c d : Settings) (joined : AreJoined c d) (reads : Reads
   plain_hears w b gs (rnr command nr pf ∷ fs) back out mild = inl (fs, mild.1, plain_says w b gs fs back true command pf nr (λ _. mild.2) mild.0 out)
   plain_hears w b gs (rej command nr true ∷ fs) back out mild = not_both true refl mild.0
   plain_hears w b gs (rej command nr false ∷ fs) back out mild = inl (fs, mild.1, plain_rej w b gs fs back command nr out)
-  plain_hears w b gs (info ns nr p x ∷ fs) back out mild = absurd mild
-  plain_hears w b gs (sabm p ∷ fs) back out mild = absurd mild
-  plain_hears w b gs (disc p ∷ fs) back out mild = absurd mild
-  plain_hears w b gs (ua p ∷ fs) back out mild = absurd mild
-  plain_hears w b gs (dm p ∷ fs) back out mild = absurd mild
-  plain_hears w b gs (frmr p why ∷ fs) back out mild = absurd mild
+  plain_hears w b gs (frame ∷ fs) back out mild = absurd mild
 
   -- ---- what isn't acknowledged goes again to it
 
@@ -276,7 +244,6 @@ module _ (Rnr : Type 0) (c d : Settings) (joined : AreJoined c d) (reads : Reads
         nr = k.nr;
         o = o;
         hears = k.hears;
-        calm = k.calm;
         resent = record {
           there = fs;
           behind = gs ++ v.next;
@@ -313,7 +280,6 @@ module _ (Rnr : Type 0) (c d : Settings) (joined : AreJoined c d) (reads : Reads
         nr = nr;
         o = o;
         hears = t.hears;
-        calm = record { acked = refl; recovery = λ e. e; peer_busy = λ e. inl e; tries = tries_low nr s };
         resent = record {
           there = fs;
           behind = h.behind ++ all;
@@ -338,11 +304,7 @@ module _ (Rnr : Type 0) (c d : Settings) (joined : AreJoined c d) (reads : Reads
   far_front w b free h (rnr command nr pf ∷ fs) out ahead = inl (resent_on w h fs (plain_says w b h.behind fs h.back true command pf nr (λ _. ahead.2) ahead.0 out) ahead.1)
   far_front w b free h (rej command nr true ∷ fs) out ahead = not_both true refl ahead.0
   far_front w b free h (rej command nr false ∷ fs) out ahead = inl (resent_on w h fs (plain_rej w b h.behind fs h.back command nr out) ahead.1)
-  far_front w b free h (sabm p ∷ fs) out ahead = absurd ahead
-  far_front w b free h (disc p ∷ fs) out ahead = absurd ahead
-  far_front w b free h (ua p ∷ fs) out ahead = absurd ahead
-  far_front w b free h (dm p ∷ fs) out ahead = absurd ahead
-  far_front w b free h (frmr p why ∷ fs) out ahead = absurd ahead
+  far_front w b free h (frame ∷ fs) out ahead = absurd ahead
 
   -- or nothing comes
   pub far_resent : (w : Stations) → BothUp c d w → is_busy w.far.station ≡ false → Resent Rnr c d w → FarResends Rnr c d w ⊎ (far_delivers d w ≡ w)

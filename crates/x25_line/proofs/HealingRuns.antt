@@ -200,11 +200,11 @@ module _ (c d : Settings) (joined : AreJoined c d) (reads : ReadsSpelled) (laws 
 
   -- ---- deliveries
 
-  pub near_event : (most : ℕ) (Was : Type 0) (a : Act) (w : Stations) → IsDeliver a → Heals c d most Was w → Heals c d most Was (acts c a w)
-  near_event most Was a w is h = subst (λ (act : Act). Heals c d most Was (acts c act w)) (deliver_is a is) (near_heals c d joined reads laws most Was w h)
+  pub near_event : (a : Act) (w : Stations) → IsDeliver a → Heals c d w → Heals c d (acts c a w)
+  near_event a w is h = subst (λ (act : Act). Heals c d (acts c act w)) (deliver_is a is) (near_heals c d joined reads laws w h)
 
-  pub far_event : (most : ℕ) (Was : Type 0) (a : Act) (w : Stations) → IsDeliver a → Heals c d most Was w → Heals c d most Was (swapped (acts d a (swapped w)))
-  far_event most Was a w is h = subst (λ (act : Act). Heals c d most Was (swapped (acts d act (swapped w)))) (deliver_is a is) (far_heals c d joined reads laws most Was w h)
+  pub far_event : (a : Act) (w : Stations) → IsDeliver a → Heals c d w → Heals c d (swapped (acts d a (swapped w)))
+  far_event a w is h = subst (λ (act : Act). Heals c d (swapped (acts d act (swapped w)))) (deliver_is a is) (far_heals c d joined reads laws w h)
 
   idle_act : (a : Act) (w : Stations) → IsDeliver a → w.back ≡ [] → acts c a w ≡ w
   idle_act a w is none = subst (λ (act : Act). acts c act w ≡ w) (deliver_is a is) (ap (λ (os : List (List ℕ)). delivered c os w) none)
@@ -220,10 +220,10 @@ module _ (c d : Settings) (joined : AreJoined c d) (reads : ReadsSpelled) (laws 
   -- ---- the end
 
   -- once nothing is on the line any more, the near end is at rest
-  pub settles : (most : ℕ) (Was : Type 0) (v : Stations) → Heals c d most Was v → IsDrained v → IsAtRest v.near.station
-  settles most Was v (b, inl h) drained = one_frame _ _ (reads_none (other d.role) d.longest v.out (rr true h.number true ∷ h.rest) h.out drained.out)
-  settles most Was v (b, inr (inl h)) drained = not_behind h.before (rr false h.number true) h.behind (reads_none (other c.role) c.longest v.back (h.before ++ rr false h.number true ∷ h.behind) h.back drained.back)
-  settles most Was v (b, inr (inr h)) drained = resent_rests ⊥ c d joined reads laws v (ups v b) h drained
+  pub settles : (v : Stations) → Heals c d v → IsDrained v → IsAtRest v.near.station
+  settles v (b, inl h) drained = one_frame _ _ (reads_none (other d.role) d.longest v.out (rr true h.number true ∷ h.rest) h.out drained.out)
+  settles v (b, inr (inl h)) drained = not_behind h.before (rr false h.number true) h.behind (reads_none (other c.role) c.longest v.back (h.before ++ rr false h.number true ∷ h.behind) h.back drained.back)
+  settles v (b, inr (inr h)) drained = resent_rests ⊥ c d joined reads laws v (ups v b) h drained
   -- ---- no tries are left
 
 -- ---- the same with the ends swapped

@@ -84,10 +84,7 @@ set_up_reads reads from n1 (ua f) h = reads from n1 (ua f) _ (record { in_range 
 set_up_reads reads from n1 (dm f) h = reads from n1 (dm f) _ (record { in_range = tt; carries = refl; within = tt; spelling = refl })
 set_up_reads reads from n1 (frmr f why) h = reads from n1 (frmr f why) _ (record { in_range = tt; carries = h; within = tt; spelling = refl })
 set_up_reads reads from n1 (rr command nr pf) h = reads from n1 (rr command nr pf) _ (record { in_range = h; carries = refl; within = tt; spelling = refl })
-set_up_reads reads from n1 (info ns nr p x) h = absurd h
-set_up_reads reads from n1 (rnr command nr pf) h = absurd h
-set_up_reads reads from n1 (rej command nr pf) h = absurd h
-set_up_reads reads from n1 (disc p) h = absurd h
+set_up_reads reads from n1 f h = absurd h
 
 pub reads_more_set_up : ReadsSpelled → (from : Role) (n1 : ℕ) (os : List (List ℕ)) (fs es : List PlainFrame) → Reads from n1 os fs → AreOfSetUp es → Reads from n1 (os ++ map (spelling_of from) es) (fs ++ es)
 reads_more_set_up reads from n1 [] [] es h are = spelled es are
@@ -95,9 +92,8 @@ reads_more_set_up reads from n1 [] [] es h are = spelled es are
     spelled : (es : List PlainFrame) → AreOfSetUp es → Reads from n1 (map (spelling_of from) es) es
     spelled [] are = tt
     spelled (f ∷ es) are = (set_up_reads reads from n1 f are.0, spelled es are.1)
-reads_more_set_up reads from n1 [] (f ∷ fs) es h are = absurd h
-reads_more_set_up reads from n1 (o ∷ os) [] es h are = absurd h
 reads_more_set_up reads from n1 (o ∷ os) (f ∷ fs) es h are = (h.0, reads_more_set_up reads from n1 os fs es h.1 are)
+reads_more_set_up reads from n1 os fs es h are = absurd h
 
 -- ---- a side of a step
 
@@ -157,22 +153,16 @@ calm_down (ua f) s off is = calm_declines (ua f) s off
 calm_down (dm f) s off is = calm_declines (dm f) s off
 calm_down (frmr f why) s off is = calm_declines (frmr f why) s off
 calm_down (rr command nr pf) s off is = calm_declines (rr command nr pf) s off
-calm_down (info ns nr p x) s off is = absurd is
-calm_down (rnr command nr pf) s off is = absurd is
-calm_down (rej command nr pf) s off is = absurd is
-calm_down (disc p) s off is = absurd is
+calm_down f s off is = absurd is
 
 calm_waiting : (f : PlainFrame) (s : LinkStation) → is_up s.phase ≡ false → IsOfSetUp f → IsCalm (when_waiting f (alone s)).side
 calm_waiting (sabm p) s off is = calm_sends (ua p) (alone s) tt (calm_off s off)
 calm_waiting (ua true) s off is = record { near = inl fresh_blank; out = tt }
-calm_waiting (ua false) s off is = calm_off s off
-calm_waiting (dm f) s off is = calm_off s off
-calm_waiting (frmr f why) s off is = calm_off s off
-calm_waiting (rr command nr pf) s off is = calm_off s off
 calm_waiting (info ns nr p x) s off is = absurd is
 calm_waiting (rnr command nr pf) s off is = absurd is
 calm_waiting (rej command nr pf) s off is = absurd is
 calm_waiting (disc p) s off is = absurd is
+calm_waiting f s off is = calm_off s off
 
 blank_polls : (command pf : Bool) (t : Side) → IsBlank t.near → AreOfSetUp t.out → IsCalm (polls command pf t)
 blank_polls true true t h out = calm_ready false true t h out
@@ -196,10 +186,7 @@ calm_up c octets (ua f) s h is = record { near = inl h; out = tt }
 calm_up c octets (dm f) s h is = record { near = inr refl; out = tt }
 calm_up c octets (frmr f why) s h is = record { near = inr refl; out = tt }
 calm_up c octets (rr command nr pf) s h is = blank_row c octets command pf nr s h
-calm_up c octets (info ns nr p x) s h is = absurd is
-calm_up c octets (rnr command nr pf) s h is = absurd is
-calm_up c octets (rej command nr pf) s h is = absurd is
-calm_up c octets (disc p) s h is = absurd is
+calm_up c octets f s h is = absurd is
 
 blank_of : (s : LinkStation) → is_up s.phase ≡ true → IsBlankOrOff s → IsBlank s
 blank_of s up (inl h) = h

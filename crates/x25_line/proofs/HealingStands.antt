@@ -52,10 +52,8 @@ in_it Gone from n1 e s session other_one es os view heard up = not_both (is_up e
 -- ---- what holds of two sessions alone holds of stations that may ask for set-up
 
 looser_away : (p : Phase) → MayBeAway ⊥ p → MayBeAway (Unit {0}) p
-looser_away Down h = tt
-looser_away Waiting h = tt
 looser_away Up h = absurd h
-looser_away Closed h = tt
+looser_away p h = tt
 
 looser_end : (c : Settings) (s : LinkStation) (l : End (List ℕ)) → FitsEnd ⊥ c s l → FitsEnd (Unit {0}) c s l
 looser_end c s l (inl up) = inl up
@@ -151,12 +149,7 @@ module _ (n m : ℕ) where
   act_alike : (c : Settings) (a : Act) (w : Sessions) (v : Stations) → IsDeliverOrPut a → A w v → A (acts c a w) (one.acts c a v)
   act_alike c (Put packet) w v is h = put_alike (nat_le (length packet) c.longest) w _ v _ h (acts_alike c w v h (packet ∷ []) put_refusal (put_step c packet))
   act_alike c Deliver w v is h = subst (λ (os : List (List ℕ)). A (delivered c w.back w) (one.delivered c os v)) (sym h.back) (delivered_alike c w v h w.back)
-  act_alike c T1 w v is h = absurd is
-  act_alike c Connect w v is h = absurd is
-  act_alike c Disconnect w v is h = absurd is
-  act_alike c Abandon w v is h = absurd is
-  act_alike c (Lose i) w v is h = absurd is
-  act_alike c (Damage i octets) w v is h = absurd is
+  act_alike c a w v is h = absurd is
 
 turned_alike : (n m : ℕ) (w : Sessions) (v : Stations) → Alike n m w v → Alike m n (swapped w) (one.swapped v)
 turned_alike n m w v h = record { near = h.far; far = h.near; out = h.back; back = h.out; begun = h.far_begun; far_begun = h.begun }
@@ -255,12 +248,7 @@ timely_append c d (e ∷ es) fs w h g = (h.0, timely_append c d es fs (happens c
 timely_event : (c d : Settings) (a : Act) (w : Sessions) → IsDeliverOrPut a → IsTimely c d a w
 timely_event c d (Put packet) w is = tt
 timely_event c d Deliver w is = tt
-timely_event c d T1 w is = absurd is
-timely_event c d Connect w is = absurd is
-timely_event c d Disconnect w is = absurd is
-timely_event c d Abandon w is = absurd is
-timely_event c d (Lose i) w is = absurd is
-timely_event c d (Damage i octets) w is = absurd is
+timely_event c d a w is = absurd is
 
 timely_events : (c d : Settings) (es : List Event) (w : Sessions) → AreDeliveriesAndPuts es → AreTimely c d es w
 timely_events c d [] w are = tt
@@ -400,7 +388,7 @@ module _ (reads : ReadsSpelled) (laws : HealingLaws) where
         back = h.back ∙ same.far w.far.begun;
       }
 
-  pub come_to_rest : (c d : Settings) (joined : AreJoined c d) (m n : ℕ) (v : Stations) → HealsBoth c d joined reads laws m n v → IsDrained v → HaveComeToRest v
-  come_to_rest c d joined m n v heals drained =
-      let rest = both_settle c d joined reads laws m n v heals drained in
+  pub come_to_rest : (c d : Settings) (joined : AreJoined c d) (v : Stations) → HealsBoth c d joined reads laws v → IsDrained v → HaveComeToRest v
+  come_to_rest c d joined v heals drained =
+      let rest = both_settle c d joined reads laws v heals drained in
       record { near = rest.0.rest; far = rest.1.rest; once = record { near = heals.0.0.sound.joint.near_notes.once; far = heals.0.0.sound.joint.far_notes.once } }

@@ -60,9 +60,7 @@ both_up_swapped c d joined w h = record { sound = sound_swapped c d joined w h.s
 
 pub up_is : (p : Phase) → is_up p ≡ true → p ≡ Up
 up_is Up e = refl
-up_is Down e = not_both false e refl
-up_is Waiting e = not_both false e refl
-up_is Closed e = not_both false e refl
+up_is p e = not_both false e refl
 
 -- what the near end counts as acknowledged was taken by the far end, and what that took was sent
 pub record Counted (k : ℕ) (near far : LinkStation) : Type 0 where
@@ -117,22 +115,14 @@ has_number (info ns nr p x) h = refl
 has_number (rr command nr pf) h = refl
 has_number (rnr command nr pf) h = refl
 has_number (rej command nr pf) h = refl
-has_number (sabm p) h = absurd h
-has_number (disc p) h = absurd h
-has_number (ua p) h = absurd h
-has_number (dm p) h = absurd h
-has_number (frmr p why) h = absurd h
+has_number f h = absurd h
 
 shows_number : (f : PlainFrame) (g : Frame (List ℕ)) → IsNumbered f → Shows f g → number_of f ≡ g.ack % 8
 shows_number (info ns nr p x) g h s = s.1
 shows_number (rr command nr pf) g h s = s.1
 shows_number (rnr command nr pf) g h s = s.1
 shows_number (rej command nr pf) g h s = s.1
-shows_number (sabm p) g h s = absurd h
-shows_number (disc p) g h s = absurd h
-shows_number (ua p) g h s = absurd h
-shows_number (dm p) g h s = absurd h
-shows_number (frmr p why) g h s = absurd h
+shows_number f g h s = absurd h
 
 -- an N(R) that comes is valid, and stands for a number that the other end has taken
 pub record HearsWell (s other : LinkStation) (nr : ℕ) : Type 0 where
@@ -171,13 +161,7 @@ hears_well c d w h up other_up f gs is_numbered r =
 
 pub deliver_is : (a : Act) → IsDeliver a → Deliver ≡ a
 deliver_is Deliver is = refl
-deliver_is (Put packet) is = absurd is
-deliver_is T1 is = absurd is
-deliver_is Connect is = absurd is
-deliver_is Disconnect is = absurd is
-deliver_is Abandon is = absurd is
-deliver_is (Lose i) is = absurd is
-deliver_is (Damage i octets) is = absurd is
+deliver_is a is = absurd is
 
 -- what it makes of the world, where the step answers so
 pub record Delivered (c d : Settings) (w v : Stations) (fs gs : List PlainFrame) (o : Outcome) (octets : List ℕ) : Type 0 where

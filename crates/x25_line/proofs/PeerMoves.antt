@@ -190,12 +190,8 @@ module _ (Odd : Type 0) (c : Settings) (p q : Peer) (n : StationEnd) (back : Lis
   heard_by e gs hs h (Ok (rr command nr pf)) shows may = told_heard e gs hs h (rr command nr pf) nr (front_of (rr command nr pf) (numbered_on c.role c.longest rest) gs shows) may.0 (λ g b. b.1) may.1
   heard_by e gs hs h (Ok (rnr command nr pf)) shows may = told_heard e gs hs h (rnr command nr pf) nr (front_of (rnr command nr pf) (numbered_on c.role c.longest rest) gs shows) may.0 (λ g b. b.1) may.1
   heard_by e gs hs h (Ok (rej command nr pf)) shows may = told_heard e gs hs h (rej command nr pf) nr (front_of (rej command nr pf) (numbered_on c.role c.longest rest) gs shows) may.0 (λ g b. b.1) may.1
-  heard_by e gs hs h (Ok (sabm pf)) shows may = none_heard e gs hs h shows may
-  heard_by e gs hs h (Ok (disc pf)) shows may = none_heard e gs hs h shows may
-  heard_by e gs hs h (Ok (ua f)) shows may = none_heard e gs hs h shows may
-  heard_by e gs hs h (Ok (dm f)) shows may = none_heard e gs hs h shows may
-  heard_by e gs hs h (Ok (frmr f why)) shows may = none_heard e gs hs h shows may
-  heard_by e gs hs h (Err x) shows may = none_heard e gs hs h shows may
+  heard_by e gs hs h (Err TooLong) shows may = none_heard e gs hs h shows may
+  heard_by e gs hs h r shows may = none_heard e gs hs h shows may
 
   pub heard_holds : MayHear p (frame_of c.role c.longest octets) q → Holds Odd c p n (octets ∷ rest) back → Holds Odd c q n rest back
   heard_holds may holds = heard_by holds.machine holds.there holds.here holds.joint (frame_of c.role c.longest octets) holds.joint.out_shows may

@@ -61,11 +61,7 @@ once_before : (Odd : Type 0) (c : Settings) (w v : Joined) → Happens Odd c w v
 once_before Odd c w v (Ours act) once =
     let hands : HandsOne act (our_end w) (acts c act (our_end w)) = each_hands_one c c (Near act) (our_end w) in
     noted_before act w.near.came_up (acts c act (our_end w)).near.came_up hands.came_up once
-once_before Odd c w v (HandsDown packet) once = once
-once_before Odd c w v (Sends octets q may) once = once
-once_before Odd c w v (Hears octets rest q is may) once = once
-once_before Odd c w v (Loses i) once = once
-once_before Odd c w v (Damages i octets visible) once = once
+once_before Odd c w v other once = once
 
 -- ---- events
 

@@ -37,9 +37,6 @@ sent_more n1 p told out back from w v frames fs gs h kept shows good given taken
 
 more : (n1 : ℕ) (p : Window) (told : ℕ) (out back : List (Frame (List ℕ))) (from w : Window) (frames : List PlainFrame) → AllWithin n1 from.given → (s : Step (List ℕ)) (fs : List PlainFrame)
     → IsSent s → Allows w s → ShowAll fs (frames_of w s) → Sent n1 p told out back from w frames → Sent n1 p told out back from (after w s) (frames ++ fs)
-more n1 p told out back from w frames within (HandDown x) fs sends may shows h = absurd sends
-more n1 p told out back from w frames within (Hear ack) fs sends may shows h = absurd sends
-more n1 p told out back from w frames within (Take n x) fs sends may shows h = absurd sends
 more n1 p told out back from w frames within Tell fs sends may shows h =
     sent_more n1 p told out back from w w frames fs (frames_of w Tell) h (told-sent w p told (out ++ h.behind) back h.kept) shows
     (single_good n1 (frame_of w None) (tell_good n1 w) fs shows) refl refl
@@ -47,6 +44,7 @@ more n1 p told out back from w frames within (Send n) fs sends may shows h =
     let item = item_at n1 w.given n may.3 (subst (AllWithin n1) (sym h.given) within) in
     sent_more n1 p told out back from w (after w (Send n)) frames fs (frames_of w (Send n)) h (item-sent w p told (out ++ h.behind) back n may h.kept) shows
     (single_good n1 (frame_of (after w (Send n)) (numbered n (slice_get w.given n))) (send_good n1 n w item) fs shows) refl refl
+more n1 p told out back from w frames within s fs sends may shows h = absurd sends
 
 pub runs_sent : (n1 : ℕ) (p : Window) (told : ℕ) (out back : List (Frame (List ℕ))) (from : Window) → PeerKept from p told out back → AllWithin n1 from.given
     → (w : Window) (frames : List PlainFrame) → Runs from w frames → Sent n1 p told out back from w frames

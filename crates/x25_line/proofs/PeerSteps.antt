@@ -37,13 +37,10 @@ end_of p = record { window = 7; given = p.given; acked = p.acked; sent = p.sent;
 
 -- a frame of LAPB, or octets that are passed over
 abbrev pub IsLapb : Type 0 → Result PlainFrame FrameError → Type 0
-IsLapb Odd (Ok frame) = Unit {0}
-IsLapb Odd (Err Short) = Unit {0}
-IsLapb Odd (Err BadFcs) = Unit {0}
-IsLapb Odd (Err BadAddress) = Unit {0}
 IsLapb Odd (Err (Undefined control)) = Odd
 IsLapb Odd (Err (NoInfoAllowed control)) = Odd
 IsLapb Odd (Err TooLong) = Odd
+IsLapb Odd read = Unit {0}
 
 abbrev pub AreLapb : Type 0 → Role → ℕ → List (List ℕ) → Type 0
 AreLapb Odd from n1 [] = Unit {0}
@@ -322,9 +319,7 @@ module _ (Odd : Type 0) (c : Settings) (p : Peer) (reads : ReadsSpelled) where
       quiet_holds w e gs hs hs h u os (receives (ua f)) step h.kept shows lapb (λ packet. refl) (λ y k. k) follows
   read_holds w e gs hs h u (Ok (dm f)) os step no_sabm is three lapb shows follows = ends_holds w e gs hs h os step Dm tt shows lapb follows
   read_holds w e gs hs h u (Ok (frmr f why)) os step no_sabm is three lapb shows follows = ends_holds w e gs hs h os step FrmrGot tt shows lapb follows
-  read_holds w e gs hs h u (Err Short) os step no_sabm is three lapb shows follows = quiet_holds w e gs hs hs h u os nothing step h.kept shows lapb (λ packet. refl) (λ y k. k) follows
-  read_holds w e gs hs h u (Err BadFcs) os step no_sabm is three lapb shows follows = quiet_holds w e gs hs hs h u os nothing step h.kept shows lapb (λ packet. refl) (λ y k. k) follows
-  read_holds w e gs hs h u (Err BadAddress) os step no_sabm is three lapb shows follows = quiet_holds w e gs hs hs h u os nothing step h.kept shows lapb (λ packet. refl) (λ y k. k) follows
   read_holds w e gs hs h u (Err (Undefined control)) os step no_sabm is three lapb shows follows = frmr_holds w e gs hs h os step is shows lapb (λ f why out. three f why refl out) follows
   read_holds w e gs hs h u (Err (NoInfoAllowed control)) os step no_sabm is three lapb shows follows = frmr_holds w e gs hs h os step is shows lapb (λ f why out. three f why refl out) follows
   read_holds w e gs hs h u (Err TooLong) os step no_sabm is three lapb shows follows = frmr_holds w e gs hs h os step is shows lapb (λ f why out. three f why refl out) follows
+  read_holds w e gs hs h u (Err error) os step no_sabm is three lapb shows follows = quiet_holds w e gs hs hs h u os nothing step h.kept shows lapb (λ packet. refl) (λ y k. k) follows

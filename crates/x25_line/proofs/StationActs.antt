@@ -44,14 +44,9 @@ pub record Parts (step : Step) : Type 0 where
   pub noted : NotesNoFrmr step.notes.down
 
 leaves_no_frmr : (reason : Reason) → Leaves reason → NotesNoFrmr (Some reason)
-leaves_no_frmr Retries l = tt
-leaves_no_frmr Disc l = tt
-leaves_no_frmr Dm l = tt
 leaves_no_frmr FrmrSent l = absurd l
-leaves_no_frmr FrmrGot l = tt
 leaves_no_frmr Reset l = absurd l
-leaves_no_frmr Local l = tt
-leaves_no_frmr Counts l = tt
+leaves_no_frmr reason l = tt
 
 pub ends_parts : (reason : Reason) (step : Step) → Leaves reason → Ends reason step → Parts step
 ends_parts reason step leaves ends =
@@ -78,16 +73,8 @@ pub record Lasts (c : Settings) (P : Stations → Type 0) : Type 0 where
 
 -- octets that set no link up
 sets_no_link_up : (r : Result PlainFrame FrameError) → NoSabm r → sets_up r ≡ false
-sets_no_link_up (Ok (info ns nr p x)) h = refl
-sets_no_link_up (Ok (rr command nr pf)) h = refl
-sets_no_link_up (Ok (rnr command nr pf)) h = refl
-sets_no_link_up (Ok (rej command nr pf)) h = refl
 sets_no_link_up (Ok (sabm p)) h = absurd (h p refl)
-sets_no_link_up (Ok (disc p)) h = refl
-sets_no_link_up (Ok (ua f)) h = refl
-sets_no_link_up (Ok (dm f)) h = refl
-sets_no_link_up (Ok (frmr f why)) h = refl
-sets_no_link_up (Err e) h = refl
+sets_no_link_up r h = refl
 
 quiet_no_frmr : (step : Step) → IsQuiet step → NotesNoFrmr step.notes.down
 quiet_no_frmr step quiet = subst (λ (n : Notes). NotesNoFrmr n.down) (sym quiet) tt
@@ -227,12 +214,11 @@ module _ (c : Settings) (P : Stations → Type 0) (laws : Laws) (keeps : Lasts c
           }
 
       by_phase : (q : Phase) → s.phase ≡ q → IsAway MayAsk s → MayBeAway MayAsk q → Parts (disconnect_step c s)
-      by_phase Down phase away may = closes (subst IsOut (sym phase) tt) away
       by_phase Waiting phase away may =
           let i = laws.set_up.disconnects c s phase in
           asks_parts (with_nothing Closed s.tries) (disc true ∷ []) (disconnect_step c s) i.near i.out i.packet tt (record { away = tt; empty = refl }) (subst NotesNoFrmr (sym i.down) tt)
       by_phase Up phase away may = absurd may
-      by_phase Closed phase away may = closes (subst IsOut (sym phase) tt) away
+      by_phase q phase away may = closes (subst IsOut (sym phase) tt) away
 
       go : FitsEnd MayAsk c s (keeps.machine w h) → Parts (disconnect_step c s)
       go (inl u) = ends_parts Local (disconnect_step c s) tt (laws.window.disconnect c s (record { up = u.up; sound = u.sound }))

@@ -56,29 +56,12 @@ closed_takes c octets s is =
 -- ---- what comes while UA is awaited, other than that
 
 pub waits_on : (read : Result PlainFrame FrameError) (s : LinkStation) → waiting_up read ≡ false → waiting_after read s ≡ s
-waits_on (Ok (info ns nr p x)) s e = refl
-waits_on (Ok (rr command nr pf)) s e = refl
-waits_on (Ok (rnr command nr pf)) s e = refl
-waits_on (Ok (rej command nr pf)) s e = refl
-waits_on (Ok (sabm p)) s e = refl
-waits_on (Ok (disc p)) s e = refl
 waits_on (Ok (ua true)) s e = not_both true refl e
-waits_on (Ok (ua false)) s e = refl
-waits_on (Ok (dm f)) s e = refl
-waits_on (Ok (frmr f why)) s e = refl
-waits_on (Err x) s e = refl
+waits_on read s e = refl
 
 pub waiting_parting : (MayAsk : Type 0) (read : Result PlainFrame FrameError) → AreParting MayAsk (waiting_sends read)
 waiting_parting MayAsk (Ok (info ns nr p x)) = tt
-waiting_parting MayAsk (Ok (rr command nr pf)) = tt
-waiting_parting MayAsk (Ok (rnr command nr pf)) = tt
-waiting_parting MayAsk (Ok (rej command nr pf)) = tt
-waiting_parting MayAsk (Ok (sabm p)) = tt
-waiting_parting MayAsk (Ok (disc p)) = tt
-waiting_parting MayAsk (Ok (ua f)) = tt
-waiting_parting MayAsk (Ok (dm f)) = tt
-waiting_parting MayAsk (Ok (frmr f why)) = tt
-waiting_parting MayAsk (Err x) = tt
+waiting_parting MayAsk read = tt
 
 pub quiet_by : (step : Step) → step.notes.down ≡ None → step.notes.up ≡ false → IsQuiet step
 quiet_by step down up =
@@ -88,25 +71,19 @@ quiet_by step down up =
 -- ---- by the phase
 
 pub up_takes_part : (p : Phase) → is_up p ≡ true → TakesPart p
-up_takes_part Down e = not_both false e refl
-up_takes_part Waiting e = not_both false e refl
 up_takes_part Up e = tt
-up_takes_part Closed e = not_both false e refl
+up_takes_part p e = not_both false e refl
 
 -- Connect is accepted in Down alone
 pub connects_from : (p : Phase) → connect_refusal p ≡ None → p ≡ Down
 connects_from Down e = refl
-connects_from Waiting e = cc
-connects_from Up e = cc
-connects_from Closed e = cc
+connects_from p e = cc
 
 -- ---- FRMR has three octets
 
 pub is_up_phase : (q : Phase) → is_up q ≡ true → q ≡ Up
-is_up_phase Down e = not_both false e refl
-is_up_phase Waiting e = not_both false e refl
 is_up_phase Up e = refl
-is_up_phase Closed e = not_both false e refl
+is_up_phase q e = not_both false e refl
 
 same_length : (b f : Bool) (xs ys : List ℕ) → frmr b xs ∷ [] ≡ frmr f ys ∷ [] → length xs ≡ length ys
 same_length b f xs ys e = ap (λ (fs : List PlainFrame). octets_in fs) e
@@ -137,17 +114,10 @@ module _ (c : Settings) (octets : List ℕ) (s : LinkStation) (f : Bool) (why : 
   frmr_row (Ok (rr command nr pf)) is out = invalid nr (λ u. quiet (polls command pf (peer_is false u))) (is_valid nr s) refl is out
   frmr_row (Ok (rnr command nr pf)) is out = invalid nr (λ u. quiet (polls command pf (peer_is true u))) (is_valid nr s) refl is out
   frmr_row (Ok (rej command nr pf)) is out = invalid nr (λ u. quiet (polls command pf (goes_back (peer_is false u)))) (is_valid nr s) refl is out
-  frmr_row (Ok (sabm p)) is out = cc
-  frmr_row (Ok (disc p)) is out = cc
-  frmr_row (Ok (ua p)) is out = cc
-  frmr_row (Ok (dm p)) is out = cc
-  frmr_row (Ok (frmr p xs)) is out = cc
-  frmr_row (Err Short) is out = cc
-  frmr_row (Err BadFcs) is out = cc
-  frmr_row (Err BadAddress) is out = cc
   frmr_row (Err (Undefined control)) is out = rejected 1 out
   frmr_row (Err (NoInfoAllowed control)) is out = rejected 3 out
   frmr_row (Err TooLong) is out = rejected 4 out
+  frmr_row r is out = cc
 
 pub frmr_three : (c : Settings) (octets : List ℕ) (s : LinkStation) → s.phase ≡ Up → (r : Result PlainFrame FrameError) → r ≡ frame_of (other c.role) c.longest octets → (f : Bool) (why : List ℕ)
     → ending_of r (window_of c.window s) ≡ Some FrmrSent → (take_step c octets s).side.out ≡ frmr f why ∷ [] → length why ≡ 3

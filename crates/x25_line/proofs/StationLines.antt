@@ -21,9 +21,8 @@ use Rattle.x25_line.specs.laws.WholeNumbers.{first_of, one_more, behind, place_o
 
 pub shows_append : (fs es : List PlainFrame) (gs hs : List (Frame (List ℕ))) → ShowAll fs gs → ShowAll es hs → ShowAll (fs ++ es) (gs ++ hs)
 shows_append [] es [] hs f e = e
-shows_append [] es (g ∷ gs) hs f e = absurd f
-shows_append (x ∷ fs) es [] hs f e = absurd f
 shows_append (x ∷ fs) es (g ∷ gs) hs f e = (f.0, shows_append fs es gs hs f.1 e)
+shows_append fs es gs hs f e = absurd f
 
 -- what stands for the first frame
 pub record Front (f : PlainFrame) (rest : List PlainFrame) (bs : List (Frame (List ℕ))) : Type 0 where
@@ -53,31 +52,21 @@ carried_of ns x (Some q) h = record { item = q; is = refl; number = h.0; same = 
 abbrev pub IsOrderly : Type 0 → Result PlainFrame FrameError → Type 0
 IsOrderly MayAsk (Ok (sabm p)) = MayAsk
 IsOrderly MayAsk (Ok (frmr f why)) = ⊥
-IsOrderly MayAsk (Ok frame) = Unit {0}
-IsOrderly MayAsk (Err Short) = Unit {0}
-IsOrderly MayAsk (Err BadFcs) = Unit {0}
 IsOrderly MayAsk (Err BadAddress) = ⊥
 IsOrderly MayAsk (Err (Undefined control)) = ⊥
 IsOrderly MayAsk (Err (NoInfoAllowed control)) = ⊥
 IsOrderly MayAsk (Err TooLong) = ⊥
+IsOrderly MayAsk read = Unit {0}
 
 -- whether an end may ask matters to a SABM alone
 pub orderly_where : (A B : Type 0) (r : Result PlainFrame FrameError) → ((p : Bool) → r ≡ Ok (sabm p) → A → B) → IsOrderly A r → IsOrderly B r
-orderly_where A B (Ok (info ns nr p x)) more h = tt
-orderly_where A B (Ok (rr command nr pf)) more h = tt
-orderly_where A B (Ok (rnr command nr pf)) more h = tt
-orderly_where A B (Ok (rej command nr pf)) more h = tt
 orderly_where A B (Ok (sabm p)) more h = more p refl h
-orderly_where A B (Ok (disc p)) more h = tt
-orderly_where A B (Ok (ua f)) more h = tt
-orderly_where A B (Ok (dm f)) more h = tt
 orderly_where A B (Ok (frmr f why)) more h = absurd h
-orderly_where A B (Err Short) more h = tt
-orderly_where A B (Err BadFcs) more h = tt
 orderly_where A B (Err BadAddress) more h = absurd h
 orderly_where A B (Err (Undefined control)) more h = absurd h
 orderly_where A B (Err (NoInfoAllowed control)) more h = absurd h
 orderly_where A B (Err TooLong) more h = absurd h
+orderly_where A B r more h = tt
 
 abbrev pub AreOrderly : Type 0 → Role → ℕ → List (List ℕ) → Type 0
 AreOrderly MayAsk from n1 [] = Unit {0}
@@ -129,27 +118,14 @@ AreParting MayAsk (dm f ∷ fs) = AreParting MayAsk fs
 AreParting MayAsk (f ∷ fs) = ⊥
 
 no_frmr_cons : (f : PlainFrame) (fs : List PlainFrame) → IsOrderly ⊥ (Ok f) → NoFrmr fs → NoFrmr (f ∷ fs)
-no_frmr_cons (info ns nr p x) fs o h = h
-no_frmr_cons (rr command nr pf) fs o h = h
-no_frmr_cons (rnr command nr pf) fs o h = h
-no_frmr_cons (rej command nr pf) fs o h = h
 no_frmr_cons (sabm p) fs o h = absurd o
-no_frmr_cons (disc p) fs o h = h
-no_frmr_cons (ua f) fs o h = h
-no_frmr_cons (dm f) fs o h = h
 no_frmr_cons (frmr f why) fs o h = absurd o
+no_frmr_cons f fs o h = h
 
 pub no_frmr_append : (fs es : List PlainFrame) → NoFrmr fs → NoFrmr es → NoFrmr (fs ++ es)
 no_frmr_append [] es f e = e
-no_frmr_append (info ns nr p x ∷ fs) es f e = no_frmr_append fs es f e
-no_frmr_append (rr command nr pf ∷ fs) es f e = no_frmr_append fs es f e
-no_frmr_append (rnr command nr pf ∷ fs) es f e = no_frmr_append fs es f e
-no_frmr_append (rej command nr pf ∷ fs) es f e = no_frmr_append fs es f e
-no_frmr_append (sabm p ∷ fs) es f e = no_frmr_append fs es f e
-no_frmr_append (disc p ∷ fs) es f e = no_frmr_append fs es f e
-no_frmr_append (ua g ∷ fs) es f e = no_frmr_append fs es f e
-no_frmr_append (dm g ∷ fs) es f e = no_frmr_append fs es f e
 no_frmr_append (frmr g why ∷ fs) es f e = absurd f
+no_frmr_append (frame ∷ fs) es f e = no_frmr_append fs es f e
 
 pub good_no_frmr : (n1 : ℕ) (fs : List PlainFrame) → AllGood n1 fs → NoFrmr fs
 good_no_frmr n1 [] h = tt
@@ -161,11 +137,7 @@ parting_no_frmr MayAsk (sabm p ∷ fs) h = parting_no_frmr MayAsk fs h.1
 parting_no_frmr MayAsk (disc p ∷ fs) h = parting_no_frmr MayAsk fs h
 parting_no_frmr MayAsk (ua f ∷ fs) h = parting_no_frmr MayAsk fs h
 parting_no_frmr MayAsk (dm f ∷ fs) h = parting_no_frmr MayAsk fs h
-parting_no_frmr MayAsk (info ns nr p x ∷ fs) h = absurd h
-parting_no_frmr MayAsk (rr command nr pf ∷ fs) h = absurd h
-parting_no_frmr MayAsk (rnr command nr pf ∷ fs) h = absurd h
-parting_no_frmr MayAsk (rej command nr pf ∷ fs) h = absurd h
-parting_no_frmr MayAsk (frmr f why ∷ fs) h = absurd h
+parting_no_frmr MayAsk (frame ∷ fs) h = absurd h
 
 -- ---- whole frames
 
@@ -179,14 +151,7 @@ handed_append given (f ∷ fs) es h g = (h.0, handed_append given fs es h.1 g)
 
 handed_more : (xs ys : List (List ℕ)) → ((x : List ℕ) → Contains xs x → Contains ys x) → (f : PlainFrame) → IsHandedDown xs f → IsHandedDown ys f
 handed_more xs ys more (info ns nr p x) h = more x h
-handed_more xs ys more (rr command nr pf) h = tt
-handed_more xs ys more (rnr command nr pf) h = tt
-handed_more xs ys more (rej command nr pf) h = tt
-handed_more xs ys more (sabm p) h = tt
-handed_more xs ys more (disc p) h = tt
-handed_more xs ys more (ua f) h = tt
-handed_more xs ys more (dm f) h = tt
-handed_more xs ys more (frmr f why) h = tt
+handed_more xs ys more f h = tt
 
 -- where more was handed down
 pub whole_more : (n1 : ℕ) (xs ys : List (List ℕ)) → ((x : List ℕ) → Contains xs x → Contains ys x) → (fs : List PlainFrame) → AreWhole n1 xs fs → AreWhole n1 ys fs
@@ -211,11 +176,7 @@ parting_whole MayAsk n1 given (sabm p ∷ fs) h = (record { in_range = tt; carri
 parting_whole MayAsk n1 given (disc p ∷ fs) h = (record { in_range = tt; carries = refl; within = tt; packet = tt }, parting_whole MayAsk n1 given fs h)
 parting_whole MayAsk n1 given (ua f ∷ fs) h = (record { in_range = tt; carries = refl; within = tt; packet = tt }, parting_whole MayAsk n1 given fs h)
 parting_whole MayAsk n1 given (dm f ∷ fs) h = (record { in_range = tt; carries = refl; within = tt; packet = tt }, parting_whole MayAsk n1 given fs h)
-parting_whole MayAsk n1 given (info ns nr p x ∷ fs) h = absurd h
-parting_whole MayAsk n1 given (rr command nr pf ∷ fs) h = absurd h
-parting_whole MayAsk n1 given (rnr command nr pf ∷ fs) h = absurd h
-parting_whole MayAsk n1 given (rej command nr pf ∷ fs) h = absurd h
-parting_whole MayAsk n1 given (frmr f why ∷ fs) h = absurd h
+parting_whole MayAsk n1 given (frame ∷ fs) h = absurd h
 
 -- what was handed down at either end, and then more at the first
 pub first_more : (xs ys more : List (List ℕ)) (x : List ℕ) → Contains (xs ++ ys) x → Contains ((xs ++ more) ++ ys) x
@@ -260,11 +221,7 @@ module _ (reads : ReadsSpelled) (from : Role) (n1 : ℕ) where
   parting_numbered MayAsk (disc p ∷ fs) h = rw (disc_reads p) (parting_numbered MayAsk fs h)
   parting_numbered MayAsk (ua f ∷ fs) h = rw (ua_reads f) (parting_numbered MayAsk fs h)
   parting_numbered MayAsk (dm f ∷ fs) h = rw (dm_reads f) (parting_numbered MayAsk fs h)
-  parting_numbered MayAsk (info ns nr p x ∷ fs) h = absurd h
-  parting_numbered MayAsk (rr command nr pf ∷ fs) h = absurd h
-  parting_numbered MayAsk (rnr command nr pf ∷ fs) h = absurd h
-  parting_numbered MayAsk (rej command nr pf ∷ fs) h = absurd h
-  parting_numbered MayAsk (frmr f why ∷ fs) h = absurd h
+  parting_numbered MayAsk (frame ∷ fs) h = absurd h
 
   pub parting_orderly : (MayAsk : Type 0) (fs : List PlainFrame) → AreParting MayAsk fs → AreOrderly MayAsk from n1 (map (spelling_of from) fs)
   parting_orderly MayAsk [] h = tt
@@ -272,11 +229,7 @@ module _ (reads : ReadsSpelled) (from : Role) (n1 : ℕ) where
   parting_orderly MayAsk (disc p ∷ fs) h = (rw (disc_reads p) tt, parting_orderly MayAsk fs h)
   parting_orderly MayAsk (ua f ∷ fs) h = (rw (ua_reads f) tt, parting_orderly MayAsk fs h)
   parting_orderly MayAsk (dm f ∷ fs) h = (rw (dm_reads f) tt, parting_orderly MayAsk fs h)
-  parting_orderly MayAsk (info ns nr p x ∷ fs) h = absurd h
-  parting_orderly MayAsk (rr command nr pf ∷ fs) h = absurd h
-  parting_orderly MayAsk (rnr command nr pf ∷ fs) h = absurd h
-  parting_orderly MayAsk (rej command nr pf ∷ fs) h = absurd h
-  parting_orderly MayAsk (frmr f why ∷ fs) h = absurd h
+  parting_orderly MayAsk (frame ∷ fs) h = absurd h
 
 -- ---- what is lost or damaged
 

@@ -7,7 +7,7 @@ use Rattle.x25_frame.specs.Frame.{PlainFrame, info, rr, rnr, rej, sabm, disc, ua
 use Rattle.x25_frame.specs.Reading.{frame_of}
 use Rattle.x25_frame.specs.laws.ReadingLaw.{ReadsSpelled}
 use Rattle.x25_frame.specs.declared.error.FrameError.{FrameError}
-use Rattle.x25_frame.specs.declared.error.FrameError.TheVariants.{Short, BadFcs, BadAddress, Undefined, NoInfoAllowed, TooLong}
+use Rattle.x25_frame.specs.declared.error.FrameError.TheVariants.{Undefined, NoInfoAllowed, TooLong}
 use Rattle.x25_window.specs.code.Modulo.{resolved}
 use Rattle.x25_window.specs.laws.Window.{after}
 use Rattle.x25_window.specs.laws.Window.Step.{HandDown, Hear, Take}
@@ -23,7 +23,8 @@ use Rattle.x25_line.specs.laws.InWindow.{IsPrefix}
 use Rattle.x25_line.specs.laws.Stations.{StationEnd, Stations, Act, Put, Deliver, T1, Connect, Disconnect, Abandon, Lose, Damage, Event, Near, Far, after_step, unless, delivered, replaced, is_visible, acts, swapped, happens, run, start}
 use Rattle.x25_line.specs.laws.StationClaims.{AreJoined, IsSetUpOnce, Always, BothInOrder, InOrder, HandsOne}
 use Rattle.x25_line.specs.laws.LawsBelow.{Laws}
-use Rattle.x25_line.specs.laws.Peer.{Peer, fresh_peer, hearing, IsWanted, taking, MayHear}
+use Rattle.x25_line.specs.laws.Said.{Said, Tells, said}
+use Rattle.x25_line.specs.laws.Peer.{Peer, fresh_peer, hearing, IsWanted, taking, MayMake, MayHear}
 use Rattle.x25_line.specs.laws.PeerJoined.{our_end, with_peer, Ours, HandsDown, Hears, Loses, Damages, IsReached, at_start, goes_on}
 use Rattle.x25_line.specs.laws.StationPeers.{seen, IsPeer, AreBothPeers}
 use Rattle.x25_line.proofs.StationSends.{AllWithin, within_push}
@@ -47,19 +48,12 @@ pub record Seen (c d : Settings) (w : Stations) : Type 0 where
   pub up : peer.taken ≡ w.near.up
 
 -- anything may be passed over
-passes : (p : Peer) (r : Result PlainFrame FrameError) → MayHear p r p
-passes p (Ok (info ns nr pf x)) = (false, false, tt, refl)
-passes p (Ok (rr command nr pf)) = (false, refl)
-passes p (Ok (rnr command nr pf)) = (false, refl)
-passes p (Ok (rej command nr pf)) = (false, refl)
-passes p (Ok (sabm pf)) = refl
-passes p (Ok (disc pf)) = refl
-passes p (Ok (ua pf)) = refl
-passes p (Ok (dm pf)) = refl
-passes p (Ok (frmr pf why)) = refl
-passes p (Err e) = refl
+pub passes : (p : Peer) (s : Said) → MayMake p s p
+passes p (Tells None nr) = (false, refl)
+passes p (Tells (Some c) nr) = (false, false, tt, refl)
+passes p s = refl
 
-low_resolved : (a x : ℕ) → a ≤ resolved a x
+pub low_resolved : (a x : ℕ) → a ≤ resolved a x
 low_resolved a x = omega arith
 
 module _ (c d : Settings) (joined : AreJoined c d) (reads : ReadsSpelled) (laws : Laws) where
@@ -155,7 +149,7 @@ module _ (c d : Settings) (joined : AreJoined c d) (reads : ReadsSpelled) (laws 
     passed =
         record {
           peer = h.peer;
-          reached = comes h.peer (passes h.peer (frame_of (other d.role) d.longest o));
+          reached = comes h.peer (passes h.peer (said (frame_of (other d.role) d.longest o)));
           is = refl;
           room = h.room;
           told = h.told;
@@ -270,12 +264,10 @@ module _ (c d : Settings) (joined : AreJoined c d) (reads : ReadsSpelled) (laws 
       read_seen (Ok (ua p)) read no_sabm follows = quiet_seen (receives (ua p)) refl (λ y never. never) follows
       read_seen (Ok (dm p)) read no_sabm follows = ends_seen w os step (machine_of k h.peer) Dm tt passed follows
       read_seen (Ok (frmr p why)) read no_sabm follows = ends_seen w os step (machine_of k h.peer) FrmrGot tt passed follows
-      read_seen (Err Short) read no_sabm follows = quiet_seen nothing refl (λ y never. never) follows
-      read_seen (Err BadFcs) read no_sabm follows = quiet_seen nothing refl (λ y never. never) follows
-      read_seen (Err BadAddress) read no_sabm follows = quiet_seen nothing refl (λ y never. never) follows
       read_seen (Err (Undefined control)) read no_sabm follows = frmr_seen w os step (machine_of k h.peer) passed (three (Err (Undefined control)) read refl) follows
       read_seen (Err (NoInfoAllowed control)) read no_sabm follows = frmr_seen w os step (machine_of k h.peer) passed (three (Err (NoInfoAllowed control)) read refl) follows
       read_seen (Err TooLong) read no_sabm follows = frmr_seen w os step (machine_of k h.peer) passed (three (Err TooLong) read refl) follows
+      read_seen (Err error) read no_sabm follows = quiet_seen nothing refl (λ y never. never) follows
 
   -- ---- each act
 

@@ -48,16 +48,8 @@ leads_if MayAsk c d true w v l h g = g refl
 leads_if MayAsk c d false w v l h g = stands_still MayAsk c d w l h
 
 pub orderly_sets_up : (r : Result PlainFrame FrameError) → IsOrderly ⊥ r → sets_up r ≡ false
-orderly_sets_up (Ok (info ns nr p x)) h = refl
-orderly_sets_up (Ok (rr command nr pf)) h = refl
-orderly_sets_up (Ok (rnr command nr pf)) h = refl
-orderly_sets_up (Ok (rej command nr pf)) h = refl
 orderly_sets_up (Ok (sabm p)) h = absurd h
-orderly_sets_up (Ok (disc p)) h = refl
-orderly_sets_up (Ok (ua f)) h = refl
-orderly_sets_up (Ok (dm f)) h = refl
-orderly_sets_up (Ok (frmr f why)) h = refl
-orderly_sets_up (Err e) h = refl
+orderly_sets_up r h = refl
 
 -- a Connect that is accepted
 abbrev Connects : Act → Stations → Type 0
@@ -229,11 +221,10 @@ module _ (MayAsk : Type 0) (c d : Settings) (joined : AreJoined c d) (reads : Re
           (quiet_notes MayAsk c w w.back [] (disconnect_step c s) h.near_notes closed.quiet (ap is_up closed.phase ∙ sym off))
 
       by_phase : (p : Phase) → s.phase ≡ p → IsAway MayAsk s → MayBeAway MayAsk p → Leads MayAsk c d w l l.back (after_step c w w.back [] (disconnect_step c s))
-      by_phase Down phase away may = closes (subst IsOut (sym phase) tt) away
       by_phase Waiting phase away may =
           asks_joint w l h (ap is_up phase) (with_nothing Closed s.tries) (disc true ∷ []) (disconnect_step c s) (laws.set_up.disconnects c s phase) tt (record { away = tt; empty = refl })
       by_phase Up phase away may = absurd may
-      by_phase Closed phase away may = closes (subst IsOut (sym phase) tt) away
+      by_phase p phase away may = closes (subst IsOut (sym phase) tt) away
 
       go : FitsEnd MayAsk c s l.near → Leads MayAsk c d w l l.back (after_step c w w.back [] (disconnect_step c s))
       go (inl u) = ends_joint MayAsk c d joined reads w l h u.up w.back (disconnect_step c s) Local tt h.back h.back_orderly (laws.disconnect_tells c s) (laws.window.disconnect c s (record { up = u.up; sound = u.sound }))
@@ -359,14 +350,8 @@ event_joint MayAsk c d joined reads laws (Far act) w l once may h =
 -- ---- LinkUp that was noted stays so
 
 pub noted_before : (a : Act) (old new : Bool) → NotesUp a old new → new ≡ false → old ≡ false
-noted_before (Put packet) old new same e = sym same ∙ e
 noted_before Deliver old new more e = first_false old more.0 (sym more.1 ∙ e)
-noted_before T1 old new same e = sym same ∙ e
-noted_before Connect old new same e = sym same ∙ e
-noted_before Disconnect old new same e = sym same ∙ e
-noted_before Abandon old new same e = sym same ∙ e
-noted_before (Lose i) old new same e = sym same ∙ e
-noted_before (Damage i octets) old new same e = sym same ∙ e
+noted_before a old new same e = sym same ∙ e
 
 before_act : (a : Act) (w v : Stations) → HandsOne a w v → IsSetUpOnce v → IsSetUpOnce w
 before_act a w v h once = record {
@@ -393,14 +378,8 @@ run_once c d joined reads laws (e ∷ es) w l h once =
     run_once c d joined reads laws es (happens c d e w) (machine_happens c d e w l) (event_joint (Unit {0}) c d joined reads laws e w l (λ _. once_before c d es (happens c d e w) once) (λ _. tt) h) once
 
 none_accepted : (a : Act) (w : Stations) → AcceptsNoConnect a w → Connects a w → ⊥
-none_accepted (Put packet) w h never = never
-none_accepted Deliver w h never = never
-none_accepted T1 w h never = never
 none_accepted Connect w h accepted = h accepted
-none_accepted Disconnect w h never = never
-none_accepted Abandon w h never = never
-none_accepted (Lose i) w h never = never
-none_accepted (Damage i octets) w h never = never
+none_accepted a w h never = never
 
 none_at : (e : Event) (w : Stations) → AcceptsNoConnectAt e w → ConnectsAt e w → ⊥
 none_at (Near act) w = none_accepted act w

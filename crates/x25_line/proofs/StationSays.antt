@@ -9,7 +9,7 @@ use Rattle.x25_frame.specs.Reading.{frame_of}
 use Rattle.x25_frame.specs.laws.ReadingLaw.{ReadsSpelled}
 use Rattle.x25_frame.specs.declared.error.FrameError.{FrameError}
 use Rattle.x25_window.specs.laws.Window.{Step, Frame, Allows, after, frame_of as machine_frame, frames_of, numbered}
-use Rattle.x25_window.specs.laws.Window.Step.{HandDown, Send, Tell, Hear, Take}
+use Rattle.x25_window.specs.laws.Window.Step.{Send, Tell}
 use Rattle.x25_link.specs.Station.{Settings}
 use Rattle.x25_link.specs.Hearing.{other}
 use Rattle.x25_link.specs.laws.WindowMachine.{Window, ShowsItem, Shows, ShowAll, IsSent, Runs, rests, goes_on}
@@ -25,12 +25,12 @@ abbrev pub machine_of : ℕ → Peer → Window
 machine_of k p = record { window = k; given = p.given; acked = p.acked; sent = p.sent; taken = p.taken }
 
 -- the frame of the machine is shown by one frame alone
-record Single (fs : List PlainFrame) (g : Frame (List ℕ)) : Type 0 where
+pub record Single (fs : List PlainFrame) (g : Frame (List ℕ)) : Type 0 where
   pub frame : PlainFrame
   pub is : fs ≡ frame ∷ []
   pub shows : Shows frame g
 
-single_of : (fs : List PlainFrame) (g : Frame (List ℕ)) → ShowAll fs (g ∷ []) → Single fs g
+pub single_of : (fs : List PlainFrame) (g : Frame (List ℕ)) → ShowAll fs (g ∷ []) → Single fs g
 single_of [] g h = absurd h
 single_of (f ∷ []) g h = record { frame = f; is = refl; shows = h.0 }
 single_of (f ∷ e ∷ fs) g h = absurd h.1
@@ -42,11 +42,7 @@ tell_sent k p told (info ns nr pf x) h = absurd h.0
 tell_sent k p told (rr command nr pf) h = (length p.taken, record { number = h.1; rising = told; taken = omega arith }, refl)
 tell_sent k p told (rnr command nr pf) h = (length p.taken, record { number = h.1; rising = told; taken = omega arith }, refl)
 tell_sent k p told (rej command nr pf) h = (length p.taken, record { number = h.1; rising = told; taken = omega arith }, refl)
-tell_sent k p told (sabm pf) h = absurd h
-tell_sent k p told (disc pf) h = absurd h
-tell_sent k p told (ua pf) h = absurd h
-tell_sent k p told (dm pf) h = absurd h
-tell_sent k p told (frmr pf why) h = absurd h
+tell_sent k p told f h = absurd h
 
 item_sent : (k n : ℕ) (p : Peer) → k ≤ 7 → p.sent ≤ p.acked + k → p.told ≤ length p.taken → Allows (machine_of k p) (Send n) → (n1 : ℕ) → Item n1 p.given n
     → (f : PlainFrame) → Shows f (machine_frame (after (machine_of k p) (Send n)) (numbered n (slice_get p.given n))) → MaySend ⊥ p (Ok f) (told_to (length p.taken) (numbered_to n p))
@@ -63,11 +59,7 @@ item_sent k n p high room told may n1 i (info ns nr pf x) h =
 item_sent k n p high room told may n1 i (rr command nr pf) h = absurd (not_none n p.given i.item i.is h.0)
 item_sent k n p high room told may n1 i (rnr command nr pf) h = absurd (not_none n p.given i.item i.is h.0)
 item_sent k n p high room told may n1 i (rej command nr pf) h = absurd (not_none n p.given i.item i.is h.0)
-item_sent k n p high room told may n1 i (sabm pf) h = absurd h
-item_sent k n p high room told may n1 i (disc pf) h = absurd h
-item_sent k n p high room told may n1 i (ua pf) h = absurd h
-item_sent k n p high room told may n1 i (dm pf) h = absurd h
-item_sent k n p high room told may n1 i (frmr pf why) h = absurd h
+item_sent k n p high room told may n1 i f h = absurd h
 
 -- ---- frames without one
 
@@ -85,11 +77,7 @@ free_sent p (info ns nr pf x) none = cc
 free_sent p (rr command nr pf) none = cc
 free_sent p (rnr command nr pf) none = cc
 free_sent p (rej command nr pf) none = cc
-free_sent p (sabm pf) none = refl
-free_sent p (disc pf) none = refl
-free_sent p (ua pf) none = refl
-free_sent p (dm pf) none = refl
-free_sent p (frmr pf why) none = refl
+free_sent p f none = refl
 
 pub parting_free : ReadsSpelled → (from : Role) (n1 : ℕ) (MayAsk : Type 0) (fs : List PlainFrame) → AreParting MayAsk fs → AllFree from n1 fs
 parting_free reads from n1 MayAsk [] h = tt
@@ -101,11 +89,7 @@ parting_free reads from n1 MayAsk (ua p ∷ fs) h =
     (record { reads = reads from n1 (ua p) _ (record { in_range = tt; carries = refl; within = tt; spelling = refl }); none = refl }, parting_free reads from n1 MayAsk fs h)
 parting_free reads from n1 MayAsk (dm p ∷ fs) h =
     (record { reads = reads from n1 (dm p) _ (record { in_range = tt; carries = refl; within = tt; spelling = refl }); none = refl }, parting_free reads from n1 MayAsk fs h)
-parting_free reads from n1 MayAsk (info ns nr p x ∷ fs) h = absurd h
-parting_free reads from n1 MayAsk (rr command nr pf ∷ fs) h = absurd h
-parting_free reads from n1 MayAsk (rnr command nr pf ∷ fs) h = absurd h
-parting_free reads from n1 MayAsk (rej command nr pf ∷ fs) h = absurd h
-parting_free reads from n1 MayAsk (frmr f why ∷ fs) h = absurd h
+parting_free reads from n1 MayAsk (frame ∷ fs) h = absurd h
 
 pub frmr_free : ReadsSpelled → (from : Role) (n1 : ℕ) (f : Bool) (why : List ℕ) → length why ≡ 3 → AllFree from n1 (frmr f why ∷ [])
 frmr_free reads from n1 f why three = (record { reads = reads from n1 (frmr f why) _ (record { in_range = tt; carries = three; within = tt; spelling = refl }); none = refl }, tt)
@@ -150,9 +134,6 @@ module _ (c d : Settings) (joined : AreJoined c d) (reads : ReadsSpelled) (near 
   one : (back : List (List ℕ)) (p : Peer) (before : List PlainFrame) → AllWithin d.longest p.given → (q : Peer) → IsReached ⊥ c (record { near = near; peer = q; out = out; back = back ++ map (spelling_of d.role) before })
       → q.sent ≤ q.acked + d.window → q.told ≤ length q.taken → q.given ≡ p.given → q.taken ≡ p.taken → (s : Step (List ℕ)) (fs : List PlainFrame)
       → IsSent s → Allows (machine_of d.window q) s → ShowAll fs (frames_of (machine_of d.window q) s) → Said back p (after (machine_of d.window q) s) (before ++ fs)
-  one back p before within q reached room told given taken (HandDown x) fs sends may shows = absurd sends
-  one back p before within q reached room told given taken (Hear ack) fs sends may shows = absurd sends
-  one back p before within q reached room told given taken (Take n x) fs sends may shows = absurd sends
   one back p before within q reached room told given taken Tell fs sends may shows =
       let w = machine_of d.window q in
       let single = single_of fs (machine_frame w None) shows in
@@ -187,6 +168,7 @@ module _ (c d : Settings) (joined : AreJoined c d) (reads : ReadsSpelled) (near 
         given = given;
         taken = taken;
       }
+  one back p before within q reached room told given taken s fs sends may shows = absurd sends
 
   said_more : (back : List (List ℕ)) (p : Peer) (before : List PlainFrame) → AllWithin d.longest p.given → (w : Window) → Said back p w before → (s : Step (List ℕ)) (fs : List PlainFrame)
       → IsSent s → Allows w s → ShowAll fs (frames_of w s) → Said back p (after w s) (before ++ fs)

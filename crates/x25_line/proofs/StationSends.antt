@@ -53,11 +53,7 @@ tell_good n1 w (info ns nr p x) h = absurd h.0
 tell_good n1 w (rr command nr pf) h = record { in_range = below_eight nr (length w.taken) h.1; carries = refl; within = tt; number = refl; orderly = tt }
 tell_good n1 w (rnr command nr pf) h = record { in_range = below_eight nr (length w.taken) h.1; carries = refl; within = tt; number = refl; orderly = tt }
 tell_good n1 w (rej command nr pf) h = record { in_range = below_eight nr (length w.taken) h.1; carries = refl; within = tt; number = refl; orderly = tt }
-tell_good n1 w (sabm p) h = absurd h
-tell_good n1 w (disc p) h = absurd h
-tell_good n1 w (ua p) h = absurd h
-tell_good n1 w (dm p) h = absurd h
-tell_good n1 w (frmr p why) h = absurd h
+tell_good n1 w f h = absurd h
 
 pub not_none : (n : ℕ) (xs : List (List ℕ)) (x : List ℕ) → slice_get xs n ≡ Some x → numbered n (slice_get xs n) ≡ None → ⊥
 not_none n xs x is none = absurd (never (sym (ap (numbered n) is) ∙ none))
@@ -74,11 +70,7 @@ send_good n1 n w i (info ns nr p x) h =
 send_good n1 n w i (rr command nr pf) h = absurd (not_none n w.given i.item i.is h.0)
 send_good n1 n w i (rnr command nr pf) h = absurd (not_none n w.given i.item i.is h.0)
 send_good n1 n w i (rej command nr pf) h = absurd (not_none n w.given i.item i.is h.0)
-send_good n1 n w i (sabm p) h = absurd h
-send_good n1 n w i (disc p) h = absurd h
-send_good n1 n w i (ua p) h = absurd h
-send_good n1 n w i (dm p) h = absurd h
-send_good n1 n w i (frmr p why) h = absurd h
+send_good n1 n w i f h = absurd h
 
 -- the packet that goes was handed down
 
@@ -89,27 +81,13 @@ single_handed given g handed (f ∷ e ∷ fs) h = absurd h.1
 
 tell_handed : (given : List (List ℕ)) (w : Window) (f : PlainFrame) → Shows f (frame_of w None) → IsHandedDown given f
 tell_handed given w (info ns nr p x) h = absurd h.0
-tell_handed given w (rr command nr pf) h = tt
-tell_handed given w (rnr command nr pf) h = tt
-tell_handed given w (rej command nr pf) h = tt
-tell_handed given w (sabm p) h = tt
-tell_handed given w (disc p) h = tt
-tell_handed given w (ua p) h = tt
-tell_handed given w (dm p) h = tt
-tell_handed given w (frmr p why) h = tt
+tell_handed given w f h = tt
 
 send_handed : (n1 n : ℕ) (w : Window) → Item n1 w.given n → (f : PlainFrame) → Shows f (frame_of (after w (Send n)) (numbered n (slice_get w.given n))) → IsHandedDown w.given f
 send_handed n1 n w i (info ns nr p x) h =
     let shown : ShowsItem (numbered n (Some i.item)) ns x = subst (λ (o : Option (List ℕ)). ShowsItem (numbered n o) ns x) i.is h.0 in
     (n, slice_get_within w.given n i.item i.is, get_or_from_slice_get w.given n i.item x i.is ∙ sym shown.1)
-send_handed n1 n w i (rr command nr pf) h = tt
-send_handed n1 n w i (rnr command nr pf) h = tt
-send_handed n1 n w i (rej command nr pf) h = tt
-send_handed n1 n w i (sabm p) h = tt
-send_handed n1 n w i (disc p) h = tt
-send_handed n1 n w i (ua p) h = tt
-send_handed n1 n w i (dm p) h = tt
-send_handed n1 n w i (frmr p why) h = tt
+send_handed n1 n w i f h = tt
 
 -- ---- the numbers of what goes
 
@@ -128,11 +106,7 @@ tell_given acked w (info ns nr p x) h es = absurd h.0
 tell_given acked w (rr command nr pf) h es = refl
 tell_given acked w (rnr command nr pf) h es = refl
 tell_given acked w (rej command nr pf) h es = refl
-tell_given acked w (sabm p) h es = absurd h
-tell_given acked w (disc p) h es = absurd h
-tell_given acked w (ua p) h es = absurd h
-tell_given acked w (dm p) h es = absurd h
-tell_given acked w (frmr p why) h es = absurd h
+tell_given acked w f h es = absurd h
 
 -- an I frame with these numbers, and then more
 abbrev with_number : ℕ → ℕ → ℕ → Option (Numbered (List ℕ)) → ℕ → List PlainFrame → List (Frame (List ℕ))
@@ -149,11 +123,7 @@ send_given n1 n w i high may (info ns nr p x) h es =
 send_given n1 n w i high may (rr command nr pf) h es = absurd (not_none n w.given i.item i.is h.0)
 send_given n1 n w i high may (rnr command nr pf) h es = absurd (not_none n w.given i.item i.is h.0)
 send_given n1 n w i high may (rej command nr pf) h es = absurd (not_none n w.given i.item i.is h.0)
-send_given n1 n w i high may (sabm p) h es = absurd h
-send_given n1 n w i high may (disc p) h es = absurd h
-send_given n1 n w i high may (ua p) h es = absurd h
-send_given n1 n w i high may (dm p) h es = absurd h
-send_given n1 n w i high may (frmr p why) h es = absurd h
+send_given n1 n w i high may f h es = absurd h
 
 -- ---- runs
 
@@ -217,9 +187,6 @@ sent_more k j n1 l from w frames h s fs reached kept handed_down taken acked sho
 
 more : (k j n1 : ℕ) (l : Line (List ℕ)) (from w : Window) (frames : List PlainFrame) → AllWithin n1 from.given → (s : Step (List ℕ)) (fs : List PlainFrame)
     → IsSent s → Allows w s → ShowAll fs (frames_of w s) → Sent k j n1 l from w frames → Sent k j n1 l from (after w s) (frames ++ fs)
-more k j n1 l from w frames within (HandDown x) fs sends may shows h = absurd sends
-more k j n1 l from w frames within (Hear ack) fs sends may shows h = absurd sends
-more k j n1 l from w frames within (Take n x) fs sends may shows h = absurd sends
 more k j n1 l from w frames within Tell fs sends may shows h =
     sent_more k j n1 l from w frames h Tell fs (near_moves h.line Tells h.reached tt) (Kept-moved Tells h.line tt h.kept) refl refl refl shows
     (single_good n1 (frame_of w None) (tell_good n1 w) fs shows)
@@ -234,6 +201,7 @@ more k j n1 l from w frames within (Send n) fs sends may shows h =
     (single_handed w.given (frame_of (after w (Send n)) (numbered n (slice_get w.given n))) (send_handed n1 n w item) fs shows))
     (single_given w.acked (length w.taken) w.sent (after w (Send n)).sent (frame_of (after w (Send n)) (numbered n (slice_get w.given n)))
     (send_given n1 n w item (subst (λ (z : Window). z.window ≤ 7) h.near h.kept.from_near.high) may) fs shows)
+more k j n1 l from w frames within s fs sends may shows h = absurd sends
 
 pub runs_sent : (k j n1 : ℕ) (l : Line (List ℕ)) (from : Window) → IsReached k j l → Kept l → l.near ≡ from → AllWithin n1 from.given
     → (w : Window) (frames : List PlainFrame) → Runs from w frames → Sent k j n1 l from w frames

@@ -34,22 +34,18 @@ use Rattle.x25_line.proofs.StationSends.{AllWithin, Sent, sent_given, runs_sent}
 
 -- Down or Closed, and Waiting where an end may ask for set-up
 abbrev pub MayBeAway : Type 0 → Phase → Type 0
-MayBeAway MayAsk Down = Unit {0}
 MayBeAway MayAsk Waiting = MayAsk
 MayBeAway MayAsk Up = ⊥
-MayBeAway MayAsk Closed = Unit {0}
+MayBeAway MayAsk phase = Unit {0}
 
 pub away_is_not_up : (MayAsk : Type 0) (p : Phase) → MayBeAway MayAsk p → is_up p ≡ false
-away_is_not_up MayAsk Down h = refl
-away_is_not_up MayAsk Waiting h = refl
 away_is_not_up MayAsk Up h = absurd h
-away_is_not_up MayAsk Closed h = refl
+away_is_not_up MayAsk p h = refl
 
 pub out_is_away : (MayAsk : Type 0) (p : Phase) → IsOut p → MayBeAway MayAsk p
-out_is_away MayAsk Down h = tt
 out_is_away MayAsk Waiting h = absurd h
 out_is_away MayAsk Up h = absurd h
-out_is_away MayAsk Closed h = tt
+out_is_away MayAsk p h = tt
 
 pub not_both : {A : Type 0} (b : Bool) → b ≡ true → b ≡ false → A
 not_both b e f = absurd (never (sym e ∙ f))
@@ -235,34 +231,20 @@ no_packet_of input (Some y) v never up = absurd (never y up)
 
 -- Up is left for any reason but a fault of the peer, or set-up anew
 abbrev pub Leaves : Reason → Type 0
-Leaves Retries = Unit {0}
-Leaves Disc = Unit {0}
-Leaves Dm = Unit {0}
 Leaves FrmrSent = ⊥
-Leaves FrmrGot = Unit {0}
 Leaves Reset = ⊥
-Leaves Local = Unit {0}
-Leaves Counts = Unit {0}
+Leaves other = Unit {0}
 
 pub last_parting : (MayAsk : Type 0) (reason : Reason) (fs : List PlainFrame) → Leaves reason → AreLast reason fs → AreParting MayAsk fs
-last_parting MayAsk Retries fs l h = rw h tt
 last_parting MayAsk Disc fs l h = rw h.1 tt
-last_parting MayAsk Dm fs l h = rw h tt
 last_parting MayAsk FrmrSent fs l h = absurd l
-last_parting MayAsk FrmrGot fs l h = rw h tt
 last_parting MayAsk Reset fs l h = absurd l
-last_parting MayAsk Local fs l h = rw h tt
-last_parting MayAsk Counts fs l h = rw h tt
+last_parting MayAsk reason fs l h = rw h tt
 
 pub last_away : (MayAsk : Type 0) (reason : Reason) (p : Phase) → Leaves reason → p ≡ ends_in reason → MayBeAway MayAsk p
-last_away MayAsk Retries p l h = rw h tt
-last_away MayAsk Disc p l h = rw h tt
-last_away MayAsk Dm p l h = rw h tt
 last_away MayAsk FrmrSent p l h = absurd l
-last_away MayAsk FrmrGot p l h = rw h tt
 last_away MayAsk Reset p l h = absurd l
-last_away MayAsk Local p l h = rw h tt
-last_away MayAsk Counts p l h = rw h tt
+last_away MayAsk reason p l h = rw h tt
 
 pub empty_lists : (o : Outgoing) (taken : List (List ℕ)) → o ≡ no_packet → taken ≡ [] → record { given = o.given; acked = o.acked; taken = taken } ≡ no_packets
 empty_lists o taken none nothing_taken = rw (none, nothing_taken) refl
@@ -271,14 +253,7 @@ empty_lists o taken none nothing_taken = rw (none, nothing_taken) refl
 pub declining_parting : (MayAsk : Type 0) (fs : List PlainFrame) → AreDeclining fs → AreParting MayAsk fs
 declining_parting MayAsk [] h = tt
 declining_parting MayAsk (dm f ∷ fs) h = declining_parting MayAsk fs h
-declining_parting MayAsk (info ns nr p x ∷ fs) h = absurd h
-declining_parting MayAsk (rr command nr pf ∷ fs) h = absurd h
-declining_parting MayAsk (rnr command nr pf ∷ fs) h = absurd h
-declining_parting MayAsk (rej command nr pf ∷ fs) h = absurd h
-declining_parting MayAsk (sabm p ∷ fs) h = absurd h
-declining_parting MayAsk (disc p ∷ fs) h = absurd h
-declining_parting MayAsk (ua f ∷ fs) h = absurd h
-declining_parting MayAsk (frmr f why ∷ fs) h = absurd h
+declining_parting MayAsk (frame ∷ fs) h = absurd h
 
 -- ---- a step of the near end, the machine's line being `l` once what comes has come
 
@@ -574,17 +549,12 @@ module _ (MayAsk : Type 0) (c d : Settings) (joined : AreJoined c d) (reads : Re
   read_joint w l h u (Ok (rej command nr pf)) os step good orderly shows tells follows =
       let front = front_of (rej command nr pf) (numbered_on (other c.role) c.longest os) l.back shows in
       told_joint w l h u os (rej command nr pf) nr step orderly front front.shows.1 follows (λ packet. refl) (λ y k. k)
-  read_joint w l h u (Ok (sabm p)) os step good orderly shows tells follows = absurd good
   read_joint w l h u (Ok (disc p)) os step good orderly shows tells follows = ends_joint w l h u.up os step Disc tt shows orderly tells follows
   read_joint w l h u (Ok (ua f)) os step good orderly shows tells follows = quiet_joint w l h u os orderly shows (receives (ua f)) step refl (λ y k. k) follows
   read_joint w l h u (Ok (dm f)) os step good orderly shows tells follows = ends_joint w l h u.up os step Dm tt shows orderly tells follows
-  read_joint w l h u (Ok (frmr f why)) os step good orderly shows tells follows = absurd good
   read_joint w l h u (Err Short) os step good orderly shows tells follows = quiet_joint w l h u os orderly shows nothing step refl (λ y k. k) follows
   read_joint w l h u (Err BadFcs) os step good orderly shows tells follows = quiet_joint w l h u os orderly shows nothing step refl (λ y k. k) follows
-  read_joint w l h u (Err BadAddress) os step good orderly shows tells follows = absurd good
-  read_joint w l h u (Err (Undefined control)) os step good orderly shows tells follows = absurd good
-  read_joint w l h u (Err (NoInfoAllowed control)) os step good orderly shows tells follows = absurd good
-  read_joint w l h u (Err TooLong) os step good orderly shows tells follows = absurd good
+  read_joint w l h u r os step good orderly shows tells follows = absurd good
 
   -- ---- what comes to an end that isn't Up
 

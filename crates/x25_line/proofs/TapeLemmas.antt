@@ -4,19 +4,18 @@ use Rattle.std.specs.Prelude.{nat_le, nat_lt, ◌&&◌}
 use Rattle.std.specs.List.{slice_get}
 use Rattle.std.proofs.lemmas.Bool.{eqb-true, leb-true, ltb-true, and_parts}
 use Rattle.std.proofs.lemmas.List.{length_push}
-use Rattle.x25_frame.specs.Frame.{PlainFrame, info, rr, rnr, rej, sabm, disc, ua, dm, frmr}
 use Rattle.x25_frame.specs.Reading.{frame_of}
 use Rattle.x25_frame.specs.laws.ReadingLaw.{ReadsSpelled}
-use Rattle.x25_frame.specs.declared.error.FrameError.{FrameError}
-use Rattle.x25_frame.specs.declared.error.FrameError.TheVariants.{Short, BadFcs, BadAddress, Undefined, NoInfoAllowed, TooLong}
 use Rattle.x25_window.specs.code.Modulo.{resolved}
 use Rattle.x25_link.specs.Station.{Settings}
 use Rattle.x25_link.specs.Hearing.{other}
 use Rattle.x25_line.specs.laws.LawsBelow.{Laws}
+use Rattle.x25_line.proofs.StationPeers.{low_resolved}
 use Rattle.x25_line.proofs.Frames.{slice_get-last}
-use Rattle.x25_line.specs.laws.Peer.{Peer, MayNumber, MayAcknowledge, numbered_to, told_to, MaySend, hearing, IsWanted, taking, MayHear}
+use Rattle.x25_line.specs.laws.Peer.{Peer, MayNumber, MayAcknowledge, numbered_to, told_to, MaySay, hearing, IsWanted, taking, MayMake}
 use Rattle.x25_line.specs.laws.PeerJoined.{Joined, Ours, HandsDown, Sends, Hears, IsReached, at_start, goes_on}
-use Rattle.x25_line.specs.laws.Tape.{same_octets, is_item, judges_ack, then_ack, judges_item, judges_number, judges, notes, IsSilent, Begins, Acts, Shows, Comes}
+use Rattle.x25_line.specs.laws.Said.{Said, Carried, Tells, Odd, said}
+use Rattle.x25_line.specs.laws.Tape.{same_octets, is_item, judges_ack, then_ack, judges_item, judges_number, judges_said, notes, notes_said, IsSilent, Begins, Acts, Shows, Comes}
 use Rattle.x25_line.specs.laws.PeerClaims.{KeepsOrder, OnAnySilentTape}
 use Rattle.x25_line.proofs.PeerRuns.{keeps_order}
 
@@ -27,8 +26,7 @@ octets_same [] [] h = refl
 octets_same (x ∷ xs) (y ∷ ys) h =
     let parts = and_parts (x == y) (same_octets xs ys) h in
     ap (λ (z : ℕ). z ∷ xs) (eqb-true x y parts.0) ∙ ap (λ (zs : List ℕ). y ∷ zs) (octets_same xs ys parts.1)
-octets_same [] (y ∷ ys) h = cc
-octets_same (x ∷ xs) [] h = cc
+octets_same xs ys h = cc
 
 item_same : (o : Option (List ℕ)) (packet : List ℕ) → is_item o packet ≡ true → o ≡ Some packet
 item_same None packet h = cc
@@ -44,9 +42,6 @@ none_some q h = absurd (never h)
 
 some_same : {A : Type 0} (x y : A) → Some x ≡ Some y → x ≡ y
 some_same x y e = cc
-
-low_resolved : (a x : ℕ) → a ≤ resolved a x
-low_resolved a x = omega arith
 
 not_below : (a b : ℕ) → a - 7 ≤ b → a ≤ b + 7
 not_below a b h = omega arith
@@ -139,55 +134,42 @@ number_judged ns packet p u held h = go (nat_lt n (p.acked + 7) && n % 8 == ns) 
 
 -- ---- all that comes
 
-record Judged (r : Result PlainFrame FrameError) (p q : Peer) : Type 0 where
+record Judged (s : Said) (p q : Peer) : Type 0 where
   pub packet : List ℕ
   pub base : Peer
   pub from : IsBase p packet base
-  pub may : MaySend (Unit {0}) base r q
+  pub may : MaySay (Unit {0}) base s q
   pub held : length q.given ≡ q.sent
 
-told_judged : (nr : ℕ) (p q : Peer) → length p.given ≡ p.sent → Acked nr p q → (r : Result PlainFrame FrameError) → ((t : ℕ) → MayAcknowledge p nr t → q ≡ told_to t p → MaySend (Unit {0}) p r q) → Judged r p q
-told_judged nr p q held a r may =
-    record { packet = []; base = p; from = inl refl; may = may a.t a.may a.is; held = subst (λ (z : Peer). length z.given ≡ z.sent) (sym a.is) held }
-
-same_judged : (p q : Peer) → length p.given ≡ p.sent → Some p ≡ Some q → (r : Result PlainFrame FrameError) → (q ≡ p → MaySend (Unit {0}) p r q) → Judged r p q
-same_judged p q held is r may =
+same_judged : (p q : Peer) → length p.given ≡ p.sent → Some p ≡ Some q → (s : Said) → (q ≡ p → MaySay (Unit {0}) p s q) → Judged s p q
+same_judged p q held is s may =
     let same = some_same p q is in
     record { packet = []; base = p; from = inl refl; may = may (sym same); held = subst (λ (z : Peer). length z.given ≡ z.sent) same held }
 
-info_judged : (ns nr : ℕ) (pf : Bool) (packet : List ℕ) (p q : Peer) → length p.given ≡ p.sent → then_ack nr (judges_number ns packet p) ≡ Some q → Judged (Ok (info ns nr pf packet)) p q
-info_judged ns nr pf packet p q held h = go (judges_number ns packet p) refl h
+info_judged : (nr : ℕ) (c : Carried) (p q : Peer) → length p.given ≡ p.sent → then_ack nr (judges_number c.ns c.packet p) ≡ Some q → Judged (Tells (Some c) nr) p q
+info_judged nr c p q held h = go (judges_number c.ns c.packet p) refl h
   where
-    go : (o : Option Peer) → judges_number ns packet p ≡ o → then_ack nr o ≡ Some q → Judged (Ok (info ns nr pf packet)) p q
+    go : (o : Option Peer) → judges_number c.ns c.packet p ≡ o → then_ack nr o ≡ Some q → Judged (Tells (Some c) nr) p q
     go None number is = none_some q is
     go (Some u) number is =
-        let n = number_judged ns packet p u held number in
+        let n = number_judged c.ns c.packet p u held number in
         let a = ack_judged nr u q is in
         let may = subst (λ (z : Peer). MayAcknowledge z nr a.t) n.is a.may in
         record {
-          packet = packet;
+          packet = c.packet;
           base = n.base;
           from = n.from;
           may = (n.n, a.t, n.may, record { number = may.number; rising = may.rising; taken = may.taken }, a.is ∙ ap (told_to a.t) n.is);
           held = subst (λ (z : Peer). length z.given ≡ z.sent) (sym a.is) n.held;
         }
 
-judged : (r : Result PlainFrame FrameError) (p q : Peer) → length p.given ≡ p.sent → judges r p ≡ Some q → Judged r p q
-judged (Ok (info ns nr pf packet)) p q held h = info_judged ns nr pf packet p q held h
-judged (Ok (rr command nr pf)) p q held h = told_judged nr p q held (ack_judged nr p q h) (Ok (rr command nr pf)) (λ t may is. (t, may, is))
-judged (Ok (rnr command nr pf)) p q held h = told_judged nr p q held (ack_judged nr p q h) (Ok (rnr command nr pf)) (λ t may is. (t, may, is))
-judged (Ok (rej command nr pf)) p q held h = told_judged nr p q held (ack_judged nr p q h) (Ok (rej command nr pf)) (λ t may is. (t, may, is))
-judged (Ok (sabm pf)) p q held h = same_judged p q held h (Ok (sabm pf)) (λ is. is)
-judged (Ok (disc pf)) p q held h = same_judged p q held h (Ok (disc pf)) (λ is. is)
-judged (Ok (ua f)) p q held h = same_judged p q held h (Ok (ua f)) (λ is. is)
-judged (Ok (dm f)) p q held h = same_judged p q held h (Ok (dm f)) (λ is. is)
-judged (Ok (frmr f why)) p q held h = same_judged p q held h (Ok (frmr f why)) (λ is. is)
-judged (Err Short) p q held h = same_judged p q held h (Err Short) (λ is. is)
-judged (Err BadFcs) p q held h = same_judged p q held h (Err BadFcs) (λ is. is)
-judged (Err BadAddress) p q held h = same_judged p q held h (Err BadAddress) (λ is. is)
-judged (Err (Undefined control)) p q held h = same_judged p q held h (Err (Undefined control)) (λ is. (tt, is))
-judged (Err (NoInfoAllowed control)) p q held h = same_judged p q held h (Err (NoInfoAllowed control)) (λ is. (tt, is))
-judged (Err TooLong) p q held h = same_judged p q held h (Err TooLong) (λ is. (tt, is))
+judged : (s : Said) (p q : Peer) → length p.given ≡ p.sent → judges_said s p ≡ Some q → Judged s p q
+judged (Tells None nr) p q held h =
+    let a = ack_judged nr p q h in
+    record { packet = []; base = p; from = inl refl; may = (a.t, a.may, a.is); held = subst (λ (z : Peer). length z.given ≡ z.sent) (sym a.is) held }
+judged (Tells (Some c) nr) p q held h = info_judged nr c p q held h
+judged Odd p q held h = same_judged p q held h Odd (λ is. (tt, is))
+judged s p q held h = same_judged p q held h s (λ is. is)
 
 -- ---- what the station sends
 
@@ -195,33 +177,18 @@ may_take_wanted : (ns : ℕ) (p : Peer) (b : Bool) → (ns == length p.taken % 8
 may_take_wanted ns p true test = eqb-true ns (length p.taken % 8) test
 may_take_wanted ns p false test = tt
 
-noted : (r : Result PlainFrame FrameError) (p : Peer) → MayHear p r (notes r p)
-noted (Ok (info ns nr pf packet)) p = (true, ns == length p.taken % 8, may_take_wanted ns p (ns == length p.taken % 8) refl, refl)
-noted (Ok (rr command nr pf)) p = (true, refl)
-noted (Ok (rnr command nr pf)) p = (true, refl)
-noted (Ok (rej command nr pf)) p = (true, refl)
-noted (Ok (sabm pf)) p = refl
-noted (Ok (disc pf)) p = refl
-noted (Ok (ua f)) p = refl
-noted (Ok (dm f)) p = refl
-noted (Ok (frmr f why)) p = refl
-noted (Err e) p = refl
+noted : (s : Said) (p : Peer) → MayMake p s (notes_said s p)
+noted (Tells None nr) p = (true, refl)
+noted (Tells (Some c) nr) p = (true, c.ns == length p.taken % 8, may_take_wanted c.ns p (c.ns == length p.taken % 8) refl, refl)
+noted s p = refl
 
 taking_held : (b : Bool) (x : List ℕ) (p : Peer) → length p.given ≡ p.sent → length (taking b x p).given ≡ (taking b x p).sent
 taking_held true x p h = h
 taking_held false x p h = h
 
-noted_held : (r : Result PlainFrame FrameError) (p : Peer) → length p.given ≡ p.sent → length (notes r p).given ≡ (notes r p).sent
-noted_held (Ok (info ns nr pf packet)) p h = taking_held (ns == length p.taken % 8) packet (hearing true nr p) h
-noted_held (Ok (rr command nr pf)) p h = h
-noted_held (Ok (rnr command nr pf)) p h = h
-noted_held (Ok (rej command nr pf)) p h = h
-noted_held (Ok (sabm pf)) p h = h
-noted_held (Ok (disc pf)) p h = h
-noted_held (Ok (ua f)) p h = h
-noted_held (Ok (dm f)) p h = h
-noted_held (Ok (frmr f why)) p h = h
-noted_held (Err e) p h = h
+noted_held : (s : Said) (p : Peer) → length p.given ≡ p.sent → length (notes_said s p).given ≡ (notes_said s p).sent
+noted_held (Tells (Some c) nr) p h = taking_held (c.ns == length p.taken % 8) c.packet (hearing true nr p) h
+noted_held s p h = h
 
 -- ---- tapes
 
@@ -242,12 +209,12 @@ explained c w (Acts v act h) =
 explained c w (Shows v octets rest is h) =
     let before = explained c v h in
     record {
-      reached = goes_on v w before.reached (Hears octets rest (notes (frame_of c.role c.longest octets) v.peer) is (noted (frame_of c.role c.longest octets) v.peer));
-      held = noted_held (frame_of c.role c.longest octets) v.peer before.held;
+      reached = goes_on v w before.reached (Hears octets rest (notes (frame_of c.role c.longest octets) v.peer) is (noted (said (frame_of c.role c.longest octets)) v.peer));
+      held = noted_held (said (frame_of c.role c.longest octets)) v.peer before.held;
     }
 explained c w (Comes v octets q is h) =
     let before = explained c v h in
-    let j = judged (frame_of (other c.role) c.longest octets) v.peer q before.held is in
+    let j = judged (said (frame_of (other c.role) c.longest octets)) v.peer q before.held is in
     record {
       reached = goes_on (record v { peer = j.base }) w (base_reached c v j.packet j.base before.reached j.from) (Sends octets q j.may);
       held = j.held;

@@ -9,6 +9,7 @@ pub mod Line
 pub mod Peer
 pub mod PeerClaims
 pub mod PeerJoined
+pub mod Said
 pub mod SessionEvents
 pub mod SessionNumbers
 pub mod Sessions

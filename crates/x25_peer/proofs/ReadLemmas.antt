@@ -2,17 +2,17 @@
 use Rattle.std.proofs.Common.{◌≡◌, ℕ, zero, suc, ◌+◌, ◌≤◌, ◌==◌, nat_lt, List, [], ◌∷◌, ◌++◌, length, drop, map, Bool, true, false, if◌then◌else◌, Option, Some, None, Result, Ok, Err, option_to_list, refl, sym, ap, subst, ◌∙◌, append_assoc, append-nil, arith}
 use Rattle.std.proofs.lemmas.List.{map-append, drop-append-le, length-append, length-map, drop_all}
 use Rattle.std.specs.Prelude.{remove, slice_get}
-use Rattle.x25_frame.specs.Frame.{PlainFrame, info, rr, rnr, rej}
+use Rattle.x25_frame.specs.Frame.{PlainFrame}
 use Rattle.x25_frame.specs.Spelling.{spelling_of}
 use Rattle.x25_frame.specs.declared.error.FrameError.{FrameError}
-use Rattle.x25_frame.specs.declared.error.FrameError.TheVariants.{Short, BadFcs, BadAddress, Undefined, NoInfoAllowed, TooLong}
 use Rattle.x25_packet.specs.Packet.{PlainPacket}
 use Rattle.x25_packet.specs.Spelling as packet
 use Rattle.x25_link.specs.Station.{Settings as LinkSettings, LinkStation, with_near}
 use Rattle.x25_link.specs.Hearing.{quiet, leaves}
 use Rattle.x25_link.specs.Link.{alone, closed_by, asks_again, timer_step}
 use Rattle.x25_link.specs.declared.phase.Reason.TheVariants.{Retries}
-use Rattle.x25_line.specs.laws.Peer.{Peer, MaySend, MayHear, hearing, taking}
+use Rattle.x25_line.specs.laws.Said.{Said, Tells, Odd, said}
+use Rattle.x25_line.specs.laws.Peer.{Peer, MaySay, MaySend, MayMake, MayHear, hearing, taking}
 use Rattle.x25_layer.specs.Layer.{LayerNotice}
 use Rattle.x25_layer.specs.laws.Transcript.{Entry}
 use Rattle.x25_station.specs.Config.{Settings}
@@ -45,9 +45,8 @@ readable_behind b (x ∷ xs) ys h = readable_behind b xs ys h.1
 
 pub read_append : (c : Settings) (os qs : List (List ℕ)) (ps rs : List PlainPacket) → ReadAs c os ps → ReadAs c qs rs → ReadAs c (os ++ qs) (ps ++ rs)
 read_append c [] qs [] rs h g = g
-read_append c [] qs (p ∷ ps) rs h g = absurd h
-read_append c (o ∷ os) qs [] rs h g = absurd h
 read_append c (o ∷ os) qs (p ∷ ps) rs h g = (h.0, read_append c os qs ps rs h.1 g)
+read_append c os qs ps rs h g = absurd h
 
 -- of what is read, this much came up
 pub read_length : (c : Settings) (up rest : List (List ℕ)) (ps : List PlainPacket) → ReadAs c (up ++ rest) ps → length up ≤ length ps
@@ -73,23 +72,16 @@ ok_same p q x e f = cc
 -- ---- the peer's link sends and hears what it was handed down
 
 pub sent_same : (p q : Peer) (r : Result PlainFrame FrameError) → MaySend (Unit {0}) p r q → (q.given ≡ p.given) × (q.taken ≡ p.taken)
-sent_same p q r may = by r may
+sent_same p q r may = by (said r) may
   where
     is : (x : Peer) → x.given ≡ p.given → x.taken ≡ p.taken → q ≡ x → (q.given ≡ p.given) × (q.taken ≡ p.taken)
     is x given taken e = (ap (λ (y : Peer). y.given) e ∙ given, ap (λ (y : Peer). y.taken) e ∙ taken)
 
-    by : (r : Result PlainFrame FrameError) → MaySend (Unit {0}) p r q → (q.given ≡ p.given) × (q.taken ≡ p.taken)
-    by (Ok (info ns nr pf packet)) m = is _ refl refl m.4
-    by (Ok (rr command nr pf)) m = is _ refl refl m.2
-    by (Ok (rnr command nr pf)) m = is _ refl refl m.2
-    by (Ok (rej command nr pf)) m = is _ refl refl m.2
-    by (Ok frame) m = is _ refl refl m
-    by (Err Short) m = is _ refl refl m
-    by (Err BadFcs) m = is _ refl refl m
-    by (Err BadAddress) m = is _ refl refl m
-    by (Err (Undefined control)) m = is _ refl refl m.1
-    by (Err (NoInfoAllowed control)) m = is _ refl refl m.1
-    by (Err TooLong) m = is _ refl refl m.1
+    by : (s : Said) → MaySay (Unit {0}) p s q → (q.given ≡ p.given) × (q.taken ≡ p.taken)
+    by (Tells None nr) m = is _ refl refl m.2
+    by (Tells (Some c) nr) m = is _ refl refl m.4
+    by Odd m = is _ refl refl m.1
+    by s m = is _ refl refl m
 
 -- it takes no fewer
 pub record HearsMore (p q : Peer) : Type 0 where
@@ -103,18 +95,15 @@ hears_more p false true nr packet = (let longer = length-append p.taken (packet 
 hears_more p false false nr packet = record { given = refl; taken = omega (arith) }
 
 pub heard_same : (p q : Peer) (r : Result PlainFrame FrameError) → MayHear p r q → HearsMore p q
-heard_same p q r m = by r m
+heard_same p q r m = by (said r) m
   where
     is : (x : Peer) → HearsMore p x → q ≡ x → HearsMore p q
     is x more e = subst (HearsMore p) (sym e) more
 
-    by : (r : Result PlainFrame FrameError) → MayHear p r q → HearsMore p q
-    by (Ok (info ns nr pf packet)) m = is _ (hears_more p m.0 m.1 nr packet) m.3
-    by (Ok (rr command nr pf)) m = is _ (hears_more p m.0 false nr []) m.1
-    by (Ok (rnr command nr pf)) m = is _ (hears_more p m.0 false nr []) m.1
-    by (Ok (rej command nr pf)) m = is _ (hears_more p m.0 false nr []) m.1
-    by (Ok frame) m = is p (hears_more p false false 0 []) m
-    by (Err e) m = is p (hears_more p false false 0 []) m
+    by : (s : Said) → MayMake p s q → HearsMore p q
+    by (Tells None nr) m = is _ (hears_more p m.0 false nr []) m.1
+    by (Tells (Some c) nr) m = is _ (hears_more p m.0 m.1 nr c.packet) m.3
+    by s m = is p (hears_more p false false 0 []) m
 
 pub timer_packet : (c : LinkSettings) (s : LinkStation) → (timer_step c s).packet ≡ None
 timer_packet c s = by (nat_lt s.tries c.retries)

@@ -2,14 +2,14 @@
 use Rattle.std.proofs.Common.{◌≡◌, ◌++◌, ◌≤◌, ℕ, suc, ◌+◌, List, [], ◌∷◌, ◌⊎◌, inl, inr, length, remove, Bool, true, false, not, if◌then◌else◌, Option, Some, None, Ok, Err, refl, sym, ap, ◌∙◌, subst, arith}
 use Rattle.std.specs.Prelude.{◌||◌, option_to_list, nat_le, nat_lt}
 use Rattle.std.proofs.lemmas.Bool.{leb-true}
-use Rattle.x25_frame.specs.Frame.{PlainFrame, info, rr, rnr, rej, sabm, disc, ua, dm, frmr}
+use Rattle.x25_frame.specs.Frame.{PlainFrame, sabm, disc, ua}
 use Rattle.x25_frame.specs.laws.ReadingLaw.{ReadsSpelled}
 use Rattle.x25_link.specs.declared.error.LinkError.{LinkError}
 use Rattle.x25_link.specs.declared.error.LinkError.TheVariants as error
 use Rattle.x25_link.specs.declared.phase.Phase.{Phase}
 use Rattle.x25_link.specs.declared.phase.Phase.TheVariants.{Down, Waiting, Up, Closed}
 use Rattle.x25_link.specs.declared.phase.Reason.{Reason}
-use Rattle.x25_link.specs.declared.phase.Reason.TheVariants.{Retries, Disc, Dm, FrmrSent, FrmrGot, Reset, Local, Counts}
+use Rattle.x25_link.specs.declared.phase.Reason.TheVariants.{Retries, Disc, FrmrSent, Reset, Local, Counts}
 use Rattle.x25_link.specs.declared.phase.Notes.{Notes}
 use Rattle.x25_link.specs.Station.{Settings, LinkStation, is_up, with_nothing}
 use Rattle.x25_link.specs.Hearing.{Step, other}
@@ -17,7 +17,7 @@ use Rattle.x25_link.specs.Link.{take_step, put_step, put_refusal, timer_step, ti
 use Rattle.x25_link.specs.laws.NoteLaw.{Tells}
 use Rattle.x25_link.specs.laws.SetUp.{Is, TakesPart, waiting_after, waiting_sends, waiting_up}
 use Rattle.x25_link.specs.laws.WindowMachine.{hands_down, nothing}
-use Rattle.x25_link.specs.laws.WindowLaw.{window_of, brought_by, ends_in, ending_of, Ends, Follows, IsRunning, IsOut, sets_up, AreDeclining, StaysOut}
+use Rattle.x25_link.specs.laws.WindowLaw.{window_of, brought_by, ends_in, ending_of, Ends, Follows, IsRunning, IsOut, sets_up, StaysOut}
 use Rattle.x25_line.specs.laws.Stations.{Act, Put, Deliver, T1, Connect, Disconnect, Abandon, Lose, Damage, is_visible}
 use Rattle.x25_line.specs.laws.Stations as one
 use Rattle.x25_line.specs.laws.StationClaims.{number_in}
@@ -27,86 +27,36 @@ use Rattle.x25_line.specs.laws.LawsBelow.{SessionLaws}
 use Rattle.x25_line.specs.laws.PeerJoined.{Joined, IsReached, our_end, with_peer as with_peer_once, Ours}
 use Rattle.x25_line.specs.laws.PeerJoined as joined
 use Rattle.x25_line.specs.laws.PeerClaims.{NoneIsFrmr}
+use Rattle.x25_line.proofs.sessions.SessionRuns.{put_accepted}
+use Rattle.x25_line.proofs.sessions.SessionTakes.{read_of, is_answer, declining_none}
 use Rattle.x25_line.proofs.StationLines.{AreParting}
 use Rattle.x25_line.proofs.StationSends.{AllWithin}
 use Rattle.x25_line.proofs.StationSteps.{not_both, declining_parting}
 use Rattle.x25_line.proofs.StationAway.{closed_takes, waits_on, waiting_parting, connects_from, is_up_phase, frmr_three}
-use Rattle.x25_line.proofs.sessions.SessionLines.{Read, none_is_some, IsKind, of_sabm, of_ua, of_disc, dm_kind, count}
+use Rattle.x25_line.proofs.sessions.SessionLines.{Read, none_is_some, of_sabm, of_ua, of_disc, count}
 use Rattle.x25_line.proofs.sessions.SessionHeld.{Owes, owes_less}
 use Rattle.x25_line.proofs.sessions.SessionUp.{follows_no_packet, stays_no_packet}
 use Rattle.x25_sessions.specs.laws.PeerSessions.{Asking, PeerSessions, both_ends, with_peer, IsTimely, IsDue}
 use Rattle.x25_sessions.proofs.PeerLines.{less_removes, less_replaces, After, after_rest, AllAsked, asked_latest, asked_map, Comes}
 use Rattle.x25_sessions.proofs.PeerHeld.{AllSendable, MayBeOlder, OnLines, Held, InSession, in_session, back_lost, stand_cases, waiting_few}
 use Rattle.x25_sessions.proofs.PeerFacts.{LiveFacts, MayBring, stays_facts, ends_facts, ending_disc, ending_reset}
-use Rattle.x25_sessions.proofs.PeerNear.{read_of, KeepsAll, front_gone, comes_rest, live_goes_on, live_hears, lines_more, apart_held}
+use Rattle.x25_sessions.proofs.PeerNear.{KeepsAll, front_gone, comes_rest, live_goes_on, live_hears, lines_more, apart_held}
 use Rattle.x25_sessions.proofs.PeerBegins.{sabm_begins, ua_begins, sabm_crosses}
 
 -- ---- what comes
 
 pub sabm_or_not : (r : Read) → ((p : Bool) × (r ≡ Ok (sabm p))) ⊎ (sabm_in r ≡ 0)
-sabm_or_not (Ok (info ns nr p x)) = inr refl
-sabm_or_not (Ok (rr command nr pf)) = inr refl
-sabm_or_not (Ok (rnr command nr pf)) = inr refl
-sabm_or_not (Ok (rej command nr pf)) = inr refl
 sabm_or_not (Ok (sabm p)) = inl (p, refl)
-sabm_or_not (Ok (disc p)) = inr refl
-sabm_or_not (Ok (ua f)) = inr refl
-sabm_or_not (Ok (dm f)) = inr refl
-sabm_or_not (Ok (frmr f why)) = inr refl
-sabm_or_not (Err e) = inr refl
-
-pub answer_or_not : (r : Read) → (r ≡ Ok (ua true)) ⊎ (waiting_up r ≡ false)
-answer_or_not (Ok (info ns nr p x)) = inr refl
-answer_or_not (Ok (rr command nr pf)) = inr refl
-answer_or_not (Ok (rnr command nr pf)) = inr refl
-answer_or_not (Ok (rej command nr pf)) = inr refl
-answer_or_not (Ok (sabm p)) = inr refl
-answer_or_not (Ok (disc p)) = inr refl
-answer_or_not (Ok (ua true)) = inl refl
-answer_or_not (Ok (ua false)) = inr refl
-answer_or_not (Ok (dm f)) = inr refl
-answer_or_not (Ok (frmr f why)) = inr refl
-answer_or_not (Err e) = inr refl
+sabm_or_not r = inr refl
 
 pub sets_none_up : (r : Read) → sabm_in r ≡ 0 → sets_up r ≡ false
-sets_none_up (Ok (info ns nr p x)) h = refl
-sets_none_up (Ok (rr command nr pf)) h = refl
-sets_none_up (Ok (rnr command nr pf)) h = refl
-sets_none_up (Ok (rej command nr pf)) h = refl
 sets_none_up (Ok (sabm p)) h = absurd (omega (arith, h))
-sets_none_up (Ok (disc p)) h = refl
-sets_none_up (Ok (ua f)) h = refl
-sets_none_up (Ok (dm f)) h = refl
-sets_none_up (Ok (frmr f why)) h = refl
-sets_none_up (Err e) h = refl
+sets_none_up r h = refl
 
 -- neither SABM nor DISC is sent while UA is awaited, and UA only to SABM
 waiting_kinds : (r : Read) → (count sabm_in (waiting_sends r) ≡ 0) × (count disc_in (waiting_sends r) ≡ 0) × (sabm_in r ≡ 0 → count ua_in (waiting_sends r) ≡ 0)
-waiting_kinds (Ok (info ns nr p x)) = (refl, refl, λ _. refl)
-waiting_kinds (Ok (rr command nr pf)) = (refl, refl, λ _. refl)
-waiting_kinds (Ok (rnr command nr pf)) = (refl, refl, λ _. refl)
-waiting_kinds (Ok (rej command nr pf)) = (refl, refl, λ _. refl)
 waiting_kinds (Ok (sabm p)) = (refl, refl, λ h. absurd (omega (arith, h)))
-waiting_kinds (Ok (disc p)) = (refl, refl, λ _. refl)
-waiting_kinds (Ok (ua f)) = (refl, refl, λ _. refl)
-waiting_kinds (Ok (dm f)) = (refl, refl, λ _. refl)
-waiting_kinds (Ok (frmr f why)) = (refl, refl, λ _. refl)
-waiting_kinds (Err e) = (refl, refl, λ _. refl)
-
-declining_none : (kind : Read → ℕ) → IsKind kind → (fs : List PlainFrame) → AreDeclining fs → count kind fs ≡ 0
-declining_none kind k [] h = refl
-declining_none kind k (dm f ∷ fs) h =
-    let here = dm_kind kind k f in
-    let there = declining_none kind k fs h in
-    omega (arith, here, there)
-declining_none kind k (info ns nr p x ∷ fs) h = absurd h
-declining_none kind k (rr command nr pf ∷ fs) h = absurd h
-declining_none kind k (rnr command nr pf ∷ fs) h = absurd h
-declining_none kind k (rej command nr pf ∷ fs) h = absurd h
-declining_none kind k (sabm p ∷ fs) h = absurd h
-declining_none kind k (disc p ∷ fs) h = absurd h
-declining_none kind k (ua f ∷ fs) h = absurd h
-declining_none kind k (frmr f why ∷ fs) h = absurd h
+waiting_kinds r = (refl, refl, λ _. refl)
 
 -- what has no number meets none
 none_heard : (b : Bool) (read : Option PlainFrame) (m : Meeting) (met : List Meeting) → read ≡ None → heard b read m met ≡ met
@@ -125,26 +75,9 @@ down_quiet s step tells off = go step.notes.up refl
     go true up = not_both (is_up step.side.near.phase) (ap (λ (z : LinkStation). is_up z.phase) (tells.fresh_up up)) off
     go false up = up
 
--- a packet is accepted in Up alone
-pub put_accepted : (s : LinkStation) → put_refusal s ≡ None → is_up s.phase ≡ true
-put_accepted s accepted = go (is_up s.phase) _ accepted
-  where
-    go : (b : Bool) (o : Option LinkError) → (let z : Option LinkError = if not b then Some error.NotUp else o in z) ≡ None → b ≡ true
-    go true o e = refl
-    go false o e = absurd (never e)
-      where
-        never : Some error.NotUp ≡ None → ⊥
-        never k = cc
-
 pub ends_away : (reason : Reason) → (reason ≡ Reset → ⊥) → (p : Phase) → p ≡ ends_in reason → is_up p ≡ false
-ends_away Retries never p is = ap is_up is
-ends_away Disc never p is = ap is_up is
-ends_away Dm never p is = ap is_up is
-ends_away FrmrSent never p is = ap is_up is
-ends_away FrmrGot never p is = ap is_up is
 ends_away Reset never p is = absurd (never refl)
-ends_away Local never p is = ap is_up is
-ends_away Counts never p is = ap is_up is
+ends_away reason never p is = ap is_up is
 
 none_behind_frmr : (reasons : List Reason) → NoneIsFrmr (reasons ++ FrmrSent ∷ []) → ⊥
 none_behind_frmr [] h = h.0
@@ -418,7 +351,7 @@ module _ (reads : ReadsSpelled) (rests : SessionLaws) (Odd : Type 0) (c : Settin
         | inr no_sabm ↦ off Down phase refl (out_takes w h e es is (ap is_up phase) (still Down phase down_waits)
             (rests.laws.window.take_out c e.octets w.near.station (subst IsOut (sym phase) tt) (sets_none_up (read_of c e) no_sabm)))
       ]
-      by Waiting phase = off Waiting phase refl (elim (answer_or_not (read_of c e)) [
+      by Waiting phase = off Waiting phase refl (elim (is_answer (read_of c e)) [
         | inl answer ↦ answer_takes w h e es is phase answer
         | inr no_answer ↦ waiting_takes w h e es is phase no_answer
       ])
@@ -509,10 +442,9 @@ module _ (reads : ReadsSpelled) (rests : SessionLaws) (Odd : Type 0) (c : Settin
       done = after_step c (both_ends w) w.back w.met [] (timer_step c w.near.station)
 
       by : (p : Phase) → w.near.station.phase ≡ p → HeldThen w (unless (timer_refusal w.near.station) (both_ends w) done)
-      by Down is = rw (ap (λ (p : Phase). timer_runs p w.near.station) is) h
       by Waiting is = held_unless (timer_refusal w.near.station) w done h (λ _. timer_waiting w h is (timely is))
       by Up is = held_unless (timer_refusal w.near.station) w done h (λ accepted. timer_up w h (ap is_up is) accepted)
-      by Closed is = rw (ap (λ (p : Phase). timer_runs p w.near.station) is) h
+      by phase is = rw (ap (λ (p : Phase). timer_runs p w.near.station) is) h
 
   -- ---- connect, disconnect and abandon
 

@@ -12,6 +12,7 @@ use Rattle.x25_link.specs.laws.SetUp.{TakesPart}
 use Rattle.x25_line.specs.laws.Stations.{StationEnd, fresh_station}
 use Rattle.x25_line.specs.laws.Sessions.{Entry, SessionEnd, sabm_in, ua_in, disc_in, how_many, sent_in, begun_by, after_step}
 use Rattle.x25_line.specs.laws.SessionClaims.{octets_of}
+use Rattle.x25_line.proofs.sessions.SessionTakes.{read_of}
 use Rattle.x25_line.proofs.StationLines.{AreParting}
 use Rattle.x25_line.proofs.StationSteps.{not_both}
 use Rattle.x25_line.proofs.sessions.SessionLines.{numbers, quiet_of, count}
@@ -20,7 +21,7 @@ use Rattle.x25_line.proofs.sessions.SessionSteps.{end_after, stepped, nothing_ha
 use Rattle.x25_sessions.specs.laws.PeerSessions.{Stand, Asking, In, PeerSessions, as_end, both_ends, with_peer}
 use Rattle.x25_sessions.proofs.PeerLines.{After, after_last, after_front, Thin, none, IsAsked, asked_map, Comes, pick, behind_ua, behind_quiet_ua, comes_behind_ua}
 use Rattle.x25_sessions.proofs.PeerHeld.{AllSendable, Running, MayBeOlder, NearIs, BackIs, OutIs, OnLines, Held, joined_with, begins_with}
-use Rattle.x25_sessions.proofs.PeerNear.{read_of, front_gone, quiet_step, more_frmr, lines_more}
+use Rattle.x25_sessions.proofs.PeerNear.{front_gone, quiet_step, more_frmr, lines_more}
 
 -- LinkUp is noted
 up_step : (Odd : Type 0) (c : Settings) (w : PeerSessions) (es : List Entry) (step : Step) → step.notes.up ≡ true → Held Odd c (with_peer w.peer (stepped c (both_ends w) es w.met [] (suc w.near.begun) step))
@@ -40,20 +41,18 @@ next_lists e n step nothing le lt h high =
       later = λ m less. (let old = h.later m (omega (arith, less, le)) in (same.down m ∙ old.0, same.up m ∙ old.1));
     }
 
-unbegun : (e : SessionEnd) (later : (n : ℕ) → e.begun < n → (e.down n ≡ []) × (e.up n ≡ [])) → HasLists e (suc e.begun) fresh_station
+pub unbegun : (e : SessionEnd) (later : (n : ℕ) → e.begun < n → (e.down n ≡ []) × (e.up n ≡ [])) → HasLists e (suc e.begun) fresh_station
 unbegun e later = (let at = later (suc e.begun) (omega arith) in record { down = at.0; up = at.1; later = later })
 
 no_older : (p : Phase) → TakesPart p → MayBeOlder p → ⊥
-no_older Down part h = h
 no_older Waiting part h = part
-no_older Up part h = h
 no_older Closed part h = part
+no_older p part h = h
 
 none_owed : (p : Phase) → TakesPart p → (n m : ℕ) → Owes p n m → (n ≡ 0) × (m ≡ 0)
-none_owed Down part n m h = h
 none_owed Waiting part n m h = absurd part
-none_owed Up part n m h = h
 none_owed Closed part n m h = absurd part
+none_owed p part n m h = h
 
 -- a SABM after which nothing comes that carries a number, and which isn't of a session of the peer
 latest_asked : (c : Settings) (phase : Phase) (begun : ℕ) (stand : Stand) (e : Entry) (es : List Entry) → TakesPart phase → sabm_in (read_of c e) ≡ 1

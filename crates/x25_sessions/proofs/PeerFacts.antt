@@ -56,13 +56,11 @@ input_within c (receives (frmr f why)) packet w short h = h
 
 more_good : (n1 : ℕ) (w : Window) → AllWithin n1 w.given → (s : Step (List ℕ)) (fs : List PlainFrame) → IsSent s → Allows w s → ShowAll fs (frames_of w s)
     → AllGood n1 fs × ((after w s).given ≡ w.given)
-more_good n1 w within (HandDown x) fs sends may shows = absurd sends
-more_good n1 w within (Hear ack) fs sends may shows = absurd sends
-more_good n1 w within (Take n x) fs sends may shows = absurd sends
 more_good n1 w within Tell fs sends may shows = (single_good n1 (window_frame w None) (tell_good n1 w) fs shows, refl)
 more_good n1 w within (Send n) fs sends may shows =
     let item = item_at n1 w.given n may.3 within in
     (single_good n1 (window_frame (after w (Send n)) (numbered n (slice_get w.given n))) (send_good n1 n w item) fs shows, refl)
+more_good n1 w within s fs sends may shows = absurd sends
 
 runs_good : (n1 : ℕ) (from w : Window) (fs : List PlainFrame) → AllWithin n1 from.given → Runs from w fs → AllGood n1 fs × (w.given ≡ from.given)
 runs_good n1 from w fs within rests = (tt, refl)
@@ -85,10 +83,6 @@ ending_disc_by false e = absurd (never e)
 
 -- by DISC
 pub ending_disc : (r : Read) (v : Window) → ending_of r v ≡ Some Disc → disc_in r ≡ 1
-ending_disc (Ok (info ns nr p x)) v e = absurd (ending_disc_by _ e)
-ending_disc (Ok (rr command nr pf)) v e = absurd (ending_disc_by _ e)
-ending_disc (Ok (rnr command nr pf)) v e = absurd (ending_disc_by _ e)
-ending_disc (Ok (rej command nr pf)) v e = absurd (ending_disc_by _ e)
 ending_disc (Ok (sabm p)) v e = absurd (never e)
   where
     never : Some Reset ≡ Some Disc → ⊥
@@ -106,12 +100,11 @@ ending_disc (Ok (frmr f why)) v e = absurd (never e)
   where
     never : Some FrmrGot ≡ Some Disc → ⊥
     never k = cc
-ending_disc (Err Short) v e = absurd (ending_disc_by true e)
-ending_disc (Err BadFcs) v e = absurd (ending_disc_by true e)
-ending_disc (Err BadAddress) v e = absurd (ending_disc_by true e)
 ending_disc (Err (Undefined control)) v e = absurd (ending_disc_by false e)
 ending_disc (Err (NoInfoAllowed control)) v e = absurd (ending_disc_by false e)
 ending_disc (Err TooLong) v e = absurd (ending_disc_by false e)
+ending_disc (Ok frame) v e = absurd (ending_disc_by _ e)
+ending_disc (Err error) v e = absurd (ending_disc_by true e)
 
 ending_reset_by : (b : Bool) → (let o : Option Reason = if b then None else Some FrmrSent in o) ≡ Some Reset → ⊥
 ending_reset_by true e = absurd (never e)
@@ -125,10 +118,6 @@ ending_reset_by false e = absurd (never e)
 
 -- by SABM
 pub ending_reset : (r : Read) (v : Window) → ending_of r v ≡ Some Reset → sabm_in r ≡ 1
-ending_reset (Ok (info ns nr p x)) v e = absurd (ending_reset_by _ e)
-ending_reset (Ok (rr command nr pf)) v e = absurd (ending_reset_by _ e)
-ending_reset (Ok (rnr command nr pf)) v e = absurd (ending_reset_by _ e)
-ending_reset (Ok (rej command nr pf)) v e = absurd (ending_reset_by _ e)
 ending_reset (Ok (sabm p)) v e = refl
 ending_reset (Ok (disc p)) v e = absurd (never e)
   where
@@ -146,9 +135,8 @@ ending_reset (Ok (frmr f why)) v e = absurd (never e)
 ending_reset (Err Short) v e = absurd (ending_reset_by true e)
 ending_reset (Err BadFcs) v e = absurd (ending_reset_by true e)
 ending_reset (Err BadAddress) v e = absurd (ending_reset_by true e)
-ending_reset (Err (Undefined control)) v e = absurd (ending_reset_by false e)
-ending_reset (Err (NoInfoAllowed control)) v e = absurd (ending_reset_by false e)
-ending_reset (Err TooLong) v e = absurd (ending_reset_by false e)
+ending_reset (Ok frame) v e = absurd (ending_reset_by _ e)
+ending_reset (Err error) v e = absurd (ending_reset_by false e)
 
 module _ (reads : ReadsSpelled) (c : Settings) where
   pub many_good : (kind : Read → ℕ) → IsKind kind → (n : ℕ) (fs : List PlainFrame) → AllGood c.longest fs → how_many kind c.role c.longest (sent_in n c.role fs) ≡ 0
@@ -159,16 +147,8 @@ module _ (reads : ReadsSpelled) (c : Settings) where
       omega (arith, here, there)
 
   number_frmr : (r : Read) (g : PlainFrame) → number_in r ≡ Some g → frmr_in r ≡ 0
-  number_frmr (Ok (info ns nr p x)) g e = refl
-  number_frmr (Ok (rr command nr pf)) g e = refl
-  number_frmr (Ok (rnr command nr pf)) g e = refl
-  number_frmr (Ok (rej command nr pf)) g e = refl
-  number_frmr (Ok (sabm p)) g e = refl
-  number_frmr (Ok (disc p)) g e = refl
-  number_frmr (Ok (ua f)) g e = refl
-  number_frmr (Ok (dm f)) g e = refl
   number_frmr (Ok (frmr f why)) g e = none_is_some g e
-  number_frmr (Err x) g e = refl
+  number_frmr r g e = refl
 
   good_frmr : (n : ℕ) (fs : List PlainFrame) → AllGood c.longest fs → how_many frmr_in c.role c.longest (sent_in n c.role fs) ≡ 0
   good_frmr n [] h = refl
@@ -183,11 +163,7 @@ module _ (reads : ReadsSpelled) (c : Settings) where
   parting_count (disc p ∷ fs) h = (let rest = parting_count fs h in omega (arith, rest))
   parting_count (ua f ∷ fs) h = (let rest = parting_count fs h in omega (arith, rest))
   parting_count (dm f ∷ fs) h = (let rest = parting_count fs h in omega (arith, rest))
-  parting_count (info ns nr p x ∷ fs) h = absurd h
-  parting_count (rr command nr pf ∷ fs) h = absurd h
-  parting_count (rnr command nr pf ∷ fs) h = absurd h
-  parting_count (rej command nr pf ∷ fs) h = absurd h
-  parting_count (frmr f why ∷ fs) h = absurd h
+  parting_count (frame ∷ fs) h = absurd h
 
   pub many_parting : (kind : Read → ℕ) (n : ℕ) (fs : List PlainFrame) → AreParting (Unit {0}) fs → how_many kind c.role c.longest (sent_in n c.role fs) ≡ count kind fs
   many_parting kind n fs parting = many_sent reads c.role c.longest kind n [] fs (parting_whole (Unit {0}) c.longest [] fs parting)
@@ -238,15 +214,12 @@ module _ (reads : ReadsSpelled) (c : Settings) where
 
   pub ends_facts : (Lapb Asks : Type 0) (reason : Reason) (step : LinkStep) → (reason ≡ Reset → ⊥) → (reason ≡ Disc → Asks → ⊥) → (reason ≡ FrmrSent → Lapb → ⊥)
       → ((f : Bool) (why : List ℕ) → reason ≡ FrmrSent → step.side.out ≡ frmr f why ∷ [] → length why ≡ 3) → Ends reason step → LiveFacts c Lapb Asks step
-  ends_facts Lapb Asks Retries step never answers faultless three h = ended Lapb Asks step [] h.frames tt refl (inr refl) (λ _. refl) (ap is_up h.phase) (down_still _ h.phase) (λ _. refl)
   ends_facts Lapb Asks Disc step never answers faultless three h =
       ended Lapb Asks step (ua h.frames.0 ∷ []) h.frames.1 (parting_whole (Unit {0}) c.longest [] (ua h.frames.0 ∷ []) tt) refl (inr refl) (λ asks. absurd (answers refl asks)) (ap is_up h.phase) (down_still _ h.phase) (λ _. refl)
-  ends_facts Lapb Asks Dm step never answers faultless three h = ended Lapb Asks step [] h.frames tt refl (inr refl) (λ _. refl) (ap is_up h.phase) (down_still _ h.phase) (λ _. refl)
   ends_facts Lapb Asks FrmrSent step never answers faultless three h =
       ended Lapb Asks step (frmr h.frames.0 h.frames.1 ∷ []) h.frames.2 (record { in_range = tt; carries = three h.frames.0 h.frames.1 refl h.frames.2; within = tt; packet = tt }, tt) refl (inr refl) (λ _. refl)
       (ap is_up h.phase) (down_still _ h.phase) (λ lapb. absurd (faultless refl lapb))
-  ends_facts Lapb Asks FrmrGot step never answers faultless three h = ended Lapb Asks step [] h.frames tt refl (inr refl) (λ _. refl) (ap is_up h.phase) (down_still _ h.phase) (λ _. refl)
   ends_facts Lapb Asks Reset step never answers faultless three h = absurd (never refl)
   ends_facts Lapb Asks Local step never answers faultless three h =
       ended Lapb Asks step (disc true ∷ []) h.frames (parting_whole (Unit {0}) c.longest [] (disc true ∷ []) tt) refl (inl h.phase) (λ _. refl) (ap is_up h.phase) (closed_still _ h.phase) (λ _. refl)
-  ends_facts Lapb Asks Counts step never answers faultless three h = ended Lapb Asks step [] h.frames tt refl (inr refl) (λ _. refl) (ap is_up h.phase) (down_still _ h.phase) (λ _. refl)
+  ends_facts Lapb Asks reason step never answers faultless three h = ended Lapb Asks step [] h.frames tt refl (inr refl) (λ _. refl) (ap is_up h.phase) (down_still _ h.phase) (λ _. refl)

@@ -12,16 +12,17 @@ use Rattle.x25_line.specs.laws.Stations.{StationEnd, fresh_station, is_visible}
 use Rattle.x25_line.specs.laws.Stations as one
 use Rattle.x25_line.specs.laws.StationClaims.{number_in}
 use Rattle.x25_line.specs.laws.Sessions.{Entry, SessionEnd, Meeting, turned, sabm_in, ua_in, disc_in, how_many}
-use Rattle.x25_line.specs.laws.SessionClaims.{AllMet, SomeMet, IsAbove, InStep, IsInOrder, octets_of}
+use Rattle.x25_line.specs.laws.SessionClaims.{AllMet, IsAbove, octets_of}
 use Rattle.x25_line.specs.laws.Peer.{Peer, fresh_peer}
 use Rattle.x25_line.specs.laws.Peer as once
-use Rattle.x25_line.specs.laws.PeerJoined.{Joined, IsReached, our_end, with_peer as with_peer_once, Ours, HandsDown, Sends, Loses, Damages}
+use Rattle.x25_line.specs.laws.PeerJoined.{Joined, IsReached, our_end, with_peer as with_peer_once, Ours, Sends, Loses, Damages}
 use Rattle.x25_line.specs.laws.PeerJoined as joined
+use Rattle.x25_line.proofs.sessions.SessionRuns.{near_turned, begun_turned, far_turned, in_step_turned, in_order_turned}
 use Rattle.x25_line.proofs.StationLines.{consed, visible_reads}
 use Rattle.x25_line.proofs.StationSends.{AllWithin}
 use Rattle.x25_line.proofs.StationSteps.{not_both}
 use Rattle.x25_line.proofs.sessions.SessionLines.{Read, AllBegun, numbers, quiet_tail, Behind, of_sabm, of_ua, of_disc, change_many, change_behind, change_begun, change_of}
-use Rattle.x25_line.proofs.sessions.SessionHeld.{View, Live, Soon, Gone, Owes, owes_less, HasLists, Meetings, IsPaired, IsBegun}
+use Rattle.x25_line.proofs.sessions.SessionHeld.{View, Live, Soon, Gone, Owes, owes_less, HasLists, Meetings, IsPaired}
 use Rattle.x25_sessions.specs.laws.PeerSessions.{Stand, Out, Asking, In, PeerEnd, PeerSessions, as_end}
 use Rattle.x25_sessions.specs.laws.PeerSessionClaims.{frmr_in}
 use Rattle.x25_sessions.proofs.PeerLines.{Shrinks, same, loses, damages, Shrunk, Less, all, gone, hurt, deeper, less_shrinks, less_changes, After, after_less, Thin, thin_less, AllAsked, asked_less, Comes}
@@ -34,10 +35,9 @@ Running c s = is_up s.phase ≡ true → IsSound c.window s.outgoing × AllWithi
 
 -- a SABM of an earlier session of the peer may come to a station that waits, or is Closed
 abbrev pub MayBeOlder : Phase → Type 0
-MayBeOlder Down = ⊥
 MayBeOlder Waiting = Unit {0}
-MayBeOlder Up = ⊥
 MayBeOlder Closed = Unit {0}
+MayBeOlder phase = ⊥
 
 -- The station is in the session, is about to be in it, afresh, or has left it.
 abbrev pub NearIs : View → SessionEnd → StationEnd → ℕ → List (List ℕ) → Type 0
@@ -139,25 +139,22 @@ in_session Odd c w h up = go h.near_view h.near h.back
   where
     go : (v : View) → NearIs v w.near h.alone.near h.p h.alone.out → BackIs c v w.near.station.phase w.peer.begun w.peer.stand w.back h.alone.back h.q → InSession Odd c w h
     go Live near back = record { station = near.1; begun = near.2; comes = back }
-    go Soon near back = not_both (is_up w.near.station.phase) up near.0
-    go Gone near back = not_both (is_up w.near.station.phase) up near.0
+    go v near back = not_both (is_up w.near.station.phase) up near.0
 
 -- no end began a session later than the one that stands
 pub near_high : (Odd : Type 0) (c : Settings) (w : PeerSessions) (h : Held Odd c w) → w.near.begun ≤ h.p
 near_high Odd c w h = go h.near_view h.near
   where
     go : (v : View) → NearIs v w.near h.alone.near h.p h.alone.out → w.near.begun ≤ h.p
-    go Live near = omega (arith, near.2)
-    go Soon near = omega (arith, near.2)
     go Gone near = omega (arith, near.1)
+    go v near = omega (arith, near.2)
 
 pub peer_high : (Odd : Type 0) (c : Settings) (w : PeerSessions) (h : Held Odd c w) → w.peer.begun ≤ h.q
 peer_high Odd c w h = go h.peer_view h.peer
   where
     go : (v : View) → PeerIs v w.peer h.q → w.peer.begun ≤ h.q
     go Live peer = omega (arith, peer.1)
-    go Soon peer = omega (arith, peer.1)
-    go Gone peer = omega (arith, peer.1)
+    go v peer = omega (arith, peer.1)
 
 -- ---- a session that begins, with octets on the line to the station that carry no number
 
@@ -317,9 +314,8 @@ out_less c Gone stand p os es fs less few h = record {
 
 -- nothing is lost of what isn't there
 near_less : (v : View) (e : SessionEnd) (n : StationEnd) (p : ℕ) (os left : List (List ℕ)) → Shrinks os left → NearIs v e n p os → NearIs v e n p left
-near_less Live e n p os left s h = h
 near_less Soon e n p os left s h = (h.0, h.1, h.2, shrinks_none os left s h.3)
-near_less Gone e n p os left s h = h
+near_less v e n p os left s h = h
 
 pub back_lost : (Odd : Type 0) (c : Settings) (w : PeerSessions) → Held Odd c w → (fs : List Entry) → Less w.back fs → Held Odd c (record w { back = fs })
 back_lost Odd c w h fs less =
@@ -373,10 +369,6 @@ out_lost Odd c w h fs less =
 
 -- ---- meetings, seen by the peer
 
-begun_turned : (p q : ℕ) (met : List Meeting) → AllMet (IsBegun p q) met → AllMet (IsBegun q p) (map turned met)
-begun_turned p q [] h = tt
-begun_turned p q (m ∷ ms) h = ((h.0.1, h.0.0), begun_turned p q ms h.1)
-
 paired_turned : (p q : ℕ) (met : List Meeting) → AllMet (IsPaired p q) met → AllMet (IsPaired q p) (map turned met)
 paired_turned p q [] h = tt
 paired_turned p q (m ∷ ms) h = (elim h.0 [ inl here ↦ inl (here.1, here.0) | inr less ↦ inr (less.1, less.0) ], paired_turned p q ms h.1)
@@ -384,22 +376,6 @@ paired_turned p q (m ∷ ms) h = (elim h.0 [ inl here ↦ inl (here.1, here.0) |
 above_turned : (m : Meeting) (met : List Meeting) → IsAbove m met → IsAbove (turned m) (map turned met)
 above_turned m [] h = tt
 above_turned m (n ∷ ms) h = elim h [ inl here ↦ inl (here.1, here.0) | inr less ↦ inr (less.1, less.0) ]
-
-in_step_turned : (met : List Meeting) → InStep met → InStep (map turned met)
-in_step_turned [] h = tt
-in_step_turned (m ∷ ms) h = (above_turned m ms h.0, in_step_turned ms h.1)
-
-in_order_turned : (near far : SessionEnd) (met : List Meeting) → AllMet (IsInOrder near far) met → AllMet (IsInOrder far near) (map turned met)
-in_order_turned near far [] h = tt
-in_order_turned near far (m ∷ ms) h = (record { there = h.0.back; back = h.0.there }, in_order_turned near far ms h.1)
-
-near_turned : (n : ℕ) (met : List Meeting) → SomeMet (λ (m : Meeting). m.near ≡ n) met → SomeMet (λ (m : Meeting). m.far ≡ n) (map turned met)
-near_turned n [] h = h
-near_turned n (m ∷ ms) h = elim h [ inl here ↦ inl here | inr there ↦ inr (near_turned n ms there) ]
-
-far_turned : (n : ℕ) (met : List Meeting) → SomeMet (λ (m : Meeting). m.far ≡ n) met → SomeMet (λ (m : Meeting). m.near ≡ n) (map turned met)
-far_turned n [] h = h
-far_turned n (m ∷ ms) h = elim h [ inl here ↦ inl here | inr there ↦ inr (far_turned n ms there) ]
 
 pub meetings_turned : (near far : SessionEnd) (p q : ℕ) (met : List Meeting) → Meetings near far p q met → Meetings far near q p (map turned met)
 meetings_turned near far p q met h =
@@ -412,7 +388,7 @@ meetings_turned near far p q met h =
       far_unmet = λ n. elim (h.near_unmet n) [ inl empty ↦ inl empty | inr some ↦ inr (near_turned n met some) ];
     }
 
-twice_turned : (met : List Meeting) → map turned (map turned met) ≡ met
+pub twice_turned : (met : List Meeting) → map turned (map turned met) ≡ met
 twice_turned [] = refl
 twice_turned (m ∷ ms) = ap (λ (xs : List Meeting). m ∷ xs) (twice_turned ms)
 

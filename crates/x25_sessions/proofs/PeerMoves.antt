@@ -13,6 +13,7 @@ use Rattle.x25_line.specs.laws.Sessions.{Entry, SessionEnd, Meeting, turned, sab
 use Rattle.x25_line.specs.laws.SessionClaims.{IsInOrder, octets_of, AllOf}
 use Rattle.x25_line.specs.laws.Peer.{Peer, fresh_peer, hearing, taking}
 use Rattle.x25_line.specs.laws.Peer as once
+use Rattle.x25_line.specs.laws.Said.{Said, Tells, Odd as OddSaid, said}
 use Rattle.x25_line.specs.laws.PeerJoined.{Joined, IsReached, HandsDown, Sends, Hears}
 use Rattle.x25_line.specs.laws.PeerJoined as joined
 use Rattle.x25_line.proofs.StationSteps.{not_both}
@@ -59,8 +60,7 @@ peer_in Odd c w h is = go h.peer_view h.peer h.out
   where
     go : (v : View) → PeerIs v w.peer h.q → OutIs c v w.peer.stand w.out h.alone.out h.p → PeerIn Odd c w h
     go Live k out = record { begun = k.1; thin = out; now_is = ap w.peer.of_session k.1 ∙ h.peer_lists.at }
-    go Soon k out = absurd (k.0 is)
-    go Gone k out = absurd (k.0 is)
+    go v k out = absurd (k.0 is)
 
 -- ---- meetings
 
@@ -101,9 +101,8 @@ module _ (Odd : Type 0) (c : Settings) (keeps : KeepsAll Odd c) where
   moved a r out back = record { near = a.near; peer = r; out = out; back = back }
 
   near_still : (v : View) (w : PeerSessions) (h : Held Odd c w) (os : List (List ℕ)) → (h.alone.out ≡ [] → os ≡ []) → NearIs v w.near h.alone.near h.p h.alone.out → NearIs v w.near h.alone.near h.p os
-  near_still Live w h os none k = k
   near_still Soon w h os none k = (k.0, k.1, k.2, none k.3)
-  near_still Gone w h os none k = k
+  near_still v w h os none k = k
 
   in_moves : (w : PeerSessions) (h : Held Odd c w) (i : PeerIn Odd c w h) → w.peer.stand ≡ In → (all : ℕ → Peer) (r : Peer) (out back : List Entry) (os bs : List (List ℕ)) (met : List Meeting) → Knows w.peer h.q all r
       → IsReached Odd c (moved h.alone r os bs) → Thin c.role c.longest h.p os out → (h.alone.out ≡ [] → os ≡ []) → BackIs c h.near_view w.near.station.phase w.peer.begun w.peer.stand back bs h.q
@@ -158,22 +157,11 @@ module _ (Odd : Type 0) (c : Settings) (keeps : KeepsAll Odd c) where
 
   -- ---- it sends what carries a number
 
-  sends_taken : (p q : Peer) (r : Read) → once.MaySend Odd p r q → q.taken ≡ p.taken
-  sends_taken p q (Ok (info ns nr pf x)) h = ap (λ (z : Peer). z.taken) h.4
-  sends_taken p q (Ok (rr command nr pf)) h = ap (λ (z : Peer). z.taken) h.2
-  sends_taken p q (Ok (rnr command nr pf)) h = ap (λ (z : Peer). z.taken) h.2
-  sends_taken p q (Ok (rej command nr pf)) h = ap (λ (z : Peer). z.taken) h.2
-  sends_taken p q (Ok (sabm pf)) h = ap (λ (z : Peer). z.taken) h
-  sends_taken p q (Ok (disc pf)) h = ap (λ (z : Peer). z.taken) h
-  sends_taken p q (Ok (ua f)) h = ap (λ (z : Peer). z.taken) h
-  sends_taken p q (Ok (dm f)) h = ap (λ (z : Peer). z.taken) h
-  sends_taken p q (Ok (frmr f why)) h = ap (λ (z : Peer). z.taken) h
-  sends_taken p q (Err Short) h = ap (λ (z : Peer). z.taken) h
-  sends_taken p q (Err BadFcs) h = ap (λ (z : Peer). z.taken) h
-  sends_taken p q (Err BadAddress) h = ap (λ (z : Peer). z.taken) h
-  sends_taken p q (Err (Undefined control)) h = ap (λ (z : Peer). z.taken) h.1
-  sends_taken p q (Err (NoInfoAllowed control)) h = ap (λ (z : Peer). z.taken) h.1
-  sends_taken p q (Err TooLong) h = ap (λ (z : Peer). z.taken) h.1
+  sends_taken : (p q : Peer) (s : Said) → once.MaySay Odd p s q → q.taken ≡ p.taken
+  sends_taken p q (Tells None nr) h = ap (λ (z : Peer). z.taken) h.2
+  sends_taken p q (Tells (Some x) nr) h = ap (λ (z : Peer). z.taken) h.4
+  sends_taken p q OddSaid h = ap (λ (z : Peer). z.taken) h.1
+  sends_taken p q s h = ap (λ (z : Peer). z.taken) h
 
   -- the line to the station, with more of this session, that holds no UA
   back_more : (v : View) (phase : Phase) (begun q : ℕ) (stand other_stand : Stand) (es more : List Entry) (os : List (List ℕ)) → how_many ua_in (other c.role) c.longest more ≡ 0 → AllOf (other c.role) c.longest q more
@@ -225,7 +213,7 @@ module _ (Odd : Type 0) (c : Settings) (keeps : KeepsAll Odd c) where
         begun_back = begun_append w.peer.begun w.back more h.lines.begun_back (omega arith, tt);
         asked = asked (MayBeOlder w.near.station.phase) w.back h.lines.asked;
       })
-      (peer_goes_on Odd c w h all r k (sends_taken (now w.peer) r read may ∙ ap (λ (z : Peer). z.taken) i.now_is) (order_with w h all r h.alone.out (h.alone.back ++ octets ∷ []) k reached))
+      (peer_goes_on Odd c w h all r k (sends_taken (now w.peer) r (said read) may ∙ ap (λ (z : Peer). z.taken) i.now_is) (order_with w h all r h.alone.out (h.alone.back ++ octets ∷ []) k reached))
       (sendable_append Odd c w.back more h.sendable ((λ free p. none_is_some frame (sym free ∙ some)), tt)) h.no_frmr
     where
       never : In ≡ Asking → ⊥
@@ -239,25 +227,8 @@ module _ (Odd : Type 0) (c : Settings) (keeps : KeepsAll Odd c) where
   hears_nothing p q (Ok (rr command nr pf)) none h = none_is_some (rr command nr pf) (sym none)
   hears_nothing p q (Ok (rnr command nr pf)) none h = none_is_some (rnr command nr pf) (sym none)
   hears_nothing p q (Ok (rej command nr pf)) none h = none_is_some (rej command nr pf) (sym none)
-  hears_nothing p q (Ok (sabm pf)) none h = h
-  hears_nothing p q (Ok (disc pf)) none h = h
-  hears_nothing p q (Ok (ua f)) none h = h
-  hears_nothing p q (Ok (dm f)) none h = h
-  hears_nothing p q (Ok (frmr f why)) none h = h
-  hears_nothing p q (Err e) none h = h
-
-  -- it may pass over anything
-  pub hears_none : (p : Peer) (r : Read) → once.MayHear p r p
-  hears_none p (Ok (info ns nr pf x)) = (false, false, tt, refl)
-  hears_none p (Ok (rr command nr pf)) = (false, refl)
-  hears_none p (Ok (rnr command nr pf)) = (false, refl)
-  hears_none p (Ok (rej command nr pf)) = (false, refl)
-  hears_none p (Ok (sabm pf)) = refl
-  hears_none p (Ok (disc pf)) = refl
-  hears_none p (Ok (ua f)) = refl
-  hears_none p (Ok (dm f)) = refl
-  hears_none p (Ok (frmr f why)) = refl
-  hears_none p (Err e) = refl
+  hears_nothing p q (Err TooLong) none h = h
+  hears_nothing p q r none h = h
 
   -- a frame with a number that it hears was sent in a session that the station began
   near_began : (v : View) (w : PeerSessions) (h : Held Odd c w) → NearIs v w.near h.alone.near h.p h.alone.out → (o : List ℕ) (os : List (List ℕ)) → h.alone.out ≡ o ∷ os → h.p ≤ w.near.begun

@@ -3,14 +3,12 @@ use Rattle.std.proofs.Common.{◌≡◌, ◌≤◌, ℕ, ◌+◌, List, [], ◌�
 use Rattle.std.specs.Prelude.{◌||◌, option_to_list}
 use Rattle.x25_frame.specs.Frame.{PlainFrame}
 use Rattle.x25_frame.specs.Spelling.{spelling_of}
-use Rattle.x25_frame.specs.Reading.{frame_of}
 use Rattle.x25_frame.specs.laws.ReadingLaw.{ReadsSpelled}
 use Rattle.x25_link.specs.declared.phase.Phase.{Phase}
 use Rattle.x25_link.specs.declared.phase.Phase.TheVariants.{Waiting}
 use Rattle.x25_link.specs.Station.{Settings, is_up}
 use Rattle.x25_link.specs.Hearing.{Step, other}
 use Rattle.x25_line.specs.laws.InWindow.{IsPrefix}
-use Rattle.x25_line.specs.laws.Stations.{StationEnd, fresh_station}
 use Rattle.x25_line.specs.laws.Stations as one
 use Rattle.x25_line.specs.laws.StationClaims.{numbered_on}
 use Rattle.x25_line.specs.laws.Sessions.{Entry, SessionEnd, Meeting, sabm_in, ua_in, disc_in, how_many, sent_in, begun_by, extended, after_step}
@@ -20,7 +18,7 @@ use Rattle.x25_line.specs.laws.PeerJoined.{Joined, IsReached, our_end, with_peer
 use Rattle.x25_line.specs.laws.PeerClaims.{KeepsOrder, FindsNoFault}
 use Rattle.x25_line.proofs.StationLines.{AreParting, parting_numbered}
 use Rattle.x25_line.proofs.StationSteps.{not_both}
-use Rattle.x25_line.proofs.sessions.SessionLines.{Read, octets_sent, numbers, many_append, none_behind, behind_quiet, count}
+use Rattle.x25_line.proofs.sessions.SessionLines.{octets_sent, numbers, many_append, none_behind, behind_quiet, count}
 use Rattle.x25_line.proofs.sessions.SessionHeld.{View, Live, Soon, Gone, Owes, owes_less, owes_none, lists_same, SameLists, Meetings, meetings_same, meetings_go_on, meetings_hear, extended_nil}
 use Rattle.x25_line.proofs.sessions.SessionSteps.{end_after, stepped, nothing_handed, grown, live_lists, owes_up}
 use Rattle.x25_sessions.specs.laws.PeerSessions.{Stand, Asking, PeerEnd, PeerSessions, as_end, both_ends, with_peer}
@@ -28,9 +26,6 @@ use Rattle.x25_sessions.specs.laws.PeerSessionClaims.{frmr_in}
 use Rattle.x25_sessions.proofs.PeerLines.{After, after_none, after_more, Thin, thin_append, thin_more, thin_sent, AllAsked, asked_map, Comes}
 use Rattle.x25_sessions.proofs.PeerHeld.{AllSendable, MayBeOlder, NearIs, BackIs, OutIs, OnLines, Held, InSession, in_session}
 use Rattle.x25_sessions.proofs.PeerFacts.{LiveFacts, many_parting, parting_frmr}
-
-abbrev pub read_of : Settings → Entry → Read
-read_of c e = frame_of (other c.role) c.longest e.octets
 
 -- no LinkUp is noted
 pub quiet_step : (Odd : Type 0) (c : Settings) (w : PeerSessions) (es : List Entry) (met : List Meeting) (down : List (List ℕ)) (step : Step) → step.notes.up ≡ false

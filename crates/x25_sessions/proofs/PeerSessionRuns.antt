@@ -13,6 +13,7 @@ use Rattle.x25_line.specs.laws.SessionClaims.{AllMet, SomeMet, MeetInStep, MetAr
 use Rattle.x25_line.specs.laws.LawsBelow.{SessionLaws}
 use Rattle.x25_line.specs.laws.Peer.{Peer}
 use Rattle.x25_line.specs.laws.Peer as rules
+use Rattle.x25_line.specs.laws.Said.{Said, Odd as OddSaid, said}
 use Rattle.x25_line.specs.laws.PeerJoined.{Joined}
 use Rattle.x25_line.specs.laws.PeerJoined as joined
 use Rattle.x25_line.proofs.sessions.SessionLines.{Read}
@@ -102,27 +103,14 @@ all_meet P p q near far f [] begun paired = tt
 all_meet P p q near far f (m ∷ ms) begun paired = (f m begun.0 paired.0, all_meet P p q near far f ms begun.1 paired.1)
 
 -- what a peer may send, one may send that may send more
-sends_with : (Odd More : Type 0) → (Odd → More) → (p q : Peer) (r : Read) → rules.MaySend Odd p r q → rules.MaySend More p r q
-sends_with Odd More f p q (Ok (info ns nr pf x)) h = h
-sends_with Odd More f p q (Ok (rr command nr pf)) h = h
-sends_with Odd More f p q (Ok (rnr command nr pf)) h = h
-sends_with Odd More f p q (Ok (rej command nr pf)) h = h
-sends_with Odd More f p q (Ok (sabm pf)) h = h
-sends_with Odd More f p q (Ok (disc pf)) h = h
-sends_with Odd More f p q (Ok (ua x)) h = h
-sends_with Odd More f p q (Ok (dm x)) h = h
-sends_with Odd More f p q (Ok (frmr x why)) h = h
-sends_with Odd More f p q (Err Short) h = h
-sends_with Odd More f p q (Err BadFcs) h = h
-sends_with Odd More f p q (Err BadAddress) h = h
-sends_with Odd More f p q (Err (Undefined control)) h = (f h.0, h.1)
-sends_with Odd More f p q (Err (NoInfoAllowed control)) h = (f h.0, h.1)
-sends_with Odd More f p q (Err TooLong) h = (f h.0, h.1)
+sends_with : (Odd More : Type 0) → (Odd → More) → (p q : Peer) (s : Said) → rules.MaySay Odd p s q → rules.MaySay More p s q
+sends_with Odd More f p q OddSaid h = (f h.0, h.1)
+sends_with Odd More f p q s h = h
 
 happens_with : (Odd More : Type 0) → (Odd → More) → (c : Settings) (w v : Joined) → joined.Happens Odd c w v → joined.Happens More c w v
 happens_with Odd More f c w v (joined.Ours act) = joined.Ours act
 happens_with Odd More f c w v (joined.HandsDown packet) = joined.HandsDown packet
-happens_with Odd More f c w v (joined.Sends octets q may) = joined.Sends octets q (sends_with Odd More f w.peer q (frame_of (other c.role) c.longest octets) may)
+happens_with Odd More f c w v (joined.Sends octets q may) = joined.Sends octets q (sends_with Odd More f w.peer q (said (frame_of (other c.role) c.longest octets)) may)
 happens_with Odd More f c w v (joined.Hears octets rest q is may) = joined.Hears octets rest q is may
 happens_with Odd More f c w v (joined.Loses i) = joined.Loses i
 happens_with Odd More f c w v (joined.Damages i octets visible) = joined.Damages i octets visible

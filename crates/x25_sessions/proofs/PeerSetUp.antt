@@ -4,34 +4,37 @@ use Rattle.std.proofs.Common.{◌≡◌, ◌≤◌, ◌<◌, ◌==◌, ℕ, zero
 use Rattle.std.specs.Prelude.{option_to_list}
 use Rattle.std.proofs.lemmas.Bool.{eq-eqb, eqb-true}
 use Rattle.x25_bits.specs.declared.role.Role.{Role}
-use Rattle.x25_frame.specs.Frame.{PlainFrame, info, rr, rnr, rej, sabm, disc, ua, dm, frmr}
+use Rattle.x25_frame.specs.Frame.{PlainFrame, sabm, disc, ua, dm, frmr}
 use Rattle.x25_frame.specs.Reading.{frame_of}
-use Rattle.x25_frame.specs.declared.error.FrameError.TheVariants.{Short, BadFcs, BadAddress, Undefined, NoInfoAllowed, TooLong}
+use Rattle.x25_frame.specs.declared.error.FrameError.TheVariants.{Short, BadFcs, BadAddress}
 use Rattle.x25_frame.specs.laws.ReadingLaw.{ReadsSpelled}
 use Rattle.x25_link.specs.declared.phase.Phase.{Phase}
-use Rattle.x25_link.specs.declared.phase.Phase.TheVariants.{Down, Waiting, Up, Closed}
+use Rattle.x25_link.specs.declared.phase.Phase.TheVariants.{Waiting, Closed}
 use Rattle.x25_link.specs.Station.{Settings, is_up}
 use Rattle.x25_link.specs.Hearing.{other}
-use Rattle.x25_line.specs.laws.Stations.{fresh_station}
 use Rattle.x25_line.specs.laws.StationClaims.{number_in}
-use Rattle.x25_line.specs.laws.Sessions.{Entry, SessionEnd, Meeting, turned, sabm_in, ua_in, disc_in, how_many, heard, replaced}
+use Rattle.x25_line.specs.laws.Sessions.{Entry, Meeting, turned, sabm_in, ua_in, disc_in, how_many, heard, replaced}
 use Rattle.x25_line.specs.laws.LawsBelow.{SessionLaws}
 use Rattle.x25_line.specs.laws.Peer.{Peer, fresh_peer}
 use Rattle.x25_line.specs.laws.Peer as once
 use Rattle.x25_line.specs.laws.PeerJoined.{IsReached}
 use Rattle.x25_line.specs.laws.PeerJoined as joined
+use Rattle.x25_line.specs.laws.Said.{said}
+use Rattle.x25_line.proofs.StationPeers.{passes}
+use Rattle.x25_line.proofs.sessions.SessionTakes.{closed_by}
 use Rattle.x25_line.proofs.StationSteps.{not_both}
 use Rattle.x25_line.proofs.sessions.SessionLines.{Read, begun_append, begun_more, numbers, quiet_tail, many_append}
-use Rattle.x25_line.proofs.sessions.SessionHeld.{View, Live, Soon, Gone, Owes, owes_less, HasLists, SameLists, Meetings, meetings_same, meetings_anew, choose, choose_map}
+use Rattle.x25_line.proofs.sessions.SessionHeld.{View, Live, Soon, Gone, Owes, owes_less, SameLists, Meetings, meetings_same, meetings_anew, choose, choose_map}
 use Rattle.x25_line.proofs.sessions.SessionSteps.{asked_by, waiting_is_closed}
 use Rattle.x25_sessions.specs.laws.PeerSessions.{Stand, Out, Asking, In, PeerEnd, PeerSessions, as_end, is_in, now, put_for, begins, stands, entry, heard_by, IsPatient, IsFree}
 use Rattle.x25_sessions.specs.laws.PeerSessions as sessions
 use Rattle.x25_sessions.specs.laws.PeerSessionClaims.{frmr_in}
+use Rattle.x25_sessions.proofs.PeerBegins.{unbegun}
 use Rattle.x25_sessions.proofs.PeerLines.{Less, gone, less_removes, less_replaces, After, after_last, after_front, Thin, thin_quiet, AllAsked, asked_none, asked_quiet, asked_out, asked_begins, asked_map, Comes}
 use Rattle.x25_sessions.proofs.PeerHeld.{IsSendable, sendable_append, MayBeOlder, NearIs, PeerIs, BackIs, OutIs, OnLines, lines_out, Held, joined_with, out_lost, sends_free, waiting_few, meetings_turned, meetings_back}
 use Rattle.x25_sessions.proofs.PeerNear.{KeepsAll}
 use Rattle.x25_sessions.proofs.PeerActs.{acts_held}
-use Rattle.x25_sessions.proofs.PeerMoves.{put_same, put_other, Knows, knowing, handed_held, numbered_held, heard_held, hears_none, free_held}
+use Rattle.x25_sessions.proofs.PeerMoves.{put_same, put_other, Knows, knowing, handed_held, numbered_held, heard_held, free_held}
 
 asks_in : {A : Type 0} → In ≡ Asking → A
 asks_in e = absurd (never e)
@@ -52,21 +55,13 @@ asking_in : Asking ≡ In → ⊥
 asking_in k = cc
 
 free_number : (Odd : Type 0) (r : Read) → IsFree Odd r → (number_in r ≡ None) × (sabm_in r ≡ 0) × (ua_in r ≡ 0) × (disc_in r ≡ 0) × IsSendable Odd r
-free_number Odd (Ok (info ns nr p x)) h = absurd h
-free_number Odd (Ok (rr command nr pf)) h = absurd h
-free_number Odd (Ok (rnr command nr pf)) h = absurd h
-free_number Odd (Ok (rej command nr pf)) h = absurd h
-free_number Odd (Ok (sabm p)) h = absurd h
-free_number Odd (Ok (disc p)) h = absurd h
-free_number Odd (Ok (ua f)) h = absurd h
 free_number Odd (Ok (dm f)) h = (refl, refl, refl, refl, λ free p. refl)
 free_number Odd (Ok (frmr f why)) h = (refl, refl, refl, refl, λ free p. refl)
 free_number Odd (Err Short) h = (refl, refl, refl, refl, λ free p. refl)
 free_number Odd (Err BadFcs) h = (refl, refl, refl, refl, λ free p. refl)
 free_number Odd (Err BadAddress) h = (refl, refl, refl, refl, λ free p. refl)
-free_number Odd (Err (Undefined control)) h = (refl, refl, refl, refl, λ free p. (h, refl))
-free_number Odd (Err (NoInfoAllowed control)) h = (refl, refl, refl, refl, λ free p. (h, refl))
-free_number Odd (Err TooLong) h = (refl, refl, refl, refl, λ free p. (h, refl))
+free_number Odd (Ok frame) h = absurd h
+free_number Odd (Err error) h = (refl, refl, refl, refl, λ free p. (h, refl))
 
 -- SABM, DISC and UA may be sent as they are
 sabm_sendable : (Odd : Type 0) (r : Read) (p : Bool) → r ≡ Ok (sabm p) → IsSendable Odd r
@@ -104,13 +99,6 @@ waits_or_closed p h = elim h [ inl waits ↦ subst MayBeOlder (sym waits) tt | i
 off_line : (p : Phase) → (p ≡ Waiting) ⊎ (p ≡ Closed) → is_up p ≡ false
 off_line p h = elim h [ inl waits ↦ ap is_up waits | inr closed ↦ ap is_up closed ]
 
--- who has DISC on the line is Closed
-closed_by : (p : Phase) (n m : ℕ) → 1 ≤ m → Owes p n m → p ≡ Closed
-closed_by Down n m some h = absurd (omega (arith, some, h.1))
-closed_by Waiting n m some h = absurd (omega (arith, some, h.1))
-closed_by Up n m some h = absurd (omega (arith, some, h.1))
-closed_by Closed n m some h = refl
-
 -- the next session of the peer has nothing yet
 begins_same : (p : PeerEnd) → ((n : ℕ) → p.begun < n → p.of_session n ≡ fresh_peer) → (n : ℕ) → (begins p).of_session n ≡ p.of_session n
 begins_same p later n = go (n == suc p.begun) refl
@@ -130,9 +118,6 @@ begins_meetings : (Odd : Type 0) (c : Settings) (w : PeerSessions) (h : Held Odd
 begins_meetings Odd c w h p q m =
     meetings_back w.near (as_end (begins w.peer)) p q w.met
     (meetings_same (as_end w.peer) (as_end (begins w.peer)) w.near q p (map turned w.met) (begins_lists w.peer h.peer_lists.later) (meetings_turned w.near (as_end w.peer) p q w.met m))
-
-unbegun : (e : SessionEnd) (later : (n : ℕ) → e.begun < n → (e.down n ≡ []) × (e.up n ≡ [])) → HasLists e (suc e.begun) fresh_station
-unbegun e later = (let at = later (suc e.begun) (omega arith) in record { down = at.0; up = at.1; later = later })
 
 module _ (Odd : Type 0) (c : Settings) (keeps : KeepsAll Odd c) where
   -- ---- it asks, leaves, or sends what reads as no frame
@@ -444,9 +429,8 @@ module _ (Odd : Type 0) (c : Settings) (keeps : KeepsAll Odd c) where
 
   -- a peer that is in a session, or not
   in_or_not : (s : Stand) → (s ≡ In) ⊎ (is_in s ≡ false)
-  in_or_not Out = inr refl
-  in_or_not Asking = inr refl
   in_or_not In = inl refl
+  in_or_not s = inr refl
 
   unheard : (b : Bool) (m : Option PlainFrame) (pair : Meeting) (met : List Meeting) → b ≡ false → heard b m pair met ≡ met
   unheard true m pair met off = not_both true refl off
@@ -469,7 +453,7 @@ module _ (Odd : Type 0) (c : Settings) (keeps : KeepsAll Odd c) where
 
       go : (q : PeerEnd) → sessions.MayHear w.peer read q → Held Odd c (record w { peer = q; out = rest; met = heard_by w.peer read e w.met })
       go q sessions.passes_over = elim (in_or_not w.peer.stand) [
-        | inl is ↦ in_held is w.peer.of_session (now w.peer) (λ n same. record { at = ap w.peer.of_session (sym same); others = λ k never. refl }) (hears_none Odd c keeps (now w.peer) read)
+        | inl is ↦ in_held is w.peer.of_session (now w.peer) (λ n same. record { at = ap w.peer.of_session (sym same); others = λ k never. refl }) (passes (now w.peer) (said read))
         | inr off ↦ subst (λ (met : List Meeting). Held Odd c (record w { out = rest; met = met })) (sym (unheard (is_in w.peer.stand) (number_in read) pair w.met off)) (out_lost Odd c w h rest (subst (λ (xs : List Entry). Less xs rest) (sym front) (gone e rest)))
       ]
       go q (sessions.hears r is hears) =

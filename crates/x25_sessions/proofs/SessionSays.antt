@@ -3,13 +3,13 @@ use Rattle.std.proofs.Common.{◌≡◌, ℕ, ◌+◌, ◌≤◌, ◌==◌, List
 use Rattle.std.specs.List.{slice_get}
 use Rattle.std.proofs.lemmas.Bool.{eq-eqb, eqb-true}
 use Rattle.x25_bits.specs.declared.role.Role.{Role}
-use Rattle.x25_frame.specs.Frame.{PlainFrame, info, rr, rnr, rej, sabm, disc, ua, dm, frmr}
+use Rattle.x25_frame.specs.Frame.{PlainFrame, info, rr, rnr, rej}
 use Rattle.x25_frame.specs.Spelling.{spelling_of}
 use Rattle.x25_frame.specs.Reading.{frame_of}
 use Rattle.x25_frame.specs.laws.ReadingLaw.{ReadsSpelled}
 use Rattle.x25_frame.specs.declared.error.FrameError.{FrameError}
-use Rattle.x25_window.specs.laws.Window.{Step, Frame, Allows, after, frame_of as machine_frame, frames_of, numbered}
-use Rattle.x25_window.specs.laws.Window.Step.{HandDown, Send, Tell, Hear, Take}
+use Rattle.x25_window.specs.laws.Window.{Step, Allows, after, frame_of as machine_frame, frames_of, numbered}
+use Rattle.x25_window.specs.laws.Window.Step.{Send, Tell}
 use Rattle.x25_link.specs.Station.{Settings}
 use Rattle.x25_link.specs.Hearing.{other}
 use Rattle.x25_link.specs.laws.WindowMachine.{Window, ShowsItem, Shows, ShowAll, IsSent, Runs, rests, goes_on}
@@ -17,27 +17,13 @@ use Rattle.x25_line.specs.laws.StationClaims.{AreJoined, number_in}
 use Rattle.x25_line.specs.laws.Sessions.{Entry, SessionEnd, Meeting, sent_in}
 use Rattle.x25_line.specs.laws.Peer.{Peer, numbered_to, told_to}
 use Rattle.x25_line.specs.laws.Peer as once
+use Rattle.x25_line.proofs.StationSays.{machine_of, single_of}
 use Rattle.x25_line.proofs.StationLines.{IsGood, good_reads}
 use Rattle.x25_line.proofs.StationSends.{AllWithin, Item, item_at, tell_good, send_good, not_none}
 use Rattle.x25_line.proofs.StationSteps.{not_both}
-use Rattle.x25_sessions.specs.laws.PeerSessions.{Stand, In, PeerEnd, PeerSessions, put_for, entry, IsFree, IsReached}
+use Rattle.x25_sessions.specs.laws.PeerSessions.{Stand, In, PeerEnd, PeerSessions, put_for, IsFree, IsReached}
 use Rattle.x25_sessions.specs.laws.PeerSessions as sessions
 use Rattle.x25_sessions.proofs.PeerMoves.{put_same, put_other}
-
--- the peer in a session as an end of the window machine, with a station's k
-abbrev pub machine_of : ℕ → Peer → Window
-machine_of k p = record { window = k; given = p.given; acked = p.acked; sent = p.sent; taken = p.taken }
-
--- the frame of the machine is shown by one frame alone
-record Single (fs : List PlainFrame) (g : Frame (List ℕ)) : Type 0 where
-  pub frame : PlainFrame
-  pub is : fs ≡ frame ∷ []
-  pub shows : Shows frame g
-
-single_of : (fs : List PlainFrame) (g : Frame (List ℕ)) → ShowAll fs (g ∷ []) → Single fs g
-single_of [] g h = absurd h
-single_of (f ∷ []) g h = record { frame = f; is = refl; shows = h.0 }
-single_of (f ∷ e ∷ fs) g h = absurd h.1
 
 -- ---- frames with an N(R)
 
@@ -46,11 +32,7 @@ tell_sent k p told (info ns nr pf x) h = absurd h.0
 tell_sent k p told (rr command nr pf) h = (length p.taken, record { number = h.1; rising = told; taken = omega arith }, refl)
 tell_sent k p told (rnr command nr pf) h = (length p.taken, record { number = h.1; rising = told; taken = omega arith }, refl)
 tell_sent k p told (rej command nr pf) h = (length p.taken, record { number = h.1; rising = told; taken = omega arith }, refl)
-tell_sent k p told (sabm pf) h = absurd h
-tell_sent k p told (disc pf) h = absurd h
-tell_sent k p told (ua pf) h = absurd h
-tell_sent k p told (dm pf) h = absurd h
-tell_sent k p told (frmr pf why) h = absurd h
+tell_sent k p told f h = absurd h
 
 item_sent : (k n : ℕ) (p : Peer) → k ≤ 7 → p.sent ≤ p.acked + k → p.told ≤ length p.taken → Allows (machine_of k p) (Send n) → (n1 : ℕ) → Item n1 p.given n
     → (f : PlainFrame) → Shows f (machine_frame (after (machine_of k p) (Send n)) (numbered n (slice_get p.given n))) → once.MaySend ⊥ p (Ok f) (told_to (length p.taken) (numbered_to n p))
@@ -67,11 +49,7 @@ item_sent k n p high room told may n1 i (info ns nr pf x) h =
 item_sent k n p high room told may n1 i (rr command nr pf) h = absurd (not_none n p.given i.item i.is h.0)
 item_sent k n p high room told may n1 i (rnr command nr pf) h = absurd (not_none n p.given i.item i.is h.0)
 item_sent k n p high room told may n1 i (rej command nr pf) h = absurd (not_none n p.given i.item i.is h.0)
-item_sent k n p high room told may n1 i (sabm pf) h = absurd h
-item_sent k n p high room told may n1 i (disc pf) h = absurd h
-item_sent k n p high room told may n1 i (ua pf) h = absurd h
-item_sent k n p high room told may n1 i (dm pf) h = absurd h
-item_sent k n p high room told may n1 i (frmr pf why) h = absurd h
+item_sent k n p high room told may n1 i f h = absurd h
 
 pub sent_append : (b : ℕ) (from : Role) (fs es : List PlainFrame) → sent_in b from (fs ++ es) ≡ sent_in b from fs ++ sent_in b from es
 sent_append b from [] es = refl
@@ -157,9 +135,6 @@ module _ (c d : Settings) (joined : AreJoined c d) (reads : ReadsSpelled) (far :
 
   one : (b : ℕ) (before : ℕ → Peer) (back : List Entry) (told_frames : List PlainFrame) → AllWithin d.longest (before b).given → (w : Window) (h : Said b before back w told_frames) → (s : Step (List ℕ)) (fs : List PlainFrame)
       → IsSent s → Allows (machine_of d.window (h.all b)) s → ShowAll fs (frames_of (machine_of d.window (h.all b)) s) → Said b before back (after (machine_of d.window (h.all b)) s) (told_frames ++ fs)
-  one b before back told_frames within w h (HandDown x) fs sends may shows = absurd sends
-  one b before back told_frames within w h (Hear ack) fs sends may shows = absurd sends
-  one b before back told_frames within w h (Take n x) fs sends may shows = absurd sends
   one b before back told_frames within w h Tell fs sends may shows =
       let p = h.all b in
       let m = machine_of d.window p in
@@ -177,6 +152,7 @@ module _ (c d : Settings) (joined : AreJoined c d) (reads : ReadsSpelled) (far :
       subst (λ (es : List PlainFrame). Said b before back (after m (Send n)) (told_frames ++ es)) (sym single.is)
       (more b before h.all back told_frames single.frame (told_to (length p.taken) (numbered_to n p)) h.reached (send_good d.longest n m item single.frame single.shows)
       (item_sent d.window n p high h.room h.told may d.longest item single.frame single.shows) h.packets refl refl (omega arith) (omega arith))
+  one b before back told_frames within w h s fs sends may shows = absurd sends
 
   pub runs_said : (b : ℕ) (before : ℕ → Peer) (back : List Entry) (from : Window) → IsReached ⊥ c (at In b before back) → machine_of d.window (before b) ≡ from → (before b).sent ≤ (before b).acked + d.window
       → (before b).told ≤ length (before b).taken → AllWithin d.longest (before b).given → (w : Window) (frames : List PlainFrame) → Runs from w frames → Said b before back w frames

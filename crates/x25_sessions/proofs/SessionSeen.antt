@@ -7,7 +7,7 @@ use Rattle.x25_frame.specs.Frame.{PlainFrame}
 use Rattle.x25_frame.specs.Reading.{frame_of}
 use Rattle.x25_frame.specs.laws.ReadingLaw.{ReadsSpelled}
 use Rattle.x25_link.specs.declared.phase.Phase.{Phase}
-use Rattle.x25_link.specs.declared.phase.Phase.TheVariants.{Down, Waiting, Up, Closed}
+use Rattle.x25_link.specs.declared.phase.Phase.TheVariants.{Down, Waiting, Up}
 use Rattle.x25_link.specs.declared.phase.Notes.{Notes}
 use Rattle.x25_link.specs.Station.{Settings, LinkStation, is_up, fresh}
 use Rattle.x25_link.specs.Hearing.{Step, other}
@@ -16,6 +16,7 @@ use Rattle.x25_link.specs.laws.WindowLaw.{window_of, after_input, Stays, IsSound
 use Rattle.x25_line.specs.laws.StationClaims.{AreJoined}
 use Rattle.x25_line.specs.laws.Sessions.{Entry, Meeting, Sessions, turned, sabm_in, how_many, sent_in, begun_by, extended, after_step, heard}
 use Rattle.x25_line.specs.laws.Peer.{Peer, fresh_peer}
+use Rattle.x25_line.proofs.StationSays.{machine_of}
 use Rattle.x25_line.proofs.StationSends.{AllWithin}
 use Rattle.x25_line.proofs.StationSteps.{not_both}
 use Rattle.x25_line.proofs.StationAway.{is_up_phase}
@@ -24,22 +25,19 @@ use Rattle.x25_line.proofs.sessions.SessionSteps.{stepped}
 use Rattle.x25_sessions.specs.laws.PeerSessions.{Stand, Out, Asking, In, PeerEnd, PeerSessions, is_in, put_for, AllAskedIn, IsReached}
 use Rattle.x25_sessions.specs.laws.SessionPeers.{seen}
 use Rattle.x25_sessions.proofs.PeerMoves.{put_same, put_other}
-use Rattle.x25_sessions.proofs.SessionSays.{machine_of, at, runs_said}
+use Rattle.x25_sessions.proofs.SessionSays.{at, runs_said}
 
 abbrev pub stand_of : Phase → Stand
-stand_of Down = Out
 stand_of Waiting = Asking
 stand_of Up = In
-stand_of Closed = Out
+stand_of phase = Out
 
 pub up_stands : (p : Phase) → is_up p ≡ true → stand_of p ≡ In
 up_stands p up = ap stand_of (is_up_phase p up)
 
 pub stands_in : (p : Phase) → is_in (stand_of p) ≡ is_up p
 stands_in Down = refl
-stands_in Waiting = refl
-stands_in Up = refl
-stands_in Closed = refl
+stands_in p = refl
 
 pub turned_heard : (b : Bool) (m : Option PlainFrame) (pair : Meeting) (met : List Meeting) → map turned (heard b m pair met) ≡ heard b m (turned pair) (map turned met)
 turned_heard true None pair met = refl

@@ -28,31 +28,22 @@ use Rattle.x25_line.specs.laws.Sessions.{Entry, Meeting, Sessions, turned, sabm_
 use Rattle.x25_line.specs.laws.LawsBelow.{SessionLaws}
 use Rattle.x25_line.specs.laws.Peer.{Peer, fresh_peer, hearing, taking, IsWanted}
 use Rattle.x25_line.specs.laws.Peer as once
+use Rattle.x25_line.proofs.StationSays.{machine_of}
+use Rattle.x25_line.proofs.StationPeers.{low_resolved}
 use Rattle.x25_line.proofs.StationSteps.{no_packet_of}
 use Rattle.x25_line.proofs.StationAway.{is_up_phase, frmr_three, waits_on}
 use Rattle.x25_line.proofs.sessions.SessionLines.{Read}
-use Rattle.x25_sessions.specs.laws.PeerSessions.{Stand, Out, Asking, In, PeerEnd, PeerSessions, is_in, put_for, with_now, begins, IsFree, IsPatient, IsReached}
+use Rattle.x25_sessions.specs.laws.PeerSessions.{Stand, Out, Asking, In, PeerEnd, is_in, put_for, with_now, begins, IsFree, IsPatient, IsReached}
 use Rattle.x25_sessions.specs.laws.PeerSessions as sessions
 use Rattle.x25_sessions.specs.laws.SessionPeers.{seen}
 use Rattle.x25_sessions.proofs.PeerFacts.{ending_disc, ending_reset}
 use Rattle.x25_sessions.proofs.PeerActs.{down_quiet, ends_away}
-use Rattle.x25_sessions.proofs.SessionSays.{machine_of, there, sends_free, leaves}
+use Rattle.x25_sessions.proofs.SessionSays.{there, sends_free, leaves}
 use Rattle.x25_sessions.proofs.SessionSeen.{stand_of, up_stands, stands_in, turned_heard, UpFacts, peer_of, Seen, stands_at, build_quiet, build_up, stays_seen, unchanged, changed}
 
-low_resolved : (a x : ℕ) → a ≤ resolved a x
-low_resolved a x = omega arith
-
 disc_or_not : (r : Read) → ((p : Bool) × (r ≡ Ok (disc p))) ⊎ (disc_in r ≡ 0)
-disc_or_not (Ok (info ns nr p x)) = inr refl
-disc_or_not (Ok (rr command nr pf)) = inr refl
-disc_or_not (Ok (rnr command nr pf)) = inr refl
-disc_or_not (Ok (rej command nr pf)) = inr refl
-disc_or_not (Ok (sabm p)) = inr refl
 disc_or_not (Ok (disc p)) = inl (p, refl)
-disc_or_not (Ok (ua f)) = inr refl
-disc_or_not (Ok (dm f)) = inr refl
-disc_or_not (Ok (frmr f why)) = inr refl
-disc_or_not (Err e) = inr refl
+disc_or_not r = inr refl
 
 module _ (c d : Settings) (joined : AreJoined c d) (reads : ReadsSpelled) (rests : SessionLaws) where
   abbrev S : Sessions → Type 0
@@ -80,14 +71,7 @@ module _ (c d : Settings) (joined : AreJoined c d) (reads : ReadsSpelled) (rests
       subst (λ (xs : List Entry). R w es met stand b all xs) (append_assoc back (record { session = b; octets = spelling_of d.role (dm f) } ∷ []) (sent_in b d.role fs))
       (put_declining w es met stand b all fs h (back ++ record { session = b; octets = spelling_of d.role (dm f) } ∷ [])
       (sends_free c d joined reads w.far es (map turned met) stand b all back (spelling_of d.role (dm f)) (Ok (dm f)) (reads d.role d.longest (dm f) _ (record { in_range = tt; carries = refl; within = tt; spelling = refl })) tt reached))
-  put_declining w es met stand b all (info ns nr p x ∷ fs) h back reached = absurd h
-  put_declining w es met stand b all (rr command nr pf ∷ fs) h back reached = absurd h
-  put_declining w es met stand b all (rnr command nr pf ∷ fs) h back reached = absurd h
-  put_declining w es met stand b all (rej command nr pf ∷ fs) h back reached = absurd h
-  put_declining w es met stand b all (sabm p ∷ fs) h back reached = absurd h
-  put_declining w es met stand b all (disc p ∷ fs) h back reached = absurd h
-  put_declining w es met stand b all (ua f ∷ fs) h back reached = absurd h
-  put_declining w es met stand b all (frmr f why ∷ fs) h back reached = absurd h
+  put_declining w es met stand b all (frame ∷ fs) h back reached = absurd h
 
   -- SABM or DISC is sent
   pub put_asks : (w : Sessions) (h : S w) (p : Bool) (fs : List PlainFrame) → fs ≡ sabm p ∷ [] → IsPatient c (seen (peer_of c d joined reads w h.all) w)
@@ -263,14 +247,8 @@ module _ (c d : Settings) (joined : AreJoined c d) (reads : ReadsSpelled) (rests
           (subst (λ (x : Stand). R w es met x b h.all (w.out ++ sent_in b d.role step.side.out)) (sym (left_stands reason no_reset ends)) reached)
         where
           left_stands : (reason : Reason) → (reason ≡ Reset → ⊥) → Ends reason step → stand_of step.side.near.phase ≡ Out
-          left_stands Retries never ends = ap stand_of ends.phase
-          left_stands Disc never ends = ap stand_of ends.phase
-          left_stands Dm never ends = ap stand_of ends.phase
-          left_stands FrmrSent never ends = ap stand_of ends.phase
-          left_stands FrmrGot never ends = ap stand_of ends.phase
           left_stands Reset never ends = absurd (never refl)
-          left_stands Local never ends = ap stand_of ends.phase
-          left_stands Counts never ends = ap stand_of ends.phase
+          left_stands reason never ends = ap stand_of ends.phase
 
       gone : R w es met Out b h.all w.out
       gone = leaves c d joined reads w.far es (map turned met) In b h.all w.out passed_in
@@ -315,11 +293,6 @@ module _ (c d : Settings) (joined : AreJoined c d) (reads : ReadsSpelled) (rests
           local_never (Ok (rr command nr pf)) z = by _ z
           local_never (Ok (rnr command nr pf)) z = by _ z
           local_never (Ok (rej command nr pf)) z = by _ z
-          local_never (Ok (sabm p)) z = cc
-          local_never (Ok (disc p)) z = cc
-          local_never (Ok (ua f)) z = cc
-          local_never (Ok (dm f)) z = cc
-          local_never (Ok (frmr f why)) z = cc
           local_never (Err y) z = by_error y z
             where
               by_error : (y : FrameError) → ending_of (Err y) (window_of k s) ≡ Some Local → ⊥
@@ -329,6 +302,7 @@ module _ (c d : Settings) (joined : AreJoined c d) (reads : ReadsSpelled) (rests
               by_error (Undefined q) z = cc
               by_error (NoInfoAllowed q) z = cc
               by_error TooLong z = cc
+          local_never (Ok frame) z = cc
       ends_seen Counts never ending ends = left_seen Counts never ends (put_none w es met Out b h.all step.side.out ends.frames gone)
 
       pub up_seen : sabm_in r ≡ 0 → S (after_step d w es met [] step)

@@ -26,6 +26,7 @@ use Rattle.x25_line.specs.laws.Sessions.{Entry, SessionEnd, Meeting, Sessions, t
 use Rattle.x25_line.specs.laws.SessionClaims.{Throughout}
 use Rattle.x25_line.specs.laws.LawsBelow.{SessionLaws}
 use Rattle.x25_line.specs.laws.Peer.{Peer, fresh_peer}
+use Rattle.x25_line.proofs.sessions.SessionTakes.{is_answer}
 use Rattle.x25_line.proofs.StationLines.{visible_reads}
 use Rattle.x25_line.proofs.StationSends.{within_push}
 use Rattle.x25_line.proofs.StationSteps.{no_packet_of}
@@ -33,12 +34,13 @@ use Rattle.x25_line.proofs.StationAway.{connects_from, closed_takes}
 use Rattle.x25_line.proofs.StationRuns.{joined_swapped}
 use Rattle.x25_line.proofs.sessions.SessionLines.{Read}
 use Rattle.x25_line.proofs.sessions.SessionHeld.{Owes}
-use Rattle.x25_line.proofs.sessions.SessionRuns.{throughout}
-use Rattle.x25_sessions.specs.laws.PeerSessions.{Stand, Out, Asking, In, PeerEnd, PeerSessions, as_end, both_ends, with_peer, put_for, AllAskedIn, IsPatient, IsReached}
+use Rattle.x25_line.proofs.sessions.SessionRuns.{throughout, put_accepted}
+use Rattle.x25_sessions.specs.laws.PeerSessions.{Out, In, PeerEnd, PeerSessions, both_ends, with_peer, put_for, AllAskedIn, IsPatient, IsReached}
 use Rattle.x25_sessions.specs.laws.PeerSessions as sessions
 use Rattle.x25_sessions.specs.laws.SessionPeers.{seen, IsPeer, AreBothPeers}
+use Rattle.x25_sessions.proofs.PeerHeld.{twice_turned}
 use Rattle.x25_sessions.proofs.PeerLines.{Less, all, less_removes, less_replaces, gone, hurt, deeper}
-use Rattle.x25_sessions.proofs.PeerActs.{sabm_or_not, answer_or_not, sets_none_up, put_accepted, down_quiet}
+use Rattle.x25_sessions.proofs.PeerActs.{sabm_or_not, sets_none_up, down_quiet}
 use Rattle.x25_sessions.proofs.SessionSays.{leaves}
 use Rattle.x25_sessions.proofs.SessionSeen.{stand_of, UpFacts, peer_of, Seen, stands_at, build_quiet, stays_seen, reached_in, unchanged, changed}
 use Rattle.x25_sessions.proofs.SessionSeenActs.{R, put_none, put_asks, put_closes, sets_up_seen, up_seen, out_seen, answer_seen, waiting_seen}
@@ -49,10 +51,6 @@ asked_fewer from n1 b es fs (all xs) h = h
 asked_fewer from n1 b es fs (gone e xs) h = h.1
 asked_fewer from n1 b es fs (hurt e xs o visible) h = (elim (visible_reads from n1 o visible) [ inl short ↦ inl (ap sabm_in short) | inr bad ↦ inl (ap sabm_in bad) ], h.1)
 asked_fewer from n1 b es fs (deeper e xs ys l) h = (h.0, asked_fewer from n1 b xs ys l h.1)
-
-twice_turned : (met : List Meeting) → map turned (map turned met) ≡ met
-twice_turned [] = refl
-twice_turned (m ∷ ms) = ap (λ (xs : List Meeting). m ∷ xs) (twice_turned ms)
 
 -- ---- what the other end does
 
@@ -124,15 +122,9 @@ module _ (c d : Settings) (joined : AreJoined c d) (reads : ReadsSpelled) (rests
   -- ---- the station that sees the peer acts
 
   station_timely : (a : Act) (w : Sessions) (p : PeerEnd) → AllAskedIn (other c.role) c.longest p.begun w.back → IsTimely c d a w → sessions.IsTimely c a (with_peer p w)
-  station_timely (Put packet) w p tags timely = tt
-  station_timely Deliver w p tags timely = tt
   station_timely T1 w p tags timely = λ waiting.
       (let none = timely waiting in let same = same_many sabm_in w.out in record { sabm = omega (arith, none, same); ua = omega (arith, none); crossing = tags })
-  station_timely Connect w p tags timely = tt
-  station_timely Disconnect w p tags timely = tt
-  station_timely Abandon w p tags timely = tt
-  station_timely (Lose i) w p tags timely = tt
-  station_timely (Damage i octets) w p tags timely = tt
+  station_timely a w p tags timely = tt
 
   pub station_acts : (a : Act) (w : Sessions) → IsTimely c d a w → S (swapped w) → S (swapped (acts c a w))
   station_acts a w timely h = record {
@@ -248,10 +240,9 @@ module _ (c d : Settings) (joined : AreJoined c d) (reads : ReadsSpelled) (rests
       done = after_step d w w.back w.met [] (timer_step d w.near.station)
 
       by : (p : Phase) → w.near.station.phase ≡ p → S (unless (timer_refusal w.near.station) w done)
-      by Down is = rw (ap (λ (p : Phase). timer_runs p w.near.station) is) h
       by Waiting is = seen_unless (timer_refusal w.near.station) w done h (λ _. timer_waiting w h is (timely is) owes)
       by Up is = seen_unless (timer_refusal w.near.station) w done h (λ _. timer_up w h (ap is_up is))
-      by Closed is = rw (ap (λ (p : Phase). timer_runs p w.near.station) is) h
+      by phase is = rw (ap (λ (p : Phase). timer_runs p w.near.station) is) h
 
   connect_seen : (w : Sessions) (h : S w) → w.near.station.phase ≡ Down → OwesAt w → S (after_step d w w.back w.met [] (connect_step d w.near.station))
   connect_seen w h down owes =
@@ -315,7 +306,7 @@ module _ (c d : Settings) (joined : AreJoined c d) (reads : ReadsSpelled) (rests
         | inr no_sabm ↦ (let out = rests.laws.window.take_out d e.octets w.near.station (subst IsOut (sym phase) tt) (sets_none_up r no_sabm) in
             out_seen c d joined reads rests w h e es is (ap is_up phase) ((rests.continues d e.octets w.near.station).phase out.quiet) out)
       ])
-      by Waiting phase = elim (answer_or_not r) [
+      by Waiting phase = elim (is_answer r) [
         | inl answer ↦ answer_seen c d joined reads rests w h e es is phase answer (answered phase answer)
         | inr no_answer ↦ waiting_seen c d joined reads rests w h e es is phase no_answer
       ]

@@ -17,12 +17,12 @@ use Rattle.x25_line.specs.laws.Sessions.{Entry, Sessions, after_step, heard, del
 use Rattle.x25_line.specs.rows.SessionRows.{IsFirst, SetsUpFromNothing, IsSecond, SetsUpAgain, untimely, IsOutOfStep, UntimelyIsOutOfStep}
 
 -- the two stations once octets that read as this have come to the near end
-abbrev taken_as : Settings → Result PlainFrame FrameError → Entry → List Entry → Sessions → Sessions
+abbrev pub taken_as : Settings → Result PlainFrame FrameError → Entry → List Entry → Sessions → Sessions
 taken_as c r e back w =
     after_step c w back (heard (is_up w.near.station.phase) (number_in r) (record { near = w.near.begun; far = e.session }) w.met) []
     (closed_by c.window (hears c e.octets r w.near.station.phase (alone w.near.station)))
 
-comes : (c : Settings) (r : Result PlainFrame FrameError) (e : Entry) (back : List Entry) (w : Sessions) → frame_of (other c.role) c.longest e.octets ≡ r → w.back ≡ e ∷ back
+pub comes : (c : Settings) (r : Result PlainFrame FrameError) (e : Entry) (back : List Entry) (w : Sessions) → frame_of (other c.role) c.longest e.octets ≡ r → w.back ≡ e ∷ back
     → acts c Deliver w ≡ taken_as c r e back w
 comes c r e back w reads is = ap (λ (es : List Entry). delivered c es w) is ∙ ap (λ (z : Result PlainFrame FrameError). taken_as c z e back w) reads
 
@@ -38,10 +38,10 @@ far_takes : (f : PlainFrame) (session : ℕ) (out : List Entry) (w : Sessions) �
     → happens dte dce (Far Deliver) w ≡ swapped (taken_as dce (Ok f) (sent session Dte f) out (swapped w))
 far_takes f session out w reads is = ap swapped (comes dce (Ok f) (sent session Dte f) out (swapped w) reads is)
 
-abbrev five : PlainFrame
+abbrev pub five : PlainFrame
 five = info 0 0 false (5 ∷ [])
 
-abbrev seven : PlainFrame
+abbrev pub seven : PlainFrame
 seven = info 0 0 false (7 ∷ [])
 
 module _ (reads : ReadsSpelled) where

@@ -5,7 +5,7 @@ use Rattle.x25_frame.specs.Frame.{PlainFrame}
 use Rattle.x25_frame.specs.Reading.{frame_of}
 use Rattle.x25_frame.specs.laws.ReadingLaw.{ReadsSpelled}
 use Rattle.x25_link.specs.declared.phase.Phase.{Phase}
-use Rattle.x25_link.specs.declared.phase.Phase.TheVariants.{Down, Waiting, Up, Closed}
+use Rattle.x25_link.specs.declared.phase.Phase.TheVariants.{Waiting, Up}
 use Rattle.x25_link.specs.Station.{Settings, is_up}
 use Rattle.x25_link.specs.Hearing.{other}
 use Rattle.x25_link.specs.laws.WindowMachine.{ShowAll}
@@ -17,13 +17,11 @@ use Rattle.x25_line.specs.laws.Sessions.{Entry, Sessions, ua_in, how_many, repla
 use Rattle.x25_line.specs.laws.SessionClaims.{octets_of}
 use Rattle.x25_line.specs.laws.SessionNumbers.{Standing, by_answers, place_to_hear, standing_after}
 use Rattle.x25_line.specs.laws.LawsBelow.{Laws}
+use Rattle.x25_line.proofs.sessions.SessionActs.{waiting_owes}
 use Rattle.x25_line.proofs.StationSteps.{Joint, Leads, counted_fits, nothing_put, stands_still, not_both}
 use Rattle.x25_line.proofs.StationRuns.{taken_off}
 use Rattle.x25_line.proofs.sessions.SessionLines.{of_ua, numbers, carried, carried_numbers, carried_orderly, Change, nothing, lost, damaged, further, removes, replaces, change_many, change_of, change_place, place_removes, place_replaces, change_behind_ua, behind_removes, behind_replaces, change_shows}
-use Rattle.x25_line.proofs.sessions.SessionHeld.{View, Live, Soon, Gone, IsView, IsHeard, Comes, AfterUa, choose, Owes, line_changed, Held, counted_view, with_machine, standing_after_is}
-
-pub owes_waiting : (p : Phase) (n m : ℕ) → p ≡ Waiting → Owes p n m → (n ≤ 1) × (m ≡ 0)
-owes_waiting p n m is h = subst (λ (z : Phase). Owes z n m) is h
+use Rattle.x25_line.proofs.sessions.SessionHeld.{View, Live, Soon, Gone, IsView, IsHeard, Comes, AfterUa, choose, line_changed, Held, counted_view, with_machine, standing_after_is}
 
 -- ---- which frame of the session that stands is gone
 
@@ -34,33 +32,28 @@ change_heard Waiting from n1 xs ys c = change_behind_ua from n1 xs ys c
 change_heard phase from n1 xs ys c = None
 
 heard_up : (p : Phase) (from : Role) (n1 : ℕ) (xs ys : List Entry) (c : Change from n1 xs ys) → is_up p ≡ true → change_heard p from n1 xs ys c ≡ change_place from n1 xs ys c
-heard_up Down from n1 xs ys c up = not_both false up refl
-heard_up Waiting from n1 xs ys c up = not_both false up refl
 heard_up Up from n1 xs ys c up = refl
-heard_up Closed from n1 xs ys c up = not_both false up refl
+heard_up p from n1 xs ys c up = not_both false up refl
 
 heard_waiting : (p : Phase) (from : Role) (n1 : ℕ) (xs ys : List Entry) (c : Change from n1 xs ys) → p ≡ Waiting → change_heard p from n1 xs ys c ≡ change_behind_ua from n1 xs ys c
 heard_waiting p from n1 xs ys c is = ap (λ (z : Phase). change_heard z from n1 xs ys c) is
 
 heard_out_of : (p : Phase) (from : Role) (n1 : ℕ) (xs ys : List Entry) (c : Change from n1 xs ys) → is_up p ≡ false → (p ≡ Waiting → change_behind_ua from n1 xs ys c ≡ None) → change_heard p from n1 xs ys c ≡ None
-heard_out_of Down from n1 xs ys c off none = refl
 heard_out_of Waiting from n1 xs ys c off none = none refl
 heard_out_of Up from n1 xs ys c off none = not_both true refl off
-heard_out_of Closed from n1 xs ys c off none = refl
+heard_out_of p from n1 xs ys c off none = refl
 
 -- the frame that is gone is the one that the definition says
 module _ (from : Role) (n1 : ℕ) where
   pub heard_removes : (p : Phase) (es : List Entry) (i : ℕ) → change_heard p from n1 es (remove es i) (removes from n1 es i) ≡ place_to_hear p from n1 (octets_of es) i
-  heard_removes Down es i = refl
   heard_removes Waiting es i = behind_removes from n1 es i
   heard_removes Up es i = place_removes from n1 es i
-  heard_removes Closed es i = refl
+  heard_removes p es i = refl
 
   pub heard_replaces : (p : Phase) (octets : List ℕ) (visible : is_visible octets ≡ true) (es : List Entry) (i : ℕ) → change_heard p from n1 es (replaced es i octets) (replaces from n1 octets visible es i) ≡ place_to_hear p from n1 (octets_of es) i
-  heard_replaces Down octets visible es i = refl
   heard_replaces Waiting octets visible es i = behind_replaces from n1 octets visible es i
   heard_replaces Up octets visible es i = place_replaces from n1 octets visible es i
-  heard_replaces Closed octets visible es i = refl
+  heard_replaces p octets visible es i = refl
 
 module _ (c d : Settings) (joined : AreJoined c d) (reads : ReadsSpelled) (laws : Laws) where
   -- the session alone loses what is lost
@@ -126,12 +119,10 @@ module _ (c d : Settings) (joined : AreJoined c d) (reads : ReadsSpelled) (laws 
   -- no UA is on the line
   none_behind_ua : (xs ys : List Entry) (change : Change (other c.role) c.longest xs ys) → how_many ua_in (other c.role) c.longest xs ≡ 0 → change_behind_ua (other c.role) c.longest xs ys change ≡ None
   unfolding change_behind_ua
-  none_behind_ua xs ys (nothing zs) none = refl
-  none_behind_ua xs ys (lost e zs) none = refl
-  none_behind_ua xs ys (damaged e zs octets bad) none = refl
   none_behind_ua xs ys (further e zs us change) none =
       let here : ua_in (frame_of (other c.role) c.longest e.octets) ≡ 0 = omega (arith, none) in
       ap (λ (n : ℕ). by_answers n (change_behind_ua (other c.role) c.longest zs us change) (change_place (other c.role) c.longest zs us change)) here ∙ none_behind_ua zs us change (omega (arith, none))
+  none_behind_ua xs ys change none = refl
 
   -- what is kept where the session alone has these octets on its line
   kept_by : {stand : Standing} (w : Sessions) (h : Held stand c d w) (es : List Entry) → Change (other c.role) c.longest w.back es → (os : List (List ℕ)) (gone : Option ℕ)
@@ -173,7 +164,7 @@ module _ (c d : Settings) (joined : AreJoined c d) (reads : ReadsSpelled) (laws 
       subst (λ (gone : Option ℕ). Held (standing_after c w.near.station [] gone stand) c d (record w { back = es })) (sym (heard_up w.near.station.phase (other c.role) c.longest w.back es change view.0))
       (kept_by w h es change (carried (other c.role) c.longest es) (change_place (other c.role) c.longest w.back es change) left.0 Live view left.1)
   by_view {stand} Soon w h es change view heard =
-      let owes = owes_waiting w.near.station.phase _ _ view.0 h.line.near_owes in
+      let owes = waiting_owes w.near.station.phase _ _ view.0 h.line.near_owes in
       let few : how_many ua_in (other c.role) c.longest w.back ≤ 1 = omega (arith, owes.0) in
       subst (λ (gone : Option ℕ). Held (standing_after c w.near.station [] gone stand) c d (record w { back = es })) (sym (heard_waiting w.near.station.phase (other c.role) c.longest w.back es change view.0))
       (go (soon_change h.alone stand.machine h.holds stand.far w.back es change few heard))

@@ -155,12 +155,7 @@ number_quiet (Ok (info ns nr p x)) f k v s step some tells h = valid_quiet _ k _
 number_quiet (Ok (rr command nr pf)) f k v s step some tells h = valid_quiet _ k _ s step tells h
 number_quiet (Ok (rnr command nr pf)) f k v s step some tells h = valid_quiet _ k _ s step tells h
 number_quiet (Ok (rej command nr pf)) f k v s step some tells h = valid_quiet _ k _ s step tells h
-number_quiet (Ok (sabm p)) f k v s step some tells h = none_is_some f some
-number_quiet (Ok (disc p)) f k v s step some tells h = none_is_some f some
-number_quiet (Ok (ua g)) f k v s step some tells h = none_is_some f some
-number_quiet (Ok (dm g)) f k v s step some tells h = none_is_some f some
-number_quiet (Ok (frmr g why)) f k v s step some tells h = none_is_some f some
-number_quiet (Err x) f k v s step some tells h = none_is_some f some
+number_quiet r f k v s step some tells h = none_is_some f some
 
 -- ---- which sessions meet
 
@@ -259,11 +254,7 @@ module _ (rests : SessionLaws) (hands_up : TakeHandsUp) where
     | inr m ↦ inr (record { met = turned_back now before m.met; nothing_up = m.nothing_up })
   ]
   meets_turned T1 pair old new before now h = turned_back now before h
-  meets_turned Connect pair old new before now h = turned_back now before h
-  meets_turned Disconnect pair old new before now h = turned_back now before h
-  meets_turned Abandon pair old new before now h = turned_back now before h
-  meets_turned (Lose i) pair old new before now h = turned_back now before h
-  meets_turned (Damage i octets) pair old new before now h = turned_back now before h
+  meets_turned a pair old new before now h = turned_back now before h
 
   -- ---- the claim
 

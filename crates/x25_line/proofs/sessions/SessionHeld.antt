@@ -39,9 +39,8 @@ IsView Soon e s session = (e.station.phase ≡ Waiting) × (s ≡ fresh) × (suc
 IsView Gone e s session = (is_up e.station.phase ≡ false) × (e.begun ≤ session)
 
 pub view_begun : (v : View) (e : SessionEnd) (s : LinkStation) (session : ℕ) → IsView v e s session → e.begun ≤ session
-view_begun Live e s session h = omega (arith, h.2)
-view_begun Soon e s session h = omega (arith, h.2)
 view_begun Gone e s session h = h.1
+view_begun v e s session h = omega (arith, h.2)
 
 -- the frames with a number are those on the line of the session alone
 abbrev pub Comes : Role → ℕ → List Entry → List (List ℕ) → ℕ → Type 0
@@ -69,10 +68,9 @@ IsHeard Gone from n1 phase es os session = phase ≡ Waiting → how_many ua_in 
 
 -- the SABMs of an end and the UAs to it, and its DISCs
 abbrev pub Owes : Phase → ℕ → ℕ → Type 0
-Owes Down asked closed = (asked ≡ 0) × (closed ≡ 0)
 Owes Waiting asked closed = (asked ≤ 1) × (closed ≡ 0)
-Owes Up asked closed = (asked ≡ 0) × (closed ≡ 0)
 Owes Closed asked closed = Unit {0}
+Owes phase asked closed = (asked ≡ 0) × (closed ≡ 0)
 
 -- the same once frames were sent behind `out`
 abbrev pub OwesAfter : Settings → Settings → Phase → List Entry → List PlainFrame → List Entry → Type 0
@@ -80,16 +78,13 @@ OwesAfter c d phase out frames back =
     Owes phase (how_many sabm_in (other d.role) d.longest out + count sabm_in frames + how_many ua_in (other c.role) c.longest back) (how_many disc_in (other d.role) d.longest out + count disc_in frames)
 
 pub owes_less : (p : Phase) (n m a b : ℕ) → a ≤ n → b ≤ m → Owes p n m → Owes p a b
-owes_less Down n m a b f g h = (omega (arith, f, h.0), omega (arith, g, h.1))
-owes_less Waiting n m a b f g h = (omega (arith, f, h.0), omega (arith, g, h.1))
-owes_less Up n m a b f g h = (omega (arith, f, h.0), omega (arith, g, h.1))
 owes_less Closed n m a b f g h = tt
+owes_less p n m a b f g h = (omega (arith, f, h.0), omega (arith, g, h.1))
 
 pub owes_none : (p : Phase) (n m : ℕ) → n ≡ 0 → m ≡ 0 → Owes p n m
-owes_none Down n m f g = (f, g)
 owes_none Waiting n m f g = (omega (arith, f), g)
-owes_none Up n m f g = (f, g)
 owes_none Closed n m f g = tt
+owes_none p n m f g = (f, g)
 
 pub record OnLine (c d : Settings) (near far : Phase) (near_begun far_begun : ℕ) (out back : List Entry) : Type 0 where
   pub near_owes : Owes near (how_many sabm_in (other d.role) d.longest out + how_many ua_in (other c.role) c.longest back) (how_many disc_in (other d.role) d.longest out)

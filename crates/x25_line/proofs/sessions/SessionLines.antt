@@ -209,16 +209,10 @@ module _ (from : Role) (n1 : ℕ) where
       ∙ ap (λ (fs : List PlainFrame). consed (number_in (frame_of from n1 e.octets)) fs) (carried_numbers es)
 
   some_orderly : (r : Read) (f : PlainFrame) → number_in r ≡ Some f → IsOrderly ⊥ r
-  some_orderly (Ok (info ns nr p x)) f e = tt
-  some_orderly (Ok (rr command nr pf)) f e = tt
-  some_orderly (Ok (rnr command nr pf)) f e = tt
-  some_orderly (Ok (rej command nr pf)) f e = tt
   some_orderly (Ok (sabm p)) f e = none_is_some f e
-  some_orderly (Ok (disc p)) f e = tt
-  some_orderly (Ok (ua g)) f e = tt
-  some_orderly (Ok (dm g)) f e = tt
   some_orderly (Ok (frmr g why)) f e = none_is_some f e
   some_orderly (Err x) f e = none_is_some f e
+  some_orderly (Ok frame) f e = tt
 
   kept_orderly : (m : Option PlainFrame) (o : List ℕ) (os : List (List ℕ)) → number_in (frame_of from n1 o) ≡ m → AreOrderly ⊥ from n1 os → AreOrderly ⊥ from n1 (kept m o os)
   kept_orderly None o os e h = h
@@ -330,10 +324,8 @@ module _ (from : Role) (n1 : ℕ) where
 
   -- which of those behind the first UA goes
   unfoldable pub change_behind_ua : (es fs : List Entry) → Change es fs → Option ℕ
-  change_behind_ua es fs (nothing xs) = None
-  change_behind_ua es fs (lost e xs) = None
-  change_behind_ua es fs (damaged e xs octets bad) = None
   change_behind_ua es fs (further e xs ys c) = by_answers (ua_in (frame_of from n1 e.octets)) (change_behind_ua xs ys c) (change_place xs ys c)
+  change_behind_ua es fs other = None
 
   pub behind_removes : (es : List Entry) (i : ℕ) → change_behind_ua es (remove es i) (removes es i) ≡ place_behind_ua from n1 (octets_of es) i
   unfolding change_behind_ua removes

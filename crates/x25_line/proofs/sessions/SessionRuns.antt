@@ -9,7 +9,7 @@ use Rattle.x25_frame.specs.laws.ReadingLaw.{ReadsSpelled}
 use Rattle.x25_link.specs.declared.error.LinkError.{LinkError}
 use Rattle.x25_link.specs.declared.error.LinkError.TheVariants as error
 use Rattle.x25_link.specs.declared.phase.Phase.{Phase}
-use Rattle.x25_link.specs.declared.phase.Phase.TheVariants.{Down, Waiting, Up, Closed}
+use Rattle.x25_link.specs.declared.phase.Phase.TheVariants.{Down, Waiting, Up}
 use Rattle.x25_link.specs.Station.{Settings, LinkStation, is_up}
 use Rattle.x25_link.specs.Hearing.{Step, other}
 use Rattle.x25_link.specs.Link.{take_step, put_step, put_refusal, timer_step, timer_refusal, timer_runs, connect_step, connect_refusal, disconnect_step, disconnect_refusal, abandon_step}
@@ -69,7 +69,7 @@ now_if {stand} c d true w v h g = g refl
 now_if {stand} c d false w v h g = stays_now c d w h
 
 -- a packet is accepted in Up alone
-put_accepted : (s : LinkStation) → put_refusal s ≡ None → is_up s.phase ≡ true
+pub put_accepted : (s : LinkStation) → put_refusal s ≡ None → is_up s.phase ≡ true
 put_accepted s accepted = go (is_up s.phase) _ accepted
   where
     go : (b : Bool) (o : Option LinkError) → (let z : Option LinkError = if not b then Some error.NotUp else o in z) ≡ None → b ≡ true
@@ -87,9 +87,7 @@ module _ (c d : Settings) (joined : AreJoined c d) (reads : ReadsSpelled) (rests
 
   none_heard : (p : Phase) → place_to_hear p (other c.role) c.longest [] 0 ≡ None
   none_heard Down = refl
-  none_heard Waiting = refl
-  none_heard Up = refl
-  none_heard Closed = refl
+  none_heard p = refl
 
   deliver_held : {stand : Standing} (w : Sessions) → Held stand c d w → (es : List Entry) → w.back ≡ es → Held (delivered_by w es stand) c d (delivered c es w)
   deliver_held {stand} w h [] is = subst (λ (gone : Option ℕ). HeldNow stand c d gone w w) (sym (none_heard w.near.station.phase)) (stays_now c d w h)
@@ -114,14 +112,13 @@ module _ (c d : Settings) (joined : AreJoined c d) (reads : ReadsSpelled) (rests
       done = after_step c w w.back w.met [] (timer_step c w.near.station)
 
       by : (p : Phase) → w.near.station.phase ≡ p → HeldNow stand c d None w (unless (timer_refusal w.near.station) w (after_step c w w.back w.met [] (timer_step c w.near.station)))
-      by Down is = rw (ap (λ (p : Phase). timer_runs p w.near.station) is) (stays_now c d w h)
       by Waiting is =
           now_unless c d (timer_refusal w.near.station) w done h
           (λ _. step_now stand c d w w.back w.met [] (timer_step c w.near.station) None (timer_waiting_held c d joined reads rests_on.laws w h is (timely is)))
       by Up is =
           now_unless c d (timer_refusal w.near.station) w done h
           (λ _. step_now stand c d w w.back w.met [] (timer_step c w.near.station) None (timer_up_held c d joined reads rests_on.laws w h (ap is_up is)))
-      by Closed is = rw (ap (λ (p : Phase). timer_runs p w.near.station) is) (stays_now c d w h)
+      by phase is = rw (ap (λ (p : Phase). timer_runs p w.near.station) is) (stays_now c d w h)
 
   acts_held : {stand : Standing} (a : Act) (w : Sessions) → IsTimely c d a w → Held stand c d w → Held (standing_acts c d a w stand) c d (acts c a w)
   acts_held {stand} (Put packet) w timely h =
@@ -163,7 +160,7 @@ module _ (c d : Settings) (joined : AreJoined c d) (reads : ReadsSpelled) (rests
 
 -- ---- the other end
 
-begun_turned : (p q : ℕ) (met : List Meeting) → AllMet (IsBegun p q) met → AllMet (IsBegun q p) (map turned met)
+pub begun_turned : (p q : ℕ) (met : List Meeting) → AllMet (IsBegun p q) met → AllMet (IsBegun q p) (map turned met)
 begun_turned p q [] h = tt
 begun_turned p q (m ∷ ms) h = ((h.0.1, h.0.0), begun_turned p q ms h.1)
 
@@ -175,15 +172,15 @@ above_turned : (m : Meeting) (met : List Meeting) → IsAbove m met → IsAbove 
 above_turned m [] h = tt
 above_turned m (n ∷ ms) h = elim h [ inl same ↦ inl (same.1, same.0) | inr less ↦ inr (less.1, less.0) ]
 
-in_step_turned : (met : List Meeting) → InStep met → InStep (map turned met)
+pub in_step_turned : (met : List Meeting) → InStep met → InStep (map turned met)
 in_step_turned [] h = tt
 in_step_turned (m ∷ ms) h = (above_turned m ms h.0, in_step_turned ms h.1)
 
-in_order_turned : (near far : SessionEnd) (met : List Meeting) → AllMet (IsInOrder near far) met → AllMet (IsInOrder far near) (map turned met)
+pub in_order_turned : (near far : SessionEnd) (met : List Meeting) → AllMet (IsInOrder near far) met → AllMet (IsInOrder far near) (map turned met)
 in_order_turned near far [] h = tt
 in_order_turned near far (m ∷ ms) h = (record { there = h.0.back; back = h.0.there }, in_order_turned near far ms h.1)
 
-near_turned : (n : ℕ) (met : List Meeting) → SomeMet (λ (m : Meeting). m.near ≡ n) met → SomeMet (λ (m : Meeting). m.far ≡ n) (map turned met)
+pub near_turned : (n : ℕ) (met : List Meeting) → SomeMet (λ (m : Meeting). m.near ≡ n) met → SomeMet (λ (m : Meeting). m.far ≡ n) (map turned met)
 near_turned n [] h = h
 near_turned n (m ∷ ms) h = elim h [ inl here ↦ inl here | inr there ↦ inr (near_turned n ms there) ]
 

@@ -86,15 +86,8 @@ whole_behind n1 given (f ∷ xs) ys h = whole_behind n1 given xs ys h.1
 
 pub no_frmr_behind : (xs ys : List PlainFrame) → NoFrmr (xs ++ ys) → NoFrmr ys
 no_frmr_behind [] ys h = h
-no_frmr_behind (info ns nr p x ∷ xs) ys h = no_frmr_behind xs ys h
-no_frmr_behind (rr command nr pf ∷ xs) ys h = no_frmr_behind xs ys h
-no_frmr_behind (rnr command nr pf ∷ xs) ys h = no_frmr_behind xs ys h
-no_frmr_behind (rej command nr pf ∷ xs) ys h = no_frmr_behind xs ys h
-no_frmr_behind (sabm p ∷ xs) ys h = no_frmr_behind xs ys h
-no_frmr_behind (disc p ∷ xs) ys h = no_frmr_behind xs ys h
-no_frmr_behind (ua g ∷ xs) ys h = no_frmr_behind xs ys h
-no_frmr_behind (dm g ∷ xs) ys h = no_frmr_behind xs ys h
 no_frmr_behind (frmr g why ∷ xs) ys h = absurd h
+no_frmr_behind (frame ∷ xs) ys h = no_frmr_behind xs ys h
 
 -- SABM or not
 ask_or_not : (from : Role) (n1 : ℕ) (os : List (List ℕ)) → AreOrderly ⊥ from n1 os → AreOrderly (Unit {0}) from n1 os
@@ -114,17 +107,15 @@ waiting_away : {A : Type 0} (p : Phase) → p ≡ Waiting → MayBeAway ⊥ p �
 waiting_away p e h = absurd (subst (MayBeAway ⊥) e h)
 
 pub owes_up : (p : Phase) (n m : ℕ) → is_up p ≡ true → Owes p n m → (n ≡ 0) × (m ≡ 0)
-owes_up Down n m up h = h
 owes_up Waiting n m up h = not_both false up refl
-owes_up Up n m up h = h
 owes_up Closed n m up h = not_both false up refl
+owes_up p n m up h = h
 
 -- who has a SABM on the line waits, or is Closed
 pub asked_by : (p : Phase) (n m : ℕ) → 1 ≤ n → Owes p n m → ((p ≡ Waiting) × (n ≤ 1) × (m ≡ 0)) ⊎ (p ≡ Closed)
-asked_by Down n m h g = absurd (omega (arith, h, g.0))
 asked_by Waiting n m h g = inl (refl, g.0, g.1)
-asked_by Up n m h g = absurd (omega (arith, h, g.0))
 asked_by Closed n m h g = inr refl
+asked_by p n m h g = absurd (omega (arith, h, g.0))
 
 -- DISC is sent by an end that is Closed then, and UA to one that is Closed
 pub record Answers (w : Sessions) (step : Step) : Type 0 where

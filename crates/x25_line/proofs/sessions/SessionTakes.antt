@@ -58,47 +58,24 @@ sabm_or_not (Err e) = inr (λ p is. absurd (never p is))
     never p k = cc
 
 -- the UA that is awaited, or none such
-is_answer : (r : Read) → (r ≡ Ok (ua true)) ⊎ (waiting_up r ≡ false)
-is_answer (Ok (info ns nr p x)) = inr refl
-is_answer (Ok (rr command nr pf)) = inr refl
-is_answer (Ok (rnr command nr pf)) = inr refl
-is_answer (Ok (rej command nr pf)) = inr refl
-is_answer (Ok (sabm p)) = inr refl
-is_answer (Ok (disc p)) = inr refl
+pub is_answer : (r : Read) → (r ≡ Ok (ua true)) ⊎ (waiting_up r ≡ false)
 is_answer (Ok (ua true)) = inl refl
-is_answer (Ok (ua false)) = inr refl
-is_answer (Ok (dm f)) = inr refl
-is_answer (Ok (frmr f why)) = inr refl
-is_answer (Err e) = inr refl
+is_answer r = inr refl
 
 -- ---- what is sent while UA is awaited
 
 waiting_none : (kind : Read → ℕ) → IsKind kind → (r : Read) → IsNoSabm r → count kind (waiting_sends r) ≡ 0
-waiting_none kind k (Ok (info ns nr p x)) no_sabm = refl
-waiting_none kind k (Ok (rr command nr pf)) no_sabm = refl
-waiting_none kind k (Ok (rnr command nr pf)) no_sabm = refl
-waiting_none kind k (Ok (rej command nr pf)) no_sabm = refl
 waiting_none kind k (Ok (sabm p)) no_sabm = absurd (no_sabm p refl)
 waiting_none kind k (Ok (disc p)) no_sabm = (let none = dm_kind kind k p in omega (arith, none))
-waiting_none kind k (Ok (ua f)) no_sabm = refl
-waiting_none kind k (Ok (dm f)) no_sabm = refl
-waiting_none kind k (Ok (frmr f why)) no_sabm = refl
-waiting_none kind k (Err e) no_sabm = refl
+waiting_none kind k r no_sabm = refl
 
-declining_none : (kind : Read → ℕ) → IsKind kind → (fs : List PlainFrame) → AreDeclining fs → count kind fs ≡ 0
+pub declining_none : (kind : Read → ℕ) → IsKind kind → (fs : List PlainFrame) → AreDeclining fs → count kind fs ≡ 0
 declining_none kind k [] h = refl
 declining_none kind k (dm f ∷ fs) h =
     let here = dm_kind kind k f in
     let there = declining_none kind k fs h in
     omega (arith, here, there)
-declining_none kind k (info ns nr p x ∷ fs) h = absurd h
-declining_none kind k (rr command nr pf ∷ fs) h = absurd h
-declining_none kind k (rnr command nr pf ∷ fs) h = absurd h
-declining_none kind k (rej command nr pf ∷ fs) h = absurd h
-declining_none kind k (sabm p ∷ fs) h = absurd h
-declining_none kind k (disc p ∷ fs) h = absurd h
-declining_none kind k (ua f ∷ fs) h = absurd h
-declining_none kind k (frmr f why ∷ fs) h = absurd h
+declining_none kind k (frame ∷ fs) h = absurd h
 
 -- ---- what comes first, what the near end does, and the two stations after it
 
@@ -124,22 +101,12 @@ abbrev pub taken_by : Settings → Settings → Sessions → Entry → List Entr
 taken_by c d w e es stand = stands_by c d w e es stand (is_set_up w.near.station.phase (read_of c e))
 
 none_asks : (r : Read) → IsNoSabm r → is_sabm r ≡ false
-none_asks (Ok (info ns nr p x)) no_sabm = refl
-none_asks (Ok (rr command nr pf)) no_sabm = refl
-none_asks (Ok (rnr command nr pf)) no_sabm = refl
-none_asks (Ok (rej command nr pf)) no_sabm = refl
 none_asks (Ok (sabm p)) no_sabm = absurd (no_sabm p refl)
-none_asks (Ok (disc p)) no_sabm = refl
-none_asks (Ok (ua f)) no_sabm = refl
-none_asks (Ok (dm f)) no_sabm = refl
-none_asks (Ok (frmr f why)) no_sabm = refl
-none_asks (Err e) no_sabm = refl
+none_asks r no_sabm = refl
 
 no_set_up : (p : Phase) (r : Read) → IsNoSabm r → is_set_up p r ≡ false
 no_set_up Closed r no_sabm = refl
-no_set_up Down r no_sabm = none_asks r no_sabm
-no_set_up Waiting r no_sabm = none_asks r no_sabm
-no_set_up Up r no_sabm = none_asks r no_sabm
+no_set_up p r no_sabm = none_asks r no_sabm
 
 -- ---- meetings
 
@@ -155,26 +122,22 @@ heard_out false f m met off = refl
 
 -- ---- by the phase
 
-closed_by : (p : Phase) (n m : ℕ) → 1 ≤ m → Owes p n m → p ≡ Closed
-closed_by Down n m some h = absurd (omega (arith, some, h.1))
-closed_by Waiting n m some h = absurd (omega (arith, some, h.1))
-closed_by Up n m some h = absurd (omega (arith, some, h.1))
+pub closed_by : (p : Phase) (n m : ℕ) → 1 ≤ m → Owes p n m → p ≡ Closed
 closed_by Closed n m some h = refl
+closed_by p n m some h = absurd (omega (arith, some, h.1))
 
 out_is_waiting : {A : Type 0} (p : Phase) → IsOut p → p ≡ Waiting → A
 out_is_waiting p out waiting = absurd (subst IsOut waiting out)
 
 out_off : (p : Phase) → IsOut p → is_up p ≡ false
-out_off Down h = refl
 out_off Waiting h = absurd h
 out_off Up h = absurd h
-out_off Closed h = refl
+out_off p h = refl
 
 part_owes : (p : Phase) (n m : ℕ) → TakesPart p → Owes p n m → (n ≡ 0) × (m ≡ 0)
-part_owes Down n m part h = h
 part_owes Waiting n m part h = absurd part
-part_owes Up n m part h = h
 part_owes Closed n m part h = absurd part
+part_owes p n m part h = h
 
 module _ (c d : Settings) (joined : AreJoined c d) (reads : ReadsSpelled) (laws : Laws) (continues : TakeContinues) where
   -- ---- the front is taken off the line

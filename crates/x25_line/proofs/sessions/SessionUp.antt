@@ -35,11 +35,7 @@ shown_number (info ns nr p x) g h = refl
 shown_number (rr command nr pf) g h = refl
 shown_number (rnr command nr pf) g h = refl
 shown_number (rej command nr pf) g h = refl
-shown_number (sabm p) g h = absurd h
-shown_number (disc p) g h = absurd h
-shown_number (ua f) g h = absurd h
-shown_number (dm f) g h = absurd h
-shown_number (frmr f why) g h = absurd h
+shown_number f g h = absurd h
 
 shown_numbered : (fs : List PlainFrame) (gs : List (Frame (List ℕ))) → ShowAll fs gs → AllNumbered fs
 shown_numbered [] gs h = tt
@@ -58,24 +54,16 @@ runs_numbered v z fs (goes_on w before step frames runs sent allowed shows) = nu
 
 -- UA is sent to an end that is Closed
 abbrev pub MayAnswer : Reason → Phase → Type 0
-MayAnswer Retries far = Unit {0}
 MayAnswer Disc far = far ≡ Closed
-MayAnswer Dm far = Unit {0}
-MayAnswer FrmrSent far = Unit {0}
-MayAnswer FrmrGot far = Unit {0}
 MayAnswer Reset far = ⊥
-MayAnswer Local far = Unit {0}
-MayAnswer Counts far = Unit {0}
+MayAnswer other far = Unit {0}
 
 pub ends_answers : (w : Sessions) (reason : Reason) (step : Step) → MayAnswer reason w.far.station.phase → Ends reason step → Answers w step
-ends_answers w Retries step may h = record { disc = inr (ap (count disc_in) h.frames); ua = inr (ap (count ua_in) h.frames) }
 ends_answers w Disc step may h = record { disc = inr (ap (count disc_in) h.frames.1); ua = inl may }
-ends_answers w Dm step may h = record { disc = inr (ap (count disc_in) h.frames); ua = inr (ap (count ua_in) h.frames) }
 ends_answers w FrmrSent step may h = record { disc = inr (ap (count disc_in) h.frames.2); ua = inr (ap (count ua_in) h.frames.2) }
-ends_answers w FrmrGot step may h = record { disc = inr (ap (count disc_in) h.frames); ua = inr (ap (count ua_in) h.frames) }
 ends_answers w Reset step may h = absurd may
 ends_answers w Local step may h = record { disc = inl h.phase; ua = inr (ap (count ua_in) h.frames) }
-ends_answers w Counts step may h = record { disc = inr (ap (count disc_in) h.frames); ua = inr (ap (count ua_in) h.frames) }
+ends_answers w reason step may h = record { disc = inr (ap (count disc_in) h.frames); ua = inr (ap (count ua_in) h.frames) }
 
 pub stays_answers : (w : Sessions) (k : ℕ) (input : Input) (s : LinkStation) (step : Step) → Stays k input s step → Answers w step
 stays_answers w k input s step h =
@@ -95,15 +83,7 @@ no_packet_by input (Some y) v never up = absurd (never y up)
 
 never_up : (r : Read) (v : Window) → number_in r ≡ None → (y : List ℕ) → InputMayHandUp (brought_by r) y v → ⊥
 never_up (Ok (info ns nr p x)) v none y h = none_is_some (info ns nr p x) (sym none)
-never_up (Ok (rr command nr pf)) v none y h = h
-never_up (Ok (rnr command nr pf)) v none y h = h
-never_up (Ok (rej command nr pf)) v none y h = h
-never_up (Ok (sabm p)) v none y h = h
-never_up (Ok (disc p)) v none y h = h
-never_up (Ok (ua f)) v none y h = h
-never_up (Ok (dm f)) v none y h = h
-never_up (Ok (frmr f why)) v none y h = h
-never_up (Err e) v none y h = h
+never_up r v none y h = h
 
 pub stays_no_packet : (k : ℕ) (input : Input) (s : LinkStation) (step : Step) → ((v : Window) (y : List ℕ) → InputMayHandUp input y v → ⊥) → Stays k input s step → step.packet ≡ None
 stays_no_packet k input s step never h = no_packet_by input step.packet _ (never _) h.hands_up
@@ -127,10 +107,6 @@ none_reason reason e = absurd (none-some reason e)
 -- whoever sent DISC is Closed, and no SABM comes
 pub ending_answers : (r : Read) (v : Window) (far : Phase) → ((p : Bool) → r ≡ Ok (sabm p) → ⊥) → ((p : Bool) → r ≡ Ok (disc p) → far ≡ Closed) → (reason : Reason) → ending_of r v ≡ Some reason
     → MayAnswer reason far
-ending_answers (Ok (info ns nr p x)) v far no_sabm closed reason e = valid_answers _ far reason e
-ending_answers (Ok (rr command nr pf)) v far no_sabm closed reason e = valid_answers _ far reason e
-ending_answers (Ok (rnr command nr pf)) v far no_sabm closed reason e = valid_answers _ far reason e
-ending_answers (Ok (rej command nr pf)) v far no_sabm closed reason e = valid_answers _ far reason e
 ending_answers (Ok (sabm p)) v far no_sabm closed reason e = absurd (no_sabm p refl)
 ending_answers (Ok (disc p)) v far no_sabm closed reason e = by_reason far Disc reason (closed p refl) e
 ending_answers (Ok (ua f)) v far no_sabm closed reason e = none_reason reason e
@@ -139,9 +115,8 @@ ending_answers (Ok (frmr f why)) v far no_sabm closed reason e = by_reason far F
 ending_answers (Err Short) v far no_sabm closed reason e = none_reason reason e
 ending_answers (Err BadFcs) v far no_sabm closed reason e = none_reason reason e
 ending_answers (Err BadAddress) v far no_sabm closed reason e = none_reason reason e
-ending_answers (Err (Undefined control)) v far no_sabm closed reason e = by_reason far FrmrSent reason tt e
-ending_answers (Err (NoInfoAllowed control)) v far no_sabm closed reason e = by_reason far FrmrSent reason tt e
-ending_answers (Err TooLong) v far no_sabm closed reason e = by_reason far FrmrSent reason tt e
+ending_answers (Ok frame) v far no_sabm closed reason e = valid_answers _ far reason e
+ending_answers (Err error) v far no_sabm closed reason e = by_reason far FrmrSent reason tt e
 
 module _ (c d : Settings) (joined : AreJoined c d) (reads : ReadsSpelled) where
   -- no LinkUp is noted in the session alone

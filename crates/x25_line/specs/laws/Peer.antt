@@ -3,12 +3,11 @@
 -- all this is free. ITU-T X.25 (10/96), sections 2.3.2, 2.3.4.9, 2.4.5 and 2.4.8.6; docs/PEER.md has the rules in
 -- words.
 use Rattle.std.specs.Prelude.{◌≡◌, ℕ, ◌+◌, ◌%◌, ◌<◌, ◌≤◌, List, [], ◌∷◌, ◌++◌, length, slice_get, max, Bool}
-use Rattle.std.specs.Prelude.{true, false, Some, Result, Ok, Err}
-use Rattle.x25_frame.specs.Frame.{PlainFrame, info, rr, rnr, rej}
+use Rattle.std.specs.Prelude.{true, false, Some, None, Result}
+use Rattle.x25_frame.specs.Frame.{PlainFrame}
 use Rattle.x25_frame.specs.declared.error.FrameError.{FrameError}
-use Rattle.x25_frame.specs.declared.error.FrameError.TheVariants.{Short, BadFcs, BadAddress, Undefined}
-use Rattle.x25_frame.specs.declared.error.FrameError.TheVariants.{NoInfoAllowed, TooLong}
 use Rattle.x25_window.specs.code.Modulo.{resolved}
+use Rattle.x25_line.specs.laws.Said.{Said, Tells, Odd as OddSaid, said}
 
 -- All packets that were handed down to it, and how many of these are acknowledged to it; the highest N(S) that it
 -- ever sent plus one; the last N(R) that it sent; all packets that it took. Numbers are whole, from the set-up on.
@@ -44,22 +43,18 @@ numbered_to n p = record p { sent = max p.sent (n + 1) }
 abbrev pub told_to : ℕ → Peer → Peer
 told_to t p = record p { told = t }
 
--- Octets that it may send, by what they read as, and what it is then. What has no number is free, and so are octets
--- that read as no frame. `Odd` holds where it may send what is answered by FRMR: a frame that LAPB modulo 8 doesn't
--- have, or one that is too long.
+-- What it may send, and what it is then. What has no N(R) is free. `Odd` holds where it may send what is answered by
+-- FRMR.
+abbrev pub MaySay : Type 0 → Peer → Said → Peer → Type 0
+MaySay Odd p (Tells None nr) q = (t : ℕ) × MayAcknowledge p nr t × (q ≡ told_to t p)
+MaySay Odd p (Tells (Some c) nr) q =
+    (n : ℕ) × (t : ℕ) × MayNumber p c.ns c.packet n × MayAcknowledge p nr t × (q ≡ told_to t (numbered_to n p))
+MaySay Odd p OddSaid q = Odd × (q ≡ p)
+MaySay Odd p other q = q ≡ p
+
+-- octets that it may send, by what they read as
 abbrev pub MaySend : Type 0 → Peer → Result PlainFrame FrameError → Peer → Type 0
-MaySend Odd p (Ok (info ns nr pf packet)) q =
-    (n : ℕ) × (t : ℕ) × MayNumber p ns packet n × MayAcknowledge p nr t × (q ≡ told_to t (numbered_to n p))
-MaySend Odd p (Ok (rr command nr pf)) q = (t : ℕ) × MayAcknowledge p nr t × (q ≡ told_to t p)
-MaySend Odd p (Ok (rnr command nr pf)) q = (t : ℕ) × MayAcknowledge p nr t × (q ≡ told_to t p)
-MaySend Odd p (Ok (rej command nr pf)) q = (t : ℕ) × MayAcknowledge p nr t × (q ≡ told_to t p)
-MaySend Odd p (Ok frame) q = q ≡ p
-MaySend Odd p (Err Short) q = q ≡ p
-MaySend Odd p (Err BadFcs) q = q ≡ p
-MaySend Odd p (Err BadAddress) q = q ≡ p
-MaySend Odd p (Err (Undefined control)) q = Odd × (q ≡ p)
-MaySend Odd p (Err (NoInfoAllowed control)) q = Odd × (q ≡ p)
-MaySend Odd p (Err TooLong) q = Odd × (q ≡ p)
+MaySend Odd p read q = MaySay Odd p (said read) q
 
 -- ---- what it makes of what comes
 
@@ -77,12 +72,13 @@ abbrev pub taking : Bool → List ℕ → Peer → Peer
 taking true packet p = record p { taken = p.taken ++ packet ∷ [] }
 taking false packet p = p
 
--- Octets that come to it, by what they read as, and what it may be then. It may pass over anything.
+-- What comes to it, and what it may be then. It may pass over anything.
+abbrev pub MayMake : Peer → Said → Peer → Type 0
+MayMake p (Tells None nr) q = (hears : Bool) × (q ≡ hearing hears nr p)
+MayMake p (Tells (Some c) nr) q =
+    (hears : Bool) × (takes : Bool) × IsWanted takes c.ns p × (q ≡ taking takes c.packet (hearing hears nr p))
+MayMake p other q = q ≡ p
+
+-- octets that come to it, by what they read as
 abbrev pub MayHear : Peer → Result PlainFrame FrameError → Peer → Type 0
-MayHear p (Ok (info ns nr pf packet)) q =
-    (hears : Bool) × (takes : Bool) × IsWanted takes ns p × (q ≡ taking takes packet (hearing hears nr p))
-MayHear p (Ok (rr command nr pf)) q = (hears : Bool) × (q ≡ hearing hears nr p)
-MayHear p (Ok (rnr command nr pf)) q = (hears : Bool) × (q ≡ hearing hears nr p)
-MayHear p (Ok (rej command nr pf)) q = (hears : Bool) × (q ≡ hearing hears nr p)
-MayHear p (Ok frame) q = q ≡ p
-MayHear p (Err e) q = q ≡ p
+MayHear p read q = MayMake p (said read) q

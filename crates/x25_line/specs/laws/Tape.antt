@@ -2,8 +2,8 @@
 -- front of the station. Nothing else is known of the peer. So it counts as one that hears and takes all that was sent
 -- to it, and was handed down what it sent, by number. ITU-T X.25 (10/96), sections 2.3.2, 2.3.4.9, 2.4.5 and 2.4.8.6.
 use Rattle.std.specs.Prelude.{◌≡◌, ℕ, ◌+◌, ◌-◌, ◌%◌, ◌==◌, nat_lt, nat_le, List, [], ◌∷◌, ◌++◌, length, slice_get}
-use Rattle.std.specs.Prelude.{Bool, true, false, ◌&&◌, if◌then◌else◌, Option, Some, None, Result, Ok, Err}
-use Rattle.x25_frame.specs.Frame.{PlainFrame, info, rr, rnr, rej}
+use Rattle.std.specs.Prelude.{Bool, true, false, ◌&&◌, if◌then◌else◌, Option, Some, None, Result}
+use Rattle.x25_frame.specs.Frame.{PlainFrame}
 use Rattle.x25_frame.specs.Reading.{frame_of}
 use Rattle.x25_frame.specs.declared.error.FrameError.{FrameError}
 use Rattle.x25_window.specs.code.Modulo.{resolved}
@@ -11,6 +11,7 @@ use Rattle.x25_link.specs.Station.{Settings}
 use Rattle.x25_link.specs.Hearing.{other}
 use Rattle.x25_line.specs.laws.Stations.{Act, acts}
 use Rattle.x25_line.specs.laws.Peer.{Peer, numbered_to, told_to, hearing, taking}
+use Rattle.x25_line.specs.laws.Said.{Said, Tells, said}
 use Rattle.x25_line.specs.laws.PeerJoined.{Joined, start, our_end, with_peer}
 
 -- ---- what the peer sends: what is known of it then, or nothing where a rule is broken
@@ -48,23 +49,23 @@ judges_number ns packet p =
     let n = resolved (p.sent - 7) ns in
     if nat_lt n (p.acked + 7) && n % 8 == ns then judges_item n packet p else None
 
+abbrev pub judges_said : Said → Peer → Option Peer
+judges_said (Tells None nr) p = judges_ack nr p
+judges_said (Tells (Some c) nr) p = then_ack nr (judges_number c.ns c.packet p)
+judges_said other p = Some p
+
 abbrev pub judges : Result PlainFrame FrameError → Peer → Option Peer
-judges (Ok (info ns nr pf packet)) p = then_ack nr (judges_number ns packet p)
-judges (Ok (rr command nr pf)) p = judges_ack nr p
-judges (Ok (rnr command nr pf)) p = judges_ack nr p
-judges (Ok (rej command nr pf)) p = judges_ack nr p
-judges (Ok frame) p = Some p
-judges (Err e) p = Some p
+judges read p = judges_said (said read) p
 
 -- ---- what the station sends
 
+abbrev pub notes_said : Said → Peer → Peer
+notes_said (Tells None nr) p = hearing true nr p
+notes_said (Tells (Some c) nr) p = taking (c.ns == length p.taken % 8) c.packet (hearing true nr p)
+notes_said other p = p
+
 abbrev pub notes : Result PlainFrame FrameError → Peer → Peer
-notes (Ok (info ns nr pf packet)) p = taking (ns == length p.taken % 8) packet (hearing true nr p)
-notes (Ok (rr command nr pf)) p = hearing true nr p
-notes (Ok (rnr command nr pf)) p = hearing true nr p
-notes (Ok (rej command nr pf)) p = hearing true nr p
-notes (Ok frame) p = p
-notes (Err e) p = p
+notes read p = notes_said (said read) p
 
 -- ---- tapes of which nothing is told
 

@@ -49,8 +49,7 @@ move_beside : (c : LayerSettings) (o b : List PlainPacket) (w : TwoLayers) (gone
 move_beside c o b w true m asked = refl
 move_beside c o b w false (Requests full request) asked = requested_beside c o b w request (layer_outcome c full w.near.layer request)
 move_beside c o b w false (Pulls h) asked = pulls_beside c o b w h (is_channel c.channels h)
-move_beside c o b w false HandsUp asked = absurd asked
-move_beside c o b w false GoesDown asked = absurd asked
+move_beside c o b w false m asked = absurd asked
 
 moves_beside : (c : LayerSettings) (o b : List PlainPacket) (w : TwoLayers) (ms : List Move) → AreAsked ms → moves_all c (beside o b w) ms ≡ beside o b (moves_all c w ms)
 moves_beside c o b w [] asked = refl
@@ -81,8 +80,7 @@ move_tells : (c : LayerSettings) (w : TwoLayers) (gone : Bool) (m : Move) → Is
 move_tells c w true m asked = refl
 move_tells c w false (Requests full request) asked = requested_tells c w request (layer_outcome c full w.near.layer request)
 move_tells c w false (Pulls h) asked = pulls_tell w (layer_pulled c w.near.layer h) (is_channel c.channels h)
-move_tells c w false HandsUp asked = absurd asked
-move_tells c w false GoesDown asked = absurd asked
+move_tells c w false m asked = absurd asked
 
 pub asked_tells : (c : LayerSettings) (w : TwoLayers) (ms : List Move) → AreAsked ms → (moves_all c w ms).near.told ≡ w.near.told
 asked_tells c w [] asked = refl

@@ -65,9 +65,7 @@ did_up c s request step is = by (is_up s.link.phase) refl
 
 may_connect : (p : Phase) → connect_refusal p ≡ None → p ≡ Down
 may_connect Down is = refl
-may_connect Waiting is = absurd (cc)
-may_connect Up is = absurd (cc)
-may_connect Closed is = absurd (cc)
+may_connect p is = absurd (cc)
 
 silent : AreSilent []
 silent = record { entries = refl; told = refl }

@@ -7,28 +7,17 @@ use Rattle.x25_frame.specs.Spelling.{spelling_of}
 use Rattle.x25_frame.specs.Reading.{frame_of}
 use Rattle.x25_frame.specs.laws.ReadingLaw.{ReadsSpelled}
 use Rattle.x25_frame.specs.declared.error.FrameError.{FrameError}
-use Rattle.x25_link.specs.Station.{Settings, is_up, pumped}
-use Rattle.x25_link.specs.Hearing.{other}
-use Rattle.x25_link.specs.Link.{alone, closed_by, hears}
+use Rattle.x25_link.specs.Station.{pumped}
 use Rattle.x25_line.specs.laws.Stations.{Deliver, Connect}
 use Rattle.x25_line.specs.rows.StationRows.{dte}
 use Rattle.x25_line.specs.laws.StationClaims.{number_in}
-use Rattle.x25_line.specs.laws.Sessions.{Entry, Sessions, after_step, heard, delivered, acts, from_nothing}
-use Rattle.x25_line.specs.laws.Peer.{Peer, fresh_peer, numbered_to, told_to}
+use Rattle.x25_line.specs.laws.Sessions.{Entry, Sessions, acts, from_nothing}
+use Rattle.x25_line.specs.laws.Peer.{Peer, numbered_to, told_to}
 use Rattle.x25_line.specs.laws.Peer as once
-use Rattle.x25_sessions.specs.laws.PeerSessions.{PeerEnd, PeerSessions, Out, Asking, In, begins, stands, now, with_now, both_ends, with_peer, begin_with, IsReached}
+use Rattle.x25_sessions.specs.laws.PeerSessions.{PeerSessions, Out, Asking, begins, stands, now, with_now, both_ends, with_peer, begin_with, IsReached}
 use Rattle.x25_sessions.specs.laws.PeerSessions as sessions
 use Rattle.x25_sessions.specs.rows.PeerSessionRows.{CrossingPeerMoves}
-
--- what is so once octets that read as this have come to the station
-abbrev taken_as : Settings → Result PlainFrame FrameError → Entry → List Entry → Sessions → Sessions
-taken_as c r e back w =
-    after_step c w back (heard (is_up w.near.station.phase) (number_in r) (record { near = w.near.begun; far = e.session }) w.met) []
-    (closed_by c.window (hears c e.octets r w.near.station.phase (alone w.near.station)))
-
-comes : (c : Settings) (r : Result PlainFrame FrameError) (e : Entry) (back : List Entry) (w : Sessions) → frame_of (other c.role) c.longest e.octets ≡ r → w.back ≡ e ∷ back
-    → acts c Deliver w ≡ taken_as c r e back w
-comes c r e back w reads is = ap (λ (es : List Entry). delivered c es w) is ∙ ap (λ (z : Result PlainFrame FrameError). taken_as c z e back w) reads
+use Rattle.x25_line.proofs.rows.SessionRowLemmas.{taken_as, comes}
 
 abbrev polling : PlainFrame
 polling = info 0 0 true (7 ∷ [])
