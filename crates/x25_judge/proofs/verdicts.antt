@@ -19,3 +19,4 @@ pub mod Numbering
 pub mod Lag
 pub mod Stations
 pub mod SetUps
+pub mod Judged

@@ -1,6 +1,7 @@
 //! What a verdict means: no end that keeps the rules is told of by a rule of order, and where nothing is told order is
 //! kept. Each law is the contract of a function that does nothing.
 ghost use Rattle.x25_frame.specs.laws.ReadingLaw.{ReadsSpelled, ReadsWhatIsSpelled};
+ghost use Rattle.x25_judge.specs.laws.VerdictClaims.{JudgedAnswersAreTold, JudgedNumbersAreTold};
 ghost use Rattle.x25_judge.specs.laws.VerdictClaims.{NoInnocentIsAccused, NoStationIsAccused};
 ghost use Rattle.x25_judge.specs.laws.VerdictClaims.{NoSessionIsAccused, SilenceMeansOrder, SilenceMeansRules};
 ghost use Rattle.x25_judge.specs.laws.VerdictClaims.{SetUpsBegin, SilenceMeansNumbers};
@@ -73,6 +74,13 @@ pub fn silence_means_one_packet()
 {
     laws_below();
 }
+
+/// What counts as judged is told of: a frame whose N(R) acknowledges what was never sent or falls, and a UA that
+/// answers neither SABM nor DISC.
+pub fn judged_frames_are_told()
+    ensures numbers { JudgedNumbersAreTold }
+    ensures answers { JudgedAnswersAreTold }
+{}
 
 fn laws_below()
     ensures reads { ReadsWhatIsSpelled }

@@ -1,6 +1,7 @@
 //! The rules that a frame may break, and which of them are of manners.
-ghost use Rattle.std.specs.Prelude.{◌≡◌};
+ghost use Rattle.std.specs.Prelude.{◌≡◌, Some, not};
 ghost use Rattle.x25_judge.specs.Rule as definition;
+ghost use Rattle.x25_judge.specs.laws.Session.{IsOfLink, is_of_order};
 
 use x25_packet_judge::PacketRule;
 
@@ -26,7 +27,8 @@ pub(crate) enum Rule {
 impl Rule {
     /// Whether the link keeps order without it: it is of manners.
     pub(crate) fn is_of_manners(self) -> bool
-        ensures { result ≡ definition.is_of_manners self }
+        ensures manners { result ≡ definition.is_of_manners self }
+        ensures order { IsOfLink self → is_of_order (Some self) ≡ not result }
     {
         match self {
             Rule::NoPoll | Rule::RejectAgain | Rule::Skips { .. } | Rule::Repeats { .. } => true,

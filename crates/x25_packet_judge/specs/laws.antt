@@ -1,4 +1,5 @@
 -- What the laws of this crate say (src/law.rt).
+pub mod Order
 pub mod Keeping
 pub mod Watching
 pub mod Tape

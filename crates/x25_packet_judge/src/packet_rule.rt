@@ -1,6 +1,7 @@
 //! The rules of the packet layer that a packet may break.
-ghost use Rattle.std.specs.Prelude.{◌≡◌};
+ghost use Rattle.std.specs.Prelude.{◌≡◌, not};
 ghost use Rattle.x25_packet_judge.specs.PacketRule as definition;
+ghost use Rattle.x25_packet_judge.specs.laws.Order.{is_of_order};
 
 /// A rule that a packet breaks, with what would have been right. ITU-T X.25 (10/96); the section is in the text of
 /// each.
@@ -31,7 +32,8 @@ pub enum PacketRule {
 impl PacketRule {
     /// Whether the packet layer keeps order without it: it is of manners. Profile.
     pub fn is_of_manners(self) -> bool
-        ensures { result ≡ definition.is_of_manners self }
+        ensures manners { result ≡ definition.is_of_manners self }
+        ensures order { is_of_order self ≡ not result }
     {
         match self {
             PacketRule::OverPackets { window } => window < 7,

@@ -50,7 +50,7 @@ abbrev pub Settles : ℕ → End → End → Type 0
 Settles nr e f = Owes e f ⊎ Settled nr e f.asked f.late
 
 -- the ways are as they were, and no rule of order is told
-record Bare (t v : Sides) : Type 0 where
+pub record Bare (t v : Sides) : Type 0 where
   pub up : v.own.phase ≡ sides.running t.own.phase
   pub same : AreSame t v
   pub owes : Owes t.other v.other
@@ -105,7 +105,7 @@ bits_bare command false t v h = h
 bits_bare true true t v h = polls_bare t v h
 bits_bare false true t v h = answers_bare t v h
 
-begun_bare : (command pf : Bool) (t : Sides) → IsUp t → t.rule ≡ None → Bare t (sides.bits command pf (sides.runs t))
+pub begun_bare : (command pf : Bool) (t : Sides) → IsUp t → t.rule ≡ None → Bare t (sides.bits command pf (sides.runs t))
 begun_bare command pf t up none = bits_bare command pf t (sides.runs t) (runs_bare t up none)
 
 -- ---- what a frame makes of the ways

@@ -1,5 +1,5 @@
 -- One session of a link, as a trace shows it: SABM and UA, and then frames with numbers.
-use Rattle.std.specs.Prelude.{◌≡◌, ℕ, ◌<◌, All, length, Bool, true, false, List, Option, Some, None, Ok}
+use Rattle.std.specs.Prelude.{◌≡◌, ℕ, ◌<◌, All, length, Bool, true, false, List, Option, Some, None, Ok, nat_le}
 use Rattle.x25_bits.specs.declared.role.Role.{Role}
 use Rattle.x25_bits.specs.declared.role.Role.TheVariants.{Dte, Dce}
 use Rattle.x25_decode.specs.Decoding.{n1, sent_in}
@@ -11,7 +11,7 @@ use Rattle.x25_judge.specs.Way.{fresh, deafened}
 use Rattle.x25_judge.specs.declared.judge.Judge.{Judge}
 use Rattle.x25_judge.specs.declared.rule.Rule.{Rule}
 use Rattle.x25_judge.specs.declared.rule.Rule.TheVariants.{NoFrame, UaUnasked, NotUp, Unsent, Falls, OverWindow}
-use Rattle.x25_judge.specs.declared.rule.Rule.TheVariants.{Differs}
+use Rattle.x25_judge.specs.declared.rule.Rule.TheVariants.{Differs, Packet}
 use Rattle.x25_judge.specs.declared.sides.End.{End}
 use Rattle.x25_line.specs.laws.Stations.{is_visible}
 
@@ -49,6 +49,14 @@ IsNumbered (rnr command nr pf) = Unit {0}
 IsNumbered (rej command nr pf) = Unit {0}
 IsNumbered frame = ⊥
 
+-- the N(R) of a frame that has one
+abbrev pub nr_of : PlainFrame → Option ℕ
+nr_of (info ns nr pf octets) = Some nr
+nr_of (rr command nr pf) = Some nr
+nr_of (rnr command nr pf) = Some nr
+nr_of (rej command nr pf) = Some nr
+nr_of frame = None
+
 -- it has no N(S)
 abbrev pub IsSupervisory : PlainFrame → Type 0
 IsSupervisory (info ns nr pf octets) = ⊥
@@ -60,6 +68,11 @@ IsSupervisory frame = Unit {0}
 abbrev pub rule_of : Judge → Role → PlainFrame → Option Rule
 rule_of j from frame = (remark_of j from frame (seen_by j from frame)).rule
 
+-- it is one of the link layer
+abbrev pub IsOfLink : Rule → Type 0
+IsOfLink (Packet rule) = ⊥
+IsOfLink rule = Unit {0}
+
 -- those of the link layer that aren't of manners
 abbrev pub is_of_order : Option Rule → Bool
 is_of_order (Some NoFrame) = true
@@ -67,7 +80,7 @@ is_of_order (Some UaUnasked) = true
 is_of_order (Some NotUp) = true
 is_of_order (Some (Unsent most)) = true
 is_of_order (Some (Falls least)) = true
-is_of_order (Some (OverWindow window)) = true
+is_of_order (Some (OverWindow window)) = nat_le 7 window
 is_of_order (Some Differs) = true
 is_of_order (Some rule) = false
 is_of_order None = false

@@ -1,11 +1,13 @@
 -- What the laws say of `judge`.
-use Rattle.std.specs.Prelude.{◌≡◌, ℕ, ◌==◌, ◌≤◌, Bool, false, not, List, [], ◌∷◌}
+use Rattle.std.specs.Prelude.{◌≡◌, ℕ, ◌==◌, ◌<◌, ◌≤◌, Bool, true, false, not, List, [], ◌∷◌, Some}
 use Rattle.x25_bits.specs.declared.role.Role.{Role}
 use Rattle.x25_decode.specs.Decoding.{n1}
 use Rattle.x25_decode.specs.declared.answer.Reading.{Reading}
 use Rattle.x25_frame.specs.Frame.{PlainFrame, sabm, ua}
-use Rattle.x25_judge.specs.Judge.{begins, answer_to}
-use Rattle.x25_judge.specs.Sides.{ended}
+use Rattle.x25_judge.specs.Judge.{begins, answer_to, sides_of}
+use Rattle.x25_judge.specs.Rule.{breaks_order}
+use Rattle.x25_judge.specs.Sides.{ended, is_judged}
+use Rattle.x25_judge.specs.Way.{awaited}
 use Rattle.x25_judge.specs.declared.judge.Judge.{Judge}
 use Rattle.x25_judge.specs.declared.judge.Strictness.{Strictness}
 use Rattle.x25_judge.specs.declared.sides.Phase.{Phase}
@@ -18,8 +20,9 @@ use Rattle.x25_sessions.specs.laws.PeerSessions.{Stand}
 use Rattle.x25_judge.specs.laws.Explaining.{IsQuiet, IsKept, IsUntold, Carries}
 use Rattle.x25_judge.specs.laws.Keeping.{MaySend, MayBe}
 use Rattle.x25_judge.specs.laws.Sessions.{MaySay, MayStand}
-use Rattle.x25_judge.specs.laws.Session.{end_of, IsBegun, Shows, IsNumbered, rule_of, is_of_order}
+use Rattle.x25_judge.specs.laws.Session.{end_of, IsBegun, Shows, IsNumbered, nr_of, rule_of, is_of_order}
 use Rattle.x25_judge.specs.laws.Watching.{Watched, IsSilent, IsAny}
+use Rattle.x25_packet_judge.specs.Numbers.{apart}
 
 -- no rule of order is told of what an end sends that keeps the rules
 abbrev pub NoInnocentIsAccused : Type 0
@@ -83,3 +86,20 @@ SetUpsBegin =
     → (IsAnswered (end_of from (after (begins window reading strictness) lines)).phase → ⊥)
     → SetsUp (not ((ended (end_of from (after (begins window reading strictness) lines))).late == 0))
     (after (after (begins window reading strictness) lines) (asks ∷ accepts ∷ [])) window
+
+-- ---- what counts as judged
+
+-- a rule of order is told of a frame that counts so, where its N(R) isn't one from the last one to the number of the
+-- next new I frame
+abbrev pub JudgedNumbersAreTold : Type 0
+JudgedNumbersAreTold =
+    (from : Role) (j : Judge) (frame : PlainFrame) (nr : ℕ) → nr_of frame ≡ Some nr
+    → is_judged frame (sides_of from j) ≡ true
+    → (end_of (other from) j).way.pending < apart nr (awaited (end_of (other from) j).way)
+    → breaks_order (rule_of j from frame) ≡ true
+
+-- and where UA answers neither SABM nor DISC
+abbrev pub JudgedAnswersAreTold : Type 0
+JudgedAnswersAreTold =
+    (from : Role) (j : Judge) (f : Bool) → is_judged (ua f) (sides_of from j) ≡ true
+    → (end_of (other from) j).asked ≡ 0 → breaks_order (rule_of j from (ua f)) ≡ true
