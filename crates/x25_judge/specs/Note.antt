@@ -3,7 +3,7 @@
 use Rattle.std.specs.Prelude.{ℕ, ◌==◌, ◌++◌, List, Option, Some, None, codes, decimal, if◌then◌else◌}
 use Rattle.x25_judge.specs.declared.note.Note.{Note}
 use Rattle.x25_judge.specs.declared.note.Note.TheVariants.{Unjudged, NoneJudged, SentAgain, SentBehindDamage}
-use Rattle.x25_judge.specs.declared.note.Note.TheVariants.{HeardBehindDamage, PollAgain, PollUnseen}
+use Rattle.x25_judge.specs.declared.note.Note.TheVariants.{HeardBehindDamage, PollAgain, PollUnseen, NumbersUnjudged}
 
 abbrev pub first_note : Option Note → Option Note → Option Note
 first_note (Some note) next = Some note
@@ -23,3 +23,4 @@ note_text SentBehindDamage = codes "N(S) is out of order behind a damaged frame 
 note_text HeardBehindDamage = codes "N(R) is out of range behind a damaged frame (2.3.4.9)"
 note_text PollAgain = codes "P=1 again, and no F=1 answered the last one (2.4.3)"
 note_text PollUnseen = codes "F=1 answers no P=1 that the trace shows (2.4.3)"
+note_text NumbersUnjudged = codes "not all N(S) and N(R) are judged before the next set-up (2.4.4.1)"

@@ -10,7 +10,7 @@ use Rattle.x25_judge.specs.Way.{fresh, lost, missed, unheard, answered, answered
 use Rattle.x25_judge.specs.Way.{heard}
 use Rattle.x25_judge.specs.Way.{rejected, sent_back, sent}
 use Rattle.x25_judge.specs.declared.note.Note.{Note}
-use Rattle.x25_judge.specs.declared.note.Note.TheVariants.{PollAgain, PollUnseen}
+use Rattle.x25_judge.specs.declared.note.Note.TheVariants.{NumbersUnjudged, PollAgain, PollUnseen}
 use Rattle.x25_judge.specs.declared.rule.Rule.{Rule}
 use Rattle.x25_judge.specs.declared.rule.Rule.TheVariants.{UaUnasked, NotUp, NoPoll}
 use Rattle.x25_judge.specs.declared.sides.Phase.{Phase}
@@ -337,8 +337,17 @@ accepts t = with_other (with_phase (accepted t.other.phase)
     (with_own (with_phase (accepting t.own.phase)
     (with_way (deafened (is_late t) (accepting_way t.other.phase t.own.way)) t.own)) t)
 
+-- behind UA of the first end: the other one may go up, and numbers of either aren't judged
+abbrev pub lag_of : Sides → Option Note
+lag_of t = if may_run t.other.phase && not (way.is_sure t.own.way && way.is_sure t.other.way) then Some NumbersUnjudged
+    else None
+
+abbrev pub notes_lag : Sides → Sides
+notes_lag t = notes (lag_of t) t
+
 abbrev pub accepts_asked : Bool → Sides → Sides
-accepts_asked f t = if is_unasked t then tells (Some UaUnasked) t else answers (accepts (ends (answers_if f t)))
+accepts_asked f t =
+    if is_unasked t then tells (Some UaUnasked) t else notes_lag (answers (accepts (ends (answers_if f t))))
 
 abbrev pub declines : Sides → Sides
 declines t = with_own (with_phase (declining t.own.phase) t.own) t

@@ -95,11 +95,6 @@ astray w = record w { sight = Astray }
 abbrev pub deaf : Way → Way
 deaf w = record w { sight = Deaf }
 
--- A damaged frame of the other end may have had an N(R): the window isn't judged until one comes. Behind a damaged
--- frame of the end it may have been UA to that, so that no octets are known.
-abbrev pub unheard : Way → Way
-unheard w = record w { sight = if is_sure w then Astray else w.sight; kept = if w.is_missed then 0 else w.kept }
-
 -- N(R)s about its numbers, where these are known, aren't judged from here on
 abbrev pub deafened : Bool → Way → Way
 deafened is_late w = if is_late && not (is_unseen w) then deaf w else w
@@ -171,6 +166,21 @@ sent_back number w = record w {
   farthest = farther
       (apart w.next number) w;
 }
+
+-- A damaged frame of the other end may have had an N(R): the window isn't judged until one comes, and it may have set
+-- V(S) back, to the last N(R) at the farthest. Where a frame of the end is damaged too, that explains any number, and
+-- may have been UA, so that no octets are known.
+abbrev pub unheard_by : Way → Way → Way
+unheard_by back w = record w {
+  sight = if is_sure w then Astray else w.sight;
+  kept = if w.is_missed then 0 else w.kept;
+  causes = if w.is_missed then w.causes else back.causes;
+  reach = if w.is_missed then w.reach else back.reach;
+  farthest = if w.is_missed then w.farthest else back.farthest;
+}
+
+abbrev pub unheard : Way → Way
+unheard w = unheard_by (sent_back (awaited w) w) w
 
 -- ---- N(S)
 

@@ -15,6 +15,7 @@ pub(crate) enum Note {
     HeardBehindDamage,
     PollAgain,
     PollUnseen,
+    NumbersUnjudged,
 }
 
 /// The most characters of the text of a note.
@@ -65,5 +66,8 @@ pub(crate) fn push_note(note: Note, text: &mut Text)
         ),
         Note::PollAgain => text.push(b"P=1 again, and no F=1 answered the last one (2.4.3)"),
         Note::PollUnseen => text.push(b"F=1 answers no P=1 that the trace shows (2.4.3)"),
+        Note::NumbersUnjudged => text.push(
+            b"not all N(S) and N(R) are judged before the next set-up (2.4.4.1)",
+        ),
     }
 }

@@ -575,8 +575,25 @@ impl Sides {
         if self.is_unasked() {
             self.tells(Some(Rule::UaUnasked))
         } else {
-            self.answers_if(f).ends().accepts().answers()
+            self.answers_if(f).ends().accepts().answers().notes_lag()
         }
+    }
+
+    /// What is noted behind UA: the other end may go up, and numbers of either aren't judged.
+    fn lag(self) -> Option<Note>
+        ensures { result ≡ definition.lag_of self }
+    {
+        if self.other.phase.may_run() && !(self.own.way.is_sure() && self.other.way.is_sure()) {
+            Some(Note::NumbersUnjudged)
+        } else {
+            None
+        }
+    }
+
+    fn notes_lag(self) -> Sides
+        ensures { result ≡ definition.notes_lag self }
+    {
+        self.notes(self.lag())
     }
 
     fn declines(self) -> Sides

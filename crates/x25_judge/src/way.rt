@@ -195,14 +195,22 @@ impl Way {
     pub(crate) fn unheard(self) -> Way
         ensures { result ≡ definition.unheard self }
     {
-        Way {
-            sight: if self.is_sure() {
-                Sight::Astray
-            } else {
-                self.sight
-            },
-            kept: if self.is_missed { 0 } else { self.kept },
-            ..self
+        let sight = if self.is_sure() {
+            Sight::Astray
+        } else {
+            self.sight
+        };
+        if self.is_missed {
+            Way {
+                sight,
+                kept: 0,
+                ..self
+            }
+        } else {
+            Way {
+                sight,
+                ..self.sent_back(self.awaited())
+            }
         }
     }
 

@@ -154,7 +154,7 @@ judged_numbers_are_told from j frame nr has judged far =
 -- ---- UA
 
 accepts_breaks : (f : Bool) (t : Sides) → t.other.asked ≡ 0 → sides.judges_answer t.other.asked t ≡ true → Breaks (sides.accepts_asked f t).rule
-accepts_breaks f t none judged = cond_both (sides.is_unasked t) (sides.tells (Some UaUnasked) t) (sides.answers (sides.accepts (sides.ends (sides.answers_if f t)))) (λ (v : Sides). Breaks v.rule)
+accepts_breaks f t none judged = cond_both (sides.is_unasked t) (sides.tells (Some UaUnasked) t) (sides.notes_lag (sides.answers (sides.accepts (sides.ends (sides.answers_if f t))))) (λ (v : Sides). Breaks v.rule)
     (λ _. first_brings t.rule (Some UaUnasked) refl)
     (λ asked. absurd (both_ways (sides.is_unasked t) asked (and_from t.other.is_followed (t.other.asked == 0) followed (ap (λ x. x == 0) none))))
   where

@@ -535,9 +535,9 @@ ua_fits : (window : ℕ) (s f : Bool) (t : Sides) (stand : Stand) (p : Peer) (fr
     → Fits (sides.sees window s (ua f) t).other (sides.sees window s (ua f) t).own stand p (frames ++ ua f ∷ [])
 unfolding sides.sees
 ua_fits window s f t stand p frames none h =
-    cond_both (sides.is_unasked t) (sides.tells (Some UaUnasked) t) (sides.answers (sides.accepts (sides.ends (sides.answers_if f t)))) (λ (v : Sides). Fits v.other v.own stand p (frames ++ ua f ∷ []))
+    cond_both (sides.is_unasked t) (sides.tells (Some UaUnasked) t) (sides.notes_lag (sides.answers (sides.accepts (sides.ends (sides.answers_if f t))))) (λ (v : Sides). Fits v.other v.own stand p (frames ++ ua f ∷ []))
     (λ test. unasked_fits t.other t.own stand p frames f (eqb-true t.other.asked 0 (and_parts t.other.is_followed (t.other.asked == 0) test).1) h)
-    (λ _. accepted_fits t (sides.answers (sides.accepts (sides.ends (sides.answers_if f t)))) stand p frames f (accepted_is f t none) h)
+    (λ _. accepted_fits t (sides.notes_lag (sides.answers (sides.accepts (sides.ends (sides.answers_if f t))))) stand p frames f (accepted_is f t none) h)
 
 -- ---- any frame
 

@@ -264,7 +264,7 @@ module _ (from : Role) (j k : Judge) (p : Peer) (frames : List PlainFrame) where
 ua_sides : (window : ℕ) (s f : Bool) (t : Sides) (frame : PlainFrame) (rest : List PlainFrame) → t.rule ≡ None → asks_one frame ≡ 1 → min (asks_all (frame ∷ rest)) 255 ≤ t.other.asked → Accepted t (sides.sees window s (ua f) t)
 unfolding sides.sees
 ua_sides window s f t frame rest none one asked =
-    cond_both (sides.is_unasked t) (sides.tells (Some UaUnasked) t) (sides.answers (sides.accepts (sides.ends (sides.answers_if f t)))) (λ (v : Sides). Accepted t v)
+    cond_both (sides.is_unasked t) (sides.tells (Some UaUnasked) t) (sides.notes_lag (sides.answers (sides.accepts (sides.ends (sides.answers_if f t))))) (λ (v : Sides). Accepted t v)
     (λ test. absurd (some (asks_all rest) t.other.asked (subst (λ x. min (x + asks_all rest) 255 ≤ t.other.asked) one asked) (eqb-true t.other.asked 0 (and_parts t.other.is_followed (t.other.asked == 0) test).1)))
     (λ _. accepted_is f t none)
   where

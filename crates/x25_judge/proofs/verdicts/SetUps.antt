@@ -176,7 +176,7 @@ record Kept (t v : Sides) : Type 0 where
   pub way : v.other.way ≡ t.other.way
   pub other_late : v.other.late ≡ t.other.late
 
-accepts_begin : (v : Sides) → Waits v.other → AreBegun (sides.is_late v) (sides.answers (sides.accepts v))
+accepts_begin : (v : Sides) → Waits v.other → AreBegun (sides.is_late v) (sides.notes_lag (sides.answers (sides.accepts v)))
 accepts_begin v a = record {
   own_up = is_up v.own.phase;
   own = ap (λ p. way.deafened (sides.is_late v) (sides.accepting_way p v.own.way)) a.phase;
@@ -199,8 +199,8 @@ unfolding sides.sees
 ua_begins window s f t a =
     let u = sides.ends (sides.answers_if f t) in
     let k = answered_kept f t in
-    subst (λ v. AreBegun (sides.is_late t) v) (sym (cond-false (sides.is_unasked t) (sides.tells (Some UaUnasked) t) (sides.answers (sides.accepts u)) (and_right t.other.is_followed (t.other.asked == 0) a.asked)))
-    (subst (λ l. AreBegun l (sides.answers (sides.accepts u))) (ap (λ x. not (x == 0)) k.other_late) (accepts_begin u (record { phase = k.phase ∙ a.waits.phase; knows = a.waits.knows; way = k.way ∙ a.waits.way })))
+    subst (λ v. AreBegun (sides.is_late t) v) (sym (cond-false (sides.is_unasked t) (sides.tells (Some UaUnasked) t) (sides.notes_lag (sides.answers (sides.accepts u))) (and_right t.other.is_followed (t.other.asked == 0) a.asked)))
+    (subst (λ l. AreBegun l (sides.notes_lag (sides.answers (sides.accepts u)))) (ap (λ x. not (x == 0)) k.other_late) (accepts_begin u (record { phase = k.phase ∙ a.waits.phase; knows = a.waits.knows; way = k.way ∙ a.waits.way })))
 
 -- ---- both
 

@@ -146,7 +146,7 @@ pub record Accepted (t v : Sides) : Type 0 where
   pub other_late : v.other.late ≡ sides.fewer t.other.late
   pub quiet : is_of_order v.rule ≡ false
 
-pub accepted_is : (f : Bool) (t : Sides) → t.rule ≡ None → Accepted t (sides.answers (sides.accepts (sides.ends (sides.answers_if f t))))
+pub accepted_is : (f : Bool) (t : Sides) → t.rule ≡ None → Accepted t (sides.notes_lag (sides.answers (sides.accepts (sides.ends (sides.answers_if f t)))))
 accepted_is f t none =
     record {
       phase = ap sides.accepting h.phase;
