@@ -16,6 +16,7 @@ EXTENSIONS = (0, 43, 60)
 MOST_EXTENSIONS = 8
 
 SYN, ACK = 2, 16
+WITHIN = "segment that begins within a packet, before the first of a connection that was captured from its midst"
 # How much is held of a connection while a segment is missing, and of how many connections.
 MOST_SEGMENTS, MOST_STREAMS = 256, 4096
 SEQUENCES = 1 << 32
@@ -76,8 +77,8 @@ def segment(octets):
 class Stream:
     """One direction of a connection, between two ends: puts segments in order, and cuts what comes into packets.
 
-    The DTE is the end that opened the connection to the port of XOT. Where a capture begins within a connection, the first segment is taken
-    to begin with a packet, as it nearly always does.
+    The DTE is the end that opened the connection to the port of XOT. Where a capture begins within a connection, the first segment that begins
+    with a packet is the first that is read.
     """
 
     def __init__(self, ends, port, notes):
@@ -90,7 +91,7 @@ class Stream:
         self._next = None
         self._ahead = {}
         self._held = b""
-        self._is_lost = False
+        self._is_lost = self._has_packets = False
 
     def take(self, sequence, flags, octets):
         """Takes the octets of a segment, which stand there in the stream; answers the X.25 packets that are whole now, and None where some are
@@ -142,7 +143,7 @@ class Stream:
         """Begins a connection, whose first octet stands behind the number of its SYN."""
         self._start = sequence
         self._next = (sequence + 1) % SEQUENCES
-        self._is_lost = False
+        self._is_lost = self._has_packets = False
 
     def _distance(self, sequence):
         """How far behind the octet that is wanted next a number stands; below 0, before it."""
@@ -178,6 +179,10 @@ class Stream:
         while not self._is_lost and len(held) - at >= 4:
             version, length = _HEADER(held, at)
             if version != 0 or length == 0:
+                if self._start is None and not self._has_packets:
+                    self._notes[WITHIN] += 1
+                    held = b""
+                    break
                 self._notes["connection that isn't XOT, or was read out of step"] += 1
                 self._is_lost = True
                 packets.append(None)
@@ -185,6 +190,7 @@ class Stream:
                 break
             else:
                 packets.append(held[at + 4 : at + 4 + length])
+                self._has_packets = True
                 at += 4 + length
         self._held = b"" if self._is_lost else held[at:]
         return packets

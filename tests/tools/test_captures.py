@@ -15,6 +15,7 @@ import ahead
 import captures
 import golden
 import pcap2x25
+import xot
 import x25lines
 
 SABM, UA = bytes.fromhex("013f"), bytes.fromhex("0173")
@@ -225,8 +226,12 @@ class XotStreams(unittest.TestCase):
         self.assertEqual(notes, {"gap in a connection, octets that weren't captured": 1})
 
     def test_a_connection_that_is_no_xot_is_told_once(self):
-        text, notes = self.read([(True, 1, b"GET / HTTP/1.0\r\n"), (True, 17, self.call)])
+        text, notes = self.read([(True, 0, b"", 2), (True, 1, b"GET / HTTP/1.0\r\n"), (True, 17, self.call)])
         self.assertEqual((text, notes), ("", {"connection that isn't XOT, or was read out of step": 1}))
+
+    def test_a_capture_that_begins_within_a_packet(self):
+        text, notes = self.read([(True, 1, self.call[9:]), (True, 1 + len(self.call[9:]), self.call), (False, 1, self.accept)])
+        self.assertEqual((text, notes), (self.expected, {xot.WITHIN: 1}))
 
     def test_a_packet_broken_off_is_told(self):
         self.assertEqual(self.read([(True, 1, self.call[:9])]), ("", {"packet broken off at the end of its connection": 1}))
