@@ -10,7 +10,7 @@ from support import PROGRAM, ToolCase
 import tap_runs
 from x25lines import fcs
 
-# In the gate; `make judge-runs` plays 2,000.
+# In the gate; `make judge-runs` plays 1,000.
 RUNS = 20
 SABM, UA, DISC, SABME = 0x3F, 0x73, 0x53, 0x7F
 LACKING = ", or the capture lacks frames"
