@@ -126,6 +126,11 @@ class Lacking(ToolCase):
         self.assertEqual(shown.count(" ~ note: not judged from here on: SABME and UA, so numbers are modulo 128\n"), 1)
         self.assertEqual([line.partition(", ")[0] for line in shown.splitlines() if " frames, " in line], ["# dte: 5 frames", "# dce: 3 frames"])
 
+    def test_numbers_modulo_128_that_the_other_end_refuses(self):
+        frames = [*SET_UP, data(">", 0, 0), ready("<", 1), command(">", SABME), response("<", 0x1F), *SET_UP, data(">", 0, 0)]
+        self.assertEqual(self.judged(capture(frames), "--at", "line", "--manners"), ([], "# told: 0 rules, 0 manners"))
+        self.assertEqual([line.partition(" frames")[0] for line in self.counts if " frames" in line], ["# dte: 5", "# dce: 4"])
+
     def test_an_empty_input(self):
         done = support.run("x25dump.py", "--judge", "--x25", PROGRAM)
         self.assertEqual((done.returncode, done.stdout, done.stderr), (1, b"", b"x25dump.py: nothing was found: the input is empty\n"))
