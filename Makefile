@@ -7,7 +7,7 @@
 # make test          an hour          rt, cc              the gate: every proof from nothing, the must-fail edits, all tests
 # make golden        a second         build/x25           runs the stored cases of tests/golden
 # make check-tools   a minute                             runs the tests of tools/; those for which something isn't there are left out
-# make judge-runs    6 minutes        build/x25           judges random runs: of two stations, of one end beside an odd one, and with one frame changed
+# make judge-runs    8 minutes        build/x25           judges random runs: of two stations, as captures have them too, of one end beside an odd one, and with one frame changed
 # make refused       30 minutes       rt, cc, build/x25   refuses each allocation of stored cases and of scripts in turn
 # make wrong-bodies  minutes a crate  rt                  tries wrong bodies that the gate leaves out; CRATE="NAME .." of these crates
 # make interop       20 minutes       build/x25, a guest  plays a station against Linux's X.25; interop/README.md says more

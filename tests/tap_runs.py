@@ -91,7 +91,7 @@ def play(program, seed):
 
 
 def main():
-    options = runs.options_of(runs.words(__doc__, 2_000))
+    options = runs.options_of(runs.words(__doc__, 1_000))
     return runs.tell(options, lambda seed: play(options.program, seed))
 
 

@@ -163,9 +163,12 @@ class Frames:
         return self._is_128 or control == SABME
 
     def _read(self, line):
-        """The answer to a line that isn't judged."""
+        """The answer to a line that isn't judged: one of a link modulo 128, or SABME, which the judge hears as a frame of which nothing is known."""
         text, = self._decoder.texts(f"{line}\n")
-        self._seen[self._end(line[0]), None] += 1
+        if self._is_128:
+            self._seen[self._end(line[0]), None] += 1
+        else:
+            self._judge.texts(f"{UNREAD[line[0]]}\n")
         return text + UNJUDGED if _control(line) == UA else text
 
     def _end(self, direction):

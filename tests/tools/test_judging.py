@@ -10,7 +10,7 @@ from support import PROGRAM, ToolCase
 import tap_runs
 from x25lines import fcs
 
-# In the gate; `make judge-runs` plays 2,000.
+# In the gate; `make judge-runs` plays 1,000.
 RUNS = 20
 SABM, UA, DISC, SABME = 0x3F, 0x73, 0x53, 0x7F
 LACKING = ", or the capture lacks frames"
@@ -125,6 +125,11 @@ class Lacking(ToolCase):
         shown = support.run("x25dump.py", "--judge", "--x25", PROGRAM, given=capture(frames)).stdout.decode()
         self.assertEqual(shown.count(" ~ note: not judged from here on: SABME and UA, so numbers are modulo 128\n"), 1)
         self.assertEqual([line.partition(", ")[0] for line in shown.splitlines() if " frames, " in line], ["# dte: 5 frames", "# dce: 3 frames"])
+
+    def test_numbers_modulo_128_that_the_other_end_refuses(self):
+        frames = [*SET_UP, data(">", 0, 0), ready("<", 1), command(">", SABME), response("<", 0x1F), *SET_UP, data(">", 0, 0)]
+        self.assertEqual(self.judged(capture(frames), "--at", "line", "--manners"), ([], "# told: 0 rules, 0 manners"))
+        self.assertEqual([line.partition(" frames")[0] for line in self.counts if " frames" in line], ["# dte: 5", "# dce: 4"])
 
     def test_an_empty_input(self):
         done = support.run("x25dump.py", "--judge", "--x25", PROGRAM)
