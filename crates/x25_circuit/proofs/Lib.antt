@@ -7,4 +7,3 @@ pub mod AskLemmas
 pub mod TalkLemmas
 pub mod PullLemmas
 pub mod CarryLemmas
-pub mod TakingLemmas

@@ -6,6 +6,5 @@ pub mod Changes
 pub mod FitsNumbers
 pub mod Fits
 pub mod Replies
-pub mod Taking
 pub mod FitsCircuit
 pub mod DataPacket

@@ -2,17 +2,17 @@
 ghost use Rattle.std.specs.Prelude.{◌≡◌, ℕ, ◌+◌, ◌-◌, ◌^◌, ◌<◌, ◌≤◌, length, [], ◌∷◌, Some, None, true, false};
 ghost use Rattle.std.specs.Prelude.{option_to_list, IfNone, IsOk};
 ghost use Rattle.x25_packet.specs.Packet.{plain, user_data};
-ghost use Rattle.x25_packet.specs.Spelling.{HasChannel};
+ghost use Rattle.x25_packet.specs.Spelling.{HasChannel, IsInRange};
 ghost use Rattle.x25_circuit.specs.Circuit.{Settings};
 ghost use Rattle.x25_circuit.specs.Circuit.{Circuit as Channel};
 ghost use Rattle.x25_circuit.specs.Message.{piece_of};
 ghost use Rattle.x25_circuit.specs.Notice.{deliveries};
 ghost use Rattle.x25_circuit.specs.code.Fits.{first_ground};
 ghost use Rattle.x25_circuit.specs.Hearing.{resets_for, unless, number_ground, hears_status, confirms, takes, row_open};
-ghost use Rattle.x25_circuit.specs.Hearing.{row_data, answers};
+ghost use Rattle.x25_circuit.specs.Hearing.{row_data, status, answers};
 ghost use Rattle.x25_circuit.specs.code.FitsCircuit.{FitsCircuit, room_of, user_octets, clears_of, resets_of};
 ghost use Rattle.x25_circuit.specs.code.Replies.{Says, IsSendable, RepliesBy, RepliesOrLacks};
-ghost use Rattle.x25_circuit.specs.code.Replies.{plain_owed, plain_notices};
+ghost use Rattle.x25_circuit.specs.code.Replies.{packet_owed, plain_owed, plain_notices};
 
 use crate::circuit::Circuit;
 use crate::codes::{INVALID_PR, NO_INTERRUPT};
@@ -33,14 +33,30 @@ fn delivered<'a>(message: Option<Message>) -> Option<Notice<'a>>
 }
 
 impl Circuit {
+    /// RR, or RNR where this end isn't ready, with P(R).
+    pub(crate) fn status(&self) -> Owed
+        ensures value { (c : Settings) (x : Channel) → FitsCircuit c self.now x
+            → packet_owed 1 result ≡ status x.talk.own_ready (length x.talk.taken) }
+        ensures range { IsInRange 128 (packet_owed 1 result) }
+    {
+        let pr = self.transfer.receiver.wanted();
+        if self.transfer.own_ready {
+            Owed::Rr { pr }
+        } else {
+            Owed::Rnr { pr }
+        }
+    }
+
     // RR or RNR.
+    #[inline(always)]
     fn hear_status<'a>(&mut self, pr: Seq, is_ready: bool) -> Reply<'a>
         ensures { RepliesBy self.old self.new result
             (λ c x. unless c x (number_ground x.talk pr.number) (hears_status x x.talk is_ready pr.number)) }
     {
-        if !self.take_status(pr, is_ready) {
+        if !self.transfer.ack(pr) {
             return self.reset_for(INVALID_PR);
         }
+        self.transfer.peer_ready = is_ready;
         Reply::nothing()
     }
 
@@ -81,13 +97,15 @@ impl Circuit {
         ensures range { IsSendable (plain_owed result.packet) }
         ensures room { IfNone result.packet (room_of self.old ≤ room_of self.new) }
     {
-        match self.take_data(q, m, ps, pr, user) {
-            Some(taken) => Reply {
-                packet: taken.owed,
-                collided: false,
-                notice: delivered(taken.message),
-            },
-            None => self.reset_for(INVALID_PR),
+        if !self.transfer.ack(pr) {
+            return self.reset_for(INVALID_PR);
+        }
+        let message = self.transfer.take(ps, q, m, user);
+        let owed = self.status();
+        Reply {
+            packet: Some(owed),
+            collided: false,
+            notice: delivered(message),
         }
     }
 

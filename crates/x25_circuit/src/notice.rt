@@ -110,11 +110,3 @@ impl<'a> Reply<'a> {
         }
     }
 }
-
-/// What a circuit answers to a packet of data transfer with which nothing is wrong: the packet to send, and the message
-/// that ends with it.
-#[derive(Debug, Drop)]
-pub struct Taken {
-    pub owed: Option<Owed>,
-    pub message: Option<Message>,
-}

@@ -105,13 +105,6 @@ impl PartialMessage {
         }
     }
 
-    /// Whether memory is set aside for so many octets.
-    pub fn has_room(&self, count: usize) -> bool
-        ensures { result ≡ nat_le count self.now.room }
-    {
-        count <= self.places.len() - self.filled
-    }
-
     /// Sets memory aside for at least so many octets, but for no more than those of the longest data packet. Err: no
     /// memory; all is as it was then.
     #[inline(always)]

@@ -5,7 +5,7 @@ ghost use Rattle.x25_packet.specs.Packet.{plain};
 ghost use Rattle.x25_packet.specs.Spelling.{HasChannel};
 
 use std::alloc::Global;
-use x25_circuit::{Circuit, CircuitError, Flow, Reply, Request, Role, Taken};
+use x25_circuit::{Circuit, CircuitError, Reply, Request, Role};
 use x25_packet::{Packet, PacketError};
 
 // A value in a place of its own: a body that holds the box lets go of it by one call, and not of each part of the
@@ -48,12 +48,4 @@ pub fn hear<'a>(circuit: &mut Circuit, packet: &Packet<'a>) -> Result<Reply<'a>,
 /// Octets come that are too few for a packet.
 pub fn hear_too_few(circuit: &mut Circuit) -> Reply<'static> {
     circuit.undecoded(PacketError::TooShort)
-}
-
-/// A packet of data transfer comes, for which memory is set aside.
-pub fn take(circuit: &mut Circuit, packet: &Flow) -> Result<Option<Taken>, CircuitError> {
-    if let Flow::Data { user, .. } = packet {
-        circuit.reserve(user.len())?;
-    }
-    Ok(circuit.take(packet))
 }

@@ -1,9 +1,9 @@
 //! What a circuit answers, and what it says of itself then; `tests/golden` has the packets of whole calls.
 
-use crate::calls::{ask, circuit, hear, hear_too_few, take};
+use crate::calls::{ask, circuit, hear, hear_too_few};
 use crate::requests::{ACCEPT, Proposals};
 use std::alloc::Global;
-use x25_circuit::{Circuit, CircuitError, Flow, Notice, Owed, Params, Reply, Role, Taken};
+use x25_circuit::{Circuit, CircuitError, Notice, Owed, Params, Reply, Role};
 use x25_packet::{Packet, Seq};
 
 /// What happens to a circuit.
@@ -14,20 +14,19 @@ enum Act {
     CallAccepted,
     Clear,
     TooFewOctets,
-    /// DATA comes by the call that takes it where nothing is wrong with it, with P(S), P(R), M, Q and so many octets.
+    /// DATA comes, with P(S), P(R), M, Q and so many octets.
     Data(u8, u8, bool, bool, usize),
-    /// RR comes so, with P(R).
+    /// RR comes, with P(R).
     Rr(u8),
-    /// RNR comes so, with P(R).
+    /// RNR comes, with P(R).
     Rnr(u8),
     Pull,
     Forget,
     Zero,
 }
 
-/// What it answers: the number of a refusal or of a fault, 255 where the packet isn't taken, else 0; the qualifier of a
-/// message that ended, and how many octets it has; and the third octet of a packet, and how many octets of user data it
-/// has.
+/// What it answers: the number of a refusal or of a fault, else 0; the qualifier of a message that ended, and how many
+/// octets it has; and the third octet of a packet, and how many octets of user data it has.
 type Answer = (u8, Option<(bool, usize)>, Option<(u8, usize)>);
 
 /// What a circuit says: how often it was cleared and reset, whether it is free and is open, how many messages wait, and
@@ -53,7 +52,9 @@ const CALL: Answer = (0, None, Some((0x0B, 0)));
 
 const NOTHING: Answer = (0, None, None);
 
-const NOT_TAKEN: Answer = (255, None, None);
+const RESET_FOR_PS: Answer = (1, None, Some((0x1B, 0)));
+
+const RESET_FOR_PR: Answer = (2, None, Some((0x1B, 0)));
 
 /// The indices of a call, of a clear, of a message, of a reset, and of the user's not being ready.
 const CALLS: usize = 0;
@@ -66,9 +67,7 @@ const RESETS: usize = 9;
 
 const NOT_READY: usize = 11;
 
-static IN_A_CALL: [Row; 20] = [
-    (Act::Data(0, 0, false, false, 0), NOT_TAKEN, FREE),
-    (Act::Rr(0), NOT_TAKEN, FREE),
+static IN_A_CALL: [Row; 15] = [
     (Act::Ask(CALLS), CALL, BETWEEN),
     (Act::CallAccepted, NOTHING, OPEN),
     (
@@ -76,10 +75,6 @@ static IN_A_CALL: [Row; 20] = [
         (0, None, Some((0x21, 0))),
         HAS_128_OCTETS,
     ),
-    (Act::Data(0, 0, true, true, 128), NOT_TAKEN, HAS_128_OCTETS),
-    (Act::Data(1, 0, false, false, 2), NOT_TAKEN, HAS_128_OCTETS),
-    (Act::Data(1, 1, false, true, 2), NOT_TAKEN, HAS_128_OCTETS),
-    (Act::Data(1, 0, false, true, 129), NOT_TAKEN, HAS_128_OCTETS),
     (
         Act::Data(1, 0, false, true, 2),
         (0, Some((true, 130)), Some((0x41, 0))),
@@ -91,14 +86,27 @@ static IN_A_CALL: [Row; 20] = [
     (Act::Pull, NOTHING, TWO_WAIT),
     (Act::Rr(0), NOTHING, TWO_WAIT),
     (Act::Pull, (0, None, Some((0x40, 0))), ONE_WAITS),
-    (Act::Rr(2), NOT_TAKEN, ONE_WAITS),
     (Act::Ask(NOT_READY), (0, None, Some((0x45, 0))), ONE_WAITS),
     (
         Act::Data(2, 1, false, false, 0),
         (0, Some((false, 0)), Some((0x65, 0))),
         ONE_WAITS,
     ),
-    (Act::Ask(RESETS), (0, None, Some((0x1B, 0))), BETWEEN),
+    (Act::Rr(2), RESET_FOR_PR, BETWEEN),
+    (Act::Rr(0), NOTHING, BETWEEN),
+    (Act::Ask(RESETS), (30, None, None), BETWEEN),
+];
+
+// The same packet comes once more.
+static REPEATED: [Row; 4] = [
+    (Act::Ask(CALLS), CALL, BETWEEN),
+    (Act::CallAccepted, NOTHING, OPEN),
+    (
+        Act::Data(0, 0, true, true, 128),
+        (0, None, Some((0x21, 0))),
+        HAS_128_OCTETS,
+    ),
+    (Act::Data(0, 0, true, true, 128), RESET_FOR_PS, BETWEEN),
 ];
 
 static BETWEEN_CALLS: [Row; 8] = [
@@ -178,11 +186,15 @@ fn asked(circuit: &mut Circuit, index: usize) -> Answer {
 }
 
 fn replied(reply: &Reply) -> Answer {
-    let number = match reply.notice {
-        Some(Notice::Fault { diagnostic }) => diagnostic,
-        _ => 0,
+    let (number, message) = match &reply.notice {
+        Some(Notice::Fault { diagnostic }) => (*diagnostic, None),
+        Some(Notice::Delivered(message)) => (
+            0,
+            Some((message.q, message.user.as_slice().len())),
+        ),
+        _ => (0, None),
     };
-    (number, None, shape_of(&reply.packet))
+    (number, message, shape_of(&reply.packet))
 }
 
 fn heard(circuit: &mut Circuit, packet: &Packet) -> Result<Answer, CircuitError> {
@@ -190,23 +202,7 @@ fn heard(circuit: &mut Circuit, packet: &Packet) -> Result<Answer, CircuitError>
     Ok(replied(&reply))
 }
 
-fn took(taken: &Option<Taken>) -> Answer {
-    let Some(taken) = taken else {
-        return NOT_TAKEN;
-    };
-    let message = match &taken.message {
-        Some(message) => Some((message.q, message.user.as_slice().len())),
-        None => None,
-    };
-    (0, message, shape_of(&taken.owed))
-}
-
-fn takes(circuit: &mut Circuit, packet: &Flow) -> Result<Answer, CircuitError> {
-    let taken = take(circuit, packet)?;
-    Ok(took(&taken))
-}
-
-fn takes_data(
+fn heard_data(
     circuit: &mut Circuit,
     alloc: Global,
     (ps, pr): (u8, u8),
@@ -214,9 +210,10 @@ fn takes_data(
     count: usize,
 ) -> Result<Answer, CircuitError> {
     let user = vec![in alloc; 0u8; count]?;
-    takes(
+    heard(
         circuit,
-        &Flow::Data {
+        &Packet::Data {
+            channel: 1,
             q,
             m,
             ps: Seq::modulo(ps),
@@ -245,16 +242,18 @@ fn happens(circuit: &mut Circuit, alloc: Global, act: Act) -> Result<Answer, Cir
         Act::CallAccepted => heard(circuit, &ACCEPT),
         Act::Clear => heard(circuit, &CLEAR),
         Act::TooFewOctets => Ok(replied(&hear_too_few(circuit))),
-        Act::Data(ps, pr, m, q, count) => takes_data(circuit, alloc, (ps, pr), (m, q), count),
-        Act::Rr(pr) => takes(
+        Act::Data(ps, pr, m, q, count) => heard_data(circuit, alloc, (ps, pr), (m, q), count),
+        Act::Rr(pr) => heard(
             circuit,
-            &Flow::Rr {
+            &Packet::Rr {
+                channel: 1,
                 pr: Seq::modulo(pr),
             },
         ),
-        Act::Rnr(pr) => takes(
+        Act::Rnr(pr) => heard(
             circuit,
-            &Flow::Rnr {
+            &Packet::Rnr {
+                channel: 1,
                 pr: Seq::modulo(pr),
             },
         ),
@@ -298,8 +297,9 @@ fn odd_row_of(alloc: Global, rows: &[Row]) -> Result<Option<usize>, CircuitError
 }
 
 #[test]
-fn packets_with_which_nothing_is_wrong_are_taken(rt: HostRuntime) {
+fn packets_of_data_transfer_are_answered(rt: HostRuntime) {
     assert_eq!(rt; odd_row_of(rt.alloc(), IN_A_CALL.as_slice()), Ok(None));
+    assert_eq!(rt; odd_row_of(rt.alloc(), REPEATED.as_slice()), Ok(None));
 }
 
 #[test]

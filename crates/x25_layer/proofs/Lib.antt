@@ -15,7 +15,6 @@ pub mod LengthLemmas
 pub mod FitLemmas
 pub mod CallLemmas
 pub mod HearLemmas
-pub mod TakingLemmas
 pub mod LawLemmas
 pub mod RoundLemmas
 pub mod SettleLemmas

@@ -17,7 +17,6 @@ mod room;
 mod rounds;
 mod sending;
 mod stretch;
-mod taking;
 
 pub use error::LayerError;
 pub use law::{
@@ -27,6 +26,5 @@ pub use law::{
 pub use layer::Layer;
 pub use report::Report;
 pub use stretch::Stretch;
-pub use taking::Delivery;
 pub use x25_bits::Role;
 pub use x25_circuit::{Params, Proposal};

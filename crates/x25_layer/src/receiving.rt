@@ -22,6 +22,7 @@ use crate::error::LayerError;
 use crate::layer::Layer;
 use crate::putting::MOST_PUT;
 use crate::report::Report;
+use crate::room::is_full;
 use x25_circuit::{Circuit, CircuitError, Notice, Reply};
 use x25_link::OrderedLink;
 use x25_packet::{Packet, PacketError, channel, longest_user};
@@ -71,7 +72,8 @@ fn told_on<'a>(channel: u16, collided: bool, notice: Option<Notice<'a>>) -> Repo
 }
 
 impl Layer {
-    // Hears a packet, or octets that spell none, of a configured channel.
+    // The circuit of a configured channel takes a packet, or octets that spell none.
+    #[inline(always)]
     fn hear_channel<'a>(
         &mut self,
         channel: u16,
@@ -96,10 +98,14 @@ impl Layer {
             → IfOk result (λ reply. IfNone reply.packet (HaveRoom len self.new.circuits.items)) }
         ensures room_stays { OnErr result (HaveRoomStill self.old.circuits.items self.new.circuits.items) }
     {
-        self.quiet = false;
-        self.counts_left = false;
         let place = usize::from(channel) - 1;
-        match hear_circuit(&mut self.circuits[place], read) {
+        let circuit = &mut self.circuits[place];
+        let answer = hear_circuit(circuit, read);
+        let waits = circuit.waits();
+        let is_full = is_full(circuit);
+        self.quiet &= waits == 0;
+        self.counts_left &= !is_full;
+        match answer {
             Ok(reply) => Ok(reply),
             Err(_) => Err(LayerError::NoMemory),
         }

@@ -15,8 +15,8 @@ use crate::putting::MOST_PUT;
 use x25_circuit::Circuit;
 use x25_link::OrderedLink;
 
-// Whether a count of the circuit is at its most.
-fn is_full(circuit: &Circuit) -> bool
+/// Whether a count of the circuit is at its most.
+pub(crate) fn is_full(circuit: &Circuit) -> bool
     ensures value { (c : Settings) (x : Channel) → FitsCircuit c circuit.now x
         → result ≡ (is_most x.clears || is_most x.resets) }
     ensures left { result ≡ false → HasCountsLeft circuit.now }

@@ -2,7 +2,7 @@
 
 use std::alloc::Global;
 use x25_circuit::Request;
-use x25_layer::{Delivery, Layer, LayerError, Params, Proposal, Report, Role};
+use x25_layer::{Layer, LayerError, Params, Proposal, Report, Role};
 use x25_link::{Link, OrderedLink, PlainLink};
 use x25_wide::NarrowField;
 
@@ -102,12 +102,4 @@ pub fn hear<'a>(
         return Err(LayerError::QueueFull);
     }
     layer.packet(link, octets, field)
-}
-
-/// The same, by the call that takes packets of data transfer alone.
-pub fn transfer(layer: &mut Layer, link: &mut PlainLink, octets: &[u8]) -> Option<Delivery> {
-    if link.waiting() == 256 {
-        return None;
-    }
-    layer.transfer(link, octets)
 }

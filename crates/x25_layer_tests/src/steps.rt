@@ -1,10 +1,10 @@
 //! What a layer puts over a plain link, and what it says of itself then; `tests/golden` has the packets of whole calls.
 
-use crate::calls::{ask, fill, hear, layer, plain_link, pull, restart, transfer, up};
+use crate::calls::{ask, fill, hear, layer, plain_link, pull, restart, up};
 use crate::refusals::request;
 use std::alloc::Global;
 use x25_circuit::{Notice, Request};
-use x25_layer::{Delivery, Layer, LayerError, Params, Report, Role, Stretch};
+use x25_layer::{Layer, LayerError, Params, Report, Role, Stretch};
 use x25_link::{OrderedLink, PlainLink};
 use x25_wide::NarrowField;
 
@@ -23,16 +23,12 @@ enum Act {
     Take(&'static [u8]),
     /// The same, where they are read in all forms.
     TakeWide(&'static [u8]),
-    /// The same, by the call that takes packets of data transfer alone.
-    Transfer(&'static [u8]),
-    /// Memory is set aside for what comes.
-    Reserve,
     /// So many packets are handed down to the link, by another than the layer.
     Fill(usize),
 }
 
-/// What an act answers: the number of a refusal, the diagnostic of a fault, or 255 where a packet isn't taken, else 0;
-/// and how many octets the message has that came.
+/// What an act answers: the number of a refusal or the diagnostic of a fault, else 0; and how many octets the message
+/// has that came.
 type Answer = (u8, Option<usize>);
 
 /// The packets that wait in the link then, which are taken out of it: of each the second octet, the third, and how many
@@ -46,8 +42,6 @@ type Says = (Option<Stretch>, bool, usize, usize);
 type Row = (Act, Answer, Puts, Says);
 
 const OK: Answer = (0, None);
-
-const NOT_TAKEN: Answer = (255, None);
 
 const NO_MEMORY: Answer = (70, None);
 
@@ -229,9 +223,8 @@ static PULLED: [Row; 8] = [
     (Act::Pull, (40, None), NO_PACKETS, CLOSED),
 ];
 
-// Not taken are those with the qualifier of another packet, on another channel, an RR with the qualifier, one that is
-// too long, and RESET.
-static TRANSFERS: [Row; 15] = [
+// DATA comes on a channel that is free, too, and an RR with the qualifier.
+static TRANSFERS: [Row; 8] = [
     (
         Act::Take(&[0x10, 0x01, 0x0B, 0x00, 0x00]),
         OK,
@@ -240,58 +233,31 @@ static TRANSFERS: [Row; 15] = [
     ),
     (Act::Ask(1, 0), OK, Some(&[(1, 0x0F, 3)]), OPEN),
     (
-        Act::Transfer(&[0x10, 0x01, 0x10, 0xAA]),
-        NOT_TAKEN,
-        NO_PACKETS,
-        OPEN,
-    ),
-    (Act::Reserve, OK, NO_PACKETS, OPEN),
-    (
-        Act::Transfer(&[0x10, 0x01, 0x10, 0xAA]),
+        Act::Take(&[0x10, 0x01, 0x10, 0xAA]),
         OK,
         Some(&[(1, 0x21, 3)]),
         (FIRST, true, 0, 1),
     ),
-    (Act::Reserve, OK, NO_PACKETS, (FIRST, true, 0, 1)),
     (
-        Act::Transfer(&[0x90, 0x01, 0x02, 0xBB]),
-        NOT_TAKEN,
-        NO_PACKETS,
+        Act::Take(&[0x10, 0x02, 0x02, 0xBB]),
+        (20, None),
+        Some(&[(2, 0x13, 5)]),
         (FIRST, true, 0, 1),
     ),
     (
-        Act::Transfer(&[0x10, 0x02, 0x02, 0xBB]),
-        NOT_TAKEN,
-        NO_PACKETS,
-        (FIRST, true, 0, 1),
-    ),
-    (
-        Act::Transfer(&[0x90, 0x01, 0x01]),
-        NOT_TAKEN,
-        NO_PACKETS,
-        (FIRST, true, 0, 1),
-    ),
-    (
-        Act::Transfer(&[0x10, 0x01, 0x01, 0x00]),
-        NOT_TAKEN,
-        NO_PACKETS,
-        (FIRST, true, 0, 1),
-    ),
-    (
-        Act::Transfer(&[0x10, 0x01, 0x1B, 0x00, 0x00]),
-        NOT_TAKEN,
-        NO_PACKETS,
-        (FIRST, true, 0, 1),
-    ),
-    (
-        Act::Transfer(&[0x10, 0x01, 0x02, 0xBB]),
+        Act::Take(&[0x10, 0x01, 0x02, 0xBB]),
         (0, Some(2)),
         Some(&[(1, 0x41, 3)]),
         OPEN,
     ),
     (Act::Send(1, 1), OK, Some(&[(1, 0x40, 4)]), OPEN),
-    (Act::Reserve, OK, NO_PACKETS, OPEN),
-    (Act::Transfer(&[0x10, 0x01, 0x21]), OK, NO_PACKETS, OPEN),
+    (Act::Take(&[0x10, 0x01, 0x21]), OK, NO_PACKETS, OPEN),
+    (
+        Act::Take(&[0x90, 0x01, 0x01]),
+        (40, None),
+        Some(&[(1, 0x1B, 5)]),
+        CLOSED,
+    ),
 ];
 
 // A RESTART without a diagnostic, and a CALL with a facility that a layer doesn't know and D.
@@ -383,16 +349,6 @@ fn told(report: &Report) -> Answer {
     }
 }
 
-fn taken(delivery: &Option<Delivery>) -> Answer {
-    match delivery {
-        Some(delivery) => match &delivery.message {
-            Some(message) => (0, Some(message.user.as_slice().len())),
-            None => OK,
-        },
-        None => NOT_TAKEN,
-    }
-}
-
 fn sends(
     alloc: Global,
     layer: &mut Layer,
@@ -432,8 +388,6 @@ fn happens(alloc: Global, layer: &mut Layer, link: &mut PlainLink, act: Act) -> 
         Act::Send(channel, count) => sends(alloc, layer, link, channel, count),
         Act::Take(octets) => hears(layer, link, octets, false),
         Act::TakeWide(octets) => hears(layer, link, octets, true),
-        Act::Transfer(octets) => taken(&transfer(layer, link, octets)),
-        Act::Reserve => answered(layer.reserve(link, 4096)),
         Act::Fill(count) => {
             if fill(alloc, link, count) {
                 OK
@@ -509,7 +463,7 @@ fn pulls_end_where_eight_packets_wait(rt: HostRuntime) {
 }
 
 #[test]
-fn packets_of_data_transfer_are_taken_by_themselves(rt: HostRuntime) {
+fn packets_of_data_transfer_are_answered(rt: HostRuntime) {
     assert_eq!(rt; odd_row_of(rt.alloc(), &[&TRANSFERS]), Some(None));
 }
 

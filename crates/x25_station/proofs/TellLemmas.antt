@@ -2,8 +2,7 @@
 use Rattle.std.proofs.Common.{◌≡◌, ℕ, List, [], ◌∷◌, ◌++◌, Option, Some, None, Result, Ok, IfOk, Bool, true, false, if◌then◌else◌, refl, ap, sym, subst, ◌∙◌}
 use Rattle.std.proofs.lemmas.List.{append_assoc}
 use Rattle.x25_circuit.specs.declared.notice.Notice.{Notice}
-use Rattle.x25_circuit.specs.declared.message.Message.{Message}
-use Rattle.x25_circuit.specs.Notice.{collided, deliveries}
+use Rattle.x25_circuit.specs.Notice.{collided}
 use Rattle.x25_circuit.specs.code.Replies.{plain_notice, notices_of}
 use Rattle.x25_handshakes.specs.laws.Names.{Name}
 use Rattle.x25_layer.specs.declared.report.Report.{Report}
@@ -49,11 +48,6 @@ pub told_is : {E : Type 0} (r : Result Report E) (told : Report) (notices : List
 told_is {E = E} r told notices is h = subst (λ (x : Result Report E). IfOk x (λ t. plain_report t ≡ notices)) is h
 
 -- ---- what may bring more
-
--- a message brings nothing beside
-pub delivered_alone : (h : ℕ) (messages : List Message) → bringing (notices_on h (deliveries messages)) ≡ None
-delivered_alone h [] = refl
-delivered_alone h (message ∷ messages) = delivered_alone h messages
 
 pub noticed_bringing : (h : ℕ) (b : Bool) (n : Notice) → bringing (notices_on h (notices_of b (Some n))) ≡ (if may_bring (plain_notice n) then Some h else None)
 noticed_bringing h true n = refl

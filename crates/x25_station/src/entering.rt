@@ -1,6 +1,5 @@
 //! Entries of what the packet layer tells, in memory that was set aside.
-ghost use Rattle.std.specs.Prelude.{◌≡◌, ℕ, ◌+◌, ◌<◌, ◌≤◌, ◌++◌, [], ◌∷◌, map, take, true, option_to_list};
-ghost use Rattle.x25_circuit.specs.Notice.{deliveries};
+ghost use Rattle.std.specs.Prelude.{◌≡◌, ℕ, ◌+◌, ◌<◌, ◌≤◌, ◌++◌, [], ◌∷◌, map, take, true};
 ghost use Rattle.x25_circuit.specs.code.Replies.{plain_notice, notices_of};
 ghost use Rattle.x25_layer.specs.Layer.{Layer as LayerState, LayerSettings, is_channel, notices_on};
 ghost use Rattle.x25_layer.specs.code.FitsLayer.{FitsLayer};
@@ -15,7 +14,7 @@ ghost use Rattle.x25_station.specs.code.Aside.{GrowsBy, HasPlaces, UsesFew};
 use crate::beside::Beside;
 use crate::entry::{Entry, Said, Told};
 use x25_bits::Promise;
-use x25_circuit::{Message, Notice};
+use x25_circuit::Notice;
 use x25_layer::{Layer, Report};
 use x25_packet::Digits;
 
@@ -45,31 +44,6 @@ pub(crate) fn enter(layer: &Layer, entries: &mut Vec<Entry>, channel: u16, said:
             name,
             said,
         });
-    }
-}
-
-/// Enters the message that was delivered on a configured channel, where there is one.
-#[inline(always)]
-pub(crate) fn enter_message(
-    layer: &Layer,
-    entries: &mut Vec<Entry>,
-    channel: u16,
-    message: Option<Message>,
-)
-    requires { HasPlaces 1 entries.old }
-    ensures few { GrowsBy 1 entries.old entries.new }
-    ensures entered { (c : LayerSettings) (l : LayerState) → FitsLayer c layer.now l
-        → is_channel c.channels channel ≡ true →
-        map plain_entry entries.new.items ≡ map plain_entry entries.old.items
-        ++ station_told l (notices_on channel (deliveries (option_to_list message))) }
-{
-    if let Some(message) = message {
-        enter(
-            layer,
-            entries,
-            channel,
-            Said::Told(Told::Delivered(message)),
-        );
     }
 }
 
@@ -166,8 +140,6 @@ fn enter_notices(
 }
 
 /// Enters what the layer reported.
-#[cold]
-#[inline(never)]
 pub(crate) fn enter_told(
     layer: &Layer,
     texts: &mut TextMemory,

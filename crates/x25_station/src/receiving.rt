@@ -19,7 +19,7 @@ ghost use Rattle.x25_station.specs.Step.{Did, abandons, receives, layer_at, laye
 ghost use Rattle.x25_station.specs.Step.{entries_of_answer};
 
 use crate::beside::beside_of;
-use crate::entering::{MOST_TEXTS, TextMemory, bringing, enter_beside, enter_message, enter_told};
+use crate::entering::{MOST_TEXTS, TextMemory, bringing, enter_beside, enter_told};
 use crate::entry::Entry;
 use crate::error::StationError;
 use crate::law::steps_keep_bounds;
@@ -87,10 +87,6 @@ fn hear(
         → FitsWhole link.old (kept_of (link_settings c) t) →
         result ≡ bringing (layer_answer (layer_settings c) wide l packet.now).notices }
 {
-    if let Some(delivery) = layer.transfer(link, packet) {
-        enter_message(layer, entries, delivery.channel, delivery.message);
-        return None;
-    }
     taking_keeps_octets();
     let mut field = NarrowField::none();
     let told = layer.packet(link, packet, lent(wide, &mut field)).unwrap();

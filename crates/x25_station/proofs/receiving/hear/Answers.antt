@@ -1,4 +1,4 @@
-use Rattle.std.proofs.Common.{◌-◌, ◌<◌, ◌++◌, Bool, is_some, length, map, option_to_list, List, All, arith, ap, sym, subst, ◌∙◌}
+use Rattle.std.proofs.Common.{◌-◌, ◌<◌, ◌++◌, Bool, is_some, length, map, List, All, arith, ap, sym, subst, ◌∙◌}
 use Rattle.std.proofs.lemmas.List.Elements.{All-from_get_or}
 use Rattle.x25_wide.specs.Taking.{read_in}
 use Rattle.x25_link.specs.code.FitsLink.{FitsWhole}
@@ -14,44 +14,12 @@ use Rattle.x25_station.specs.Station.{all_put, view_of}
 use Rattle.x25_station.proofs.AskLemmas.{after_puts}
 use Rattle.x25_station.proofs.LinkLemmas.{seen_by, same_view, on_ok}
 use Rattle.x25_station.proofs.NameLemmas.{rounds_name}
-use Rattle.x25_station.proofs.TellLemmas.{delivered_alone, same_told, told_is}
+use Rattle.x25_station.proofs.TellLemmas.{same_told, told_is}
 use Rattle.x25_station.proofs.ShortLemmas.{told_tellable}
 use Rattle.x25_station.proofs.receiving.hear.Goals as goal
 
--- ---- a packet of data transfer
-
-pub returns-in-Some-clause-puts : goal.returns-in-Some-clause-puts
-returns-in-Some-clause-puts c = record {
-  layer = λ c' l t fits link.
-      let lc = layer_settings c' in
-      subst (λ (view : LinkView). FitsLayer lc c.transfer.new.self (hears view lc c.args.wide l c.args.packet.now).step.layer) (same_view (link_settings c') t)
-      (c.in-Some.ensures.layer c.args.wide lc l (kept_of (link_settings c') t) fits link);
-  link = λ c' l t fits link.
-      let lc = layer_settings c' in
-      let lk = link_settings c' in
-      subst (λ (view : LinkView). FitsWhole c.transfer.new.link (kept_of lk (all_put lk (hears view lc c.args.wide l c.args.packet.now).step.put t))) (same_view lk t)
-      (after_puts lk c.transfer.new.link (hears (seen_by lk t) lc c.args.wide l c.args.packet.now).step.put t (c.in-Some.ensures.link c.args.wide lc l (kept_of lk t) fits link));
-}
-
-pub returns-in-Some-clause-entries : goal.returns-in-Some-clause-entries
-returns-in-Some-clause-entries c = λ c' l t fits link.
-    let lc = layer_settings c' in
-    let view : LinkView = view_of (link_settings c') t.near in
-    let octets = c.args.packet.now in
-    let a = answer_to lc l octets (read_in c.args.wide (longest_user lc.circuit.long_data) octets) in
-    c.enter_message.ensures.entered lc (hears view lc c.args.wide l octets).step.layer ((returns-in-Some-clause-puts c).layer c' l t fits link) (c.in-Some.ensures.channel lc l fits)
-    ∙ ap (λ ns. map plain_entry c.args.entries.now.items ++ station_told (hears view lc c.args.wide l octets).step.layer ns) (c.in-Some.ensures.told c.args.wide lc l view fits)
-    ∙ ap (λ es. map plain_entry c.args.entries.now.items ++ es) (same_told (hears view lc c.args.wide l octets).step.layer a.next a.notices (rounds_name view lc (begin a.next a.owed)))
-
-pub returns-in-Some-clause-bringing : goal.returns-in-Some-clause-bringing
-returns-in-Some-clause-bringing c = λ c' l t fits link.
-    sym (delivered_alone c.in-Some.delivery.channel (option_to_list c.in-Some.delivery.message))
-    ∙ ap (λ (ns : List LayerNotice). bringing ns) (c.in-Some.ensures.told c.args.wide (layer_settings c') l (view_of (link_settings c') t.near) fits)
-
--- ---- another
-
 pub unwrap-told-requires : goal.unwrap-told-requires
-unwrap-told-requires c = c.packet.ensures.enough (length c.args.packet.now - 3) (omega arith) (c.in_default.ensures.room_stays (length c.args.packet.now - 3) c.requires.room)
+unwrap-told-requires c = c.packet.ensures.enough (length c.args.packet.now - 3) (omega arith) c.requires.room
 
 pub returns-clause-puts : goal.returns-clause-puts
 returns-clause-puts c = record {
@@ -59,13 +27,13 @@ returns-clause-puts c = record {
       let lc = layer_settings c' in
       subst (λ (b : Bool). FitsLayer lc c.packet.new.self (hears (view_of (link_settings c') t.near) lc b l c.args.packet.now).step.layer) c.lent.ensures
       (subst (λ (view : LinkView). FitsLayer lc c.packet.new.self (hears view lc (is_some c.lent.result) l c.args.packet.now).step.layer) (same_view (link_settings c') t)
-      (on_ok c.packet.result c.unwrap-told.result _ c.unwrap-told.ensures (c.packet.ensures.layer lc l (kept_of (link_settings c') t) (c.in_default.ensures.layer_stays lc l fits) (subst (λ v. FitsWhole v (kept_of (link_settings c') t)) (sym c.in_default.ensures.link_stays) link))));
+      (on_ok c.packet.result c.unwrap-told.result _ c.unwrap-told.ensures (c.packet.ensures.layer lc l (kept_of (link_settings c') t) fits link)));
   link = λ c' l t fits link.
       let lc = layer_settings c' in
       let lk = link_settings c' in
       subst (λ (b : Bool). FitsWhole c.packet.new.link (kept_of lk (all_put lk (hears (view_of lk t.near) lc b l c.args.packet.now).step.put t))) c.lent.ensures
       (subst (λ (view : LinkView). FitsWhole c.packet.new.link (kept_of lk (all_put lk (hears view lc (is_some c.lent.result) l c.args.packet.now).step.put t))) (same_view lk t)
-      (after_puts lk c.packet.new.link (hears (seen_by lk t) lc (is_some c.lent.result) l c.args.packet.now).step.put t (on_ok c.packet.result c.unwrap-told.result _ c.unwrap-told.ensures (c.packet.ensures.link lc l (kept_of lk t) (c.in_default.ensures.layer_stays lc l fits) (subst (λ v. FitsWhole v (kept_of (link_settings c') t)) (sym c.in_default.ensures.link_stays) link)))));
+      (after_puts lk c.packet.new.link (hears (seen_by lk t) lc (is_some c.lent.result) l c.args.packet.now).step.put t (on_ok c.packet.result c.unwrap-told.result _ c.unwrap-told.ensures (c.packet.ensures.link lc l (kept_of lk t) fits link))));
 }
 
 pub returns-clause-entries : goal.returns-clause-entries
@@ -74,7 +42,7 @@ returns-clause-entries c = λ c' l t fits link.
     let view : LinkView = view_of (link_settings c') t.near in
     let octets = c.args.packet.now in
     let a = answer_to lc l octets (read_in c.args.wide (longest_user lc.circuit.long_data) octets) in
-    let told = told_is c.packet.result c.unwrap-told.result (answer_to lc l octets (read_in (is_some c.lent.result) (longest_user lc.circuit.long_data) octets)).notices c.unwrap-told.ensures (c.packet.ensures.told lc l view (c.in_default.ensures.layer_stays lc l fits))
+    let told = told_is c.packet.result c.unwrap-told.result (answer_to lc l octets (read_in (is_some c.lent.result) (longest_user lc.circuit.long_data) octets)).notices c.unwrap-told.ensures (c.packet.ensures.told lc l view fits)
     ∙ ap (λ (b : Bool). (answer_to lc l octets (read_in b (longest_user lc.circuit.long_data) octets)).notices) c.lent.ensures in
     let bytes : All (λ octet. octet < 256) octets = All-from_get_or (λ octet. octet < 256) octets 0 (λ i low. omega (arith, c.type_inv.packet i)) in
     let tellable = told_tellable c.taking_keeps_octets.ensures.range c.args.wide lc l octets bytes in
@@ -87,6 +55,6 @@ returns-clause-bringing c = λ c' l t fits link.
     let lc = layer_settings c' in
     let view : LinkView = view_of (link_settings c') t.near in
     let octets = c.args.packet.now in
-    let told = told_is c.packet.result c.unwrap-told.result (answer_to lc l octets (read_in (is_some c.lent.result) (longest_user lc.circuit.long_data) octets)).notices c.unwrap-told.ensures (c.packet.ensures.told lc l view (c.in_default.ensures.layer_stays lc l fits))
+    let told = told_is c.packet.result c.unwrap-told.result (answer_to lc l octets (read_in (is_some c.lent.result) (longest_user lc.circuit.long_data) octets)).notices c.unwrap-told.ensures (c.packet.ensures.told lc l view fits)
     ∙ ap (λ (b : Bool). (answer_to lc l octets (read_in b (longest_user lc.circuit.long_data) octets)).notices) c.lent.ensures in
     c.bringing-channel.ensures ∙ ap (λ (ns : List LayerNotice). bringing ns) told

@@ -1,23 +1,22 @@
-use Rattle.std.proofs.Common.{rules, sym, subst}
-use Rattle.x25_circuit.specs.declared.circuit.Circuit as code
-use Rattle.x25_circuit.specs.code.FitsCircuit.{FitsCircuit}
-use Rattle.x25_circuit.proofs.TakingLemmas.{ground_by}
+use Rattle.std.proofs.Common.{rules, sym, ◌∙◌}
+use Rattle.x25_circuit.specs.Circuit.{outgoing}
+use Rattle.x25_circuit.proofs.TalkLemmas.{with_transfer, same_transfer, peer_fits}
 use Rattle.x25_circuit.proofs.circuit.Circuit.hear_status.Goals as goal
 
-pub returns-then-not-take_status : goal.returns-then-not-take_status
-returns-then-not-take_status c = record {
-  next = λ d x fits.
-      rw (ground_by _ _ _ (c.take_status.ensures.valid d x fits) c.if-not-take_status.true) (c.reset_for.ensures.next d x (subst (λ (v : code.Circuit). FitsCircuit d v x) (sym (c.take_status.ensures.unchanged c.if-not-take_status.true)) fits));
-  says = λ d x fits.
-      rw (ground_by _ _ _ (c.take_status.ensures.valid d x fits) c.if-not-take_status.true) (c.reset_for.ensures.says d x (subst (λ (v : code.Circuit). FitsCircuit d v x) (sym (c.take_status.ensures.unchanged c.if-not-take_status.true)) fits));
+pub returns-then-not-ack : goal.returns-then-not-ack
+returns-then-not-ack c = record {
+  next = λ d x fits. rw (sym (c.ack.ensures.valid (outgoing x).size x.talk fits.talk) ∙ c.if-not-ack.true) (c.reset_for.ensures.next d x (same_transfer d c.args.self.now x _ fits (c.ack.ensures.unchanged c.if-not-ack.true)));
+  says = λ d x fits. rw (sym (c.ack.ensures.valid (outgoing x).size x.talk fits.talk) ∙ c.if-not-ack.true) (c.reset_for.ensures.says d x (same_transfer d c.args.self.now x _ fits (c.ack.ensures.unchanged c.if-not-ack.true)));
   range = search rules;
   room = search rules;
 }
 
 pub returns : goal.returns
 returns c = record {
-  next = λ d x fits. rw (ground_by _ _ _ (c.take_status.ensures.valid d x fits) c.if-not-take_status.false) (c.take_status.ensures.next d x fits c.if-not-take_status.false);
-  says = λ d x fits. rw (ground_by _ _ _ (c.take_status.ensures.valid d x fits) c.if-not-take_status.false) c.nothing.ensures.says;
+  next = λ d x fits.
+      let acked = c.ack.ensures.fits (outgoing x).size x.talk fits.talk c.if-not-ack.false in
+      rw (sym (c.ack.ensures.valid (outgoing x).size x.talk fits.talk) ∙ c.if-not-ack.false) (with_transfer d c.args.self.now x _ _ fits (peer_fits (outgoing x).size c.ack.new.self _ c.args.is_ready acked));
+  says = λ d x fits. rw (sym (c.ack.ensures.valid (outgoing x).size x.talk fits.talk) ∙ c.if-not-ack.false) c.nothing.ensures.says;
   range = search rules;
   room = search rules;
 }

@@ -1,18 +1,26 @@
-use Rattle.std.proofs.Common.{sym, subst, ◌∙◌}
-use Rattle.x25_circuit.specs.declared.circuit.Circuit as code
-use Rattle.x25_circuit.specs.code.FitsCircuit.{FitsCircuit}
+use Rattle.std.proofs.Common.{ℕ, sym, ap, ◌∙◌, Some}
+use Rattle.std.proofs.lemmas.List.{length_push}
+use Rattle.x25_circuit.specs.Message.{piece_of}
+use Rattle.x25_circuit.specs.Notice.{deliveries}
+use Rattle.x25_circuit.specs.Hearing.{status}
+use Rattle.x25_circuit.specs.Circuit.{outgoing}
+use Rattle.x25_circuit.proofs.TalkLemmas.{with_transfer, same_transfer}
 use Rattle.x25_circuit.proofs.circuit.Circuit.join.Goals as goal
 
-pub returns-in-Some-clause-next : goal.returns-in-Some-clause-next
-returns-in-Some-clause-next c = λ d x fits. rw (c.in-Some.ensures.valid d x fits) (c.in-Some.ensures.next d x fits)
+pub returns-then-not-ack-clause-next : goal.returns-then-not-ack-clause-next
+returns-then-not-ack-clause-next c = λ d x fits. rw (sym (c.ack.ensures.valid (outgoing x).size x.talk fits.talk) ∙ c.if-not-ack.true) (c.reset_for.ensures.next d x (same_transfer d c.args.self.now x _ fits (c.ack.ensures.unchanged c.if-not-ack.true)))
 
-pub returns-in-Some-clause-says : goal.returns-in-Some-clause-says
-returns-in-Some-clause-says c = λ d x fits.
-    let says = c.in-Some.ensures.says d x fits in
-    rw (c.in-Some.ensures.valid d x fits) (record { owed = says.owed; notices = c.delivered.ensures ∙ says.notices })
+pub returns-clause-next : goal.returns-clause-next
+returns-clause-next c = λ d x fits.
+    let acked = c.ack.ensures.fits (outgoing x).size x.talk fits.talk c.if-not-ack.false in
+    rw (sym (c.ack.ensures.valid (outgoing x).size x.talk fits.talk) ∙ c.if-not-ack.false) (with_transfer d c.args.self.now x _ _ fits (c.take-message.ensures.fits (outgoing x).size _ acked))
 
-pub returns-in-None-clause-next : goal.returns-in-None-clause-next
-returns-in-None-clause-next c = λ d x fits. rw (c.in-None.ensures.invalid d x fits) (c.reset_for.ensures.next d x (subst (λ (v : code.Circuit). FitsCircuit d v x) (sym c.in-None.ensures.unchanged) fits))
-
-pub returns-in-None-clause-says : goal.returns-in-None-clause-says
-returns-in-None-clause-says c = λ d x fits. rw (c.in-None.ensures.invalid d x fits) (c.reset_for.ensures.says d x (subst (λ (v : code.Circuit). FitsCircuit d v x) (sym c.in-None.ensures.unchanged) fits))
+pub returns-clause-says : goal.returns-clause-says
+returns-clause-says c = λ d x fits.
+    let acked = c.ack.ensures.fits (outgoing x).size x.talk fits.talk c.if-not-ack.false in
+    let now = with_transfer d c.args.self.now x _ _ fits (c.take-message.ensures.fits (outgoing x).size _ acked) in
+    let piece = piece_of c.args.q c.args.m c.args.user.now in
+    rw (sym (c.ack.ensures.valid (outgoing x).size x.talk fits.talk) ∙ c.if-not-ack.false) (record {
+      owed = ap Some (c.status-owed.ensures.value d _ now ∙ ap (λ (n : ℕ). status x.talk.own_ready n) (length_push x.talk.taken piece));
+      notices = c.delivered.ensures ∙ ap deliveries (c.take-message.ensures.message (outgoing x).size _ acked);
+    })

@@ -1,48 +1,62 @@
-use Rattle.std.proofs.Common.{ℕ, ◌-◌, ◌≤◌, min, refl, sym, ap, subst, arith}
+use Rattle.std.proofs.Common.{◌≡◌, ◌∙◌, ℕ, ◌-◌, ◌≤◌, min, refl, sym, ap, subst, arith}
 use Rattle.x25_circuit.specs.declared.circuit.Circuit as circuit_code
-use Rattle.x25_circuit.specs.code.FitsCircuit.{FitsCircuit, room_of}
+use Rattle.std.proofs.lemmas.Bool.{eqb-true}
+use Rattle.x25_circuit.specs.code.FitsCircuit.{FitsCircuit, room_of, waits_of}
 use Rattle.x25_layer.specs.Receiving.{plain_read, circuit_hears}
+use Rattle.x25_layer.specs.Room.{HasCountsLeft}
 use Rattle.x25_layer.proofs.CallLemmas.{found_at, layer_put, layer_kept}
-use Rattle.x25_layer.proofs.FitLemmas.{all_changed, if_none}
+use Rattle.x25_layer.proofs.FitLemmas.{all_changed, both, if_none, not_true}
 use Rattle.x25_layer.proofs.HearLemmas.{read_there}
 use Rattle.x25_layer.proofs.layer.Layer.hear_channel.Goals as goal
 
-pub hear_circuit-requires-clause-left : goal.hear_circuit-requires-clause-left
-hear_circuit-requires-clause-left c =
-    c.requires.left (c.from-place.result - 1) c.index_mut.result.now (read_there c.args.self.now.circuits.items c.args.channel c.from-place.result c.index_mut.result.now c.requires.channel c.from-place.ensures c.index_mut.ensures.value)
+pub hear_circuit-answer-requires-clause-left : goal.hear_circuit-answer-requires-clause-left
+hear_circuit-answer-requires-clause-left c =
+    c.requires.left (c.from-place.result - 1) c.index_mut-circuit.result.now (read_there c.args.self.now.circuits.items c.args.channel c.from-place.result c.index_mut-circuit.result.now c.requires.channel c.from-place.ensures c.index_mut-circuit.ensures.value)
 
 pub returns-in-Ok-clause-layer : goal.returns-in-Ok-clause-layer
 returns-in-Ok-clause-layer c = λ s l fits.
-    let at = found_at s c.args.self.now l c.args.channel c.from-place.result c.index_mut.result.now fits c.requires.channel c.from-place.ensures c.index_mut.ensures.value in
-    layer_put s c.args.self.now _ l c.args.channel (c.from-place.result - 1) c.hear_circuit.new.circuit (circuit_hears s.circuit (l.circuits c.args.channel) (plain_read c.args.read.now)).next fits at.0 (record { role = refl; long_data = refl; restarting = refl; restarts = refl }) refl
+    let at = found_at s c.args.self.now l c.args.channel c.from-place.result c.index_mut-circuit.result.now fits c.requires.channel c.from-place.ensures c.index_mut-circuit.ensures.value in
+    layer_put s c.args.self.now _ l c.args.channel (c.from-place.result - 1) c.hear_circuit-answer.new.circuit (circuit_hears s.circuit (l.circuits c.args.channel) (plain_read c.args.read.now)).next fits at.0 (record { role = refl; long_data = refl; restarting = refl; restarts = refl }) refl
     (c.in-Ok.ensures.next s.circuit (l.circuits c.args.channel) at.1)
 
 pub returns-in-Ok-clause-says : goal.returns-in-Ok-clause-says
 returns-in-Ok-clause-says c = λ s l fits.
-    let at = found_at s c.args.self.now l c.args.channel c.from-place.result c.index_mut.result.now fits c.requires.channel c.from-place.ensures c.index_mut.ensures.value in
+    let at = found_at s c.args.self.now l c.args.channel c.from-place.result c.index_mut-circuit.result.now fits c.requires.channel c.from-place.ensures c.index_mut-circuit.ensures.value in
     c.in-Ok.ensures.says s.circuit (l.circuits c.args.channel) at.1
 
 pub returns-in-Err-clause-layer_stays : goal.returns-in-Err-clause-layer_stays
 returns-in-Err-clause-layer_stays c = λ s l fits.
-    let at = found_at s c.args.self.now l c.args.channel c.from-place.result c.index_mut.result.now fits c.requires.channel c.from-place.ensures c.index_mut.ensures.value in
-    layer_kept s c.args.self.now _ l c.args.channel (c.from-place.result - 1) c.hear_circuit.new.circuit fits at.0 (record { role = refl; long_data = refl; restarting = refl; restarts = refl }) refl
+    let at = found_at s c.args.self.now l c.args.channel c.from-place.result c.index_mut-circuit.result.now fits c.requires.channel c.from-place.ensures c.index_mut-circuit.ensures.value in
+    layer_kept s c.args.self.now _ l c.args.channel (c.from-place.result - 1) c.hear_circuit-answer.new.circuit fits at.0 (record { role = refl; long_data = refl; restarting = refl; restarts = refl }) refl
     (subst (λ (v : circuit_code.Circuit). FitsCircuit s.circuit v (l.circuits c.args.channel)) (sym c.in-Err.ensures.unchanged) at.1)
 
 pub returns-in-Err-clause-enough : goal.returns-in-Err-clause-enough
 returns-in-Err-clause-enough c = λ len short room.
-    let here = room (c.from-place.result - 1) c.index_mut.result.now (read_there c.args.self.now.circuits.items c.args.channel c.from-place.result c.index_mut.result.now c.requires.channel c.from-place.ensures c.index_mut.ensures.value) in
+    let here = room (c.from-place.result - 1) c.index_mut-circuit.result.now (read_there c.args.self.now.circuits.items c.args.channel c.from-place.result c.index_mut-circuit.result.now c.requires.channel c.from-place.ensures c.index_mut-circuit.ensures.value) in
     let missing = c.in-Err.ensures.missing in
     absurd (omega (arith, here, short, missing))
 
 pub returns-in-Ok-clause-room : goal.returns-in-Ok-clause-room
 returns-in-Ok-clause-room c = λ len have.
-    let here = have (c.from-place.result - 1) c.index_mut.result.now (read_there c.args.self.now.circuits.items c.args.channel c.from-place.result c.index_mut.result.now c.requires.channel c.from-place.ensures c.index_mut.ensures.value) in
-    if_none c.in-Ok.reply.packet (λ (more : room_of c.index_mut.result.now ≤ room_of c.hear_circuit.new.circuit).
-    all_changed (λ (k : ℕ) (v : circuit_code.Circuit). min len 4096 ≤ room_of v) c.args.self.now.circuits.items (c.from-place.result - 1) c.hear_circuit.new.circuit have (omega (arith, here, more)))
+    let here = have (c.from-place.result - 1) c.index_mut-circuit.result.now (read_there c.args.self.now.circuits.items c.args.channel c.from-place.result c.index_mut-circuit.result.now c.requires.channel c.from-place.ensures c.index_mut-circuit.ensures.value) in
+    if_none c.in-Ok.reply.packet (λ (more : room_of c.index_mut-circuit.result.now ≤ room_of c.hear_circuit-answer.new.circuit).
+    all_changed (λ (k : ℕ) (v : circuit_code.Circuit). min len 4096 ≤ room_of v) c.args.self.now.circuits.items (c.from-place.result - 1) c.hear_circuit-answer.new.circuit have (omega (arith, here, more)))
     c.in-Ok.ensures.room
 
 pub returns-in-Err-clause-room_stays : goal.returns-in-Err-clause-room_stays
 returns-in-Err-clause-room_stays c = λ len have.
-    let here = have (c.from-place.result - 1) c.index_mut.result.now (read_there c.args.self.now.circuits.items c.args.channel c.from-place.result c.index_mut.result.now c.requires.channel c.from-place.ensures c.index_mut.ensures.value) in
+    let here = have (c.from-place.result - 1) c.index_mut-circuit.result.now (read_there c.args.self.now.circuits.items c.args.channel c.from-place.result c.index_mut-circuit.result.now c.requires.channel c.from-place.ensures c.index_mut-circuit.ensures.value) in
     let same = ap room_of c.in-Err.ensures.unchanged in
-    all_changed (λ (k : ℕ) (v : circuit_code.Circuit). min len 4096 ≤ room_of v) c.args.self.now.circuits.items (c.from-place.result - 1) c.hear_circuit.new.circuit have (omega (arith, here, same))
+    all_changed (λ (k : ℕ) (v : circuit_code.Circuit). min len 4096 ≤ room_of v) c.args.self.now.circuits.items (c.from-place.result - 1) c.hear_circuit-answer.new.circuit have (omega (arith, here, same))
+
+-- ---- what is known of all circuits
+
+pub invariant_of-self-clause-still : goal.invariant_of-self-clause-still
+invariant_of-self-clause-still c = λ is.
+    let known = both _ _ is in
+    all_changed (λ (k : ℕ) (v : circuit_code.Circuit). waits_of v ≡ 0) c.args.self.now.circuits.items (c.from-place.result - 1) c.hear_circuit-answer.new.circuit (c.args.self.now.still known.0) (sym c.waits-waits.ensures.held ∙ eqb-true _ _ known.1)
+
+pub invariant_of-self-clause-circuits_left : goal.invariant_of-self-clause-circuits_left
+invariant_of-self-clause-circuits_left c = λ is.
+    let known = both _ _ is in
+    all_changed (λ (k : ℕ) (v : circuit_code.Circuit). HasCountsLeft v) c.args.self.now.circuits.items (c.from-place.result - 1) c.hear_circuit-answer.new.circuit (c.args.self.now.circuits_left known.0) (c.is_full-is_full.ensures.left (not_true _ known.1))
