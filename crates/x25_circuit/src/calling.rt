@@ -17,10 +17,10 @@ use crate::error::CircuitError;
 use crate::params::{FlowControl, Params};
 use crate::proposal::Proposal;
 use crate::state::State;
-use x25_packet::{Digits, Packet, longest_user};
+use x25_packet::{Digits, FacilityField, Packet, longest_user};
 
 // The digits of an address, where the text is one.
-fn address<'a>(text: &'a str) -> Option<Digits<'a>>
+fn address(text: &str) -> Option<Digits>
     ensures some { IfSome result (λ digits. is_address_text text.now ≡ true) }
     ensures digits { IfSome result (λ digits. digits ≡ digits_of_text text.now) }
     ensures address { IfSome result IsAddress }
@@ -31,20 +31,20 @@ fn address<'a>(text: &'a str) -> Option<Digits<'a>>
 
 /// What a call says that may be made.
 #[derive(Drop)]
-pub(crate) struct CallFields<'a> {
-    called: Digits<'a>,
-    calling: Digits<'a>,
+pub(crate) struct CallFields {
+    called: Digits,
+    calling: Digits,
     flow: FlowControl,
 }
 
 // What a call of these says, where it may be made.
-fn fields_of<'a>(
+fn fields_of(
     long_data: bool,
-    called: &'a str,
-    calling: &'a str,
+    called: &str,
+    calling: &str,
     user: &[u8],
     params: Params,
-) -> Option<CallFields<'a>>
+) -> Option<CallFields>
     ensures may_call { IfSome result (λ fields. may_call long_data called.now calling.now user.now params ≡ true) }
     ensures called { IfSome result (λ fields. fields.called ≡ digits_of_text called.now) }
     ensures calling { IfSome result (λ fields. fields.calling ≡ digits_of_text calling.now) }
@@ -76,10 +76,10 @@ impl Circuit {
     /// these.
     pub(crate) fn call<'a>(
         &mut self,
-        called: &'a str,
-        calling: &'a str,
+        called: &str,
+        calling: &str,
         user: &'a [u8],
-        proposal: &'a Proposal,
+        proposal: &Proposal,
     ) -> Result<Packet<'a>, CircuitError>
         ensures { SendsBy self.old self.new result
             (λ c x. outcome c x (Calls called.now calling.now user.now proposal.now)) }
@@ -96,13 +96,13 @@ impl Circuit {
     }
 
     // What a call says, where it may be made now.
-    pub(crate) fn call_fields<'a>(
+    pub(crate) fn call_fields(
         &self,
-        called: &'a str,
-        calling: &'a str,
+        called: &str,
+        calling: &str,
         user: &[u8],
         params: Params,
-    ) -> Result<CallFields<'a>, CircuitError>
+    ) -> Result<CallFields, CircuitError>
         ensures free { IfOk result (λ fields. self.now.state ≡ State.Free) }
         ensures may_call { IfOk result (λ fields. may_call self.now.long_data called.now calling.now user.now params
             ≡ true) }
@@ -136,7 +136,7 @@ impl Circuit {
     /// 30 WrongState where no call came, then 34 BadParameter where a value is out of this range.
     pub(crate) fn accept<'a>(
         &mut self,
-        answer: Option<&'a Proposal>,
+        answer: Option<&Proposal>,
     ) -> Result<Packet<'a>, CircuitError>
         ensures { SendsBy self.old self.new result (λ c x. outcome c x (Accepts (plain_answer answer.entry))) }
     {
@@ -150,7 +150,7 @@ impl Circuit {
             }),
             None => Ok(Packet::Accept {
                 channel: 1,
-                facilities: &[],
+                facilities: FacilityField::none(),
             }),
         }
     }

@@ -189,8 +189,8 @@ impl Circuit {
                 facilities,
                 user,
                 ..
-            } => Ok(self.hear_call(called, calling, facilities, user)),
-            Packet::Accept { facilities, .. } => Ok(self.hear_accept(facilities)),
+            } => Ok(self.hear_call(called, calling, facilities.as_slice(), user)),
+            Packet::Accept { facilities, .. } => Ok(self.hear_accept(facilities.as_slice())),
             Packet::Clear {
                 cause,
                 diagnostic,

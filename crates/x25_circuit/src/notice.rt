@@ -6,14 +6,13 @@ use crate::owed::Owed;
 use crate::params::Params;
 use x25_packet::Digits;
 
-/// What a packet brought the user. Addresses and user data are borrowed from the packet; a message is handed over
-/// whole.
+/// What a packet brought the user. User data is borrowed from the packet; a message is handed over whole.
 #[derive(Debug, Drop)]
 pub enum Notice<'a> {
     /// The other end calls.
     Incoming {
-        called: Digits<'a>,
-        calling: Digits<'a>,
+        called: Digits,
+        calling: Digits,
         user: &'a [u8],
         /// The packet sizes and windows that it proposes.
         params: Params,

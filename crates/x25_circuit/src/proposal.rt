@@ -1,35 +1,25 @@
 //! What a facility field says of packet sizes and windows. ITU-T X.25 (10/96), sections 6.12 and 7.2.2.1.
 ghost use Rattle.std.specs.Prelude.{◌≡◌};
-ghost use Rattle.x25_circuit.specs.Params.{field_for};
+ghost use Rattle.x25_circuit.specs.Params.{field_for, said_of};
 
 use crate::params::Params;
 use std::marker::Model;
+use x25_packet::{Directions, Facilities, FacilityField};
 
-const PACKET_SIZE: u8 = 0x42;
-
-const WINDOW_SIZE: u8 = 0x43;
-
-/// Packet sizes and windows that a CALL proposes or an ACCEPT answers, with the octets that say them, which a packet
-/// borrows.
+/// Packet sizes and windows that a CALL proposes or an ACCEPT answers.
 #[derive(Debug, Drop)]
 pub struct Proposal {
     params: Params,
     /// Whether it says those too that the other end takes without it.
     says_all: bool,
-    /// The packet sizes, three octets, and the windows, three octets.
-    field: [u8; 6],
 }
 
 impl Model for Proposal {
-    ghost use Rattle.std.specs.Prelude.{◌≡◌, [], ◌∷◌};
     ghost use Rattle.x25_circuit.specs.Params.{Proposal as Said};
 
     ghost Value = { Said };
 
     ghost view = { λ p. record { params = p.params; says_all = p.says_all } };
-
-    ghost invariant = { λ p. p.field
-        ≡ 66 ∷ p.params.size_called ∷ p.params.size_calling ∷ 67 ∷ p.params.win_called ∷ p.params.win_calling ∷ [] };
 }
 
 impl Proposal {
@@ -39,18 +29,7 @@ impl Proposal {
         ensures params { result.params ≡ params }
         ensures says_all { result.says_all ≡ says_all }
     {
-        Proposal {
-            params,
-            says_all,
-            field: [
-                PACKET_SIZE,
-                params.size_called,
-                params.size_calling,
-                WINDOW_SIZE,
-                params.win_called,
-                params.win_calling,
-            ],
-        }
+        Proposal { params, says_all }
     }
 
     /// The values that it says.
@@ -68,16 +47,23 @@ impl Proposal {
     }
 
     /// The facility field that says them to an end that knows these.
-    pub(crate) fn field_for(&self, known: Params) -> &[u8]
-        ensures { result.now ≡ field_for known self.now }
+    pub(crate) fn field_for(&self, known: Params) -> FacilityField
+        ensures { result ≡ field_for known self.now }
     {
-        let sizes = self.says_all || self.params.sizes() != known.sizes();
-        let windows = self.says_all || self.params.windows() != known.windows();
-        match (sizes, windows) {
-            (true, true) => &self.field,
-            (true, false) => &self.field[..3],
-            (false, true) => &self.field[3..],
-            (false, false) => &[],
-        }
+        FacilityField::of(Facilities {
+            packet_size: said(self.says_all, known.sizes(), self.params.sizes()),
+            window_size: said(self.says_all, known.windows(), self.params.windows()),
+        })
+    }
+}
+
+// What is said of two values, one for each direction, to an end that knows these.
+fn said(says_all: bool, known: Directions, values: Directions) -> Option<Directions>
+    ensures { result ≡ said_of says_all known values }
+{
+    if says_all || values != known {
+        Some(values)
+    } else {
+        None
     }
 }

@@ -16,8 +16,8 @@ use x25_packet::Digits;
 impl Circuit {
     pub(crate) fn hear_call<'a>(
         &mut self,
-        called: &Digits<'a>,
-        calling: &Digits<'a>,
+        called: &Digits,
+        calling: &Digits,
         facilities: &[u8],
         user: &'a [u8],
     ) -> Reply<'a>
@@ -42,8 +42,8 @@ impl Circuit {
     // A call of each end: the DTE waits for the DCE's answer to what it proposed, and the DCE gives its own call up.
     fn collide<'a>(
         &mut self,
-        called: &Digits<'a>,
-        calling: &Digits<'a>,
+        called: &Digits,
+        calling: &Digits,
         user: &'a [u8],
         flow: FlowControl,
     ) -> Reply<'a>
@@ -98,12 +98,7 @@ impl Circuit {
     }
 }
 
-fn incoming<'a>(
-    called: &Digits<'a>,
-    calling: &Digits<'a>,
-    user: &'a [u8],
-    params: Params,
-) -> Notice<'a>
+fn incoming<'a>(called: &Digits, calling: &Digits, user: &'a [u8], params: Params) -> Notice<'a>
     ensures { plain_notice result
         ≡ incoming (record { called = called.now; calling = calling.now; user = user.now; params = params }) }
 {

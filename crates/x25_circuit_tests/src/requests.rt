@@ -3,7 +3,7 @@
 use crate::calls::{ask, circuit, hear};
 use std::alloc::Global;
 use x25_circuit::{Circuit, CircuitError, Params, Proposal, Request, Role};
-use x25_packet::Packet;
+use x25_packet::{FacilityField, Packet};
 
 /// What is proposed: one that may be, and one that may not.
 #[derive(Drop)]
@@ -76,10 +76,12 @@ static REFUSALS: [[u8; 3]; 12] = [
 ];
 
 /// The other end's answer to a call.
-pub const ACCEPT: Packet<'static> = Packet::Accept {
-    channel: 1,
-    facilities: &[],
-};
+pub fn acceptance() -> Packet<'static> {
+    Packet::Accept {
+        channel: 1,
+        facilities: FacilityField::none(),
+    }
+}
 
 // Brings a circuit in p1 to the place of a number in a row.
 fn goes_to(circuit: &mut Circuit, place: usize) -> Result<(), CircuitError> {
@@ -87,7 +89,7 @@ fn goes_to(circuit: &mut Circuit, place: usize) -> Result<(), CircuitError> {
         ask(circuit, Proposals::new().request(0))?;
     }
     if place > 1 {
-        hear(circuit, &ACCEPT)?;
+        hear(circuit, &acceptance())?;
     }
     Ok(())
 }

@@ -1,7 +1,7 @@
 //! What a circuit answers, and what it says of itself then; `tests/golden` has the packets of whole calls.
 
 use crate::calls::{ask, circuit, hear, hear_too_few};
-use crate::requests::{ACCEPT, Proposals};
+use crate::requests::{Proposals, acceptance};
 use std::alloc::Global;
 use x25_circuit::{Circuit, CircuitError, Notice, Owed, Params, Reply, Role};
 use x25_packet::{Packet, Seq};
@@ -188,10 +188,7 @@ fn asked(circuit: &mut Circuit, index: usize) -> Answer {
 fn replied(reply: &Reply) -> Answer {
     let (number, message) = match &reply.notice {
         Some(Notice::Fault { diagnostic }) => (*diagnostic, None),
-        Some(Notice::Delivered(message)) => (
-            0,
-            Some((message.q, message.user.as_slice().len())),
-        ),
+        Some(Notice::Delivered(message)) => (0, Some((message.q, message.user.as_slice().len()))),
         _ => (0, None),
     };
     (number, message, shape_of(&reply.packet))
@@ -239,7 +236,7 @@ const CLEAR: Packet<'static> = Packet::Clear {
 fn happens(circuit: &mut Circuit, alloc: Global, act: Act) -> Result<Answer, CircuitError> {
     match act {
         Act::Ask(index) => Ok(asked(circuit, index)),
-        Act::CallAccepted => heard(circuit, &ACCEPT),
+        Act::CallAccepted => heard(circuit, &acceptance()),
         Act::Clear => heard(circuit, &CLEAR),
         Act::TooFewOctets => Ok(replied(&hear_too_few(circuit))),
         Act::Data(ps, pr, m, q, count) => heard_data(circuit, alloc, (ps, pr), (m, q), count),

@@ -42,17 +42,17 @@ accept_short [] f = omega arith
 accept_short (octet ∷ facilities) f = let g = field_short (octet ∷ facilities) f in omega (arith, g)
 
 -- what follows the third octet of a CALL
-pub call_fits : (p : Packet) (channel : ℕ) (called calling : List ℕ) (facilities user : Bor (List ℕ)) → p ≡ code.Call channel called calling facilities user → IsInRange 128 (plain p)
+pub call_fits : (p : Packet) (channel : ℕ) (called calling : List ℕ) (facilities : List ℕ) (user : Bor (List ℕ)) → p ≡ code.Call channel called calling facilities user → IsInRange 128 (plain p)
     → (length (body_of (plain p)) ≤ 23 + length user.now) × (length user.now ≤ 128)
 call_fits p channel called calling facilities user e is =
     subst (λ (q : Packet). IsInRange 128 (plain q) → (length (body_of (plain q)) ≤ 23 + length user.now) × (length user.now ≤ 128)) (sym e)
-    (λ range. (call_short called calling facilities.now user.now range.1 range.2 range.3, range.4)) is
+    (λ range. (call_short called calling facilities user.now range.1 range.2 range.3, range.4)) is
 
 -- what follows the third octet of a packet other than DATA and CALL
 pub other_short : (p : Packet) → ((channel : ℕ) (q m : Bool) (ps pr : Seq) (user : Bor (List ℕ)) → p ≡ code.Data channel q m ps pr user → ⊥)
-    → ((channel : ℕ) (called calling : List ℕ) (facilities user : Bor (List ℕ)) → p ≡ code.Call channel called calling facilities user → ⊥) → IsInRange 128 (plain p) → length (body_of (plain p)) ≤ 32
+    → ((channel : ℕ) (called calling : List ℕ) (facilities : List ℕ) (user : Bor (List ℕ)) → p ≡ code.Call channel called calling facilities user → ⊥) → IsInRange 128 (plain p) → length (body_of (plain p)) ≤ 32
 other_short (code.Call channel called calling facilities user) other not_call is = absurd (not_call channel called calling facilities user refl)
-other_short (code.Accept channel facilities) other not_call is = accept_short facilities.now is.1
+other_short (code.Accept channel facilities) other not_call is = accept_short facilities is.1
 other_short (code.Clear channel cause diagnostic) other not_call is = omega arith
 other_short (code.ClearConf channel) other not_call is = omega arith
 other_short (code.Data channel q m ps pr user) other not_call is = absurd (other channel q m ps pr user refl)

@@ -1,6 +1,6 @@
 //! Octets that the link handed up. ITU-T X.25 (10/96), sections 3.3 and 4, and Annex C.
 ghost use Rattle.std.specs.Prelude.{◌≡◌, ℕ, ◌+◌, ◌<◌, ◌≤◌, [], length, max, min, true, IfErr, IfOk, IfNone};
-ghost use Rattle.std.specs.Prelude.{IsOk, is_some, OnOk, OnErr};
+ghost use Rattle.std.specs.Prelude.{IsOk, OnOk, OnErr};
 ghost use Rattle.x25_packet.specs.Spelling.{longest_user};
 ghost use Rattle.x25_wide.specs.Taking.{read_in};
 ghost use Rattle.x25_circuit.specs.Circuit.{Settings};
@@ -26,7 +26,7 @@ use crate::room::is_full;
 use x25_circuit::{Circuit, CircuitError, Notice, Reply};
 use x25_link::OrderedLink;
 use x25_packet::{Packet, PacketError, channel, longest_user};
-use x25_wide::{NarrowField, read, taking_keeps_octets};
+use x25_wide::{read, taking_keeps_octets};
 
 // The circuit takes a packet, or octets that spell none, by their error.
 fn hear_circuit<'a>(
@@ -145,19 +145,19 @@ impl Layer {
         Ok(told_on(channel, collided, notice))
     }
 
-    // Octets that the link handed up, whatever they are. The packet that is owed for them is put. Where a field is lent
-    // they are read in all forms.
+    // Octets that the link handed up, whatever they are. The packet that is owed for them is put. With `wide` they
+    // are read in all forms.
     fn hear<'a, L: OrderedLink>(
         &mut self,
         link: &mut L,
+        wide: bool,
         octets: &'a [u8],
-        field: Option<&'a mut NarrowField>,
     ) -> Result<Report<'a>, LayerError>
         requires left { IsNotFull self.old }
         requires place { TakesPacket L.OrderedLink self.old.memory link.old }
         ensures hears { IfOk result (λ told. Hears L.OrderedLink self.old link.old self.new link.new told
             (λ c l. answer_to c l octets.now
-            (read_in (is_some field.entry) (longest_user self.old.long_data) octets.now))) }
+            (read_in wide (longest_user self.old.long_data) octets.now))) }
         ensures err { IfErr result (λ e. e ≡ LayerError.NoMemory) }
         ensures stays { OnErr result (IsLeft self.old link.old self.new link.new) }
         ensures enough { (len : ℕ) → length octets.now ≤ len + 3 → HaveRoom len self.old.circuits.items → IsOk result }
@@ -166,7 +166,7 @@ impl Layer {
             return Ok(Report::Nothing);
         };
         taking_keeps_octets();
-        let read = read(longest_user(self.long_data), octets, field);
+        let read = read(wide, longest_user(self.long_data), octets);
         match &read {
             Ok(Packet::Restart { cause, diagnostic }) => Ok(self.hear_restart(
                 link,
@@ -182,8 +182,8 @@ impl Layer {
     /// what is reported to the users, `Report::Nothing` exactly where that is nothing; a stretch has its name after the
     /// call.
     ///
-    /// Without `field` they are read in the form that a station writes alone. With it they are read in any form that
-    /// X.25 has, and taken for a packet of that form (`take` of `x25_wide`), whose facilities are put into the field.
+    /// Without `wide` they are read in the form that a station writes alone. With it they are read in any form that
+    /// X.25 has, and taken for a packet of that form (`take` of `x25_wide`).
     ///
     /// No count is full, the link is up, fewer than 256 packets wait in it, and it takes packets of 4,099 octets.
     /// Octets that spell no packet go to the channel that the first two name. They are dropped where they name no
@@ -195,8 +195,8 @@ impl Layer {
     pub fn packet<'a, L: OrderedLink>(
         &mut self,
         link: &mut L,
+        wide: bool,
         octets: &'a [u8],
-        field: Option<&'a mut NarrowField>,
     ) -> Result<Report<'a>, LayerError>
         requires left { IsNotFull self.old }
         requires up { L.up link.old ≡ true }
@@ -204,12 +204,12 @@ impl Layer {
         requires longest { 4099 ≤ L.longest link.old }
         ensures layer { (c : LayerSettings) (l : State) (x : L.State) → FitsLayer c self.old l → L.fits link.old x
             → OnOk result (FitsLayer c self.new
-            (hears (view_of L.up_in L.waits_in L.after_put x) c (is_some field.entry) l octets.now).step.layer) }
+            (hears (view_of L.up_in L.waits_in L.after_put x) c wide l octets.now).step.layer) }
         ensures link { (c : LayerSettings) (l : State) (x : L.State) → FitsLayer c self.old l → L.fits link.old x
             → OnOk result (L.fits link.new (after_all L.after_put x
-            (hears (view_of L.up_in L.waits_in L.after_put x) c (is_some field.entry) l octets.now).step.put)) }
+            (hears (view_of L.up_in L.waits_in L.after_put x) c wide l octets.now).step.put)) }
         ensures told { (c : LayerSettings) (l : State) (view : LinkView) → FitsLayer c self.old l
-            → IfOk result (λ told. plain_report told ≡ (hears view c (is_some field.entry) l octets.now).notices) }
+            → IfOk result (λ told. plain_report told ≡ (hears view c wide l octets.now).notices) }
         ensures nothing { IfOk result (λ told. plain_report told ≡ [] → told ≡ Report.Nothing) }
         ensures longest { L.longest link.new ≡ L.longest link.old }
         ensures err { IfErr result (λ e. e ≡ LayerError.NoMemory) }
@@ -227,7 +227,7 @@ impl Layer {
             → OnErr result (HasRoom len self.new (L.promised link.new)) }
     {
         self.reserve_packets(link, MOST_PUT)?;
-        let told = self.hear(link, octets, field)?;
+        let told = self.hear(link, wide, octets)?;
         self.pull_all(link);
         Ok(told)
     }

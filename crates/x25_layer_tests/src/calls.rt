@@ -4,7 +4,6 @@ use std::alloc::Global;
 use x25_circuit::Request;
 use x25_layer::{Layer, LayerError, Params, Proposal, Report, Role};
 use x25_link::{Link, OrderedLink, PlainLink};
-use x25_wide::NarrowField;
 
 // A value in a place of its own: a body that holds the box lets go of it by one call, and not of each part of the
 // value, and so does one that doesn't know what it is.
@@ -91,15 +90,15 @@ pub fn call<L: OrderedLink>(
     (told, layer.call(link, called, calling, user, &proposal))
 }
 
-/// Octets are handed up, and are read in all forms where a field is lent.
+/// Octets are handed up, and with `wide` are read in all forms.
 pub fn hear<'a>(
     layer: &mut Layer,
     link: &mut PlainLink,
+    wide: bool,
     octets: &'a [u8],
-    field: Option<&'a mut NarrowField>,
 ) -> Result<Report<'a>, LayerError> {
     if link.waiting() == 256 || layer.full() {
         return Err(LayerError::QueueFull);
     }
-    layer.packet(link, octets, field)
+    layer.packet(link, wide, octets)
 }

@@ -6,7 +6,6 @@ use std::alloc::Global;
 use x25_circuit::{Notice, Request};
 use x25_layer::{Layer, LayerError, Params, Report, Role, Stretch};
 use x25_link::{OrderedLink, PlainLink};
-use x25_wide::NarrowField;
 
 /// What happens to a layer, or to its link.
 #[derive(Clone, Copy)]
@@ -367,9 +366,7 @@ fn sends(
 }
 
 fn hears(layer: &mut Layer, link: &mut PlainLink, octets: &[u8], is_wide: bool) -> Answer {
-    let mut field = NarrowField::none();
-    let field = if is_wide { Some(&mut field) } else { None };
-    match hear(layer, link, octets, field) {
+    match hear(layer, link, is_wide, octets) {
         Ok(report) => told(&report),
         Err(error) => (error.number(), None),
     }

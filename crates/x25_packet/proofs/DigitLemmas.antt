@@ -1,14 +1,11 @@
 -- Half octets by their place, and digits packed into octets.
-use Rattle.std.proofs.Common.{ℕ, zero, suc, ◌+◌, ◌-◌, ◌*◌, ◌/◌, ◌%◌, ◌<◌, ◌≤◌, ◌≡◌, ◌≢◌, ◌∙◌, Bool, true, false, List, [], ◌∷◌, ◌++◌, length, get_or, take, drop, refl, ap, sym, arith, nat_eq, length-drop}
+use Rattle.std.proofs.Common.{ℕ, zero, suc, ◌+◌, ◌-◌, ◌*◌, ◌/◌, ◌%◌, ◌<◌, ◌≤◌, ◌≡◌, ◌≢◌, ◌∙◌, Bool, true, false, List, [], ◌∷◌, ◌++◌, length, get_or, take, drop, refl, ap, sym, subst, arith, nat_eq, length-drop}
 use Rattle.std.specs.Prelude.{◌&&◌, nat_le}
 use Rattle.std.specs.List.{list_all}
-use Rattle.std.proofs.lemmas.List.{get_or-drop, get_or-take, length-take-le, length-map, drop_all, drop_more, take-append-drop}
+use Rattle.std.proofs.lemmas.List.{get_or-drop, get_or-take, length-take-le, drop_all, drop_more, take-append-drop, take_more}
 use Rattle.std.proofs.lemmas.List.Folds.{list_all-append}
 use Rattle.std.proofs.lemmas.Bool.{and_parts, leb-true, le-leb, and_from}
 use Rattle.x25_packet.specs.Digits.{halves_of, halves_at, digits_of_text, is_digit, is_pair, is_figure, hold_digits, IsAddress}
-use Rattle.x25_packet.specs.code.DigitsPlace.{digits_in, NamesDigits}
-use Rattle.x25_packet.specs.declared.digits.Place.{Place}
-use Rattle.x25_packet.specs.declared.digits.Place.TheVariants.{Text, Halves}
 
 pub length-halves_of : (octets : List ℕ) → length (halves_of octets) ≡ 2 * length octets
 unfolding halves_of
@@ -44,36 +41,38 @@ list_all-get p [] i h small = absurd (omega arith)
 list_all-get p (x ∷ xs) zero h small = (and_parts _ _ h).0
 list_all-get p (x ∷ xs) (suc i) h small = list_all-get p xs i (and_parts _ _ h).1 (omega arith)
 
--- ---- where digits lie
+-- ---- the first of fifteen places
 
--- how many lie there
-abbrev count_in : Place → ℕ
-count_in (Text text) = length text.now
-count_in (Halves octets start count) = count
+pub length-first : (count : ℕ) (digits : List ℕ) → length digits ≡ 15 → count ≤ 15 → length (take count digits) ≡ count
+length-first count digits long few = length-take-le count digits (omega (arith, long, few))
 
-pub length-digits_in : (p : Place) → NamesDigits p → length (digits_in p) ≡ count_in p
-length-digits_in (Text text) h = rw length-map refl
-length-digits_in (Halves octets start count) h =
-    let room : count ≤ length (drop start (halves_of octets.now)) = rw (length-drop, length-halves_of) (omega arith) in
-    length-take-le count (drop start (halves_of octets.now)) room
+pub first_are_address : (count : ℕ) (digits : List ℕ) → length digits ≡ 15 → count ≤ 15 → list_all is_digit (take count digits) ≡ true → IsAddress (take count digits)
+first_are_address count digits long few all = record {
+  short = let size = length-first count digits long few in omega (arith, size, few);
+  decimal = all;
+}
 
-figures_are_digits : (text : List ℕ) → list_all is_figure text ≡ true → list_all is_digit (digits_of_text text) ≡ true
+pub figures_are_digits : (text : List ℕ) → list_all is_figure text ≡ true → list_all is_digit (digits_of_text text) ≡ true
 figures_are_digits [] h = refl
 figures_are_digits (c ∷ text) h =
     let parts = and_parts (is_figure c) (list_all is_figure text) h in
     let low : c ≤ 57 = leb-true c 57 (and_parts (nat_le 48 c) (nat_le c 57) parts.0).1 in
     and_from (is_digit (c - 48)) (list_all is_digit (digits_of_text text)) (le-leb (c - 48) 9 (omega (arith, low))) (figures_are_digits text parts.1)
 
-pub named_are_digits : (p : Place) → NamesDigits p → list_all is_digit (digits_in p) ≡ true
-named_are_digits (Text text) h = figures_are_digits text.now h.1
-named_are_digits (Halves octets start count) h = h.2
+-- one of the first is a digit
+pub first_small : (count : ℕ) (digits : List ℕ) (i : ℕ) → list_all is_digit (take count digits) ≡ true → i < count → count ≤ length digits → get_or digits i 0 ≤ 9
+first_small count digits i all low few =
+    let size = length-take-le count digits few in
+    let small : get_or (take count digits) i 0 ≤ 9 = leb-true _ _ (list_all-get is_digit (take count digits) i all (omega (arith, size, low))) in
+    subst (λ (n : ℕ). n ≤ 9) (get_or-take count digits i 0 low) small
 
-pub few : (p : Place) → NamesDigits p → length (digits_in p) ≤ 15
-few (Text text) h = let size = length-digits_in (Text text) h in omega (arith, h.0)
-few (Halves octets start count) h = let size = length-digits_in (Halves octets start count) h in omega (arith, h.0)
-
-pub named_are_address : (p : Place) → NamesDigits p → IsAddress (digits_in p)
-named_are_address p h = record { short = few p h; decimal = named_are_digits p h }
+-- one half octet more
+pub halves_more : (octets : List ℕ) (start place half : ℕ) → start + place < 2 * length octets → half ≡ get_or (halves_of octets) (start + place) 0
+    → halves_at octets start place ++ half ∷ [] ≡ halves_at octets start (place + 1)
+halves_more octets start place half there is =
+    let room : place < length (drop start (halves_of octets)) = rw (length-drop, length-halves_of) (omega (arith, there)) in
+    ap (λ n. halves_at octets start place ++ n ∷ []) (is ∙ sym (get_or-drop start (halves_of octets) place 0))
+    ∙ sym (take_more (drop start (halves_of octets)) place 0 room)
 
 pub half_even : (octets : List ℕ) (place : ℕ) → place % 2 ≡ 0 → get_or octets (place / 2) 0 / 16 ≡ get_or (halves_of octets) place 0
 half_even octets place even =
@@ -84,15 +83,6 @@ pub half_odd : (octets : List ℕ) (place : ℕ) → place % 2 ≢ 0 → get_or 
 half_odd octets place odd =
     let at : place ≡ 2 * (place / 2) + 1 = omega arith in
     sym (ap (λ n. get_or (halves_of octets) n 0) at ∙ low_half octets (place / 2))
-
--- the digit at a place
-pub digit_in_halves : (octets : List ℕ) (start count i : ℕ) → i < count → get_or (halves_of octets) (start + i) 0 ≡ get_or (halves_at octets start count) i 0
-digit_in_halves octets start count i h = sym (get_or-take count (drop start (halves_of octets)) i 0 h ∙ get_or-drop start (halves_of octets) i 0)
-
-pub digit_small : (p : Place) (i : ℕ) (digits : List ℕ) → digits_in p ≡ digits → NamesDigits p → i < length digits → get_or digits i 0 ≤ 9
-digit_small p i digits view holds h =
-    let all : list_all is_digit digits ≡ true = ap (list_all is_digit) (sym view) ∙ named_are_digits p holds in
-    leb-true _ _ (list_all-get is_digit digits i all h)
 
 -- ---- whether half octets are digits
 

@@ -22,8 +22,8 @@ pub data PlainPacket : Type 0 where
   restart_conf : PlainPacket
 
 abbrev pub plain : Packet → PlainPacket
-plain (code.Call channel called calling facilities user) = call channel called calling facilities.now user.now
-plain (code.Accept channel facilities) = accept channel facilities.now
+plain (code.Call channel called calling facilities user) = call channel called calling facilities user.now
+plain (code.Accept channel facilities) = accept channel facilities
 plain (code.Clear channel cause diagnostic) = clear channel cause diagnostic
 plain (code.ClearConf channel) = clear_conf channel
 plain (code.Data channel q m ps pr user) = user_data channel q m ps.number pr.number user.now

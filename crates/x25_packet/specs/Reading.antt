@@ -51,9 +51,9 @@ field_after size octets = if nat_le size (length octets)
     then with_field (take size octets) (drop size octets) (facilities_of (take size octets))
     else Err TooShort
 
-abbrev pub GivesField : Result (Bor (List ℕ) × Bor (List ℕ)) PacketError
+abbrev pub GivesField : Result (List ℕ × Bor (List ℕ)) PacketError
     → Result (List ℕ × List ℕ) PacketError → Type 0
-GivesField (Ok p) read = read ≡ Ok (p.0.now, p.1.now)
+GivesField (Ok p) read = read ≡ Ok (p.0, p.1.now)
 GivesField (Err e) read = read ≡ Err e
 
 -- the user data of a CALL, behind its facility field

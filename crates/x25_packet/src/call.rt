@@ -5,11 +5,11 @@ ghost use Rattle.x25_packet.specs.Reading.{field_after};
 
 use crate::digits::{Digits, hold_digits};
 use crate::error::PacketError;
-use crate::facilities::Facilities;
+use crate::facilities::{Facilities, FacilityField};
 use crate::packet::Packet;
 
 /// The facility field of `size` octets at the front, and what follows it.
-fn facility_field<'a>(size: u8, octets: &'a [u8]) -> Result<(&'a [u8], &'a [u8]), PacketError>
+fn facility_field<'a>(size: u8, octets: &'a [u8]) -> Result<(FacilityField, &'a [u8]), PacketError>
     ensures { GivesField result (field_after size octets.now) }
 {
     let size = usize::from(size);
@@ -17,8 +17,8 @@ fn facility_field<'a>(size: u8, octets: &'a [u8]) -> Result<(&'a [u8], &'a [u8])
         return Err(PacketError::TooShort);
     }
     let (field, rest) = octets.split_at(size);
-    Facilities::of(field)?;
-    Ok((field, rest))
+    let facilities = Facilities::of(field)?;
+    Ok((FacilityField::of(facilities), rest))
 }
 
 /// An ACCEPT: nothing, or address lengths of 0 and a facility field. Else the ground that is found first from its front
@@ -30,7 +30,7 @@ pub fn accept<'a>(channel: u16, body: &'a [u8]) -> Result<Packet<'a>, PacketErro
     match body {
         [] => Ok(Packet::Accept {
             channel,
-            facilities: body,
+            facilities: FacilityField::none(),
         }),
         [0] => Err(PacketError::TooShort),
         [0, 0, ..] => Err(PacketError::BadParameter),
@@ -51,11 +51,11 @@ pub fn accept<'a>(channel: u16, body: &'a [u8]) -> Result<Packet<'a>, PacketErro
 fn facilities_and_user<'a>(
     most: usize,
     channel: u16,
-    called: Digits<'a>,
-    calling: Digits<'a>,
+    called: Digits,
+    calling: Digits,
     octets: &'a [u8],
 ) -> Result<Packet<'a>, PacketError>
-    ensures { Gives result (facilities_and_user most channel called.entry calling.entry octets.now) }
+    ensures { Gives result (facilities_and_user most channel called calling octets.now) }
 {
     let [size, octets @ ..] = octets else {
         return Err(PacketError::TooShort);

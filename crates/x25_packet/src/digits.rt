@@ -1,6 +1,6 @@
 //! The digits of an address, ITU-T X.25 (10/96), section 5.2.1.
 ghost use Rattle.std.specs.Prelude.{◌≡◌, ◌==◌, ◌<◌, ◌≤◌, ◌+◌, ◌*◌, ◌/◌, List, ℕ, length, IfSome, IsSome, IsTrue, ◌↔◌};
-ghost use Rattle.std.specs.Prelude.{slice_index, true};
+ghost use Rattle.std.specs.Prelude.{slice_index, take, true};
 ghost use Rattle.std.specs.List.{list_all};
 ghost use Rattle.x25_packet.specs.Digits.{digits_of_text, halves_at, halves_of, hold_digits, is_digit, is_figure};
 ghost use Rattle.x25_packet.specs.Digits.{is_pair, IsAddress};
@@ -17,34 +17,24 @@ fn are_figures(text: &[u8]) -> bool
         .all(|character| 48 <= *character && *character <= 57)
 }
 
-/// Where digits lie.
-#[derive(Clone, Copy, Debug)]
-enum Place<'a> {
-    /// In a text of figures.
-    Text(&'a [u8]),
-    /// In `count` half octets, from the half octet `start` on.
-    Halves {
-        octets: &'a [u8],
-        start: usize,
-        count: usize,
-    },
-}
-
-/// The digits of an address, at most 15, in half octets of a packet or in a text. Contracts see the list of them.
+/// The digits of an address, at most 15. Contracts see the list of them.
 #[derive(Debug, Drop)]
-pub struct Digits<'a> {
-    place: Place<'a>,
+pub struct Digits {
+    digits: [u8; MOST],
+    count: u8,
 }
 
-impl<'a> Model for Digits<'a> {
-    ghost use Rattle.std.specs.Prelude.{ℕ, List};
-    ghost use Rattle.x25_packet.specs.code.DigitsPlace.{NamesDigits, digits_in};
+impl Model for Digits {
+    ghost use Rattle.std.specs.Prelude.{◌≡◌, ◌≤◌, ℕ, List, length, take, true};
+    ghost use Rattle.std.specs.List.{list_all};
+    ghost use Rattle.x25_packet.specs.Digits.{is_digit};
 
     ghost Value = { List ℕ };
 
-    ghost view = { λ digits. digits_in digits.place };
+    ghost view = { λ d. take d.count d.digits };
 
-    ghost invariant = { λ digits. NamesDigits digits.place };
+    ghost invariant = { λ d. (length d.digits ≡ 15) × (d.count ≤ 15)
+        × (list_all is_digit (take d.count d.digits) ≡ true) };
 }
 
 fn are_digit_pairs(octets: &[u8]) -> bool
@@ -83,9 +73,38 @@ fn half(octets: &[u8], place: usize) -> u8
     }
 }
 
-impl<'a> Digits<'a> {
+/// The digits that figures show, and then 0s.
+fn shown(figures: &[u8]) -> [u8; MOST]
+    requires short { length figures.now ≤ 15 }
+    requires figures { list_all is_figure figures.now ≡ true }
+    ensures long { length result ≡ 15 }
+    ensures digits { take (length figures.now) result ≡ digits_of_text figures.now }
+{
+    let mut digits = [0u8; MOST];
+    for place in 0..figures.len() {
+        digits[place] = figures[place] - 48;
+    }
+    digits
+}
+
+/// `count` half octets, from the half octet `start` on, and then 0s.
+fn halves(octets: &[u8], start: usize, count: usize) -> [u8; MOST]
+    requires short { count ≤ 15 }
+    requires near { start ≤ 15 }
+    requires there { start + count ≤ 2 * length octets.now }
+    ensures long { length result ≡ 15 }
+    ensures digits { take count result ≡ halves_at octets.now start count }
+{
+    let mut digits = [0u8; MOST];
+    for place in 0..count {
+        digits[place] = half(octets, start + place);
+    }
+    digits
+}
+
+impl Digits {
     /// The digits in `count` half octets, from the half octet `start` on.
-    pub fn in_halves(octets: &'a [u8], start: usize, count: usize) -> Digits<'a>
+    pub fn in_halves(octets: &[u8], start: usize, count: usize) -> Digits
         requires short { count ≤ 15 }
         requires near { start ≤ 15 }
         requires there { start + count ≤ 2 * length octets.now }
@@ -93,34 +112,35 @@ impl<'a> Digits<'a> {
         ensures { result ≡ halves_at octets.now start count }
     {
         Digits {
-            place: Place::Halves {
-                octets,
-                start,
-                count,
-            },
+            digits: halves(octets, start, count),
+            count: count as u8,
         }
     }
 
     /// The digits of a text of at most 15 figures `0` to `9`.
-    pub fn of(text: &'a str) -> Option<Digits<'a>>
+    pub fn of(text: &str) -> Option<Digits>
         ensures some { IsSome result ↔ ((length text.now ≤ 15) × (list_all is_figure text.now ≡ true)) }
         ensures digits { IfSome result (λ digits. digits ≡ digits_of_text text.now) }
         ensures address { IfSome result (λ digits. IsAddress digits) }
     {
-        let octets = text.as_bytes();
-        if octets.len() > MOST || !are_figures(octets) {
+        let figures = text.as_bytes();
+        if figures.len() > MOST || !are_figures(figures) {
             return None;
         }
         Some(Digits {
-            place: Place::Text(octets),
+            digits: shown(figures),
+            count: figures.len() as u8,
         })
     }
 
-    /// The same digits once more, borrowed from where these are. It takes no memory.
-    pub fn copied(&self) -> Digits<'a>
+    /// The same digits once more.
+    pub fn copied(&self) -> Digits
         ensures { result ≡ self.now }
     {
-        Digits { place: self.place }
+        Digits {
+            digits: self.digits,
+            count: self.count,
+        }
     }
 
     /// How many digits there are, 0 to 15.
@@ -128,10 +148,7 @@ impl<'a> Digits<'a> {
         ensures number { result ≡ length self.now }
         ensures address { IsAddress self.now }
     {
-        match self.place {
-            Place::Text(text) => text.len(),
-            Place::Halves { count, .. } => count,
-        }
+        usize::from(self.count)
     }
 
     /// Whether there is no digit.
@@ -147,9 +164,6 @@ impl<'a> Digits<'a> {
         ensures value { result ≡ slice_index self.now place }
         ensures digit { result ≤ 9 }
     {
-        match self.place {
-            Place::Text(text) => text[place] - 48,
-            Place::Halves { octets, start, .. } => half(octets, start + place),
-        }
+        self.digits[place]
     }
 }

@@ -1,10 +1,11 @@
 //! The facility field of a CALL or ACCEPT packet, ITU-T X.25 (10/96), sections 7.1 and 7.2.2.1.
-ghost use Rattle.std.specs.Prelude.{◌≡◌, IfOk, IfErr, Ok};
+ghost use Rattle.std.specs.Prelude.{◌≡◌, ◌≤◌, [], length, IfOk, IfErr, Ok};
 ghost use Rattle.x25_packet.specs.Facilities.{AreAllowed, facilities_of, field_of, is_within, windows_of};
 ghost use Rattle.x25_packet.specs.Reading.FirstError.{FieldError};
 ghost use Rattle.x25_packet.specs.declared.facilities.Facilities.{Facilities};
 
 use crate::error::PacketError;
+use std::marker::Model;
 
 const PACKET_SIZE: u8 = 0x42;
 
@@ -91,6 +92,76 @@ fn read(field: &[u8]) -> Result<Facilities, PacketError>
                 packet_size: None,
                 window_size,
             })
+        }
+    }
+}
+
+/// The facility field of a packet. Contracts see its octets.
+#[derive(Debug, Drop)]
+pub struct FacilityField {
+    /// The packet sizes, three octets, and the windows, three octets.
+    octets: [u8; 6],
+    has_sizes: bool,
+    has_windows: bool,
+}
+
+impl Model for FacilityField {
+    ghost use Rattle.std.specs.Prelude.{List, ℕ, ◌≡◌, length};
+    ghost use Rattle.x25_packet.specs.code.FieldOctets.{field_shown};
+
+    ghost Value = { List ℕ };
+
+    ghost view = { λ f. field_shown f.octets f.has_sizes f.has_windows };
+
+    ghost invariant = { λ f. length f.octets ≡ 6 };
+}
+
+impl FacilityField {
+    /// No facilities.
+    pub fn none() -> FacilityField
+        ensures { result ≡ [] }
+    {
+        FacilityField {
+            octets: [0; 6],
+            has_sizes: false,
+            has_windows: false,
+        }
+    }
+
+    /// The field that names these facilities, whatever they are.
+    pub fn of(facilities: Facilities) -> FacilityField
+        ensures { result ≡ field_of facilities }
+    {
+        let none = Directions {
+            called: 0,
+            calling: 0,
+        };
+        let sizes = facilities.packet_size.unwrap_or(none);
+        let windows = facilities.window_size.unwrap_or(none);
+        FacilityField {
+            octets: [
+                PACKET_SIZE,
+                sizes.called,
+                sizes.calling,
+                WINDOW_SIZE,
+                windows.called,
+                windows.calling,
+            ],
+            has_sizes: facilities.packet_size.is_some(),
+            has_windows: facilities.window_size.is_some(),
+        }
+    }
+
+    /// The octets.
+    pub fn as_slice(&self) -> &[u8]
+        ensures octets { result.now ≡ self.now }
+        ensures few { length result.now ≤ 6 }
+    {
+        match (self.has_sizes, self.has_windows) {
+            (true, true) => &self.octets,
+            (true, false) => &self.octets[..3],
+            (false, true) => &self.octets[3..],
+            (false, false) => &[],
         }
     }
 }

@@ -15,7 +15,7 @@ mod spelling;
 
 pub use digits::{Digits, hold_digits};
 pub use error::PacketError;
-pub use facilities::{Directions, Facilities};
+pub use facilities::{Directions, Facilities, FacilityField};
 pub use law::reading_is_the_grammar;
 pub use packet::Packet;
 pub use reading::{

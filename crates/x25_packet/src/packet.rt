@@ -1,24 +1,25 @@
 ghost use Rattle.std.specs.Prelude.{◌≡◌, ℕ};
 
 use crate::digits::Digits;
+use crate::facilities::FacilityField;
 use x25_bits::Seq;
 
-/// A packet, ITU-T X.25 (10/96), sections 5.2 to 5.5. Addresses, facilities and user data are borrowed.
+/// A packet, ITU-T X.25 (10/96), sections 5.2 to 5.5. User data is borrowed.
 ///
 /// `channel` is the logical channel, group and number together: 1 to 4,095. `ps` is P(S), `pr` is P(R), `m` the more
-/// data mark and `q` the qualifier. `facilities` is the facility field as octets; `Facilities::of` reads it.
+/// data mark and `q` the qualifier. `Facilities::of` reads the octets of `facilities`.
 #[derive(Debug, Drop)]
 pub enum Packet<'a> {
     Call {
         channel: u16,
-        called: Digits<'a>,
-        calling: Digits<'a>,
-        facilities: &'a [u8],
+        called: Digits,
+        calling: Digits,
+        facilities: FacilityField,
         user: &'a [u8],
     },
     Accept {
         channel: u16,
-        facilities: &'a [u8],
+        facilities: FacilityField,
     },
     Clear {
         channel: u16,

@@ -81,6 +81,18 @@ fn call_len(called: &Digits, calling: &Digits, facilities: &[u8], user: &[u8]) -
     2 + (called.len() + calling.len() + 1) / 2 + facilities.len() + user.len()
 }
 
+/// How many octets follow the type of an ACCEPT.
+fn accept_len(facilities: &[u8]) -> usize
+    requires field { length facilities.now ≤ 6 }
+    ensures value { result ≡ length (accept_body facilities.now) }
+    ensures few { result ≤ 8 }
+{
+    if facilities.is_empty() {
+        return 0;
+    }
+    2 + facilities.len()
+}
+
 /// How many octets follow the type.
 #[inline(always)]
 fn body_len(packet: &Packet) -> usize
@@ -95,13 +107,8 @@ fn body_len(packet: &Packet) -> usize
             facilities,
             user,
             ..
-        } => call_len(called, calling, facilities, user),
-        Packet::Accept { facilities, .. } => {
-            if facilities.is_empty() {
-                return 0;
-            }
-            2 + facilities.len()
-        }
+        } => call_len(called, calling, facilities.as_slice(), user),
+        Packet::Accept { facilities, .. } => accept_len(facilities.as_slice()),
         Packet::Data { user, .. } | Packet::Interrupt { user, .. } => user.len(),
         Packet::Clear { .. } | Packet::Reset { .. } | Packet::Restart { .. } => 2,
         _ => 0,
@@ -198,8 +205,8 @@ fn append_body(packet: &Packet, octets: &mut Vec<u8>)
             facilities,
             user,
             ..
-        } => append_call(called, calling, facilities, user, octets),
-        Packet::Accept { facilities, .. } => append_accept(facilities, octets),
+        } => append_call(called, calling, facilities.as_slice(), user, octets),
+        Packet::Accept { facilities, .. } => append_accept(facilities.as_slice(), octets),
         Packet::Data { user, .. } | Packet::Interrupt { user, .. } => append(octets, user),
         Packet::Clear {
             cause,

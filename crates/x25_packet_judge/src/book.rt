@@ -15,7 +15,7 @@ use std::alloc::{AllocError, Global};
 use x25_decode::Reading;
 use x25_frame::{Frame, Role};
 use x25_packet::{Packet, channel, decode_within, longest_user};
-use x25_wide::{Kind, NarrowField, decode, take};
+use x25_wide::{Kind, decode, take};
 
 /// Both packet layers, and the ends of the channels.
 #[derive(Drop)]
@@ -378,8 +378,7 @@ impl Book {
         ensures book { self.new ≡ (definition.reads_any from channel most octets.now self.old).book }
         ensures verdict { result ≡ (definition.reads_any from channel most octets.now self.old).verdict }
     {
-        let mut field = NarrowField::none();
-        match take(most, octets, &mut field) {
+        match take(most, octets) {
             Ok(taken) => self.takes(from, channel, &taken),
             Err(_) if is_diagnostic(most, octets) => passed(None),
             Err(_) => self.misses_on(from, channel),

@@ -65,8 +65,10 @@ impl Pair {
         match packet {
             Packet::Clear { .. } => self.clears(),
             Packet::ClearConf { .. } => self.confirms_clear(),
-            Packet::Call { facilities, .. } => self.starts().calls(Terms::usual().said(facilities)),
-            Packet::Accept { facilities, .. } => self.starts().accepts(facilities),
+            Packet::Call { facilities, .. } => self
+                .starts()
+                .calls(Terms::usual().said(facilities.as_slice())),
+            Packet::Accept { facilities, .. } => self.starts().accepts(facilities.as_slice()),
             Packet::Restart { .. } | Packet::RestartConf => self,
             Packet::Data { .. }
             | Packet::Rr { .. }
@@ -88,8 +90,8 @@ impl Pair {
             Packet::ClearConf { .. } => self.hastens().finds(),
             Packet::Call { facilities, .. } => self
                 .hastens()
-                .calls_unknown(Terms::usual().said(facilities)),
-            Packet::Accept { facilities, .. } => self.finds_call(facilities),
+                .calls_unknown(Terms::usual().said(facilities.as_slice())),
+            Packet::Accept { facilities, .. } => self.finds_call(facilities.as_slice()),
             Packet::Restart { .. } | Packet::RestartConf => self,
             Packet::Data { .. }
             | Packet::Rr { .. }

@@ -60,7 +60,7 @@ fn kept(texts: &mut TextMemory, octets: &[u8]) -> Vec<u8>
 }
 
 // The digits of an address.
-fn kept_digits(texts: &mut TextMemory, digits: &Digits<'_>) -> Vec<u8>
+fn kept_digits(texts: &mut TextMemory, digits: &Digits) -> Vec<u8>
     requires { 0 < texts.old }
     ensures copy { result.items ≡ digits.now }
     ensures fewer { texts.new + 1 ≡ texts.old }

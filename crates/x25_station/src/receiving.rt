@@ -1,5 +1,5 @@
 //! Octets that come: the step of the link, and what the packet layer does at it.
-ghost use Rattle.std.specs.Prelude.{◌≡◌, ℕ, ◌+◌, ◌-◌, ◌≤◌, ◌++◌, length, max, map, true, false, None, is_some};
+ghost use Rattle.std.specs.Prelude.{◌≡◌, ℕ, ◌+◌, ◌-◌, ◌≤◌, ◌++◌, length, max, map, true, false, None};
 ghost use Rattle.std.specs.Prelude.{option_copied, IfSome, OnOk};
 ghost use Rattle.x25_link.specs.Station.{Side};
 ghost use Rattle.x25_link.specs.code.FitsLink.{FitsWhole, up_of};
@@ -29,7 +29,7 @@ use crate::step::Step;
 use x25_frame::reading_is_the_grammar as reads_frames;
 use x25_layer::Layer;
 use x25_link::{Link, Notes, OrderedLink, holds_few, notes_what_changes};
-use x25_wide::{NarrowField, taking_keeps_octets};
+use x25_wide::taking_keeps_octets;
 
 /// The octets of an I frame but for the user data of its packet: address, control and frame check sequence, and the
 /// header of the packet.
@@ -50,13 +50,6 @@ fn come_up(layer: &mut Layer, link: &mut Link, entries: &mut Vec<Entry>)
 {
     entries.push_reserved(Entry::LinkUp);
     layer.up(link).unwrap();
-}
-
-// The field that is lent to the layer where packets are read in all their forms.
-fn lent<'a>(wide: bool, field: &'a mut NarrowField) -> Option<&'a mut NarrowField>
-    ensures { is_some result ≡ wide }
-{
-    if wide { Some(field) } else { None }
 }
 
 // What the layer does with a packet that the link hands up, and the channel on which it may have brought more.
@@ -88,8 +81,7 @@ fn hear(
         result ≡ bringing (layer_answer (layer_settings c) wide l packet.now).notices }
 {
     taking_keeps_octets();
-    let mut field = NarrowField::none();
-    let told = layer.packet(link, packet, lent(wide, &mut field)).unwrap();
+    let told = layer.packet(link, wide, packet).unwrap();
     let channel = bringing(&told);
     enter_told(layer, texts, told, entries);
     channel

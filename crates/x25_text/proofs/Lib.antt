@@ -1,7 +1,6 @@
 pub mod InfoHead
 pub mod HeadLemmas
 pub mod BlockLength
-pub mod FacilityLength
 pub mod DigitLemmas
 pub mod DigitTable
 pub mod PairLemmas

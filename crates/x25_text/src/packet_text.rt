@@ -94,7 +94,6 @@ fn push_marks(ps: Seq, pr: Seq, m: bool, q: bool, text: &mut Text)
 }
 
 /// Appends a packet on one line. A CALL has at most 128 octets of user data.
-#[tactic(auto, using(crate::proofs::FacilityLength::few_facilities))]
 pub fn push_packet(packet: &Packet, text: &mut Text)
     requires range { IsInRange 128 (plain packet.now) }
     requires room { length text.old + MOST_PACKET_TEXT ≤ ROOM }
@@ -111,14 +110,14 @@ pub fn push_packet(packet: &Packet, text: &mut Text)
         } => {
             text.push_number(b"CALL ch=", *channel);
             push_addresses(called, calling, text);
-            push_fields(facilities, user, text);
+            push_fields(facilities.as_slice(), user, text);
         }
         Packet::Accept {
             channel,
             facilities,
         } => {
             text.push_number(b"ACCEPT ch=", *channel);
-            push_field(b" fac=", facilities, text);
+            push_field(b" fac=", facilities.as_slice(), text);
         }
         Packet::Clear {
             channel,

@@ -1,5 +1,5 @@
 -- What a station takes a packet for: one of those that it writes, or an error (profile).
-use Rattle.std.specs.Prelude.{ℕ, ◌+◌, ◌-◌, ◌&&◌, nat_le, Bool, true, false, List, [], take, drop, if◌then◌else◌, Option}
+use Rattle.std.specs.Prelude.{ℕ, ◌+◌, ◌-◌, ◌&&◌, nat_le, Bool, true, false, List, [], if◌then◌else◌, Option}
 use Rattle.std.specs.Prelude.{Some, None, Result, Ok, Err}
 use Rattle.x25_packet.specs.Digits.{halves_at, hold_digits}
 use Rattle.x25_packet.specs.Facilities.{field_of, is_within}
@@ -60,13 +60,6 @@ called_taken true b = digits_behind b 0 b.called
 abbrev pub calling_taken : Bool → PlainBlock → List ℕ
 calling_taken false b = calling_in b
 calling_taken true b = digits_behind b b.called b.calling
-
--- the octets of both, of which these are there
-abbrev pub field_shown : List ℕ → Bool → Bool → List ℕ
-field_shown octets true true = octets
-field_shown octets true false = take 3 octets
-field_shown octets false true = drop 3 octets
-field_shown octets false false = []
 
 -- no diagnostic is taken for 0
 abbrev pub reason_taken : Option ℕ → ℕ

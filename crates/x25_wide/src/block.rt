@@ -133,7 +133,7 @@ pub(crate) fn read_optional_block<'a>(
 }
 
 #[tactic(auto, unfolding(x25_packet::specs::Digits::halves_of))]
-fn no_digits<'a>() -> Digits<'a>
+fn no_digits() -> Digits
     ensures { result ≡ [] }
 {
     Digits::in_halves(&[], 0, 0)
@@ -141,7 +141,7 @@ fn no_digits<'a>() -> Digits<'a>
 
 impl<'a> Block<'a> {
     /// The digits of the called address, where the A bit is 0.
-    pub fn called_digits(&self) -> Digits<'a>
+    pub fn called_digits(&self) -> Digits
         requires { AreAddresses false (plain_block self.now) }
         ensures { result ≡ called_in (plain_block self.now) }
     {
@@ -149,7 +149,7 @@ impl<'a> Block<'a> {
     }
 
     /// The digits of the calling address, where the A bit is 0.
-    pub fn calling_digits(&self) -> Digits<'a>
+    pub fn calling_digits(&self) -> Digits
         requires { AreAddresses false (plain_block self.now) }
         ensures { result ≡ calling_in (plain_block self.now) }
     {
@@ -177,7 +177,7 @@ impl<'a> Block<'a> {
     }
 
     /// The digits behind the type and the plan of an address, which begins at the half octet `start`.
-    fn digits_behind(&self, start: usize, count: usize) -> Digits<'a>
+    fn digits_behind(&self, start: usize, count: usize) -> Digits
         requires addresses { AreAddresses true (plain_block self.now) }
         requires there { start + count ≤ self.now.called + self.now.calling }
         ensures { result ≡ digits_behind (plain_block self.now) start count }
@@ -192,7 +192,7 @@ impl<'a> Block<'a> {
     }
 
     /// What a station takes the called address for.
-    pub(crate) fn called_taken(&self, a: bool) -> Digits<'a>
+    pub(crate) fn called_taken(&self, a: bool) -> Digits
         requires { AreAddresses a (plain_block self.now) }
         ensures { result ≡ called_taken a (plain_block self.now) }
     {
@@ -204,7 +204,7 @@ impl<'a> Block<'a> {
     }
 
     /// What a station takes the calling address for.
-    pub(crate) fn calling_taken(&self, a: bool) -> Digits<'a>
+    pub(crate) fn calling_taken(&self, a: bool) -> Digits
         requires { AreAddresses a (plain_block self.now) }
         ensures { result ≡ calling_taken a (plain_block self.now) }
     {

@@ -10,9 +10,9 @@ const MARKER: u8 = 0x00;
 /// Reverse charging and fast select.
 const FAST_SELECT: u8 = 0x01;
 
-pub(crate) const PACKET_SIZE: u8 = 0x42;
+const PACKET_SIZE: u8 = 0x42;
 
-pub(crate) const WINDOW_SIZE: u8 = 0x43;
+const WINDOW_SIZE: u8 = 0x43;
 
 /// The first octet of class D: an octet behind it says how long its value is.
 const CLASS_D: u8 = 0xC0;

@@ -18,7 +18,7 @@ pub use block::{Block, Fields};
 pub use facilities::{Own, are_facilities, own_facilities};
 pub use halves::Halves;
 pub use law::{reads_alike, taking_keeps_octets};
-pub use narrowing::{NarrowField, narrow};
+pub use narrowing::narrow;
 pub use packet::{Kind, WidePacket};
 pub use reading::{FAST_SELECT_OCTETS, decode};
 pub use taking::{read, take};

@@ -1,9 +1,8 @@
 //! What a station takes a packet for: one of those that it writes itself.
-ghost use Rattle.std.specs.Prelude.{◌≡◌, ℕ, [], IfOk};
-ghost use Rattle.x25_packet.specs.Facilities.{IsFacilityField};
+ghost use Rattle.std.specs.Prelude.{◌≡◌, ℕ, IfOk};
 ghost use Rattle.x25_packet.specs.Packet.{plain as plain_written};
 ghost use Rattle.x25_wide.specs.Block.{plain_fields};
-ghost use Rattle.x25_wide.specs.Narrowing.{HasAddresses, are_within, field_in, field_said, field_taken, reason_taken};
+ghost use Rattle.x25_wide.specs.Narrowing.{HasAddresses, are_within, field_in, field_said, field_taken, narrow_of};
 ghost use Rattle.x25_wide.specs.Narrowing.{user_taken, with_field};
 ghost use Rattle.x25_packet.specs.Spelling.{IsInRange};
 ghost use Rattle.x25_wide.specs.Packet.{plain, plain_kind};
@@ -11,30 +10,9 @@ ghost use Rattle.x25_wide.specs.Packet.Spelling.{IsPacket};
 ghost use Rattle.x25_wide.specs.Reading.{Gives};
 
 use crate::block::Fields;
-use crate::facilities::{Own, PACKET_SIZE, WINDOW_SIZE, own_facilities};
+use crate::facilities::{Own, own_facilities};
 use crate::packet::{Kind, WidePacket};
-use std::marker::Model;
-use x25_packet::{Directions, Packet, PacketError};
-
-/// The facility field of what a packet is taken for. Contracts see its octets.
-#[derive(Debug, Drop)]
-pub struct NarrowField {
-    /// The packet sizes, three octets, and the windows, three octets.
-    octets: [u8; 6],
-    has_sizes: bool,
-    has_windows: bool,
-}
-
-impl Model for NarrowField {
-    ghost use Rattle.std.specs.Prelude.{List, ℕ, ◌≡◌, length};
-    ghost use Rattle.x25_wide.specs.Narrowing.{field_shown};
-
-    ghost Value = { List ℕ };
-
-    ghost view = { λ f. field_shown f.octets f.has_sizes f.has_windows };
-
-    ghost invariant = { λ f. length f.octets ≡ 6 };
-}
+use x25_packet::{Directions, Facilities, FacilityField, Packet, PacketError};
 
 fn are_within(least: u8, most: u8, values: Option<Directions>) -> bool
     ensures { result ≡ are_within least most values }
@@ -49,83 +27,35 @@ fn are_within(least: u8, most: u8, values: Option<Directions>) -> bool
     }
 }
 
-fn field_said(own: Own) -> Result<NarrowField, PacketError>
+fn field_said(own: Own) -> Result<FacilityField, PacketError>
     ensures { result ≡ field_said own }
 {
     if !are_within(4, 12, own.packet_size) || !are_within(1, 7, own.window_size) {
         return Err(PacketError::BadParameter);
     }
-    let none = Directions {
-        called: 0,
-        calling: 0,
-    };
-    let sizes = own.packet_size.unwrap_or(none);
-    let windows = own.window_size.unwrap_or(none);
-    Ok(NarrowField {
-        octets: [
-            PACKET_SIZE,
-            sizes.called,
-            sizes.calling,
-            WINDOW_SIZE,
-            windows.called,
-            windows.calling,
-        ],
-        has_sizes: own.packet_size.is_some(),
-        has_windows: own.window_size.is_some(),
-    })
+    Ok(FacilityField::of(Facilities {
+        packet_size: own.packet_size,
+        window_size: own.window_size,
+    }))
 }
 
-fn field_taken(fields: &Option<Fields>) -> Result<NarrowField, PacketError>
+fn field_taken(fields: &Option<Fields>) -> Result<FacilityField, PacketError>
     ensures { result ≡ field_taken (plain_fields fields.now) }
 {
     match fields {
-        None => Ok(NarrowField::none()),
+        None => Ok(FacilityField::none()),
         Some(fields) => field_said(own_facilities(fields.facilities)),
     }
 }
 
-fn field_in(packet: &WidePacket) -> Result<NarrowField, PacketError>
+// The facility field of what a packet is taken for: the facilities before a marker that a station knows.
+fn field_in(packet: &WidePacket) -> Result<FacilityField, PacketError>
     ensures { result ≡ field_in (plain_kind packet.now.kind) }
 {
     match &packet.kind {
         Kind::Call { block } => field_taken(&block.fields),
         Kind::Accept { block: Some(block) } => field_taken(&block.fields),
-        _ => field_taken(&None),
-    }
-}
-
-impl NarrowField {
-    /// No facilities.
-    pub fn none() -> NarrowField
-        ensures { result ≡ [] }
-    {
-        NarrowField {
-            octets: [0; 6],
-            has_sizes: false,
-            has_windows: false,
-        }
-    }
-
-    /// The facility field of what a packet is taken for: the facilities before a marker that a station knows.
-    ///
-    /// 26: a packet size or window size out of its range.
-    pub fn of(packet: &WidePacket) -> Result<NarrowField, PacketError>
-        ensures exact { result ≡ field_in (plain_kind packet.now.kind) }
-        ensures field { IfOk result (λ field. IsFacilityField field) }
-    {
-        field_in(packet)
-    }
-
-    /// The octets.
-    pub fn as_slice(&self) -> &[u8]
-        ensures { result.now ≡ self.now }
-    {
-        match (self.has_sizes, self.has_windows) {
-            (true, true) => &self.octets,
-            (true, false) => &self.octets[..3],
-            (false, true) => &self.octets[3..],
-            (false, false) => &[],
-        }
+        _ => Ok(FacilityField::none()),
     }
 }
 
@@ -138,13 +68,10 @@ fn user_taken<'a>(fields: &Option<Fields<'a>>) -> &'a [u8]
     }
 }
 
-fn with_field<'a>(
-    packet: &WidePacket<'a>,
-    field: &'a NarrowField,
-) -> Result<Packet<'a>, PacketError>
+fn with_field<'a>(packet: &WidePacket<'a>, field: FacilityField) -> Result<Packet<'a>, PacketError>
     requires { HasAddresses packet.now.bit_8 (plain_kind packet.now.kind) }
     ensures { Gives plain_written result (with_field packet.now.channel packet.now.bit_8
-        (plain_kind packet.now.kind) field.now) }
+        (plain_kind packet.now.kind) field) }
 {
     let channel = packet.channel;
     match &packet.kind {
@@ -152,12 +79,12 @@ fn with_field<'a>(
             channel,
             called: block.called_taken(packet.bit_8),
             calling: block.calling_taken(packet.bit_8),
-            facilities: field.as_slice(),
+            facilities: field,
             user: user_taken(&block.fields),
         }),
         Kind::Accept { .. } => Ok(Packet::Accept {
             channel,
-            facilities: field.as_slice(),
+            facilities: field,
         }),
         Kind::Clear { cause, diagnostic } => Ok(Packet::Clear {
             channel,
@@ -204,19 +131,16 @@ fn with_field<'a>(
     }
 }
 
-/// What a station takes the packet for, with the field that `NarrowField::of` has for it.
+/// What a station takes the packet for.
 ///
-/// 22: REJ, DIAGNOSTIC and REGISTRATION, which a station doesn't know.
-pub fn narrow<'a>(
-    packet: &WidePacket<'a>,
-    field: &'a NarrowField,
-) -> Result<Packet<'a>, PacketError>
+/// 26: a packet size or window size out of its range. 22: REJ, DIAGNOSTIC and REGISTRATION, which a station doesn't
+/// know.
+pub fn narrow<'a>(packet: &WidePacket<'a>) -> Result<Packet<'a>, PacketError>
     requires { HasAddresses packet.now.bit_8 (plain_kind packet.now.kind) }
-    ensures exact { Gives plain_written result (with_field packet.now.channel packet.now.bit_8
-        (plain_kind packet.now.kind) field.now) }
+    ensures exact { Gives plain_written result (narrow_of (plain packet.now)) }
     // Its fields are in their ranges, so that it can be spelled.
-    ensures range { (most : ℕ) → IsPacket most (plain packet.now) → IsFacilityField field.now
-        → IfOk result (λ p. IsInRange 128 (plain_written p)) }
+    ensures range { (most : ℕ) → IsPacket most (plain packet.now) → IfOk result (λ p. IsInRange 128 (plain_written p)) }
 {
+    let field = field_in(packet)?;
     with_field(packet, field)
 }

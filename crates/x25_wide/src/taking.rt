@@ -1,24 +1,20 @@
 //! What a station takes octets for: the packet that they are in the form that it writes itself, or else in any other.
-ghost use Rattle.std.specs.Prelude.{◌≤◌, IfOk, is_some};
+ghost use Rattle.std.specs.Prelude.{◌≤◌, IfOk};
 ghost use Rattle.x25_packet.specs.Packet.{plain as plain_written};
 ghost use Rattle.x25_packet.specs.Spelling.{IsInRange};
 ghost use Rattle.x25_wide.specs.Reading.{Gives};
 ghost use Rattle.x25_wide.specs.Taking.{taken_in, read_in};
 
-use crate::narrowing::{NarrowField, narrow};
+use crate::narrowing::narrow;
 use crate::reading::decode;
 use x25_packet::{Packet, PacketError, decode_within};
 
-/// The packet that a station takes octets for, which borrows these, and the facility field that is put into `field`. A
-/// CALL has at most `most` octets of user data without fast select.
+/// The packet that a station takes octets for, which borrows these. A CALL has at most `most` octets of user data
+/// without fast select.
 ///
 /// The errors of `decode`; 22 for REJ, DIAGNOSTIC and REGISTRATION, and 26 for a packet size or window size out of its
 /// range.
-pub fn take<'a>(
-    most: usize,
-    octets: &'a [u8],
-    field: &'a mut NarrowField,
-) -> Result<Packet<'a>, PacketError>
+pub fn take<'a>(most: usize, octets: &'a [u8]) -> Result<Packet<'a>, PacketError>
     ensures exact { Gives plain_written result (taken_in most octets.now) }
     // Its fields are in their ranges, so that it can be spelled.
     ensures range { most ≤ 128 → IfOk result (λ p. IsInRange 128 (plain_written p)) }
@@ -27,21 +23,17 @@ pub fn take<'a>(
         return Ok(packet);
     }
     let packet = decode(most, octets)?;
-    *field = NarrowField::of(&packet)?;
-    narrow(&packet, field)
+    narrow(&packet)
 }
 
-/// The packet that a station reads octets as: where no `field` is lent, in the form that it writes itself alone, as
-/// `decode_within` of `x25_packet` does, and else as `take` does. Errors 20 to 26.
-pub fn read<'a>(
-    most: usize,
-    octets: &'a [u8],
-    field: Option<&'a mut NarrowField>,
-) -> Result<Packet<'a>, PacketError>
-    ensures { Gives plain_written result (read_in (is_some field.entry) most octets.now) }
+/// The packet that a station reads octets as: with `wide` as `take` does, and else in the form that it writes itself
+/// alone, as `decode_within` of `x25_packet` does. Errors 20 to 26.
+pub fn read<'a>(wide: bool, most: usize, octets: &'a [u8]) -> Result<Packet<'a>, PacketError>
+    ensures { Gives plain_written result (read_in wide most octets.now) }
 {
-    match field {
-        None => decode_within(most, octets),
-        Some(field) => take(most, octets, field),
+    if wide {
+        take(most, octets)
+    } else {
+        decode_within(most, octets)
     }
 }

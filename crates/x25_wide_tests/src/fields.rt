@@ -1,4 +1,4 @@
-use x25_packet::{Digits, Directions, Facilities, PacketError, hold_digits};
+use x25_packet::{Digits, Directions, Facilities, FacilityField, PacketError, hold_digits};
 
 /// A text, and how many digits it is and whether it has none, where it is an address.
 static TEXTS: [(&str, Option<(usize, bool)>); 5] = [
@@ -65,16 +65,21 @@ fn digits_in_half_octets(rt: HostRuntime) {
     }
 }
 
-/// Sizes of 128 and 256 octets, and windows of 2 and 3 packets.
+/// Sizes of 128 and 256 octets.
+const SIZES: Option<Directions> = Some(Directions {
+    called: 7,
+    calling: 8,
+});
+
+/// Windows of 2 and 3 packets.
+const WINDOWS: Option<Directions> = Some(Directions {
+    called: 2,
+    calling: 3,
+});
+
 const BOTH: Facilities = Facilities {
-    packet_size: Some(Directions {
-        called: 7,
-        calling: 8,
-    }),
-    window_size: Some(Directions {
-        called: 2,
-        calling: 3,
-    }),
+    packet_size: SIZES,
+    window_size: WINDOWS,
 };
 
 /// A facility field, and what it says.
@@ -89,4 +94,41 @@ fn facilities_of_a_field(rt: HostRuntime) {
     for &(field, wanted) in &FIELDS {
         assert!(rt; Facilities::of(field) == wanted, "{field:?}");
     }
+}
+
+/// Facilities, and their field: of both, of each alone, and of none.
+static FIELDS_OF: [(Facilities, &[u8]); 4] = [
+    (BOTH, &[0x42, 7, 8, 0x43, 2, 3]),
+    (
+        Facilities {
+            packet_size: SIZES,
+            window_size: None,
+        },
+        &[0x42, 7, 8],
+    ),
+    (
+        Facilities {
+            packet_size: None,
+            window_size: WINDOWS,
+        },
+        &[0x43, 2, 3],
+    ),
+    (
+        Facilities {
+            packet_size: None,
+            window_size: None,
+        },
+        &[],
+    ),
+];
+
+#[test]
+fn field_of_facilities(rt: HostRuntime) {
+    for &(facilities, wanted) in &FIELDS_OF {
+        assert!(rt;
+            FacilityField::of(facilities).as_slice() == wanted,
+            "{wanted:?}"
+        );
+    }
+    assert!(rt; FacilityField::none().as_slice().is_empty());
 }

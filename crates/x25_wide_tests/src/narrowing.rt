@@ -1,7 +1,7 @@
 use crate::fields::are_digits;
 use std::alloc::Global;
 use x25_packet::{Packet, PacketError};
-use x25_wide::{NarrowField, decode, narrow, read, reads_alike, take, taking_keeps_octets};
+use x25_wide::{decode, narrow, read, reads_alike, take, taking_keeps_octets};
 
 /// What is taken of a packet: a cause, a diagnostic, and the facility field.
 type Taken = (u8, u8, &'static [u8]);
@@ -45,9 +45,11 @@ static ROWS: [(&str, u8, Taken); 19] = [
     ("1001", 20, (0, 0, &[])),
 ];
 
-fn told<'a>(packet: &Packet<'a>) -> (u8, u8, &'a [u8]) {
+fn told<'a>(packet: &'a Packet<'_>) -> (u8, u8, &'a [u8]) {
     match packet {
-        Packet::Call { facilities, .. } | Packet::Accept { facilities, .. } => (0, 0, facilities),
+        Packet::Call { facilities, .. } | Packet::Accept { facilities, .. } => {
+            (0, 0, facilities.as_slice())
+        }
         Packet::Clear {
             cause,
             diagnostic,
@@ -78,20 +80,17 @@ fn number_of(taken: &Result<Packet, PacketError>, wanted: &Taken) -> u8 {
 /// Of octets that are read in all forms.
 fn narrowed(octets: &[u8], wanted: &Taken) -> Result<u8, PacketError> {
     let packet = decode(16, octets)?;
-    let own = NarrowField::of(&packet)?;
-    Ok(number_of(&narrow(&packet, &own), wanted))
+    Ok(number_of(&narrow(&packet), wanted))
 }
 
 /// Of octets that a station takes.
 fn taken(octets: &[u8], wanted: &Taken) -> u8 {
-    let mut own = NarrowField::none();
-    number_of(&take(16, octets, &mut own), wanted)
+    number_of(&take(16, octets), wanted)
 }
 
 /// Of octets that a station reads that reads all forms.
 fn read_in_all(octets: &[u8], wanted: &Taken) -> u8 {
-    let mut own = NarrowField::none();
-    number_of(&read(16, octets, Some(&mut own)), wanted)
+    number_of(&read(true, 16, octets), wanted)
 }
 
 fn numbers(octets: &[u8], wanted: &Taken) -> (u8, u8, u8) {
@@ -117,7 +116,7 @@ fn taken_for_packets(rt: HostRuntime) {
 
 /// The error of octets in the form that a station writes, or 0.
 fn strict_error(octets: &[u8]) -> u8 {
-    match read(16, octets, None) {
+    match read(false, 16, octets) {
         Ok(_) => 0,
         Err(error) => error.number(),
     }
@@ -151,8 +150,7 @@ static TYPED: [(&str, &str, &str); 7] = [
 
 // Whether these addresses are taken of a CALL.
 fn are_taken(octets: &[u8], wanted_called: &str, wanted_calling: &str) -> bool {
-    let mut field = NarrowField::none();
-    match take(16, octets, &mut field) {
+    match take(16, octets) {
         Ok(
             Packet::Call {
                 called,

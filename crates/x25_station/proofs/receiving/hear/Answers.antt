@@ -1,4 +1,4 @@
-use Rattle.std.proofs.Common.{◌-◌, ◌<◌, ◌++◌, Bool, is_some, length, map, List, All, arith, ap, sym, subst, ◌∙◌}
+use Rattle.std.proofs.Common.{◌-◌, ◌<◌, ◌++◌, length, map, List, All, arith, ap, sym, subst, ◌∙◌}
 use Rattle.std.proofs.lemmas.List.Elements.{All-from_get_or}
 use Rattle.x25_wide.specs.Taking.{read_in}
 use Rattle.x25_link.specs.code.FitsLink.{FitsWhole}
@@ -25,15 +25,13 @@ pub returns-clause-puts : goal.returns-clause-puts
 returns-clause-puts c = record {
   layer = λ c' l t fits link.
       let lc = layer_settings c' in
-      subst (λ (b : Bool). FitsLayer lc c.packet.new.self (hears (view_of (link_settings c') t.near) lc b l c.args.packet.now).step.layer) c.lent.ensures
-      (subst (λ (view : LinkView). FitsLayer lc c.packet.new.self (hears view lc (is_some c.lent.result) l c.args.packet.now).step.layer) (same_view (link_settings c') t)
-      (on_ok c.packet.result c.unwrap-told.result _ c.unwrap-told.ensures (c.packet.ensures.layer lc l (kept_of (link_settings c') t) fits link)));
+      subst (λ (view : LinkView). FitsLayer lc c.packet.new.self (hears view lc c.args.wide l c.args.packet.now).step.layer) (same_view (link_settings c') t)
+      (on_ok c.packet.result c.unwrap-told.result _ c.unwrap-told.ensures (c.packet.ensures.layer lc l (kept_of (link_settings c') t) fits link));
   link = λ c' l t fits link.
       let lc = layer_settings c' in
       let lk = link_settings c' in
-      subst (λ (b : Bool). FitsWhole c.packet.new.link (kept_of lk (all_put lk (hears (view_of lk t.near) lc b l c.args.packet.now).step.put t))) c.lent.ensures
-      (subst (λ (view : LinkView). FitsWhole c.packet.new.link (kept_of lk (all_put lk (hears view lc (is_some c.lent.result) l c.args.packet.now).step.put t))) (same_view lk t)
-      (after_puts lk c.packet.new.link (hears (seen_by lk t) lc (is_some c.lent.result) l c.args.packet.now).step.put t (on_ok c.packet.result c.unwrap-told.result _ c.unwrap-told.ensures (c.packet.ensures.link lc l (kept_of lk t) fits link))));
+      subst (λ (view : LinkView). FitsWhole c.packet.new.link (kept_of lk (all_put lk (hears view lc c.args.wide l c.args.packet.now).step.put t))) (same_view lk t)
+      (after_puts lk c.packet.new.link (hears (seen_by lk t) lc c.args.wide l c.args.packet.now).step.put t (on_ok c.packet.result c.unwrap-told.result _ c.unwrap-told.ensures (c.packet.ensures.link lc l (kept_of lk t) fits link)));
 }
 
 pub returns-clause-entries : goal.returns-clause-entries
@@ -42,8 +40,7 @@ returns-clause-entries c = λ c' l t fits link.
     let view : LinkView = view_of (link_settings c') t.near in
     let octets = c.args.packet.now in
     let a = answer_to lc l octets (read_in c.args.wide (longest_user lc.circuit.long_data) octets) in
-    let told = told_is c.packet.result c.unwrap-told.result (answer_to lc l octets (read_in (is_some c.lent.result) (longest_user lc.circuit.long_data) octets)).notices c.unwrap-told.ensures (c.packet.ensures.told lc l view fits)
-    ∙ ap (λ (b : Bool). (answer_to lc l octets (read_in b (longest_user lc.circuit.long_data) octets)).notices) c.lent.ensures in
+    let told = told_is c.packet.result c.unwrap-told.result a.notices c.unwrap-told.ensures (c.packet.ensures.told lc l view fits) in
     let bytes : All (λ octet. octet < 256) octets = All-from_get_or (λ octet. octet < 256) octets 0 (λ i low. omega (arith, c.type_inv.packet i)) in
     let tellable = told_tellable c.taking_keeps_octets.ensures.range c.args.wide lc l octets bytes in
     c.enter_told.ensures.entered lc (hears view lc c.args.wide l octets).step.layer ((returns-clause-puts c).layer c' l t fits link) (subst (λ (ns : List LayerNotice). AreTellable lc ns) (sym told) tellable)
@@ -54,7 +51,5 @@ pub returns-clause-bringing : goal.returns-clause-bringing
 returns-clause-bringing c = λ c' l t fits link.
     let lc = layer_settings c' in
     let view : LinkView = view_of (link_settings c') t.near in
-    let octets = c.args.packet.now in
-    let told = told_is c.packet.result c.unwrap-told.result (answer_to lc l octets (read_in (is_some c.lent.result) (longest_user lc.circuit.long_data) octets)).notices c.unwrap-told.ensures (c.packet.ensures.told lc l view fits)
-    ∙ ap (λ (b : Bool). (answer_to lc l octets (read_in b (longest_user lc.circuit.long_data) octets)).notices) c.lent.ensures in
+    let told = told_is c.packet.result c.unwrap-told.result (hears view lc c.args.wide l c.args.packet.now).notices c.unwrap-told.ensures (c.packet.ensures.told lc l view fits) in
     c.bringing-channel.ensures ∙ ap (λ (ns : List LayerNotice). bringing ns) told

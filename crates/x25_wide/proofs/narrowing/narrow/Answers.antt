@@ -1,8 +1,10 @@
+use Rattle.std.proofs.Common.{sym}
 use Rattle.x25_packet.specs.Packet.{plain as plain_written}
 use Rattle.x25_wide.specs.Packet.{plain_kind}
-use Rattle.x25_wide.proofs.NarrowRange.{given_in_range, in_range}
+use Rattle.x25_wide.proofs.NarrowRange.{field_fits, given_in_range, in_range}
 use Rattle.x25_wide.proofs.narrowing.narrow.Goals as goal
 
 pub returns-clause-range : goal.returns-clause-range
-returns-clause-range c = λ most is field. given_in_range plain_written c.with_field.result _ c.with_field.ensures
-    (in_range most c.args.packet.now.channel c.args.packet.now.bit_8 (plain_kind c.args.packet.now.kind) c.args.field.now is.channel is.place is.kind field)
+returns-clause-range c = λ most is. given_in_range plain_written c.with_field.result _ c.with_field.ensures
+    (in_range most c.args.packet.now.channel c.args.packet.now.bit_8 (plain_kind c.args.packet.now.kind) c.in_ok-field.field is.channel is.place is.kind
+    (field_fits (plain_kind c.args.packet.now.kind) c.in_ok-field.field (sym c.in_ok-field.ensures)))

@@ -56,8 +56,8 @@ returns-in-None c = record {
   outcome = λ d x fits.
       let flow = c.in_ok-flow.ensures.flow ∙ ap (λ (a : Option (Bor Proposal)). params_answered (plain_answer a) c.args.self.now.flow.params) c.in-None.is ∙ fits.params in
       rw (c.in-None.is, accept_at x x.state None (sym fits.state ∙ c.in_ok-flow.ensures.arriving))
-      ((subst (λ (p : Params). FitsCircuit d c.enter.new.self (entered x Open p false)) flow (c.enter.ensures.fits d x fits), refl));
-  range = ((lit≤ tt, lit≤ tt), no_field);
+      ((subst (λ (p : Params). FitsCircuit d c.enter.new.self (entered x Open p false)) flow (c.enter.ensures.fits d x fits), rw c.none.ensures refl));
+  range = ((lit≤ tt, lit≤ tt), subst IsFacilityField (sym c.none.ensures) no_field);
   keeps = search rules;
   unchanged = search rules;
   kinds = search rules;

@@ -1,4 +1,4 @@
-use Rattle.std.proofs.Common.{rules, ℕ, ◌≡◌, ◌<◌, ◌∙◌, All, is_some, option_to_list, IfOk, sym, ap, subst, arith}
+use Rattle.std.proofs.Common.{rules, ℕ, ◌≡◌, ◌<◌, ◌∙◌, All, option_to_list, IfOk, sym, ap, subst, arith}
 use Rattle.std.proofs.lemmas.List.Elements.{All-from_get_or}
 use Rattle.x25_packet.specs.Packet.{plain}
 use Rattle.x25_packet.specs.Spelling.{HasChannel, longest_user}
@@ -17,7 +17,7 @@ use Rattle.x25_layer.proofs.layer.Layer.hear.Goals.{in_default-read-via-in-Ok+in
 
 pub returns-in_default-clause-hears : goal.returns-in_default-clause-hears
 returns-in_default-clause-hears g c =
-    let none = λ (s : LayerSettings) (l : Layer). sym (hears_none (is_some c.args.field) (longest_user c.args.self.now.long_data) s l c.args.octets.now (sym c.channel.ensures ∙ c.in_default.is)) in
+    let none = λ (s : LayerSettings) (l : Layer). sym (hears_none c.args.wide (longest_user c.args.self.now.long_data) s l c.args.octets.now (sym c.channel.ensures ∙ c.in_default.is)) in
     record {
       layer = λ s l fits. subst (λ (a : LayerAnswer). FitsLayer s c.args.self.now a.next) (none s l) fits;
       link = λ s l x fits link. subst (λ (a : LayerAnswer). g.L.OrderedLink.fits c.args.link.now (after_all g.L.OrderedLink.after_put x (option_to_list a.owed))) (none s l) link;
@@ -40,7 +40,7 @@ of g c =
       | in_default-read-via-in-Ok+in_default w ↦ search rules
       | in_default-read-via-in_default w ↦ search rules
     ] in
-    of_channel c.taking_keeps_octets.ensures.memory (is_some c.args.field) c.longest_user.result c.args.octets.now c.read-read.result (bytes g c) c.read-read.ensures has
+    of_channel c.taking_keeps_octets.ensures.memory c.args.wide c.longest_user.result c.args.octets.now c.read-read.result (bytes g c) c.read-read.ensures has
 
 pub hear_on-requires-clause-kind : goal.hear_on-requires-clause-kind
 hear_on-requires-clause-kind g c =
@@ -48,18 +48,18 @@ hear_on-requires-clause-kind g c =
       | in_default-read-via-in-Ok+in_default w ↦ search rules
       | in_default-read-via-in_default w ↦ search rules
     ] in
-    of_channel c.taking_keeps_octets.ensures.memory (is_some c.args.field) c.longest_user.result c.args.octets.now c.read-read.result (All-from_get_or (λ octet. octet < 256) c.args.octets.now 0 (λ i low. omega (arith, c.type_inv.octets i))) c.read-read.ensures has
+    of_channel c.taking_keeps_octets.ensures.memory c.args.wide c.longest_user.result c.args.octets.now c.read-read.result (All-from_get_or (λ octet. octet < 256) c.args.octets.now 0 (λ i low. omega (arith, c.type_inv.octets i))) c.read-read.ensures has
 
 same : (g : given.Over) (c : goal.After-hear_on g) (s : LayerSettings) (l : Layer)
-    → hears_on s l l.restarting c.in-Some.channel (plain_read c.read-read.result) ≡ answer_to s l c.args.octets.now (read_in (is_some c.args.field) (longest_user c.args.self.now.long_data) c.args.octets.now)
+    → hears_on s l l.restarting c.in-Some.channel (plain_read c.read-read.result) ≡ answer_to s l c.args.octets.now (read_in c.args.wide (longest_user c.args.self.now.long_data) c.args.octets.now)
 same g c s l =
-    sym (hears_read c.taking_keeps_octets.ensures.channel (is_some c.args.field) c.longest_user.result s l c.args.octets.now c.in-Some.channel c.read-read.result (bytes g c) c.read-read.ensures (of g c) (sym c.channel.ensures ∙ c.in-Some.is))
-    ∙ ap (λ (most : ℕ). answer_to s l c.args.octets.now (read_in (is_some c.args.field) most c.args.octets.now)) c.longest_user.ensures.value
+    sym (hears_read c.taking_keeps_octets.ensures.channel c.args.wide c.longest_user.result s l c.args.octets.now c.in-Some.channel c.read-read.result (bytes g c) c.read-read.ensures (of g c) (sym c.channel.ensures ∙ c.in-Some.is))
+    ∙ ap (λ (most : ℕ). answer_to s l c.args.octets.now (read_in c.args.wide most c.args.octets.now)) c.longest_user.ensures.value
 
 pub returns-in_default-read-clause-hears : goal.returns-in_default-read-clause-hears
 returns-in_default-read-clause-hears g c = if_ok c.hear_on.result _ _ (λ told h. heard_same g.L.OrderedLink _ _ _ _ told _ _ (same g c) h) c.hear_on.ensures.hears
 
 pub returns-in_default-read-clause-enough : goal.returns-in_default-read-clause-enough
 returns-in_default-read-clause-enough g c = λ len long room.
-    let few = brings_few c.taking_keeps_octets.ensures.octets (is_some c.args.field) c.longest_user.result c.args.octets.now c.read-read.result (bytes g c) c.read-read.ensures in
+    let few = brings_few c.taking_keeps_octets.ensures.octets c.args.wide c.longest_user.result c.args.octets.now c.read-read.result (bytes g c) c.read-read.ensures in
     c.hear_on.ensures.enough len (omega (arith, few, long)) room

@@ -1,4 +1,4 @@
-use Rattle.std.proofs.Common.{◌≡◌, Bool, is_some, option_to_list, sym, ap, subst, arith}
+use Rattle.std.proofs.Common.{◌≡◌, Bool, option_to_list, sym, ap, subst, arith}
 use Rattle.x25_packet.specs.Spelling.{longest_user}
 use Rattle.x25_wide.specs.Taking.{read_in}
 use Rattle.x25_layer.specs.Layer.{LayerAnswer}
@@ -21,7 +21,7 @@ pub returns-clause-layer : goal.returns-clause-layer
 returns-clause-layer g c = λ s l x fits link.
     let before = c.reserve_packets.ensures.fits s l fits in
     let octets = c.args.octets.now in
-    let a : Bool → LayerAnswer = λ b. answer_to s l octets (read_in (is_some c.args.field) (longest_user b) octets) in
+    let a : Bool → LayerAnswer = λ b. answer_to s l octets (read_in c.args.wide (longest_user b) octets) in
     c.pull_all.ensures.layer s (begin (a s.circuit.long_data).next (a s.circuit.long_data).owed) x
     (subst (λ (b : Bool). FitsLayer s c.hear.new.self (a b).next) before.long_data (c.in_ok-told.ensures.hears.layer s l before))
     (subst (λ (b : Bool). g.L.OrderedLink.fits c.hear.new.link (after_all g.L.OrderedLink.after_put x (option_to_list (a b).owed))) before.long_data (c.in_ok-told.ensures.hears.link s l x before (c.reserve_packets.ensures.link x link)))
@@ -30,7 +30,7 @@ pub returns-clause-link : goal.returns-clause-link
 returns-clause-link g c = λ s l x fits link.
     let before = c.reserve_packets.ensures.fits s l fits in
     let octets = c.args.octets.now in
-    let a : Bool → LayerAnswer = λ b. answer_to s l octets (read_in (is_some c.args.field) (longest_user b) octets) in
+    let a : Bool → LayerAnswer = λ b. answer_to s l octets (read_in c.args.wide (longest_user b) octets) in
     c.pull_all.ensures.link s (begin (a s.circuit.long_data).next (a s.circuit.long_data).owed) x
     (subst (λ (b : Bool). FitsLayer s c.hear.new.self (a b).next) before.long_data (c.in_ok-told.ensures.hears.layer s l before))
     (subst (λ (b : Bool). g.L.OrderedLink.fits c.hear.new.link (after_all g.L.OrderedLink.after_put x (option_to_list (a b).owed))) before.long_data (c.in_ok-told.ensures.hears.link s l x before (c.reserve_packets.ensures.link x link)))
@@ -39,7 +39,7 @@ pub returns-clause-told : goal.returns-clause-told
 returns-clause-told g c = λ s l view fits.
     let before = c.reserve_packets.ensures.fits s l fits in
     let octets = c.args.octets.now in
-    subst (λ (b : Bool). plain_report c.in_ok-told.told ≡ (answer_to s l octets (read_in (is_some c.args.field) (longest_user b) octets)).notices) before.long_data (c.in_ok-told.ensures.hears.told s l before)
+    subst (λ (b : Bool). plain_report c.in_ok-told.told ≡ (answer_to s l octets (read_in c.args.wide (longest_user b) octets)).notices) before.long_data (c.in_ok-told.ensures.hears.told s l before)
 
 -- of what is set aside as much is taken here as in the link
 

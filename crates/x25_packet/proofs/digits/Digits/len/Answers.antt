@@ -1,20 +1,14 @@
-use Rattle.std.proofs.Common.{◌≡◌, ◌∙◌, sym, ap, subst, length}
+use Rattle.std.proofs.Common.{◌∙◌, ap, length, subst, sym}
 use Rattle.x25_packet.specs.Digits.{IsAddress}
-use Rattle.x25_packet.specs.code.DigitsPlace.{NamesDigits, digits_in}
-use Rattle.x25_packet.specs.declared.digits.Place.{Place}
-use Rattle.x25_packet.specs.declared.digits.Place.TheVariants.{Halves}
-use Rattle.x25_packet.proofs.DigitLemmas.{length-digits_in, named_are_address}
+use Rattle.x25_packet.proofs.DigitLemmas.{first_are_address, length-first}
 use Rattle.x25_packet.proofs.digits.Digits.len.Goals as goal
 
-pub returns-in-Text-clause-address : goal.returns-in-Text-clause-address
-returns-in-Text-clause-address c = subst IsAddress c.self.view_is (named_are_address c.self.inside.place c.self.invariant)
+pub returns-clause-number : goal.returns-clause-number
+returns-clause-number c =
+    let holds = c.self.invariant in
+    c.from.ensures ∙ sym (length-first c.self.inside.count c.self.inside.digits holds.0 holds.1) ∙ ap length c.self.view_is
 
-pub returns-in-Halves-clause-address : goal.returns-in-Halves-clause-address
-returns-in-Halves-clause-address c = subst IsAddress c.self.view_is (named_are_address c.self.inside.place c.self.invariant)
-
-pub returns-in-Halves-clause-number : goal.returns-in-Halves-clause-number
-returns-in-Halves-clause-number c =
-    let p : Place = Halves c.in-Halves.octets c.in-Halves.start c.in-Halves.count in
-    let view : digits_in p ≡ c.args.self.now = rw c.in-Halves.is at c.self.view_is in
-    let holds : NamesDigits p = rw c.in-Halves.is at c.self.invariant in
-    sym (length-digits_in p holds) ∙ ap length view
+pub returns-clause-address : goal.returns-clause-address
+returns-clause-address c =
+    let holds = c.self.invariant in
+    subst IsAddress c.self.view_is (first_are_address c.self.inside.count c.self.inside.digits holds.0 holds.1 holds.2)
